@@ -1,0 +1,5 @@
+pub mod Events
+pub mod Effects
+pub mod Outside
+pub mod Tape
+pub mod Worlds

@@ -1,0 +1,23 @@
+//! The outside of the session manager: what comes in, what goes out, and worlds in memory.
+#![tactic(auto)]
+
+mod bytes;
+mod commands;
+mod effects;
+mod events;
+mod failures;
+mod lists;
+mod outside;
+mod steady;
+mod tape;
+
+pub use bytes::Octets;
+pub use commands::Command;
+pub use effects::Effect;
+pub use events::{Conn, Dialog, Event, Order, PIECE_LIMIT, SaveKind, SaveStyle};
+pub use failures::{Failed, Failure, Faults, NoMemory};
+pub use lists::{
+    CommandList, ConnList, Duplicate, EventList, ListOf, NumberList, OctetsList, PairList,
+};
+pub use outside::{Console, Links, Told};
+pub use steady::SteadyWorld;
