@@ -1,0 +1,41 @@
+ghost use Rattle.std.specs.Prelude.{◌≡◌};
+ghost use Rattle.ice_values.specs.declared.refusals.DecodeRefusal.TheVariants.{NoMemory as NoMemoryToDecode};
+ghost use Rattle.ice_values.specs.declared.refusals.EncodeRefusal.TheVariants.{NoMemory as NoMemoryToEncode};
+
+use sm_world::NoMemory;
+
+/// Why bytes are no message.
+#[derive(Clone, Copy, Debug, PartialEq, Eq)]
+pub enum DecodeRefusal {
+    /// No message has this minor opcode.
+    BadMinor,
+    /// The bytes can't be cut into the message's parts.
+    BadLength,
+    /// The byte at this offset from the message's start, the first of so many, has no meaning.
+    BadValue { at: u32, len: u32 },
+    NoMemory,
+}
+
+/// Why a message has no spelling.
+#[derive(Clone, Copy, Debug, PartialEq, Eq)]
+pub enum EncodeRefusal {
+    /// A part or the whole body is larger than its limit.
+    TooLong,
+    NoMemory,
+}
+
+impl From<NoMemory> for DecodeRefusal {
+    ghost from_gives = { λ _ refusal. refusal ≡ NoMemoryToDecode };
+
+    fn from(_error: NoMemory) -> DecodeRefusal {
+        DecodeRefusal::NoMemory
+    }
+}
+
+impl From<NoMemory> for EncodeRefusal {
+    ghost from_gives = { λ _ refusal. refusal ≡ NoMemoryToEncode };
+
+    fn from(_error: NoMemory) -> EncodeRefusal {
+        EncodeRefusal::NoMemory
+    }
+}
