@@ -1,0 +1,5 @@
+pub mod Streams
+pub mod Answers
+pub mod Machine
+pub mod Carries
+pub mod Rows

@@ -1,0 +1,11 @@
+//! The session machine over a world: what comes in is answered, one event at a time.
+#![tactic(auto)]
+
+mod answers;
+mod cutting;
+mod devices;
+mod fault;
+mod table;
+
+pub use answers::{Answer, Stage};
+pub use fault::ServeFault;
