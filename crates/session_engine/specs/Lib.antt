@@ -3,3 +3,4 @@ pub mod Answers
 pub mod Machine
 pub mod Carries
 pub mod Rows
+pub mod Turns

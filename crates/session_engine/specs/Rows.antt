@@ -75,3 +75,12 @@ pub record Shows (pending : ℕ → List ℕ) (table : Table) (m : Machine) : Ty
 pub record Carried (pending : ℕ → List ℕ) (old new : Option (List Effect)) (table : Table) (step : Step) (whole : Bool) : Type 0 where
   pub acts : Added old new (CarriesOut step.acts whole)
   pub shows : whole ≡ true → Shows pending table step.next
+
+-- what is held of a connection stays for as long as it is live
+abbrev pub HeldStays : Option Row → Option Row → Type 0
+HeldStays before None = Unit {0}
+HeldStays None (Some after) = ⊥
+HeldStays (Some before) (Some after) = after.cutter ≡ before.cutter
+
+abbrev pub KeepsHeld : Table → Table → Type 0
+KeepsHeld old new = (q : ℕ) → HeldStays (row_at old q) (row_at new q)
