@@ -1,15 +1,17 @@
 -- One call after another: the effects that they add, and the acts that these do.
-use Rattle.std.proofs.Common.{◌≡◌, ℕ, Bool, true, false, List, [], ◌∷◌, ◌++◌, map, Option, Some, None, Result, Ok, Err, is_ok, refl, sym, ◌∙◌, ap, append_assoc}
+use Rattle.std.proofs.Common.{◌≡◌, inl, inr, arith, ℕ, Bool, false, List, [], ◌∷◌, ◌++◌, Option, Some, None, Result, Ok, Err, is_ok, refl, sym, ◌∙◌, ap, append_assoc}
 use Rattle.std.proofs.lemmas.List.{append-nil, map-append}
 use Rattle.std.proofs.lemmas.Bool.{false≢true}
 use Rattle.std.proofs.lemmas.Grind.{flat_map-append}
-use Rattle.sm_world.specs.Effects.{Deed, Sends, Shuts, heard, deeds, published, event_of, deed_of, file_of}
+use Rattle.sm_world.specs.Effects.{Deed, Sends, Shuts, event_of, deed_of, file_of}
 use Rattle.sm_world.specs.Outside.{adds, on_ok}
 use Rattle.sm_world.specs.declared.effects.Effect.{Effect}
 use Rattle.sm_world.specs.declared.effects.Effect.TheVariants.{Sent, Shut}
-use Rattle.session_engine.specs.Machine.{Act, Does, Finish, Step, Machine, Item, Did, behind, deeds_in, deed_in, stays}
-use Rattle.session_engine.specs.Carries.{Added, Going, CarriesOut, items, item_of}
+use Rattle.session_engine.specs.Machine.{Act, Does, Did, deed_in}
+use Rattle.session_engine.specs.Carries.{Added, Going, CarriesOut, NotFallen, HasCause, item_of}
+use Rattle.sm_world.specs.declared.failures.Faults.{Faults}
 use Rattle.session_engine.specs.declared.fault.ServeFault.{ServeFault}
+use Rattle.session_engine.specs.declared.fault.ServeFault.TheVariants.{LinkFault, Spent, NoMemory}
 
 -- effects that are added one after the other
 pub adds-adds : (old : Option (List Effect)) (es ds : List Effect) → adds (adds old es) ds ≡ adds old (es ++ ds)
@@ -31,7 +33,7 @@ going_on all acts rest left es ds first then = record {
   quiet = rw (flat_map-append file_of es ds, first.quiet, then.quiet) refl;
   done = first.done ++ then.done;
   parts = append_assoc first.done then.done (left ++ rest)
-    ∙ (ap (λ acts_after. first.done ++ acts_after) (sym (append_assoc then.done left rest) ∙ ap (λ acts_done. acts_done ++ rest) then.parts) ∙ first.parts);
+      ∙ (ap (λ acts_after. first.done ++ acts_after) (sym (append_assoc then.done left rest) ∙ ap (λ acts_done. acts_done ++ rest) then.parts) ∙ first.parts);
   so_far = rw (flat_map-append deed_of es ds, first.so_far, then.so_far, flat_map-append deed_in first.done then.done) refl;
   in_order = rw (flat_map-append item_of es ds, first.in_order, then.in_order, flat_map-append deed_of es ds, map-append) refl;
 }
@@ -87,3 +89,22 @@ given_up acts old = record {
   added = sym (adds-none old);
   holds = record { left = acts; going = still acts; none_left = λ e. absurd (false≢true e) };
 }
+
+-- counts that never fall
+pub never_fallen : (faults : Faults) → NotFallen faults faults
+never_fallen faults = record { disk = omega arith; links = omega arith; spawner = omega arith; console = omega arith }
+
+pub fallen_never : (first second third : Faults) → NotFallen first second → NotFallen second third → NotFallen first third
+fallen_never first second third one two = record {
+  disk = omega (arith, one.disk, two.disk);
+  links = omega (arith, one.links, two.links);
+  spawner = omega (arith, one.spawner, two.spawner);
+  console = omega (arith, one.console, two.console);
+}
+
+-- a fault's cause in the later of two parts of a call is one in the whole call
+pub cause_later : (first second third : Faults) (fault : ServeFault) → NotFallen first second → HasCause second third fault → HasCause first third fault
+cause_later first second third LinkFault one (inl rose) = inl (omega (arith, one.links))
+cause_later first second third LinkFault one (inr full) = inr full
+cause_later first second third Spent one cause = tt
+cause_later first second third NoMemory one cause = tt

@@ -1,5 +1,5 @@
 -- Looking up one connection after a change of another.
-use Rattle.std.proofs.Common.{◌≡◌, ◌≢◌, ◌⊎◌, inl, inr, ℕ, Bool, true, false, nat_eq, List, [], ◌∷◌, ◌++◌, Option, Some, None, refl, sym, ◌∙◌, ap, arith, if◌then◌else◌, eq-eqb}
+use Rattle.std.proofs.Common.{◌≡◌, inl, inr, ℕ, true, false, nat_eq, List, [], ◌∷◌, ◌++◌, Some, None, refl, sym, ◌∙◌, arith, if◌then◌else◌, eq-eqb}
 use Rattle.std.specs.Option.{option_map}
 use Rattle.std.proofs.lemmas.Bool.{cases_eq}
 use Rattle.std.proofs.lemmas.Bool.Decides.{nat_tests}
@@ -17,14 +17,14 @@ connection_of-changed f keeps c q [] = grind (arith, nat_tests)
 connection_of-changed f keeps c q (k ∷ ks) =
     let rest = connection_of-changed f keeps c q ks in
     elim (cases_eq k.number c) [
-      inl at_c ↦ elim (cases_eq k.number q) [
-        inl at_q ↦ rw (same k.number c at_c, same (f k).number q (keeps k ∙ at_q), same k.number q at_q, same q c (sym at_q ∙ at_c)) refl |
-        inr not_q ↦ let q_apart : q ≡ c → ⊥ = λ e. not_q (at_c ∙ sym e) in
-          rw (same k.number c at_c, other (f k).number q (λ e. not_q (sym (keeps k) ∙ e)), other k.number q not_q) rest
-      ] |
-      inr not_c ↦ elim (cases_eq k.number q) [
-        inl at_q ↦ rw (other k.number c not_c, same k.number q at_q, other q c (λ e. not_c (at_q ∙ e))) refl |
-        inr not_q ↦ rw (other k.number c not_c, other k.number q not_q) rest
+      | inl at_c ↦ elim (cases_eq k.number q) [
+        | inl at_q ↦ rw (same k.number c at_c, same (f k).number q (keeps k ∙ at_q), same k.number q at_q, same q c (sym at_q ∙ at_c)) refl
+        | inr not_q ↦ let q_apart : q ≡ c → ⊥ = λ e. not_q (at_c ∙ sym e) in
+            rw (same k.number c at_c, other (f k).number q (λ e. not_q (sym (keeps k) ∙ e)), other k.number q not_q) rest
+      ]
+      | inr not_c ↦ elim (cases_eq k.number q) [
+        | inl at_q ↦ rw (other k.number c not_c, same k.number q at_q, other q c (λ e. not_c (at_q ∙ e))) refl
+        | inr not_q ↦ rw (other k.number c not_c, other k.number q not_q) rest
       ]
     ]
 
@@ -33,26 +33,26 @@ connection_of-without c q [] = grind (arith, nat_tests)
 connection_of-without c q (k ∷ ks) =
     let rest = connection_of-without c q ks in
     elim (cases_eq k.number c) [
-      inl at_c ↦ elim (cases_eq k.number q) [
-        inl at_q ↦ rw (same k.number c at_c, same k.number q at_q) (rest ∙ rw (same q c (sym at_q ∙ at_c)) refl) |
-        inr not_q ↦ rw (same k.number c at_c, other k.number q not_q) rest
-      ] |
-      inr not_c ↦ elim (cases_eq k.number q) [
-        inl at_q ↦ rw (other k.number c not_c, same k.number q at_q, other q c (λ e. not_c (at_q ∙ e))) refl |
-        inr not_q ↦ rw (other k.number c not_c, other k.number q not_q) rest
+      | inl at_c ↦ elim (cases_eq k.number q) [
+        | inl at_q ↦ rw (same k.number c at_c, same k.number q at_q) (rest ∙ rw (same q c (sym at_q ∙ at_c)) refl)
+        | inr not_q ↦ rw (same k.number c at_c, other k.number q not_q) rest
+      ]
+      | inr not_c ↦ elim (cases_eq k.number q) [
+        | inl at_q ↦ rw (other k.number c not_c, same k.number q at_q, other q c (λ e. not_c (at_q ∙ e))) refl
+        | inr not_q ↦ rw (other k.number c not_c, other k.number q not_q) rest
       ]
     ]
 
 pub connection_of-append : (q : ℕ) (ks : List Connection) (k : Connection) → connection_of k.number ks ≡ None → connection_of q (ks ++ k ∷ []) ≡ (if nat_eq q k.number then Some k else connection_of q ks)
 connection_of-append q [] k absent = elim (cases_eq q k.number) [
-  inl e ↦ rw (same q k.number e, same k.number q (sym e)) refl |
-  inr apart ↦ rw (other q k.number apart, other k.number q (λ e. apart (sym e))) refl
+  | inl e ↦ rw (same q k.number e, same k.number q (sym e)) refl
+  | inr apart ↦ rw (other q k.number apart, other k.number q (λ e. apart (sym e))) refl
 ]
 connection_of-append q (x ∷ ks) k absent = elim (cases_eq x.number k.number) [
-  inl e ↦ let found : Some x ≡ None = rw (same x.number k.number e) at absent in cc |
-  inr apart ↦ let rest = connection_of-append q ks k (rw (other x.number k.number apart) at absent) in
-    elim (cases_eq x.number q) [
-      inl at_q ↦ rw (same x.number q at_q, other q k.number (λ e. apart (at_q ∙ e))) refl |
-      inr not_q ↦ rw (other x.number q not_q) rest
-    ]
+  | inl e ↦ let found : Some x ≡ None = rw (same x.number k.number e) at absent in cc
+  | inr apart ↦ let rest = connection_of-append q ks k (rw (other x.number k.number apart) at absent) in
+      elim (cases_eq x.number q) [
+        | inl at_q ↦ rw (same x.number q at_q, other q k.number (λ e. apart (at_q ∙ e))) refl
+        | inr not_q ↦ rw (other x.number q not_q) rest
+      ]
 ]

@@ -4,3 +4,6 @@ pub mod Connections
 pub mod Adding
 pub mod Pieces
 pub mod Running
+pub mod Tables
+pub mod Events
+pub mod Loop

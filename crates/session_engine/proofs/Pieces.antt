@@ -1,24 +1,26 @@
 -- The rest of a piece: the frames that it still brings, and the acts that these still give.
-use Rattle.std.proofs.Common.{◌≡◌, ◌≢◌, ◌⊎◌, inl, inr, ℕ, ◌<◌, ◌≤◌, Bool, true, false, nat_eq, List, [], ◌∷◌, ◌++◌, length, take, drop, Option, Some, None, refl, sym, ◌∙◌, ap, subst, arith, if◌then◌else◌, append_assoc}
-use Rattle.std.specs.Option.{option_map}
-use Rattle.std.proofs.lemmas.List.{append-nil}
+use Rattle.std.proofs.Common.{◌≡◌, ◌≢◌, inl, inr, ℕ, ◌-◌, ◌<◌, ◌≤◌, true, false, List, [], ◌∷◌, ◌++◌, length, take, drop, Option, Some, None, refl, sym, ◌∙◌, ap, subst, arith}
+use Rattle.std.proofs.lemmas.List.{append-nil, length-drop, take_all}
 use Rattle.std.proofs.lemmas.Bool.{cases_eq, cases_lt, false≢true}
 use Rattle.sm_world.specs.Outside.{adds}
 use Rattle.sm_world.specs.declared.effects.Effect.{Effect}
-use Rattle.sm_world.specs.declared.events.Event.TheVariants.{Joined, Piece}
+use Rattle.sm_world.specs.declared.events.Event.TheVariants.{Piece}
 use Rattle.session_engine.specs.Answers.{answer_to}
 use Rattle.session_engine.specs.Streams.{frames, partial, new_frames}
-use Rattle.session_engine.specs.Machine.{Act, Connection, Machine, Step, connection_of, changed, without, fed, stays, behind, answered, frame_for, frame_taken, frames_taken, piece_for, step}
-use Rattle.session_engine.specs.Carries.{Added, Going, CarriesOut}
-use Rattle.session_engine.specs.Rows.{row_at, IsRowOf, Matches, Shows, Carried, HeldStays, all_cut, to_cut, CutsAt, CutsRow, AnswersFrame, WaitsForMore}
+use Rattle.session_engine.specs.Machine.{Connection, Machine, Step, connection_of, changed, fed, stays, answered, frame_taken, frames_taken, step}
+use Rattle.session_engine.specs.Carries.{Added, Going}
+use Rattle.session_engine.specs.Rows.{row_at, IsRowOf, Matches, Shows, Carried, HeldStays, all_cut, to_cut, CutsAt}
 use Rattle.session_engine.specs.declared.table.Row.{Row}
 use Rattle.session_engine.specs.declared.table.Table.{Table}
-use Rattle.session_engine.specs.declared.table.Cutting.{Cutting}
-use Rattle.session_engine.specs.declared.table.Cutting.TheVariants.{NotLive, Waits, Answers}
+use Rattle.session_engine.specs.declared.table.Answered.{Answered}
 use Rattle.session_engine.specs.declared.answers.Answer.{Answer}
 use Rattle.session_engine.proofs.Frames.{frames-short, frames-long, partial-short, partial-long, partial-append, new_frames-is}
 use Rattle.session_engine.proofs.Connections.{same, other, connection_of-changed}
 use Rattle.session_engine.proofs.Adding.{adds-adds, adds-none, still, going_on}
+
+-- the part of a slice from a place on
+pub from_place : (n : ℕ) (xs : List ℕ) → take (length xs - n) (drop n xs) ≡ drop n xs
+from_place n xs = take_all (length xs - n) (drop n xs) (omega (arith, length-drop n xs))
 
 -- what is to be cut of this connection, and of another
 pub to_cut-same : (c : ℕ) (left : List ℕ) → to_cut c left c ≡ left
@@ -43,8 +45,8 @@ pub record Taking (all : Step) (c : ℕ) (left : List ℕ) (old now : Option (Li
 pub shows_by : (c : ℕ) (pending : ℕ → List ℕ) (table : Table) (m : Machine) → Matches (pending c) (row_at table c) (connection_of c m.connections) → ((q : ℕ) → (q ≡ c → ⊥) → Matches (pending q) (row_at table q) (connection_of q m.connections)) → Shows pending table m
 shows_by c pending table m here elsewhere = record {
   rows = λ q. elim (cases_eq q c) [
-    inl e ↦ let P : ℕ → Type 0 = λ n. Matches (pending n) (row_at table n) (connection_of n m.connections) in subst P (sym e) here |
-    inr apart ↦ elsewhere q apart
+    | inl e ↦ let P : ℕ → Type 0 = λ n. Matches (pending n) (row_at table n) (connection_of n m.connections) in subst P (sym e) here
+    | inr apart ↦ elsewhere q apart
   ];
 }
 
@@ -77,8 +79,8 @@ begins_by m c bytes table old (Some row) (Some k) is_row is_connection match sho
     record {
       machine = after;
       shows = shows_by c (to_cut c bytes) table after
-        (rw (to_cut-same c bytes, is_row, connection_of-changed (fed bytes) (λ k. refl) c c m.connections, same c c refl, is_connection) (fed_row bytes row k match))
-        (λ q apart. rw (to_cut-other c q bytes apart, connection_of-changed (fed bytes) (λ k. refl) c q m.connections, other q c apart) (shows.rows q));
+          (rw (to_cut-same c bytes, is_row, connection_of-changed (fed bytes) (λ k. refl) c c m.connections, same c c refl, is_connection) (fed_row bytes row k match))
+          (λ q apart. rw (to_cut-other c q bytes apart, connection_of-changed (fed bytes) (λ k. refl) c q m.connections, other q c apart) (shows.rows q));
       going = record { effects = []; added = sym (adds-none old); holds = rw (is_row, is_connection, fed_frames bytes row k match) (still (frames_taken after c (frames (row.cutter ++ bytes))).acts) };
       next = rw (is_row, is_connection, fed_frames bytes row k match) refl;
     }
@@ -117,18 +119,18 @@ all_done all c left old now table after taking none_left here others = record {
   shows = λ e. rw (sym (rw none_left at taking.next)) (shows_by c all_cut after taking.machine here (λ q apart. rw (others q apart) (rw (to_cut-other c q left apart) at (taking.shows.rows q))));
 }
 
-ends_by : (all : Step) (c : ℕ) (left : List ℕ) (old now : Option (List Effect)) (table after : Table) (cutting : Cutting) (row : Option Row) → row_at table c ≡ row → (cutting ≡ NotLive) ⊎ (cutting ≡ Waits) → (taking : Taking all c left old now table) → CutsAt row left cutting (row_at after c) → Matches left row (connection_of c taking.machine.connections) → ((q : ℕ) → q ≢ c → row_at after q ≡ row_at table q) → Carried all_cut old now after all true
-ends_by all c left old now table after cutting None is_row is_end taking cut match others =
+ends_by : (all : Step) (c : ℕ) (left : List ℕ) (old now : Option (List Effect)) (table after : Table) (cut_so : Option Answered) (row : Option Row) → row_at table c ≡ row → cut_so ≡ None → (taking : Taking all c left old now table) → CutsAt row left cut_so (row_at after c) → Matches left row (connection_of c taking.machine.connections) → ((q : ℕ) → q ≢ c → row_at after q ≡ row_at table q) → Carried all_cut old now after all true
+ends_by all c left old now table after cut_so None is_row is_end taking cut match others =
     all_done all c left old now table after taking (rw is_row refl) (rw (cut.1, none_shown left (connection_of c taking.machine.connections) match) tt) others
-ends_by all c left old now table after cutting (Some row) is_row is_end taking (changed_row, changed_is, cut) match others = elim (cases_lt (length (row.cutter ++ left)) 8) [
-  inl short ↦ all_done all c left old now table after taking (rw is_row (frames-short (row.cutter ++ left) short)) (rw (changed_is, (cut.short short).after_is) (waits_shown row left (connection_of c taking.machine.connections) match short)) others |
-  inr long ↦ elim is_end [ inl e ↦ cc (cut.whole long).cutting_is | inr e ↦ cc (cut.whole long).cutting_is ]
+ends_by all c left old now table after cut_so (Some row) is_row is_end taking (changed_row, changed_is, cut) match others = elim (cases_lt (length (row.cutter ++ left)) 8) [
+  | inl short ↦ all_done all c left old now table after taking (rw is_row (frames-short (row.cutter ++ left) short)) (rw (changed_is, (cut.short short).after_is) (waits_shown row left (connection_of c taking.machine.connections) match short)) others
+  | inr long ↦ cc (is_end, (cut.whole long).cut_is)
 ]
 
 -- the rest of a piece is at its end, or its connection isn't live any more
-pub ends : (all : Step) (c : ℕ) (left : List ℕ) (old now : Option (List Effect)) (table after : Table) (cutting : Cutting) → (cutting ≡ NotLive) ⊎ (cutting ≡ Waits) → Taking all c left old now table → CutsAt (row_at table c) left cutting (row_at after c) → ((q : ℕ) → q ≢ c → row_at after q ≡ row_at table q) → Carried all_cut old now after all true
-ends all c left old now table after cutting is_end taking cut others =
-    ends_by all c left old now table after cutting (row_at table c) refl is_end taking cut (rw (to_cut-same c left) at (taking.shows.rows c)) others
+pub ends : (all : Step) (c : ℕ) (left : List ℕ) (old now : Option (List Effect)) (table after : Table) (cut_so : Option Answered) → cut_so ≡ None → Taking all c left old now table → CutsAt (row_at table c) left cut_so (row_at after c) → ((q : ℕ) → q ≢ c → row_at after q ≡ row_at table q) → Carried all_cut old now after all true
+ends all c left old now table after cut_so is_end taking cut others =
+    ends_by all c left old now table after cut_so (row_at table c) refl is_end taking cut (rw (to_cut-same c left) at (taking.shows.rows c)) others
 
 -- the run is cut short before a frame was answered
 pub stopped : (all : Step) (c : ℕ) (left : List ℕ) (old now : Option (List Effect)) (table after : Table) → Taking all c left old now table → Carried all_cut old now after all false
@@ -145,6 +147,22 @@ stopped all c left old now table after taking = record {
   shows = λ e. absurd (false≢true e);
 }
 
+some_is : (a b : Answered) → Some a ≡ Some b → a ≡ b
+some_is a b e = cc
+
+some_is_not_none : (a : Answered) → Some a ≡ None → ⊥
+some_is_not_none a e = cc
+
+-- a frame takes some of the rest of a piece
+pub shorter : (row : Option Row) (left : List ℕ) (answered_so : Answered) (after : Option Row) → CutsAt row left (Some answered_so) after → length (drop answered_so.taken left) < length left
+shorter None left answered_so after cut = absurd (some_is_not_none answered_so cut.0)
+shorter (Some row) left answered_so after (changed_row, changed_is, cut) = elim (cases_lt (length (row.cutter ++ left)) 8) [
+  | inl short ↦ absurd (some_is_not_none answered_so (cut.short short).cut_is)
+  | inr long ↦ let whole = cut.whole long in
+      let taken_is : answered_so.taken ≡ whole.taken = ap (λ (a : Answered). a.taken) (some_is _ _ whole.cut_is) in
+      omega (arith, length-drop answered_so.taken left, whole.some, whole.within)
+]
+
 -- A frame of the piece is about to be answered.
 pub record Answering (all : Step) (c : ℕ) (left : List ℕ) (old now : Option (List Effect)) (table : Table) (answer : Answer) : Type 0 where
   pub machine : Machine
@@ -160,41 +178,35 @@ answering_row row left k is_row long = record {
   short = omega arith;
 }
 
--- the parts of the answer to a whole frame
-answer_is : (a b : Answer) (n m : ℕ) → Answers a n ≡ Answers b m → a ≡ b
-answer_is a b n m e = cc
-
-taken_is : (a b : Answer) (n m : ℕ) → Answers a n ≡ Answers b m → n ≡ m
-taken_is a b n m e = cc
-
 no_bytes : (row other : Row) → Some row ≡ Some other → other.cutter ≡ [] → row.cutter ≡ []
 no_bytes row other e none = cc
 
-answering_by : (all : Step) (c : ℕ) (left : List ℕ) (old now : Option (List Effect)) (table after : Table) (answer : Answer) (taken : ℕ) (row : Option Row) (k : Option Connection) → row_at table c ≡ row → (taking : Taking all c left old now table) → connection_of c taking.machine.connections ≡ k → CutsAt row left (Answers answer taken) (row_at after c) → Matches left row k → ((q : ℕ) → q ≢ c → row_at after q ≡ row_at table q) → Answering all c (drop taken left) old now after answer
-answering_by all c left old now table after answer taken None k is_row taking is_k cut match others = cc cut.0
-answering_by all c left old now table after answer taken (Some row) None is_row taking is_k cut match others = elim match [ ]
-answering_by all c left old now table after answer taken (Some row) (Some k) is_row taking is_k (changed_row, changed_is, cut) match others = elim (cases_lt (length (row.cutter ++ left)) 8) [
-  inl short ↦ cc (cut.short short).cutting_is |
-  inr long ↦ let whole = cut.whole long in
-    let is_answer : answer ≡ answer_to row.stage (take 8 (row.cutter ++ left)) = answer_is _ _ _ _ whole.cutting_is in
-    let is_rest : drop taken left ≡ drop 8 (row.cutter ++ left) = ap (λ n. drop n left) (taken_is _ _ _ _ whole.cutting_is) ∙ whole.rest in
-    let to_come : frames_to_come (row_at table c) left ≡ take 8 (row.cutter ++ left) ∷ frames (drop taken left) = rw (is_row, frames-long (row.cutter ++ left) long, is_rest) refl in
-    let taken_so : frame_taken taking.machine c (take 8 (row.cutter ++ left)) ≡ answered taking.machine c answer = rw (is_k, ← match.stage, is_answer) refl in
-    record {
-      machine = taking.machine;
-      shows = shows_by c (to_cut c (drop taken left)) after taking.machine
-        (rw (to_cut-same c (drop taken left), changed_is, whole.after_is, is_k, is_rest) (answering_row row left k match long))
-        (λ q apart. rw (to_cut-other c q (drop taken left) apart, others q apart) (rw (to_cut-other c q left apart) at (taking.shows.rows q)));
-      going = record { effects = taking.going.effects; added = taking.going.added; holds = rw (to_come, taken_so) at taking.going.holds };
-      next = rw (to_come, taken_so) at taking.next;
-      none_held = λ r r_is. no_bytes r (record row { cutter = [] }) (sym r_is ∙ changed_is ∙ ap Some whole.after_is) refl;
-    }
+answering_by : (all : Step) (c : ℕ) (left : List ℕ) (old now : Option (List Effect)) (table after : Table) (answered_so : Answered) (row : Option Row) (k : Option Connection) → row_at table c ≡ row → (taking : Taking all c left old now table) → connection_of c taking.machine.connections ≡ k → CutsAt row left (Some answered_so) (row_at after c) → Matches left row k → ((q : ℕ) → q ≢ c → row_at after q ≡ row_at table q) → Answering all c (drop answered_so.taken left) old now after answered_so.answer
+answering_by all c left old now table after answered_so None k is_row taking is_k cut match others = cc cut.0
+answering_by all c left old now table after answered_so (Some row) None is_row taking is_k cut match others = elim match [ ]
+answering_by all c left old now table after answered_so (Some row) (Some k) is_row taking is_k (changed_row, changed_is, cut) match others = elim (cases_lt (length (row.cutter ++ left)) 8) [
+  | inl short ↦ cc (cut.short short).cut_is
+  | inr long ↦ let whole = cut.whole long in
+      let so : answered_so ≡ record { answer = answer_to row.stage (take 8 (row.cutter ++ left)); taken = whole.taken } = some_is _ _ whole.cut_is in
+      let is_answer : answered_so.answer ≡ answer_to row.stage (take 8 (row.cutter ++ left)) = ap (λ (a : Answered). a.answer) so in
+      let is_rest : drop answered_so.taken left ≡ drop 8 (row.cutter ++ left) = ap (λ (a : Answered). drop a.taken left) so ∙ whole.rest in
+      let to_come : frames_to_come (row_at table c) left ≡ take 8 (row.cutter ++ left) ∷ frames (drop answered_so.taken left) = rw (is_row, frames-long (row.cutter ++ left) long, is_rest) refl in
+      let taken_so : frame_taken taking.machine c (take 8 (row.cutter ++ left)) ≡ answered taking.machine c answered_so.answer = rw (is_k, ← match.stage, is_answer) refl in
+      record {
+        machine = taking.machine;
+        shows = shows_by c (to_cut c (drop answered_so.taken left)) after taking.machine
+            (rw (to_cut-same c (drop answered_so.taken left), changed_is, whole.after_is, is_k, is_rest) (answering_row row left k match long))
+            (λ q apart. rw (to_cut-other c q (drop answered_so.taken left) apart, others q apart) (rw (to_cut-other c q left apart) at (taking.shows.rows q)));
+        going = record { effects = taking.going.effects; added = taking.going.added; holds = rw (to_come, taken_so) at taking.going.holds };
+        next = rw (to_come, taken_so) at taking.next;
+        none_held = λ r r_is. no_bytes r (record row { cutter = [] }) (sym r_is ∙ changed_is ∙ ap Some whole.after_is) refl;
+      }
 ]
 
 -- a frame of the piece is whole
-pub answering : (all : Step) (c : ℕ) (left : List ℕ) (old now : Option (List Effect)) (table after : Table) (answer : Answer) (taken : ℕ) → Taking all c left old now table → CutsAt (row_at table c) left (Answers answer taken) (row_at after c) → ((q : ℕ) → q ≢ c → row_at after q ≡ row_at table q) → Answering all c (drop taken left) old now after answer
-answering all c left old now table after answer taken taking cut others =
-    answering_by all c left old now table after answer taken (row_at table c) (connection_of c taking.machine.connections) refl taking refl cut (rw (to_cut-same c left) at (taking.shows.rows c)) others
+pub answering : (all : Step) (c : ℕ) (left : List ℕ) (old now : Option (List Effect)) (table after : Table) (answered_so : Answered) → Taking all c left old now table → CutsAt (row_at table c) left (Some answered_so) (row_at after c) → ((q : ℕ) → q ≢ c → row_at after q ≡ row_at table q) → Answering all c (drop answered_so.taken left) old now after answered_so.answer
+answering all c left old now table after answered_so taking cut others =
+    answering_by all c left old now table after answered_so (row_at table c) (connection_of c taking.machine.connections) refl taking refl cut (rw (to_cut-same c left) at (taking.shows.rows c)) others
 
 -- what is still to come is the frames of the rest, where the connection is live
 to_come_is : (m : Machine) (c : ℕ) (left : List ℕ) (before row : Option Row) → Matches left row (connection_of c m.connections) → HeldStays before row → ((r : Row) → before ≡ Some r → r.cutter ≡ []) → frames_taken m c (frames_to_come row left) ≡ frames_taken m c (frames left)

@@ -1,23 +1,21 @@
 -- A run of the machine, one event after the other: the theorem about the engine's loop, on lists alone.
-use Rattle.std.proofs.Common.{◌≡◌, ◌≢◌, ◌⊎◌, inl, inr, ℕ, zero, suc, ◌+◌, ◌-◌, ◌<◌, ◌≤◌, Bool, true, false, List, [], ◌∷◌, ◌++◌, length, take, drop, map, Option, Some, None, Result, Ok, Err, refl, sym, ◌∙◌, ap, subst, arith, append_assoc, length-append, if◌then◌else◌, IsErrOf, IsOk}
-use Rattle.std.specs.List.{flat_map}
-use Rattle.std.proofs.Math.Seq.{take-append-add, drop-append-add, drop-cons}
-use Rattle.std.proofs.lemmas.List.{append-nil, length-drop, map-append, take-append-le, drop-append-le, take-append-drop, take_all}
+use Rattle.std.proofs.Common.{◌≡◌, inl, inr, ℕ, zero, suc, ◌+◌, ◌-◌, ◌<◌, ◌≤◌, Bool, true, false, List, [], ◌∷◌, ◌++◌, length, take, drop, map, Option, Some, None, Result, Ok, Err, refl, sym, ◌∙◌, ap, subst, arith, append_assoc, length-append, if◌then◌else◌, IsOk}
+use Rattle.std.proofs.Math.Seq.{take-append-add, drop-append-add}
+use Rattle.std.proofs.lemmas.List.{append-nil, length-drop, take-append-le, drop-append-le, take-append-drop}
 use Rattle.std.proofs.lemmas.Bool.{cases_lt, false≢true}
 use Rattle.std.proofs.lemmas.Grind.{flat_map-append}
-use Rattle.sm_world.specs.Effects.{Deed, heard, deeds, published, event_of, deed_of, file_of}
+use Rattle.sm_world.specs.Effects.{heard, deeds, published, event_of, deed_of, file_of}
 use Rattle.sm_world.specs.Events.{next_of}
 use Rattle.sm_world.specs.Outside.{adds, TakesNext}
 use Rattle.sm_world.specs.declared.effects.Effect.{Effect}
 use Rattle.sm_world.specs.declared.effects.Effect.TheVariants.{Heard}
 use Rattle.sm_world.specs.declared.events.Event.{Event}
-use Rattle.session_engine.specs.Machine.{Act, Does, Finish, Machine, Step, Item, Came, Did, start, step, script, script_from, run, run_from, deeds_in, deed_in, has_finish, is_finish}
-use Rattle.session_engine.specs.Carries.{Added, Going, CarriesOut, IsPrefix, IsOnScript, Carries, Serves, Brought, next_events, is_whole, items, item_of}
-use Rattle.session_engine.specs.Rows.{Shows, Carried, all_cut, row_at}
+use Rattle.session_engine.specs.Machine.{Act, Does, Finish, Machine, Item, Came, Did, start, step, script, script_from, run, run_from, deeds_in, deed_in, has_finish}
+use Rattle.session_engine.specs.Carries.{CarriesOut, IsPrefix, IsOnScript, Serves, Brought, next_events, is_whole, items, item_of}
+use Rattle.session_engine.specs.Rows.{Shows, all_cut, row_at}
 use Rattle.session_engine.specs.declared.table.Table.{Table}
 use Rattle.session_engine.specs.declared.fault.ServeFault.{ServeFault}
 use Rattle.session_engine.specs.declared.fault.ServeFault.TheVariants.{LinkFault, Spent, NoMemory}
-use Rattle.session_engine.proofs.Adding.{adds-adds, adds-none}
 
 -- the machine after these events
 abbrev pub after_all : Machine → List Event → Machine
@@ -108,22 +106,22 @@ point_after P es ds event deaf here (suc k) other more is_heard =
 -- A fact about each point at which something is heard stays after one more event and what it brings.
 pub each_heard : (P : List Effect → Type 0) (es ds : List Effect) (event : Event) → heard ds ≡ [] → ((n : ℕ) (other : Event) (more : List Effect) → drop n es ≡ Heard other ∷ more → P (take n es)) → P es → (n : ℕ) (other : Event) (more : List Effect) → drop n (es ++ Heard event ∷ ds) ≡ Heard other ∷ more → P (take n (es ++ Heard event ∷ ds))
 each_heard P es ds event deaf before here n other more is_heard = elim (cases_lt n (length es)) [
-  inl h ↦ let within : n ≤ length es = omega arith in
-    let some : 0 < length (drop n es) = omega (arith, length-drop n es) in
-    let front = front_heard (drop n es) (Heard event ∷ ds) more other some (rw (drop-append-le n es (Heard event ∷ ds) within) at is_heard) in
-    rw (take-append-le n es (Heard event ∷ ds) within) (before n other front.0 front.1) |
-  inr h ↦ let place : length es + (n - length es) ≡ n = omega arith in
-    let Q : ℕ → Type 0 = λ k. drop k (es ++ Heard event ∷ ds) ≡ Heard other ∷ more → P (take k (es ++ Heard event ∷ ds)) in
-    subst Q place (point_after P es ds event deaf here (n - length es) other more) is_heard
+  | inl h ↦ let within : n ≤ length es = omega arith in
+      let some : 0 < length (drop n es) = omega (arith, length-drop n es) in
+      let front = front_heard (drop n es) (Heard event ∷ ds) more other some (rw (drop-append-le n es (Heard event ∷ ds) within) at is_heard) in
+      rw (take-append-le n es (Heard event ∷ ds) within) (before n other front.0 front.1)
+  | inr h ↦ let place : length es + (n - length es) ≡ n = omega arith in
+      let Q : ℕ → Type 0 = λ k. drop k (es ++ Heard event ∷ ds) ≡ Heard other ∷ more → P (take k (es ++ Heard event ∷ ds)) in
+      subst Q place (point_after P es ds event deaf here (n - length es) other more) is_heard
 ]
 
 -- A fact about each front of a list of effects stays after one more event and what it brings.
 pub each_front : (P : List Effect → Type 0) (es ds : List Effect) (event : Event) → ((n : ℕ) → P (take n es)) → ((k : ℕ) → P (es ++ Heard event ∷ take k ds)) → (n : ℕ) → P (take n (es ++ Heard event ∷ ds))
 each_front P es ds event before after n = elim (cases_lt (length es) n) [
-  inl h ↦ let place : length es + suc (n - length es - 1) ≡ n = omega arith in
-    let Q : ℕ → Type 0 = λ k. P (take k (es ++ Heard event ∷ ds)) in
-    subst Q place (rw (take-append-add es (Heard event ∷ ds) (suc (n - length es - 1))) (after (n - length es - 1))) |
-  inr h ↦ rw (take-append-le n es (Heard event ∷ ds) h) (before n)
+  | inl h ↦ let place : length es + suc (n - length es - 1) ≡ n = omega arith in
+      let Q : ℕ → Type 0 = λ k. P (take k (es ++ Heard event ∷ ds)) in
+      subst Q place (rw (take-append-add es (Heard event ∷ ds) (suc (n - length es - 1))) (after (n - length es - 1)))
+  | inr h ↦ rw (take-append-le n es (Heard event ∷ ds) h) (before n)
 ]
 
 -- The script of a run with one more event, and the deeds of its effects so far.
@@ -134,13 +132,14 @@ front_on_script es ds event left adds unfinished all_done k =
     let scripts : script (heard (es ++ Heard event ∷ take k ds)) ≡ script (heard es) ++ acts = ap script (heard-more es (take k ds) event deaf) ∙ script_from-more start (heard es) event unfinished in
     let parts : deeds (take k ds) ++ deeds (drop k ds) ≡ deeds_in adds.done = sym (flat_map-append deed_of (take k ds) (drop k ds)) ∙ (ap deeds (take-append-drop k ds) ∙ adds.so_far) in
     let all : deeds_in acts ≡ deeds (take k ds) ++ (deeds (drop k ds) ++ deeds_in left) =
-      ap deeds_in (sym adds.parts) ∙ (flat_map-append deed_in adds.done left ∙ (ap (λ xs. xs ++ deeds_in left) (sym parts) ∙ append_assoc (deeds (take k ds)) (deeds (drop k ds)) (deeds_in left))) in
-    (deeds (drop k ds) ++ deeds_in left,
+    ap deeds_in (sym adds.parts) ∙ (flat_map-append deed_in adds.done left ∙ (ap (λ xs. xs ++ deeds_in left) (sym parts) ∙ append_assoc (deeds (take k ds)) (deeds (drop k ds)) (deeds_in left))) in (
+      deeds (drop k ds) ++ deeds_in left,
       ap (λ xs. xs ++ (deeds (drop k ds) ++ deeds_in left)) (deeds-more es (take k ds) event)
-        ∙ (append_assoc (deeds es) (deeds (take k ds)) (deeds (drop k ds) ++ deeds_in left)
-        ∙ (ap (λ xs. xs ++ (deeds (take k ds) ++ (deeds (drop k ds) ++ deeds_in left))) all_done
-        ∙ (ap (λ xs. deeds_in (script (heard es)) ++ xs) (sym all)
-        ∙ (sym (flat_map-append deed_in (script (heard es)) acts) ∙ ap deeds_in (sym scripts))))))
+          ∙ (append_assoc (deeds es) (deeds (take k ds)) (deeds (drop k ds) ++ deeds_in left)
+          ∙ (ap (λ xs. xs ++ (deeds (take k ds) ++ (deeds (drop k ds) ++ deeds_in left))) all_done
+          ∙ (ap (λ xs. deeds_in (script (heard es)) ++ xs) (sym all)
+          ∙ (sym (flat_map-append deed_in (script (heard es)) acts) ∙ ap deeds_in (sym scripts))))),
+    )
 
 -- what holds of the effects of a run that goes on
 pub record Runs (coming left : Option (List Event)) (table : Table) (n : ℕ) (es : List Effect) : Type 0 where
@@ -207,7 +206,7 @@ next_events-more : (n : ℕ) (coming : List Event) → next_events (suc n) comin
 next_events-more zero coming = refl
 next_events-more (suc n) coming =
     ap (λ es. next_of coming ∷ es) (next_events-more n (drop 1 coming))
-      ∙ ap (λ xs. next_of coming ∷ (next_events n (drop 1 coming) ++ next_of xs ∷ [])) (drop_one_first n coming)
+    ∙ ap (λ xs. next_of coming ∷ (next_events n (drop 1 coming) ++ next_of xs ∷ [])) (drop_one_first n coming)
 
 length-more : (events : List Event) (event : Event) → length (events ++ event ∷ []) ≡ suc (length events)
 length-more events event = omega (arith, length-append events (event ∷ []))
@@ -242,7 +241,7 @@ script-more es ds event deaf unfinished = ap script (heard-more es ds event deaf
 finish-more : (es ds : List Effect) (event : Event) → heard ds ≡ [] → has_finish (script (heard es)) ≡ false → has_finish (script (heard (es ++ Heard event ∷ ds))) ≡ has_finish (step (after_all start (heard es)) event).acts
 finish-more es ds event deaf unfinished =
     ap has_finish (script-more es ds event deaf unfinished)
-      ∙ (has_finish-append (script (heard es)) (step (after_all start (heard es)) event).acts ∙ rw unfinished refl)
+    ∙ (has_finish-append (script (heard es)) (step (after_all start (heard es)) event).acts ∙ rw unfinished refl)
 
 -- what was done after a whole step
 done-more : (es ds : List Effect) (event : Event) → CarriesOut (step (after_all start (heard es)) event).acts true ds → has_finish (script (heard es)) ≡ false → deeds es ≡ deeds_in (script (heard es)) → deeds (es ++ Heard event ∷ ds) ≡ deeds_in (script (heard (es ++ Heard event ∷ ds)))
@@ -250,18 +249,18 @@ done-more es ds event out unfinished all_done =
     let acts = (step (after_all start (heard es)) event).acts in
     let whole : out.going.done ≡ acts = sym (append-nil out.going.done) ∙ (ap (λ xs. out.going.done ++ xs) (sym (out.none_left refl)) ∙ out.going.parts) in
     deeds-more es ds event
-      ∙ (ap (λ xs. xs ++ deeds ds) all_done
-      ∙ (ap (λ xs. deeds_in (script (heard es)) ++ xs) (out.going.so_far ∙ ap deeds_in whole)
-      ∙ (sym (flat_map-append deed_in (script (heard es)) acts) ∙ ap deeds_in (sym (script-more es ds event out.going.deaf unfinished)))))
+    ∙ (ap (λ xs. xs ++ deeds ds) all_done
+    ∙ (ap (λ xs. deeds_in (script (heard es)) ++ xs) (out.going.so_far ∙ ap deeds_in whole)
+    ∙ (sym (flat_map-append deed_in (script (heard es)) acts) ∙ ap deeds_in (sym (script-more es ds event out.going.deaf unfinished)))))
 
 shown-more : (es ds : List Effect) (event : Event) → CarriesOut (step (after_all start (heard es)) event).acts true ds → has_finish (script (heard es)) ≡ false → items es ≡ run (heard es) → items (es ++ Heard event ∷ ds) ≡ run (heard (es ++ Heard event ∷ ds))
 shown-more es ds event out unfinished in_order =
     let acts = (step (after_all start (heard es)) event).acts in
     let whole : out.going.done ≡ acts = sym (append-nil out.going.done) ∙ (ap (λ xs. out.going.done ++ xs) (sym (out.none_left refl)) ∙ out.going.parts) in
     items-more es ds event
-      ∙ (ap (λ xs. xs ++ (Came event ∷ items ds)) in_order
-      ∙ (ap (λ xs. run (heard es) ++ (Came event ∷ xs)) (out.going.in_order ∙ ap (map Did) (out.going.so_far ∙ ap deeds_in whole))
-      ∙ sym (ap run (heard-more es ds event out.going.deaf) ∙ run_from-more start (heard es) event unfinished)))
+    ∙ (ap (λ xs. xs ++ (Came event ∷ items ds)) in_order
+    ∙ (ap (λ xs. run (heard es) ++ (Came event ∷ xs)) (out.going.in_order ∙ ap (map Did) (out.going.so_far ∙ ap deeds_in whole))
+    ∙ sym (ap run (heard-more es ds event out.going.deaf) ∙ run_from-more start (heard es) event unfinished)))
 
 -- the run goes on
 pub goes_on : (coming left after : Option (List Event)) (table next : Table) (n : ℕ) (es ds : List Effect) (event : Event) → Runs coming left table n es → TakesNext {E = ServeFault} left after (Ok event) → CarriesOut (step (after_all start (heard es)) event).acts true ds → Shows all_cut next (step (after_all start (heard es)) event).next → has_finish (step (after_all start (heard es)) event).acts ≡ false → Runs coming after next (suc n) (es ++ Heard event ∷ ds)
@@ -295,7 +294,7 @@ the_fault : (one other : ServeFault) → ◌≡◌ {A = Result (Unit {0}) ServeF
 the_fault one other e = cc
 
 fault_is_no_ok : (fault : ServeFault) → IsOk {T = Unit {0}} (Err fault) → ⊥
-fault_is_no_ok fault e = e
+fault_is_no_ok fault e = false≢true e
 
 -- the machine's own end
 pub is_end : (coming left after : Option (List Event)) (table : Table) (n turns : ℕ) (es ds : List Effect) (event : Event) → n < turns → Runs coming left table n es → TakesNext {E = ServeFault} left after (Ok event) → CarriesOut (step (after_all start (heard es)) event).acts true ds → has_finish (step (after_all start (heard es)) event).acts ≡ true → Serves coming turns (Ok tt) (es ++ Heard event ∷ ds)

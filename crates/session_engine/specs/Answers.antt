@@ -1,9 +1,9 @@
 -- The direct answer to one frame.
-use Rattle.std.specs.Prelude.{ℕ, List, drop, slice_index, Option, Some, None, Result, ◌==◌, ◌&&◌, if◌then◌else◌}
+use Rattle.std.specs.Prelude.{ℕ, List, drop, slice_index, Option, Some, None, ◌==◌, ◌&&◌, if◌then◌else◌}
 use Rattle.std.specs.Result.{result_ok}
 use Rattle.ice_values.specs.Numbers.{number}
 use Rattle.ice_values.specs.declared.numbers.Endian.{Endian}
-use Rattle.ice_values.specs.declared.numbers.Endian.TheVariants.{Lsb, Msb}
+use Rattle.ice_values.specs.declared.numbers.Endian.TheVariants.{Lsb}
 use Rattle.ice_messages.specs.Reading.{decode_at}
 use Rattle.ice_messages.specs.declared.message.IceMessage.{IceMessage}
 use Rattle.ice_messages.specs.declared.message.IceMessage.TheVariants.{ByteOrder, Ping, PingReply}

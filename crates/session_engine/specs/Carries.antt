@@ -1,16 +1,16 @@
 -- What a run does to the outside: the list of its effects against the script of what it heard.
-use Rattle.std.specs.Prelude.{◌≡◌, ◌≤◌, ℕ, zero, suc, Bool, true, false, List, [], ◌∷◌, ◌++◌, length, take, drop, map, Option, Some, None, Result, Ok, Err, IsOk, IsErrOf, IfErr}
+use Rattle.std.specs.Prelude.{◌≡◌, ◌≤◌, ℕ, zero, suc, Bool, true, false, List, [], ◌∷◌, ◌++◌, length, take, drop, map, Option, Some, None, Result, Ok, Err, IsOk, IsErrOf}
 use Rattle.std.specs.List.{flat_map}
-use Rattle.sm_world.specs.Effects.{Deed, Sends, Shuts, Starts, Prints, heard, deeds, published}
+use Rattle.sm_world.specs.Effects.{Sends, Shuts, Starts, Prints, heard, deeds, published}
 use Rattle.sm_world.specs.Events.{next_of}
-use Rattle.sm_world.specs.Outside.{Outside, Rose, adds}
+use Rattle.sm_world.specs.Outside.{Rose, adds}
 use Rattle.sm_world.specs.declared.effects.Effect.{Effect}
 use Rattle.sm_world.specs.declared.effects.Effect.TheVariants.{Heard, Sent, Shut, Started, Wrote, Torn, Synced, SyncFailed, Published, Printed}
 use Rattle.sm_world.specs.declared.events.Event.{Event}
 use Rattle.sm_world.specs.declared.failures.Faults.{Faults}
 use Rattle.sm_world.specs.declared.failures.Failure.{Failure}
 use Rattle.sm_world.specs.declared.failures.Failure.TheVariants.{Failed, NoMemory as OutOfMemory}
-use Rattle.session_engine.specs.Machine.{Act, Item, Came, Did, Step, Machine, script, run, deeds_in, has_finish}
+use Rattle.session_engine.specs.Machine.{Act, Item, Came, Did, script, run, deeds_in, has_finish}
 use Rattle.session_engine.specs.declared.fault.ServeFault.{ServeFault}
 use Rattle.session_engine.specs.declared.fault.ServeFault.TheVariants.{LinkFault, Spent, NoMemory}
 

@@ -1,18 +1,16 @@
 -- The table of connections that the code keeps, against the machine.
-use Rattle.std.specs.Prelude.{◌≡◌, ◌≢◌, ℕ, Bool, true, List, [], ◌++◌, Option, Some, None, nat_eq, if◌then◌else◌, take, drop, length, ◌≤◌, ◌<◌}
+use Rattle.std.specs.Prelude.{◌≡◌, ℕ, Bool, true, List, [], ◌++◌, Option, Some, None, nat_eq, if◌then◌else◌, take, drop, length, ◌≤◌, ◌<◌}
 use Rattle.std.specs.Ordering.{nat_cmp}
 use Rattle.std.specs.BTreeMap.{get}
 use Rattle.session_engine.specs.Answers.{answer_to}
 use Rattle.sm_world.specs.declared.effects.Effect.{Effect}
 use Rattle.session_engine.specs.Carries.{Added, CarriesOut}
 use Rattle.session_engine.specs.Machine.{Connection, Machine, Step, connection_of}
-use Rattle.session_engine.specs.Streams.{frames, partial}
-use Rattle.session_engine.specs.declared.answers.Answer.{Answer}
+use Rattle.session_engine.specs.Streams.{partial}
 use Rattle.session_engine.specs.declared.answers.Stage.{Stage}
 use Rattle.session_engine.specs.declared.table.Row.{Row}
 use Rattle.session_engine.specs.declared.table.Table.{Table}
-use Rattle.session_engine.specs.declared.table.Cutting.{Cutting}
-use Rattle.session_engine.specs.declared.table.Cutting.TheVariants.{NotLive, Waits, Answers}
+use Rattle.session_engine.specs.declared.table.Answered.{Answered}
 
 -- the row of a connection, and None where it isn't live
 abbrev pub row_at : Table → ℕ → Option Row
@@ -27,25 +25,26 @@ abbrev pub ChangesRow : Table → Table → ℕ → Option Row → Type 0
 ChangesRow old new c row = (q : ℕ) → row_at new q ≡ (if nat_eq q c then row else row_at old q)
 
 -- A frame of a live connection is whole: it is answered, and the rest of the piece is left.
-pub record AnswersFrame (row : Row) (left : List ℕ) (cutting : Cutting) (after : Row) : Type 0 where
+pub record AnswersFrame (row : Row) (left : List ℕ) (cut : Option Answered) (after : Row) : Type 0 where
   pub taken : ℕ
-  pub cutting_is : cutting ≡ Answers (answer_to row.stage (take 8 (row.cutter ++ left))) taken
+  pub cut_is : cut ≡ Some (record { answer = answer_to row.stage (take 8 (row.cutter ++ left)); taken = taken })
+  pub some : 1 ≤ taken
   pub within : taken ≤ length left
   pub rest : drop taken left ≡ drop 8 (row.cutter ++ left)
   pub after_is : after ≡ record row { cutter = [] }
 
-pub record WaitsForMore (row : Row) (left : List ℕ) (cutting : Cutting) (after : Row) : Type 0 where
-  pub cutting_is : cutting ≡ Waits
+pub record WaitsForMore (row : Row) (left : List ℕ) (cut : Option Answered) (after : Row) : Type 0 where
+  pub cut_is : cut ≡ None
   pub after_is : after ≡ record row { cutter = row.cutter ++ left }
 
 -- what cutting the rest of a piece does to the row of its connection
-pub record CutsRow (row : Row) (left : List ℕ) (cutting : Cutting) (after : Row) : Type 0 where
-  pub whole : 8 ≤ length (row.cutter ++ left) → AnswersFrame row left cutting after
-  pub short : length (row.cutter ++ left) < 8 → WaitsForMore row left cutting after
+pub record CutsRow (row : Row) (left : List ℕ) (cut : Option Answered) (after : Row) : Type 0 where
+  pub whole : 8 ≤ length (row.cutter ++ left) → AnswersFrame row left cut after
+  pub short : length (row.cutter ++ left) < 8 → WaitsForMore row left cut after
 
-abbrev pub CutsAt : Option Row → List ℕ → Cutting → Option Row → Type 0
-CutsAt None left cutting after = (cutting ≡ NotLive) × (after ≡ None)
-CutsAt (Some row) left cutting after = (changed : Row) × (after ≡ Some changed) × CutsRow row left cutting changed
+abbrev pub CutsAt : Option Row → List ℕ → Option Answered → Option Row → Type 0
+CutsAt None left cut after = (cut ≡ None) × (after ≡ None)
+CutsAt (Some row) left cut after = (changed : Row) × (after ≡ Some changed) × CutsRow row left cut changed
 
 -- A row shows a connection, where these bytes of its stream are still to be cut.
 pub record IsRowOf (pending : List ℕ) (row : Row) (k : Connection) : Type 0 where

@@ -1,5 +1,5 @@
 -- How a stream of bytes is cut into frames.
-use Rattle.std.specs.Prelude.{◌≡◌, ◌<◌, ◌≤◌, ℕ, zero, suc, List, [], ◌∷◌, ◌++◌, length, take, drop, Option, Some, None, nat_lt, if◌then◌else◌}
+use Rattle.std.specs.Prelude.{◌≡◌, ◌<◌, ◌≤◌, ℕ, zero, suc, List, [], ◌∷◌, ◌++◌, length, take, drop, Some, None, nat_lt, if◌then◌else◌}
 use Rattle.session_engine.specs.declared.cutting.Cut.{Cut}
 
 -- the first n frames of 8 bytes, as far as they are whole
@@ -27,6 +27,7 @@ new_frames stream piece = drop (length (frames stream)) (frames (stream ++ piece
 -- A piece was taken up to the end of the first frame, or whole where no frame is complete.
 pub record CutsFrame (held piece : List ℕ) (cut : Cut) (after : List ℕ) : Type 0 where
   pub frame : cut.frame ≡ Some (take 8 (held ++ piece))
+  pub some : 1 ≤ cut.taken
   pub left : drop cut.taken piece ≡ drop 8 (held ++ piece)
   pub none_held : after ≡ []
 

@@ -8,7 +8,7 @@ ghost use Rattle.session_engine.specs.Turns.{is_end};
 use crate::ServeFault;
 use crate::answers::{Answer, Stage};
 use crate::devices::{hear, send, shut};
-use crate::table::{Cutting, Table};
+use crate::table::Table;
 use ice_messages::IceMessage;
 use ice_values::Endian;
 use sm_world::{Conn, Console, Event, Links, NoMemory};
@@ -66,10 +66,10 @@ fn take_piece<W: Links>(
     let mut left = bytes;
     loop {
         match table.cut(alloc, conn, left) {
-            Ok(Cutting::NotLive | Cutting::Waits) => return Ok(()),
-            Ok(Cutting::Answers(answer, taken)) => {
-                left = &left[taken..];
-                match perform(alloc, world, table, conn, answer) {
+            Ok(None) => return Ok(()),
+            Ok(Some(frame)) => {
+                left = &left[frame.taken..];
+                match perform(alloc, world, table, conn, frame.answer) {
                     Ok(()) => {}
                     Err(fault) => return Err(fault),
                 }

@@ -1,4 +1,4 @@
-ghost use Rattle.std.specs.Prelude.{◌≡◌, ◌≢◌, ◌↔◌, ℕ, [], None, Some, IsTrue, IsSome, IfOk, OnOk, nat_eq, if◌then◌else◌};
+ghost use Rattle.std.specs.Prelude.{◌≡◌, ◌≢◌, ℕ, [], None, Some, is_some, IfOk, OnOk, nat_eq, if◌then◌else◌};
 ghost use Rattle.std.specs.Option.{option_map};
 ghost use Rattle.session_engine.specs.Rows.{row_at, row_at_stage, ChangesRow, CutsRow, CutsAt};
 ghost use Rattle.session_engine.specs.declared.answers.Stage.TheVariants.{AwaitOrder};
@@ -22,27 +22,28 @@ pub struct Table {
     rows: BTreeMap<Conn, Row>,
 }
 
-/// What became of the rest of a piece.
+/// A frame is whole.
 #[derive(Debug, Drop)]
-pub enum Cutting {
-    /// The connection isn't live, so the rest is dropped.
-    NotLive,
-    /// All of it is held, and no frame is whole.
-    Waits,
-    /// So many of its bytes complete a frame, with the answer to that frame.
-    Answers(Answer, usize),
+pub struct Answered {
+    /// How it is answered.
+    pub answer: Answer,
+    /// How many bytes of the piece completed it.
+    pub taken: usize,
 }
 
 impl Row {
-    fn cut(&mut self, alloc: Global, left: &[u8]) -> Result<Cutting, NoMemory>
-        ensures { IfOk result (λ cutting. CutsRow self.old left.now cutting self.new) }
+    fn cut(&mut self, alloc: Global, left: &[u8]) -> Result<Option<Answered>, NoMemory>
+        ensures { IfOk result (λ answered. CutsRow self.old left.now answered self.new) }
     {
         let cut = self.cutter.take_from(left);
         match cut.frame {
-            None => Ok(Cutting::Waits),
+            None => Ok(None),
             Some(frame) => {
                 let answer = reply_to(alloc, self.stage, &frame)?;
-                Ok(Cutting::Answers(answer, cut.taken))
+                Ok(Some(Answered {
+                    answer,
+                    taken: cut.taken,
+                }))
             }
         }
     }
@@ -58,7 +59,7 @@ impl Table {
     }
 
     pub fn is_live(&self, conn: Conn) -> bool
-        ensures { IsTrue result ↔ IsSome (row_at self.now conn) }
+        ensures { result ≡ is_some (row_at self.now conn) }
     {
         self.rows.contains_key(&conn)
     }
@@ -84,13 +85,19 @@ impl Table {
         }
     }
 
-    /// Takes the rest of a piece up to the end of the first frame, and says how that is answered.
-    pub fn cut(&mut self, alloc: Global, conn: Conn, left: &[u8]) -> Result<Cutting, NoMemory>
-        ensures cut { IfOk result (λ cutting. CutsAt (row_at self.old conn) left.now cutting (row_at self.new conn)) }
+    /// Takes the rest of a piece up to the end of the first frame. `None` where it completes no
+    /// frame, or the connection isn't live.
+    pub fn cut(
+        &mut self,
+        alloc: Global,
+        conn: Conn,
+        left: &[u8],
+    ) -> Result<Option<Answered>, NoMemory>
+        ensures cut { IfOk result (λ answered. CutsAt (row_at self.old conn) left.now answered (row_at self.new conn)) }
         ensures others { OnOk result ((q : ℕ) → q ≢ conn → row_at self.new q ≡ row_at self.old q) }
     {
         let Some(row) = self.rows.get_mut(&conn) else {
-            return Ok(Cutting::NotLive);
+            return Ok(None);
         };
         row.cut(alloc, left)
     }
