@@ -1,0 +1,15 @@
+-- What the console of the real program tells: how often it failed, and nothing else.
+use Rattle.std.specs.Prelude.{None}
+use Rattle.sm_world.specs.Outside.{Outside}
+use Rattle.smd.specs.declared.adapter.StandardConsole.{StandardConsole}
+
+abbrev pub console_outside : StandardConsole → Outside
+console_outside console = record {
+  told = None;
+  faults = record { disk = 0; links = 0; spawner = 0; console = console.faults };
+  size = 0;
+  first = None;
+  coming = None;
+  input = None;
+  files = None;
+}

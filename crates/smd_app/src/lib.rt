@@ -1,0 +1,10 @@
+//! The session manager's top call: its words, its scripts and what it prints.
+#![tactic(auto)]
+
+mod console;
+mod lines;
+mod program;
+mod script;
+mod trace;
+
+pub use program::smd_main;
