@@ -1,2 +1,3 @@
 pub mod Splitting
 pub mod LineLemmas
+pub mod ScriptLemmas
