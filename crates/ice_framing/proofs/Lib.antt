@@ -1,0 +1,4 @@
+pub mod Headers
+pub mod Cuts
+pub mod Examples
+pub mod Feeding

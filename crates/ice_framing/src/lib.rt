@@ -1,0 +1,8 @@
+//! Cuts a stream of bytes into the frames of ICE, however the stream comes in pieces.
+#![tactic(auto)]
+
+mod cutting;
+mod splitting;
+
+pub use cutting::{WholeFrame, WholeFrameList};
+pub use splitting::{FRAME_LIMIT, Frame, Oversize, Splitter, UNIT_LIMIT};
