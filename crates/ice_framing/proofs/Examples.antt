@@ -1,7 +1,7 @@
 -- The frames of some small streams, worked by hand.
 use Rattle.std.proofs.Common.{◌≡◌, ℕ, List, [], ◌∷◌, ◌++◌, Some, None, refl}
 use Rattle.ice_values.specs.declared.numbers.Endian.TheVariants.{Lsb, Msb}
-use Rattle.ice_framing.specs.Frames.{cut, frames, standing}
+use Rattle.ice_framing.specs.Frames.{cut, frames_of, standing_of}
 
 -- a ByteOrder that says MSB first and states 7 units, which it hasn't
 abbrev opening : List ℕ
@@ -15,18 +15,18 @@ one_unit = 0 ∷ 2 ∷ 0 ∷ 0 ∷ 0 ∷ 0 ∷ 0 ∷ 1 ∷ 11 ∷ 12 ∷ 13 ∷ 
 abbrev too_much : List ℕ
 too_much = 0 ∷ 2 ∷ 0 ∷ 0 ∷ 0 ∷ 0 ∷ 32 ∷ 1 ∷ []
 
-two_frames : frames (opening ++ one_unit ++ 9 ∷ []) ≡ record { endian = Msb; bytes = opening } ∷ record { endian = Msb; bytes = one_unit } ∷ []
+two_frames : frames_of (opening ++ one_unit ++ 9 ∷ []) ≡ record { endian = Msb; bytes = opening } ∷ record { endian = Msb; bytes = one_unit } ∷ []
 unfolding cut
 two_frames = refl
 
-nine_left : standing (opening ++ one_unit ++ 9 ∷ []) ≡ record { order = Some Msb; held = 9 ∷ [] }
+nine_left : standing_of (opening ++ one_unit ++ 9 ∷ []) ≡ record { order = Some Msb; held = 9 ∷ [] }
 unfolding cut
 nine_left = refl
 
-ends_at_too_much : standing (opening ++ too_much ++ one_unit) ≡ record { order = Some Msb; held = too_much ++ one_unit }
+ends_at_too_much : standing_of (opening ++ too_much ++ one_unit) ≡ record { order = Some Msb; held = too_much ++ one_unit }
 unfolding cut
 ends_at_too_much = refl
 
-seven_bytes : standing (0 ∷ 1 ∷ 1 ∷ 0 ∷ 0 ∷ 0 ∷ 0 ∷ []) ≡ record { order = None; held = 0 ∷ 1 ∷ 1 ∷ 0 ∷ 0 ∷ 0 ∷ 0 ∷ [] }
+seven_bytes : standing_of (0 ∷ 1 ∷ 1 ∷ 0 ∷ 0 ∷ 0 ∷ 0 ∷ []) ≡ record { order = None; held = 0 ∷ 1 ∷ 1 ∷ 0 ∷ 0 ∷ 0 ∷ 0 ∷ [] }
 unfolding cut
 seven_bytes = refl

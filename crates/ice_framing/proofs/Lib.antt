@@ -2,3 +2,4 @@ pub mod Headers
 pub mod Cuts
 pub mod Examples
 pub mod Feeding
+pub mod Pieces

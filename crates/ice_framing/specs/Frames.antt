@@ -1,9 +1,10 @@
 -- The frames of a stream (ICE, chapter 4 and the appendix on its encoding).
-use Rattle.std.specs.Prelude.{ℕ, zero, suc, ◌+◌, ◌*◌, ◌<◌, ◌≤◌, Bool, ◌&&◌, ◌==◌, nat_lt, nat_le, if◌then◌else◌, List, [], ◌∷◌, ◌++◌, length, take, drop, slice_index, Option, Some, None}
+use Rattle.std.specs.Prelude.{◌≡◌, ℕ, zero, suc, ◌+◌, ◌*◌, ◌<◌, ◌≤◌, Bool, ◌&&◌, ◌==◌, nat_lt, nat_le, if◌then◌else◌, List, [], ◌∷◌, ◌++◌, length, take, drop, slice_index, Option, Some, None}
 use Rattle.ice_values.specs.Numbers.{number}
 use Rattle.ice_values.specs.declared.numbers.Endian.{Endian}
 use Rattle.ice_values.specs.declared.numbers.Endian.TheVariants.{Lsb, Msb}
 use Rattle.ice_framing.specs.declared.cutting.WholeFrame.{WholeFrame}
+use Rattle.ice_framing.specs.declared.splitting.Oversize.{Oversize}
 
 -- Where a stream stands: the order of its numbers, which is None until the first frame has gone, and
 -- the bytes that came after the last frame that has gone.
@@ -100,8 +101,19 @@ unfoldable pub cut : Standing → Cut
 cut at = cut_upto (length at.held) at
 
 -- the frames of a whole stream, and where it stands behind them
-abbrev pub frames : List ℕ → List WholeFrame
-frames stream = (cut (fed beginning stream)).frames
+abbrev pub frames_of : List ℕ → List WholeFrame
+frames_of stream = (cut (fed beginning stream)).frames
 
-abbrev pub standing : List ℕ → Standing
-standing stream = (cut (fed beginning stream)).standing
+abbrev pub standing_of : List ℕ → Standing
+standing_of stream = (cut (fed beginning stream)).standing
+
+-- How a splitter stands that was fed a stream and gave its frames: where the stream does, or with the
+-- header that states too much.
+abbrev pub StandsAt : Standing → Standing → Option Oversize → Type 0
+StandsAt at splitter None = (splitter ≡ at) × IsPartial at × (units at ≤ unit_limit)
+StandsAt at splitter (Some error) = (splitter ≡ header_of at) × IsOversize at × (error.units ≡ units at)
+
+-- How a stream ends: with part of a frame, or with a header that states too much.
+abbrev pub EndsIn : Standing → Option Oversize → Type 0
+EndsIn at None = IsPartial at × (units at ≤ unit_limit)
+EndsIn at (Some error) = IsOversize at × (error.units ≡ units at)

@@ -4,5 +4,5 @@
 mod cutting;
 mod splitting;
 
-pub use cutting::{WholeFrame, WholeFrameList};
+pub use cutting::{WholeFrame, WholeFrameList, cut_piece, cut_pieces};
 pub use splitting::{FRAME_LIMIT, Frame, Oversize, Splitter, UNIT_LIMIT};

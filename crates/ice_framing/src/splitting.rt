@@ -15,6 +15,7 @@ pub const FRAME_LIMIT: usize = 65_544;
 const HEADER_LEN: usize = 8;
 
 /// A frame that a splitter lends.
+#[derive(Clone, Copy, Debug, PartialEq, Eq)]
 pub struct Frame<'a> {
     /// The order of the frame's numbers. The first frame of a stream states it in its byte 2.
     pub endian: Endian,
