@@ -1,5 +1,5 @@
 -- Cutting a stream into its frames: once for all of it, or as more of it comes.
-use Rattle.std.proofs.Common.{◌≡◌, ℕ, zero, suc, ◌+◌, ◌-◌, ◌<◌, ◌≤◌, Bool, true, false, cond, List, [], ◌∷◌, ◌++◌, length, take, drop, Option, Some, inl, inr, ◌*◌, refl, sym, ap, ◌∙◌, subst, arith, append_assoc, length-append, length-drop, nat_le, ◌&&◌}
+use Rattle.std.proofs.Common.{◌≡◌, ℕ, zero, suc, ◌+◌, ◌-◌, ◌<◌, ◌≤◌, Bool, true, false, cond, List, [], ◌∷◌, ◌++◌, length, take, drop, Option, Some, inl, inr, ◌⊎◌, ◌*◌, refl, sym, ap, ◌∙◌, subst, arith, append_assoc, length-append, length-drop, nat_le, ◌&&◌}
 use Rattle.std.proofs.lemmas.Bool.{cases_lt}
 use Rattle.std.proofs.lemmas.Bool.Decides.{nat_tests}
 use Rattle.std.proofs.lemmas.List.{take-append-le, drop-append-le, take_all}
@@ -17,9 +17,12 @@ cond-same true x y z h = h refl
 cond-same false x y z h = refl
 
 -- what holds for both branches holds for the choice
-cond-both : {A : Type 0} (P : A → Type 0) (b : Bool) (x y : A) → (b ≡ true → P x) → (b ≡ false → P y) → P (cond b x y)
+pub cond-both : {A : Type 0} (P : A → Type 0) (b : Bool) (x y : A) → (b ≡ true → P x) → (b ≡ false → P y) → P (cond b x y)
 cond-both P true x y h k = h refl
 cond-both P false x y h k = k refl
+
+true_is_false : {b : Bool} → b ≡ true → b ≡ false → ⊥
+true_is_false h k = cc
 
 -- what the test for a whole frame means
 pub record HasFrame (at : Standing) : Type 0 where
@@ -35,11 +38,18 @@ true-has_frame at found = let a = found.whole in let b = found.within in grind (
 pub false-has_frame : (at : Standing) → IsPartial at → has_frame at ≡ false
 false-has_frame at short = grind (arith, nat_tests)
 
+-- without a whole frame there is less than one, or its header states too much
+pub ends_so : (at : Standing) → has_frame at ≡ false → IsPartial at ⊎ IsOversize at
+ends_so at none = elim (cases_lt (length at.held) (wanted at)) [
+    | inl short ↦ inl short
+    | inr whole ↦ elim (cases_lt 8192 (units at)) [ inl much ↦ inr much | inr within ↦ absurd (true_is_false (true-has_frame at (record { whole = whole; within = within })) none) ]
+  ]
+
 pub oversize-has_frame : (at : Standing) → IsOversize at → has_frame at ≡ false
 oversize-has_frame at much = grind (arith, nat_tests)
 
 -- once a frame has gone, fewer bytes are left
-length-without_first : (at : Standing) → HasFrame at → length (without_first at).held + wanted at ≡ length at.held
+pub length-without_first : (at : Standing) → HasFrame at → length (without_first at).held + wanted at ≡ length at.held
 length-without_first at found = let a = found.whole in omega (arith, length-drop (wanted at) at.held)
 
 no_bytes : (at : Standing) → length at.held ≤ 0 → has_frame at ≡ false
@@ -99,7 +109,7 @@ wanted-fed at bytes whole = ap (λ n. 8 + 8 * n) (units-fed at bytes whole)
 endian-fed : (at : Standing) (bytes : List ℕ) → 8 ≤ length at.held → endian (fed at bytes) ≡ endian at
 endian-fed at bytes whole = endian_in-append at.order at.held bytes whole
 
-header_whole : (at : Standing) → HasFrame at → 8 ≤ length at.held
+pub header_whole : (at : Standing) → HasFrame at → 8 ≤ length at.held
 header_whole at found = let whole = found.whole in omega arith
 
 frame-fed : (at : Standing) (bytes : List ℕ) → HasFrame at → HasFrame (fed at bytes)

@@ -3,6 +3,7 @@ use Rattle.std.proofs.Common.{◌≡◌, ℕ, ◌+◌, ◌-◌, ◌<◌, ◌≤�
 use Rattle.std.proofs.lemmas.Bool.{lt-ltb, le-ltb}
 use Rattle.std.proofs.lemmas.Bool.Decides.{nat_tests}
 use Rattle.std.proofs.lemmas.List.{take-append-drop}
+use Rattle.ice_values.specs.Numbers.{number}
 use Rattle.ice_values.specs.declared.numbers.Endian.{Endian}
 use Rattle.ice_values.specs.declared.numbers.Endian.TheVariants.{Lsb, Msb}
 use Rattle.ice_framing.specs.Frames.{units_in, endian_in}
@@ -31,3 +32,7 @@ endian_in-append None bytes more whole = absurd (omega arith)
 pub units_in-short : (order : Option Endian) (bytes : List ℕ) → length bytes < 8 → units_in order bytes ≡ 0
 units_in-short None bytes short = refl
 units_in-short (Some e) bytes short = rw (lt-ltb (length bytes) 8 short) refl
+
+-- a header that is whole states a number
+pub units_in-number : (e : Endian) (bytes : List ℕ) → 8 ≤ length bytes → units_in (Some e) bytes ≡ number e 4 (drop 4 bytes)
+units_in-number e bytes whole = rw (le-ltb (length bytes) 8 whole) refl

@@ -3,3 +3,4 @@ pub mod Cuts
 pub mod Examples
 pub mod Feeding
 pub mod Pieces
+pub mod Shapes

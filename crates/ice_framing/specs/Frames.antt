@@ -1,5 +1,6 @@
 -- The frames of a stream (ICE, chapter 4 and the appendix on its encoding).
-use Rattle.std.specs.Prelude.{◌≡◌, ℕ, zero, suc, ◌+◌, ◌*◌, ◌<◌, ◌≤◌, Bool, ◌&&◌, ◌==◌, nat_lt, nat_le, if◌then◌else◌, List, [], ◌∷◌, ◌++◌, length, take, drop, slice_index, Option, Some, None}
+use Rattle.std.specs.Prelude.{◌≡◌, ℕ, zero, suc, ◌+◌, ◌*◌, ◌<◌, ◌≤◌, ◌⊎◌, Bool, ◌&&◌, ◌==◌, nat_lt, nat_le, if◌then◌else◌, List, [], ◌∷◌, ◌++◌, length, take, drop, slice_index, Option, Some, None}
+use Rattle.std.specs.List.{flat_map, AllByRecursion}
 use Rattle.ice_values.specs.Numbers.{number}
 use Rattle.ice_values.specs.declared.numbers.Endian.{Endian}
 use Rattle.ice_values.specs.declared.numbers.Endian.TheVariants.{Lsb, Msb}
@@ -117,3 +118,27 @@ StandsAt at splitter (Some error) = (splitter ≡ header_of at) × IsOversize at
 abbrev pub EndsIn : Standing → Option Oversize → Type 0
 EndsIn at None = IsPartial at × (units at ≤ unit_limit)
 EndsIn at (Some error) = IsOversize at × (error.units ≡ units at)
+
+-- A frame behind the first: a header in the stream's order, and the units that it states.
+pub record IsLater (e : Endian) (frame : WholeFrame) : Type 0 where
+  pub order : frame.endian ≡ e
+  pub header : 8 ≤ length frame.bytes
+  pub units : length frame.bytes ≡ 8 + 8 * number e 4 (drop 4 frame.bytes)
+  pub limit : length frame.bytes ≤ byte_limit
+
+-- The frames of a stream: the first is a header alone, and its byte 2 gives the order of all.
+abbrev pub AreFrames : List WholeFrame → Type 0
+AreFrames [] = Unit {0}
+AreFrames (first ∷ later) = (length first.bytes ≡ 8) × (first.endian ≡ endian_in None first.bytes) × AllByRecursion (IsLater first.endian) later
+
+abbrev pub order_of : List WholeFrame → Option Endian
+order_of [] = None
+order_of (first ∷ later) = Some first.endian
+
+-- A stream is its frames and then less than a frame, or a header that states too much and whatever
+-- comes behind it.
+pub record IsMadeOf (stream : List ℕ) (front : List WholeFrame) (at : Standing) : Type 0 where
+  pub joined : flat_map (λ frame. frame.bytes) front ++ at.held ≡ stream
+  pub shapes : AreFrames front
+  pub order : at.order ≡ order_of front
+  pub end : IsPartial at ⊎ IsOversize at

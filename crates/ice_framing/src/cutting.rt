@@ -1,6 +1,6 @@
 ghost use Rattle.std.specs.Prelude.{◌≡◌, ℕ, ◌<◌, ◌≤◌, ◌++◌, List, length, IfOk, OnOk};
 ghost use Rattle.std.specs.List.{concat};
-ghost use Rattle.ice_framing.specs.Frames.{beginning, fed, units, wanted, IsPartial, behind, cut, frames_of, standing_of, StandsAt, EndsIn};
+ghost use Rattle.ice_framing.specs.Frames.{beginning, fed, units, wanted, IsPartial, behind, cut, frames_of, standing_of, StandsAt, EndsIn, IsMadeOf};
 
 use crate::{Oversize, Splitter};
 use ice_values::Endian;
@@ -76,6 +76,8 @@ pub fn cut_pieces(
     // The frames are those of the stream, however it was cut, and so is its end.
     ensures frames { OnOk result (frames.new ≡ frames.old ++ frames_of (concat pieces.now)) }
     ensures end { IfOk result (λ oversize. EndsIn (standing_of (concat pieces.now)) oversize) }
+    // What is meant by them: one behind the other they are the stream, each as long as it states.
+    ensures made { OnOk result (IsMadeOf (concat pieces.now) (frames_of (concat pieces.now)) (standing_of (concat pieces.now))) }
 {
     let mut splitter = Splitter::new(alloc)?;
     for piece in pieces {

@@ -4,5 +4,8 @@
 mod cutting;
 mod splitting;
 
+#[cfg(test)]
+mod tests;
+
 pub use cutting::{WholeFrame, WholeFrameList, cut_piece, cut_pieces};
 pub use splitting::{FRAME_LIMIT, Frame, Oversize, Splitter, UNIT_LIMIT};

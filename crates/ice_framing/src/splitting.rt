@@ -155,7 +155,7 @@ impl Splitter {
     /// Lends the frame that is held.
     pub fn next_frame(&self) -> Option<Frame<'_>>
         ensures none { IfNone result (IsPartial self.now) }
-        ensures some { OnSome result (length self.now.held ≡ wanted self.now) }
+        ensures some { OnSome result ((length self.now.held ≡ wanted self.now) × (length self.now.held ≤ FRAME_LIMIT)) }
         ensures frame { IfSome result (λ frame. (frame.endian ≡ endian self.now) × (frame.bytes.now ≡ self.now.held)) }
         // It is the first of the frames of whatever stream goes on from here.
         ensures first { IfSome result (λ frame. (more : List ℕ) → cut (fed self.now more)
