@@ -1,9 +1,9 @@
 -- Cutting a stream into its frames: once for all of it, or as more of it comes.
-use Rattle.std.proofs.Common.{◌≡◌, ℕ, zero, suc, ◌+◌, ◌-◌, ◌<◌, ◌≤◌, Bool, true, false, cond, List, [], ◌∷◌, ◌++◌, length, take, drop, Option, Some, inl, inr, ◌⊎◌, ◌*◌, refl, sym, ap, ◌∙◌, subst, arith, append_assoc, length-append, length-drop, nat_le, ◌&&◌}
+use Rattle.std.proofs.Common.{◌≡◌, ℕ, zero, suc, ◌+◌, ◌<◌, ◌≤◌, Bool, true, false, cond, List, [], ◌∷◌, ◌++◌, length, take, drop, Option, Some, inl, inr, ◌⊎◌, ◌*◌, refl, sym, ap, ◌∙◌, subst, arith, append_assoc, length-append, length-drop}
 use Rattle.std.proofs.lemmas.Bool.{cases_lt}
 use Rattle.std.proofs.lemmas.Bool.Decides.{nat_tests}
 use Rattle.std.proofs.lemmas.List.{take-append-le, drop-append-le, take_all}
-use Rattle.ice_framing.specs.Frames.{Standing, Cut, fed, units, wanted, endian, has_frame, first_frame, without_first, uncut, behind, cut_upto, cut, frames_of, standing_of, IsPartial, IsOversize, beginning}
+use Rattle.ice_framing.specs.Frames.{Standing, Cut, fed, units, wanted, endian, has_frame, first_frame, without_first, uncut, behind, cut_upto, cut, frames_of, standing_of, IsPartial, IsOversize, is_oversize, beginning}
 use Rattle.ice_framing.specs.declared.cutting.WholeFrame.{WholeFrame}
 use Rattle.ice_framing.proofs.Headers.{units_in-append, units_in-short, endian_in-append}
 use Rattle.ice_values.specs.declared.numbers.Endian.{Endian}
@@ -41,9 +41,9 @@ false-has_frame at short = grind (arith, nat_tests)
 -- without a whole frame there is less than one, or its header states too much
 pub ends_so : (at : Standing) → has_frame at ≡ false → IsPartial at ⊎ IsOversize at
 ends_so at none = elim (cases_lt (length at.held) (wanted at)) [
-    | inl short ↦ inl short
-    | inr whole ↦ elim (cases_lt 8192 (units at)) [ inl much ↦ inr much | inr within ↦ absurd (true_is_false (true-has_frame at (record { whole = whole; within = within })) none) ]
-  ]
+  | inl short ↦ inl short
+  | inr whole ↦ elim (cases_lt 8192 (units at)) [ inl much ↦ inr much | inr within ↦ absurd (true_is_false (true-has_frame at (record { whole = whole; within = within })) none) ]
+]
 
 pub oversize-has_frame : (at : Standing) → IsOversize at → has_frame at ≡ false
 oversize-has_frame at much = grind (arith, nat_tests)
@@ -143,9 +143,9 @@ cut_upto-fed zero at bytes here = refl
 cut_upto-fed (suc n) at bytes here =
     cond-both (λ (c : Cut). cut (fed at bytes) ≡ behind c.frames (cut (fed c.standing bytes))) (has_frame at) (behind (first_frame at ∷ []) (cut_upto n (without_first at))) (uncut at)
     (λ found.
-        let shorter = length-without_first at (has_frame-true at found) in
-        cut-first at bytes (has_frame-true at found)
-        ∙ ap (behind (first_frame at ∷ [])) (cut_upto-fed n (without_first at) bytes (omega arith)))
+    let shorter = length-without_first at (has_frame-true at found) in
+    cut-first at bytes (has_frame-true at found)
+    ∙ ap (behind (first_frame at ∷ [])) (cut_upto-fed n (without_first at) bytes (omega arith)))
     (λ none. refl)
 
 -- A stream that goes on: its frames stay, and more come from where it stood.
@@ -190,3 +190,10 @@ lent_first at e bytes more whole limit order lent =
     let all : take (wanted at) at.held ≡ bytes = take_all (wanted at) at.held (omega arith) ∙ sym lent in
     cut-first at more found
     ∙ ap (λ frame. behind (frame ∷ []) (cut (fed (without_first at) more))) (frame_is (endian at) e (take (wanted at) at.held) bytes (sym order) all)
+
+-- what the test for such a header means
+pub is_oversize-true : (at : Standing) → is_oversize at ≡ true → IsOversize at
+is_oversize-true at much = grind (arith, nat_tests)
+
+pub is_oversize-false : (at : Standing) → is_oversize at ≡ false → units at ≤ 8192
+is_oversize-false at within = grind (arith, nat_tests)

@@ -1,6 +1,6 @@
 -- The frames of some small streams, worked by hand.
 use Rattle.std.proofs.Common.{◌≡◌, ℕ, List, [], ◌∷◌, ◌++◌, Some, None, refl}
-use Rattle.ice_values.specs.declared.numbers.Endian.TheVariants.{Lsb, Msb}
+use Rattle.ice_values.specs.declared.numbers.Endian.TheVariants.{Msb}
 use Rattle.ice_framing.specs.Frames.{cut, frames_of, standing_of}
 
 -- a ByteOrder that says MSB first and states 7 units, which it hasn't

@@ -1,8 +1,8 @@
 -- Cutting piece by piece: the frames that were collected, and those to come, stay the same.
-use Rattle.std.proofs.Common.{◌≡◌, ℕ, ◌+◌, ◌≤◌, ◌<◌, List, [], ◌∷◌, ◌++◌, length, drop, get_or, Option, Some, None, refl, sym, ap, subst, ◌∙◌, arith, append-nil, append_assoc}
+use Rattle.std.proofs.Common.{◌≡◌, ℕ, ◌+◌, ◌≤◌, ◌<◌, List, [], ◌∷◌, ◌++◌, length, drop, get_or, Some, None, refl, sym, ap, subst, ◌∙◌, arith, append-nil, append_assoc}
 use Rattle.std.proofs.lemmas.List.{at_drop_more, at_drop_all}
 use Rattle.std.specs.List.{concat}
-use Rattle.ice_framing.specs.Frames.{Standing, Cut, fed, units, wanted, IsPartial, IsOversize, uncut, behind, cut, StandsAt, EndsIn, header_of}
+use Rattle.ice_framing.specs.Frames.{Standing, Cut, fed, units, IsPartial, IsOversize, uncut, behind, cut, StandsAt, EndsIn, header_of}
 use Rattle.ice_framing.specs.declared.cutting.WholeFrame.{WholeFrame}
 use Rattle.ice_framing.specs.declared.splitting.Oversize.{Oversize}
 use Rattle.ice_framing.proofs.Cuts.{cut-partial, cut-oversize, cut-fed, fed-fed, units-fed, stated_whole, oversize-fed}
@@ -72,9 +72,10 @@ last_piece whole frames all at to piece more rest error going parts grown stands
     let much : IsOversize (fed from more) = oversize-fed from more stands.1 in
     let same : units (fed from more) ≡ units from = units-fed from more (stated_whole from (omega (arith, stands.1))) in
     let ends : behind all (uncut (fed from more)) ≡ whole = ap (behind all) (sym (cut-oversize (fed from more) much)) ∙ after_piece whole frames all at piece more rest going parts grown in
-    let there : fed from more ≡ whole.standing = ap (λ (c : Cut). c.standing) ends in
-    (sym (append-nil all) ∙ ap (λ (c : Cut). c.frames) ends,
-    (subst (λ (end : Standing). IsOversize end) there much, stands.2 ∙ sym same ∙ ap (λ (end : Standing). units end) there))
+    let there : fed from more ≡ whole.standing = ap (λ (c : Cut). c.standing) ends in (
+      sym (append-nil all) ∙ ap (λ (c : Cut). c.frames) ends,
+      (subst (λ (end : Standing). IsOversize end) there much, stands.2 ∙ sym same ∙ ap (λ (end : Standing). units end) there),
+    )
 
 -- at the end of the pieces
 pub no_piece : (whole : Cut) (frames : List WholeFrame) (at : Standing) (rest : List ℕ) → Going whole frames at rest → length rest ≡ 0 → (frames ≡ whole.frames) × EndsIn whole.standing None

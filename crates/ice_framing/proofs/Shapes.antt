@@ -1,13 +1,12 @@
 -- What the frames of a stream look like, and that they make it up.
-use Rattle.std.proofs.Common.{◌≡◌, ℕ, zero, suc, ◌+◌, ◌*◌, ◌<◌, ◌≤◌, ◌⊎◌, true, false, List, [], ◌∷◌, ◌++◌, length, take, drop, Option, Some, None, refl, sym, ap, ◌∙◌, subst, arith, append_assoc}
+use Rattle.std.proofs.Common.{◌≡◌, ℕ, zero, suc, ◌≤◌, ◌⊎◌, List, [], ◌∷◌, ◌++◌, length, take, drop, Some, None, refl, sym, ap, ◌∙◌, subst, arith, append_assoc}
 use Rattle.std.specs.List.{flat_map, AllByRecursion}
 use Rattle.std.proofs.lemmas.List.{take-append-drop, length-take-le}
 use Rattle.ice_values.specs.declared.numbers.Endian.{Endian}
-use Rattle.ice_framing.specs.declared.cutting.WholeFrame.{WholeFrame}
 use Rattle.ice_framing.specs.Frames.{Standing, Cut, beginning, fed, units, units_in, wanted, endian, endian_in, has_frame, first_frame, without_first, uncut, behind, cut_upto, cut, frames_of, standing_of, IsPartial, IsOversize, IsLater, AreFrames, order_of, IsMadeOf}
 use Rattle.ice_values.specs.Numbers.{number}
 use Rattle.ice_framing.proofs.Headers.{units_in-append, units_in-number, endian_in-append}
-use Rattle.ice_framing.proofs.Cuts.{HasFrame, has_frame-true, has_frame-standing, ends_so, cond-both, length-without_first, header_whole, cut_upto-enough}
+use Rattle.ice_framing.proofs.Cuts.{HasFrame, has_frame-true, has_frame-standing, ends_so, cond-both, header_whole, cut_upto-enough}
 
 -- the frames and what is left are all the bytes
 joined_upto : (n : ℕ) (at : Standing) → flat_map (λ frame. frame.bytes) (cut_upto n at).frames ++ (cut_upto n at).standing.held ≡ at.held
@@ -15,9 +14,9 @@ joined_upto zero at = refl
 joined_upto (suc n) at =
     cond-both (λ (c : Cut). flat_map (λ frame. frame.bytes) c.frames ++ c.standing.held ≡ at.held) (has_frame at) (behind (first_frame at ∷ []) (cut_upto n (without_first at))) (uncut at)
     (λ found.
-        append_assoc (take (wanted at) at.held) (flat_map (λ frame. frame.bytes) (cut_upto n (without_first at)).frames) (cut_upto n (without_first at)).standing.held
-        ∙ ap (λ rest. take (wanted at) at.held ++ rest) (joined_upto n (without_first at))
-        ∙ take-append-drop (wanted at) at.held)
+    append_assoc (take (wanted at) at.held) (flat_map (λ frame. frame.bytes) (cut_upto n (without_first at)).frames) (cut_upto n (without_first at)).standing.held
+    ∙ ap (λ rest. take (wanted at) at.held ++ rest) (joined_upto n (without_first at))
+    ∙ take-append-drop (wanted at) at.held)
     (λ none. refl)
 
 -- the order stays
@@ -36,7 +35,7 @@ later_frame at e is found =
     let within : units at ≤ 8192 = found.within in
     let whole : 8 ≤ length (take n at.held) = omega arith in
     let same : units_in (Some e) (take n at.held) ≡ units_in (Some e) at.held =
-        sym (units_in-append (Some e) (take n at.held) (drop n at.held) whole) ∙ ap (units_in (Some e)) (take-append-drop n at.held) in
+    sym (units_in-append (Some e) (take n at.held) (drop n at.held) whole) ∙ ap (units_in (Some e)) (take-append-drop n at.held) in
     let stated : units at ≡ number e 4 (drop 4 (take n at.held)) = ap (λ o. units_in o at.held) is ∙ sym same ∙ units_in-number e (take n at.held) whole in
     record { order = ap (λ o. endian_in o at.held) is; header = whole; units = omega arith; limit = omega arith }
 
@@ -74,10 +73,10 @@ shapes_upto (suc n) bytes =
     let at = fed beginning bytes in
     cond-both (λ (c : Cut). AreFrames c.frames × (c.standing.order ≡ order_of c.frames)) (has_frame at) (behind (first_frame at ∷ []) (cut_upto n (without_first at))) (uncut at)
     (λ found.
-        let whole : 8 ≤ length bytes = header_whole at (has_frame-true at found) in
-        let len : length (take 8 bytes) ≡ 8 = length-take-le 8 bytes whole in
-        let states : endian_in None bytes ≡ endian_in None (take 8 bytes) = ap (endian_in None) (sym (take-append-drop 8 bytes)) ∙ endian_in-append None (take 8 bytes) (drop 8 bytes) (omega arith) in
-        ((len, states, later_upto n (without_first at) (endian at) refl), order_upto n (without_first at) (endian at) refl))
+    let whole : 8 ≤ length bytes = header_whole at (has_frame-true at found) in
+    let len : length (take 8 bytes) ≡ 8 = length-take-le 8 bytes whole in
+    let states : endian_in None bytes ≡ endian_in None (take 8 bytes) = ap (endian_in None) (sym (take-append-drop 8 bytes)) ∙ endian_in-append None (take 8 bytes) (drop 8 bytes) (omega arith) in
+    ((len, states, later_upto n (without_first at) (endian at) refl), order_upto n (without_first at) (endian at) refl))
     (λ none. (tt, refl))
 
 pub made_of : (stream : List ℕ) → IsMadeOf stream (frames_of stream) (standing_of stream)

@@ -1,4 +1,4 @@
--- The frames of a stream (ICE, chapter 4 and the appendix on its encoding).
+-- The frames of a stream (ICE, chapter 3, Message Format, and chapter 7).
 use Rattle.std.specs.Prelude.{◌≡◌, ℕ, zero, suc, ◌+◌, ◌*◌, ◌<◌, ◌≤◌, ◌⊎◌, Bool, ◌&&◌, ◌==◌, nat_lt, nat_le, if◌then◌else◌, List, [], ◌∷◌, ◌++◌, length, take, drop, slice_index, Option, Some, None}
 use Rattle.std.specs.List.{flat_map, AllByRecursion}
 use Rattle.ice_values.specs.Numbers.{number}
@@ -57,6 +57,9 @@ IsPartial at = length at.held < wanted at
 -- a header states more units than a frame may have
 abbrev pub IsOversize : Standing → Type 0
 IsOversize at = unit_limit < units at
+
+abbrev pub is_oversize : Standing → Bool
+is_oversize at = nat_lt unit_limit (units at)
 
 -- What a splitter holds: no more than the next frame and than the largest, for which there is room.
 pub record IsHeld (order : Option Endian) (bytes : List ℕ) (capacity : ℕ) : Type 0 where

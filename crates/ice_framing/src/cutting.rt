@@ -1,6 +1,6 @@
-ghost use Rattle.std.specs.Prelude.{◌≡◌, ℕ, ◌<◌, ◌≤◌, ◌++◌, List, length, IfOk, OnOk};
+ghost use Rattle.std.specs.Prelude.{◌≡◌, ℕ, ◌≤◌, ◌++◌, List, IfOk, OnOk};
 ghost use Rattle.std.specs.List.{concat};
-ghost use Rattle.ice_framing.specs.Frames.{beginning, fed, units, wanted, IsPartial, behind, cut, frames_of, standing_of, StandsAt, EndsIn, IsMadeOf};
+ghost use Rattle.ice_framing.specs.Frames.{fed, units, IsPartial, behind, cut, frames_of, standing_of, StandsAt, EndsIn, IsMadeOf, unit_limit};
 
 use crate::{Oversize, Splitter};
 use ice_values::Endian;
@@ -22,9 +22,9 @@ fn collect(
     splitter: &mut Splitter,
     frames: &mut WholeFrameList,
 ) -> Result<(), NoMemory>
-    requires { units splitter.old ≤ 8192 }
+    requires { units splitter.old ≤ unit_limit }
     ensures partial { OnOk result (IsPartial splitter.new) }
-    ensures within { OnOk result (units splitter.new ≤ 8192) }
+    ensures within { OnOk result (units splitter.new ≤ unit_limit) }
     // The list and what will be cut behind it stay the same.
     ensures same { OnOk result ((more : List ℕ)
         → behind frames.new (cut (fed splitter.new more)) ≡ behind frames.old (cut (fed splitter.old more))) }
@@ -49,7 +49,7 @@ pub fn cut_piece(
     frames: &mut WholeFrameList,
 ) -> Result<Option<Oversize>, NoMemory>
     requires no_frame { IsPartial splitter.old }
-    requires not_oversize { units splitter.old ≤ 8192 }
+    requires not_oversize { units splitter.old ≤ unit_limit }
     ensures frames { OnOk result (frames.new ≡ frames.old ++ (cut (fed splitter.old piece.now)).frames) }
     ensures stands { IfOk result (λ oversize. StandsAt (cut (fed splitter.old piece.now)).standing splitter.new oversize) }
 {

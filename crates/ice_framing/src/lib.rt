@@ -3,7 +3,6 @@
 
 mod cutting;
 mod splitting;
-
 #[cfg(test)]
 mod tests;
 

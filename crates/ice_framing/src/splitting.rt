@@ -1,12 +1,13 @@
-ghost use Rattle.std.specs.Prelude.{◌≡◌, ℕ, ◌+◌, ◌-◌, ◌*◌, ◌<◌, ◌≤◌, min, ◌++◌, ◌∷◌, [], List, length, take, drop, vec_len, vec_capacity, IfOk, OnOk, OnErr, IfErr, IfNone, IfSome, IsSome, OnSome};
-ghost use Rattle.ice_framing.specs.Frames.{Standing, beginning, fed, units_in, units, wanted, endian_in, endian, IsPartial, IsOversize, header_of, first_frame, without_first, behind, cut};
+ghost use Rattle.std.specs.Prelude.{◌≡◌, ℕ, ◌+◌, ◌-◌, ◌<◌, ◌≤◌, min, ◌++◌, ◌∷◌, [], List, length, take, drop, vec_len, vec_capacity, IfOk, OnOk, OnErr, IfErr, IfNone, IfSome, OnSome};
+ghost use Rattle.ice_framing.specs.Frames.{Standing, beginning, fed, units_in, units, wanted, endian_in, endian, IsPartial, IsOversize, header_of, without_first, behind, cut, unit_limit, byte_limit};
 
 use ice_values::{Endian, read_card32};
 use sm_world::NoMemory;
 use std::alloc::Global;
 use std::marker::Model;
 
-/// How many units of 8 bytes a header may state behind itself.
+/// How many units of 8 bytes a header may state behind itself. The standard sets no limit; this one is
+/// the session manager's own.
 pub const UNIT_LIMIT: u32 = 8_192;
 
 /// How many bytes a frame has at most: its header and 8,192 units.
@@ -14,10 +15,11 @@ pub const FRAME_LIMIT: usize = 65_544;
 
 const HEADER_LEN: usize = 8;
 
-/// A frame that a splitter lends.
+/// A frame that a splitter lends (ICE, chapter 3, Message Format).
 #[derive(Clone, Copy, Debug, PartialEq, Eq)]
 pub struct Frame<'a> {
-    /// The order of the frame's numbers. The first frame of a stream states it in its byte 2.
+    /// The order of the frame's numbers. Byte 2 of a stream's first frame gives it for all (ICE,
+    /// chapter 5, ByteOrder): 1 for the most significant byte first, any other for the least.
     pub endian: Endian,
     /// The 8 bytes of the header, and the units that it states; of a stream's first frame the header
     /// alone.
@@ -30,7 +32,10 @@ pub struct Oversize {
     pub units: u32,
 }
 
-/// Takes one party's stream in pieces, and lends its frames one by one (ICE, chapter 4).
+/// Takes the stream of one party in pieces, and lends its frames one by one.
+///
+/// After each `feed` look for the next frame. Take it before the next `feed`, which goes on with what
+/// was left of the piece.
 #[derive(Debug, Drop)]
 pub struct Splitter {
     order: Option<Endian>,
@@ -108,14 +113,14 @@ impl Splitter {
     /// How many bytes are held.
     pub fn held(&self) -> usize
         ensures count { result ≡ length self.now.held }
-        ensures bound { result ≤ FRAME_LIMIT }
+        ensures bound { result ≤ byte_limit }
     {
         self.held.len()
     }
 
     /// How many bytes there is room for without taking memory.
     pub fn capacity(&self) -> usize
-        ensures { FRAME_LIMIT ≤ result }
+        ensures { byte_limit ≤ result }
     {
         self.held.capacity()
     }
@@ -126,7 +131,7 @@ impl Splitter {
     /// 8,192 units; the splitter is then of no more use.
     pub fn feed(&mut self, piece: &[u8]) -> Result<usize, Oversize>
         requires no_frame { IsPartial self.old }
-        requires not_oversize { units self.old ≤ UNIT_LIMIT }
+        requires not_oversize { units self.old ≤ unit_limit }
         // The bytes that were taken are held behind those that were.
         ensures taken { IfOk result (λ n. self.new ≡ fed self.old (take n piece.now)) }
         // Bytes are left only behind a whole frame.
@@ -138,7 +143,7 @@ impl Splitter {
         ensures frames { IfOk result (λ n. cut (fed self.new (drop n piece.now)) ≡ cut (fed self.old piece.now)) }
 
         // It succeeds exactly where the header states no more than it may, as far as it has come.
-        ensures within { OnOk result ((units self.new ≤ UNIT_LIMIT) × (units (fed self.old piece.now) ≤ UNIT_LIMIT)) }
+        ensures within { OnOk result ((units self.new ≤ unit_limit) × (units (fed self.old piece.now) ≤ unit_limit)) }
         ensures oversize { IfErr result (λ error. IsOversize (fed self.old piece.now) × (error.units ≡ units (fed self.old piece.now))) }
         // That header is then held.
         ensures header { OnErr result (self.new ≡ header_of (fed self.old piece.now)) }
@@ -155,7 +160,7 @@ impl Splitter {
     /// Lends the frame that is held.
     pub fn next_frame(&self) -> Option<Frame<'_>>
         ensures none { IfNone result (IsPartial self.now) }
-        ensures some { OnSome result ((length self.now.held ≡ wanted self.now) × (length self.now.held ≤ FRAME_LIMIT)) }
+        ensures some { OnSome result ((length self.now.held ≡ wanted self.now) × (length self.now.held ≤ byte_limit)) }
         ensures frame { IfSome result (λ frame. (frame.endian ≡ endian self.now) × (frame.bytes.now ≡ self.now.held)) }
         // It is the first of the frames of whatever stream goes on from here.
         ensures first { IfSome result (λ frame. (more : List ℕ) → cut (fed self.now more)

@@ -2,6 +2,7 @@ use crate::{FRAME_LIMIT, Oversize, Splitter, WholeFrameList, cut_pieces};
 use ice_values::Endian;
 use sm_world::{NoMemory, Octets, OctetsList};
 use std::alloc::Global;
+use std::process::Abort;
 use std::test::Fail;
 
 /// A ByteOrder that says MSB first and states 7 units that aren't there.
@@ -65,7 +66,10 @@ fn cut_anywhere(rt: HostRuntime) -> Result<(), Fail> {
         ),
         // Nothing is whole.
         (b"\0\x01\x01\0\0\0\0", b""),
-        (b"\0\x01\0\0\0\0\0\0\0\x02\0\0\x01\0\0\0abcdefg", b"L\0\x01\0\0\0\0\0\0|"),
+        (
+            b"\0\x01\0\0\0\0\0\0\0\x02\0\0\x01\0\0\0abcdefg",
+            b"L\0\x01\0\0\0\0\0\0|",
+        ),
     ];
     for (stream, want) in table {
         for second in 0..stream.len() + 1 {
@@ -81,43 +85,56 @@ fn cut_anywhere(rt: HostRuntime) -> Result<(), Fail> {
     Ok(())
 }
 
-/// What a splitter holds and says behind a first frame and the header of another.
-fn at_limit(rt: HostRuntime, first: &[u8], length: [u8; 4]) -> Result<Result<usize, Oversize>, Fail> {
-    let mut splitter = Splitter::new(rt.alloc())?;
+/// What a splitter answers to a header behind a first frame; it then holds that header and no frame.
+fn at_limit(
+    rt: &impl Abort,
+    alloc: Global,
+    first: &[u8],
+    header: [u8; 8],
+) -> Result<Result<usize, Oversize>, Fail> {
+    let mut splitter = Splitter::new(alloc)?;
     let _ = splitter.feed(first);
-    let opened = splitter.next_frame().is_some();
-    assert!(rt; opened);
+    let Some(_) = splitter.next_frame() else {
+        return Ok(Ok(0));
+    };
     splitter.take_frame();
-    let [a, b, c, d] = length;
-    let header = [0, 2, 0, 0, a, b, c, d];
-    let fed = splitter.feed(&header);
+    let answer = splitter.feed(&header);
     assert!(rt; splitter.next_frame().is_none());
     assert_eq!(rt; splitter.held(), 8);
     assert!(rt; splitter.header() == Some(header));
-    Ok(fed)
+    Ok(answer)
 }
 
 #[test]
 fn limit_of_units(rt: HostRuntime) -> Result<(), Fail> {
-    let oversize = Err(Oversize { units: 8_193 });
-    assert!(rt; at_limit(rt, &MSB_FIRST, [0, 0, 0x20, 0])? == Ok(8));
-    assert!(rt; at_limit(rt, &MSB_FIRST, [0, 0, 0x20, 1])? == oversize);
-    assert!(rt; at_limit(rt, &LSB_FIRST, [0, 0x20, 0, 0])? == Ok(8));
-    assert!(rt; at_limit(rt, &LSB_FIRST, [1, 0x20, 0, 0])? == oversize);
-    assert!(rt; at_limit(rt, &LSB_FIRST, [255, 255, 255, 255])? == Err(Oversize { units: u32::MAX }));
+    let alloc = rt.alloc();
+    for (first, length, want) in [
+        (MSB_FIRST, [0, 0, 0x20, 0], Ok(8)),
+        (MSB_FIRST, [0, 0, 0x20, 1], Err(Oversize { units: 8_193 })),
+        (LSB_FIRST, [0, 0x20, 0, 0], Ok(8)),
+        (LSB_FIRST, [1, 0x20, 0, 0], Err(Oversize { units: 8_193 })),
+        (
+            LSB_FIRST,
+            [255, 255, 255, 255],
+            Err(Oversize { units: u32::MAX }),
+        ),
+    ] {
+        let [a, b, c, d] = length;
+        let answer = at_limit(&rt, alloc, &first, [0, 2, 0, 0, a, b, c, d])?;
+        assert!(rt; answer == want, "at {length:?}");
+    }
     Ok(())
 }
 
 #[test]
 fn largest_byte_by_byte(rt: HostRuntime) -> Result<(), Fail> {
     let alloc = rt.alloc();
-    let mut stream = Vec::from_slice(alloc, &MSB_FIRST)?;
-    stream.extend_from_slice(&[0, 2, 0, 0, 0, 0, 0x20, 0])?;
-    let mut pieces = OctetsList::new(alloc);
-    for at in 0..FRAME_LIMIT - 8 {
-        stream.push((at % 251) as u8)?;
+    let mut largest = Vec::from_slice(alloc, &[0, 2, 0, 0, 0, 0, 0x20, 0])?;
+    for at in 8..FRAME_LIMIT {
+        largest.push((at % 251) as u8)?;
     }
-    for byte in stream.as_slice() {
+    let mut pieces = OctetsList::new(alloc);
+    for byte in MSB_FIRST.iter().chain(largest.iter()) {
         pieces.push(Octets::from_slice(alloc, &[*byte])?)?;
     }
     let mut frames = WholeFrameList::new(alloc);
@@ -126,6 +143,6 @@ fn largest_byte_by_byte(rt: HostRuntime) -> Result<(), Fail> {
     assert_eq!(rt; frames.as_slice().len(), 2);
     let bytes = frames.as_slice()[1].bytes.as_slice();
     assert_eq!(rt; bytes.len(), FRAME_LIMIT);
-    assert!(rt; bytes == &stream[8..]);
+    assert!(rt; bytes == largest.as_slice());
     Ok(())
 }

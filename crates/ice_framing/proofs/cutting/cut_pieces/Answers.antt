@@ -1,4 +1,4 @@
-use Rattle.std.proofs.Common.{◌≡◌, ℕ, ◌+◌, List, drop, Option, Some, None, subst}
+use Rattle.std.proofs.Common.{◌+◌, drop, Option, subst}
 use Rattle.std.specs.List.{concat}
 use Rattle.ice_framing.specs.Frames.{beginning, fed, behind, cut, StandsAt}
 use Rattle.ice_framing.specs.declared.splitting.Oversize.{Oversize}

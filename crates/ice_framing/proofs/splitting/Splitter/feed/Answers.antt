@@ -1,4 +1,4 @@
-use Rattle.std.proofs.Common.{◌≡◌, ℕ, ◌+◌, ◌≤◌, List, ◌++◌, length, drop, arith, ap, ◌∙◌, subst}
+use Rattle.std.proofs.Common.{◌≡◌, ℕ, ◌+◌, ◌≤◌, List, ◌++◌, drop, arith, ap, ◌∙◌, subst}
 use Rattle.ice_framing.specs.Frames.{Standing, fed, units, units_in, cut}
 use Rattle.ice_framing.proofs.Feeding.{rejoined_twice, stated_alike}
 use Rattle.ice_framing.proofs.splitting.Splitter.feed.Goals as goal

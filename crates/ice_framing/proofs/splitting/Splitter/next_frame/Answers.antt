@@ -1,4 +1,4 @@
-use Rattle.std.proofs.Common.{◌≡◌, ℕ, ◌+◌, ◌*◌, ◌≤◌, List, [], ◌∷◌, length, arith, sym, ap, subst, ◌∙◌}
+use Rattle.std.proofs.Common.{◌≡◌, ◌+◌, ◌*◌, ◌≤◌, [], ◌∷◌, length, arith, ap, subst, ◌∙◌}
 use Rattle.ice_framing.specs.Frames.{Standing, fed, units_in, endian_in, without_first, behind, cut}
 use Rattle.ice_framing.proofs.Cuts.{lent_first}
 use Rattle.ice_framing.proofs.splitting.Splitter.next_frame.Goals as goal
