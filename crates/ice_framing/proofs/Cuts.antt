@@ -3,7 +3,7 @@ use Rattle.std.proofs.Common.{◌≡◌, ℕ, zero, suc, ◌+◌, ◌<◌, ◌�
 use Rattle.std.proofs.lemmas.Bool.{cases_lt}
 use Rattle.std.proofs.lemmas.Bool.Decides.{nat_tests}
 use Rattle.std.proofs.lemmas.List.{take-append-le, drop-append-le, take_all}
-use Rattle.ice_framing.specs.Frames.{Standing, Cut, fed, units, wanted, endian, has_frame, first_frame, without_first, uncut, behind, cut_upto, cut, frames_of, standing_of, IsPartial, IsOversize, is_oversize, beginning}
+use Rattle.ice_framing.specs.Frames.{Standing, Cut, fed, units, wanted, endian, has_frame, first_frame, without_first, uncut, behind, cut_upto, cut, IsPartial, IsOversize, is_oversize}
 use Rattle.ice_framing.specs.declared.cutting.WholeFrame.{WholeFrame}
 use Rattle.ice_framing.proofs.Headers.{units_in-append, units_in-short, endian_in-append}
 use Rattle.ice_values.specs.declared.numbers.Endian.{Endian}
@@ -166,13 +166,6 @@ has_frame-standing at = subst (λ (c : Cut). has_frame c.standing ≡ false) (cu
 -- what is fed in two parts
 pub fed-fed : (at : Standing) (bytes more : List ℕ) → fed (fed at bytes) more ≡ fed at (bytes ++ more)
 fed-fed at bytes more = standing_is at.order at.order ((at.held ++ bytes) ++ more) (at.held ++ (bytes ++ more)) refl (append_assoc at.held bytes more)
-
--- The same for whole streams.
-pub frames_of-append : (stream bytes : List ℕ) → frames_of (stream ++ bytes) ≡ frames_of stream ++ (cut (fed (standing_of stream) bytes)).frames
-frames_of-append stream bytes = ap (λ (c : Cut). c.frames) (cut-fed (fed beginning stream) bytes)
-
-pub standing_of-append : (stream bytes : List ℕ) → standing_of (stream ++ bytes) ≡ (cut (fed (standing_of stream) bytes)).standing
-standing_of-append stream bytes = ap (λ (c : Cut). c.standing) (cut-fed (fed beginning stream) bytes)
 
 -- only a header that is whole states anything
 pub stated_whole : (at : Standing) → 0 < units at → 8 ≤ length at.held

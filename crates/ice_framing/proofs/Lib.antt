@@ -4,3 +4,4 @@ pub mod Examples
 pub mod Feeding
 pub mod Pieces
 pub mod Shapes
+pub mod Streams

@@ -40,8 +40,8 @@ fn collect(
     Ok(())
 }
 
-/// Adds the frames that a piece makes whole to the list. Oversize ends the stream: the splitter is
-/// then of no more use, as after NoMemory.
+/// Adds the frames that a piece makes whole to the list, and answers with the header that states too
+/// much, if one comes. Nothing may be fed after that, nor after NoMemory, where frames are lost.
 pub fn cut_piece(
     alloc: Global,
     splitter: &mut Splitter,
@@ -66,8 +66,8 @@ pub fn cut_piece(
     Ok(None)
 }
 
-/// Cuts a whole stream that comes in pieces, and adds its frames to the list. Where a header states
-/// too much, what comes behind it isn't looked at.
+/// Adds the frames of a whole stream, which comes in pieces, to the list, and answers with the header
+/// that states too much, if one comes; what stands behind it isn't looked at.
 pub fn cut_pieces(
     alloc: Global,
     pieces: &[Octets],

@@ -53,7 +53,7 @@ impl Model for Splitter {
     ghost invariant = { λ splitter. IsHeld splitter.order splitter.held.items (vec_capacity splitter.held) };
 }
 
-/// What the order byte of a stream's first frame says.
+/// The order of the next frame: the one that is known, or what byte 2 of a stream's first frame says.
 fn endian_of(order: Option<Endian>, held: &[u8]) -> Endian
     requires { 8 ≤ length held.now }
     ensures { result ≡ endian_in order held.now }
@@ -70,7 +70,7 @@ fn endian_of(order: Option<Endian>, held: &[u8]) -> Endian
     }
 }
 
-/// The units that the header states, as soon as it is whole.
+/// The units that the next frame's header states, as soon as it is whole; none in a stream's first.
 fn units_of(order: Option<Endian>, held: &[u8]) -> u32
     ensures { result ≡ units_in order held.now }
 {
@@ -128,7 +128,7 @@ impl Splitter {
     /// Takes bytes of the piece until a whole frame is held or the piece ends, and says how many.
     ///
     /// Oversize comes as soon as the header of a frame after the first is whole and states more than
-    /// 8,192 units; the splitter is then of no more use.
+    /// 8,192 units; nothing may be fed after it.
     pub fn feed(&mut self, piece: &[u8]) -> Result<usize, Oversize>
         requires no_frame { IsPartial self.old }
         requires not_oversize { units self.old ≤ unit_limit }
@@ -157,7 +157,7 @@ impl Splitter {
         Ok(head + fill(&mut self.held, rest, HEADER_LEN + 8 * units as usize))
     }
 
-    /// Lends the frame that is held.
+    /// Lends the frame that is held, if a whole one is.
     pub fn next_frame(&self) -> Option<Frame<'_>>
         ensures none { IfNone result (IsPartial self.now) }
         ensures some { OnSome result ((length self.now.held ≡ wanted self.now) × (length self.now.held ≤ byte_limit)) }
