@@ -1,0 +1,7 @@
+pub mod Headers
+pub mod Cuts
+pub mod Examples
+pub mod Feeding
+pub mod Pieces
+pub mod Shapes
+pub mod Streams
