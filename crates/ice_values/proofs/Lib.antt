@@ -1,0 +1,6 @@
+pub mod CellLaws
+pub mod NumberLaws
+pub mod FieldLaws
+pub mod ListLaws
+pub mod FrontLaws
+pub mod WriteLaws
