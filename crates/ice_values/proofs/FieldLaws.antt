@@ -7,7 +7,7 @@ use Rattle.std.proofs.Common.{length-append}
 use Rattle.ice_values.specs.Cells.{Cells, known, free, Begins, pad_len}
 use Rattle.ice_values.specs.Numbers.{number, number_bytes, card16, card32}
 use Rattle.ice_values.specs.Fields.{text16, IsText16, version, IsVersion, proof_data, IsProofData}
-use Rattle.ice_values.specs.Reading.{◌>>=◌, card_at, bytes_at, skip_at, text16_at, version_at, proof_data_at, pair_at, after_at}
+use Rattle.ice_values.specs.Reading.{◌>>=◌, card_at, bytes_at, skip_at, text16_at, version_at, proof_data_at, nothing_at, pair_at, after_at}
 use Rattle.ice_values.specs.declared.numbers.Endian.{Endian}
 use Rattle.ice_values.specs.declared.version.Version.{Version}
 use Rattle.ice_values.proofs.CellLaws.{IsBytes, Begins-append, Begins-split, Begins-known, from_known, Begins-free, from_free, Begins-fits}
@@ -194,4 +194,11 @@ proof_data_exact e = record {
       let a = Begins-split (card16 e (length x) ++ free 6) (known x) bytes rest h in
       let b = Begins-split (card16 e (length x)) (free 6) bytes a.0 a.1 in
       rw ((card2 e).again bytes (length x) b.0 lt b.1, skip_again 6 b.0 a.0 b.2) (bytes_again a.0 x rest a.2);
+}
+
+pub nothing_exact : Exact (λ x. []) (λ x. Unit {0}) nothing_at
+unfolding nothing_at
+nothing_exact = record {
+  takes = λ bytes x rest fits e. (ap (λ (y : Unit {0} × List ℕ). y.1) (some_is (tt, bytes) (x, rest) e), tt);
+  again = λ bytes x rest fits h. rw h refl;
 }

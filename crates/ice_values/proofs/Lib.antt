@@ -4,3 +4,7 @@ pub mod FieldLaws
 pub mod ListLaws
 pub mod FrontLaws
 pub mod WriteLaws
+pub mod HeaderLaws
+pub mod BodyLaws
+pub mod EnumLaws
+pub mod ErrorLaws

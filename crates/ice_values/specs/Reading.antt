@@ -55,6 +55,10 @@ many_at read (suc n) bytes = do
   others ← many_at read n first.1
   Some (first.0 ∷ others.0, others.1)
 
+-- nothing
+unfoldable pub nothing_at : List ℕ → Option (Unit {0} × List ℕ)
+nothing_at bytes = Some (tt, bytes)
+
 -- one value, and then another
 unfoldable pub pair_at : {A B : Type 0} → (List ℕ → Option (A × List ℕ)) → (List ℕ → Option (B × List ℕ)) → List ℕ → Option ((A × B) × List ℕ)
 pair_at read_a read_b bytes = do
