@@ -2,9 +2,6 @@
 #![tactic(auto)]
 
 mod decoding;
-mod encoding;
 mod message;
 
-pub use decoding::decode_ice;
-pub use encoding::encode_ice;
 pub use message::IceMessage;

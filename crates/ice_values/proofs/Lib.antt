@@ -8,3 +8,4 @@ pub mod HeaderLaws
 pub mod BodyLaws
 pub mod EnumLaws
 pub mod ErrorLaws
+pub mod LengthLaws

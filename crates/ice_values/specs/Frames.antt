@@ -21,13 +21,20 @@ abbrev pub ◌>>=◌ : {A B : Type 0} → Result A DecodeRefusal → (A → Resu
 (Ok x) >>= f = f x
 (Err refusal) >>= f = Err refusal
 
--- a call's answer is this one, unless memory was wanting
+-- a call's answer, seen by view, is this one, unless memory was wanting
+abbrev pub RefusesAs : {Y : Type 0} → DecodeRefusal → Result Y DecodeRefusal → Type 0
+RefusesAs BadMinor answer = answer ≡ Err BadMinor
+RefusesAs BadLength answer = answer ≡ Err BadLength
+RefusesAs (BadValue at len) answer = answer ≡ Err (BadValue at len)
+RefusesAs NoMemoryToDecode answer = Unit {0}
+
+abbrev pub GivesAs : {X Y : Type 0} → (X → Y) → Result X DecodeRefusal → Result Y DecodeRefusal → Type 0
+GivesAs view (Ok x) answer = answer ≡ Ok (view x)
+GivesAs view (Err refusal) answer = RefusesAs refusal answer
+
+-- the same, seen as it is
 abbrev pub Gives : {X : Type 0} → Result X DecodeRefusal → Result X DecodeRefusal → Type 0
-Gives (Ok x) answer = answer ≡ Ok x
-Gives (Err BadMinor) answer = answer ≡ Err BadMinor
-Gives (Err BadLength) answer = answer ≡ Err BadLength
-Gives (Err (BadValue at len)) answer = answer ≡ Err (BadValue at len)
-Gives (Err NoMemoryToDecode) answer = Unit {0}
+Gives result answer = GivesAs (λ x. x) result answer
 
 -- a value's refusal as a message's
 abbrev pub refusal_of : ValueRefusal → DecodeRefusal

@@ -4,6 +4,7 @@
 mod errors;
 mod frames;
 mod fronts;
+mod lengths;
 mod numbers;
 mod reading;
 mod refusals;
@@ -18,7 +19,8 @@ pub use fronts::{
     skip, take_bytes, take_card16, take_card32, take_proof_data, take_text16, take_texts,
     take_version, take_versions,
 };
-pub use numbers::{Endian, pad, read_card16, read_card32};
+pub use lengths::{text_len, texts_len};
+pub use numbers::{Endian, bool_byte, pad, read_card16, read_card32};
 pub use reading::{read_text16, read_version};
 pub use refusals::{DecodeRefusal, EncodeRefusal, ValueRefusal};
 pub use severity::Severity;

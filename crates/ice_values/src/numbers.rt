@@ -1,6 +1,6 @@
 ghost use Rattle.std.specs.Prelude.{◌≡◌, ◌≤◌, ◌<◌, ◌+◌, ◌^◌, length};
 ghost use Rattle.ice_values.specs.Cells.{pad_len};
-ghost use Rattle.ice_values.specs.Fields.{order_number};
+ghost use Rattle.ice_values.specs.Fields.{bool_number, order_number};
 ghost use Rattle.ice_values.specs.Numbers.{number};
 
 use byteorder::{BigEndian, ByteOrder, LittleEndian};
@@ -24,6 +24,13 @@ impl Endian {
             Endian::Msb => 1,
         }
     }
+}
+
+/// The byte that stands for a BOOL.
+pub fn bool_byte(value: bool) -> u8
+    ensures { result ≡ bool_number value }
+{
+    if value { 1 } else { 0 }
 }
 
 /// The CARD16 at the front.
