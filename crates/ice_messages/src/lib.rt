@@ -4,4 +4,5 @@
 mod decoding;
 mod message;
 
+pub use decoding::decode_ice;
 pub use message::IceMessage;

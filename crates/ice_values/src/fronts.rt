@@ -1,4 +1,4 @@
-ghost use Rattle.std.specs.Prelude.{◌≡◌, ◌≢◌, Err};
+ghost use Rattle.std.specs.Prelude.{◌≡◌, ◌≢◌, ◌≤◌, length, OnOk, Err};
 ghost use Rattle.ice_values.specs.Reading.{Answers, card_at, bytes_at, skip_at, text16_at, version_at, many_at, proof_data_at};
 
 use crate::numbers::{pad, read_card16, read_card32};
@@ -41,7 +41,8 @@ pub fn take_bytes(count: usize, bytes: &[u8]) -> Result<(&[u8], &[u8]), ValueRef
 
 /// What follows so many bytes.
 pub fn skip(count: usize, bytes: &[u8]) -> Result<&[u8], ValueRefusal>
-    ensures { Answers (λ x. x.now) result (skip_at count bytes.now) }
+    ensures exact { Answers (λ x. x.now) result (skip_at count bytes.now) }
+    ensures enough { OnOk result (count ≤ length bytes.now) }
 {
     if bytes.len() < count {
         return Err(ValueRefusal::Short);
