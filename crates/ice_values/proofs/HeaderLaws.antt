@@ -1,12 +1,12 @@
 -- A frame is a message's spelling where its header, its own bytes and its body are.
 use Rattle.std.proofs.Common.{◌≡◌, ℕ, zero, suc, ◌+◌, ◌-◌, ◌*◌, ◌/◌, ◌%◌, ◌<◌, ◌≤◌, List, [], ◌∷◌, ◌++◌, length, take, drop, refl, sym, ap, ◌∙◌, subst, arith, slice_index, take-append-drop, length-drop, length-append}
 use Rattle.std.proofs.lemmas.List.{drop-drop}
-use Rattle.ice_values.specs.Cells.{Cells, known, free, Begins, pad_len}
+use Rattle.ice_values.specs.Cells.{Cells, byte, known, free, Begins, pad_len}
 use Rattle.ice_values.specs.Numbers.{number, number_bytes, card32}
 use Rattle.ice_values.specs.Fields.{spelling}
 use Rattle.ice_values.specs.Frames.{IsFrame}
 use Rattle.ice_values.specs.declared.numbers.Endian.{Endian}
-use Rattle.ice_values.proofs.CellLaws.{IsBytes, IsBytes-drop, Begins-append, Begins-split, Begins-known, Begins-free, Begins-drop, Begins-length, all_free, length-known, length-free}
+use Rattle.ice_values.proofs.CellLaws.{IsBytes, IsBytes-drop, Begins-append, Begins-split, Begins-known, Begins-free, Begins-drop, Begins-length, Begins-marked, Begins-opened, Begins-cell, all_free, length-known, length-free}
 use Rattle.ice_values.proofs.NumberLaws.{back4, length-number_bytes}
 
 -- a frame of these opcodes
@@ -76,3 +76,23 @@ parts_of e opcode minor own body bytes two h =
 -- two bytes of a header that are free
 pub free_own : (bytes : List ℕ) → 8 ≤ length bytes → Begins (free 2) (drop 2 bytes) (drop 4 bytes)
 free_own bytes le = subst (λ (l : List ℕ). Begins (free 2) (drop 2 bytes) l) (drop-drop 2 2 bytes) (Begins-free 2 (drop 2 bytes) (omega (arith, length-drop 2 bytes)))
+
+-- ---- the bytes of a header that are a message's own
+
+module _ (e : Endian) (opcode minor : ℕ) (body : Cells) (bytes : List ℕ) where
+  pub own_first : (b : ℕ) → slice_index bytes 2 ≡ b → Begins (spelling e opcode minor (free 2) body) bytes [] → Begins (spelling e opcode minor (byte b ++ free 1) body) bytes []
+  own_first b at h = Begins-marked 2 b (spelling e opcode minor (free 2) body) bytes [] at h
+
+  pub own_second : (a b : ℕ) → slice_index bytes 3 ≡ b → Begins (spelling e opcode minor (byte a ++ free 1) body) bytes [] → Begins (spelling e opcode minor (byte a ++ byte b) body) bytes []
+  own_second a b at h = Begins-marked 3 b (spelling e opcode minor (byte a ++ free 1) body) bytes [] at h
+
+  pub first_own : (b : ℕ) → Begins (spelling e opcode minor (byte b ++ free 1) body) bytes [] → (slice_index bytes 2 ≡ b) × Begins (spelling e opcode minor (free 2) body) bytes []
+  first_own b h =
+      (Begins-cell 2 b (spelling e opcode minor (byte b ++ free 1) body) bytes [] refl h, Begins-opened 2 (spelling e opcode minor (byte b ++ free 1) body) bytes [] h)
+
+  pub second_own : (a b : ℕ) → Begins (spelling e opcode minor (byte a ++ byte b) body) bytes [] → (slice_index bytes 3 ≡ b) × Begins (spelling e opcode minor (byte a ++ free 1) body) bytes []
+  second_own a b h =
+      (Begins-cell 3 b (spelling e opcode minor (byte a ++ byte b) body) bytes [] refl h, Begins-opened 3 (spelling e opcode minor (byte a ++ byte b) body) bytes [] h)
+
+pub minor_is : (e : Endian) (opcode minor : ℕ) (own body : Cells) (bytes : List ℕ) → Begins (spelling e opcode minor own body) bytes [] → slice_index bytes 1 ≡ minor
+minor_is e opcode minor own body bytes h = Begins-cell 1 minor (spelling e opcode minor own body) bytes [] refl h

@@ -1,0 +1,4 @@
+pub mod Parts
+pub mod Setups
+pub mod Laws
+pub mod Dispatch
