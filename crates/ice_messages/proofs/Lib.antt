@@ -2,3 +2,4 @@ pub mod Parts
 pub mod Setups
 pub mod Laws
 pub mod Dispatch
+pub mod Puts

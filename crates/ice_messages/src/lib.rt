@@ -2,6 +2,8 @@
 #![tactic(auto)]
 
 mod decoding;
+mod encoding;
+mod lengths;
 mod message;
 
 pub use decoding::decode_ice;

@@ -4,9 +4,9 @@ use Rattle.std.specs.Prelude.{flat_map}
 use Rattle.std.specs.List.{AllByRecursion}
 use Rattle.std.proofs.lemmas.List.{append-nil, take_more}
 use Rattle.std.proofs.lemmas.Grind.{flat_map-append}
-use Rattle.ice_values.specs.Cells.{Cells, known, free, pad_len}
-use Rattle.ice_values.specs.Numbers.{number_bytes, card16}
-use Rattle.ice_values.specs.Fields.{text16, version, versions, proof_data}
+use Rattle.ice_values.specs.Cells.{Cells, byte, known, free, pad_len}
+use Rattle.ice_values.specs.Numbers.{number_bytes, card16, card32}
+use Rattle.ice_values.specs.Fields.{text16, version, versions, proof_data, ErrorFields, error_body}
 use Rattle.ice_values.specs.declared.numbers.Endian.{Endian}
 use Rattle.ice_values.specs.declared.version.Version.{Version}
 use Rattle.ice_values.proofs.CellLaws.{length-known, length-free}
@@ -43,3 +43,7 @@ pub all-more : {A : Type 0} (P : A → Type 0) (items : List A) (i : ℕ) (x : A
 all-more {A} P items i x lt is h here =
     let grown : take (i + 1) items ≡ take i items ++ x ∷ [] = take_more items i x lt ∙ ap (λ (y : A). take i items ++ y ∷ []) (sym is) in
     subst (AllByRecursion P) (sym grown) (all-append P (take i items) (x ∷ []) h (here, tt))
+
+pub length-error_body : (e : Endian) (error : ErrorFields) → length (error_body byte e error) ≡ 8 + length error.values
+length-error_body e error =
+    omega (arith, length-append (card32 e error.sequence) (known error.values), length-known (number_bytes e 4 error.sequence), length-number_bytes e 4 error.sequence, length-known error.values)

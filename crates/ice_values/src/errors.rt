@@ -16,12 +16,12 @@ pub struct ErrorBody {
 }
 
 impl Model for ErrorBody {
-    ghost use Rattle.std.specs.Prelude.{◌≡◌, ◌%◌, length};
+    ghost use Rattle.std.specs.Prelude.{◌≡◌, ◌%◌, ◌^◌, ◌<◌, length};
     ghost use Rattle.ice_values.specs.Fields.{ErrorFields};
 
     ghost Value = { ErrorFields };
 
     ghost view = { λ error. record { class = error.class; minor = error.minor; severity = error.severity; sequence = error.sequence; values = error.values } };
 
-    ghost invariant = { λ error. length error.values % 8 ≡ 0 };
+    ghost invariant = { λ error. (error.class < 2 ^ 16) × (error.sequence < 2 ^ 32) × (length error.values % 8 ≡ 0) };
 }

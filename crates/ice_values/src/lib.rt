@@ -19,7 +19,7 @@ pub use fronts::{
     skip, take_bytes, take_card16, take_card32, take_proof_data, take_text16, take_texts,
     take_version, take_versions,
 };
-pub use lengths::{text_len, texts_len};
+pub use lengths::{error_len, proof_len, text_len, texts_len, version_len, versions_len};
 pub use numbers::{Endian, bool_byte, pad, read_card16, read_card32};
 pub use reading::{read_text16, read_version};
 pub use refusals::{DecodeRefusal, EncodeRefusal, ValueRefusal};
