@@ -1,4 +1,4 @@
-ghost use Rattle.std.specs.Prelude.{◌≡◌, ◌≢◌, ◌≤◌, ◌+◌, ◌/◌, ◌*◌, ◌++◌, [], length, Err, OnOk, OnErr, IfSome, IfNone, ◌↔◌};
+ghost use Rattle.std.specs.Prelude.{◌≡◌, ◌≢◌, ◌≤◌, ◌+◌, ◌/◌, ◌*◌, ◌++◌, [], ◌∷◌, length, Err, OnOk, OnErr, IfSome, IfNone, ◌↔◌};
 ghost use Rattle.ice_values.specs.Cells.{zeros, byte};
 ghost use Rattle.ice_values.specs.Fields.{text16, texts, versions as version_cells, IsVersion};
 ghost use Rattle.ice_values.specs.Writing.{Extends};
@@ -93,4 +93,100 @@ fn put_lists(
 {
     put_texts(endian, names.as_slice(), out)?;
     put_versions(endian, versions.as_slice(), out)
+}
+
+/// Adds what a party offers: its vendor and release, names and versions.
+fn put_offer(
+    endian: Endian,
+    vendor: &Text16,
+    release: &Text16,
+    names: &TextList,
+    versions: &VersionList,
+    out: &mut Octets,
+) -> Result<(), NoMemory>
+    ensures ok { OnOk result (out.new ≡ out.old ++ zeros (text16 endian vendor.now ++ text16 endian release.now ++ texts endian names.now ++ version_cells endian versions.now)) }
+    ensures kept { Extends out.old out.new }
+{
+    put_makers(endian, vendor, release, out)?;
+    put_lists(endian, names, versions, out)
+}
+
+/// Adds the name of a protocol, and what a party offers for it.
+fn put_protocol(
+    endian: Endian,
+    protocol: &Text16,
+    vendor: &Text16,
+    release: &Text16,
+    names: &TextList,
+    versions: &VersionList,
+    out: &mut Octets,
+) -> Result<(), NoMemory>
+    ensures ok { OnOk result (out.new ≡ out.old ++ zeros (text16 endian protocol.now ++ text16 endian vendor.now ++ text16 endian release.now ++ texts endian names.now ++ version_cells endian versions.now)) }
+    ensures kept { Extends out.old out.new }
+{
+    put_text16(endian, protocol, out)?;
+    put_offer(endian, vendor, release, names, versions, out)
+}
+
+/// Adds the first 8 bytes of a ProtocolSetup's body, which begin with the counts of its lists.
+fn put_counts(
+    names: &TextList,
+    versions: &VersionList,
+    out: &mut Octets,
+) -> Result<(), NoMemory>
+    requires { IsOffer names.now versions.now }
+    ensures ok { OnOk result (out.new ≡ out.old ++ (length versions.now ∷ length names.now ∷ 0 ∷ 0 ∷ 0 ∷ 0 ∷ 0 ∷ 0 ∷ [])) }
+    ensures kept { Extends out.old out.new }
+{
+    let names = names.as_slice().len() as u8;
+    let versions = versions.as_slice().len() as u8;
+    put_bytes(&[versions, names, 0, 0, 0, 0, 0, 0], out)
+}
+
+/// Adds the body of a message.
+fn put_body(endian: Endian, message: &IceMessage, out: &mut Octets) -> Result<(), NoMemory>
+    requires { IsMessage message.now }
+    ensures ok { OnOk result (out.new ≡ out.old ++ zeros (layout byte endian message.now).1) }
+    ensures kept { Extends out.old out.new }
+{
+    match message {
+        IceMessage::Error(error) => put_error(endian, error, out),
+        IceMessage::ConnectionSetup {
+            must,
+            vendor,
+            release,
+            names,
+            versions,
+        } => {
+            put_bytes(&[bool_byte(*must), 0, 0, 0, 0, 0, 0, 0], out)?;
+            put_offer(endian, vendor, release, names, versions, out)
+        }
+        IceMessage::AuthenticationRequired { proof, .. }
+        | IceMessage::AuthenticationReply { proof }
+        | IceMessage::AuthenticationNextPhase { proof } => {
+            put_proof_data(endian, proof.as_slice(), out)
+        }
+        IceMessage::ConnectionReply {
+            vendor, release, ..
+        }
+        | IceMessage::ProtocolReply {
+            vendor, release, ..
+        } => put_makers(endian, vendor, release, out),
+        IceMessage::ProtocolSetup {
+            protocol,
+            vendor,
+            release,
+            names,
+            versions,
+            ..
+        } => {
+            put_counts(names, versions, out)?;
+            put_protocol(endian, protocol, vendor, release, names, versions, out)
+        }
+        IceMessage::ByteOrder(_)
+        | IceMessage::Ping
+        | IceMessage::PingReply
+        | IceMessage::WantToClose
+        | IceMessage::NoClose => Ok(()),
+    }
 }

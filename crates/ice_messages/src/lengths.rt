@@ -41,7 +41,7 @@ fn offer_len(
 ) -> Option<usize>
     ensures none { IfNone result ((255 < length names.now) ⊎ (255 < length versions.now)) }
     ensures is { IfSome result (λ n. (e : AnyEndian) → n ≡ length (text16 e vendor.now ++ text16 e release.now ++ texts e names.now ++ version_cells e versions.now)) }
-    ensures bound { IfSome result (λ n. n ≤ 256 * 65544) }
+    ensures bound { IfSome result (λ n. n ≤ 2 ^ 25) }
     ensures fits { OnSome result (IsText16 vendor.now × IsText16 release.now × IsOffer names.now versions.now) }
 {
     let lists = lists_len(names, versions)?;
@@ -53,7 +53,7 @@ fn offer_len(
 pub fn body_len(message: &IceMessage) -> Option<usize>
     ensures none { IfNone result ((e : AnyEndian) → IsTooLong e message.now) }
     ensures is { IfSome result (λ n. (e : AnyEndian) → n ≡ length (layout byte e message.now).1) }
-    ensures bound { IfSome result (λ n. n ≤ 258 * 65544) }
+    ensures bound { IfSome result (λ n. n ≤ 2 ^ 26) }
     ensures fits { OnSome result (IsMessage message.now) }
 {
     match message {
