@@ -6,6 +6,7 @@ ghost use Rattle.ice_values.specs.declared.numbers.Endian.{Endian as AnyEndian};
 ghost use Rattle.ice_messages.specs.Messages.{canon, minor_of, layout, IsMessage, IsOffer, HasLongPart, IsTooLong};
 
 use crate::IceMessage;
+use crate::lengths::body_len;
 use ice_values::{
     EncodeRefusal, Endian, Text16, TextList, VersionList, bool_byte, pad, put_bytes, put_card16,
     put_card32, put_error, put_proof_data, put_text16, put_texts, put_versions, put_zeros, text_len,
@@ -189,4 +190,52 @@ fn put_body(endian: Endian, message: &IceMessage, out: &mut Octets) -> Result<()
         | IceMessage::WantToClose
         | IceMessage::NoClose => Ok(()),
     }
+}
+
+/// Adds a whole message, whose body has so many bytes.
+fn put_message(
+    endian: Endian,
+    message: &IceMessage,
+    count: usize,
+    out: &mut Octets,
+) -> Result<(), NoMemory>
+    requires fits { IsMessage message.now }
+    requires body { count ≡ length (layout byte endian message.now).1 }
+    requires bound { count ≤ 65536 }
+    ensures ok { OnOk result (out.new ≡ out.old ++ canon endian message.now) }
+    ensures kept { Extends out.old out.new }
+{
+    let padding = pad(count, 8);
+    put_bytes(&[0, minor(message)], out)?;
+    put_own(endian, message, out)?;
+    put_card32(endian, ((count + padding) / 8) as u32, out)?;
+    put_body(endian, message, out)?;
+    put_zeros(padding, out)
+}
+
+/// Appends the spelling of a message, with zeros in unused and padding bytes.
+///
+/// It is TooLong where its body would pass 65,536 bytes, where it has more than 255 names or
+/// versions, or where the data of an authentication has more than 65,535 bytes.
+pub fn encode_ice(
+    endian: Endian,
+    message: &IceMessage,
+    out: &mut Octets,
+) -> Result<(), EncodeRefusal>
+    ensures ok { OnOk result (out.new ≡ out.old ++ canon endian message.now) }
+    ensures err { OnErr result (out.new ≡ out.old) }
+    ensures too_long { (result ≡ Err EncodeRefusal.TooLong) ↔ IsTooLong endian message.now }
+    // What is encoded has a spelling, so it is decoded again.
+    ensures fits { OnOk result (IsMessage message.now) }
+{
+    let count = match body_len(message) {
+        Some(count) if count <= BODY_LIMIT => count,
+        _ => return Err(EncodeRefusal::TooLong),
+    };
+    let start = out.len();
+    let written = put_message(endian, message, count, out);
+    if written.is_err() {
+        out.truncate(start);
+    }
+    Ok(written?)
 }

@@ -7,4 +7,5 @@ mod lengths;
 mod message;
 
 pub use decoding::decode_ice;
+pub use encoding::encode_ice;
 pub use message::IceMessage;
