@@ -151,20 +151,20 @@ some_of (suc (suc (suc (suc (suc (suc (suc (suc (suc (suc (suc (suc (suc n))))))
 
 minor_below : (m : IceMessage) → minor_of m ≤ 12
 minor_below m = elim m as (λ m. minor_of m ≤ 12) [
-    | Error error ↦ omega arith
-    | ByteOrder order ↦ omega arith
-    | ConnectionSetup must vendor release names offered ↦ omega arith
-    | AuthenticationRequired index proof ↦ omega arith
-    | AuthenticationReply proof ↦ omega arith
-    | AuthenticationNextPhase proof ↦ omega arith
-    | ConnectionReply index vendor release ↦ omega arith
-    | ProtocolSetup opcode must protocol vendor release names offered ↦ omega arith
-    | ProtocolReply index opcode vendor release ↦ omega arith
-    | Ping ↦ omega arith
-    | PingReply ↦ omega arith
-    | WantToClose ↦ omega arith
-    | NoClose ↦ omega arith
-  ]
+  | Error error ↦ omega arith
+  | ByteOrder order ↦ omega arith
+  | ConnectionSetup must vendor release names offered ↦ omega arith
+  | AuthenticationRequired index proof ↦ omega arith
+  | AuthenticationReply proof ↦ omega arith
+  | AuthenticationNextPhase proof ↦ omega arith
+  | ConnectionReply index vendor release ↦ omega arith
+  | ProtocolSetup opcode must protocol vendor release names offered ↦ omega arith
+  | ProtocolReply index opcode vendor release ↦ omega arith
+  | Ping ↦ omega arith
+  | PingReply ↦ omega arith
+  | WantToClose ↦ omega arith
+  | NoClose ↦ omega arith
+]
 
 no_minor : (e : Endian) (bytes : List ℕ) → 12 < slice_index bytes 1 → decode_at e bytes ≡ Err BadMinor
 unfolding decode_at
@@ -211,9 +211,9 @@ caused_known e bytes m is (Err NoMemory) read says = tt
 pub decode_caused : (e : Endian) (bytes : List ℕ) → Framed e bytes → Caused e bytes (decode_at e bytes)
 unfolding Caused
 decode_caused e bytes f = elim (some_of (slice_index bytes 1)) [
-    | inl known ↦ caused_known e bytes known.0 known.1 (decode_at e bytes) refl (decode_says e bytes known.0 f known.1)
-    | inr none ↦ rw (no_minor e bytes none) (λ m is. omega (arith, minor_below m, none, is))
-  ]
+  | inl known ↦ caused_known e bytes known.0 known.1 (decode_at e bytes) refl (decode_says e bytes known.0 f known.1)
+  | inr none ↦ rw (no_minor e bytes none) (λ m is. omega (arith, minor_below m, none, is))
+]
 
 -- ---- the clauses of a call that gives this answer
 

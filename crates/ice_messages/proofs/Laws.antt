@@ -168,8 +168,10 @@ protocol_says e bytes h =
     let opcode : ℕ = slice_index bytes 2 in
     answered_meant e 0 7 (λ x. free 2) (λ x. free 8 ++ protocol e x) (IsProtocolOf names offered) (body_at (after_at 8 (protocol_at e names offered))) (protocol_law e 7 names offered) (λ m. Spells e m bytes) (λ m. HasForm e m bytes) enumerated bytes
     ((3, 2) ∷ []) (λ must bytes. slice_index bytes 3 ≡ bool_number must) (λ bytes. means_at bool_meaning bytes 3) (means_one bool_meaning bool_number 2 3 bool_enum) (λ x must. protocol_of opcode must x) h
-    (λ x must fits begins at. ((fits.0, fits.1.0.0, fits.1.0.1, offer_fits bytes 9 8 x.1.1 h.fits fits.1.1),
-      Begins-marked 3 (bool_number must) (form e (protocol_of opcode must x)) bytes [] at (protocol_in e opcode must x bytes refl (sym fits.1.1.1.0) (sym fits.1.1.0.0) begins)))
+    (λ x must fits begins at. (
+      (fits.0, fits.1.0.0, fits.1.0.1, offer_fits bytes 9 8 x.1.1 h.fits fits.1.1),
+      Begins-marked 3 (bool_number must) (form e (protocol_of opcode must x)) bytes [] at (protocol_in e opcode must x bytes refl (sym fits.1.1.1.0) (sym fits.1.1.0.0) begins),
+    ))
     (λ x fits begins. (protocol_of opcode false x, ((fits.0, fits.1.0.0, fits.1.0.1, offer_fits bytes 9 8 x.1.1 h.fits fits.1.1), protocol_in e opcode false x bytes refl (sym fits.1.1.1.0) (sym fits.1.1.0.0) begins), refl))
 
 protocol_opened : (e : Endian) (opcode : ℕ) (must : Bool) (x : List ℕ × (Makers × Lists)) (bytes : List ℕ) → Begins (shape byte e (protocol_of opcode must x)) bytes [] → (slice_index bytes 3 ≡ bool_number must) × Begins (form e (protocol_of opcode must x)) bytes []

@@ -27,8 +27,8 @@ pub setup_in : (e : Endian) (must : Bool) (x : Makers × Lists) (bytes : List �
 setup_in e must x bytes at2 at3 h =
     let body : Cells = free 8 ++ text16 e x.0.0 ++ text16 e x.0.1 ++ texts e x.1.0 ++ versions e x.1.1 in
     own_second e 0 2 body bytes (length x.1.1) (length x.1.0) at3
-      (own_first e 0 2 body bytes (length x.1.1) at2
-        (subst (λ (cells : Cells). Begins (spelling e 0 2 (free 2) cells) bytes []) (same_offer (free 8) (text16 e x.0.0) (text16 e x.0.1) (texts e x.1.0) (versions e x.1.1)) h))
+    (own_first e 0 2 body bytes (length x.1.1) at2
+    (subst (λ (cells : Cells). Begins (spelling e 0 2 (free 2) cells) bytes []) (same_offer (free 8) (text16 e x.0.0) (text16 e x.0.1) (texts e x.1.0) (versions e x.1.1)) h))
 
 pub setup_out : (e : Endian) (must : Bool) (x : Makers × Lists) (bytes : List ℕ) → Begins (form e (setup_of must x)) bytes []
     → (slice_index bytes 2 ≡ length x.1.1) × (slice_index bytes 3 ≡ length x.1.0) × Begins (spelling e 0 2 (free 2) (free 8 ++ offer e x)) bytes []
@@ -70,13 +70,17 @@ counts_in Msb x bytes at8 at9 h =
 counts_out : (e : Endian) (x : List ℕ × (Makers × Lists)) (bytes : List ℕ) → Begins (spelling e 0 7 (free 2) (protocol_flat e (byte (length x.1.1.1) ++ byte (length x.1.1.0) ++ free 6) x)) bytes []
     → (slice_index bytes 8 ≡ length x.1.1.1) × (slice_index bytes 9 ≡ length x.1.1.0) × Begins (spelling e 0 7 (free 2) (protocol_flat e (free 8) x)) bytes []
 counts_out Lsb x bytes h =
-    let cells : Cells = spelling Lsb 0 7 (free 2) (protocol_flat Lsb (byte (length x.1.1.1) ++ byte (length x.1.1.0) ++ free 6) x) in
-    (Begins-cell 8 (length x.1.1.1) cells bytes [] refl h, Begins-cell 9 (length x.1.1.0) cells bytes [] refl h,
-      Begins-opened 8 (spelling Lsb 0 7 (free 2) (protocol_flat Lsb (byte (length x.1.1.1) ++ free 1 ++ free 6) x)) bytes [] (Begins-opened 9 cells bytes [] h))
+    let cells : Cells = spelling Lsb 0 7 (free 2) (protocol_flat Lsb (byte (length x.1.1.1) ++ byte (length x.1.1.0) ++ free 6) x) in (
+      Begins-cell 8 (length x.1.1.1) cells bytes [] refl h,
+      Begins-cell 9 (length x.1.1.0) cells bytes [] refl h,
+      Begins-opened 8 (spelling Lsb 0 7 (free 2) (protocol_flat Lsb (byte (length x.1.1.1) ++ free 1 ++ free 6) x)) bytes [] (Begins-opened 9 cells bytes [] h),
+    )
 counts_out Msb x bytes h =
-    let cells : Cells = spelling Msb 0 7 (free 2) (protocol_flat Msb (byte (length x.1.1.1) ++ byte (length x.1.1.0) ++ free 6) x) in
-    (Begins-cell 8 (length x.1.1.1) cells bytes [] refl h, Begins-cell 9 (length x.1.1.0) cells bytes [] refl h,
-      Begins-opened 8 (spelling Msb 0 7 (free 2) (protocol_flat Msb (byte (length x.1.1.1) ++ free 1 ++ free 6) x)) bytes [] (Begins-opened 9 cells bytes [] h))
+    let cells : Cells = spelling Msb 0 7 (free 2) (protocol_flat Msb (byte (length x.1.1.1) ++ byte (length x.1.1.0) ++ free 6) x) in (
+      Begins-cell 8 (length x.1.1.1) cells bytes [] refl h,
+      Begins-cell 9 (length x.1.1.0) cells bytes [] refl h,
+      Begins-opened 8 (spelling Msb 0 7 (free 2) (protocol_flat Msb (byte (length x.1.1.1) ++ free 1 ++ free 6) x)) bytes [] (Begins-opened 9 cells bytes [] h),
+    )
 
 -- with its opcode and counts, and without
 pub protocol_in : (e : Endian) (opcode : ℕ) (must : Bool) (x : List ℕ × (Makers × Lists)) (bytes : List ℕ) → slice_index bytes 2 ≡ opcode → slice_index bytes 8 ≡ length x.1.1.1 → slice_index bytes 9 ≡ length x.1.1.0
@@ -84,7 +88,7 @@ pub protocol_in : (e : Endian) (opcode : ℕ) (must : Bool) (x : List ℕ × (Ma
 protocol_in e opcode must x bytes at2 at8 at9 h =
     own_first e 0 7 (protocol_flat e (byte (length x.1.1.1) ++ byte (length x.1.1.0) ++ free 6) x) bytes opcode at2
     (counts_in e x bytes at8 at9
-      (subst (λ (cells : Cells). Begins (spelling e 0 7 (free 2) cells) bytes []) (same_protocol (free 8) (text16 e x.0) (text16 e x.1.0.0) (text16 e x.1.0.1) (texts e x.1.1.0) (versions e x.1.1.1)) h))
+    (subst (λ (cells : Cells). Begins (spelling e 0 7 (free 2) cells) bytes []) (same_protocol (free 8) (text16 e x.0) (text16 e x.1.0.0) (text16 e x.1.0.1) (texts e x.1.1.0) (versions e x.1.1.1)) h))
 
 pub protocol_out : (e : Endian) (opcode : ℕ) (must : Bool) (x : List ℕ × (Makers × Lists)) (bytes : List ℕ) → Begins (form e (protocol_of opcode must x)) bytes []
     → (slice_index bytes 2 ≡ opcode) × (slice_index bytes 8 ≡ length x.1.1.1) × (slice_index bytes 9 ≡ length x.1.1.0) × Begins (spelling e 0 7 (free 2) (free 8 ++ protocol e x)) bytes []

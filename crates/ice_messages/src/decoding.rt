@@ -19,11 +19,7 @@ type Makers = (Text16, Text16);
 type Lists = (TextList, VersionList);
 
 #[tactic(auto, unfolding(crate::specs::Reading::makers_at, ice_values::specs::Reading::pair_at))]
-fn take_makers(
-    alloc: Global,
-    endian: Endian,
-    bytes: &[u8],
-) -> Result<(Makers, &[u8]), ValueRefusal>
+fn take_makers(alloc: Global, endian: Endian, bytes: &[u8]) -> Result<(Makers, &[u8]), ValueRefusal>
     ensures { Answers (λ x. (x.0, x.1.now)) result (makers_at endian bytes.now) }
 {
     let (vendor, rest) = take_text16(alloc, endian, bytes)?;
@@ -174,8 +170,9 @@ fn connection_setup(
     requires { 8 ≤ length frame.now }
     ensures { Gives result (connection_setup_at endian frame.now) }
 {
-    let ((vendor, release), (names, versions)) =
-        offer_body(alloc, endian, frame[3], frame[2], frame)?;
+    let ((vendor, release), (names, versions)) = offer_body(
+        alloc, endian, frame[3], frame[2], frame,
+    )?;
     let must = bool_at(frame, 8)?;
     Ok(IceMessage::ConnectionSetup {
         must,
@@ -246,16 +243,11 @@ fn connection_reply(
 }
 
 #[tactic(auto, unfolding(crate::specs::Reading::protocol_setup_at))]
-fn protocol_setup(
-    alloc: Global,
-    endian: Endian,
-    frame: &[u8],
-) -> Result<IceMessage, DecodeRefusal>
+fn protocol_setup(alloc: Global, endian: Endian, frame: &[u8]) -> Result<IceMessage, DecodeRefusal>
     requires { 8 ≤ length frame.now }
     ensures { Gives result (protocol_setup_at endian frame.now) }
 {
-    let (protocol, ((vendor, release), (names, versions))) =
-        protocol_body(alloc, endian, frame)?;
+    let (protocol, ((vendor, release), (names, versions))) = protocol_body(alloc, endian, frame)?;
     let must = bool_at(frame, 3)?;
     Ok(IceMessage::ProtocolSetup {
         opcode: frame[2],
@@ -269,11 +261,7 @@ fn protocol_setup(
 }
 
 #[tactic(auto, unfolding(crate::specs::Reading::protocol_reply_at))]
-fn protocol_reply(
-    alloc: Global,
-    endian: Endian,
-    frame: &[u8],
-) -> Result<IceMessage, DecodeRefusal>
+fn protocol_reply(alloc: Global, endian: Endian, frame: &[u8]) -> Result<IceMessage, DecodeRefusal>
     requires { 8 ≤ length frame.now }
     ensures { Gives result (protocol_reply_at endian frame.now) }
 {

@@ -9,8 +9,8 @@ use crate::IceMessage;
 use crate::lengths::body_len;
 use ice_values::{
     EncodeRefusal, Endian, Text16, TextList, VersionList, bool_byte, pad, put_bytes, put_card16,
-    put_card32, put_error, put_proof_data, put_text16, put_texts, put_versions, put_zeros, text_len,
-    texts_len,
+    put_card32, put_error, put_proof_data, put_text16, put_texts, put_versions, put_zeros,
+    text_len, texts_len,
 };
 use sm_world::{NoMemory, Octets};
 
@@ -47,7 +47,9 @@ fn put_own(endian: Endian, message: &IceMessage, out: &mut Octets) -> Result<(),
         IceMessage::Error(error) => put_card16(endian, error.class, out),
         IceMessage::ByteOrder(order) => put_bytes(&[order.number(), 0], out),
         IceMessage::ConnectionSetup {
-            names, versions, ..
+            names,
+            versions,
+            ..
         } => {
             let names = names.as_slice().len() as u8;
             let versions = versions.as_slice().len() as u8;
@@ -130,11 +132,7 @@ fn put_protocol(
 }
 
 /// Adds the first 8 bytes of a ProtocolSetup's body, which begin with the counts of its lists.
-fn put_counts(
-    names: &TextList,
-    versions: &VersionList,
-    out: &mut Octets,
-) -> Result<(), NoMemory>
+fn put_counts(names: &TextList, versions: &VersionList, out: &mut Octets) -> Result<(), NoMemory>
     requires { IsOffer names.now versions.now }
     ensures ok { OnOk result (out.new ≡ out.old ++ (length versions.now ∷ length names.now ∷ 0 ∷ 0 ∷ 0 ∷ 0 ∷ 0 ∷ 0 ∷ [])) }
     ensures kept { Extends out.old out.new }
@@ -168,10 +166,14 @@ fn put_body(endian: Endian, message: &IceMessage, out: &mut Octets) -> Result<()
             put_proof_data(endian, proof.as_slice(), out)
         }
         IceMessage::ConnectionReply {
-            vendor, release, ..
+            vendor,
+            release,
+            ..
         }
         | IceMessage::ProtocolReply {
-            vendor, release, ..
+            vendor,
+            release,
+            ..
         } => put_makers(endian, vendor, release, out),
         IceMessage::ProtocolSetup {
             protocol,

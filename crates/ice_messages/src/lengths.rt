@@ -77,10 +77,14 @@ pub fn body_len(message: &IceMessage) -> Option<usize>
         | IceMessage::AuthenticationReply { proof }
         | IceMessage::AuthenticationNextPhase { proof } => proof_len(proof),
         IceMessage::ConnectionReply {
-            vendor, release, ..
+            vendor,
+            release,
+            ..
         }
         | IceMessage::ProtocolReply {
-            vendor, release, ..
+            vendor,
+            release,
+            ..
         } => Some(makers_len(vendor, release)),
         IceMessage::ByteOrder(_)
         | IceMessage::Ping
