@@ -3,7 +3,10 @@
 
 mod decoding;
 mod encoding;
+mod lengths;
 mod message;
+#[cfg(test)]
+mod tests;
 
 pub use decoding::decode_ice;
 pub use encoding::encode_ice;

@@ -1,5 +1,5 @@
 -- Spellings with free bytes.
-use Rattle.std.specs.Prelude.{◌≡◌, ℕ, zero, suc, List, [], ◌∷◌, Option, Some, None}
+use Rattle.std.specs.Prelude.{◌≡◌, ℕ, zero, suc, ◌-◌, ◌%◌, List, [], ◌∷◌, Option, Some, None}
 
 -- A spelling, byte by byte: the byte that stands there, or None where any byte may stand.
 abbrev pub Cells : Type 0
@@ -31,3 +31,7 @@ Begins [] bytes rest = bytes ≡ rest
 Begins (cell ∷ cells) [] rest = ⊥
 Begins (None ∷ cells) (b ∷ bytes) rest = Begins cells bytes rest
 Begins (Some c ∷ cells) (b ∷ bytes) rest = (b ≡ c) × Begins cells bytes rest
+
+-- the least number of bytes that brings x to a multiple of k
+abbrev pub pad_len : ℕ → ℕ → ℕ
+pad_len x k = (k - x % k) % k

@@ -1,2 +1,6 @@
 pub mod Cells
 pub mod Numbers
+pub mod Fields
+pub mod Reading
+pub mod Writing
+pub mod Frames

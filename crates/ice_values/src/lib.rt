@@ -1,8 +1,29 @@
 //! The values that ICE and XSMP messages are made of.
 #![tactic(auto)]
 
+mod errors;
+mod frames;
+mod fronts;
+mod lengths;
 mod numbers;
+mod reading;
 mod refusals;
+mod severity;
+mod text;
+mod version;
+mod writing;
 
-pub use numbers::{Endian, read_card32};
-pub use refusals::{DecodeRefusal, EncodeRefusal};
+pub use errors::ErrorBody;
+pub use frames::{bool_at, decode_error, end_body, order_at, severity_at};
+pub use fronts::{
+    skip, take_bytes, take_card16, take_card32, take_proof_data, take_text16, take_texts,
+    take_version, take_versions,
+};
+pub use lengths::{error_len, proof_len, text_len, texts_len, version_len, versions_len};
+pub use numbers::{Endian, bool_byte, pad, read_card16, read_card32};
+pub use reading::{read_text16, read_version};
+pub use refusals::{DecodeRefusal, EncodeRefusal, ValueRefusal};
+pub use severity::Severity;
+pub use text::{Text16, TextList};
+pub use version::{Version, VersionList};
+pub use writing::{put_bytes, put_card16, put_card32, put_error, put_proof_data, put_text16, put_texts, put_version, put_versions, put_zeros, write_text16, write_version};

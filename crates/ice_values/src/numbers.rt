@@ -1,4 +1,6 @@
-ghost use Rattle.std.specs.Prelude.{◌≡◌, ◌≤◌, length};
+ghost use Rattle.std.specs.Prelude.{◌≡◌, ◌≤◌, ◌<◌, ◌+◌, ◌^◌, length};
+ghost use Rattle.ice_values.specs.Cells.{pad_len};
+ghost use Rattle.ice_values.specs.Fields.{bool_number, order_number};
 ghost use Rattle.ice_values.specs.Numbers.{number};
 
 use byteorder::{BigEndian, ByteOrder, LittleEndian};
@@ -12,6 +14,36 @@ pub enum Endian {
     Msb,
 }
 
+impl Endian {
+    /// The byte that stands for it in a ByteOrder message.
+    pub fn number(self) -> u8
+        ensures { result ≡ order_number self }
+    {
+        match self {
+            Endian::Lsb => 0,
+            Endian::Msb => 1,
+        }
+    }
+}
+
+/// The byte that stands for a BOOL.
+pub fn bool_byte(value: bool) -> u8
+    ensures { result ≡ bool_number value }
+{
+    if value { 1 } else { 0 }
+}
+
+/// The CARD16 at the front.
+pub fn read_card16(endian: Endian, bytes: &[u8]) -> u16
+    requires { 2 ≤ length bytes.now }
+    ensures { result ≡ number endian 2 bytes.now }
+{
+    match endian {
+        Endian::Lsb => LittleEndian::read_u16(bytes),
+        Endian::Msb => BigEndian::read_u16(bytes),
+    }
+}
+
 /// The CARD32 at the front.
 pub fn read_card32(endian: Endian, bytes: &[u8]) -> u32
     requires { 4 ≤ length bytes.now }
@@ -21,4 +53,13 @@ pub fn read_card32(endian: Endian, bytes: &[u8]) -> u32
         Endian::Lsb => LittleEndian::read_u32(bytes),
         Endian::Msb => BigEndian::read_u32(bytes),
     }
+}
+
+/// The least number of bytes that brings a length to a multiple of a unit.
+pub fn pad(length: usize, unit: usize) -> usize
+    requires { 0 < unit }
+    ensures is { result ≡ pad_len length unit }
+    ensures below { result < unit }
+{
+    (unit - length % unit) % unit
 }

@@ -1,8 +1,19 @@
 ghost use Rattle.std.specs.Prelude.{◌≡◌};
 ghost use Rattle.ice_values.specs.declared.refusals.DecodeRefusal.TheVariants.{NoMemory as NoMemoryToDecode};
+ghost use Rattle.ice_values.specs.declared.refusals.ValueRefusal.TheVariants.{NoMemory as NoMemoryForValue};
 ghost use Rattle.ice_values.specs.declared.refusals.EncodeRefusal.TheVariants.{NoMemory as NoMemoryToEncode};
 
 use sm_world::NoMemory;
+
+/// Why a value can't be read or made.
+#[derive(Clone, Copy, Debug, PartialEq, Eq)]
+pub enum ValueRefusal {
+    /// There are more bytes than the value can hold.
+    TooLong,
+    /// No front of the bytes spells a value.
+    Short,
+    NoMemory,
+}
 
 /// Why bytes are no message.
 #[derive(Clone, Copy, Debug, PartialEq, Eq)]
@@ -24,6 +35,14 @@ pub enum EncodeRefusal {
     NoMemory,
 }
 
+impl From<NoMemory> for ValueRefusal {
+    ghost from_gives = { λ _ refusal. refusal ≡ NoMemoryForValue };
+
+    fn from(_error: NoMemory) -> ValueRefusal {
+        ValueRefusal::NoMemory
+    }
+}
+
 impl From<NoMemory> for DecodeRefusal {
     ghost from_gives = { λ _ refusal. refusal ≡ NoMemoryToDecode };
 
@@ -37,5 +56,18 @@ impl From<NoMemory> for EncodeRefusal {
 
     fn from(_error: NoMemory) -> EncodeRefusal {
         EncodeRefusal::NoMemory
+    }
+}
+
+impl From<ValueRefusal> for DecodeRefusal {
+    ghost use Rattle.ice_values.specs.Frames.{refusal_of};
+
+    ghost from_gives = { λ value refusal. refusal ≡ refusal_of value };
+
+    fn from(value: ValueRefusal) -> DecodeRefusal {
+        match value {
+            ValueRefusal::TooLong | ValueRefusal::Short => DecodeRefusal::BadLength,
+            ValueRefusal::NoMemory => DecodeRefusal::NoMemory,
+        }
     }
 }

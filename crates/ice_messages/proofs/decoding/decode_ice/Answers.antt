@@ -1,24 +1,23 @@
-use Rattle.ice_messages.proofs.Laws.{empty_found, byte_order_found, byte_order_refused}
+use Rattle.std.proofs.Common.{List, ℕ, subst, sym}
+use Rattle.ice_values.proofs.CellLaws.{slice_bytes}
 use Rattle.ice_messages.specs.Messages.{Spells}
-use Rattle.ice_messages.specs.declared.message.IceMessage.TheVariants.{Ping, PingReply}
+use Rattle.ice_messages.proofs.Dispatch.{Framed, is_found, is_only, is_refused, canon_spells}
 use Rattle.ice_messages.proofs.decoding.decode_ice.Goals as goal
 
-pub returns-in-9-clause-found : goal.returns-in-9-clause-found
-returns-in-9-clause-found c =
-    rw c.empty.ensures (
-    empty_found (λ m. Spells c.args.endian m c.args.frame.now) Ping c.args.endian 9 c.args.frame.now c.requires.whole c.requires.opcode c.in-9.is (λ h. h)
-    )
+pub returns-clause-found : goal.returns-clause-found
+returns-clause-found c =
+    let framed : Framed c.args.endian c.args.frame.now = record { frame = c.requires.whole; fits = slice_bytes c.args.frame.now c.type_inv.frame; major = c.requires.opcode } in
+    is_found c.args.endian c.args.frame.now c.by_minor.result framed c.by_minor.ensures
 
-pub returns-in-10-clause-found : goal.returns-in-10-clause-found
-returns-in-10-clause-found c =
-    rw c.empty-in-10.ensures (
-    empty_found (λ m. Spells c.args.endian m c.args.frame.now) PingReply c.args.endian 10 c.args.frame.now c.requires.whole c.requires.opcode c.in-10.is (λ h. h)
-    )
+pub returns-clause-refused : goal.returns-clause-refused
+returns-clause-refused c =
+    let framed : Framed c.args.endian c.args.frame.now = record { frame = c.requires.whole; fits = slice_bytes c.args.frame.now c.type_inv.frame; major = c.requires.opcode } in
+    is_refused c.args.endian c.args.frame.now c.by_minor.result framed c.by_minor.ensures
 
-pub returns-in-1-clause-found : goal.returns-in-1-clause-found
-returns-in-1-clause-found c =
-    rw c.byte_order.ensures (byte_order_found c.args.endian c.args.frame.now c.requires.whole c.requires.opcode c.in-1.is)
+pub returns-clause-only : goal.returns-clause-only
+returns-clause-only c = λ message spelled. is_only c.args.endian c.args.frame.now c.by_minor.result message c.by_minor.ensures spelled
 
-pub returns-in-1-clause-refused : goal.returns-in-1-clause-refused
-returns-in-1-clause-refused c =
-    rw c.byte_order.ensures (byte_order_refused c.args.endian c.args.frame.now c.requires.whole c.requires.opcode c.in-1.is)
+pub returns-clause-again : goal.returns-clause-again
+returns-clause-again c = λ message fits is.
+    is_only c.args.endian c.args.frame.now c.by_minor.result message c.by_minor.ensures
+    (subst (λ (b : List ℕ). Spells c.args.endian message b) (sym is) (canon_spells c.args.endian message fits))

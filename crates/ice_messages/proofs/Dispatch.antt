@@ -1,0 +1,238 @@
+-- What decoding answers, over all messages.
+use Rattle.std.proofs.Common.{◌≡◌, ℕ, zero, suc, ◌<◌, ◌≤◌, Bool, false, List, [], ◌∷◌, ◌++◌, Result, Ok, Err, IfOk, IfErr, refl, sym, ap, ◌∙◌, subst, arith, slice_index, inl, inr}
+use Rattle.std.specs.Prelude.{eqb, slice_set, ◌⊎◌, Option, Some, None}
+use Rattle.std.proofs.lemmas.Bool.{ne_eqb}
+use Rattle.std.proofs.lemmas.List.{append-nil}
+use Rattle.ice_values.specs.Cells.{byte, free, zeros, Begins}
+use Rattle.ice_values.specs.Fields.{ErrorFields}
+use Rattle.ice_values.specs.Frames.{IsFrame, Gives, first_wrong, IsChoice}
+use Rattle.ice_values.specs.declared.numbers.Endian.{Endian}
+use Rattle.ice_values.specs.declared.numbers.Endian.TheVariants.{Lsb, Msb}
+use Rattle.ice_values.specs.declared.severity.Severity.TheVariants.{CanContinue}
+use Rattle.ice_values.specs.declared.refusals.DecodeRefusal.{DecodeRefusal}
+use Rattle.ice_values.specs.declared.refusals.DecodeRefusal.TheVariants.{BadMinor, BadLength, BadValue, NoMemory}
+use Rattle.ice_values.proofs.CellLaws.{IsBytes, Begins-zeros, Begins-set, Begins-opened}
+use Rattle.ice_values.proofs.HeaderLaws.{Header, minor_is}
+use Rattle.ice_values.proofs.BodyLaws.{ok_not_err}
+use Rattle.ice_messages.specs.Messages.{minor_of, layout, shape, enumerated, IsMessage, Spells, HasForm, canon, Refused}
+use Rattle.ice_messages.specs.Reading.{empty_at, byte_order_at, connection_setup_at, authentication_required_at, authentication_reply_at, authentication_next_phase_at, connection_reply_at, protocol_setup_at, protocol_reply_at, ice_error_at, decode_at}
+use Rattle.ice_messages.specs.declared.message.IceMessage.{IceMessage}
+use Rattle.ice_messages.specs.declared.message.IceMessage.TheVariants.{Error, ByteOrder, ConnectionSetup, AuthenticationRequired, AuthenticationReply, AuthenticationNextPhase, ConnectionReply, ProtocolSetup, ProtocolReply, Ping, PingReply, WantToClose, NoClose}
+use Rattle.ice_messages.proofs.Laws.{Says, empty_says, empty_again, order_says, order_again, order_formed, required_says, required_again, reply_says, reply_again, next_says, next_again, connected_says, connected_again, answer_says, answer_again, setup_says, setup_again, setup_formed, protocol_says, protocol_again, protocol_formed, error_says, ice_error_again, ice_error_formed}
+
+-- the reading of a message's minor opcode
+branch : Endian → List ℕ → IceMessage → Result IceMessage DecodeRefusal
+branch e bytes (Error error) = ice_error_at e bytes
+branch e bytes (ByteOrder order) = byte_order_at bytes
+branch e bytes (ConnectionSetup must vendor release names offered) = connection_setup_at e bytes
+branch e bytes (AuthenticationRequired index proof) = authentication_required_at e bytes
+branch e bytes (AuthenticationReply proof) = authentication_reply_at e bytes
+branch e bytes (AuthenticationNextPhase proof) = authentication_next_phase_at e bytes
+branch e bytes (ConnectionReply index vendor release) = connection_reply_at e bytes
+branch e bytes (ProtocolSetup opcode must protocol vendor release names offered) = protocol_setup_at e bytes
+branch e bytes (ProtocolReply index opcode vendor release) = protocol_reply_at e bytes
+branch e bytes Ping = empty_at Ping bytes
+branch e bytes PingReply = empty_at PingReply bytes
+branch e bytes WantToClose = empty_at WantToClose bytes
+branch e bytes NoClose = empty_at NoClose bytes
+
+decode_is : (e : Endian) (bytes : List ℕ) (m : IceMessage) → slice_index bytes 1 ≡ minor_of m → decode_at e bytes ≡ branch e bytes m
+unfolding decode_at branch
+decode_is e bytes (Error error) h = rw h refl
+decode_is e bytes (ByteOrder order) h = rw h refl
+decode_is e bytes (ConnectionSetup must vendor release names offered) h = rw h refl
+decode_is e bytes (AuthenticationRequired index proof) h = rw h refl
+decode_is e bytes (AuthenticationReply proof) h = rw h refl
+decode_is e bytes (AuthenticationNextPhase proof) h = rw h refl
+decode_is e bytes (ConnectionReply index vendor release) h = rw h refl
+decode_is e bytes (ProtocolSetup opcode must protocol vendor release names offered) h = rw h refl
+decode_is e bytes (ProtocolReply index opcode vendor release) h = rw h refl
+decode_is e bytes Ping h = rw h refl
+decode_is e bytes PingReply h = rw h refl
+decode_is e bytes WantToClose h = rw h refl
+decode_is e bytes NoClose h = rw h refl
+
+branch_says : (e : Endian) (bytes : List ℕ) (m : IceMessage) → Header e 0 (minor_of m) bytes → Says e bytes (branch e bytes m)
+unfolding branch
+branch_says e bytes (Error error) h = error_says e bytes h
+branch_says e bytes (ByteOrder order) h = order_says e bytes h
+branch_says e bytes (ConnectionSetup must vendor release names offered) h = setup_says e bytes h
+branch_says e bytes (AuthenticationRequired index proof) h = required_says e bytes h
+branch_says e bytes (AuthenticationReply proof) h = reply_says e bytes h
+branch_says e bytes (AuthenticationNextPhase proof) h = next_says e bytes h
+branch_says e bytes (ConnectionReply index vendor release) h = connected_says e bytes h
+branch_says e bytes (ProtocolSetup opcode must protocol vendor release names offered) h = protocol_says e bytes h
+branch_says e bytes (ProtocolReply index opcode vendor release) h = answer_says e bytes h
+branch_says e bytes Ping h = empty_says e 9 Ping bytes h (λ begins. (tt, begins))
+branch_says e bytes PingReply h = empty_says e 10 PingReply bytes h (λ begins. (tt, begins))
+branch_says e bytes WantToClose h = empty_says e 11 WantToClose bytes h (λ begins. (tt, begins))
+branch_says e bytes NoClose h = empty_says e 12 NoClose bytes h (λ begins. (tt, begins))
+
+branch_again : (e : Endian) (bytes : List ℕ) (m : IceMessage) → Spells e m bytes → branch e bytes m ≡ Ok m
+unfolding branch
+branch_again e bytes (Error error) h = ice_error_again e error bytes h
+branch_again e bytes (ByteOrder order) h = order_again e order bytes h
+branch_again e bytes (ConnectionSetup must vendor release names offered) h = setup_again e must ((vendor, release), (names, offered)) bytes h
+branch_again e bytes (AuthenticationRequired index proof) h = required_again e index proof bytes h
+branch_again e bytes (AuthenticationReply proof) h = reply_again e proof bytes h
+branch_again e bytes (AuthenticationNextPhase proof) h = next_again e proof bytes h
+branch_again e bytes (ConnectionReply index vendor release) h = connected_again e index (vendor, release) bytes h
+branch_again e bytes (ProtocolSetup opcode must protocol vendor release names offered) h = protocol_again e opcode must (protocol, ((vendor, release), (names, offered))) bytes h
+branch_again e bytes (ProtocolReply index opcode vendor release) h = answer_again e index opcode (vendor, release) bytes h
+branch_again e bytes Ping h = empty_again e 9 Ping bytes h.1
+branch_again e bytes PingReply h = empty_again e 10 PingReply bytes h.1
+branch_again e bytes WantToClose h = empty_again e 11 WantToClose bytes h.1
+branch_again e bytes NoClose h = empty_again e 12 NoClose bytes h.1
+
+-- a message is answered, so not BadLength
+not_length : (r : Result IceMessage DecodeRefusal) (m : IceMessage) → r ≡ Ok m → r ≡ Err BadLength → ⊥
+not_length r m ok err = ok_not_err m BadLength (sym ok ∙ err)
+
+-- what has the form isn't refused for its length
+branch_formed : (e : Endian) (bytes : List ℕ) (m : IceMessage) → HasForm e m bytes → branch e bytes m ≡ Err BadLength → ⊥
+unfolding branch
+branch_formed e bytes (Error error) h = ice_error_formed e error bytes h
+branch_formed e bytes (ByteOrder order) h = order_formed e order bytes h
+branch_formed e bytes (ConnectionSetup must vendor release names offered) h = setup_formed e must ((vendor, release), (names, offered)) bytes h
+branch_formed e bytes (AuthenticationRequired index proof) h = not_length _ (AuthenticationRequired index proof) (required_again e index proof bytes h)
+branch_formed e bytes (AuthenticationReply proof) h = not_length _ (AuthenticationReply proof) (reply_again e proof bytes h)
+branch_formed e bytes (AuthenticationNextPhase proof) h = not_length _ (AuthenticationNextPhase proof) (next_again e proof bytes h)
+branch_formed e bytes (ConnectionReply index vendor release) h = not_length _ (ConnectionReply index vendor release) (connected_again e index (vendor, release) bytes h)
+branch_formed e bytes (ProtocolSetup opcode must protocol vendor release names offered) h = protocol_formed e opcode must (protocol, ((vendor, release), (names, offered))) bytes h
+branch_formed e bytes (ProtocolReply index opcode vendor release) h = not_length _ (ProtocolReply index opcode vendor release) (answer_again e index opcode (vendor, release) bytes h)
+branch_formed e bytes Ping h = not_length _ Ping (empty_again e 9 Ping bytes h.1)
+branch_formed e bytes PingReply h = not_length _ PingReply (empty_again e 10 PingReply bytes h.1)
+branch_formed e bytes WantToClose h = not_length _ WantToClose (empty_again e 11 WantToClose bytes h.1)
+branch_formed e bytes NoClose h = not_length _ NoClose (empty_again e 12 NoClose bytes h.1)
+
+-- ---- a choice of the enumerated bytes
+
+-- a spelling has the form
+has_form : (e : Endian) (m : IceMessage) (bytes : List ℕ) → Spells e m bytes → HasForm e m bytes
+has_form Lsb (Error error) bytes h = (h.0, Begins-opened 9 (shape byte Lsb (Error error)) bytes [] h.1)
+has_form Msb (Error error) bytes h = (h.0, Begins-opened 9 (shape byte Msb (Error error)) bytes [] h.1)
+has_form e (ByteOrder order) bytes h = (h.0, Begins-opened 2 (shape byte e (ByteOrder order)) bytes [] h.1)
+has_form Lsb (ConnectionSetup must vendor release names offered) bytes h = (h.0, Begins-opened 8 (shape byte Lsb (ConnectionSetup must vendor release names offered)) bytes [] h.1)
+has_form Msb (ConnectionSetup must vendor release names offered) bytes h = (h.0, Begins-opened 8 (shape byte Msb (ConnectionSetup must vendor release names offered)) bytes [] h.1)
+has_form e (ProtocolSetup opcode must protocol vendor release names offered) bytes h = (h.0, Begins-opened 3 (shape byte e (ProtocolSetup opcode must protocol vendor release names offered)) bytes [] h.1)
+has_form e m bytes h = h
+
+-- the form doesn't see an enumerated byte
+form_of_chosen : (e : Endian) (m : IceMessage) (bytes chosen : List ℕ) → IsChoice (enumerated m) bytes chosen → HasForm e m chosen → HasForm e m bytes
+form_of_chosen Lsb (Error error) bytes chosen c h = (h.0, Begins-set 9 c.0 (shape (λ n. free 1) Lsb (Error error)) bytes [] refl (subst (λ (b : List ℕ). Begins (shape (λ n. free 1) Lsb (Error error)) b []) c.1 h.1))
+form_of_chosen Msb (Error error) bytes chosen c h = (h.0, Begins-set 9 c.0 (shape (λ n. free 1) Msb (Error error)) bytes [] refl (subst (λ (b : List ℕ). Begins (shape (λ n. free 1) Msb (Error error)) b []) c.1 h.1))
+form_of_chosen e (ByteOrder order) bytes chosen c h = (h.0, Begins-set 2 c.0 (shape (λ n. free 1) e (ByteOrder order)) bytes [] refl (subst (λ (b : List ℕ). Begins (shape (λ n. free 1) e (ByteOrder order)) b []) c.1 h.1))
+form_of_chosen Lsb (ConnectionSetup must vendor release names offered) bytes chosen c h =
+    (h.0, Begins-set 8 c.0 (shape (λ n. free 1) Lsb (ConnectionSetup must vendor release names offered)) bytes [] refl (subst (λ (b : List ℕ). Begins (shape (λ n. free 1) Lsb (ConnectionSetup must vendor release names offered)) b []) c.1 h.1))
+form_of_chosen Msb (ConnectionSetup must vendor release names offered) bytes chosen c h =
+    (h.0, Begins-set 8 c.0 (shape (λ n. free 1) Msb (ConnectionSetup must vendor release names offered)) bytes [] refl (subst (λ (b : List ℕ). Begins (shape (λ n. free 1) Msb (ConnectionSetup must vendor release names offered)) b []) c.1 h.1))
+form_of_chosen e (ProtocolSetup opcode must protocol vendor release names offered) bytes chosen c h =
+    (h.0, Begins-set 3 c.0 (shape (λ n. free 1) e (ProtocolSetup opcode must protocol vendor release names offered)) bytes [] refl (subst (λ (b : List ℕ). Begins (shape (λ n. free 1) e (ProtocolSetup opcode must protocol vendor release names offered)) b []) c.1 h.1))
+form_of_chosen e m bytes chosen c h = subst (λ (b : List ℕ). HasForm e m b) c h
+
+-- ---- all of it
+
+-- a message of each minor opcode that there is
+some_of : (n : ℕ) → ((m : IceMessage) × (minor_of m ≡ n)) ⊎ (12 < n)
+some_of zero = inl (Error (record { class = 0; minor = 0; severity = CanContinue; sequence = 0; values = [] }), refl)
+some_of (suc zero) = inl (ByteOrder Lsb, refl)
+some_of (suc (suc zero)) = inl (ConnectionSetup false [] [] [] [], refl)
+some_of (suc (suc (suc zero))) = inl (AuthenticationRequired 0 [], refl)
+some_of (suc (suc (suc (suc zero)))) = inl (AuthenticationReply [], refl)
+some_of (suc (suc (suc (suc (suc zero))))) = inl (AuthenticationNextPhase [], refl)
+some_of (suc (suc (suc (suc (suc (suc zero)))))) = inl (ConnectionReply 0 [] [], refl)
+some_of (suc (suc (suc (suc (suc (suc (suc zero))))))) = inl (ProtocolSetup 0 false [] [] [] [] [], refl)
+some_of (suc (suc (suc (suc (suc (suc (suc (suc zero)))))))) = inl (ProtocolReply 0 0 [] [], refl)
+some_of (suc (suc (suc (suc (suc (suc (suc (suc (suc zero))))))))) = inl (Ping, refl)
+some_of (suc (suc (suc (suc (suc (suc (suc (suc (suc (suc zero)))))))))) = inl (PingReply, refl)
+some_of (suc (suc (suc (suc (suc (suc (suc (suc (suc (suc (suc zero))))))))))) = inl (WantToClose, refl)
+some_of (suc (suc (suc (suc (suc (suc (suc (suc (suc (suc (suc (suc zero)))))))))))) = inl (NoClose, refl)
+some_of (suc (suc (suc (suc (suc (suc (suc (suc (suc (suc (suc (suc (suc n))))))))))))) = inr (omega arith)
+
+minor_below : (m : IceMessage) → minor_of m ≤ 12
+minor_below m = elim m as (λ m. minor_of m ≤ 12) [
+  | Error error ↦ omega arith
+  | ByteOrder order ↦ omega arith
+  | ConnectionSetup must vendor release names offered ↦ omega arith
+  | AuthenticationRequired index proof ↦ omega arith
+  | AuthenticationReply proof ↦ omega arith
+  | AuthenticationNextPhase proof ↦ omega arith
+  | ConnectionReply index vendor release ↦ omega arith
+  | ProtocolSetup opcode must protocol vendor release names offered ↦ omega arith
+  | ProtocolReply index opcode vendor release ↦ omega arith
+  | Ping ↦ omega arith
+  | PingReply ↦ omega arith
+  | WantToClose ↦ omega arith
+  | NoClose ↦ omega arith
+]
+
+no_minor : (e : Endian) (bytes : List ℕ) → 12 < slice_index bytes 1 → decode_at e bytes ≡ Err BadMinor
+unfolding decode_at
+no_minor e bytes lt =
+    let n : ℕ = slice_index bytes 1 in
+    let other : (k : ℕ) → k ≤ 12 → eqb n k ≡ false = λ k le. ne_eqb n k (λ same. omega (arith, lt, le, same)) in
+    rw (other 0 (omega arith), other 1 (omega arith), other 2 (omega arith), other 3 (omega arith), other 4 (omega arith), other 5 (omega arith), other 6 (omega arith), other 7 (omega arith), other 8 (omega arith), other 9 (omega arith), other 10 (omega arith), other 11 (omega arith), other 12 (omega arith)) refl
+
+-- a frame of major opcode 0
+pub record Framed (e : Endian) (bytes : List ℕ) : Type 0 where
+  pub frame : IsFrame e bytes
+  pub fits : IsBytes bytes
+  pub major : slice_index bytes 0 ≡ 0
+
+header_of : (e : Endian) (bytes : List ℕ) (m : IceMessage) → Framed e bytes → minor_of m ≡ slice_index bytes 1 → Header e 0 (minor_of m) bytes
+header_of e bytes m f is = record { frame = f.frame; fits = f.fits; opcode_at = f.major; minor_at = sym is }
+
+decode_says : (e : Endian) (bytes : List ℕ) (m : IceMessage) → Framed e bytes → minor_of m ≡ slice_index bytes 1 → Says e bytes (decode_at e bytes)
+decode_says e bytes m f is = rw (decode_is e bytes m (sym is)) (branch_says e bytes m (header_of e bytes m f is))
+
+pub decode_again : (e : Endian) (bytes : List ℕ) (m : IceMessage) → Spells e m bytes → decode_at e bytes ≡ Ok m
+decode_again e bytes m h = decode_is e bytes m (minor_is e 0 (minor_of m) (layout byte e m).0 (layout byte e m).1 bytes h.1) ∙ branch_again e bytes m h
+
+-- no choice of the enumerated bytes spells what is refused for its length
+no_choice : (e : Endian) (bytes : List ℕ) → decode_at e bytes ≡ Err BadLength → (m : IceMessage) (chosen : List ℕ) → IsChoice (enumerated m) bytes chosen → Spells e m chosen → ⊥
+no_choice e bytes is m chosen choice spelled =
+    let formed = form_of_chosen e m bytes chosen choice (has_form e m chosen spelled) in
+    let minor = minor_is e 0 (minor_of m) (layout (λ n. free 1) e m).0 (layout (λ n. free 1) e m).1 bytes formed.1 in
+    branch_formed e bytes m formed (sym (decode_is e bytes m minor) ∙ is)
+
+-- what decoding answers is spelled, or has its cause
+pub Caused : Endian → List ℕ → Result IceMessage DecodeRefusal → Type 0
+Caused e bytes (Ok m) = Spells e m bytes
+Caused e bytes (Err d) = Refused e bytes d
+
+caused_known : (e : Endian) (bytes : List ℕ) (m : IceMessage) → minor_of m ≡ slice_index bytes 1 → (r : Result IceMessage DecodeRefusal) → decode_at e bytes ≡ r → Says e bytes r → Caused e bytes r
+unfolding Caused
+caused_known e bytes m is (Ok x) read says = says
+caused_known e bytes m is (Err BadMinor) read says = absurd says
+caused_known e bytes m is (Err BadLength) read says = ((m, is), no_choice e bytes read)
+caused_known e bytes m is (Err (BadValue at len)) read says = says
+caused_known e bytes m is (Err NoMemory) read says = tt
+
+pub decode_caused : (e : Endian) (bytes : List ℕ) → Framed e bytes → Caused e bytes (decode_at e bytes)
+unfolding Caused
+decode_caused e bytes f = elim (some_of (slice_index bytes 1)) [
+  | inl known ↦ caused_known e bytes known.0 known.1 (decode_at e bytes) refl (decode_says e bytes known.0 f known.1)
+  | inr none ↦ rw (no_minor e bytes none) (λ m is. omega (arith, minor_below m, none, is))
+]
+
+-- ---- the clauses of a call that gives this answer
+
+pub is_found : (e : Endian) (bytes : List ℕ) (r : Result IceMessage DecodeRefusal) → Framed e bytes → Gives r (decode_at e bytes) → IfOk r (λ m. Spells e m bytes)
+unfolding Caused
+is_found e bytes (Ok m) f given = subst (Caused e bytes) given (decode_caused e bytes f)
+is_found e bytes (Err d) f given = tt
+
+pub is_refused : (e : Endian) (bytes : List ℕ) (r : Result IceMessage DecodeRefusal) → Framed e bytes → Gives r (decode_at e bytes) → IfErr r (λ d. Refused e bytes d)
+unfolding Caused
+is_refused e bytes (Ok m) f given = tt
+is_refused e bytes (Err BadMinor) f given = subst (Caused e bytes) given (decode_caused e bytes f)
+is_refused e bytes (Err BadLength) f given = subst (Caused e bytes) given (decode_caused e bytes f)
+is_refused e bytes (Err (BadValue at len)) f given = subst (Caused e bytes) given (decode_caused e bytes f)
+is_refused e bytes (Err NoMemory) f given = tt
+
+pub is_only : (e : Endian) (bytes : List ℕ) (r : Result IceMessage DecodeRefusal) (m : IceMessage) → Gives r (decode_at e bytes) → Spells e m bytes → Gives r (Ok m)
+is_only e bytes r m given spelled = subst (Gives r) (decode_again e bytes m spelled) given
+
+-- the spelling with zeros is one
+pub canon_spells : (e : Endian) (m : IceMessage) → IsMessage m → Spells e m (canon e m)
+canon_spells e m fits = (fits, subst (λ (b : List ℕ). Begins (shape byte e m) b []) (append-nil (canon e m)) (Begins-zeros (shape byte e m) []))

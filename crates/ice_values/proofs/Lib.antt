@@ -1,0 +1,11 @@
+pub mod CellLaws
+pub mod NumberLaws
+pub mod FieldLaws
+pub mod ListLaws
+pub mod FrontLaws
+pub mod WriteLaws
+pub mod HeaderLaws
+pub mod BodyLaws
+pub mod EnumLaws
+pub mod ErrorLaws
+pub mod LengthLaws
