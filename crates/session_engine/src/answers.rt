@@ -1,5 +1,5 @@
 ghost use Rattle.std.specs.Prelude.{◌≡◌, length, IfOk};
-ghost use Rattle.session_engine.specs.Answers.{spelled_by, answer_to};
+ghost use Rattle.session_engine.specs.Answers.{spelled_by, answer_to, CanBeSaid};
 
 use ice_messages::{IceMessage, decode_ice};
 use ice_values::{DecodeRefusal, Endian, read_card32};
@@ -44,7 +44,8 @@ fn spelled(alloc: Global, endian: Endian, frame: &[u8]) -> Result<Option<IceMess
 /// The direct answer to a frame.
 pub fn reply_to(alloc: Global, stage: Stage, frame: &[u8]) -> Result<Answer, NoMemory>
     requires { length frame.now ≡ 8 }
-    ensures { IfOk result (λ answer. answer ≡ answer_to stage frame.now) }
+    ensures answer { IfOk result (λ answer. answer ≡ answer_to stage frame.now) }
+    ensures said { IfOk result CanBeSaid }
 {
     match stage {
         Stage::AwaitOrder => match spelled(alloc, Endian::Lsb, frame)? {

@@ -3,7 +3,7 @@ ghost use Rattle.sm_world.specs.Events.{HasPieceSize};
 ghost use Rattle.sm_world.specs.Outside.{adds, on_ok, of_ok, TakesNext};
 ghost use Rattle.sm_world.specs.declared.effects.Effect.TheVariants.{Heard, Sent, Shut};
 ghost use Rattle.ice_values.specs.declared.numbers.Endian.TheVariants.{Lsb};
-ghost use Rattle.ice_messages.specs.Messages.{canon};
+ghost use Rattle.ice_messages.specs.Messages.{canon, IsTooLong};
 ghost use Rattle.session_engine.specs.Carries.{NotFallen, HasCause, fault_of};
 
 use crate::ServeFault;
@@ -40,6 +40,7 @@ pub fn send<W: Links>(
     to: Conn,
     message: &IceMessage,
 ) -> Result<(), ServeFault>
+    requires { ¬ (IsTooLong Lsb message.now) }
     ensures effects { (W.outside world.new).told ≡ adds (W.outside world.old).told (on_ok result (Sent to (canon Lsb message.now) ∷ [])) }
     ensures coming { (W.outside world.new).coming ≡ (W.outside world.old).coming }
     ensures counts { NotFallen (W.outside world.old).faults (W.outside world.new).faults }

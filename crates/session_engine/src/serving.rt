@@ -1,5 +1,6 @@
 ghost use Rattle.std.specs.Prelude.{◌≡◌, ◌≢◌, is_ok, IfOk, IfErr};
 ghost use Rattle.sm_world.specs.declared.events.Event.TheVariants.{Joined, Piece};
+ghost use Rattle.session_engine.specs.Answers.{CanBeSaid};
 ghost use Rattle.session_engine.specs.Carries.{Added, Serves, NotFallen, HasCause};
 ghost use Rattle.session_engine.specs.Machine.{Machine, answered, step, has_finish};
 ghost use Rattle.session_engine.specs.Rows.{Shows, Carried, KeepsHeld, all_cut};
@@ -29,6 +30,7 @@ fn perform<W: Links>(
     conn: Conn,
     answer: Answer,
 ) -> Result<(), ServeFault>
+    requires { CanBeSaid answer }
     ensures carried { (m : Machine) (pending : _) → Shows pending table.old m → Carried pending (W.outside world.old).told (W.outside world.new).told table.new (answered m conn answer) (is_ok result) }
     ensures held { KeepsHeld table.old table.new }
     ensures coming { (W.outside world.new).coming ≡ (W.outside world.old).coming }

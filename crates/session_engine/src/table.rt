@@ -1,5 +1,6 @@
-ghost use Rattle.std.specs.Prelude.{◌≡◌, ◌≢◌, ℕ, [], None, Some, is_some, IfOk, OnOk, nat_eq, if◌then◌else◌};
+ghost use Rattle.std.specs.Prelude.{◌≡◌, ◌≢◌, ℕ, [], None, Some, is_some, IfSome, IfOk, OnOk, nat_eq, if◌then◌else◌};
 ghost use Rattle.std.specs.Option.{option_map};
+ghost use Rattle.session_engine.specs.Answers.{CanBeSaid};
 ghost use Rattle.session_engine.specs.Rows.{row_at, row_at_stage, ChangesRow, CutsRow, CutsAt};
 ghost use Rattle.session_engine.specs.declared.answers.Stage.TheVariants.{AwaitOrder};
 
@@ -33,7 +34,8 @@ pub struct Answered {
 
 impl Row {
     fn cut(&mut self, alloc: Global, left: &[u8]) -> Result<Option<Answered>, NoMemory>
-        ensures { IfOk result (λ answered. CutsRow self.old left.now answered self.new) }
+        ensures cuts { IfOk result (λ answered. CutsRow self.old left.now answered self.new) }
+        ensures said { IfOk result (λ answered. IfSome answered (λ frame. CanBeSaid frame.answer)) }
     {
         let cut = self.cutter.take_from(left);
         match cut.frame {
@@ -94,6 +96,7 @@ impl Table {
         left: &[u8],
     ) -> Result<Option<Answered>, NoMemory>
         ensures cut { IfOk result (λ answered. CutsAt (row_at self.old conn) left.now answered (row_at self.new conn)) }
+        ensures said { IfOk result (λ answered. IfSome answered (λ frame. CanBeSaid frame.answer)) }
         ensures others { OnOk result ((q : ℕ) → q ≢ conn → row_at self.new q ≡ row_at self.old q) }
     {
         let Some(row) = self.rows.get_mut(&conn) else {
