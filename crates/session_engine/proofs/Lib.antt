@@ -1,9 +1,0 @@
-pub mod Eights
-pub mod Frames
-pub mod Connections
-pub mod Adding
-pub mod Pieces
-pub mod Running
-pub mod Tables
-pub mod Events
-pub mod Loop

@@ -1,41 +1,23 @@
--- How a stream of bytes is cut into frames.
-use Rattle.std.specs.Prelude.{◌≡◌, ◌<◌, ◌≤◌, ℕ, zero, suc, List, [], ◌∷◌, ◌++◌, length, take, drop, Some, None, nat_lt, if◌then◌else◌}
-use Rattle.session_engine.specs.declared.cutting.Cut.{Cut}
+-- The parts of a stream, one by one: its whole frames, and a header that states too much, behind which nothing is cut.
+use Rattle.std.specs.Prelude.{ℕ, List, [], ◌∷◌, ◌++◌, map, length, take, drop, if◌then◌else◌}
+use Rattle.ice_framing.specs.Frames.{Standing, beginning, fed, cut, is_oversize}
+use Rattle.ice_framing.specs.declared.cutting.WholeFrame.{WholeFrame}
 
--- the first n frames of 8 bytes, as far as they are whole
-unfoldable pub frames_by : ℕ → List ℕ → List (List ℕ)
-frames_by zero stream = []
-frames_by (suc n) stream = if nat_lt (length stream) 8 then [] else take 8 stream ∷ frames_by n (drop 8 stream)
+pub data Part : Type 0 where
+  Whole : WholeFrame → Part
+  TooMuch : List ℕ → Part
 
--- what is left after them
-unfoldable pub rest_by : ℕ → List ℕ → List ℕ
-rest_by zero stream = stream
-rest_by (suc n) stream = if nat_lt (length stream) 8 then stream else rest_by n (drop 8 stream)
+-- the header in front, where it states too much
+abbrev pub oversize_part : Standing → List Part
+oversize_part at = if is_oversize at then TooMuch (take 8 at.held) ∷ [] else []
 
--- the whole frames of a stream, in order
-unfoldable pub frames : List ℕ → List (List ℕ)
-frames stream = frames_by (length stream) stream
+-- the parts from where a stream stands
+abbrev pub parts_at : Standing → List Part
+parts_at at = map Whole (cut at).frames ++ oversize_part (cut at).standing
 
--- the bytes at its end that are no whole frame yet
-unfoldable pub partial : List ℕ → List ℕ
-partial stream = rest_by (length stream) stream
+abbrev pub parts_of : List ℕ → List Part
+parts_of stream = parts_at (fed beginning stream)
 
--- the frames that a piece completes
-abbrev pub new_frames : List ℕ → List ℕ → List (List ℕ)
-new_frames stream piece = drop (length (frames stream)) (frames (stream ++ piece))
-
--- A piece was taken up to the end of the first frame, or whole where no frame is complete.
-pub record CutsFrame (held piece : List ℕ) (cut : Cut) (after : List ℕ) : Type 0 where
-  pub frame : cut.frame ≡ Some (take 8 (held ++ piece))
-  pub some : 1 ≤ cut.taken
-  pub left : drop cut.taken piece ≡ drop 8 (held ++ piece)
-  pub none_held : after ≡ []
-
-pub record HoldsAll (held piece : List ℕ) (cut : Cut) (after : List ℕ) : Type 0 where
-  pub frame : cut.frame ≡ None
-  pub left : cut.taken ≡ length piece
-  pub all_held : after ≡ held ++ piece
-
-pub record Cuts (held piece : List ℕ) (cut : Cut) (after : List ℕ) : Type 0 where
-  pub whole : 8 ≤ length (held ++ piece) → CutsFrame held piece cut after
-  pub short : length (held ++ piece) < 8 → HoldsAll held piece cut after
+-- the parts that a piece brings
+abbrev pub new_parts : List ℕ → List ℕ → List Part
+new_parts stream piece = drop (length (parts_of stream)) (parts_of (stream ++ piece))

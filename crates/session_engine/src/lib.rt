@@ -2,12 +2,6 @@
 #![tactic(auto)]
 
 mod answers;
-mod cutting;
-mod devices;
-mod fault;
-mod serving;
-mod table;
+mod row;
 
 pub use answers::{Answer, Stage};
-pub use fault::ServeFault;
-pub use serving::serve;
