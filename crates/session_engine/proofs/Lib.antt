@@ -1,0 +1,5 @@
+pub mod CutLemmas
+pub mod Parts
+pub mod Connections
+pub mod Adding
+pub mod Pieces

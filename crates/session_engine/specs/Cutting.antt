@@ -46,5 +46,5 @@ pub record WaitsForMore (row : Row) (left : List ℕ) (answered : Option Answere
 abbrev pub CutsReady : Row → List ℕ → Option Answered → Row → Type 0
 CutsReady row left answered after = AnswersFrame row left answered after ⊎ (AnswersHeader row left answered after ⊎ WaitsForMore row left answered after)
 
-abbrev pub CutsRow : Row → List ℕ → Option Answered → Row → Type 0
-CutsRow row left answered after = row.spent ≡ false → CutsReady row left answered after
+pub record CutsRow (row : Row) (left : List ℕ) (answered : Option Answered) (after : Row) : Type 0 where
+  pub ready : row.spent ≡ false → CutsReady row left answered after

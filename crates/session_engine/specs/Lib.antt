@@ -1,3 +1,6 @@
 pub mod Streams
 pub mod Answers
 pub mod Cutting
+pub mod Machine
+pub mod Carries
+pub mod Rows

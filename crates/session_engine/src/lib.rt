@@ -2,6 +2,10 @@
 #![tactic(auto)]
 
 mod answers;
+mod devices;
+mod fault;
 mod row;
+mod table;
 
 pub use answers::{Answer, Stage};
+pub use fault::ServeFault;

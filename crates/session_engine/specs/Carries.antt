@@ -1,0 +1,121 @@
+-- What a run does to the outside: the list of its effects against the script of what it heard.
+use Rattle.std.specs.Prelude.{◌≡◌, ◌≤◌, ℕ, zero, suc, Bool, true, false, List, [], ◌∷◌, ◌++◌, length, take, drop, map, Option, Some, None, Result, Ok, Err, IsOk, IsErrOf}
+use Rattle.std.specs.List.{flat_map}
+use Rattle.sm_world.specs.Effects.{Sends, Shuts, Starts, Prints, heard, deeds, published}
+use Rattle.sm_world.specs.Events.{next_of}
+use Rattle.sm_world.specs.Outside.{Rose, adds}
+use Rattle.sm_world.specs.declared.effects.Effect.{Effect}
+use Rattle.sm_world.specs.declared.effects.Effect.TheVariants.{Heard, Sent, Shut, Started, Wrote, Torn, Synced, SyncFailed, Published, Printed}
+use Rattle.sm_world.specs.declared.events.Event.{Event}
+use Rattle.sm_world.specs.declared.failures.Faults.{Faults}
+use Rattle.sm_world.specs.declared.failures.Failure.{Failure}
+use Rattle.sm_world.specs.declared.failures.Failure.TheVariants.{Failed, NoMemory as OutOfMemory}
+use Rattle.session_engine.specs.Machine.{Act, Item, Came, Did, script, run, deeds_in, has_finish}
+use Rattle.session_engine.specs.declared.fault.ServeFault.{ServeFault}
+use Rattle.session_engine.specs.declared.fault.ServeFault.TheVariants.{LinkFault, Spent, NoMemory}
+
+abbrev pub IsPrefix : {A : Type 0} → List A → List A → Type 0
+IsPrefix {A} xs ys = (rest : List A) × (xs ++ rest ≡ ys)
+
+-- The first effects of a run, against the script of the events among them.
+pub record IsOnScript (effects : List Effect) : Type 0 where
+  -- what was done is what the machine does, as far as it goes
+  pub no_other_deed : (n : ℕ) → IsPrefix (deeds (take n effects)) (deeds_in (script (heard (take n effects))))
+  -- before anything more is heard, all of it was done
+  pub no_deed_missing : (n : ℕ) (event : Event) (more : List Effect) → drop n effects ≡ Heard event ∷ more → deeds (take n effects) ≡ deeds_in (script (heard (take n effects)))
+  -- nothing is heard once the run is at its end
+  pub heard_in_time : (n : ℕ) (event : Event) (more : List Effect) → drop n effects ≡ Heard event ∷ more → has_finish (script (heard (take n effects))) ≡ false
+  -- no file is published
+  pub none_published : published effects ≡ []
+
+-- a run that wasn't cut short by a fault
+abbrev pub is_whole : Result (Unit {0}) ServeFault → Bool
+is_whole (Ok x) = true
+is_whole (Err Spent) = true
+is_whole (Err LinkFault) = false
+is_whole (Err NoMemory) = false
+
+-- The effects of a run with this answer are those of the session machine, in its order.
+pub record Carries (effects : List Effect) (answer : Result (Unit {0}) ServeFault) : Type 0 where
+  -- at each point of the run
+  pub on_script : IsOnScript effects
+  -- where no fault cut the run short, all was done
+  pub all_done : is_whole answer ≡ true → deeds effects ≡ deeds_in (script (heard effects))
+  -- Ok is the machine's own end
+  pub ended : IsOk answer → has_finish (script (heard effects)) ≡ true
+
+-- the first n of the events to come, and End for each that isn't there
+abbrev pub next_events : ℕ → List Event → List Event
+next_events zero coming = []
+next_events (suc n) coming = next_of coming ∷ next_events n (drop 1 coming)
+
+-- what was heard is the first of the events to come, where these are told
+abbrev pub Brought : Option (List Event) → List Event → Type 0
+Brought None events = Unit {0}
+Brought (Some coming) events = events ≡ next_events (length events) coming
+
+abbrev pub item_of : Effect → List Item
+item_of (Heard event) = Came event ∷ []
+item_of (Sent conn bytes) = Did (Sends conn bytes) ∷ []
+item_of (Shut conn) = Did (Shuts conn) ∷ []
+item_of (Started command succeeded) = Did (Starts command) ∷ []
+item_of (Wrote at bytes) = []
+item_of (Torn at length) = []
+item_of Synced = []
+item_of SyncFailed = []
+item_of (Published path bytes) = []
+item_of (Printed text) = Did (Prints text) ∷ []
+
+-- what a list of effects shows, in its order
+abbrev pub items : List Effect → List Item
+items effects = flat_map item_of effects
+
+-- What a call of the engine adds: a run of the session machine over the events that it was brought.
+pub record Serves (coming : Option (List Event)) (turns : ℕ) (answer : Result (Unit {0}) ServeFault) (effects : List Effect) : Type 0 where
+  pub carries : Carries effects answer
+  pub brought : Brought coming (heard effects)
+  -- events and deeds stand in the machine's order
+  pub in_order : is_whole answer ≡ true → items effects ≡ run (heard effects)
+  -- no more is heard than was granted
+  pub in_turns : length (heard effects) ≤ turns
+  -- the turns are spent where so many events were heard and none ended the run
+  pub spent : IsErrOf answer Spent → (length (heard effects) ≡ turns) × (has_finish (script (heard effects)) ≡ false)
+
+-- Some list of effects was added, and it is such that P holds. Where the world tells, it is the list that the world tells.
+pub record Added (old new : Option (List Effect)) (P : List Effect → Type 0) : Type 0 where
+  pub effects : List Effect
+  pub added : new ≡ adds old effects
+  pub holds : P effects
+
+-- no count fell
+pub record NotFallen (old new : Faults) : Type 0 where
+  pub disk : old.disk ≤ new.disk
+  pub links : old.links ≤ new.links
+  pub spawner : old.spawner ≤ new.spawner
+  pub console : old.console ≤ new.console
+
+-- why a call on the links did nothing, as a fault of the run
+abbrev pub fault_of : Failure → ServeFault
+fault_of Failed = LinkFault
+fault_of OutOfMemory = NoMemory
+
+-- the device's fault comes only where its count rose
+abbrev pub HasCause : Faults → Faults → ServeFault → Type 0
+HasCause old new LinkFault = Rose old.links new.links
+HasCause old new Spent = Unit {0}
+HasCause old new NoMemory = Unit {0}
+
+-- Effects that do all but the acts that are left, and hear and publish nothing.
+pub record Going (all left : List Act) (effects : List Effect) : Type 0 where
+  pub deaf : heard effects ≡ []
+  pub quiet : published effects ≡ []
+  pub done : List Act
+  pub parts : done ++ left ≡ all
+  pub so_far : deeds effects ≡ deeds_in done
+  pub in_order : items effects ≡ map Did (deeds effects)
+
+-- Effects that do the acts in order, and all of them where `whole` holds.
+pub record CarriesOut (acts : List Act) (whole : Bool) (effects : List Effect) : Type 0 where
+  pub left : List Act
+  pub going : Going acts left effects
+  pub none_left : whole ≡ true → left ≡ []

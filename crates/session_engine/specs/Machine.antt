@@ -1,0 +1,162 @@
+-- The session machine: what is done about each event, said over the whole streams of the connections.
+use Rattle.std.specs.Prelude.{ℕ, ◌+◌, length, nat_lt, Bool, true, false, List, [], ◌∷◌, ◌++◌, map, Option, Some, None, nat_eq, if◌then◌else◌}
+use Rattle.std.specs.List.{flat_map}
+use Rattle.sm_world.specs.declared.events.Event.{Event}
+use Rattle.sm_world.specs.declared.events.Event.TheVariants.{Joined, Piece, Gone, Operator, Tick, End}
+use Rattle.sm_world.specs.Effects.{Deed, Sends, Shuts}
+use Rattle.ice_values.specs.declared.numbers.Endian.TheVariants.{Lsb}
+use Rattle.ice_messages.specs.Messages.{canon}
+use Rattle.ice_messages.specs.declared.message.IceMessage.{IceMessage}
+use Rattle.ice_messages.specs.declared.message.IceMessage.TheVariants.{ByteOrder, Error}
+use Rattle.session_engine.specs.Answers.{answer_to, sequence_after}
+use Rattle.session_engine.specs.Streams.{Part, new_parts}
+use Rattle.session_engine.specs.declared.answers.Stage.{Stage}
+use Rattle.session_engine.specs.declared.answers.Stage.TheVariants.{AwaitOrder, AwaitSetup}
+use Rattle.session_engine.specs.declared.answers.Answer.{Answer}
+use Rattle.session_engine.specs.declared.answers.Answer.TheVariants.{Silent, Send, Refuse, Close}
+
+-- what the machine does: a deed, or the end of the run
+pub data Act : Type 0 where
+  Does : Deed → Act
+  Finish : Act
+
+-- a live connection: its number, all the bytes that came on it, how many parts of them were taken, and how far it has come
+pub record Connection : Type 0 where
+  pub number : ℕ
+  pub stream : List ℕ
+  pub taken : ℕ
+  pub stage : Stage
+
+-- the live connections, in the order in which they joined
+pub record Machine : Type 0 where
+  pub connections : List Connection
+
+-- what is done, and the machine afterwards
+pub record Step : Type 0 where
+  pub acts : List Act
+  pub next : Machine
+
+-- before anything came
+abbrev pub start : Machine
+start = record { connections = [] }
+
+abbrev pub connection_of : ℕ → List Connection → Option Connection
+connection_of c [] = None
+connection_of c (k ∷ ks) = if nat_eq k.number c then Some k else connection_of c ks
+
+abbrev pub changed : (Connection → Connection) → ℕ → List Connection → List Connection
+changed f c [] = []
+changed f c (k ∷ ks) = (if nat_eq k.number c then f k else k) ∷ changed f c ks
+
+abbrev pub without : ℕ → List Connection → List Connection
+without c [] = []
+without c (k ∷ ks) = if nat_eq k.number c then without c ks else k ∷ without c ks
+
+-- so many connections can be live
+abbrev pub live_limit : ℕ
+live_limit = 64
+
+-- a connection that just joined
+abbrev pub joined : ℕ → Connection
+joined c = record { number = c; stream = []; taken = 0; stage = AwaitOrder }
+
+-- after more bytes came
+abbrev pub fed_with : List ℕ → Connection → Connection
+fed_with bytes k = record k { stream = k.stream ++ bytes }
+
+-- after one more part was taken; behind the first it awaits its set-up
+abbrev pub counted : Connection → Connection
+counted k = record k { taken = k.taken + 1; stage = AwaitSetup }
+
+-- nothing is done, and nothing changes but the machine
+abbrev pub stays : Machine → Step
+stays m = record { acts = []; next = m }
+
+-- these acts, and then that step
+abbrev pub behind : List Act → Step → Step
+behind acts step = record { acts = acts ++ step.acts; next = step.next }
+
+-- the manager writes its messages least significant byte first, with zeros in unused bytes
+abbrev pub sends : ℕ → IceMessage → List Act
+sends c message = Does (Sends c (canon Lsb message)) ∷ []
+
+-- a connection is closed, and no longer live
+abbrev pub shuts : Machine → ℕ → Step
+shuts m c = record { acts = Does (Shuts c) ∷ []; next = record m { connections = without c m.connections } }
+
+-- the answer to a part of the stream of a live connection
+abbrev pub answered : Machine → ℕ → Answer → Step
+answered m c Silent = stays m
+answered m c (Send message) = record { acts = sends c message; next = m }
+answered m c (Refuse error) = behind (sends c (Error error)) (shuts m c)
+answered m c Close = shuts m c
+
+-- what follows a shut is dropped
+abbrev pub part_for : Machine → ℕ → Part → Option Connection → Step
+part_for m c part None = stays m
+part_for m c part (Some k) = answered (record m { connections = changed counted c m.connections }) c (answer_to k.stage (sequence_after k.taken) part)
+
+abbrev pub part_taken : Machine → ℕ → Part → Step
+part_taken m c part = part_for m c part (connection_of c m.connections)
+
+-- parts are taken one by one
+abbrev pub parts_taken : Machine → ℕ → List Part → Step
+parts_taken m c [] = stays m
+parts_taken m c (part ∷ parts) = behind (part_taken m c part).acts (parts_taken (part_taken m c part).next c parts)
+
+-- a piece on a live connection brings the parts that it makes whole
+abbrev pub piece_for : Machine → ℕ → List ℕ → Option Connection → Step
+piece_for m c bytes None = stays m
+piece_for m c bytes (Some k) = parts_taken (record m { connections = changed (fed_with bytes) c m.connections }) c (new_parts k.stream bytes)
+
+-- a new connection is sent the manager's ByteOrder, or closed at once where 64 are live
+abbrev pub join_for : Machine → ℕ → Option Connection → Step
+join_for m c None =
+    if nat_lt (length m.connections) live_limit
+    then record { acts = sends c (ByteOrder Lsb); next = record m { connections = m.connections ++ joined c ∷ [] } }
+    else record { acts = Does (Shuts c) ∷ []; next = m }
+join_for m c (Some k) = stays m
+
+abbrev pub step : Machine → Event → Step
+step m (Joined c) = join_for m c (connection_of c m.connections)
+step m (Piece c bytes) = piece_for m c bytes (connection_of c m.connections)
+step m (Gone c) = stays (record m { connections = without c m.connections })
+step m (Operator order) = stays m
+step m (Tick milliseconds) = stays m
+step m End = record { acts = Finish ∷ []; next = m }
+
+abbrev pub is_finish : Act → Bool
+is_finish (Does deed) = false
+is_finish Finish = true
+
+abbrev pub has_finish : List Act → Bool
+has_finish [] = false
+has_finish (act ∷ acts) = if is_finish act then true else has_finish acts
+
+abbrev pub deed_in : Act → List Deed
+deed_in (Does deed) = deed ∷ []
+deed_in Finish = []
+
+abbrev pub deeds_in : List Act → List Deed
+deeds_in acts = flat_map deed_in acts
+
+-- The acts that the machine gives for a list of events. After Finish nothing follows.
+abbrev pub script_from : Machine → List Event → List Act
+script_from m [] = []
+script_from m (event ∷ events) = (step m event).acts ++ (if has_finish (step m event).acts then [] else script_from (step m event).next events)
+
+abbrev pub script : List Event → List Act
+script events = script_from start events
+
+-- what the run shows, in its order: an event came, or a deed was done
+pub data Item : Type 0 where
+  Came : Event → Item
+  Did : Deed → Item
+
+abbrev pub run_from : Machine → List Event → List Item
+run_from m [] = []
+run_from m (event ∷ events) = Came event ∷ (map Did (deeds_in (step m event).acts) ++ (if has_finish (step m event).acts then [] else run_from (step m event).next events))
+
+-- each event followed by its deeds, up to the end of the run
+abbrev pub run : List Event → List Item
+run events = run_from start events

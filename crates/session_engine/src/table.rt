@@ -1,0 +1,83 @@
+ghost use Rattle.std.specs.Prelude.{◌≡◌, ◌≢◌, ℕ, ◌+◌, [], None, Some, is_some, nat_lt, IfSome, IfOk, OnOk, if◌then◌else◌, IsTrue, not};
+ghost use Rattle.session_engine.specs.Answers.{CanBeSaid};
+ghost use Rattle.session_engine.specs.Cutting.{IsNewRow};
+ghost use Rattle.session_engine.specs.Machine.{live_limit};
+ghost use Rattle.session_engine.specs.Rows.{row_at, row_count, ChangesRow, CutsAt};
+ghost use Rattle.session_engine.specs.declared.row.Row.{Row};
+
+use crate::row::{Answered, Row};
+use sm_world::{Conn, NoMemory};
+use std::alloc::Global;
+use std::collections::BTreeMap;
+
+/// How many connections can be live.
+const LIVE_LIMIT: usize = 64;
+
+/// The live connections by their numbers.
+#[derive(Debug, Drop)]
+pub struct Table {
+    rows: BTreeMap<Conn, Row>,
+}
+
+impl Table {
+    pub fn new(alloc: Global) -> Table
+        ensures rows { (q : ℕ) → row_at result q ≡ None }
+        ensures count { row_count result ≡ 0 }
+    {
+        Table {
+            rows: BTreeMap::new(alloc),
+        }
+    }
+
+    pub fn is_live(&self, conn: Conn) -> bool
+        ensures { result ≡ is_some (row_at self.now conn) }
+    {
+        self.rows.contains_key(&conn)
+    }
+
+    /// As many connections are live as can be.
+    pub fn is_full(&self) -> bool
+        ensures { nat_lt (row_count self.now) live_limit ≡ not result }
+    {
+        self.rows.len() >= LIVE_LIMIT
+    }
+
+    /// Makes a connection live that isn't.
+    pub fn join(&mut self, alloc: Global, conn: Conn) -> Result<(), NoMemory>
+        requires { row_at self.old conn ≡ None }
+        ensures row { OnOk result ((row : Row) × IsNewRow row × ChangesRow self.old self.new conn (Some row)) }
+        ensures count { OnOk result (row_count self.new ≡ row_count self.old + 1) }
+    {
+        let row = Row::new(alloc)?;
+        self.rows.insert(conn, row)?;
+        Ok(())
+    }
+
+    /// Takes the rest of a piece up to the end of the first frame. `None` where it completes no
+    /// frame, or the connection isn't live.
+    pub fn cut(
+        &mut self,
+        alloc: Global,
+        conn: Conn,
+        left: &[u8],
+    ) -> Result<Option<Answered>, NoMemory>
+        ensures cut { IfOk result (λ answered. CutsAt (row_at self.old conn) left.now answered (row_at self.new conn)) }
+        ensures said { IfOk result (λ answered. IfSome answered (λ part. CanBeSaid part.answer)) }
+        ensures others { OnOk result ((q : ℕ) → q ≢ conn → row_at self.new q ≡ row_at self.old q) }
+        ensures count { OnOk result (row_count self.new ≡ row_count self.old) }
+    {
+        let Some(row) = self.rows.get_mut(&conn) else {
+            return Ok(None);
+        };
+        let answered = row.cut(alloc, left)?;
+        Ok(answered)
+    }
+
+    /// Takes a connection out, if it is live.
+    pub fn leave(&mut self, conn: Conn)
+        ensures row { ChangesRow self.old self.new conn None }
+        ensures count { row_count self.new + (if is_some (row_at self.old conn) then 1 else 0) ≡ row_count self.old }
+    {
+        self.rows.remove(&conn);
+    }
+}
