@@ -1,5 +1,5 @@
 -- One call after another: the effects that they add, and the acts that these do.
-use Rattle.std.proofs.Common.{◌≡◌, inl, inr, arith, ℕ, Bool, false, List, [], ◌∷◌, ◌++◌, Option, Some, None, Result, Ok, Err, is_ok, refl, sym, ◌∙◌, ap, append_assoc}
+use Rattle.std.proofs.Common.{◌≡◌, inl, inr, arith, ℕ, Bool, true, false, List, [], ◌∷◌, ◌++◌, Option, Some, None, Result, Ok, Err, is_ok, refl, sym, subst, ◌∙◌, ap, append_assoc}
 use Rattle.std.proofs.lemmas.List.{append-nil, map-append}
 use Rattle.std.proofs.lemmas.Bool.{false≢true}
 use Rattle.std.proofs.lemmas.Grind.{flat_map-append}
@@ -108,3 +108,18 @@ cause_later first second third LinkFault one (inl rose) = inl (omega (arith, one
 cause_later first second third LinkFault one (inr full) = inr full
 cause_later first second third Spent one cause = tt
 cause_later first second third NoMemory one cause = tt
+
+-- all of some acts, and then the acts behind them
+pub one_after_other : (acts rest : List Act) (whole : Bool) (old middle new : Option (List Effect)) → Added old middle (CarriesOut acts true) → Added middle new (CarriesOut rest whole) → Added old new (CarriesOut (acts ++ rest) whole)
+one_after_other acts rest whole old middle new one two =
+    let begun : Going (acts ++ rest) rest one.effects = rw (one.holds.none_left refl) at (going_on (acts ++ rest) acts rest one.holds.left [] one.effects (still (acts ++ rest)) one.holds.going) in
+    let begun_so : Going (acts ++ rest) (rest ++ []) one.effects = subst (λ left. Going (acts ++ rest) left one.effects) (sym (append-nil rest)) begun in
+    record {
+      effects = one.effects ++ two.effects;
+      added = two.added ∙ (ap (λ t. adds t two.effects) one.added ∙ adds-adds old one.effects two.effects);
+      holds = record {
+        left = two.holds.left;
+        going = subst (λ left. Going (acts ++ rest) left (one.effects ++ two.effects)) (append-nil two.holds.left) (going_on (acts ++ rest) rest [] two.holds.left one.effects two.effects begun_so two.holds.going);
+        none_left = two.holds.none_left;
+      };
+    }

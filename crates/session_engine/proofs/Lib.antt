@@ -3,3 +3,4 @@ pub mod Parts
 pub mod Connections
 pub mod Adding
 pub mod Pieces
+pub mod Tables

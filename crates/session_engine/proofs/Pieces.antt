@@ -58,7 +58,7 @@ live_as pending None (Some k) match = match
 live_as pending (Some row) None match = match
 live_as pending (Some row) (Some k) match = tt
 
-live_at : (c : ℕ) (pending : ℕ → List ℕ) (table : Table) (m : Machine) → Matches (pending c) (row_at table c) (connection_of c m.connections) → ((q : ℕ) → (q ≡ c → ⊥) → Matches (pending q) (row_at table q) (connection_of q m.connections)) → (q : ℕ) → Matches (pending q) (row_at table q) (connection_of q m.connections)
+pub live_at : (c : ℕ) (pending : ℕ → List ℕ) (table : Table) (m : Machine) → Matches (pending c) (row_at table c) (connection_of c m.connections) → ((q : ℕ) → (q ≡ c → ⊥) → Matches (pending q) (row_at table q) (connection_of q m.connections)) → (q : ℕ) → Matches (pending q) (row_at table q) (connection_of q m.connections)
 live_at c pending table m here elsewhere q = elim (cases_eq q c) [
   inl e ↦ let P : ℕ → Type 0 = λ n. Matches (pending n) (row_at table n) (connection_of n m.connections) in subst P (sym e) here |
   inr apart ↦ elsewhere q apart
@@ -289,7 +289,7 @@ answering_by all c left old now table after answered_so (Some row) (Some k) is_r
           };
           going = record { effects = taking.going.effects; added = taking.going.added; holds = rw (to_come, taken_so) at taking.going.holds };
           next = rw (to_come, taken_so) at taking.next;
-          rest_is = λ keeps r r_is. ap (λ (r : Row). parts_at (fed r.splitter (drop answered_so.taken left))) (the_row changed_row r (sym changed_is ∙ r_is));
+          rest_is = λ keeps r r_is. ap (λ (r : Row). parts_at (fed r.splitter (drop answered_so.taken left))) (sym (the_row changed_row r (sym changed_is ∙ r_is)));
         } |
       inr others_so ↦ elim others_so [
         inl header ↦
@@ -312,3 +312,61 @@ answering_by all c left old now table after answered_so (Some row) (Some k) is_r
         inr waits ↦ absurd (some_is_not_none answered_so waits.answered_is)
       ]
     ]
+
+-- a part of the piece is whole
+pub answering : (all : Step) (c : ℕ) (left : List ℕ) (old now : Option (List Effect)) (table after : Table) (answered_so : Answered) → Taking all c left old now table → CutsAt (row_at table c) left (Some answered_so) (row_at after c) → ((q : ℕ) → q ≢ c → row_at after q ≡ row_at table q) → row_count after ≡ row_count table → Answering all c (drop answered_so.taken left) old now after answered_so.answer
+answering all c left old now table after answered_so taking cut others count =
+    answering_by all c left old now table after answered_so (row_at table c) (connection_of c taking.machine.connections) refl taking refl cut (rw (to_cut-same c left) at (taking.shows.rows c)) others count
+
+-- what is still to come is the parts of the rest, where the connection is live
+live_to_come : (m : Machine) (c : ℕ) (left : List ℕ) (rest : List Part) (before row : Option Row) → Matches left row (connection_of c m.connections) → HeldStays before row → ((r : Row) → before ≡ Some r → rest ≡ parts_at (fed r.splitter left)) → parts_taken m c (parts_to_come row left) ≡ parts_taken m c rest
+live_to_come m c left rest before None match stays_held rest_is = sym (parts_taken-not_live m c rest (none_shown left (connection_of c m.connections) match))
+live_to_come m c left rest None (Some row) match stays_held rest_is = elim stays_held [ ]
+live_to_come m c left rest (Some b) (Some row) match stays_held rest_is = rw (stays_held, rest_is b refl) refl
+
+-- what comes on a connection that was just closed brings nothing, whatever it is
+closed_to_come : (m : Machine) (c : ℕ) (parts rest : List Part) → parts_taken (record m { connections = without c m.connections }) c parts ≡ parts_taken (record m { connections = without c m.connections }) c rest
+closed_to_come m c parts rest =
+    let next : Machine = record m { connections = without c m.connections } in
+    let absent : connection_of c next.connections ≡ None = rw (connection_of-without c c m.connections, same c c refl) refl in
+    parts_taken-not_live next c parts absent ∙ sym (parts_taken-not_live next c rest absent)
+
+to_come_is : (answer : Answer) (m : Machine) (c : ℕ) (left : List ℕ) (rest : List Part) (before row : Option Row) → Matches left row (connection_of c (answered m c answer).next.connections) → HeldStays before row → (KeepsLive answer → (r : Row) → before ≡ Some r → rest ≡ parts_at (fed r.splitter left)) → parts_taken (answered m c answer).next c (parts_to_come row left) ≡ parts_taken (answered m c answer).next c rest
+to_come_is Silent m c left rest before row match stays_held rest_is = live_to_come m c left rest before row match stays_held (rest_is tt)
+to_come_is (Send message) m c left rest before row match stays_held rest_is = live_to_come m c left rest before row match stays_held (rest_is tt)
+to_come_is (Refuse error) m c left rest before row match stays_held rest_is = closed_to_come m c (parts_to_come row left) rest
+to_come_is Close m c left rest before row match stays_held rest_is = closed_to_come m c (parts_to_come row left) rest
+
+-- it was answered, and the rest of the piece follows
+pub went_on : (all : Step) (c : ℕ) (left : List ℕ) (old now later : Option (List Effect)) (table after : Table) (answer : Answer) → (whole : Answering all c left old now table answer) → Carried (to_cut c left) now later after (answered whole.machine c answer) true → ((q : ℕ) → HeldStays (row_at table q) (row_at after q)) → Taking all c left old later after
+went_on all c left old now later table after answer whole carried keeps =
+    let next : Machine = (answered whole.machine c answer).next in
+    let shows : Shows (to_cut c left) after next = carried.shows refl in
+    let to_come : parts_taken next c (parts_to_come (row_at after c) left) ≡ parts_taken next c whole.rest = to_come_is answer whole.machine c left whole.rest (row_at table c) (row_at after c) (rw (to_cut-same c left) at (shows.rows c)) (keeps c) whole.rest_is in
+    record {
+      machine = next;
+      shows = shows;
+      going = record {
+        effects = whole.going.effects ++ carried.acts.effects;
+        added = carried.acts.added ∙ (ap (λ t. adds t carried.acts.effects) whole.going.added ∙ adds-adds old whole.going.effects carried.acts.effects);
+        holds = rw (to_come) (rw (carried.acts.holds.none_left refl) at (going_on all.acts (answered whole.machine c answer).acts (parts_taken next c whole.rest).acts carried.acts.holds.left whole.going.effects carried.acts.effects whole.going.holds carried.acts.holds.going));
+      };
+      next = rw to_come whole.next;
+    }
+
+-- the run is cut short as it is answered
+pub cut_short : (all : Step) (c : ℕ) (left : List ℕ) (old now later : Option (List Effect)) (table after : Table) (answer : Answer) → (whole : Answering all c left old now table answer) → Carried (to_cut c left) now later after (answered whole.machine c answer) false → Carried all_cut old later after all false
+cut_short all c left old now later table after answer whole carried =
+    let next : Machine = (answered whole.machine c answer).next in
+    record {
+      acts = record {
+        effects = whole.going.effects ++ carried.acts.effects;
+        added = carried.acts.added ∙ (ap (λ t. adds t carried.acts.effects) whole.going.added ∙ adds-adds old whole.going.effects carried.acts.effects);
+        holds = record {
+          left = carried.acts.holds.left ++ (parts_taken next c whole.rest).acts;
+          going = going_on all.acts (answered whole.machine c answer).acts (parts_taken next c whole.rest).acts carried.acts.holds.left whole.going.effects carried.acts.effects whole.going.holds carried.acts.holds.going;
+          none_left = λ e. absurd (false≢true e);
+        };
+      };
+      shows = λ e. absurd (false≢true e);
+    }
