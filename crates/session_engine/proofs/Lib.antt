@@ -4,3 +4,6 @@ pub mod Connections
 pub mod Adding
 pub mod Pieces
 pub mod Tables
+pub mod Running
+pub mod Loop
+pub mod Events

@@ -202,18 +202,22 @@ some_is_not_none : (a : Answered) → Some a ≡ None → ⊥
 some_is_not_none a e = cc
 
 -- a part takes some of the rest of a piece
-pub shorter : (row : Option Row) (left : List ℕ) (answered_so : Answered) (after : Option Row) (k : Option Connection) → Matches left row k → CutsAt row left (Some answered_so) after → length (drop answered_so.taken left) < length left
-shorter None left answered_so after k match cut = absurd (some_is_not_none answered_so cut.0)
-shorter (Some row) left answered_so after k match (changed_row, changed_is, cut) =
-    elim (cut.ready (row_ready row left k match)) [
-      inl whole ↦ let taken_is : answered_so.taken ≡ whole.taken = ap (λ (a : Answered). a.taken) (some_is _ _ whole.answered_is) in
-        omega (arith, length-drop answered_so.taken left, whole.some, whole.within) |
-      inr others_so ↦ elim others_so [
-        inl header ↦ let taken_is : answered_so.taken ≡ length left = ap (λ (a : Answered). a.taken) (some_is _ _ header.answered_is) in
-          omega (arith, length-drop answered_so.taken left, header.some) |
-        inr waits ↦ absurd (some_is_not_none answered_so waits.answered_is)
-      ]
-    ]
+shorter_ready : (row : Row) (left : List ℕ) (answered_so : Answered) (after : Row) → CutsReady row left (Some answered_so) after → length (drop answered_so.taken left) < length left
+shorter_ready row left answered_so after (inl whole) =
+    let taken_is : answered_so.taken ≡ whole.taken = ap (λ (a : Answered). a.taken) (some_is _ _ whole.answered_is) in
+    omega (arith, length-drop answered_so.taken left, whole.some, whole.within)
+shorter_ready row left answered_so after (inr (inl header)) =
+    let taken_is : answered_so.taken ≡ length left = ap (λ (a : Answered). a.taken) (some_is _ _ header.answered_is) in
+    omega (arith, length-drop answered_so.taken left, header.some)
+shorter_ready row left answered_so after (inr (inr waits)) = absurd (some_is_not_none answered_so waits.answered_is)
+
+shorter_by : (b : Bool) (row : Row) (left : List ℕ) (answered_so : Answered) (after : Row) → row.spent ≡ b → CutsRow row left (Some answered_so) after → length (drop answered_so.taken left) < length left
+shorter_by true row left answered_so after spent cut = absurd (some_is_not_none answered_so (cut.nothing spent))
+shorter_by false row left answered_so after ready cut = shorter_ready row left answered_so after (cut.ready ready)
+
+pub shorter : (row : Option Row) (left : List ℕ) (answered_so : Answered) (after : Option Row) → CutsAt row left (Some answered_so) after → length (drop answered_so.taken left) < length left
+shorter None left answered_so after cut = absurd (some_is_not_none answered_so cut.0)
+shorter (Some row) left answered_so after (changed_row, changed_is, cut) = shorter_by row.spent row left answered_so changed_row refl cut
 
 -- A part of the piece is about to be answered.
 pub record Answering (all : Step) (c : ℕ) (left : List ℕ) (old now : Option (List Effect)) (table : Table) (answer : Answer) : Type 0 where

@@ -21,7 +21,7 @@ use Rattle.session_engine.specs.declared.answers.Answer.{Answer}
 use Rattle.session_engine.specs.declared.answers.Answer.TheVariants.{Silent, Send, Refuse, Close}
 use Rattle.session_engine.specs.declared.fault.ServeFault.{ServeFault}
 use Rattle.session_engine.proofs.Connections.{same, other, connection_of-without, connection_of-append, length-without, distinct-without, distinct-append}
-use Rattle.session_engine.proofs.Adding.{untouched, given_up, sent, was_shut, one_after_other}
+use Rattle.session_engine.proofs.Adding.{adds-none, untouched, given_up, sent, was_shut, one_after_other}
 use Rattle.session_engine.proofs.Pieces.{shows_by, live_at, live_as}
 
 live_some : (row : Option Row) (k : Option Connection) → IsLiveAs row k → is_some row ≡ is_some k
@@ -73,6 +73,10 @@ refused {X} {Y} m c error pending table after old middle new x result told added
 -- nothing was done of a step
 pub not_begun : (pending : ℕ → List ℕ) (old : Option (List Effect)) (after : Table) (step : Step) → Carried pending old old after step false
 not_begun pending old after step = record { acts = given_up step.acts old; shows = λ e. absurd (false≢true e) }
+
+-- the Error could not be sent
+pub not_refused : (m : Machine) (c : ℕ) (error : ErrorBody) (pending : ℕ → List ℕ) (after : Table) (old new : Option (List Effect)) → new ≡ adds old [] → Carried pending old new after (answered m c (Refuse error)) false
+not_refused m c error pending after old new none_sent = rw (none_sent ∙ adds-none old) (not_begun pending old after (answered m c (Refuse error)))
 
 -- a step that does nothing
 pub quiet : (pending : ℕ → List ℕ) (old : Option (List Effect)) (after : Table) (m : Machine) → Shows pending after m → Carried pending old old after (stays m) true

@@ -48,3 +48,5 @@ CutsReady row left answered after = AnswersFrame row left answered after ⊎ (An
 
 pub record CutsRow (row : Row) (left : List ℕ) (answered : Option Answered) (after : Row) : Type 0 where
   pub ready : row.spent ≡ false → CutsReady row left answered after
+  -- behind a header that states too much nothing is cut
+  pub nothing : row.spent ≡ true → answered ≡ None

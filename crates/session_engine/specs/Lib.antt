@@ -4,3 +4,4 @@ pub mod Cutting
 pub mod Machine
 pub mod Carries
 pub mod Rows
+pub mod Turns

@@ -5,7 +5,9 @@ mod answers;
 mod devices;
 mod fault;
 mod row;
+mod serving;
 mod table;
 
 pub use answers::{Answer, Stage};
 pub use fault::ServeFault;
+pub use serving::serve;

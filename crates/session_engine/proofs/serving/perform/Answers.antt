@@ -1,0 +1,11 @@
+use Rattle.session_engine.proofs.Tables.{silent, replied, refused, not_refused, closed}
+use Rattle.session_engine.proofs.serving.perform.Goals as goal
+
+pub returns-in-Silent-clause-carried : goal.returns-in-Silent-clause-carried
+returns-in-Silent-clause-carried g c = λ m pending shows. rw c.in-Silent.is (silent m c.args.conn pending c.args.table.now _ (rw c.in-Silent.is at shows))
+
+pub returns-in-Send-clause-carried : goal.returns-in-Send-clause-carried
+returns-in-Send-clause-carried g c = λ m pending shows. rw c.in-Send.is (replied m c.args.conn c.in-Send.message pending c.args.table.now _ _ c.send.result c.send.ensures.effects (rw c.in-Send.is at shows))
+
+pub returns-in-Close-clause-carried : goal.returns-in-Close-clause-carried
+returns-in-Close-clause-carried g c = λ m pending shows. rw c.in-Close.is (closed m c.args.conn pending c.args.table.now c.leave.new.self _ _ c.shut.result c.shut.ensures.effects c.leave.ensures.row c.leave.ensures.count (rw c.in-Close.is at shows))

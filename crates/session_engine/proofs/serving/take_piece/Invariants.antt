@@ -1,0 +1,18 @@
+use Rattle.std.proofs.Common.{◌≡◌, length}
+use Rattle.sm_world.specs.declared.events.Event.TheVariants.{Piece}
+use Rattle.session_engine.specs.Carries.{NotFallen}
+use Rattle.session_engine.specs.Machine.{Machine, step}
+use Rattle.session_engine.specs.Rows.{Shows, all_cut}
+use Rattle.session_engine.proofs.Pieces.{Taking}
+use Rattle.session_engine.proofs.serving.take_piece.Given as goal
+
+-- for each machine that the table showed before the piece
+abbrev pub invariant-loop-part : goal.invariant-loop-part
+invariant-loop-part g l = record {
+  taking : (m : Machine) → Shows all_cut l.fn.table m → Taking (step m (Piece l.conn l.bytes)) l.conn l.left (g.W.Told.outside l.fn.world).told (g.W.Told.outside l.world).told l.table;
+  coming : (g.W.Told.outside l.world).coming ≡ (g.W.Told.outside l.fn.world).coming;
+  counts : NotFallen (g.W.Told.outside l.fn.world).faults (g.W.Told.outside l.world).faults;
+}
+
+abbrev pub decreases-loop-part : goal.decreases-loop-part
+decreases-loop-part g l = length l.left
