@@ -24,3 +24,6 @@ pub use lists::{
 pub use memory::MemWorld;
 pub use outside::{Console, Links, Told};
 pub use steady::SteadyWorld;
+
+#[cfg(test)]
+mod tests;
