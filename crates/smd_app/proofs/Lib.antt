@@ -1,3 +1,4 @@
 pub mod Splitting
 pub mod LineLemmas
 pub mod ScriptLemmas
+pub mod TraceLemmas
