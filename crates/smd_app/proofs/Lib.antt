@@ -2,3 +2,4 @@ pub mod Splitting
 pub mod LineLemmas
 pub mod ScriptLemmas
 pub mod TraceLemmas
+pub mod InputLemmas

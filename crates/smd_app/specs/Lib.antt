@@ -2,3 +2,4 @@ pub mod Script
 pub mod Parts
 pub mod Faults
 pub mod Trace
+pub mod Input
