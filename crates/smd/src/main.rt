@@ -4,9 +4,8 @@
 mod adapter;
 
 use smd_app::smd_main;
-use std::env;
-use std::io;
 use std::process::ExitCode;
+use std::{env, io};
 
 fn main(rt: HostRuntime) -> io::Result<ExitCode> {
     let mut args = env::args(&rt)?;

@@ -1,3 +1,5 @@
 pub mod Splitting
 pub mod LineLemmas
 pub mod ScriptLemmas
+pub mod TraceLemmas
+pub mod InputLemmas
