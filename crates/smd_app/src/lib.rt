@@ -2,8 +2,10 @@
 #![tactic(auto)]
 
 mod console;
+mod fault;
 mod lines;
 mod program;
+mod rehearsal;
 mod script;
 mod trace;
 
