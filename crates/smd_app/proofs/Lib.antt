@@ -7,3 +7,4 @@ pub mod Heard
 pub mod Rehearsing
 pub mod Printing
 pub mod WordLemmas
+pub mod Excluding

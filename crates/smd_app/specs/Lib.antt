@@ -6,3 +6,4 @@ pub mod Input
 pub mod Rehearsals
 pub mod FaultLines
 pub mod Statuses
+pub mod Exclusions

@@ -3,10 +3,12 @@
 
 mod console;
 mod fault;
+mod laws;
 mod lines;
 mod program;
 mod rehearsal;
 mod script;
 mod trace;
 
+pub use laws::statuses_exclude_each_other;
 pub use program::smd_main;
