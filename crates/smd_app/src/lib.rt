@@ -8,6 +8,8 @@ mod lines;
 mod program;
 mod rehearsal;
 mod script;
+#[cfg(test)]
+mod tests;
 mod trace;
 
 pub use laws::statuses_exclude_each_other;
