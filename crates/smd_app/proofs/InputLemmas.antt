@@ -1,9 +1,6 @@
 -- The console's input, read in parts.
-use Rattle.std.proofs.Common.{◌≡◌, inl, inr, ℕ, ◌+◌, ◌-◌, ◌<◌, ◌≤◌, ◌^◌, List, [], ◌++◌, length, take, drop, Option, Some, None, Result, Ok, Err, IsErrOf, refl, sym, ◌∙◌, ap, subst, arith, append_assoc, length-append}
-use Rattle.sm_world.specs.Outside.{Outside, Rose, UsesConsole, KeepsFiles, Reads, Fills}
-use Rattle.sm_world.specs.declared.failures.Failure.{Failure}
-use Rattle.sm_world.specs.declared.failures.Failure.TheVariants.{Failed}
-use Rattle.smd_app.specs.Input.{TakesFront}
+use Rattle.std.proofs.Common.{◌≡◌, ℕ, ◌+◌, List, ◌++◌, length, Option, Some, None, Ok}
+use Rattle.sm_world.specs.Outside.{Outside, UsesConsole}
 
 -- the bytes so far are the front of the input, and the rest is left
 abbrev pub InputSoFar : Option (List ℕ) → Option (List ℕ) → List ℕ → Type 0

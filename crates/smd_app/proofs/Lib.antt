@@ -3,3 +3,8 @@ pub mod LineLemmas
 pub mod ScriptLemmas
 pub mod TraceLemmas
 pub mod InputLemmas
+pub mod Heard
+pub mod Rehearsing
+pub mod Printing
+pub mod WordLemmas
+pub mod Excluding

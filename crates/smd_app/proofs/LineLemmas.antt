@@ -5,7 +5,7 @@ use Rattle.sm_world.specs.declared.events.Event.TheVariants.{Joined, Piece, Gone
 use Rattle.smd_app.specs.Script.{Says, SaysPiece}
 use Rattle.smd_app.proofs.Splitting.{head_same}
 
-same_fields : (xs ys : List ℕ) → codes "piece " ++ xs ≡ codes "piece " ++ ys → xs ≡ ys
+pub same_fields : (xs ys : List ℕ) → codes "piece " ++ xs ≡ codes "piece " ++ ys → xs ≡ ys
 same_fields xs ys e = cc
 
 pub only_piece : (line fields : List ℕ) → line ≡ codes "piece " ++ fields → ((n : ℕ) (bytes : List ℕ) → SaysPiece fields n bytes → ⊥) → (event : Event) → Says line event → ⊥

@@ -9,11 +9,8 @@ use std::alloc::Global;
 const CHUNK: usize = 4096;
 
 /// Reads the console to the end of its input, but at most `limit` bytes.
-pub fn read_input<W: Console>(
-    alloc: Global,
-    world: &mut W,
-    limit: usize,
-) -> Result<Octets, Failure>
+#[tactic(auto, unfolding(crate::specs::Input::front))]
+pub fn read_input<W: Console>(alloc: Global, world: &mut W, limit: usize) -> Result<Octets, Failure>
     ensures effects { (W.outside world.new).told ≡ (W.outside world.old).told }
     ensures front { TakesFront limit (W.outside world.old).input result }
     ensures uses { UsesConsole (W.outside world.old) (W.outside world.new) result }
