@@ -1,20 +1,20 @@
 -- What decoding answers, over all messages.
-use Rattle.std.proofs.Common.{◌≡◌, ℕ, zero, suc, ◌<◌, ◌≤◌, Bool, false, List, [], ◌∷◌, ◌++◌, Result, Ok, Err, IfOk, IfErr, refl, sym, ap, ◌∙◌, subst, arith, slice_index, inl, inr}
-use Rattle.std.specs.Prelude.{eqb, slice_set, ◌⊎◌, Option, Some, None}
+use Rattle.std.proofs.Common.{◌≡◌, ℕ, zero, suc, ◌<◌, ◌≤◌, false, List, [], Result, Ok, Err, IfOk, IfErr, refl, sym, ◌∙◌, subst, arith, slice_index, inl, inr}
+use Rattle.std.specs.Prelude.{eqb, slice_set, ◌⊎◌, ◌↔◌}
 use Rattle.std.proofs.lemmas.Bool.{ne_eqb}
 use Rattle.std.proofs.lemmas.List.{append-nil}
-use Rattle.ice_values.specs.Cells.{byte, free, zeros, Begins}
-use Rattle.ice_values.specs.Fields.{ErrorFields}
-use Rattle.ice_values.specs.Frames.{IsFrame, Gives, first_wrong, IsChoice}
+use Rattle.ice_values.specs.Cells.{byte, free, Begins}
+use Rattle.ice_values.specs.Fields.{bool_number, order_number, severity_number}
+use Rattle.ice_values.specs.Frames.{IsFrame, Gives, IsChoice}
 use Rattle.ice_values.specs.declared.numbers.Endian.{Endian}
 use Rattle.ice_values.specs.declared.numbers.Endian.TheVariants.{Lsb, Msb}
 use Rattle.ice_values.specs.declared.severity.Severity.TheVariants.{CanContinue}
 use Rattle.ice_values.specs.declared.refusals.DecodeRefusal.{DecodeRefusal}
 use Rattle.ice_values.specs.declared.refusals.DecodeRefusal.TheVariants.{BadMinor, BadLength, BadValue, NoMemory}
-use Rattle.ice_values.proofs.CellLaws.{IsBytes, Begins-zeros, Begins-set, Begins-opened}
+use Rattle.ice_values.proofs.CellLaws.{IsBytes, Begins-zeros, Begins-set, Begins-opened, Begins-chosen}
 use Rattle.ice_values.proofs.HeaderLaws.{Header, minor_is}
 use Rattle.ice_values.proofs.BodyLaws.{ok_not_err}
-use Rattle.ice_messages.specs.Messages.{minor_of, layout, shape, enumerated, IsMessage, Spells, HasForm, canon, Refused}
+use Rattle.ice_messages.specs.Messages.{minor_of, layout, shape, enumerated, IsMessage, Spells, HasForm, HasChoice, canon, Refused}
 use Rattle.ice_messages.specs.Reading.{empty_at, byte_order_at, connection_setup_at, authentication_required_at, authentication_reply_at, authentication_next_phase_at, connection_reply_at, protocol_setup_at, protocol_reply_at, ice_error_at, decode_at}
 use Rattle.ice_messages.specs.declared.message.IceMessage.{IceMessage}
 use Rattle.ice_messages.specs.declared.message.IceMessage.TheVariants.{Error, ByteOrder, ConnectionSetup, AuthenticationRequired, AuthenticationReply, AuthenticationNextPhase, ConnectionReply, ProtocolSetup, ProtocolReply, Ping, PingReply, WantToClose, NoClose}
@@ -130,6 +130,31 @@ form_of_chosen e (ProtocolSetup opcode must protocol vendor release names offere
     (h.0, Begins-set 3 c.0 (shape (λ n. free 1) e (ProtocolSetup opcode must protocol vendor release names offered)) bytes [] refl (subst (λ (b : List ℕ). Begins (shape (λ n. free 1) e (ProtocolSetup opcode must protocol vendor release names offered)) b []) c.1 h.1))
 form_of_chosen e m bytes chosen c h = subst (λ (b : List ℕ). HasForm e m b) c h
 
+-- what has the form is spelled by some choice
+choice_of_form : (e : Endian) (m : IceMessage) (bytes : List ℕ) → HasForm e m bytes → HasChoice e m bytes
+choice_of_form Lsb (Error error) bytes h =
+    let n : ℕ = severity_number error.severity in
+    (slice_set bytes 9 n, (n, refl), (h.0, Begins-chosen 9 n (shape (λ n. free 1) Lsb (Error error)) bytes [] refl h.1))
+choice_of_form Msb (Error error) bytes h =
+    let n : ℕ = severity_number error.severity in
+    (slice_set bytes 9 n, (n, refl), (h.0, Begins-chosen 9 n (shape (λ n. free 1) Msb (Error error)) bytes [] refl h.1))
+choice_of_form e (ByteOrder order) bytes h =
+    let n : ℕ = order_number order in
+    (slice_set bytes 2 n, (n, refl), (h.0, Begins-chosen 2 n (shape (λ n. free 1) e (ByteOrder order)) bytes [] refl h.1))
+choice_of_form Lsb (ConnectionSetup must vendor release names offered) bytes h =
+    let n : ℕ = bool_number must in
+    (slice_set bytes 8 n, (n, refl), (h.0, Begins-chosen 8 n (shape (λ n. free 1) Lsb (ConnectionSetup must vendor release names offered)) bytes [] refl h.1))
+choice_of_form Msb (ConnectionSetup must vendor release names offered) bytes h =
+    let n : ℕ = bool_number must in
+    (slice_set bytes 8 n, (n, refl), (h.0, Begins-chosen 8 n (shape (λ n. free 1) Msb (ConnectionSetup must vendor release names offered)) bytes [] refl h.1))
+choice_of_form e (ProtocolSetup opcode must protocol vendor release names offered) bytes h =
+    let n : ℕ = bool_number must in
+    (slice_set bytes 3 n, (n, refl), (h.0, Begins-chosen 3 n (shape (λ n. free 1) e (ProtocolSetup opcode must protocol vendor release names offered)) bytes [] refl h.1))
+choice_of_form e m bytes h = (bytes, refl, h)
+
+pub form_is_choice : (e : Endian) (m : IceMessage) (bytes : List ℕ) → HasForm e m bytes ↔ HasChoice e m bytes
+form_is_choice e m bytes = (choice_of_form e m bytes, λ c. form_of_chosen e m bytes c.0 c.1 (has_form e m c.0 c.2))
+
 -- ---- all of it
 
 -- a message of each minor opcode that there is
@@ -189,9 +214,9 @@ pub decode_again : (e : Endian) (bytes : List ℕ) (m : IceMessage) → Spells e
 decode_again e bytes m h = decode_is e bytes m (minor_is e 0 (minor_of m) (layout byte e m).0 (layout byte e m).1 bytes h.1) ∙ branch_again e bytes m h
 
 -- no choice of the enumerated bytes spells what is refused for its length
-no_choice : (e : Endian) (bytes : List ℕ) → decode_at e bytes ≡ Err BadLength → (m : IceMessage) (chosen : List ℕ) → IsChoice (enumerated m) bytes chosen → Spells e m chosen → ⊥
-no_choice e bytes is m chosen choice spelled =
-    let formed = form_of_chosen e m bytes chosen choice (has_form e m chosen spelled) in
+no_choice : (e : Endian) (bytes : List ℕ) → decode_at e bytes ≡ Err BadLength → (m : IceMessage) → HasChoice e m bytes → ⊥
+no_choice e bytes is m choice =
+    let formed = form_of_chosen e m bytes choice.0 choice.1 (has_form e m choice.0 choice.2) in
     let minor = minor_is e 0 (minor_of m) (layout (λ n. free 1) e m).0 (layout (λ n. free 1) e m).1 bytes formed.1 in
     branch_formed e bytes m formed (sym (decode_is e bytes m minor) ∙ is)
 

@@ -1,29 +1,22 @@
 -- Every message is decoded where it is spelled, and every refusal has its cause.
-use Rattle.std.proofs.Common.{◌≡◌, ℕ, zero, suc, ◌+◌, ◌<◌, ◌≤◌, Bool, true, false, List, [], ◌∷◌, ◌++◌, length, cond, Option, Some, None, Result, Ok, Err, IfOk, IfErr, refl, sym, ap, ◌∙◌, subst, arith, slice_index, inl, inr}
-use Rattle.std.specs.Prelude.{eqb, slice_set, ◌⊎◌, ◌≢◌}
-use Rattle.std.specs.List.{AllByRecursion}
-use Rattle.std.proofs.lemmas.Bool.{ne_eqb}
-use Rattle.std.proofs.lemmas.List.{append-nil}
-use Rattle.ice_values.specs.Cells.{Cells, byte, free, zeros, Begins}
-use Rattle.ice_values.specs.Fields.{ErrorFields, IsText16, IsVersion, proof_data, IsProofData, spelling, bool_number, order_number}
+use Rattle.std.proofs.Common.{◌≡◌, ℕ, Bool, false, List, [], ◌∷◌, ◌++◌, Result, Ok, Err, refl, sym, ap, arith, slice_index}
+use Rattle.ice_values.specs.Cells.{byte, free, Begins}
+use Rattle.ice_values.specs.Fields.{ErrorFields, proof_data, IsProofData, spelling, bool_number, order_number}
 use Rattle.ice_values.specs.Reading.{proof_data_at, nothing_at, after_at}
-use Rattle.ice_values.specs.Frames.{◌>>=◌, IsFrame, Gives, GivesAs, body_at, means_at, bool_meaning, order_meaning, error_at, first_wrong, IsChoice}
+use Rattle.ice_values.specs.Frames.{◌>>=◌, body_at, means_at, bool_meaning, order_meaning, error_at}
 use Rattle.ice_values.specs.declared.numbers.Endian.{Endian}
-use Rattle.ice_values.specs.declared.numbers.Endian.TheVariants.{Lsb, Msb}
-use Rattle.ice_values.specs.declared.severity.Severity.TheVariants.{CanContinue}
-use Rattle.ice_values.specs.declared.version.Version.{Version}
+use Rattle.ice_values.specs.declared.numbers.Endian.TheVariants.{Lsb}
 use Rattle.ice_values.specs.declared.refusals.DecodeRefusal.{DecodeRefusal}
-use Rattle.ice_values.specs.declared.refusals.DecodeRefusal.TheVariants.{BadMinor, BadLength, BadValue, NoMemory}
-use Rattle.ice_values.proofs.CellLaws.{IsBytes, Begins-zeros, Begins-set, Begins-opened, Begins-marked, Begins-cell}
-use Rattle.ice_values.proofs.HeaderLaws.{Header, own_first, own_second, first_own, second_own, minor_is}
-use Rattle.ice_values.proofs.BodyLaws.{Whole, ok_not_err, err_not_ok}
+use Rattle.ice_values.specs.declared.refusals.DecodeRefusal.TheVariants.{BadLength}
+use Rattle.ice_values.proofs.CellLaws.{IsBytes, Begins-opened, Begins-marked, Begins-cell}
+use Rattle.ice_values.proofs.HeaderLaws.{Header, own_first, own_second, first_own, second_own}
 use Rattle.ice_values.proofs.EnumLaws.{Answered, answered_as, answered_plain, answered_meant, formed_meant, means_one, bool_enum, order_enum}
 use Rattle.ice_values.proofs.ErrorLaws.{SpellsError, HasErrorForm, error_answered, error_again, error_formed}
-use Rattle.ice_messages.specs.Messages.{minor_of, shape, enumerated, IsOffer, IsMessage, Spells, HasForm, canon, Refused}
-use Rattle.ice_messages.specs.Reading.{makers_at, offer_at, protocol_at, empty_at, byte_order_at, connection_setup_at, authentication_required_at, authentication_reply_at, authentication_next_phase_at, connection_reply_at, protocol_setup_at, protocol_reply_at, ice_error_at, decode_at}
+use Rattle.ice_messages.specs.Messages.{shape, enumerated, IsOffer, Spells, HasForm}
+use Rattle.ice_messages.specs.Reading.{makers_at, offer_at, protocol_at, empty_at, byte_order_at, connection_setup_at, authentication_required_at, authentication_reply_at, authentication_next_phase_at, connection_reply_at, protocol_setup_at, protocol_reply_at, ice_error_at}
 use Rattle.ice_messages.specs.declared.message.IceMessage.{IceMessage}
-use Rattle.ice_messages.specs.declared.message.IceMessage.TheVariants.{Error, ByteOrder, ConnectionSetup, AuthenticationRequired, AuthenticationReply, AuthenticationNextPhase, ConnectionReply, ProtocolSetup, ProtocolReply, Ping, PingReply, WantToClose, NoClose}
-use Rattle.ice_messages.proofs.Parts.{Makers, makers, IsMakers, Lists, lists, IsLists, offer, IsOfferOf, protocol, IsProtocolOf, nothing_law, proof_law, makers_law, offer_law, protocol_law}
+use Rattle.ice_messages.specs.declared.message.IceMessage.TheVariants.{Error, ByteOrder, AuthenticationRequired, AuthenticationReply, AuthenticationNextPhase, ConnectionReply, ProtocolReply}
+use Rattle.ice_messages.proofs.Parts.{Makers, makers, IsMakers, Lists, IsLists, offer, IsOfferOf, protocol, IsProtocolOf, nothing_law, proof_law, makers_law, offer_law, protocol_law}
 use Rattle.ice_messages.proofs.Setups.{form, setup_of, setup_in, setup_out, setup_marked, setup_opened, protocol_of, protocol_in, protocol_out}
 
 -- what reading the bytes may answer

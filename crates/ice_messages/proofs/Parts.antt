@@ -1,8 +1,8 @@
 -- The bodies of messages are read exactly.
-use Rattle.std.proofs.Common.{◌≡◌, ℕ, List, [], ◌++◌, length, Option}
-use Rattle.ice_values.specs.Cells.{Cells, free, Begins}
+use Rattle.std.proofs.Common.{ℕ, List, [], ◌++◌}
+use Rattle.ice_values.specs.Cells.{Cells, free}
 use Rattle.ice_values.specs.Fields.{text16, IsText16, version, IsVersion, texts, versions, IsCounted, proof_data, IsProofData}
-use Rattle.ice_values.specs.Reading.{text16_at, version_at, many_at, proof_data_at, nothing_at, pair_at, after_at}
+use Rattle.ice_values.specs.Reading.{text16_at, version_at, many_at, proof_data_at, nothing_at, after_at}
 use Rattle.ice_values.specs.Frames.{body_at}
 use Rattle.ice_values.specs.declared.numbers.Endian.{Endian}
 use Rattle.ice_values.specs.declared.version.Version.{Version}

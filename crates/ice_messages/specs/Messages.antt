@@ -1,5 +1,5 @@
 -- How each message is spelled, and which bytes are refused (ICE, chapter 7: Message Encoding).
-use Rattle.std.specs.Prelude.{◌≡◌, ◌≢◌, ℕ, ◌<◌, ◌^◌, List, [], ◌∷◌, ◌++◌, length, slice_index, Some, ◌⊎◌}
+use Rattle.std.specs.Prelude.{◌≡◌, ◌≢◌, ℕ, ◌<◌, List, [], ◌∷◌, ◌++◌, length, slice_index, Some, ◌⊎◌}
 use Rattle.std.specs.List.{AllByRecursion}
 use Rattle.ice_values.specs.Cells.{Cells, byte, free, zeros, Begins}
 use Rattle.ice_values.specs.Fields.{text16, IsText16, texts, versions, IsVersion, proof_data, IsProofData, bool_number, order_number, error_own, error_body, IsError, spelling}
@@ -94,12 +94,16 @@ HasForm e m bytes = IsMessage m × Begins (shape (λ n. free 1) e m) bytes []
 abbrev pub canon : Endian → IceMessage → List ℕ
 canon e m = zeros (shape byte e m)
 
+-- Some choice of the enumerated bytes makes the bytes a spelling of the message.
+abbrev pub HasChoice : Endian → IceMessage → List ℕ → Type 0
+HasChoice e m bytes = (chosen : List ℕ) × IsChoice (enumerated m) bytes chosen × Spells e m chosen
+
 -- Which refusal answers the bytes.
 abbrev pub Refused : Endian → List ℕ → DecodeRefusal → Type 0
 -- no message has their minor opcode
 Refused e bytes BadMinor = (m : IceMessage) → minor_of m ≢ slice_index bytes 1
 -- some message has it, and no choice of the enumerated bytes makes them a spelling
-Refused e bytes BadLength = ((m : IceMessage) × (minor_of m ≡ slice_index bytes 1)) × ((m : IceMessage) (chosen : List ℕ) → IsChoice (enumerated m) bytes chosen → Spells e m chosen → ⊥)
+Refused e bytes BadLength = ((m : IceMessage) × (minor_of m ≡ slice_index bytes 1)) × ((m : IceMessage) → HasChoice e m bytes → ⊥)
 -- some choice does, and this is the first enumerated byte without a meaning
 Refused e bytes (BadValue at len) = (len ≡ 1) × ((m : IceMessage) × HasForm e m bytes × (first_wrong (enumerated m) bytes ≡ Some at))
 Refused e bytes NoMemory = Unit {0}

@@ -1,7 +1,7 @@
-ghost use Rattle.std.specs.Prelude.{◌≡◌, ◌≤◌, ℕ, length, drop, slice_index, OnOk, IfOk, IfErr, Ok};
+ghost use Rattle.std.specs.Prelude.{◌≡◌, ◌≤◌, ◌↔◌, ℕ, length, drop, slice_index, OnOk, IfOk, IfErr, Ok};
 ghost use Rattle.ice_values.specs.Reading.{Answers, after_at, proof_data_at, nothing_at};
 ghost use Rattle.ice_values.specs.Frames.{body_at};
-ghost use Rattle.ice_messages.specs.Messages.{Spells, Refused, IsFrame, IsMessage, canon};
+ghost use Rattle.ice_messages.specs.Messages.{Spells, HasForm, HasChoice, Refused, IsFrame, IsMessage, canon};
 ghost use Rattle.ice_messages.specs.Reading.{Gives, makers_at, lists_at, offer_at, protocol_at, empty_at, byte_order_at, connection_setup_at, authentication_required_at, authentication_reply_at, authentication_next_phase_at, connection_reply_at, protocol_setup_at, protocol_reply_at, ice_error_at, decode_at};
 
 use crate::IceMessage;
@@ -318,6 +318,8 @@ pub fn decode_ice(alloc: Global, endian: Endian, frame: &[u8]) -> Result<IceMess
     ensures again { (message : _) → IsMessage message → frame.now ≡ canon endian message → Gives result (Ok message) }
     // Each refusal has its cause.
     ensures refused { IfErr result (λ refusal. Refused endian frame.now refusal) }
+    // The form of a message is what some choice of the enumerated bytes spells.
+    ensures form { (message : _) → HasForm endian message frame.now ↔ HasChoice endian message frame.now }
     // The same as a function of the bytes.
     ensures exact { Gives result (decode_at endian frame.now) }
 {

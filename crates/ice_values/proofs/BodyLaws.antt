@@ -1,16 +1,16 @@
 -- Whole bodies are read exactly.
-use Rattle.std.proofs.Common.{◌≡◌, ℕ, ◌+◌, ◌-◌, ◌%◌, ◌<◌, ◌≤◌, Bool, true, false, List, [], ◌∷◌, ◌++◌, length, drop, cond, Option, Some, None, Result, Ok, Err, refl, sym, ap, ◌∙◌, subst, arith, inl, inr}
+use Rattle.std.proofs.Common.{◌≡◌, ℕ, ◌<◌, Bool, true, false, List, [], length, drop, cond, Option, Some, None, Result, Ok, Err, refl, sym, subst, arith, inl, inr}
 use Rattle.std.specs.Prelude.{nat_lt, ◌⊎◌}
 use Rattle.std.proofs.lemmas.Bool.{lt-ltb, ltb-true}
-use Rattle.ice_values.specs.Cells.{Cells, free, Begins, pad_len}
+use Rattle.ice_values.specs.Cells.{Cells, free, Begins}
 use Rattle.ice_values.specs.Fields.{spelling}
 use Rattle.ice_values.specs.Frames.{◌>>=◌, cut, ended, body_at}
 use Rattle.ice_values.specs.declared.numbers.Endian.{Endian}
 use Rattle.ice_values.specs.declared.refusals.DecodeRefusal.{DecodeRefusal}
-use Rattle.ice_values.specs.declared.refusals.DecodeRefusal.TheVariants.{BadMinor, BadLength, BadValue, NoMemory}
+use Rattle.ice_values.specs.declared.refusals.DecodeRefusal.TheVariants.{BadLength}
 use Rattle.ice_values.proofs.CellLaws.{IsBytes-drop}
 use Rattle.ice_values.proofs.FieldLaws.{Exact}
-use Rattle.ice_values.proofs.HeaderLaws.{Header, Parts, spelled, parts_of, free_own}
+use Rattle.ice_values.proofs.HeaderLaws.{Header, spelled, parts_of, free_own}
 
 abbrev done : {A : Type 0} → A → Result A DecodeRefusal
 done x = Ok x
@@ -58,19 +58,19 @@ pub whole : {X : Type 0} (cells : X → Cells) (Fits : X → Type 0) (read : Lis
 unfolding body_at cut ended
 whole {X} cells Fits read e opcode minor exact = record {
   takes = λ bytes x h is. elim (body_cases read bytes (Ok x) is) [
-      | inl got ↦
+    | inl got ↦
         let same : got.0.0 ≡ x = ok_is got.0.0 x (sym got.3) in
         let part = exact.takes (drop 8 bytes) got.0.0 got.0.1 (IsBytes-drop 8 bytes h.fits) got.1 in
         subst (λ (y : X). Fits y × Begins (spelling e opcode minor (free 2) (cells y)) bytes []) same
-          (part.1, spelled e opcode minor (free 2) (cells got.0.0) bytes got.0.1 h (free_own bytes h.frame.header) part.0 got.2)
-      | inr none ↦ absurd (ok_not_err x BadLength none)
-    ];
+        (part.1, spelled e opcode minor (free 2) (cells got.0.0) bytes got.0.1 h (free_own bytes h.frame.header) part.0 got.2)
+    | inr none ↦ absurd (ok_not_err x BadLength none)
+  ];
   again = λ bytes x fits h.
       let parts = parts_of e opcode minor (free 2) (cells x) bytes refl h in
       let short : length parts.0 < 8 = omega (arith, parts.1.left) in
       rw (exact.again (drop 8 bytes) x parts.0 fits parts.1.body_at, lt-ltb (length parts.0) 8 short) refl;
   cuts = λ bytes d is. elim (body_cases read bytes (Err d) is) [
-      | inl got ↦ absurd (err_not_ok d got.0.0 got.3)
-      | inr none ↦ err_is {B = X} d BadLength none
-    ];
+    | inl got ↦ absurd (err_not_ok d got.0.0 got.3)
+    | inr none ↦ err_is {B = X} d BadLength none
+  ];
 }

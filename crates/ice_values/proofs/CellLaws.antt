@@ -1,5 +1,5 @@
 -- Spellings: where they begin, end, and have known or free bytes.
-use Rattle.std.proofs.Common.{◌≡◌, ℕ, zero, suc, ◌+◌, ◌-◌, ◌<◌, ◌≤◌, List, [], ◌∷◌, ◌++◌, length, take, drop, Option, Some, None, refl, sym, ap, ◌∙◌, subst, arith, slice_index, length-append}
+use Rattle.std.proofs.Common.{◌≡◌, ℕ, zero, suc, ◌+◌, ◌<◌, ◌≤◌, List, [], ◌∷◌, ◌++◌, length, drop, Option, Some, None, refl, sym, ap, ◌∙◌, subst, arith, slice_index}
 use Rattle.std.proofs.Common.{Fits, w8}
 use Rattle.std.specs.Prelude.{slice_set}
 use Rattle.ice_values.specs.Cells.{Cells, known, free, zeros, Begins}
@@ -165,3 +165,13 @@ Begins-set zero b (None ∷ cells) (x ∷ bytes) rest e h = h
 Begins-set zero b (Some c ∷ cells) (x ∷ bytes) rest e h = absurd cc
 Begins-set (suc at) b (None ∷ cells) (x ∷ bytes) rest e h = Begins-set at b cells bytes rest e h
 Begins-set (suc at) b (Some c ∷ cells) (x ∷ bytes) rest e h = (h.0, Begins-set at b cells bytes rest e h.1)
+
+-- a free byte may be chosen
+pub Begins-chosen : (at b : ℕ) (cells : Cells) (bytes rest : List ℕ) → cell_at at cells ≡ Some None → Begins cells bytes rest → Begins (marked at b cells) (slice_set bytes at b) rest
+Begins-chosen at b [] bytes rest e h = absurd (none_here None e)
+Begins-chosen at b (None ∷ cells) [] rest e h = absurd h
+Begins-chosen at b (Some c ∷ cells) [] rest e h = absurd h
+Begins-chosen zero b (None ∷ cells) (x ∷ bytes) rest e h = (refl, h)
+Begins-chosen zero b (Some c ∷ cells) (x ∷ bytes) rest e h = absurd cc
+Begins-chosen (suc at) b (None ∷ cells) (x ∷ bytes) rest e h = Begins-chosen at b cells bytes rest e h
+Begins-chosen (suc at) b (Some c ∷ cells) (x ∷ bytes) rest e h = (h.0, Begins-chosen at b cells bytes rest e h.1)

@@ -1,13 +1,12 @@
 -- Enumerated bytes: one law for all of them, and what a message's reading answers.
-use Rattle.std.proofs.Common.{◌≡◌, ℕ, zero, suc, ◌<◌, ◌≤◌, Bool, true, false, List, [], ◌∷◌, ◌++◌, Option, Some, None, Result, Ok, Err, cond, refl, sym, ap, ◌∙◌, subst, arith, inl, inr}
-use Rattle.std.specs.Prelude.{slice_index, ◌⊎◌, eqb, ◌==◌}
-use Rattle.std.proofs.lemmas.Bool.{lt-ltb, le-ltb, eqb-true, eq-eqb, ne_eqb, cases_eq, cases_lt}
+use Rattle.std.proofs.Common.{◌≡◌, ℕ, ◌<◌, ◌≤◌, true, false, List, [], ◌∷◌, ◌++◌, Option, Some, None, Result, Ok, Err, cond, refl, sym, ap, ◌∙◌, subst, arith, inl, inr}
+use Rattle.std.specs.Prelude.{slice_index, ◌⊎◌, eqb}
+use Rattle.std.proofs.lemmas.Bool.{lt-ltb, le-ltb, eq-eqb, ne_eqb, cases_eq, cases_lt}
 use Rattle.ice_values.specs.Cells.{Cells, Begins}
 use Rattle.ice_values.specs.Fields.{spelling, bool_number, order_number, severity_number}
 use Rattle.ice_values.specs.Frames.{◌>>=◌, or_bad, means_at, bool_meaning, order_meaning, severity_meaning, first_wrong}
 use Rattle.ice_values.specs.declared.numbers.Endian.{Endian}
 use Rattle.ice_values.specs.declared.numbers.Endian.TheVariants.{Lsb, Msb}
-use Rattle.ice_values.specs.declared.severity.Severity.{Severity}
 use Rattle.ice_values.specs.declared.severity.Severity.TheVariants.{CanContinue, FatalToProtocol, FatalToConnection}
 use Rattle.ice_values.specs.declared.refusals.DecodeRefusal.{DecodeRefusal}
 use Rattle.ice_values.specs.declared.refusals.DecodeRefusal.TheVariants.{BadMinor, BadLength, BadValue, NoMemory}
@@ -58,25 +57,25 @@ some_not_none a e = absurd cc
 first_wrong-append_none : (places others : List (ℕ × ℕ)) (bytes : List ℕ) → first_wrong places bytes ≡ None → first_wrong (places ++ others) bytes ≡ first_wrong others bytes
 first_wrong-append_none [] others bytes e = refl
 first_wrong-append_none (place ∷ places) others bytes e = elim (cases_lt (slice_index bytes place.0) place.1) [
-    | inr le ↦ absurd (some_not_none place.0 (sym (rw (le-ltb (slice_index bytes place.0) place.1 le) refl) ∙ e))
-    | inl lt ↦
+  | inr le ↦ absurd (some_not_none place.0 (sym (rw (le-ltb (slice_index bytes place.0) place.1 le) refl) ∙ e))
+  | inl lt ↦
       let here = lt-ltb (slice_index bytes place.0) place.1 lt in
       let rest : first_wrong places bytes ≡ None = sym (rw here refl) ∙ e in
       rw here (first_wrong-append_none places others bytes rest)
-  ]
+]
 
 first_wrong-append_some : (places others : List (ℕ × ℕ)) (bytes : List ℕ) (at : ℕ) → first_wrong places bytes ≡ Some at → first_wrong (places ++ others) bytes ≡ Some at
 first_wrong-append_some [] others bytes at e = absurd (none_not_some at e)
 first_wrong-append_some (place ∷ places) others bytes at e = elim (cases_lt (slice_index bytes place.0) place.1) [
-    | inr le ↦
+  | inr le ↦
       let here = le-ltb (slice_index bytes place.0) place.1 le in
       let first : ◌≡◌ {A = Option ℕ} (Some place.0) (Some at) = sym (rw here refl) ∙ e in
       rw here first
-    | inl lt ↦
+  | inl lt ↦
       let here = lt-ltb (slice_index bytes place.0) place.1 lt in
       let rest : first_wrong places bytes ≡ Some at = sym (rw here refl) ∙ e in
       rw here (first_wrong-append_some places others bytes at rest)
-  ]
+]
 
 bind_err : {A B : Type 0} (r : Result A DecodeRefusal) (f : A → Result B DecodeRefusal) (d : DecodeRefusal) → (r >>= f) ≡ Err d → (r ≡ Err d) ⊎ ((x : A) × (r ≡ Ok x) × (f x ≡ Err d))
 bind_err (Ok x) f d e = inr (x, refl, e)
@@ -92,23 +91,23 @@ means_both {A} {B} p q HasA HasB a b first second = record {
       let front = first.takes bytes h.0 h.1 in
       let back = second.takes bytes k.0 k.1 in
       subst (λ (z : A × B). (HasA z.0 bytes × HasB z.1 bytes) × (first_wrong (p ++ q) bytes ≡ None)) (ok_is (h.0, k.0) z k.2)
-        ((front.0, back.0), first_wrong-append_none p q bytes front.1 ∙ back.1);
+      ((front.0, back.0), first_wrong-append_none p q bytes front.1 ∙ back.1);
   again = λ bytes z has. rw (first.again bytes z.0 has.0, second.again bytes z.1 has.1) refl;
   bad = λ bytes d e. elim (bind_err (a bytes) (λ x. b bytes >>= λ y. Ok (x, y)) d e) [
-      | inl h ↦ let wrong = first.bad bytes d h in (wrong.0, wrong.1, first_wrong-append_some p q bytes wrong.0 wrong.2)
-      | inr h ↦ elim (bind_err (b bytes) (λ y. Ok (h.0, y)) d h.2) [
-          | inl k ↦ let wrong = second.bad bytes d k in (wrong.0, wrong.1, first_wrong-append_none p q bytes (first.takes bytes h.0 h.1).1 ∙ wrong.2)
-          | inr k ↦ absurd (ok_not_err (h.0, k.0) d k.2)
-        ]
-    ];
+    | inl h ↦ let wrong = first.bad bytes d h in (wrong.0, wrong.1, first_wrong-append_some p q bytes wrong.0 wrong.2)
+    | inr h ↦ elim (bind_err (b bytes) (λ y. Ok (h.0, y)) d h.2) [
+      | inl k ↦ let wrong = second.bad bytes d k in (wrong.0, wrong.1, first_wrong-append_none p q bytes (first.takes bytes h.0 h.1).1 ∙ wrong.2)
+      | inr k ↦ absurd (ok_not_err (h.0, k.0) d k.2)
+    ]
+  ];
 }
 
 -- a choice by a test of two numbers
 choice : {A : Type 0} (n k : ℕ) (x y z : A) → cond (eqb n k) x y ≡ z → ((n ≡ k) × (x ≡ z)) ⊎ ((n ≡ k → ⊥) × (y ≡ z))
 choice n k x y z e = elim (cases_eq n k) [
-    | inl same ↦ inl (same, sym (rw (eq-eqb n k same) refl) ∙ e)
-    | inr other ↦ inr (other, sym (rw (ne_eqb n k other) refl) ∙ e)
-  ]
+  | inl same ↦ inl (same, sym (rw (eq-eqb n k same) refl) ∙ e)
+  | inr other ↦ inr (other, sym (rw (ne_eqb n k other) refl) ∙ e)
+]
 
 some_is : {A : Type 0} (x y : A) → ◌≡◌ {A = Option A} (Some x) (Some y) → x ≡ y
 some_is x y e = cc
@@ -116,48 +115,48 @@ some_is x y e = cc
 pub bool_enum : IsEnum bool_meaning bool_number 2
 bool_enum = record {
   ok = λ n a e. elim (choice n 0 (Some false) _ (Some a) e) [
-      | inl h ↦ h.0 ∙ ap bool_number (some_is false a h.1)
-      | inr h ↦ elim (choice n 1 (Some true) None (Some a) h.1) [ inl k ↦ k.0 ∙ ap bool_number (some_is true a k.1) | inr k ↦ absurd (none_not_some a k.1) ]
-    ];
+    | inl h ↦ h.0 ∙ ap bool_number (some_is false a h.1)
+    | inr h ↦ elim (choice n 1 (Some true) None (Some a) h.1) [ inl k ↦ k.0 ∙ ap bool_number (some_is true a k.1) | inr k ↦ absurd (none_not_some a k.1) ]
+  ];
   again = λ a. elim a as (λ a. bool_meaning (bool_number a) ≡ Some a) [ false ↦ refl | true ↦ refl ];
   bad = λ n e. elim (choice n 0 (Some false) _ None e) [
-      | inl h ↦ absurd (some_not_none false h.1)
-      | inr h ↦ elim (choice n 1 (Some true) None None h.1) [ inl k ↦ absurd (some_not_none true k.1) | inr k ↦ omega (arith, h.0, k.0) ]
-    ];
+    | inl h ↦ absurd (some_not_none false h.1)
+    | inr h ↦ elim (choice n 1 (Some true) None None h.1) [ inl k ↦ absurd (some_not_none true k.1) | inr k ↦ omega (arith, h.0, k.0) ]
+  ];
   below = λ a. elim a as (λ a. bool_number a < 2) [ false ↦ omega arith | true ↦ omega arith ];
 }
 
 pub order_enum : IsEnum order_meaning order_number 2
 order_enum = record {
   ok = λ n a e. elim (choice n 0 (Some Lsb) _ (Some a) e) [
-      | inl h ↦ h.0 ∙ ap order_number (some_is Lsb a h.1)
-      | inr h ↦ elim (choice n 1 (Some Msb) None (Some a) h.1) [ inl k ↦ k.0 ∙ ap order_number (some_is Msb a k.1) | inr k ↦ absurd (none_not_some a k.1) ]
-    ];
+    | inl h ↦ h.0 ∙ ap order_number (some_is Lsb a h.1)
+    | inr h ↦ elim (choice n 1 (Some Msb) None (Some a) h.1) [ inl k ↦ k.0 ∙ ap order_number (some_is Msb a k.1) | inr k ↦ absurd (none_not_some a k.1) ]
+  ];
   again = λ a. elim a as (λ a. order_meaning (order_number a) ≡ Some a) [ Lsb ↦ refl | Msb ↦ refl ];
   bad = λ n e. elim (choice n 0 (Some Lsb) _ None e) [
-      | inl h ↦ absurd (some_not_none Lsb h.1)
-      | inr h ↦ elim (choice n 1 (Some Msb) None None h.1) [ inl k ↦ absurd (some_not_none Msb k.1) | inr k ↦ omega (arith, h.0, k.0) ]
-    ];
+    | inl h ↦ absurd (some_not_none Lsb h.1)
+    | inr h ↦ elim (choice n 1 (Some Msb) None None h.1) [ inl k ↦ absurd (some_not_none Msb k.1) | inr k ↦ omega (arith, h.0, k.0) ]
+  ];
   below = λ a. elim a as (λ a. order_number a < 2) [ Lsb ↦ omega arith | Msb ↦ omega arith ];
 }
 
 pub severity_enum : IsEnum severity_meaning severity_number 3
 severity_enum = record {
   ok = λ n a e. elim (choice n 0 (Some CanContinue) _ (Some a) e) [
-      | inl h ↦ h.0 ∙ ap severity_number (some_is CanContinue a h.1)
-      | inr h ↦ elim (choice n 1 (Some FatalToProtocol) _ (Some a) h.1) [
-          | inl k ↦ k.0 ∙ ap severity_number (some_is FatalToProtocol a k.1)
-          | inr k ↦ elim (choice n 2 (Some FatalToConnection) None (Some a) k.1) [ inl l ↦ l.0 ∙ ap severity_number (some_is FatalToConnection a l.1) | inr l ↦ absurd (none_not_some a l.1) ]
-        ]
-    ];
+    | inl h ↦ h.0 ∙ ap severity_number (some_is CanContinue a h.1)
+    | inr h ↦ elim (choice n 1 (Some FatalToProtocol) _ (Some a) h.1) [
+      | inl k ↦ k.0 ∙ ap severity_number (some_is FatalToProtocol a k.1)
+      | inr k ↦ elim (choice n 2 (Some FatalToConnection) None (Some a) k.1) [ inl l ↦ l.0 ∙ ap severity_number (some_is FatalToConnection a l.1) | inr l ↦ absurd (none_not_some a l.1) ]
+    ]
+  ];
   again = λ a. elim a as (λ a. severity_meaning (severity_number a) ≡ Some a) [ CanContinue ↦ refl | FatalToProtocol ↦ refl | FatalToConnection ↦ refl ];
   bad = λ n e. elim (choice n 0 (Some CanContinue) _ None e) [
-      | inl h ↦ absurd (some_not_none CanContinue h.1)
-      | inr h ↦ elim (choice n 1 (Some FatalToProtocol) _ None h.1) [
-          | inl k ↦ absurd (some_not_none FatalToProtocol k.1)
-          | inr k ↦ elim (choice n 2 (Some FatalToConnection) None None k.1) [ inl l ↦ absurd (some_not_none FatalToConnection l.1) | inr l ↦ omega (arith, h.0, k.0, l.0) ]
-        ]
-    ];
+    | inl h ↦ absurd (some_not_none CanContinue h.1)
+    | inr h ↦ elim (choice n 1 (Some FatalToProtocol) _ None h.1) [
+      | inl k ↦ absurd (some_not_none FatalToProtocol k.1)
+      | inr k ↦ elim (choice n 2 (Some FatalToConnection) None None k.1) [ inl l ↦ absurd (some_not_none FatalToConnection l.1) | inr l ↦ omega (arith, h.0, k.0, l.0) ]
+    ]
+  ];
   below = λ a. elim a as (λ a. severity_number a < 3) [ CanContinue ↦ omega arith | FatalToProtocol ↦ omega arith | FatalToConnection ↦ omega arith ];
 }
 
@@ -207,6 +206,7 @@ module _ {X : Type 0} (e : Endian) (opcode minor : ℕ) (own body : X → Cells)
           let wrong = means.bad bytes d is in
           let form = forms x fits begins in
           subst (λ (d : DecodeRefusal). Answered {M = M} Spelled Formed places bytes (Err d)) (sym wrong.1) (refl, (form.0, form.1, rw form.2 wrong.2))
+
       cases : (r : Result X DecodeRefusal) → read bytes ≡ r → Answered Spelled Formed places bytes (r >>= λ x. mean bytes >>= λ a. Ok (make x a))
       cases (Ok x) is = let got = law.takes bytes x h is in meant x got.0 got.1 (mean bytes) refl
       cases (Err d) is = subst (λ (d : DecodeRefusal). Answered {M = M} Spelled Formed places bytes (Err d)) (sym (law.cuts bytes d is)) tt

@@ -1,23 +1,23 @@
 -- An Error is read exactly, whatever protocol it is of.
-use Rattle.std.proofs.Common.{◌≡◌, ℕ, zero, suc, ◌+◌, ◌-◌, ◌*◌, ◌/◌, ◌%◌, ◌^◌, ◌<◌, ◌≤◌, Bool, true, false, List, [], ◌∷◌, ◌++◌, length, drop, cond, if◌then◌else◌, Option, Some, None, Result, Ok, Err, refl, sym, ap, ◌∙◌, subst, arith, slice_index, length-drop, length-append, inl, inr}
+use Rattle.std.proofs.Common.{◌≡◌, ℕ, ◌+◌, ◌%◌, ◌^◌, ◌<◌, ◌≤◌, Bool, true, false, List, [], ◌∷◌, ◌++◌, length, drop, cond, if◌then◌else◌, Some, Result, Ok, Err, refl, sym, ap, ◌∙◌, subst, arith, slice_index, length-drop, length-append, inl, inr}
 use Rattle.std.specs.Prelude.{nat_lt, ◌⊎◌}
 use Rattle.std.proofs.lemmas.Bool.{le-ltb, ltb-false}
 use Rattle.std.proofs.lemmas.List.{append-nil, drop-drop, nil_from_length}
-use Rattle.ice_values.specs.Cells.{Cells, byte, known, free, Begins, pad_len}
+use Rattle.ice_values.specs.Cells.{Cells, byte, known, free, Begins}
 use Rattle.ice_values.specs.Numbers.{number, number_bytes, card16, card32}
 use Rattle.ice_values.specs.Fields.{ErrorFields, error_own, error_body, IsError, severity_number, spelling}
 use Rattle.ice_values.specs.Reading.{card_at}
-use Rattle.ice_values.specs.Frames.{◌>>=◌, IsFrame, means_at, severity_meaning, error_at}
+use Rattle.ice_values.specs.Frames.{◌>>=◌, means_at, severity_meaning, error_at}
 use Rattle.ice_values.specs.declared.numbers.Endian.{Endian}
 use Rattle.ice_values.specs.declared.numbers.Endian.TheVariants.{Lsb, Msb}
 use Rattle.ice_values.specs.declared.severity.Severity.{Severity}
 use Rattle.ice_values.specs.declared.severity.Severity.TheVariants.{CanContinue}
 use Rattle.ice_values.specs.declared.refusals.DecodeRefusal.{DecodeRefusal}
 use Rattle.ice_values.specs.declared.refusals.DecodeRefusal.TheVariants.{BadLength}
-use Rattle.ice_values.proofs.CellLaws.{IsBytes-drop, Begins-append, Begins-split, Begins-known, from_known, Begins-free, Begins-drop, Begins-length, Begins-marked, Begins-opened, Begins-cell, length-known, length-free}
+use Rattle.ice_values.proofs.CellLaws.{IsBytes-drop, Begins-append, Begins-split, Begins-known, from_known, Begins-free, Begins-drop, Begins-marked, Begins-opened, Begins-cell, length-known, length-free}
 use Rattle.ice_values.proofs.NumberLaws.{length-number_bytes}
-use Rattle.ice_values.proofs.FieldLaws.{Exact, card2, card4, guard_some}
-use Rattle.ice_values.proofs.HeaderLaws.{Header, Parts, spelled, parts_of}
+use Rattle.ice_values.proofs.FieldLaws.{card2, card4, guard_some}
+use Rattle.ice_values.proofs.HeaderLaws.{Header, spelled, parts_of}
 use Rattle.ice_values.proofs.BodyLaws.{Whole, ok_is, err_is, ok_not_err, err_not_ok}
 use Rattle.ice_values.proofs.EnumLaws.{Answered, answered_meant, formed_meant, means_one, severity_enum}
 
@@ -61,8 +61,8 @@ rest_spelled e opcode bytes h le =
     let count : Begins (card32 e (number e 4 (drop 12 bytes))) (drop 12 bytes) (drop 16 bytes) = subst (λ (l : List ℕ). Begins (card32 e (number e 4 (drop 12 bytes))) (drop 12 bytes) l) (drop-drop 4 12 bytes) sequence.0 in
     let values : Begins (known (drop 16 bytes)) (drop 16 bytes) [] = Begins-known (drop 16 bytes) (drop 16 bytes) [] (sym (append-nil (drop 16 bytes))) in
     let body : Begins (rest_body e (rest_value e bytes)) (drop 8 bytes) [] =
-        Begins-append (free 4 ++ card32 e (number e 4 (drop 12 bytes))) (known (drop 16 bytes)) (drop 8 bytes) (drop 16 bytes) []
-          (Begins-append (free 4) (card32 e (number e 4 (drop 12 bytes))) (drop 8 bytes) (drop 12 bytes) (drop 16 bytes) gap count) values in
+    Begins-append (free 4 ++ card32 e (number e 4 (drop 12 bytes))) (known (drop 16 bytes)) (drop 8 bytes) (drop 16 bytes) []
+    (Begins-append (free 4) (card32 e (number e 4 (drop 12 bytes))) (drop 8 bytes) (drop 12 bytes) (drop 16 bytes) gap count) values in
     let whole : length (drop 16 bytes) % 8 ≡ 0 = omega (arith, length-drop 16 bytes, h.frame.units) in
     ((class.1, sequence.1, whole), spelled e opcode 0 (card16 e (number e 2 (drop 2 bytes))) (rest_body e (rest_value e bytes)) bytes [] h own body (omega arith))
 
@@ -78,7 +78,7 @@ rest_again e opcode bytes x fits h =
     let sequence = number_is e 4 b.0 x.1 a.0 ((card4 e).again b.0 x.1 a.0 fits.1 b.2) in
     let values : drop 16 bytes ≡ a.0 = sym (drop-drop 4 12 bytes) ∙ ap (drop 4) gap ∙ subst (λ (n : ℕ). drop n b.0 ≡ a.0) four (Begins-drop (card32 e x.1) b.0 a.0 b.2) in
     let size : length (rest_body e x) ≡ 8 + length x.2 =
-        omega (arith, length-append (free 4 ++ card32 e x.1) (known x.2), length-append (free 4) (card32 e x.1), length-free 4, four, length-known x.2) in
+    omega (arith, length-append (free 4 ++ card32 e x.1) (known x.2), length-append (free 4) (card32 e x.1), length-free 4, four, length-known x.2) in
     let none : length parts.0 ≡ 0 = omega (arith, parts.1.left, size, fits.2) in
     let ends : a.0 ≡ x.2 = from_known x.2 a.0 parts.0 a.2 ∙ ap (λ (l : List ℕ). x.2 ++ l) (nil_from_length parts.0 none) ∙ append-nil x.2 in
     let long : 4 ≤ length (drop 12 bytes) = subst (λ (l : List ℕ). 4 ≤ length l) (sym gap) sequence.0 in
@@ -88,18 +88,18 @@ rest_again e opcode bytes x fits h =
 rest_law : (e : Endian) (opcode : ℕ) → Whole e opcode 0 (rest_own e) (rest_body e) IsRest (rest_at e)
 rest_law e opcode = record {
   takes = λ bytes x h is. elim (rest_cases (nat_lt (length bytes) 16) (rest_value e bytes) (Ok x) is) [
-      | inl got ↦
+    | inl got ↦
         subst (λ (y : Rest). IsRest y × Begins (spelling e opcode 0 (rest_own e y) (rest_body e y)) bytes []) (ok_is (rest_value e bytes) x (sym got.1))
-          (rest_spelled e opcode bytes h (ltb-false (length bytes) 16 got.0))
-      | inr none ↦ absurd (ok_not_err x BadLength none)
-    ];
+        (rest_spelled e opcode bytes h (ltb-false (length bytes) 16 got.0))
+    | inr none ↦ absurd (ok_not_err x BadLength none)
+  ];
   again = λ bytes x fits h.
       let got = rest_again e opcode bytes x fits h in
       rw (le-ltb (length bytes) 16 got.0) (ap (λ (y : Rest). Ok y) got.1);
   cuts = λ bytes d is. elim (rest_cases (nat_lt (length bytes) 16) (rest_value e bytes) (Err d) is) [
-      | inl got ↦ absurd (err_not_ok d (rest_value e bytes) got.1)
-      | inr none ↦ err_is {B = Rest} d BadLength none
-    ];
+    | inl got ↦ absurd (err_not_ok d (rest_value e bytes) got.1)
+    | inr none ↦ err_is {B = Rest} d BadLength none
+  ];
 }
 
 -- ---- with its minor opcode and its severity
@@ -146,16 +146,19 @@ without_minor Msb opcode error bytes h =
 pub error_answered : (e : Endian) (opcode : ℕ) (bytes : List ℕ) → Header e opcode 0 bytes → Answered (SpellsError e opcode bytes) (HasErrorForm e opcode bytes) (λ error. (9, 3) ∷ []) bytes (error_at e bytes)
 error_answered e opcode bytes h =
     rw (error_is e bytes) (answered_meant e opcode 0 (rest_own e) (rest_body e) IsRest (rest_at e) (rest_law e opcode) (SpellsError e opcode bytes) (HasErrorForm e opcode bytes) (λ error. (9, 3) ∷ []) bytes
-      ((9, 3) ∷ []) (λ severity bytes. slice_index bytes 9 ≡ severity_number severity) (λ bytes. means_at severity_meaning bytes 9) (means_one severity_meaning severity_number 3 9 severity_enum) (made bytes) h
-      (λ x severity fits begins at. (fits, with_severity e opcode (made bytes x severity) bytes at (with_minor e opcode (slice_index bytes 8) x.0 x.1 x.2 bytes severity refl begins)))
-      (λ x fits begins. (made bytes x CanContinue, (fits, with_minor e opcode (slice_index bytes 8) x.0 x.1 x.2 bytes CanContinue refl begins), refl)))
+    ((9, 3) ∷ []) (λ severity bytes. slice_index bytes 9 ≡ severity_number severity) (λ bytes. means_at severity_meaning bytes 9) (means_one severity_meaning severity_number 3 9 severity_enum) (made bytes) h
+    (λ x severity fits begins at. (fits, with_severity e opcode (made bytes x severity) bytes at (with_minor e opcode (slice_index bytes 8) x.0 x.1 x.2 bytes severity refl begins)))
+    (λ x fits begins. (made bytes x CanContinue, (fits, with_minor e opcode (slice_index bytes 8) x.0 x.1 x.2 bytes CanContinue refl begins), refl)))
 
 pub error_again : (e : Endian) (opcode : ℕ) (bytes : List ℕ) (error : ErrorFields) → SpellsError e opcode bytes error → error_at e bytes ≡ Ok error
 error_again e opcode bytes error h =
     let severity = without_severity e opcode error bytes h.1 in
     let minor = without_minor e opcode error bytes severity.1 in
-    error_is e bytes ∙ rw ((rest_law e opcode).again bytes (error.class, error.sequence, error.values) h.0 minor.1,
-      (means_one severity_meaning severity_number 3 9 severity_enum).again bytes error.severity severity.0, minor.0) refl
+    error_is e bytes ∙ rw (
+      (rest_law e opcode).again bytes (error.class, error.sequence, error.values) h.0 minor.1,
+      (means_one severity_meaning severity_number 3 9 severity_enum).again bytes error.severity severity.0,
+      minor.0,
+    ) refl
 
 pub error_formed : (e : Endian) (opcode : ℕ) (bytes : List ℕ) (error : ErrorFields) → HasErrorForm e opcode bytes error → error_at e bytes ≡ Err BadLength → ⊥
 error_formed e opcode bytes error h is =

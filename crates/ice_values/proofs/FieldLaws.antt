@@ -1,7 +1,7 @@
 -- Readers of fields take exactly what is spelled.
-use Rattle.std.proofs.Common.{◌≡◌, ℕ, zero, suc, ◌+◌, ◌-◌, ◌^◌, ◌<◌, ◌≤◌, Bool, true, false, List, [], ◌∷◌, ◌++◌, length, take, drop, Option, Some, None, cond, refl, sym, ap, ◌∙◌, subst, arith, take-append-drop}
+use Rattle.std.proofs.Common.{◌≡◌, ℕ, ◌+◌, ◌^◌, ◌<◌, ◌≤◌, Bool, true, false, List, [], ◌++◌, length, take, drop, Option, Some, None, cond, refl, sym, ap, ◌∙◌, subst, arith, take-append-drop}
 use Rattle.std.specs.Prelude.{nat_lt}
-use Rattle.std.proofs.lemmas.Bool.{lt-ltb, le-ltb, ltb-false}
+use Rattle.std.proofs.lemmas.Bool.{le-ltb, ltb-false}
 use Rattle.std.proofs.lemmas.List.{take_at, drop_at, length-take-le}
 use Rattle.std.proofs.Common.{length-append}
 use Rattle.ice_values.specs.Cells.{Cells, known, free, Begins, pad_len}
@@ -40,7 +40,7 @@ pub bytes_taken : (n : ℕ) (bytes text rest : List ℕ) → bytes_at n bytes �
 bytes_taken n bytes text rest e =
     let h = enough n bytes (take n bytes, drop n bytes) (text, rest) e in
     subst (λ (y : List ℕ × List ℕ). Begins (known y.0) bytes y.1 × (length y.0 ≡ n)) h.1
-      (Begins-known (take n bytes) bytes (drop n bytes) (sym (take-append-drop n bytes)), length-take-le n bytes h.0)
+    (Begins-known (take n bytes) bytes (drop n bytes) (sym (take-append-drop n bytes)), length-take-le n bytes h.0)
 
 pub bytes_again : (bytes text rest : List ℕ) → Begins (known text) bytes rest → bytes_at (length text) bytes ≡ Some (text, rest)
 bytes_again bytes text rest h =
@@ -67,7 +67,7 @@ card e n back = record {
   takes = λ bytes x rest fits read.
       let h = enough n bytes (number e n bytes, drop n bytes) (x, rest) read in
       let front : Begins (known (number_bytes e n (number e n bytes))) bytes (drop n bytes) =
-          Begins-known (number_bytes e n (number e n bytes)) bytes (drop n bytes) (sym (take-append-drop n bytes) ∙ ap (λ (l : List ℕ). l ++ drop n bytes) (sym (back bytes h.0 fits))) in
+      Begins-known (number_bytes e n (number e n bytes)) bytes (drop n bytes) (sym (take-append-drop n bytes) ∙ ap (λ (l : List ℕ). l ++ drop n bytes) (sym (back bytes h.0 fits))) in
       subst (λ (y : ℕ × List ℕ). Begins (known (number_bytes e n y.0)) bytes y.1 × (y.0 < 256 ^ n)) h.1 (front, number-fits e n bytes fits);
   again = λ bytes x rest lt h.
       let is = from_known (number_bytes e n x) bytes rest h in
@@ -94,7 +94,7 @@ pair {A} {B} a FitsA read_a b FitsB read_b exact_a exact_b = record {
       let front = exact_a.takes bytes p.0.0 p.0.1 fits p.1 in
       let back = exact_b.takes p.0.1 q.0.0 q.0.1 (Begins-fits (a p.0.0) bytes p.0.1 front.0 fits) q.1 in
       subst (λ (y : (A × B) × List ℕ). Begins (a y.0.0 ++ b y.0.1) bytes y.1 × (FitsA y.0.0 × FitsB y.0.1)) (some_is ((p.0.0, q.0.0), q.0.1) (z, rest) q.2)
-        (Begins-append (a p.0.0) (b q.0.0) bytes p.0.1 q.0.1 front.0 back.0, (front.1, back.1));
+      (Begins-append (a p.0.0) (b q.0.0) bytes p.0.1 q.0.1 front.0 back.0, (front.1, back.1));
   again = λ bytes z rest fits h.
       let s = Begins-split (a z.0) (b z.1) bytes rest h in
       rw (exact_a.again bytes z.0 s.0 fits.0 s.1, exact_b.again s.0 z.1 rest fits.1 s.2) refl;
@@ -112,22 +112,6 @@ after n a Fits read exact = record {
   again = λ bytes x rest fits h.
       let s = Begins-split (free n) (a x) bytes rest h in
       rw (skip_again n bytes s.0 s.1) (exact.again s.0 x rest fits s.2);
-}
-
--- a reader of other values that are these
-pub through : {A B : Type 0} (a : A → Cells) (Fits : A → Type 0) (read : List ℕ → Option (A × List ℕ)) (b : B → Cells) (FitsB : B → Type 0) (read_b : List ℕ → Option (B × List ℕ)) (make : A → B) (part : B → A)
-    → ((y : B) → make (part y) ≡ y) → ((x : A) → (a x ≡ b (make x)) × (Fits x → FitsB (make x))) → ((y : B) → (b y ≡ a (part y)) × (FitsB y → Fits (part y)))
-    → ((bytes : List ℕ) → read_b bytes ≡ (read bytes >>= λ x. Some (make x.0, x.1)))
-    → Exact a Fits read → Exact b FitsB read_b
-through {A} {B} a Fits read b FitsB read_b make part same there back is exact = record {
-  takes = λ bytes y rest fits e.
-      let p = bind_some (read bytes) (λ x. Some (make x.0, x.1)) (y, rest) (sym (is bytes) ∙ e) in
-      let h = exact.takes bytes p.0.0 p.0.1 fits p.1 in
-      subst (λ (z : B × List ℕ). Begins (b z.0) bytes z.1 × FitsB z.0) (some_is (make p.0.0, p.0.1) (y, rest) p.2)
-        (subst (λ (cells : Cells). Begins cells bytes p.0.1) (there p.0.0).0 h.0, (there p.0.0).1 h.1);
-  again = λ bytes y rest fits h.
-      let got : read bytes ≡ Some (part y, rest) = exact.again bytes (part y) rest ((back y).1 fits) (subst (λ (cells : Cells). Begins cells bytes rest) (back y).0 h) in
-      is bytes ∙ rw (got, same y) refl;
 }
 
 -- a count of w bytes, free bytes, and that many bytes
@@ -173,7 +157,7 @@ version_exact e = record {
       let front = (card2 e).takes bytes p.0.0 p.0.1 fits p.1 in
       let back = (card2 e).takes p.0.1 q.0.0 q.0.1 (Begins-fits (card16 e p.0.0) bytes p.0.1 front.0 fits) q.1 in
       subst (λ (y : Version × List ℕ). Begins (version e y.0) bytes y.1 × IsVersion y.0) (some_is (version_of (p.0.0, q.0.0), q.0.1) (x, rest) q.2)
-        (Begins-append (card16 e p.0.0) (card16 e q.0.0) bytes p.0.1 q.0.1 front.0 back.0, (front.1, back.1));
+      (Begins-append (card16 e p.0.0) (card16 e q.0.0) bytes p.0.1 q.0.1 front.0 back.0, (front.1, back.1));
   again = λ bytes x rest fits h.
       let s = Begins-split (card16 e x.major) (card16 e x.minor) bytes rest h in
       rw ((card2 e).again bytes x.major s.0 fits.0 s.1, (card2 e).again s.0 x.minor rest fits.1 s.2) refl;

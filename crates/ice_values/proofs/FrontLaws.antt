@@ -1,7 +1,6 @@
 -- A value read at the front, and how many bytes it took.
-use Rattle.std.proofs.Common.{◌≡◌, ℕ, ◌+◌, ◌-◌, ◌<◌, ◌≤◌, List, length, drop, Option, Some, None, Result, Ok, Err, IfOk, refl, sym, ap, ◌∙◌, subst, arith}
-use Rattle.std.specs.Prelude.{IsErrOf}
-use Rattle.ice_values.specs.Cells.{Cells, Begins}
+use Rattle.std.proofs.Common.{◌≡◌, ℕ, ◌-◌, ◌≤◌, List, length, drop, Option, Some, None, Result, Ok, Err, IfOk, sym, ◌∙◌, arith}
+use Rattle.ice_values.specs.Cells.{Cells}
 use Rattle.ice_values.specs.Reading.{Answers, ReadsFront}
 use Rattle.ice_values.specs.declared.refusals.ValueRefusal.{ValueRefusal}
 use Rattle.ice_values.specs.declared.refusals.ValueRefusal.TheVariants.{TooLong, Short, NoMemory}

@@ -1,5 +1,5 @@
 -- A frame is a message's spelling where its header, its own bytes and its body are.
-use Rattle.std.proofs.Common.{◌≡◌, ℕ, zero, suc, ◌+◌, ◌-◌, ◌*◌, ◌/◌, ◌%◌, ◌<◌, ◌≤◌, List, [], ◌∷◌, ◌++◌, length, take, drop, refl, sym, ap, ◌∙◌, subst, arith, slice_index, take-append-drop, length-drop, length-append}
+use Rattle.std.proofs.Common.{◌≡◌, ℕ, ◌+◌, ◌-◌, ◌*◌, ◌/◌, ◌<◌, ◌≤◌, List, [], ◌∷◌, ◌++◌, length, drop, refl, sym, ap, ◌∙◌, subst, arith, slice_index, take-append-drop, length-drop}
 use Rattle.std.proofs.lemmas.List.{drop-drop}
 use Rattle.ice_values.specs.Cells.{Cells, byte, known, free, Begins, pad_len}
 use Rattle.ice_values.specs.Numbers.{number, number_bytes, card32}
@@ -32,20 +32,20 @@ spelled e opcode minor own body bytes rest h is_own is_body short =
     let stated : 8 * number e 4 (drop 4 bytes) ≡ length body + length rest = omega (arith, whole, h.frame.units) in
     let units = units_are (length body) (length rest) (number e 4 (drop 4 bytes)) stated short in
     let four : 4 ≤ length (drop 4 bytes) = omega (arith, length-drop 4 bytes) in
-    let front : Begins (known (opcode ∷ minor ∷ [])) bytes (drop 2 bytes) = 
-        subst (λ (o : ℕ). Begins (known (o ∷ minor ∷ [])) bytes (drop 2 bytes)) h.opcode_at
-          (subst (λ (m : ℕ). Begins (known (slice_index bytes 0 ∷ m ∷ [])) bytes (drop 2 bytes)) h.minor_at (two_front bytes (omega arith))) in
+    let front : Begins (known (opcode ∷ minor ∷ [])) bytes (drop 2 bytes) =
+    subst (λ (o : ℕ). Begins (known (o ∷ minor ∷ [])) bytes (drop 2 bytes)) h.opcode_at
+    (subst (λ (m : ℕ). Begins (known (slice_index bytes 0 ∷ m ∷ [])) bytes (drop 2 bytes)) h.minor_at (two_front bytes (omega arith))) in
     let count : Begins (known (number_bytes e 4 (number e 4 (drop 4 bytes)))) (drop 4 bytes) (drop 8 bytes) =
-        Begins-known (number_bytes e 4 (number e 4 (drop 4 bytes))) (drop 4 bytes) (drop 8 bytes)
-          (sym (take-append-drop 4 (drop 4 bytes)) ∙ ap (λ (l : List ℕ). l ++ drop 4 (drop 4 bytes)) (sym (back4 e (drop 4 bytes) four (IsBytes-drop 4 bytes h.fits)))
-          ∙ ap (λ (l : List ℕ). number_bytes e 4 (number e 4 (drop 4 bytes)) ++ l) (drop-drop 4 4 bytes)) in
+    Begins-known (number_bytes e 4 (number e 4 (drop 4 bytes))) (drop 4 bytes) (drop 8 bytes)
+    (sym (take-append-drop 4 (drop 4 bytes)) ∙ ap (λ (l : List ℕ). l ++ drop 4 (drop 4 bytes)) (sym (back4 e (drop 4 bytes) four (IsBytes-drop 4 bytes h.fits)))
+    ∙ ap (λ (l : List ℕ). number_bytes e 4 (number e 4 (drop 4 bytes)) ++ l) (drop-drop 4 4 bytes)) in
     let length_field : Begins (card32 e ((length body + pad_len (length body) 8) / 8)) (drop 4 bytes) (drop 8 bytes) =
-        subst (λ (u : ℕ). Begins (card32 e u) (drop 4 bytes) (drop 8 bytes)) (sym units.0) count in
+    subst (λ (u : ℕ). Begins (card32 e u) (drop 4 bytes) (drop 8 bytes)) (sym units.0) count in
     let padding : Begins (free (pad_len (length body) 8)) rest [] = subst (λ (n : ℕ). Begins (free n) rest []) units.1 (all_free rest) in
     Begins-append (known (opcode ∷ minor ∷ []) ++ own ++ card32 e ((length body + pad_len (length body) 8) / 8) ++ body) (free (pad_len (length body) 8)) bytes rest []
-      (Begins-append (known (opcode ∷ minor ∷ []) ++ own ++ card32 e ((length body + pad_len (length body) 8) / 8)) body bytes (drop 8 bytes) rest
-        (Begins-append (known (opcode ∷ minor ∷ []) ++ own) (card32 e ((length body + pad_len (length body) 8) / 8)) bytes (drop 4 bytes) (drop 8 bytes)
-          (Begins-append (known (opcode ∷ minor ∷ [])) own bytes (drop 2 bytes) (drop 4 bytes) front is_own) length_field) is_body) padding
+    (Begins-append (known (opcode ∷ minor ∷ []) ++ own ++ card32 e ((length body + pad_len (length body) 8) / 8)) body bytes (drop 8 bytes) rest
+    (Begins-append (known (opcode ∷ minor ∷ []) ++ own) (card32 e ((length body + pad_len (length body) 8) / 8)) bytes (drop 4 bytes) (drop 8 bytes)
+    (Begins-append (known (opcode ∷ minor ∷ [])) own bytes (drop 2 bytes) (drop 4 bytes) front is_own) length_field) is_body) padding
 
 -- what a message's spelling says of its parts
 pub record Parts (own body : Cells) (bytes rest : List ℕ) : Type 0 where
@@ -63,15 +63,17 @@ parts_of e opcode minor own body bytes two h =
     let f = Begins-split front own bytes d.0 d.1 in
     let two_in : drop 2 bytes ≡ f.0 = Begins-drop front bytes f.0 f.1 in
     let four_in : drop 4 bytes ≡ d.0 =
-        sym (drop-drop 2 2 bytes) ∙ ap (drop 2) two_in ∙ subst (λ (n : ℕ). drop n f.0 ≡ d.0) two (Begins-drop own f.0 d.0 f.2) in
+    sym (drop-drop 2 2 bytes) ∙ ap (drop 2) two_in ∙ subst (λ (n : ℕ). drop n f.0 ≡ d.0) two (Begins-drop own f.0 d.0 f.2) in
     let four : length (card32 e units) ≡ 4 = length-known (number_bytes e 4 units) ∙ length-number_bytes e 4 units in
     let eight_in : drop 8 bytes ≡ b.0 =
-        sym (drop-drop 4 4 bytes) ∙ ap (drop 4) four_in ∙ subst (λ (n : ℕ). drop n d.0 ≡ b.0) four (Begins-drop (card32 e units) d.0 b.0 d.2) in
-    (a.0, record {
-      own_at = rw (two_in, four_in) f.2;
-      body_at = rw eight_in b.2;
-      left = let len = Begins-length (free (pad_len (length body) 8)) a.0 [] a.2 in omega (arith, len, length-free (pad_len (length body) 8));
-    })
+    sym (drop-drop 4 4 bytes) ∙ ap (drop 4) four_in ∙ subst (λ (n : ℕ). drop n d.0 ≡ b.0) four (Begins-drop (card32 e units) d.0 b.0 d.2) in (
+      a.0,
+      record {
+        own_at = rw (two_in, four_in) f.2;
+        body_at = rw eight_in b.2;
+        left = let len = Begins-length (free (pad_len (length body) 8)) a.0 [] a.2 in omega (arith, len, length-free (pad_len (length body) 8));
+      },
+    )
 
 -- two bytes of a header that are free
 pub free_own : (bytes : List ℕ) → 8 ≤ length bytes → Begins (free 2) (drop 2 bytes) (drop 4 bytes)

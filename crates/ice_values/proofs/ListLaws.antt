@@ -22,7 +22,7 @@ many_taken {A} cells Fits read exact (suc n) bytes xs rest fits e =
     let first = exact.takes bytes p.0.0 p.0.1 fits p.1 in
     let others = many_taken cells Fits read exact n p.0.1 q.0.0 q.0.1 (Begins-fits (cells p.0.0) bytes p.0.1 first.0 fits) q.1 in
     subst (λ (y : List A × List ℕ). Begins (flat_map cells y.0) bytes y.1 × IsCounted Fits (suc n) y.0) (some_is (p.0.0 ∷ q.0.0, q.0.1) (xs, rest) q.2)
-      (Begins-append (cells p.0.0) (flat_map cells q.0.0) bytes p.0.1 q.0.1 first.0 others.0, (ap suc others.1.0, (first.1, others.1.1)))
+    (Begins-append (cells p.0.0) (flat_map cells q.0.0) bytes p.0.1 q.0.1 first.0 others.0, (ap suc others.1.0, (first.1, others.1.1)))
 
 many_again : {A : Type 0} (cells : A → Cells) (Fits : A → Type 0) (read : List ℕ → Option (A × List ℕ)) → Exact cells Fits read → (xs : List A) (bytes rest : List ℕ) → AllByRecursion Fits xs → Begins (flat_map cells xs) bytes rest
     → many_at read (length xs) bytes ≡ Some (xs, rest)

@@ -1,5 +1,5 @@
 -- Numbers and their bytes, in either order.
-use Rattle.std.proofs.Common.{◌≡◌, ℕ, zero, suc, ◌+◌, ◌*◌, ◌^◌, ◌<◌, ◌≤◌, List, [], ◌∷◌, ◌++◌, length, take, refl, arith}
+use Rattle.std.proofs.Common.{◌≡◌, ℕ, zero, suc, ◌^◌, ◌<◌, ◌≤◌, List, [], ◌∷◌, ◌++◌, length, take, refl, arith}
 use Rattle.std.proofs.lemmas.Nat.{le_bytes_2, be_bytes_2, le_bytes_4, be_bytes_4}
 use Rattle.byteorder.specs.Numbers.{big_number-reads_back, little_number-reads_back, big_from-lt, little_from-lt, length-bytes_high_first, length-bytes_low_first}
 use Rattle.ice_values.specs.Numbers.{number, number_bytes}

@@ -1,28 +1,14 @@
 -- Bytes that grow at their end by spellings.
-use Rattle.std.proofs.Common.{◌≡◌, ℕ, ◌+◌, ◌<◌, List, [], ◌∷◌, ◌++◌, length, take, get_or, Result, Ok, Err, sym, ap, ◌∙◌, append_assoc, refl}
-use Rattle.std.specs.Prelude.{OnOk, OnErr, flat_map}
-use Rattle.std.proofs.lemmas.List.{append-nil, take_at, take_more, take_all}
+use Rattle.std.proofs.Common.{◌≡◌, ℕ, ◌+◌, ◌<◌, List, [], ◌∷◌, ◌++◌, length, take, get_or, sym, ap, ◌∙◌, append_assoc, refl}
+use Rattle.std.specs.Prelude.{flat_map}
+use Rattle.std.proofs.lemmas.List.{append-nil, take_more}
 use Rattle.std.proofs.lemmas.Grind.{flat_map-append}
 use Rattle.ice_values.specs.Cells.{Cells, byte, known, free, zeros, pad_len}
 use Rattle.ice_values.specs.Numbers.{number_bytes, card16, card32}
 use Rattle.ice_values.specs.Fields.{text16, version, proof_data, ErrorFields, error_body, severity_number}
-use Rattle.ice_values.specs.Writing.{Extends}
 use Rattle.ice_values.specs.declared.numbers.Endian.{Endian}
 use Rattle.ice_values.specs.declared.version.Version.{Version}
 use Rattle.ice_values.proofs.CellLaws.{zeros-append, zeros-known}
-
-pub Extends-none : (old new : List ℕ) → new ≡ old → Extends old new
-Extends-none old new e = record { added = []; is = e ∙ sym (append-nil old) }
-
-pub Extends-trans : (old mid new : List ℕ) → Extends old mid → Extends mid new → Extends old new
-Extends-trans old mid new h k = record { added = h.added ++ k.added; is = k.is ∙ ap (λ (l : List ℕ). l ++ k.added) h.is ∙ append_assoc old h.added k.added }
-
-pub Extends-added : (old bytes new : List ℕ) → new ≡ old ++ bytes → Extends old new
-Extends-added old bytes new e = record { added = bytes; is = e }
-
--- what was added is dropped again
-pub Extends-take : (old new : List ℕ) → Extends old new → take (length old) new ≡ old
-Extends-take old new h = ap (take (length old)) h.is ∙ take_at old h.added (length old) refl
 
 -- two and three pieces that make a whole
 pub adds_two : (old a b whole one new : List ℕ) → one ≡ old ++ a → new ≡ one ++ b → whole ≡ a ++ b → new ≡ old ++ whole
@@ -45,7 +31,7 @@ pub adds_error : (e : Endian) (error : ErrorFields) (old new values : List ℕ) 
     → new ≡ old ++ ((error.minor ∷ severity ∷ 0 ∷ 0 ∷ []) ++ number_bytes e 4 error.sequence ++ values) → new ≡ old ++ zeros (error_body byte e error)
 adds_error e error old new values severity is_severity is_values added =
     let rest : zeros (card32 e error.sequence ++ known error.values) ≡ number_bytes e 4 error.sequence ++ error.values =
-        zeros-append (card32 e error.sequence) (known error.values) ∙ rw (zeros-known (number_bytes e 4 error.sequence), zeros-known error.values) refl in
+    zeros-append (card32 e error.sequence) (known error.values) ∙ rw (zeros-known (number_bytes e 4 error.sequence), zeros-known error.values) refl in
     rw (rest, ← is_severity, ← is_values) added
 
 -- one item more of a list
@@ -54,5 +40,5 @@ pub adds_item : {A : Type 0} (cells : A → Cells) (items : List A) (i : ℕ) (x
 adds_item {A} cells items i x old mid new lt is p q =
     let grown : take (i + 1) items ≡ take i items ++ x ∷ [] = take_more items i x lt ∙ ap (λ (y : A). take i items ++ y ∷ []) (sym is) in
     let whole : zeros (flat_map cells (take (i + 1) items)) ≡ zeros (flat_map cells (take i items)) ++ zeros (cells x) =
-        ap (λ (l : List A). zeros (flat_map cells l)) grown ∙ ap zeros (flat_map-append cells (take i items) (x ∷ [])) ∙ zeros-append (flat_map cells (take i items)) (cells x ++ []) ∙ ap (λ (l : Cells). zeros (flat_map cells (take i items)) ++ zeros l) (append-nil (cells x)) in
+    ap (λ (l : List A). zeros (flat_map cells l)) grown ∙ ap zeros (flat_map-append cells (take i items) (x ∷ [])) ∙ zeros-append (flat_map cells (take i items)) (cells x ++ []) ∙ ap (λ (l : Cells). zeros (flat_map cells (take i items)) ++ zeros l) (append-nil (cells x)) in
     adds_two old (zeros (flat_map cells (take i items))) (zeros (cells x)) (zeros (flat_map cells (take (i + 1) items))) mid new p q whole

@@ -60,11 +60,7 @@ pub fn severity_at(frame: &[u8], at: u32) -> Result<Severity, DecodeRefusal>
 
 /// What an Error says, of ICE or of a protocol over it, in a frame whose minor opcode is 0.
 #[tactic(auto, unfolding(crate::specs::Frames::error_at))]
-pub fn decode_error(
-    alloc: Global,
-    endian: Endian,
-    frame: &[u8],
-) -> Result<ErrorBody, DecodeRefusal>
+pub fn decode_error(alloc: Global, endian: Endian, frame: &[u8]) -> Result<ErrorBody, DecodeRefusal>
     requires { IsFrame endian frame.now }
     ensures { Gives result (error_at endian frame.now) }
 {

@@ -4,9 +4,9 @@ ghost use Rattle.std.specs.List.{AllByRecursion};
 ghost use Rattle.ice_values.specs.Fields.{text16, texts, version, versions, IsText16, IsVersion, proof_data, IsProofData, error_body, IsError};
 ghost use Rattle.ice_values.specs.declared.numbers.Endian.{Endian as AnyEndian};
 
+use crate::numbers::pad;
 use crate::{ErrorBody, Text16, Version};
 use sm_world::Octets;
-use crate::numbers::pad;
 
 fn counted_len(count: usize) -> usize
     requires { count < 2 ^ 16 }

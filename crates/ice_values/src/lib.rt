@@ -9,6 +9,8 @@ mod numbers;
 mod reading;
 mod refusals;
 mod severity;
+#[cfg(test)]
+mod tests;
 mod text;
 mod version;
 mod writing;
@@ -26,4 +28,7 @@ pub use refusals::{DecodeRefusal, EncodeRefusal, ValueRefusal};
 pub use severity::Severity;
 pub use text::{Text16, TextList};
 pub use version::{Version, VersionList};
-pub use writing::{put_bytes, put_card16, put_card32, put_error, put_proof_data, put_text16, put_texts, put_version, put_versions, put_zeros, write_text16, write_version};
+pub use writing::{
+    put_bytes, put_card16, put_card32, put_error, put_proof_data, put_text16, put_texts,
+    put_version, put_versions, put_zeros, write_text16, write_version,
+};

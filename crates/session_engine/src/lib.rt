@@ -11,3 +11,6 @@ mod table;
 pub use answers::{Answer, Stage};
 pub use fault::ServeFault;
 pub use serving::serve;
+
+#[cfg(test)]
+mod tests;

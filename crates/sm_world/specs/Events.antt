@@ -1,5 +1,5 @@
 -- What comes from outside.
-use Rattle.std.specs.Prelude.{ℕ, ◌≤◌, List, [], ◌∷◌, length}
+use Rattle.std.specs.Prelude.{◌≤◌, List, [], ◌∷◌, length}
 use Rattle.sm_world.specs.declared.events.TheConstants.{PIECE_LIMIT}
 use Rattle.sm_world.specs.declared.events.Event.{Event}
 use Rattle.sm_world.specs.declared.events.Event.TheVariants.{Joined, Piece, Gone, Operator, Tick, End}

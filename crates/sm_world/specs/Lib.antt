@@ -3,3 +3,4 @@ pub mod Effects
 pub mod Outside
 pub mod Tape
 pub mod Worlds
+pub mod Calls

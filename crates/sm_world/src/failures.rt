@@ -1,5 +1,5 @@
 ghost use Rattle.std.specs.Prelude.{◌≡◌};
-ghost use Rattle.sm_world.specs.declared.failures.Failure.TheVariants.{NoMemory as OutOfMemory};
+ghost use Rattle.sm_world.specs.declared.failures.Failure.TheVariants.{Failed as Refused, NoMemory as OutOfMemory};
 
 use std::alloc::{AllocError, AllocFailed};
 
@@ -39,6 +39,14 @@ impl From<AllocError> for NoMemory {
 impl<T: Drop> From<AllocFailed<T>> for NoMemory {
     fn from(_error: AllocFailed<T>) -> NoMemory {
         NoMemory
+    }
+}
+
+impl From<Failed> for Failure {
+    ghost from_gives = { λ _ e. e ≡ Refused };
+
+    fn from(_error: Failed) -> Failure {
+        Failure::Failed
     }
 }
 

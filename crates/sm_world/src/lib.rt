@@ -2,11 +2,13 @@
 #![tactic(auto)]
 
 mod bytes;
+mod calls;
 mod commands;
 mod effects;
 mod events;
 mod failures;
 mod lists;
+mod memory;
 mod outside;
 mod steady;
 mod tape;
@@ -19,5 +21,9 @@ pub use failures::{Failed, Failure, Faults, NoMemory};
 pub use lists::{
     CommandList, ConnList, Duplicate, EventList, ListOf, NumberList, OctetsList, PairList,
 };
+pub use memory::MemWorld;
 pub use outside::{Console, Links, Told};
 pub use steady::SteadyWorld;
+
+#[cfg(test)]
+mod tests;

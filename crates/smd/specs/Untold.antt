@@ -1,7 +1,12 @@
 -- What the console of the real program tells: how often it failed, and nothing else.
-use Rattle.std.specs.Prelude.{None}
-use Rattle.sm_world.specs.Outside.{Outside}
+use Rattle.std.specs.Prelude.{ℕ, ◌≤◌, None}
+use Rattle.sm_world.specs.Outside.{Outside, Rose}
 use Rattle.smd.specs.declared.adapter.StandardConsole.{StandardConsole}
+
+-- one more fault was counted
+pub record CountsFault (before after : ℕ) : Type 0 where
+  pub rose : Rose before after
+  pub not_fallen : before ≤ after
 
 abbrev pub console_outside : StandardConsole → Outside
 console_outside console = record {

@@ -1,4 +1,5 @@
-ghost use Rattle.smd.specs.Untold.{console_outside};
+ghost use Rattle.std.specs.Prelude.{◌≡◌};
+ghost use Rattle.smd.specs.Untold.{console_outside, CountsFault};
 
 use sm_world::{Console, Failure, Told};
 use std::io;
@@ -16,7 +17,10 @@ impl StandardConsole {
         StandardConsole { rt, faults: 0 }
     }
 
-    fn failed(&mut self) -> Failure {
+    fn failed(&mut self) -> Failure
+        ensures counted { CountsFault self.old.faults self.new.faults }
+        ensures refusal { result ≡ Failure.Failed }
+    {
         self.faults = self.faults.saturating_add(1);
         Failure::Failed
     }

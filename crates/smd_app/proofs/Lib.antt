@@ -1,3 +1,10 @@
 pub mod Splitting
 pub mod LineLemmas
 pub mod ScriptLemmas
+pub mod TraceLemmas
+pub mod InputLemmas
+pub mod Heard
+pub mod Rehearsing
+pub mod Printing
+pub mod WordLemmas
+pub mod Excluding

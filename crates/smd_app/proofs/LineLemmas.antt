@@ -1,12 +1,11 @@
 -- A line that begins as a piece says no other event.
-use Rattle.std.proofs.Common.{◌≡◌, ℕ, List, [], ◌∷◌, ◌++◌, refl, sym, ◌∙◌, ap, subst, arith, codes}
-use Rattle.std.specs.Fmt.{decimal}
+use Rattle.std.proofs.Common.{◌≡◌, ℕ, List, ◌++◌, sym, ◌∙◌, subst, arith, codes}
 use Rattle.sm_world.specs.declared.events.Event.{Event}
 use Rattle.sm_world.specs.declared.events.Event.TheVariants.{Joined, Piece, Gone, Operator, Tick, End}
 use Rattle.smd_app.specs.Script.{Says, SaysPiece}
-use Rattle.smd_app.proofs.Splitting.{head_same, tail_same}
+use Rattle.smd_app.proofs.Splitting.{head_same}
 
-same_fields : (xs ys : List ℕ) → codes "piece " ++ xs ≡ codes "piece " ++ ys → xs ≡ ys
+pub same_fields : (xs ys : List ℕ) → codes "piece " ++ xs ≡ codes "piece " ++ ys → xs ≡ ys
 same_fields xs ys e = cc
 
 pub only_piece : (line fields : List ℕ) → line ≡ codes "piece " ++ fields → ((n : ℕ) (bytes : List ℕ) → SaysPiece fields n bytes → ⊥) → (event : Event) → Says line event → ⊥

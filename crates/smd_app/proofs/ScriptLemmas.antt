@@ -1,14 +1,13 @@
 -- The lines of a script, one after the other.
-use Rattle.std.proofs.Common.{◌≡◌, ◌≢◌, ◌⊎◌, inl, inr, ℕ, suc, ◌+◌, ◌<◌, ◌≤◌, ◌==◌, Bool, true, false, nat_eq, List, [], ◌∷◌, ◌++◌, length, refl, sym, ◌∙◌, ap, subst, arith, append_assoc, length-append, if◌then◌else◌}
+use Rattle.std.proofs.Common.{◌≡◌, ◌≢◌, ℕ, ◌+◌, ◌<◌, ◌≤◌, ◌==◌, false, List, [], ◌∷◌, ◌++◌, length, refl, sym, ◌∙◌, ap, arith, append_assoc, length-append}
 use Rattle.std.specs.List.{AllByRecursion}
-use Rattle.std.proofs.lemmas.List.{append-nil}
 use Rattle.std.proofs.lemmas.Bool.Decides.{nat_tests}
 use Rattle.sm_world.specs.Events.{HasPieceSize}
 use Rattle.sm_world.specs.declared.events.Event.{Event}
 use Rattle.sm_world.specs.declared.events.Event.TheVariants.{Joined, Piece, Gone, Operator, Tick, End}
 use Rattle.smd_app.specs.declared.script.TheConstants.{SCRIPT_LIMIT}
-use Rattle.smd_app.specs.Parts.{IsWithout, SplitsOnce}
-use Rattle.smd_app.specs.Script.{Says, SayAll, lines_of, before_lines}
+use Rattle.smd_app.specs.Parts.{IsWithout}
+use Rattle.smd_app.specs.Script.{Says, SayAll, lines_of}
 
 not_newline : (b : ℕ) → b ≢ 10 → (b == 10) ≡ false
 not_newline b apart = grind (arith, nat_tests)

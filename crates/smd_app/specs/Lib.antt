@@ -1,3 +1,9 @@
-pub mod Script
 pub mod Parts
+pub mod Script
 pub mod Faults
+pub mod Trace
+pub mod Input
+pub mod Rehearsals
+pub mod FaultLines
+pub mod Statuses
+pub mod Exclusions

@@ -1,5 +1,5 @@
 -- The parts of some bytes around the first of one kind.
-use Rattle.std.specs.Prelude.{◌≡◌, ◌≢◌, ℕ, List, [], ◌∷◌, ◌++◌}
+use Rattle.std.specs.Prelude.{◌≡◌, ◌≢◌, ℕ, List, ◌∷◌, ◌++◌}
 use Rattle.std.specs.List.{AllByRecursion}
 
 abbrev pub IsWithout : ℕ → List ℕ → Type 0

@@ -2,9 +2,15 @@
 #![tactic(auto)]
 
 mod console;
+mod fault;
+mod laws;
 mod lines;
 mod program;
+mod rehearsal;
 mod script;
+#[cfg(test)]
+mod tests;
 mod trace;
 
+pub use laws::statuses_exclude_each_other;
 pub use program::smd_main;

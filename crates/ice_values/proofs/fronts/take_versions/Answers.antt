@@ -1,7 +1,6 @@
 use Rattle.std.proofs.lemmas.Result.{err_from_is_err_and}
 use Rattle.ice_values.specs.Reading.{version_at, many_at}
 use Rattle.ice_values.proofs.ListLaws.{goes_on, ends, is_done}
-use Rattle.std.proofs.Common.{Some, arith, ◌≡◌, sym}
 use Rattle.ice_values.proofs.fronts.take_versions.Goals as goal
 
 pub returns-in_err-version : goal.returns-in_err-version

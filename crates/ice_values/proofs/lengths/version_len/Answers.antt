@@ -1,4 +1,4 @@
-use Rattle.std.proofs.Common.{◌∙◌, sym}
+use Rattle.std.proofs.Common.{sym}
 use Rattle.ice_values.proofs.LengthLaws.{length-version}
 use Rattle.ice_values.proofs.lengths.version_len.Goals as goal
 

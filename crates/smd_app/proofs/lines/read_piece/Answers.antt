@@ -1,7 +1,6 @@
-use Rattle.std.proofs.Common.{◌≡◌, ℕ, List, ◌∷◌, ◌++◌, None, Some, sym, ◌∙◌, ap, subst}
+use Rattle.std.proofs.Common.{ℕ, List, sym, ◌∙◌, subst}
 use Rattle.std.specs.Fmt.{decimal}
-use Rattle.smd_app.specs.Parts.{IsWithout}
-use Rattle.smd_app.specs.Script.{SaysPiece, IsHexPiece}
+use Rattle.smd_app.specs.Script.{IsHexPiece}
 use Rattle.smd_app.proofs.Splitting.{splits_same, without_inside, decimal_without}
 use Rattle.smd_app.proofs.lines.read_piece.Goals as goal
 

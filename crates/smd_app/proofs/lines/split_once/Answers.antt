@@ -1,5 +1,3 @@
-use Rattle.std.proofs.lemmas.List.{take_all}
-use Rattle.std.proofs.Common.{arith, sym}
 use Rattle.smd_app.proofs.Splitting.{without-more, splits_at}
 use Rattle.smd_app.proofs.lines.split_once.Goals as goal
 

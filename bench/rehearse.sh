@@ -1,0 +1,49 @@
+#!/bin/sh
+# Times `smd rehearse` on scripts of 1 MiB and 16 MiB, and prints the ratio of the two times.
+# Usage: bench/rehearse.sh [PROGRAM]. Without a program, that which `rt run` builds in crates/smd.
+set -eu
+top=$(cd "$(dirname "$0")/.." && pwd)
+exec python3 - "${1:-$top/crates/smd/out/smd}" <<'END'
+import subprocess
+import sys
+import tempfile
+import time
+
+ORDER = bytes([0, 1, 0, 0, 0, 0, 0, 0])
+PING = bytes([0, 9, 0, 0, 0, 0, 0, 0])
+SMALL = 1 << 20
+LARGE = 16 << 20
+
+
+def script(size, width):
+    """One client that pings: its stream in pieces of `width` bytes, in at most `size` bytes."""
+    head = "join 1\npiece 1 %s\n" % ORDER.hex()
+    stream = (PING * width).hex()
+    lines = ["piece 1 %s\n" % stream[at : at + 2 * width] for at in range(0, len(stream), 2 * width)]
+    block = "".join(lines)
+    room = size - len(head)
+    text = head + block * (room // len(block) + 1)
+    return text[: text.rindex("\n", 0, size) + 1]
+
+
+def seconds(program, text):
+    with tempfile.TemporaryFile() as file:
+        file.write(text.encode())
+        best = None
+        for _ in range(3):
+            file.seek(0)
+            begin = time.monotonic()
+            run = subprocess.run([program, "rehearse"], stdin=file, stdout=subprocess.PIPE)
+            took = time.monotonic() - begin
+            assert run.returncode == 0, run.returncode
+            assert run.stdout.endswith(b"\nend\n")
+            best = took if best is None else min(best, took)
+        return best
+
+
+program = sys.argv[1]
+for name, width in [("a byte a piece", 1), ("a ping a piece", 8), ("8192 pings a piece", 65536)]:
+    small = seconds(program, script(SMALL, width))
+    large = seconds(program, script(LARGE, width))
+    print("%s: %.3f s for 1 MiB, %.3f s for 16 MiB, ratio %.1f" % (name, small, large, large / small))
+END

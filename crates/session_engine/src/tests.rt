@@ -1,0 +1,141 @@
+ghost use Rattle.std.specs.Prelude.{IfOk, ◌≤◌, length};
+ghost use Rattle.std.specs.List.{AllByRecursion};
+ghost use Rattle.sm_world.specs.Events.{HasPieceSize};
+
+use crate::{ServeFault, serve};
+use sm_world::{Effect, Event, EventList, MemWorld, NoMemory, NumberList, Octets, SteadyWorld};
+use std::alloc::Global;
+use std::fmt::Write;
+use std::process::Abort;
+use std::test::Fail;
+
+/// A ByteOrder and a Ping.
+const CLIENT: [u8; 16] = [0, 1, 0, 0, 0, 0, 0, 0, 0, 9, 0, 0, 0, 0, 0, 0];
+
+/// What a connection is sent when it joins.
+const ORDER_SENT: &str = "Sent(1, Octets { bytes: [0, 1, 0, 0, 0, 0, 0, 0] }) ";
+
+/// ... and then the answer to a Ping.
+const PING_ANSWERED: &str = "Sent(1, Octets { bytes: [0, 1, 0, 0, 0, 0, 0, 0] }) \
+    Sent(1, Octets { bytes: [0, 10, 0, 0, 0, 0, 0, 0] }) ";
+
+/// ... and then its end.
+const CLOSED: &str = "Sent(1, Octets { bytes: [0, 1, 0, 0, 0, 0, 0, 0] }) Shut(1) ";
+
+/// Ends the test where other things were done than these. What was heard doesn't count.
+fn expect_done(
+    rt: &(impl Abort + Alloc<A = Global>),
+    effects: &[Effect],
+    want: &str,
+) -> Result<(), Fail> {
+    let mut text = String::new(rt.alloc());
+    for effect in effects {
+        match effect {
+            Effect::Heard(_) => {}
+            _ => write!(text, "{effect:?} ")?,
+        }
+    }
+    assert_eq!(rt; text.as_str(), want);
+    Ok(())
+}
+
+fn add_piece(alloc: Global, events: &mut EventList, bytes: &[u8]) -> Result<(), NoMemory>
+    requires some { 1 ≤ length bytes.now }
+    requires fits { length bytes.now ≤ 65536 }
+    requires before { AllByRecursion HasPieceSize events.old }
+    ensures { IfOk result (λ _. AllByRecursion HasPieceSize events.new) }
+{
+    events.push(Event::Piece(1, Octets::from_slice(alloc, bytes)?))
+}
+
+/// A connection on which these bytes come in one piece.
+fn at_once(alloc: Global, bytes: &[u8]) -> Result<EventList, NoMemory>
+    requires some { 1 ≤ length bytes.now }
+    requires fits { length bytes.now ≤ 65536 }
+    ensures { IfOk result (AllByRecursion HasPieceSize) }
+{
+    let mut events = EventList::new(alloc);
+    events.push(Event::Joined(1))?;
+    add_piece(alloc, &mut events, bytes)?;
+    Ok(events)
+}
+
+/// A connection on which each of these bytes comes in a piece of its own.
+fn byte_by_byte(alloc: Global, bytes: &[u8]) -> Result<EventList, NoMemory>
+    ensures { IfOk result (AllByRecursion HasPieceSize) }
+{
+    let mut events = EventList::new(alloc);
+    events.push(Event::Joined(1))?;
+    for byte in bytes {
+        add_piece(alloc, &mut events, &[*byte])?;
+    }
+    Ok(events)
+}
+
+fn steady_world(alloc: Global, events: EventList) -> Result<SteadyWorld, NoMemory>
+    requires { AllByRecursion HasPieceSize events }
+{
+    SteadyWorld::new(alloc, events, Octets::new(alloc), Octets::new(alloc))
+}
+
+/// Serves to the end.
+fn expect_served(
+    rt: &(impl Abort + Alloc<A = Global>),
+    events: EventList,
+    want: &str,
+) -> Result<(), Fail>
+    requires { AllByRecursion HasPieceSize events }
+{
+    let mut world = steady_world(rt.alloc(), events)?;
+    assert_eq!(rt; serve(rt.alloc(), &mut world, 40), Ok(()));
+    expect_done(rt, world.effects(), want)
+}
+
+/// Serves until the turns are spent.
+fn expect_spent(rt: &(impl Abort + Alloc<A = Global>), turns: u64, want: &str) -> Result<(), Fail> {
+    let mut world = steady_world(rt.alloc(), at_once(rt.alloc(), &CLIENT)?)?;
+    let served = serve(rt.alloc(), &mut world, turns);
+    assert_eq!(rt; served, Err(ServeFault::Spent));
+    expect_done(rt, world.effects(), want)
+}
+
+#[test]
+fn a_ping_is_answered_however_it_is_cut(rt: HostRuntime) -> Result<(), Fail> {
+    expect_served(&rt, at_once(rt.alloc(), &CLIENT)?, PING_ANSWERED)?;
+    expect_served(&rt, byte_by_byte(rt.alloc(), &CLIENT)?, PING_ANSWERED)
+}
+
+#[test]
+fn what_follows_a_wrong_first_frame_is_dropped(rt: HostRuntime) -> Result<(), Fail> {
+    let bytes = [
+        0, 9, 0, 0, 0, 0, 0, 0, 0, 1, 0, 0, 0, 0, 0, 0, 0, 9, 0, 0, 0, 0, 0, 0,
+    ];
+    expect_served(&rt, at_once(rt.alloc(), &bytes)?, CLOSED)?;
+    expect_served(&rt, byte_by_byte(rt.alloc(), &bytes)?, CLOSED)
+}
+
+#[test]
+fn a_refused_call_is_a_fault(rt: HostRuntime) -> Result<(), Fail> {
+    let alloc = rt.alloc();
+    let mut failing = NumberList::new(alloc);
+    failing.push(2)?;
+    let events = at_once(alloc, &CLIENT)?;
+    let mut world = MemWorld::new(
+        alloc,
+        events,
+        Octets::new(alloc),
+        Octets::new(alloc),
+        failing,
+    )?;
+    let served = serve(alloc, &mut world, 9);
+    assert_eq!(rt; served, Err(ServeFault::LinkFault));
+    assert_eq!(rt; world.effects().len(), 1);
+    Ok(())
+}
+
+#[test]
+fn turns_are_spent(rt: HostRuntime) -> Result<(), Fail> {
+    expect_spent(&rt, 0, "")?;
+    expect_spent(&rt, 1, ORDER_SENT)?;
+    expect_spent(&rt, 2, PING_ANSWERED)
+}

@@ -1,0 +1,24 @@
+-- The calls of a world by their numbers.
+use Rattle.std.specs.Prelude.{ℕ, ◌+◌, ◌-◌, ◌^◌, min, List, Result, Ok, Err}
+use Rattle.sm_world.specs.declared.failures.Failure.{Failure}
+use Rattle.sm_world.specs.declared.failures.Failure.TheVariants.{Failed, NoMemory}
+
+pub record Numbered : Type 0 where
+  -- the numbers of the calls that fail
+  pub failing : List ℕ
+  -- the number of the last call, and 0 before the first
+  pub last : ℕ
+
+-- one more, but the largest u64 stays
+abbrev pub one_more : ℕ → ℕ
+one_more n = min (n + 1) (2 ^ 64 - 1)
+
+-- One more call was made. The largest u64 is the number of every call after it.
+abbrev pub counted : Numbered → Numbered
+counted calls = record calls { last = one_more calls.last }
+
+-- how often a device has failed, after a call with this answer
+abbrev pub count_after : {A : Type 0} → Result A Failure → ℕ → ℕ
+count_after (Ok x) count = count
+count_after (Err Failed) count = one_more count
+count_after (Err NoMemory) count = count

@@ -1,0 +1,190 @@
+ghost use Rattle.std.specs.Prelude.{◌≡◌, ◌≤◌, ◌↔◌, ℕ, [], ◌∷◌, length, Some, Contains, IsErr, IfOk, OnOk, OnErr};
+ghost use Rattle.std.specs.List.{AllByRecursion};
+ghost use Rattle.sm_world.specs.Events.{HasPieceSize};
+ghost use Rattle.sm_world.specs.Outside.{Rose};
+ghost use Rattle.sm_world.specs.Calls.{counted, one_more};
+
+use crate::calls::Calls;
+use crate::tape::Tape;
+use crate::{
+    Conn, Console, Effect, Event, EventList, Failed, Failure, Faults, Links, NoMemory, NumberList,
+    Octets, Told,
+};
+use std::alloc::Global;
+
+/// A world in memory whose calls are numbered from 1, and fail where they are told to. It tells
+/// all that it does.
+#[derive(Debug, Drop)]
+pub struct MemWorld {
+    tape: Tape,
+    file: Octets,
+    calls: Calls,
+    faults: Faults,
+}
+
+impl MemWorld {
+    ghost use Rattle.sm_world.specs.Worlds.{mem_outside, mem_file, mem_calls};
+
+    /// A world whose links bring these events and then End, whose console has this input, whose
+    /// store begins with these bytes, and whose calls with the numbers in `failing` fail. A piece
+    /// has at least one and at most 65,536 bytes.
+    pub fn new(
+        alloc: Global,
+        events: EventList,
+        input: Octets,
+        file: Octets,
+        failing: NumberList,
+    ) -> Result<MemWorld, NoMemory>
+        requires { AllByRecursion HasPieceSize events }
+        ensures told { IfOk result (λ world. (mem_outside world).told ≡ Some []) }
+        ensures coming { IfOk result (λ world. (mem_outside world).coming ≡ Some events) }
+        ensures input { IfOk result (λ world. (mem_outside world).input ≡ Some input) }
+        ensures faults { IfOk result (λ world. (mem_outside world).faults ≡ record { disk = 0; links = 0; spawner = 0; console = 0 }) }
+        ensures file { IfOk result (λ world. mem_file world ≡ file) }
+        ensures last { IfOk result (λ world. (mem_calls world).last ≡ 0) }
+        ensures failing { IfOk result (λ world. (number : ℕ) → Contains (mem_calls world).failing number ↔ Contains failing number) }
+    {
+        Ok(MemWorld {
+            tape: Tape::new(alloc, events, input),
+            file,
+            calls: Calls::new(failing),
+            faults: Faults {
+                disk: 0,
+                links: 0,
+                spawner: 0,
+                console: 0,
+            },
+        })
+    }
+
+    /// The effects so far.
+    pub fn effects(&self) -> &[Effect]
+        ensures { Some result.now ≡ (mem_outside self.now).told }
+    {
+        self.tape.effects()
+    }
+
+    /// The bytes of the store.
+    pub fn file(&self) -> &[u8]
+        ensures { result.now ≡ mem_file self.now }
+    {
+        self.file.as_slice()
+    }
+
+    /// Counts a call of Links, and refuses it where its number fails.
+    #[tactic(auto, using(crate::proofs::Counting::rises))]
+    fn call_links(&mut self) -> Result<(), Failed>
+        ensures fails { IsErr result ↔ Contains self.new.calls.failing self.new.calls.last }
+        ensures ok { OnOk result (self.new ≡ record self.old { calls = counted self.old.calls }) }
+        ensures err { OnErr result (self.new ≡ record self.old { calls = counted self.old.calls; faults = record self.old.faults { links = one_more self.old.faults.links } }) }
+        ensures rose { OnErr result (Rose self.old.faults.links self.new.faults.links) }
+        ensures counts { self.old.faults.links ≤ self.new.faults.links }
+    {
+        if self.calls.count() {
+            self.faults.links = self.faults.links.saturating_add(1);
+            return Err(Failed);
+        }
+        Ok(())
+    }
+
+    /// Counts a call of Console, and refuses it where its number fails.
+    #[tactic(auto, using(crate::proofs::Counting::rises))]
+    fn call_console(&mut self) -> Result<(), Failed>
+        ensures fails { IsErr result ↔ Contains self.new.calls.failing self.new.calls.last }
+        ensures ok { OnOk result (self.new ≡ record self.old { calls = counted self.old.calls }) }
+        ensures err { OnErr result (self.new ≡ record self.old { calls = counted self.old.calls; faults = record self.old.faults { console = one_more self.old.faults.console } }) }
+        ensures rose { OnErr result (Rose self.old.faults.console self.new.faults.console) }
+        ensures counts { self.old.faults.console ≤ self.new.faults.console }
+    {
+        if self.calls.count() {
+            self.faults.console = self.faults.console.saturating_add(1);
+            return Err(Failed);
+        }
+        Ok(())
+    }
+}
+
+impl Told for MemWorld {
+    ghost use Rattle.sm_world.specs.Worlds.{mem_outside};
+
+    ghost outside = { mem_outside };
+}
+
+impl Links for MemWorld {
+    ghost use Rattle.sm_world.specs.Outside.{adds, on_ok, of_ok, UsesLinks, TakesNext};
+    ghost use Rattle.sm_world.specs.Worlds.{mem_outside, FailsByNumber};
+    ghost use Rattle.sm_world.specs.declared.effects.Effect.TheVariants.{Heard, Sent, Shut};
+
+    fn listen(&mut self, _socket: &str, _control: &str) -> Result<(), Failure>
+        ensures effects { (mem_outside self.new).told ≡ (mem_outside self.old).told }
+        ensures coming { (mem_outside self.new).coming ≡ (mem_outside self.old).coming }
+        ensures uses { UsesLinks (mem_outside self.old) (mem_outside self.new) result }
+        ensures numbered { FailsByNumber (λ faults. faults.links) self.old self.new result }
+    {
+        self.call_links()?;
+        Ok(())
+    }
+
+    fn next(&mut self) -> Result<Event, Failure>
+        ensures effects { (mem_outside self.new).told ≡ adds (mem_outside self.old).told (of_ok Heard result) }
+        ensures coming { TakesNext (mem_outside self.old).coming (mem_outside self.new).coming result }
+        ensures size { IfOk result HasPieceSize }
+        ensures uses { UsesLinks (mem_outside self.old) (mem_outside self.new) result }
+        ensures numbered { FailsByNumber (λ faults. faults.links) self.old self.new result }
+    {
+        self.call_links()?;
+        Ok(self.tape.hear()?)
+    }
+
+    fn send(&mut self, to: Conn, bytes: &[u8]) -> Result<(), Failure>
+        ensures effects { (mem_outside self.new).told ≡ adds (mem_outside self.old).told (on_ok result (Sent to bytes.now ∷ [])) }
+        ensures coming { (mem_outside self.new).coming ≡ (mem_outside self.old).coming }
+        ensures uses { UsesLinks (mem_outside self.old) (mem_outside self.new) result }
+        ensures numbered { FailsByNumber (λ faults. faults.links) self.old self.new result }
+    {
+        self.call_links()?;
+        let bytes = self.tape.octets(bytes)?;
+        self.tape.note(Effect::Sent(to, bytes))?;
+        Ok(())
+    }
+
+    fn shut(&mut self, to: Conn) -> Result<(), Failure>
+        ensures effects { (mem_outside self.new).told ≡ adds (mem_outside self.old).told (on_ok result (Shut to ∷ [])) }
+        ensures coming { (mem_outside self.new).coming ≡ (mem_outside self.old).coming }
+        ensures uses { UsesLinks (mem_outside self.old) (mem_outside self.new) result }
+        ensures numbered { FailsByNumber (λ faults. faults.links) self.old self.new result }
+    {
+        self.call_links()?;
+        self.tape.note(Effect::Shut(to))?;
+        Ok(())
+    }
+}
+
+impl Console for MemWorld {
+    ghost use Rattle.sm_world.specs.Outside.{adds, on_ok, UsesConsole, Reads};
+    ghost use Rattle.sm_world.specs.Worlds.{mem_outside, FailsByNumber};
+    ghost use Rattle.sm_world.specs.declared.effects.Effect.TheVariants.{Printed};
+
+    fn read(&mut self, into: &mut [u8]) -> Result<usize, Failure>
+        ensures within { IfOk result (λ n. n ≤ length into.old) }
+        ensures effects { (mem_outside self.new).told ≡ (mem_outside self.old).told }
+        ensures input { Reads (mem_outside self.old).input (mem_outside self.new).input into.old into.new result }
+        ensures uses { UsesConsole (mem_outside self.old) (mem_outside self.new) result }
+        ensures numbered { FailsByNumber (λ faults. faults.console) self.old self.new result }
+    {
+        self.call_console()?;
+        Ok(self.tape.read(into))
+    }
+
+    fn print(&mut self, bytes: &[u8]) -> Result<(), Failure>
+        ensures effects { (mem_outside self.new).told ≡ adds (mem_outside self.old).told (on_ok result (Printed bytes.now ∷ [])) }
+        ensures input { (mem_outside self.new).input ≡ (mem_outside self.old).input }
+        ensures uses { UsesConsole (mem_outside self.old) (mem_outside self.new) result }
+        ensures numbered { FailsByNumber (λ faults. faults.console) self.old self.new result }
+    {
+        self.call_console()?;
+        let bytes = self.tape.octets(bytes)?;
+        self.tape.note(Effect::Printed(bytes))?;
+        Ok(())
+    }
+}

@@ -1,0 +1,115 @@
+-- What a world in memory brings of a script's events, and the run of it.
+use Rattle.std.proofs.Common.{◌≡◌, inl, inr, ℕ, zero, suc, ◌+◌, ◌-◌, ◌≤◌, Bool, true, false, List, [], ◌∷◌, ◌++◌, length, take, drop, map, refl, sym, ◌∙◌, ap, arith, length-append, if◌then◌else◌}
+use Rattle.std.proofs.Math.Seq.{take-append-add}
+use Rattle.std.proofs.lemmas.List.{take_all, take-append-le, take-append-drop}
+use Rattle.std.proofs.lemmas.Bool.{cases_lt, false≢true}
+use Rattle.sm_world.specs.declared.events.Event.{Event}
+use Rattle.sm_world.specs.declared.events.Event.TheVariants.{End}
+use Rattle.session_engine.specs.Carries.{next_events}
+use Rattle.session_engine.specs.Machine.{Act, Does, Finish, Machine, Came, Did, start, step, script, script_from, run, run_from, deeds_in, has_finish}
+use Rattle.smd_app.specs.Rehearsals.{with_end, ends_within}
+
+-- Finish in two lists of acts
+has_finish-append : (xs ys : List Act) → has_finish (xs ++ ys) ≡ (if has_finish xs then true else has_finish ys)
+has_finish-append [] ys = refl
+has_finish-append (Does deed ∷ xs) ys = has_finish-append xs ys
+has_finish-append (Finish ∷ xs) ys = refl
+
+later_finish : (b : Bool) (rest : List Act) → (if b then true else has_finish (if b then [] else rest)) ≡ true → b ≡ false → has_finish rest ≡ true
+later_finish true rest e unfinished = absurd (false≢true (sym unfinished))
+later_finish false rest e unfinished = e
+
+same_rest : {A : Type 0} (b : Bool) (first one other : List A) → (b ≡ false → one ≡ other) → first ++ (if b then [] else one) ≡ first ++ (if b then [] else other)
+same_rest true first one other same = refl
+same_rest false first one other same = ap (λ xs. first ++ xs) (same refl)
+
+-- After Finish nothing follows.
+pub script_stops : (m : Machine) (xs ys : List Event) → has_finish (script_from m xs) ≡ true → script_from m (xs ++ ys) ≡ script_from m xs
+script_stops m [] ys e = absurd (false≢true e)
+script_stops m (x ∷ xs) ys e =
+    let next = (step m x).next in
+    let acts = (step m x).acts in
+    same_rest (has_finish acts) acts (script_from next (xs ++ ys)) (script_from next xs)
+    (λ unfinished. script_stops next xs ys (later_finish (has_finish acts) (script_from next xs) (sym (has_finish-append acts (if has_finish acts then [] else script_from next xs)) ∙ e) unfinished))
+
+pub run_stops : (m : Machine) (xs ys : List Event) → has_finish (script_from m xs) ≡ true → run_from m (xs ++ ys) ≡ run_from m xs
+run_stops m [] ys e = absurd (false≢true e)
+run_stops m (x ∷ xs) ys e =
+    let next = (step m x).next in
+    let acts = (step m x).acts in
+    ap (λ is. Came x ∷ is) (same_rest (has_finish acts) (map Did (deeds_in acts)) (run_from next (xs ++ ys)) (run_from next xs)
+    (λ unfinished. run_stops next xs ys (later_finish (has_finish acts) (script_from next xs) (sym (has_finish-append acts (if has_finish acts then [] else script_from next xs)) ∙ e) unfinished)))
+
+either_way : (b : Bool) (rest : List Act) → has_finish rest ≡ true → (if b then true else has_finish (if b then [] else rest)) ≡ true
+either_way true rest e = refl
+either_way false rest e = e
+
+-- End ends each run.
+pub end_finishes : (m : Machine) (events : List Event) → has_finish (script_from m (with_end events)) ≡ true
+end_finishes m [] = refl
+end_finishes m (x ∷ xs) =
+    let next = (step m x).next in
+    let acts = (step m x).acts in
+    has_finish-append acts (if has_finish acts then [] else script_from next (with_end xs)) ∙ either_way (has_finish acts) (script_from next (with_end xs)) (end_finishes next xs)
+
+-- the first events to come, as far as one End
+front_events : (n : ℕ) (events : List Event) → n ≤ length events + 1 → next_events n events ≡ take n (with_end events)
+front_events zero events few = refl
+front_events (suc zero) [] few = refl
+front_events (suc (suc n)) [] few = absurd (omega arith)
+front_events (suc n) (event ∷ events) few = ap (λ es. event ∷ es) (front_events n events (omega arith))
+
+-- more than these
+past_events : (n : ℕ) (events : List Event) → length events + 1 ≤ n → (more : List Event) × (next_events n events ≡ with_end events ++ more)
+past_events zero events many = absurd (omega arith)
+past_events (suc n) [] many = (next_events n [], refl)
+past_events (suc n) (event ∷ events) many =
+    let rest = past_events n events (omega arith) in (rest.0, ap (λ es. event ∷ es) rest.1)
+
+-- what was heard of a run that ended within the turns
+pub record Ended (turns : ℕ) (events hs : List Event) : Type 0 where
+  pub within : ends_within turns events ≡ true
+  pub same : run (with_end events) ≡ run hs
+
+ended_at : (turns : ℕ) (events hs rest : List Event) → with_end events ≡ hs ++ rest → length hs ≤ turns → has_finish (script hs) ≡ true → Ended turns events hs
+ended_at turns events hs rest parts few finishes =
+    let place : length hs + (turns - length hs) ≡ turns = omega arith in
+    let first : take turns (with_end events) ≡ hs ++ take (turns - length hs) rest = ap (λ n. take n (with_end events)) (sym place) ∙ (ap (take (length hs + (turns - length hs))) parts ∙ take-append-add hs rest (turns - length hs)) in
+    record {
+      within = ap (λ es. has_finish (script es)) first ∙ (ap has_finish (script_stops start hs (take (turns - length hs) rest) finishes) ∙ finishes);
+      same = ap run parts ∙ run_stops start hs rest finishes;
+    }
+
+ended_past : (turns : ℕ) (events hs more : List Event) → hs ≡ with_end events ++ more → length events + 1 ≤ turns → Ended turns events hs
+ended_past turns events hs more parts many =
+    let all : take turns (with_end events) ≡ with_end events = take_all turns (with_end events) (omega (arith, length-append events (End ∷ []))) in
+    record {
+      within = ap (λ es. has_finish (script es)) all ∙ end_finishes start events;
+      same = sym (ap run parts ∙ run_stops start (with_end events) more (end_finishes start events));
+    }
+
+pub ended_run : (turns : ℕ) (events hs : List Event) → hs ≡ next_events (length hs) events → length hs ≤ turns → has_finish (script hs) ≡ true → Ended turns events hs
+ended_run turns events hs brought few finishes = elim (cases_lt (length events + 1) (length hs)) [
+  | inl h ↦ let past = past_events (length hs) events (omega arith) in ended_past turns events hs past.0 (brought ∙ past.1) (omega arith)
+  | inr h ↦ let parts : with_end events ≡ hs ++ drop (length hs) (with_end events) = sym (take-append-drop (length hs) (with_end events)) ∙ ap (λ es. es ++ drop (length hs) (with_end events)) (sym (brought ∙ front_events (length hs) events h)) in
+      ended_at turns events hs (drop (length hs) (with_end events)) parts few finishes
+]
+
+-- what was heard of a run that was cut off
+pub record CutOff (turns : ℕ) (events hs : List Event) : Type 0 where
+  pub few : turns ≤ length events
+  pub same : hs ≡ take turns events
+  pub unended : ends_within turns events ≡ false
+
+pub spent_run : (turns : ℕ) (events hs : List Event) → hs ≡ next_events (length hs) events → length hs ≡ turns → has_finish (script hs) ≡ false → CutOff turns events hs
+spent_run turns events hs brought all unfinished = elim (cases_lt (length events) turns) [
+  | inl h ↦ let past = past_events (length hs) events (omega arith) in
+      let finishes : has_finish (script hs) ≡ true = ap (λ es. has_finish (script es)) (brought ∙ past.1) ∙ (ap has_finish (script_stops start (with_end events) past.0 (end_finishes start events)) ∙ end_finishes start events) in
+      absurd (false≢true (sym unfinished ∙ finishes))
+  | inr h ↦ let first : hs ≡ take turns (with_end events) = brought ∙ (ap (λ n. next_events n events) all ∙ front_events turns events (omega arith)) in
+      record {
+        few = h;
+        same = first ∙ take-append-le turns events (End ∷ []) h;
+        unended = ap (λ es. has_finish (script es)) (sym first) ∙ unfinished;
+      }
+]

@@ -1,0 +1,160 @@
+-- What was printed, and how a run ended.
+use Rattle.std.proofs.Common.{◌≡◌, inl, inr, ℕ, ◌+◌, ◌≤◌, true, false, List, [], ◌∷◌, ◌++◌, map, Option, Some, None, Result, Ok, Err, IfSome, IsErrAnd, refl, sym, ◌∙◌, ap, subst, arith, append_assoc}
+use Rattle.std.proofs.lemmas.List.{append-nil, take_all}
+use Rattle.sm_world.specs.Outside.{Outside, Rose, UsesConsole, adds, on_ok}
+use Rattle.sm_world.specs.declared.effects.Effect.{Effect}
+use Rattle.sm_world.specs.declared.effects.Effect.TheVariants.{Printed}
+use Rattle.sm_world.specs.declared.failures.Failure.{Failure}
+use Rattle.sm_world.specs.declared.failures.Failure.TheVariants.{Failed, NoMemory as DeviceMemory}
+use Rattle.session_engine.specs.Carries.{Added}
+use Rattle.smd_app.specs.Faults.{IsScriptFault}
+use Rattle.smd_app.specs.FaultLines.{Tries, fault_line, fault_status, console_fault, script_fault}
+use Rattle.smd_app.specs.Input.{front, TakesFront}
+use Rattle.smd_app.specs.Rehearsals.{script_of, Rehearses}
+use Rattle.smd_app.specs.Script.{ScriptSays}
+use Rattle.smd_app.specs.Statuses.{AreRehearse, Ending, HasEnding, Runs, Answers}
+use Rattle.smd_app.specs.declared.fault.Fault.{Fault}
+use Rattle.smd_app.specs.declared.fault.Fault.TheVariants.{BadWords, Console, BadLine, Spent, NoMemory}
+use Rattle.sm_world.specs.declared.events.Event.{Event}
+use Rattle.smd_app.specs.declared.rehearsal.Rehearsal.{Rehearsal}
+use Rattle.smd_app.specs.declared.script.ScriptFault.{ScriptFault}
+use Rattle.smd_app.specs.declared.script.ScriptFault.TheVariants.{BadLine as FirstBadLine, NoMemory as ScriptMemory}
+use Rattle.smd_app.specs.declared.script.TheConstants.{SCRIPT_LIMIT}
+
+pub adds-none : (told : Option (List Effect)) → adds told [] ≡ told
+adds-none None = refl
+adds-none (Some told) = ap Some (append-nil told)
+
+pub adds-adds : (told : Option (List Effect)) (xs ys : List Effect) → adds (adds told xs) ys ≡ adds told (xs ++ ys)
+adds-adds None xs ys = refl
+adds-adds (Some told) xs ys = ap Some (append_assoc told xs ys)
+
+-- a line was tried
+pub line_tried : {E : Type 0} (result : Result (Unit {0}) E) (old new : Option (List Effect)) (text : List ℕ) → new ≡ adds old (on_ok result (Printed text ∷ [])) → Added old new (Tries (Some text))
+line_tried (Ok x) old new text e = record { effects = Printed text ∷ []; added = e; holds = record { texts = text ∷ []; printed = refl; tried = inl refl } }
+line_tried (Err x) old new text e = record { effects = []; added = e; holds = record { texts = []; printed = refl; tried = inr refl } }
+
+-- what `?` makes of an error
+pub err_is : {A E : Type 0} (result : Result A E) (fault : E) → IsErrAnd result (λ e. e ≡ fault) → result ≡ Err fault
+err_is (Ok x) fault h = absurd h
+err_is (Err e) fault h = ap Err h
+
+-- The script's bytes were read, and nothing else was done.
+pub record Took (old mid : Outside) (bytes : List ℕ) : Type 0 where
+  pub input : List ℕ
+  pub is_input : IfSome old.input (λ told. told ≡ input)
+  pub is_script : bytes ≡ script_of input
+  pub told : mid.told ≡ old.told
+  pub console : old.faults.console ≤ mid.faults.console
+
+front_taken : (limit : ℕ) (told : Option (List ℕ)) (bytes : List ℕ) → TakesFront {E = Failure} limit told (Ok bytes) → (input : List ℕ) × (IfSome told (λ t. t ≡ input)) × (bytes ≡ front limit input)
+unfolding front
+front_taken limit None bytes taken = (bytes, tt, sym (take_all limit bytes taken))
+front_taken limit (Some input) bytes taken = (input, refl, taken)
+
+pub took : (old mid : Outside) (bytes : List ℕ) → mid.told ≡ old.told → TakesFront {E = Failure} (SCRIPT_LIMIT + 1) old.input (Ok bytes) → old.faults.console ≤ mid.faults.console → Took old mid bytes
+unfolding script_of
+took old mid bytes told taken counts =
+    let parts = front_taken (SCRIPT_LIMIT + 1) old.input bytes taken in
+    record { input = parts.0; is_input = parts.1; is_script = parts.2; told = told; console = counts }
+
+some_input : (told : Option (List ℕ)) → (input : List ℕ) × IfSome told (λ t. t ≡ input)
+some_input None = ([], tt)
+some_input (Some input) = (input, refl)
+
+-- a run that printed these texts after its script was read
+pub ran : (words : List (List ℕ)) (old mid new : Outside) (turns : ℕ) (bytes : List ℕ) (texts : List (List ℕ)) (ending : Ending) → Took old mid bytes → new.told ≡ adds mid.told (map Printed texts) → HasEnding words old.faults.console new.faults.console bytes turns texts ending → Added old.told new.told (Runs words old new turns ending)
+ran words old mid new turns bytes texts ending taken printed holds =
+    let P : List ℕ → Type 0 = λ b. HasEnding words old.faults.console new.faults.console b turns texts ending in
+    record {
+      effects = map Printed texts;
+      added = printed ∙ ap (λ told. adds told (map Printed texts)) taken.told;
+      holds = record { input = taken.input; is_input = taken.is_input; texts = texts; printed = refl; holds = subst P taken.is_script holds };
+    }
+
+refused : (words : List (List ℕ)) (before after : ℕ) (bytes : List ℕ) (turns : ℕ) (failure : Failure) → AreRehearse words → (failure ≡ Failed → Rose before after) → HasEnding words before after bytes turns [] (Err (console_fault failure))
+refused words before after bytes turns Failed are rose = (are, rose refl, refl)
+refused words before after bytes turns DeviceMemory are rose = (are, refl)
+
+-- the console's input was refused
+pub read_refused : (words : List (List ℕ)) (old new : Outside) (turns : ℕ) (failure : Failure) → AreRehearse words → new.told ≡ old.told → UsesConsole {A = List ℕ} old new (Err failure) → Added old.told new.told (Runs words old new turns (Err (console_fault failure)))
+read_refused words old new turns failure are told uses =
+    let some = some_input old.input in
+    record {
+      effects = [];
+      added = told ∙ sym (adds-none old.told);
+      holds = record { input = some.0; is_input = some.1; texts = []; printed = refl; holds = refused words old.faults.console new.faults.console (script_of some.0) turns failure are (λ e. uses.cause (ap Err e)) };
+    }
+
+-- the script has a bad line, or memory was wanting
+pub script_refused : (words : List (List ℕ)) (old mid : Outside) (turns : ℕ) (bytes : List ℕ) (cause : ScriptFault) → AreRehearse words → Took old mid bytes → IsScriptFault bytes cause → Added old.told mid.told (Runs words old mid turns (Err (script_fault cause)))
+script_refused words old mid turns bytes (FirstBadLine n) are taken bad = ran words old mid mid turns bytes [] (Err (BadLine n)) taken (sym (adds-none mid.told)) (are, bad, refl)
+script_refused words old mid turns bytes ScriptMemory are taken bad = ran words old mid mid turns bytes [] (Err NoMemory) taken (sym (adds-none mid.told)) (are, refl)
+
+-- memory was wanting for the run
+pub run_refused : (words : List (List ℕ)) (old mid : Outside) (turns : ℕ) (bytes : List ℕ) → AreRehearse words → Took old mid bytes → Added old.told mid.told (Runs words old mid turns (Err NoMemory))
+run_refused words old mid turns bytes are taken = ran words old mid mid turns bytes [] (Err NoMemory) taken (sym (adds-none mid.told)) (are, refl)
+
+rose_since : (first before after : ℕ) → first ≤ before → Rose before after → Rose first after
+rose_since first before after not_fallen (inl rose) = inl (omega arith)
+rose_since first before after not_fallen (inr most) = inr most
+
+-- the trace was refused
+pub print_refused : (words : List (List ℕ)) (old mid new : Outside) (turns : ℕ) (bytes : List ℕ) (failure : Failure) → AreRehearse words → Took old mid bytes → new.told ≡ adds mid.told [] → UsesConsole {A = Unit {0}} mid new (Err failure) → Added old.told new.told (Runs words old new turns (Err (console_fault failure)))
+print_refused words old mid new turns bytes failure are taken told uses =
+    ran words old mid new turns bytes [] (Err (console_fault failure)) taken told
+    (refused words old.faults.console new.faults.console bytes turns failure are (λ e. rose_since old.faults.console mid.faults.console new.faults.console taken.console (uses.cause (ap Err e))))
+
+pub run_ended : (words : List (List ℕ)) (old mid new : Outside) (turns : ℕ) (bytes shown : List ℕ) (events : List Event) (rehearsal : Rehearsal) → AreRehearse words → Took old mid bytes → ScriptSays bytes events → Rehearses events turns rehearsal → rehearsal.finished ≡ true → shown ≡ rehearsal.trace → new.told ≡ adds mid.told (Printed shown ∷ []) → Added old.told new.told (Runs words old new turns (Ok tt))
+run_ended words old mid new turns bytes shown events rehearsal are taken says rehearses finished is_shown told =
+    ran words old mid new turns bytes (shown ∷ []) (Ok tt) taken told
+    (are, (events, record { says = says; ended = sym rehearses.ended ∙ finished }, ap (λ text. text ∷ []) (is_shown ∙ rehearses.whole finished)))
+
+pub run_spent : (words : List (List ℕ)) (old mid new : Outside) (turns : ℕ) (bytes shown : List ℕ) (events : List Event) (rehearsal : Rehearsal) → AreRehearse words → Took old mid bytes → ScriptSays bytes events → Rehearses events turns rehearsal → rehearsal.finished ≡ false → shown ≡ rehearsal.trace → new.told ≡ adds mid.told (Printed shown ∷ []) → Added old.told new.told (Runs words old new turns (Err Spent))
+run_spent words old mid new turns bytes shown events rehearsal are taken says rehearses unfinished is_shown told =
+    let cut = rehearses.cut unfinished in
+    ran words old mid new turns bytes (shown ∷ []) (Err Spent) taken told
+    (are, (events, record { says = says; heard = cut.0; unended = sym rehearses.ended ∙ unfinished }, ap (λ text. text ∷ []) (is_shown ∙ cut.1)))
+
+-- other words
+pub bad_words : (words : List (List ℕ)) (old : Outside) (turns : ℕ) → (AreRehearse words → ⊥) → Added old.told old.told (Runs words old old turns (Err BadWords))
+bad_words words old turns others =
+    let some = some_input old.input in
+    record {
+      effects = [];
+      added = sym (adds-none old.told);
+      holds = record { input = some.0; is_input = some.1; texts = []; printed = refl; holds = (others, refl) };
+    }
+
+-- The line of a fault changes nothing of what the fault says.
+still_holds : (words : List (List ℕ)) (before after later : ℕ) (bytes : List ℕ) (turns : ℕ) (texts : List (List ℕ)) (fault : Fault) → (fault ≡ Console → later ≡ after) → HasEnding words before after bytes turns texts (Err fault) → HasEnding words before later bytes turns texts (Err fault)
+still_holds words before after later bytes turns texts BadWords silent holds = holds
+still_holds words before after later bytes turns texts Console silent holds =
+    let P : ℕ → Type 0 = Rose before in (holds.0, subst P (sym (silent refl)) holds.1, holds.2)
+still_holds words before after later bytes turns texts (BadLine n) silent holds = holds
+still_holds words before after later bytes turns texts Spent silent holds = holds
+still_holds words before after later bytes turns texts NoMemory silent holds = holds
+
+-- a run that ended with a fault, and then the fault's line
+pub reported : (words : List (List ℕ)) (old mid new : Outside) (turns status : ℕ) (fault : Fault) → Added old.told mid.told (Runs words old mid turns (Err fault)) → Added mid.told new.told (Tries (fault_line fault)) → (fault ≡ Console → new ≡ mid) → status ≡ fault_status fault → Added old.told new.told (Answers words old new turns status)
+reported words old mid new turns status fault runs line silent number =
+    let run = runs.holds in
+    record {
+      effects = runs.effects ++ line.effects;
+      added = line.added ∙ (ap (λ told. adds told line.effects) runs.added ∙ adds-adds old.told runs.effects line.effects);
+      holds = record {
+        ending = Err fault;
+        number = number;
+        first = runs.effects;
+        last = line.effects;
+        parts = refl;
+        ran = record {
+          input = run.input;
+          is_input = run.is_input;
+          texts = run.texts;
+          printed = run.printed;
+          holds = still_holds words old.faults.console mid.faults.console new.faults.console (script_of run.input) turns run.texts fault (λ e. ap (λ outside. outside.faults.console) (silent e)) run.holds;
+        };
+        tried = line.holds;
+      };
+    }

@@ -1,0 +1,7 @@
+use Rattle.std.proofs.Common.{◌≡◌, take}
+use Rattle.session_engine.specs.Carries.{items}
+use Rattle.smd_app.specs.Trace.{text}
+use Rattle.smd_app.proofs.trace.trace_text.Given as goal
+
+abbrev pub invariant-loop-effect : goal.invariant-loop-effect
+invariant-loop-effect l = l.out ≡ text (items (take l.effect-index l.effects))

@@ -1,0 +1,47 @@
+-- A rehearsal: a script's events, and then End, are run on a world in memory.
+use Rattle.std.specs.Prelude.{◌≡◌, ℕ, ◌+◌, ◌≤◌, Bool, true, false, List, [], ◌∷◌, ◌++◌, length, take}
+use Rattle.sm_world.specs.declared.events.Event.{Event}
+use Rattle.sm_world.specs.declared.events.Event.TheVariants.{End}
+use Rattle.session_engine.specs.Machine.{script, run, has_finish}
+use Rattle.smd_app.specs.Input.{front}
+use Rattle.smd_app.specs.Script.{ScriptSays}
+use Rattle.smd_app.specs.Trace.{text}
+use Rattle.smd_app.specs.declared.script.TheConstants.{SCRIPT_LIMIT}
+use Rattle.smd_app.specs.declared.rehearsal.Rehearsal.{Rehearsal}
+
+-- what is read as the script: of one that is too long, one byte more than it can have
+unfoldable pub script_of : List ℕ → List ℕ
+script_of input = front (SCRIPT_LIMIT + 1) input
+
+-- all that a script brings: its events, and then End
+abbrev pub with_end : List Event → List Event
+with_end events = events ++ End ∷ []
+
+-- one of the first so many events ends the run
+abbrev pub ends_within : ℕ → List Event → Bool
+ends_within turns events = has_finish (script (take turns (with_end events)))
+
+-- The script was read to its end, and its run came to its own end within the turns.
+pub record Finishes (bytes : List ℕ) (turns : ℕ) (events : List Event) : Type 0 where
+  pub says : ScriptSays bytes events
+  pub ended : ends_within turns events ≡ true
+
+-- The script was read to its end, as many events were heard as there were turns, and none ended the run.
+pub record Outlasts (bytes : List ℕ) (turns : ℕ) (events : List Event) : Type 0 where
+  pub says : ScriptSays bytes events
+  pub heard : turns ≤ length events
+  pub unended : ends_within turns events ≡ false
+
+-- the lines of the whole run
+abbrev pub whole_trace : List Event → List ℕ
+whole_trace events = text (run (with_end events))
+
+-- the lines for the first events, as many as there were turns
+abbrev pub first_trace : ℕ → List Event → List ℕ
+first_trace turns events = text (run (take turns events))
+
+-- whether the run came to its end, and its lines
+pub record Rehearses (events : List Event) (turns : ℕ) (rehearsal : Rehearsal) : Type 0 where
+  pub ended : rehearsal.finished ≡ ends_within turns events
+  pub whole : rehearsal.finished ≡ true → rehearsal.trace ≡ whole_trace events
+  pub cut : rehearsal.finished ≡ false → (turns ≤ length events) × (rehearsal.trace ≡ first_trace turns events)

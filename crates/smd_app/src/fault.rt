@@ -1,0 +1,90 @@
+ghost use Rattle.std.specs.Prelude.{◌≡◌, Some};
+ghost use Rattle.session_engine.specs.Carries.{Added, NotFallen};
+ghost use Rattle.smd_app.specs.FaultLines.{console_fault, script_fault, fault_status, fault_line, Tries};
+ghost use Rattle.smd_app.specs.declared.fault.Fault.TheVariants.{Console as ConsoleFault, NoMemory as OutOfMemory};
+
+use crate::script::ScriptFault;
+use sm_world::{Console, Failure, NoMemory};
+use std::alloc::Global;
+
+/// Why a run of the program didn't end well. Each has its status and, but for the console's
+/// fault, its line.
+#[derive(Clone, Copy, Debug, PartialEq, Eq)]
+pub enum Fault {
+    BadWords,
+    Console,
+    BadLine(u64),
+    Spent,
+    NoMemory,
+}
+
+impl From<Failure> for Fault {
+    ghost from_gives = { λ failure fault. fault ≡ console_fault failure };
+
+    fn from(failure: Failure) -> Fault {
+        match failure {
+            Failure::Failed => Fault::Console,
+            Failure::NoMemory => Fault::NoMemory,
+        }
+    }
+}
+
+impl From<NoMemory> for Fault {
+    ghost from_gives = { λ _ fault. fault ≡ OutOfMemory };
+
+    fn from(_error: NoMemory) -> Fault {
+        Fault::NoMemory
+    }
+}
+
+impl From<ScriptFault> for Fault {
+    ghost from_gives = { λ cause fault. fault ≡ script_fault cause };
+
+    fn from(fault: ScriptFault) -> Fault {
+        match fault {
+            ScriptFault::BadLine(number) => Fault::BadLine(number),
+            ScriptFault::NoMemory => Fault::NoMemory,
+        }
+    }
+}
+
+/// Prints a line. A refusal changes nothing more.
+fn try_line<W: Console>(world: &mut W, line: &[u8])
+    ensures tried { Added (W.outside world.old).told (W.outside world.new).told (Tries (Some line.now)) }
+    ensures counts { NotFallen (W.outside world.old).faults (W.outside world.new).faults }
+{
+    let _ = world.print(line);
+}
+
+impl Fault {
+    pub fn status(self) -> u8
+        ensures { result ≡ fault_status self }
+    {
+        match self {
+            Fault::BadWords => 1,
+            Fault::Console => 6,
+            Fault::BadLine(_) => 7,
+            Fault::Spent => 9,
+            Fault::NoMemory => 10,
+        }
+    }
+
+    /// Prints the line of the fault, once. A refusal changes nothing more.
+    pub fn report<W: Console>(self, alloc: Global, world: &mut W)
+        ensures tried { Added (W.outside world.old).told (W.outside world.new).told (Tries (fault_line self)) }
+        ensures counts { NotFallen (W.outside world.old).faults (W.outside world.new).faults }
+        ensures silent { self ≡ ConsoleFault → W.outside world.new ≡ W.outside world.old }
+    {
+        match self {
+            Fault::BadWords => try_line(world, b"smd: bad words\n"),
+            Fault::Console => {}
+            Fault::BadLine(number) => {
+                if let Ok(line) = format!(in alloc; "smd: bad script line {number}\n") {
+                    try_line(world, line.as_bytes());
+                }
+            }
+            Fault::Spent => try_line(world, b"smd: turns spent\n"),
+            Fault::NoMemory => try_line(world, b"smd: no memory\n"),
+        }
+    }
+}
