@@ -65,14 +65,14 @@ length-changed f c (k ∷ ks) = ap suc (length-changed f c ks)
 
 changed_number : (f : Connection → Connection) → ((k : Connection) → (f k).number ≡ k.number) → (c : ℕ) (k : Connection) → (if nat_eq k.number c then f k else k).number ≡ k.number
 changed_number f keeps c k = elim (cases_eq k.number c) [
-  inl e ↦ rw (same k.number c e) (keeps k) |
-  inr apart ↦ rw (other k.number c apart) refl
+  | inl e ↦ rw (same k.number c e) (keeps k)
+  | inr apart ↦ rw (other k.number c apart) refl
 ]
 
 none_changed : (f : Connection → Connection) → ((k : Connection) → (f k).number ≡ k.number) → (c q : ℕ) (ks : List Connection) → connection_of q ks ≡ None → connection_of q (changed f c ks) ≡ None
 none_changed f keeps c q ks absent = elim (cases_eq q c) [
-  inl e ↦ rw (connection_of-changed f keeps c q ks, same q c e, absent) refl |
-  inr apart ↦ rw (connection_of-changed f keeps c q ks, other q c apart) absent
+  | inl e ↦ rw (connection_of-changed f keeps c q ks, same q c e, absent) refl
+  | inr apart ↦ rw (connection_of-changed f keeps c q ks, other q c apart) absent
 ]
 
 pub distinct-changed : (f : Connection → Connection) → ((k : Connection) → (f k).number ≡ k.number) → (c : ℕ) (ks : List Connection) → AreDistinct ks → AreDistinct (changed f c ks)
@@ -81,35 +81,35 @@ distinct-changed f keeps c (k ∷ ks) distinct = (rw (changed_number f keeps c k
 
 none_without : (c q : ℕ) (ks : List Connection) → connection_of q ks ≡ None → connection_of q (without c ks) ≡ None
 none_without c q ks absent = elim (cases_eq q c) [
-  inl e ↦ rw (connection_of-without c q ks, same q c e) refl |
-  inr apart ↦ rw (connection_of-without c q ks, other q c apart) absent
+  | inl e ↦ rw (connection_of-without c q ks, same q c e) refl
+  | inr apart ↦ rw (connection_of-without c q ks, other q c apart) absent
 ]
 
 pub distinct-without : (c : ℕ) (ks : List Connection) → AreDistinct ks → AreDistinct (without c ks)
 distinct-without c [] distinct = tt
 distinct-without c (k ∷ ks) distinct = elim (cases_eq k.number c) [
-  inl e ↦ rw (same k.number c e) (distinct-without c ks distinct.1) |
-  inr apart ↦ rw (other k.number c apart) (none_without c k.number ks distinct.0, distinct-without c ks distinct.1)
+  | inl e ↦ rw (same k.number c e) (distinct-without c ks distinct.1)
+  | inr apart ↦ rw (other k.number c apart) (none_without c k.number ks distinct.0, distinct-without c ks distinct.1)
 ]
 
 without_absent : (c : ℕ) (ks : List Connection) → connection_of c ks ≡ None → without c ks ≡ ks
 without_absent c [] absent = refl
 without_absent c (k ∷ ks) absent = elim (cases_eq k.number c) [
-  inl e ↦ let found : Some k ≡ None = rw (same k.number c e) at absent in cc |
-  inr apart ↦ rw (other k.number c apart) (ap (λ xs. k ∷ xs) (without_absent c ks (rw (other k.number c apart) at absent)))
+  | inl e ↦ let found : Some k ≡ None = rw (same k.number c e) at absent in cc
+  | inr apart ↦ rw (other k.number c apart) (ap (λ xs. k ∷ xs) (without_absent c ks (rw (other k.number c apart) at absent)))
 ]
 
 pub length-without : (c : ℕ) (ks : List Connection) → AreDistinct ks → length (without c ks) + (if is_some (connection_of c ks) then 1 else 0) ≡ length ks
 length-without c [] distinct = refl
 length-without c (k ∷ ks) distinct = elim (cases_eq k.number c) [
-  inl e ↦ let absent : connection_of c ks ≡ None = rw e at distinct.0 in rw (same k.number c e, without_absent c ks absent) (omega arith) |
-  inr apart ↦ rw (other k.number c apart) (omega (arith, length-without c ks distinct.1))
+  | inl e ↦ let absent : connection_of c ks ≡ None = rw e at distinct.0 in rw (same k.number c e, without_absent c ks absent) (omega arith)
+  | inr apart ↦ rw (other k.number c apart) (omega (arith, length-without c ks distinct.1))
 ]
 
 pub distinct-append : (ks : List Connection) (k : Connection) → AreDistinct ks → connection_of k.number ks ≡ None → AreDistinct (ks ++ k ∷ [])
 distinct-append [] k distinct absent = (refl, tt)
 distinct-append (x ∷ ks) k distinct absent = elim (cases_eq x.number k.number) [
-  inl e ↦ let found : Some x ≡ None = rw (same x.number k.number e) at absent in cc |
-  inr apart ↦ let rest : connection_of k.number ks ≡ None = rw (other x.number k.number apart) at absent in
-    (rw (connection_of-append x.number ks k rest, other x.number k.number apart) distinct.0, distinct-append ks k distinct.1 rest)
+  | inl e ↦ let found : Some x ≡ None = rw (same x.number k.number e) at absent in cc
+  | inr apart ↦ let rest : connection_of k.number ks ≡ None = rw (other x.number k.number apart) at absent in
+      (rw (connection_of-append x.number ks k rest, other x.number k.number apart) distinct.0, distinct-append ks k distinct.1 rest)
 ]

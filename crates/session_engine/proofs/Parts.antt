@@ -41,7 +41,7 @@ new_parts-is stream piece within =
     let frames : frames_of (stream ++ piece) ≡ frames_of stream ++ (cut (fed (standing_of stream) piece)).frames = frames_of-append stream piece in
     let standing : standing_of (stream ++ piece) ≡ (cut (fed (standing_of stream) piece)).standing = standing_of-append stream piece in
     let all : parts_of (stream ++ piece) ≡ map Whole (frames_of stream) ++ parts_at (fed (standing_of stream) piece) =
-      rw (frames, standing, map-append) (append_assoc (map Whole (frames_of stream)) (map Whole (cut (fed (standing_of stream) piece)).frames) (oversize_part (cut (fed (standing_of stream) piece)).standing)) in
+    rw (frames, standing, map-append) (append_assoc (map Whole (frames_of stream)) (map Whole (cut (fed (standing_of stream) piece)).frames) (oversize_part (cut (fed (standing_of stream) piece)).standing)) in
     rw (before, all) (drop-append_seam (map Whole (frames_of stream)) (parts_at (fed (standing_of stream) piece)))
 
 -- nothing more came

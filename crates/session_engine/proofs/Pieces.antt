@@ -60,8 +60,8 @@ live_as pending (Some row) (Some k) match = tt
 
 pub live_at : (c : ℕ) (pending : ℕ → List ℕ) (table : Table) (m : Machine) → Matches (pending c) (row_at table c) (connection_of c m.connections) → ((q : ℕ) → (q ≡ c → ⊥) → Matches (pending q) (row_at table q) (connection_of q m.connections)) → (q : ℕ) → Matches (pending q) (row_at table q) (connection_of q m.connections)
 live_at c pending table m here elsewhere q = elim (cases_eq q c) [
-  inl e ↦ let P : ℕ → Type 0 = λ n. Matches (pending n) (row_at table n) (connection_of n m.connections) in subst P (sym e) here |
-  inr apart ↦ elsewhere q apart
+  | inl e ↦ let P : ℕ → Type 0 = λ n. Matches (pending n) (row_at table n) (connection_of n m.connections) in subst P (sym e) here
+  | inr apart ↦ elsewhere q apart
 ]
 
 -- A table shows a machine where it does at one connection and at every other.
@@ -110,7 +110,7 @@ begins_by m c bytes table old (Some row) (Some k) is_row is_connection match sho
     record {
       machine = after;
       shows = shows_by c (to_cut c bytes) table after here elsewhere
-        (changed_counts (fed_with bytes) (λ k. refl) c table table m shows.counts refl (λ q. live_as (to_cut c bytes q) (row_at table q) (connection_of q after.connections) (live_at c (to_cut c bytes) table after here elsewhere q)));
+          (changed_counts (fed_with bytes) (λ k. refl) c table table m shows.counts refl (λ q. live_as (to_cut c bytes q) (row_at table q) (connection_of q after.connections) (live_at c (to_cut c bytes) table after here elsewhere q)));
       going = record { effects = []; added = sym (adds-none old); holds = rw (is_row, is_connection, fed_parts bytes row k match) (still (parts_taken after c (parts_at (fed row.splitter bytes))).acts) };
       next = rw (is_row, is_connection, fed_parts bytes row k match) refl;
     }
@@ -158,9 +158,9 @@ all_done all c left old now table after taking none_left here others count =
         holds = record { left = []; going = rw none_left at taking.going.holds; none_left = λ e. refl };
       };
       shows = λ e. rw (sym (rw none_left at taking.next)) (
-        shows_by c all_cut after taking.machine here elsewhere
+          shows_by c all_cut after taking.machine here elsewhere
           (same_counts table after taking.machine taking.shows.counts count (λ q. live_as (all_cut q) (row_at after q) (connection_of q taking.machine.connections) (live_at c all_cut after taking.machine here elsewhere q)))
-      );
+          );
     }
 
 ends_by : (all : Step) (c : ℕ) (left : List ℕ) (old now : Option (List Effect)) (table after : Table) (cut_so : Option Answered) (row : Option Row) → row_at table c ≡ row → cut_so ≡ None → (taking : Taking all c left old now table) → CutsAt row left cut_so (row_at after c) → Matches left row (connection_of c taking.machine.connections) → ((q : ℕ) → q ≢ c → row_at after q ≡ row_at table q) → row_count after ≡ row_count table → Carried all_cut old now after all true
@@ -168,10 +168,10 @@ ends_by all c left old now table after cut_so None is_row is_end taking cut matc
     all_done all c left old now table after taking (rw is_row refl) (rw (cut.1, none_shown left (connection_of c taking.machine.connections) match) tt) others count
 ends_by all c left old now table after cut_so (Some row) is_row is_end taking (changed_row, changed_is, cut) match others count =
     elim (cut.ready (row_ready row left (connection_of c taking.machine.connections) match)) [
-      inl whole ↦ cc (is_end, whole.answered_is) |
-      inr others_so ↦ elim others_so [
-        inl header ↦ cc (is_end, header.answered_is) |
-        inr waits ↦ all_done all c left old now table after taking (rw is_row (parts_at-partial (fed row.splitter left) waits.partial waits.within)) (rw (changed_is) (waits_shown row changed_row left cut_so (connection_of c taking.machine.connections) match waits)) others count
+      | inl whole ↦ cc (is_end, whole.answered_is)
+      | inr others_so ↦ elim others_so [
+        | inl header ↦ cc (is_end, header.answered_is)
+        | inr waits ↦ all_done all c left old now table after taking (rw is_row (parts_at-partial (fed row.splitter left) waits.partial waits.within)) (rw (changed_is) (waits_shown row changed_row left cut_so (connection_of c taking.machine.connections) match waits)) others count
       ]
     ]
 
@@ -252,9 +252,9 @@ the_row one two e = cc
 answering_counts : (c : ℕ) (table after : Table) (m : Machine) → Counts table m → row_count after ≡ row_count table → ((q : ℕ) → q ≢ c → row_at after q ≡ row_at table q) → (row changed_row : Row) → row_at table c ≡ Some row → row_at after c ≡ Some changed_row → Counts after (record m { connections = changed counted c m.connections })
 answering_counts c table after m counts count others row changed_row is_row is_changed =
     changed_counts counted (λ k. refl) c table after m counts count (λ q. elim (cases_eq q c) [
-      inl e ↦ let P : ℕ → Type 0 = λ n. IsLiveAs (row_at after n) (connection_of n (changed counted c m.connections)) in
-        subst P (sym e) (rw (is_changed, connection_of-changed counted (λ k. refl) c c m.connections, same c c refl) (still_live (connection_of c m.connections) row changed_row (rw is_row at (counts.live c)))) |
-      inr apart ↦ rw (others q apart, connection_of-changed counted (λ k. refl) c q m.connections, other q c apart) (counts.live q)
+      | inl e ↦ let P : ℕ → Type 0 = λ n. IsLiveAs (row_at after n) (connection_of n (changed counted c m.connections)) in
+          subst P (sym e) (rw (is_changed, connection_of-changed counted (λ k. refl) c c m.connections, same c c refl) (still_live (connection_of c m.connections) row changed_row (rw is_row at (counts.live c))))
+      | inr apart ↦ rw (others q apart, connection_of-changed counted (λ k. refl) c q m.connections, other q c apart) (counts.live q)
     ])
 
 -- what is cut behind a whole frame
@@ -268,52 +268,52 @@ answering_by all c left old now table after answered_so (Some row) (Some k) is_r
     let next : Machine = record taking.machine { connections = changed counted c taking.machine.connections } in
     let counts : Counts after next = answering_counts c table after taking.machine taking.shows.counts count others row changed_row is_row changed_is in
     let elsewhere : (q : ℕ) → (q ≡ c → ⊥) → Matches (to_cut c (drop answered_so.taken left) q) (row_at after q) (connection_of q next.connections) =
-      λ q apart. rw (to_cut-other c q (drop answered_so.taken left) apart, others q apart, connection_of-changed counted (λ k. refl) c q taking.machine.connections, other q c apart) (rw (to_cut-other c q left apart) at (taking.shows.rows q)) in
+    λ q apart. rw (to_cut-other c q (drop answered_so.taken left) apart, others q apart, connection_of-changed counted (λ k. refl) c q taking.machine.connections, other q c apart) (rw (to_cut-other c q left apart) at (taking.shows.rows q)) in
     let numbers : sequence_after row.sequence ≡ sequence_after k.taken = next_sequence row.sequence k.taken match.sequence in
     elim (cut.ready match.ready) [
-      inl whole ↦
-        let so : answered_so ≡ record { answer = answer_to row.stage (sequence_after row.sequence) (Whole whole.frame); taken = whole.taken } = some_is _ _ whole.answered_is in
-        let is_answer : answered_so.answer ≡ answer_to row.stage (sequence_after row.sequence) (Whole whole.frame) = ap (λ (a : Answered). a.answer) so in
-        let is_taken : answered_so.taken ≡ whole.taken = ap (λ (a : Answered). a.taken) so in
-        let cuts = parts_at-whole (fed row.splitter left) (fed changed_row.splitter (drop whole.taken left)) whole.frame whole.cuts in
-        let to_come : parts_to_come (row_at table c) left ≡ Whole whole.frame ∷ parts_at (fed changed_row.splitter (drop answered_so.taken left)) = rw (is_row, is_taken) cuts in
-        let taken_so : part_taken taking.machine c (Whole whole.frame) ≡ answered next c answered_so.answer = rw (is_k, ← match.stage, ← numbers, is_answer) refl in
-        record {
-          machine = next;
-          rest = parts_at (fed changed_row.splitter (drop answered_so.taken left));
-          shows = record {
-            others = elsewhere;
-            here = λ keeps. rw (to_cut-same c (drop answered_so.taken left), changed_is, connection_of-changed counted (λ k. refl) c c taking.machine.connections, same c c refl, is_k) (record {
-              stage = whole.stage;
-              sequence = whole.sequence ∙ numbers;
-              stands = rw (is_taken) (sym (behind_standing (fed row.splitter left) (fed changed_row.splitter (drop whole.taken left)) whole.frame whole.cuts) ∙ match.stands);
-              ready = whole.ready;
-            });
-            counts = counts;
-          };
-          going = record { effects = taking.going.effects; added = taking.going.added; holds = rw (to_come, taken_so) at taking.going.holds };
-          next = rw (to_come, taken_so) at taking.next;
-          rest_is = λ keeps r r_is. ap (λ (r : Row). parts_at (fed r.splitter (drop answered_so.taken left))) (sym (the_row changed_row r (sym changed_is ∙ r_is)));
-        } |
-      inr others_so ↦ elim others_so [
-        inl header ↦
-          let so : answered_so ≡ record { answer = answer_to row.stage (sequence_after row.sequence) (TooMuch (take 8 (fed row.splitter left).held)); taken = length left } = some_is _ _ header.answered_is in
-          let is_answer : answered_so.answer ≡ oversize_answer (sequence_after row.sequence) (take 8 (fed row.splitter left).held) = ap (λ (a : Answered). a.answer) so in
-          let to_come : parts_to_come (row_at table c) left ≡ TooMuch (take 8 (fed row.splitter left).held) ∷ [] = rw is_row (parts_at-oversize (fed row.splitter left) header.oversize) in
-          let taken_so : part_taken taking.machine c (TooMuch (take 8 (fed row.splitter left).held)) ≡ answered next c answered_so.answer = rw (is_k, ← numbers, is_answer) refl in
+      | inl whole ↦
+          let so : answered_so ≡ record { answer = answer_to row.stage (sequence_after row.sequence) (Whole whole.frame); taken = whole.taken } = some_is _ _ whole.answered_is in
+          let is_answer : answered_so.answer ≡ answer_to row.stage (sequence_after row.sequence) (Whole whole.frame) = ap (λ (a : Answered). a.answer) so in
+          let is_taken : answered_so.taken ≡ whole.taken = ap (λ (a : Answered). a.taken) so in
+          let cuts = parts_at-whole (fed row.splitter left) (fed changed_row.splitter (drop whole.taken left)) whole.frame whole.cuts in
+          let to_come : parts_to_come (row_at table c) left ≡ Whole whole.frame ∷ parts_at (fed changed_row.splitter (drop answered_so.taken left)) = rw (is_row, is_taken) cuts in
+          let taken_so : part_taken taking.machine c (Whole whole.frame) ≡ answered next c answered_so.answer = rw (is_k, ← match.stage, ← numbers, is_answer) refl in
           record {
             machine = next;
-            rest = [];
+            rest = parts_at (fed changed_row.splitter (drop answered_so.taken left));
             shows = record {
               others = elsewhere;
-              here = λ keeps. absurd (oversize_ends (sequence_after row.sequence) (take 8 (fed row.splitter left).held) (rw is_answer at keeps));
+              here = λ keeps. rw (to_cut-same c (drop answered_so.taken left), changed_is, connection_of-changed counted (λ k. refl) c c taking.machine.connections, same c c refl, is_k) (record {
+                stage = whole.stage;
+                sequence = whole.sequence ∙ numbers;
+                stands = rw (is_taken) (sym (behind_standing (fed row.splitter left) (fed changed_row.splitter (drop whole.taken left)) whole.frame whole.cuts) ∙ match.stands);
+                ready = whole.ready;
+              });
               counts = counts;
             };
             going = record { effects = taking.going.effects; added = taking.going.added; holds = rw (to_come, taken_so) at taking.going.holds };
             next = rw (to_come, taken_so) at taking.next;
-            rest_is = λ keeps r r_is. absurd (oversize_ends (sequence_after row.sequence) (take 8 (fed row.splitter left).held) (rw is_answer at keeps));
-          } |
-        inr waits ↦ absurd (some_is_not_none answered_so waits.answered_is)
+            rest_is = λ keeps r r_is. ap (λ (r : Row). parts_at (fed r.splitter (drop answered_so.taken left))) (sym (the_row changed_row r (sym changed_is ∙ r_is)));
+          }
+      | inr others_so ↦ elim others_so [
+        | inl header ↦
+            let so : answered_so ≡ record { answer = answer_to row.stage (sequence_after row.sequence) (TooMuch (take 8 (fed row.splitter left).held)); taken = length left } = some_is _ _ header.answered_is in
+            let is_answer : answered_so.answer ≡ oversize_answer (sequence_after row.sequence) (take 8 (fed row.splitter left).held) = ap (λ (a : Answered). a.answer) so in
+            let to_come : parts_to_come (row_at table c) left ≡ TooMuch (take 8 (fed row.splitter left).held) ∷ [] = rw is_row (parts_at-oversize (fed row.splitter left) header.oversize) in
+            let taken_so : part_taken taking.machine c (TooMuch (take 8 (fed row.splitter left).held)) ≡ answered next c answered_so.answer = rw (is_k, ← numbers, is_answer) refl in
+            record {
+              machine = next;
+              rest = [];
+              shows = record {
+                others = elsewhere;
+                here = λ keeps. absurd (oversize_ends (sequence_after row.sequence) (take 8 (fed row.splitter left).held) (rw is_answer at keeps));
+                counts = counts;
+              };
+              going = record { effects = taking.going.effects; added = taking.going.added; holds = rw (to_come, taken_so) at taking.going.holds };
+              next = rw (to_come, taken_so) at taking.next;
+              rest_is = λ keeps r r_is. absurd (oversize_ends (sequence_after row.sequence) (take 8 (fed row.splitter left).held) (rw is_answer at keeps));
+            }
+        | inr waits ↦ absurd (some_is_not_none answered_so waits.answered_is)
       ]
     ]
 

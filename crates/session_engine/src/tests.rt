@@ -19,8 +19,9 @@ const ORDER_SENT: &str = "Sent(1, Octets { bytes: [0, 1, 0, 0, 0, 0, 0, 0] }) ";
 const PING_ANSWERED: &str = "Sent(1, Octets { bytes: [0, 1, 0, 0, 0, 0, 0, 0] }) \
     Sent(1, Octets { bytes: [0, 10, 0, 0, 0, 0, 0, 0] }) ";
 
-/// ... and then its end.
-const CLOSED: &str = "Sent(1, Octets { bytes: [0, 1, 0, 0, 0, 0, 0, 0] }) Shut(1) ";
+/// ... and then a BadState for the first frame, a Ping, and its end.
+const CLOSED: &str = "Sent(1, Octets { bytes: [0, 1, 0, 0, 0, 0, 0, 0] }) \
+    Sent(1, Octets { bytes: [0, 0, 1, 128, 1, 0, 0, 0, 9, 2, 0, 0, 1, 0, 0, 0] }) Shut(1) ";
 
 /// Ends the test where other things were done than these. What was heard doesn't count.
 fn expect_done(

@@ -122,7 +122,8 @@ fn answers_of_short_scripts(rt: HostRuntime) -> Result<(), Fail> {
             "join 2\npiece 2 00090000000000000009\n",
             9,
             0,
-            "join 2\nsent 2 0001000000000000\npiece 2 00090000000000000009\nshut 2\nend\n|",
+            "join 2\nsent 2 0001000000000000\npiece 2 00090000000000000009\n\
+             sent 2 00000180010000000902000001000000\nshut 2\nend\n|",
         ),
         // Lines that aren't of the grammar.
         (
@@ -155,6 +156,93 @@ fn answers_of_short_scripts(rt: HostRuntime) -> Result<(), Fail> {
         expect_answer(&rt, &answer, status, want.as_bytes())?;
     }
     Ok(())
+}
+
+/// One connection that stated its order, then this piece, and what is done about it.
+fn expect_after_order(
+    rt: &(impl Abort + Alloc<A = Global>),
+    piece: &str,
+    done: &str,
+) -> Result<(), Fail> {
+    let alloc = rt.alloc();
+    let script = format!(in alloc; "join 1\npiece 1 0001000000000000\npiece 1 {piece}\n")?;
+    let want = format!(in alloc;
+        "join 1\nsent 1 0001000000000000\npiece 1 0001000000000000\npiece 1 {piece}\n{done}end\n|"
+    )?;
+    let answer = rehearsed(alloc, "rehearse", script.as_bytes(), 9)?;
+    expect_answer(rt, &answer, 0, want.as_bytes())
+}
+
+#[test]
+fn frames_behind_the_first(rt: HostRuntime) -> Result<(), Fail> {
+    let table: [(&str, &str); 8] = [
+        // A header that states 8,193 units, and one that states 8,192.
+        (
+            "0002000001200000",
+            "sent 1 00000280010000000202000002000000\nshut 1\n",
+        ),
+        ("0002000000200000", ""),
+        // A Ping with a body, and a minor opcode of no message.
+        (
+            "00090000010000000000000000000000",
+            "sent 1 00000280010000000902000002000000\nshut 1\n",
+        ),
+        (
+            "000d000000000000",
+            "sent 1 00000080010000000d02000002000000\nshut 1\n",
+        ),
+        // Another protocol's major opcode.
+        (
+            "0501000000000000",
+            "sent 1 000000000200000001020000020000000500000000000000\nshut 1\n",
+        ),
+        // Minor opcode 0 is taken silently, and what follows it is answered.
+        (
+            "00000000000000000009000000000000",
+            "sent 1 000a000000000000\n",
+        ),
+        // WantToClose, and what follows the shut.
+        ("000b0000000000000009000000000000", "shut 1\n"),
+        // A message that has no place before the set-up.
+        (
+            "000a000000000000",
+            "sent 1 00000180010000000a02000002000000\nshut 1\n",
+        ),
+    ];
+    for (piece, done) in table {
+        expect_after_order(&rt, piece, done)?;
+    }
+    Ok(())
+}
+
+#[test]
+fn the_first_connection_too_many(rt: HostRuntime) -> Result<(), Fail> {
+    let alloc = rt.alloc();
+    let mut script = Vec::new(alloc);
+    let mut want = Vec::new(alloc);
+    for number in 1..65u32 {
+        let line = format!(in alloc; "join {number}\n")?;
+        script.extend_from_slice(line.as_bytes())?;
+        let answer = format!(in alloc; "join {number}\nsent {number} 0001000000000000\n")?;
+        want.extend_from_slice(answer.as_bytes())?;
+    }
+    script.extend_from_slice(b"join 65\ngone 1\njoin 65\n")?;
+    want.extend_from_slice(b"join 65\nshut 65\ngone 1\njoin 65\nsent 65 0001000000000000\nend\n|")?;
+    let answer = rehearsed(alloc, "rehearse", script.as_slice(), 99)?;
+    expect_answer(&rt, &answer, 0, want.as_slice())
+}
+
+#[test]
+fn two_connections_interleaved(rt: HostRuntime) -> Result<(), Fail> {
+    let alloc = rt.alloc();
+    let script = b"join 1\njoin 2\npiece 1 0001\npiece 2 00010100\npiece 1 000000000000\n\
+        piece 2 000000000009\npiece 1 0009000000000000\npiece 2 000000000000\n";
+    let want = b"join 1\nsent 1 0001000000000000\njoin 2\nsent 2 0001000000000000\n\
+        piece 1 0001\npiece 2 00010100\npiece 1 000000000000\npiece 2 000000000009\n\
+        piece 1 0009000000000000\nsent 1 000a000000000000\n\
+        piece 2 000000000000\nsent 2 000a000000000000\nend\n|";
+    let answer = rehearsed(alloc, "rehearse", script, 99)?;
+    expect_answer(&rt, &answer, 0, want)
 }
 
 #[test]
