@@ -1,9 +1,9 @@
 -- The parts of a stream that comes in pieces.
-use Rattle.std.proofs.Common.{◌≡◌, ℕ, ◌+◌, ◌<◌, ◌≤◌, Bool, true, false, nat_lt, List, [], ◌∷◌, ◌++◌, map, length, take, drop, refl, sym, ◌∙◌, ap, arith, append_assoc}
+use Rattle.std.proofs.Common.{◌≡◌, ℕ, ◌≤◌, true, false, List, [], ◌∷◌, ◌++◌, map, take, refl, ◌∙◌, ap, arith, append_assoc}
 use Rattle.std.proofs.Math.Seq.{drop-append_seam}
 use Rattle.std.proofs.lemmas.List.{append-nil, map-append}
 use Rattle.std.proofs.lemmas.Bool.Decides.{nat_tests}
-use Rattle.ice_framing.specs.Frames.{Standing, Cut, beginning, fed, cut, behind, uncut, frames_of, standing_of, is_oversize, IsPartial, IsOversize, units, unit_limit}
+use Rattle.ice_framing.specs.Frames.{Standing, Cut, fed, cut, behind, frames_of, standing_of, is_oversize, IsPartial, IsOversize, units, unit_limit}
 use Rattle.ice_framing.specs.declared.cutting.WholeFrame.{WholeFrame}
 use Rattle.ice_framing.proofs.Cuts.{cut-partial, cut-oversize}
 use Rattle.ice_framing.proofs.Streams.{frames_of-append, standing_of-append}

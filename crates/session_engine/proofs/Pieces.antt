@@ -1,29 +1,28 @@
 -- The rest of a piece: the parts that it still brings, and the acts that these still give.
-use Rattle.std.proofs.Common.{◌≡◌, ◌≢◌, ◌⊎◌, inl, inr, ℕ, ◌+◌, ◌-◌, ◌*◌, ◌/◌, slice_index, ◌%◌, ◌^◌, ◌<◌, ◌≤◌, Bool, true, false, nat_eq, ◌==◌, List, [], ◌∷◌, ◌++◌, length, take, drop, Option, Some, None, refl, sym, ◌∙◌, ap, subst, arith, if◌then◌else◌, append_assoc}
+use Rattle.std.proofs.Common.{◌≡◌, ◌≢◌, inl, inr, ℕ, ◌+◌, ◌-◌, ◌*◌, ◌/◌, slice_index, ◌%◌, ◌^◌, ◌<◌, ◌≤◌, Bool, true, false, ◌==◌, List, [], ◌∷◌, ◌++◌, length, take, drop, Option, Some, None, refl, sym, ◌∙◌, ap, subst, arith, if◌then◌else◌}
 use Rattle.std.specs.Option.{option_map}
 use Rattle.std.proofs.Math.Nat.{div-add-mod, add-mul-mod_self_left}
 use Rattle.ice_framing.specs.Frames.{Cut}
 use Rattle.ice_framing.specs.declared.cutting.WholeFrame.{WholeFrame}
-use Rattle.std.proofs.lemmas.List.{append-nil, length-drop, take_all}
+use Rattle.std.proofs.lemmas.List.{length-drop, take_all}
 use Rattle.std.proofs.lemmas.Bool.{cases_eq, false≢true}
 use Rattle.sm_world.specs.Outside.{adds}
 use Rattle.sm_world.specs.declared.effects.Effect.{Effect}
 use Rattle.sm_world.specs.declared.events.Event.TheVariants.{Piece}
-use Rattle.ice_framing.specs.Frames.{Standing, fed, cut, behind, standing_of, IsPartial, units, unit_limit}
-use Rattle.ice_framing.proofs.Cuts.{cut-partial, fed-fed}
+use Rattle.ice_framing.specs.Frames.{Standing, fed, cut, behind, standing_of, units, unit_limit}
+use Rattle.ice_framing.proofs.Cuts.{cut-partial}
 use Rattle.ice_framing.proofs.Streams.{standing_of-append}
 use Rattle.session_engine.specs.Answers.{answer_to, oversize_answer, sequence_after, KeepsLive}
-use Rattle.session_engine.specs.Cutting.{AnswersFrame, AnswersHeader, WaitsForMore, CutsReady, CutsRow}
+use Rattle.session_engine.specs.Cutting.{WaitsForMore, CutsReady, CutsRow}
 use Rattle.session_engine.specs.Streams.{Part, Whole, TooMuch, parts_at, new_parts}
-use Rattle.session_engine.specs.Machine.{Act, Connection, Machine, Step, connection_of, changed, without, fed_with, counted, stays, behind as also_behind, answered, part_for, part_taken, parts_taken, piece_for, step}
-use Rattle.session_engine.specs.Carries.{Added, Going, CarriesOut}
+use Rattle.session_engine.specs.Machine.{Connection, Machine, Step, connection_of, changed, without, fed_with, counted, stays, answered, part_taken, parts_taken, step}
+use Rattle.session_engine.specs.Carries.{Added, Going}
 use Rattle.session_engine.specs.Rows.{row_at, row_count, IsRowOf, Matches, IsLiveAs, Counts, Shows, ShowsFor, Carried, HeldStays, all_cut, to_cut, CutsAt}
 use Rattle.session_engine.specs.declared.row.Row.{Row}
 use Rattle.session_engine.specs.declared.row.Answered.{Answered}
 use Rattle.session_engine.specs.declared.table.Table.{Table}
 use Rattle.session_engine.specs.declared.answers.Answer.{Answer}
 use Rattle.session_engine.specs.declared.answers.Answer.TheVariants.{Silent, Send, Refuse, Close}
-use Rattle.session_engine.specs.declared.answers.Stage.TheVariants.{AwaitOrder, AwaitSetup}
 use Rattle.session_engine.proofs.Parts.{parts_at-whole, parts_at-partial, parts_at-oversize, new_parts-is, fed-nothing}
 use Rattle.session_engine.proofs.Connections.{same, other, connection_of-changed, connection_of-without, length-changed, distinct-changed}
 use Rattle.session_engine.proofs.Adding.{adds-adds, adds-none, still, going_on}

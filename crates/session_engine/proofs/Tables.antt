@@ -1,5 +1,5 @@
 -- The table after a change of one row, against the machine after the same change.
-use Rattle.std.proofs.Common.{◌≡◌, ◌≢◌, ℕ, ◌+◌, Bool, true, false, nat_eq, nat_lt, List, [], ◌∷◌, ◌++◌, length, Option, Some, None, Result, Ok, is_ok, refl, sym, ◌∙◌, ap, arith, if◌then◌else◌}
+use Rattle.std.proofs.Common.{◌≡◌, ℕ, ◌+◌, true, false, nat_lt, List, [], ◌∷◌, ◌++◌, length, Option, Some, None, Result, Ok, is_ok, refl, sym, ◌∙◌, ap, arith, if◌then◌else◌}
 use Rattle.std.specs.Option.{is_some}
 use Rattle.std.proofs.lemmas.Bool.{false≢true}
 use Rattle.std.proofs.lemmas.List.{length-append}
@@ -13,11 +13,10 @@ use Rattle.ice_messages.specs.Messages.{canon}
 use Rattle.ice_messages.specs.declared.message.IceMessage.{IceMessage}
 use Rattle.ice_messages.specs.declared.message.IceMessage.TheVariants.{ByteOrder, Error}
 use Rattle.session_engine.specs.Cutting.{IsNewRow}
-use Rattle.session_engine.specs.Machine.{Connection, Machine, Does, connection_of, without, joined, answered, step, Step, stays, live_limit, sends, shuts}
+use Rattle.session_engine.specs.Machine.{Connection, Machine, connection_of, without, joined, answered, step, Step, stays, live_limit, sends, shuts}
 use Rattle.session_engine.specs.Rows.{row_at, row_count, ChangesRow, Matches, IsRowOf, IsLiveAs, Counts, Shows, ShowsFor, Carried, all_cut}
 use Rattle.session_engine.specs.declared.row.Row.{Row}
 use Rattle.session_engine.specs.declared.table.Table.{Table}
-use Rattle.session_engine.specs.declared.answers.Answer.{Answer}
 use Rattle.session_engine.specs.declared.answers.Answer.TheVariants.{Silent, Send, Refuse, Close}
 use Rattle.session_engine.specs.declared.fault.ServeFault.{ServeFault}
 use Rattle.session_engine.proofs.Connections.{same, other, connection_of-without, connection_of-append, length-without, distinct-without, distinct-append}

@@ -1,10 +1,9 @@
 -- The direct answer to one part of a stream: a whole frame, or a header that states too much.
-use Rattle.std.specs.Prelude.{◌≡◌, ℕ, ◌+◌, ◌%◌, ◌^◌, List, [], ◌∷◌, ◌++◌, drop, slice_index, Result, Ok, Err, ◌==◌, ◌&&◌, nat_lt, not, if◌then◌else◌}
+use Rattle.std.specs.Prelude.{ℕ, ◌+◌, ◌%◌, ◌^◌, List, [], ◌∷◌, ◌++◌, drop, slice_index, Result, Ok, Err, ◌==◌, ◌&&◌, nat_lt, not, if◌then◌else◌}
 use Rattle.ice_values.specs.Cells.{free, zeros}
 use Rattle.ice_values.specs.Numbers.{number, number_bytes}
-use Rattle.ice_values.specs.Fields.{ErrorFields}
 use Rattle.ice_values.specs.declared.numbers.Endian.{Endian}
-use Rattle.ice_values.specs.declared.numbers.Endian.TheVariants.{Lsb, Msb}
+use Rattle.ice_values.specs.declared.numbers.Endian.TheVariants.{Lsb}
 use Rattle.ice_values.specs.declared.severity.Severity.TheVariants.{FatalToConnection}
 use Rattle.ice_values.specs.declared.refusals.DecodeRefusal.{DecodeRefusal}
 use Rattle.ice_values.specs.declared.refusals.DecodeRefusal.TheVariants.{BadMinor, BadLength, BadValue, NoMemory}

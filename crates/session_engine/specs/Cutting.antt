@@ -1,6 +1,6 @@
 -- What cutting the rest of a piece does to the row of its connection.
-use Rattle.std.specs.Prelude.{◌≡◌, ◌⊎◌, ℕ, ◌+◌, ◌%◌, ◌^◌, ◌<◌, ◌≤◌, Bool, true, false, List, [], ◌∷◌, length, take, drop, Option, Some, None}
-use Rattle.ice_framing.specs.Frames.{Standing, beginning, fed, cut, behind, uncut, IsPartial, IsOversize, units, unit_limit}
+use Rattle.std.specs.Prelude.{◌≡◌, ◌⊎◌, ℕ, ◌≤◌, true, false, List, [], ◌∷◌, length, take, drop, Option, Some, None}
+use Rattle.ice_framing.specs.Frames.{beginning, fed, cut, behind, IsPartial, IsOversize, units, unit_limit}
 use Rattle.ice_framing.specs.declared.cutting.WholeFrame.{WholeFrame}
 use Rattle.session_engine.specs.Answers.{answer_to, sequence_after}
 use Rattle.session_engine.specs.Streams.{Whole, TooMuch}

@@ -1,5 +1,5 @@
 -- The table of connections that the code keeps, against the machine.
-use Rattle.std.specs.Prelude.{◌≡◌, ◌≢◌, ℕ, ◌+◌, ◌%◌, ◌^◌, Bool, true, false, List, [], ◌∷◌, ◌++◌, length, Option, Some, None, nat_eq, if◌then◌else◌}
+use Rattle.std.specs.Prelude.{◌≡◌, ℕ, ◌%◌, ◌^◌, Bool, true, false, List, [], ◌∷◌, length, Option, Some, None, nat_eq, if◌then◌else◌}
 use Rattle.std.specs.Ordering.{nat_cmp}
 use Rattle.std.specs.BTreeMap.{get, btree_map_len}
 use Rattle.sm_world.specs.declared.effects.Effect.{Effect}
@@ -8,7 +8,6 @@ use Rattle.session_engine.specs.Answers.{KeepsLive}
 use Rattle.session_engine.specs.Carries.{Added, CarriesOut}
 use Rattle.session_engine.specs.Cutting.{CutsRow}
 use Rattle.session_engine.specs.Machine.{Connection, Machine, Step, connection_of}
-use Rattle.session_engine.specs.Streams.{Part, parts_at}
 use Rattle.ice_framing.specs.Frames.{standing_of}
 use Rattle.session_engine.specs.declared.answers.Answer.{Answer}
 use Rattle.session_engine.specs.declared.row.Row.{Row}

@@ -1,5 +1,5 @@
 use Rattle.std.proofs.Common.{sym, ◌∙◌, ap, not}
-use Rattle.session_engine.proofs.Tables.{joined_again, turned_away, joins, not_begun}
+use Rattle.session_engine.proofs.Tables.{turned_away, joins, not_begun}
 use Rattle.session_engine.proofs.serving.join.Goals as goal
 
 pub returns-then-is_full-clause-carried : goal.returns-then-is_full-clause-carried

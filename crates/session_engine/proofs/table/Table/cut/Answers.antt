@@ -1,5 +1,4 @@
 use Rattle.std.proofs.Common.{rules}
-use Rattle.std.proofs.lemmas.Grind.{common_steps}
 use Rattle.session_engine.proofs.CutLemmas.{cuts_live}
 use Rattle.session_engine.proofs.table.Table.cut.Goals as goal
 
