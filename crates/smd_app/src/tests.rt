@@ -303,10 +303,10 @@ fn calls_that_fail(rt: HostRuntime) -> Result<(), Fail> {
         numbers.push(failing)?;
         let events = EventList::new(alloc);
         let mut world = MemWorld::new(alloc, events, input, Octets::new(alloc), numbers)?;
-        let status_is = smd_main(alloc, words.as_slice(), &mut world, turns);
+        let given = smd_main(alloc, words.as_slice(), &mut world, turns);
         let answer = Answer {
             printed: printed(alloc, world.effects())?,
-            status: status_is,
+            status: given,
         };
         expect_answer(&rt, &answer, status, want.as_bytes())?;
     }
