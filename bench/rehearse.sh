@@ -26,6 +26,14 @@ def script(size, width):
     return text[: text.rindex("\n", 0, size) + 1]
 
 
+def crowd(size):
+    """64 clients that ping in turn, in at most `size` bytes."""
+    head = "".join("join %d\npiece %d %s\n" % (n, n, ORDER.hex()) for n in range(1, 65))
+    block = "".join("piece %d %s\n" % (n, PING.hex()) for n in range(1, 65))
+    text = head + block * ((size - len(head)) // len(block) + 1)
+    return text[: text.rindex("\n", 0, size) + 1]
+
+
 def seconds(program, text):
     with tempfile.TemporaryFile() as file:
         file.write(text.encode())
@@ -42,8 +50,14 @@ def seconds(program, text):
 
 
 program = sys.argv[1]
-for name, width in [("a byte a piece", 1), ("a ping a piece", 8), ("8192 pings a piece", 65536)]:
-    small = seconds(program, script(SMALL, width))
-    large = seconds(program, script(LARGE, width))
+kinds = [
+    ("a byte a piece", lambda size: script(size, 1)),
+    ("a ping a piece", lambda size: script(size, 8)),
+    ("8192 pings a piece", lambda size: script(size, 65536)),
+    ("64 clients, a ping a piece", crowd),
+]
+for name, made in kinds:
+    small = seconds(program, made(SMALL))
+    large = seconds(program, made(LARGE))
     print("%s: %.3f s for 1 MiB, %.3f s for 16 MiB, ratio %.1f" % (name, small, large, large / small))
 END
