@@ -3,8 +3,10 @@
 
 mod adapter;
 
+use adapter::StandardConsole;
 use sm_world::Console;
 use smd_app::smd_main;
+use std::alloc::Global;
 use std::io::ErrorKind;
 use std::process::ExitCode;
 use std::{env, io};
@@ -40,14 +42,26 @@ fn own_text(words: &[String]) -> Option<&'static str> {
     }
 }
 
-fn main(rt: HostRuntime) -> io::Result<ExitCode> {
-    let alloc = rt.alloc();
-    let words = read_words(&rt)?;
-    let mut world = adapter::StandardConsole::new(rt);
-    let status = match own_text(words.as_slice()) {
+/// The status of a run with these words.
+fn answer(alloc: Global, words: &[String], world: &mut StandardConsole) -> u8 {
+    match own_text(words) {
         Some(text) if world.print(text.as_bytes()).is_ok() => 0,
         Some(_) => 6,
-        None => smd_main(alloc, words.as_slice(), &mut world, u64::MAX),
+        None => smd_main(alloc, words, world, u64::MAX),
+    }
+}
+
+fn main(rt: HostRuntime) -> io::Result<ExitCode> {
+    let alloc = rt.alloc();
+    let words = read_words(&rt);
+    let mut world = StandardConsole::new(rt);
+    let status = match words {
+        Ok(words) => answer(alloc, words.as_slice(), &mut world),
+        // Nothing else keeps the words from being read.
+        Err(_) => {
+            let _ = world.print(b"smd: no memory\n");
+            10
+        }
     };
     Ok(ExitCode::from(status))
 }
