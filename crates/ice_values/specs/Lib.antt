@@ -3,4 +3,5 @@ pub mod Numbers
 pub mod Fields
 pub mod Reading
 pub mod Writing
+pub mod Properties
 pub mod Frames

@@ -1,11 +1,13 @@
 //! The values that ICE and XSMP messages are made of.
 #![tactic(auto)]
 
+mod array8;
 mod errors;
 mod frames;
 mod fronts;
 mod lengths;
 mod numbers;
+mod property;
 mod reading;
 mod refusals;
 mod severity;
@@ -15,6 +17,7 @@ mod text;
 mod version;
 mod writing;
 
+pub use array8::{Array8, Array8List};
 pub use errors::ErrorBody;
 pub use frames::{bool_at, decode_error, end_body, order_at, severity_at};
 pub use fronts::{
@@ -23,6 +26,7 @@ pub use fronts::{
 };
 pub use lengths::{error_len, proof_len, text_len, texts_len, version_len, versions_len};
 pub use numbers::{Endian, bool_byte, pad, read_card16, read_card32};
+pub use property::{Property, PropertyList};
 pub use reading::{read_text16, read_version};
 pub use refusals::{DecodeRefusal, EncodeRefusal, ValueRefusal};
 pub use severity::Severity;
