@@ -3,6 +3,7 @@ pub mod Parts
 pub mod Connections
 pub mod Adding
 pub mod Pieces
+pub mod Seats
 pub mod Tables
 pub mod Running
 pub mod Loop

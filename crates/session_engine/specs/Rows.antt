@@ -1,7 +1,7 @@
 -- The table of connections that the code keeps, against the machine.
 use Rattle.std.specs.Prelude.{◌≡◌, ℕ, ◌%◌, ◌^◌, Bool, true, false, List, [], ◌∷◌, length, Option, Some, None, nat_eq, if◌then◌else◌}
 use Rattle.std.specs.Ordering.{nat_cmp}
-use Rattle.std.specs.BTreeMap.{get, btree_map_len}
+use Rattle.std.specs.BTreeMap.{get as place_of, btree_map_len}
 use Rattle.sm_world.specs.declared.effects.Effect.{Effect}
 use Rattle.ice_framing.specs.Frames.{fed, cut}
 use Rattle.session_engine.specs.Answers.{KeepsLive}
@@ -9,6 +9,7 @@ use Rattle.session_engine.specs.Carries.{Added, CarriesOut}
 use Rattle.session_engine.specs.Cutting.{CutsRow}
 use Rattle.session_engine.specs.Machine.{Connection, Machine, Step, connection_of}
 use Rattle.ice_framing.specs.Frames.{standing_of}
+use Rattle.session_engine.specs.Places.{row_in}
 use Rattle.session_engine.specs.declared.answers.Answer.{Answer}
 use Rattle.session_engine.specs.declared.row.Row.{Row}
 use Rattle.session_engine.specs.declared.row.Answered.{Answered}
@@ -16,11 +17,11 @@ use Rattle.session_engine.specs.declared.table.Table.{Table}
 
 -- the row of a connection, and None where it isn't live
 abbrev pub row_at : Table → ℕ → Option Row
-row_at table c = get nat_cmp table.rows c
+row_at table c = row_in table.rows (place_of nat_cmp table.places c)
 
 -- how many connections are live
 abbrev pub row_count : Table → ℕ
-row_count table = btree_map_len table.rows
+row_count table = btree_map_len table.places
 
 -- this connection now has that row, and every other the row that it had
 abbrev pub ChangesRow : Table → Table → ℕ → Option Row → Type 0

@@ -4,13 +4,14 @@ ghost use Rattle.session_engine.specs.declared.answers.Stage.TheVariants.{AwaitS
 
 use crate::answers::{Answer, Stage, answer_frame, answer_header};
 use ice_framing::Splitter;
-use sm_world::NoMemory;
+use sm_world::{Conn, NoMemory};
 use std::alloc::Global;
 
-/// What is kept of a live connection: its splitter, the number of its last frame, and how far it
-/// has come.
+/// What is kept of a live connection: its number, its splitter, the number of its last frame, and
+/// how far it has come.
 #[derive(Debug, Drop)]
 pub struct Row {
+    conn: Conn,
     stage: Stage,
     sequence: u32,
     splitter: Splitter,
@@ -39,10 +40,12 @@ impl Row {
     ghost use Rattle.session_engine.specs.Cutting.{IsNewRow, CutsRow};
 
     /// A connection that just joined.
-    pub fn new(alloc: Global) -> Result<Row, NoMemory>
-        ensures { IfOk result IsNewRow }
+    pub fn new(alloc: Global, conn: Conn) -> Result<Row, NoMemory>
+        ensures new { IfOk result IsNewRow }
+        ensures conn { IfOk result (λ row. row.conn ≡ conn) }
     {
         Ok(Row {
+            conn,
             stage: Stage::AwaitOrder,
             sequence: 0,
             splitter: Splitter::new(alloc)?,
@@ -54,6 +57,7 @@ impl Row {
     pub fn cut(&mut self, alloc: Global, left: &[u8]) -> Result<Option<Answered>, NoMemory>
         ensures cuts { IfOk result (λ answered. CutsRow self.old left.now answered self.new) }
         ensures said { IfOk result (λ answered. IfSome answered (λ part. CanBeSaid part.answer)) }
+        ensures conn { self.new.conn ≡ self.old.conn }
     {
         if self.spent {
             return Ok(None);

@@ -1,11 +1,7 @@
-ghost use Rattle.std.specs.Prelude.{◌≡◌, ◌≢◌, ℕ, ◌+◌, [], None, Some, is_some, nat_lt, IfSome, IfOk, OnOk, if◌then◌else◌, IsTrue, not};
-ghost use Rattle.session_engine.specs.Answers.{CanBeSaid};
-ghost use Rattle.session_engine.specs.Cutting.{IsNewRow};
-ghost use Rattle.session_engine.specs.Machine.{live_limit};
-ghost use Rattle.session_engine.specs.Rows.{row_at, row_count, ChangesRow, CutsAt};
-ghost use Rattle.session_engine.specs.declared.row.Row.{Row};
+ghost use Rattle.session_engine.specs.Places.{AreSeated};
 
 use crate::row::{Answered, Row};
+use slab::Slab;
 use sm_world::{Conn, NoMemory};
 use std::alloc::Global;
 use std::collections::BTreeMap;
@@ -13,33 +9,45 @@ use std::collections::BTreeMap;
 /// How many connections can be live.
 const LIVE_LIMIT: usize = 64;
 
-/// The live connections by their numbers.
+/// The live connections. Their rows stay where they are for as long as they are live.
 #[derive(Debug, Drop)]
 pub struct Table {
-    rows: BTreeMap<Conn, Row>,
+    /// Where the row of each number lies.
+    places: BTreeMap<Conn, usize>,
+    rows: Slab<Row>,
+    /// At each such place there is a row, and it is of this number.
+    ghost seated: { AreSeated places rows },
 }
 
 impl Table {
+    ghost use Rattle.std.specs.Prelude.{◌≡◌, ◌≢◌, ℕ, ◌+◌, None, Some, is_some, nat_lt, IfSome, IfOk, OnOk, if◌then◌else◌, not};
+    ghost use Rattle.session_engine.specs.Answers.{CanBeSaid};
+    ghost use Rattle.session_engine.specs.Cutting.{IsNewRow};
+    ghost use Rattle.session_engine.specs.Machine.{live_limit};
+    ghost use Rattle.session_engine.specs.Rows.{row_at, row_count, ChangesRow, CutsAt};
+    ghost use Rattle.session_engine.specs.declared.row.Row.{Row};
+
     pub fn new(alloc: Global) -> Table
         ensures rows { (q : ℕ) → row_at result q ≡ None }
         ensures count { row_count result ≡ 0 }
     {
         Table {
-            rows: BTreeMap::new(alloc),
+            places: BTreeMap::new(alloc),
+            rows: Slab::new(alloc),
         }
     }
 
     pub fn is_live(&self, conn: Conn) -> bool
         ensures { result ≡ is_some (row_at self.now conn) }
     {
-        self.rows.contains_key(&conn)
+        self.places.contains_key(&conn)
     }
 
     /// As many connections are live as can be.
     pub fn is_full(&self) -> bool
         ensures { nat_lt (row_count self.now) live_limit ≡ not result }
     {
-        self.rows.len() >= LIVE_LIMIT
+        self.places.len() >= LIVE_LIMIT
     }
 
     /// Makes a connection live that isn't.
@@ -48,8 +56,11 @@ impl Table {
         ensures row { OnOk result ((row : Row) × IsNewRow row × ChangesRow self.old self.new conn (Some row)) }
         ensures count { OnOk result (row_count self.new ≡ row_count self.old + 1) }
     {
-        let row = Row::new(alloc)?;
-        self.rows.insert(conn, row)?;
+        let place = self.rows.insert(Row::new(alloc, conn)?)?;
+        if self.places.insert(conn, place).is_err() {
+            self.rows.try_remove(place);
+            return Err(NoMemory);
+        }
         Ok(())
     }
 
@@ -66,7 +77,10 @@ impl Table {
         ensures others { OnOk result ((q : ℕ) → q ≢ conn → row_at self.new q ≡ row_at self.old q) }
         ensures count { OnOk result (row_count self.new ≡ row_count self.old) }
     {
-        let Some(row) = self.rows.get_mut(&conn) else {
+        let Some(place) = self.places.get(&conn) else {
+            return Ok(None);
+        };
+        let Some(row) = self.rows.get_mut(*place) else {
             return Ok(None);
         };
         let answered = row.cut(alloc, left)?;
@@ -78,6 +92,8 @@ impl Table {
         ensures row { ChangesRow self.old self.new conn None }
         ensures count { row_count self.new + (if is_some (row_at self.old conn) then 1 else 0) ≡ row_count self.old }
     {
-        self.rows.remove(&conn);
+        if let Some(place) = self.places.remove(&conn) {
+            self.rows.try_remove(place);
+        }
     }
 }

@@ -1,5 +1,22 @@
-use Rattle.std.proofs.Common.{rules}
+use Rattle.std.proofs.Common.{rules, ◌≡◌, ℕ, ◌+◌, None, Some, refl, ◌∙◌, sym}
+use Rattle.std.specs.Option.{is_some}
+use Rattle.std.specs.Ordering.{nat_cmp}
+use Rattle.std.specs.BTreeMap.{get as place_of}
+use Rattle.session_engine.specs.Rows.{row_at}
+use Rattle.session_engine.proofs.Seats.{filled, live, absent, row_is, seated_after, seated_here}
 use Rattle.session_engine.proofs.table.Table.join.Goals as goal
 
+pub invariant_of-self-else-is_err : goal.invariant_of-self-else-is_err
+invariant_of-self-else-is_err c =
+    let change = filled c.args.self.now.places c.insert-2.new.self c.args.self.now.rows c.insert.new.self c.args.conn c.in_ok-place.place c.in_ok-new.field-0 c.args.self.now.seated c.in_ok-place.ensures.was_vacant (λ q. search rules) c.in_ok-place.ensures.updates in
+    record { seated = seated_after c.args.self.now.places c.insert-2.new.self c.args.self.now.rows c.insert.new.self c.args.conn c.in_ok-place.place (Some c.in_ok-place.place) (Some c.in_ok-new.field-0) c.args.self.now.seated change (seated_here c.insert.new.self c.args.conn c.in_ok-place.place c.in_ok-new.field-0 c.in_ok-place.ensures.updates.changed c.in_ok-new.ensures.conn) }
+
+pub returns-clause-count : goal.returns-clause-count
+returns-clause-count c =
+    let none : place_of nat_cmp c.args.self.now.places c.args.conn ≡ None = absent c.args.self.now.places c.args.self.now.rows c.args.conn c.args.self.now.seated c.requires in
+    search rules
+
 pub returns-clause-row : goal.returns-clause-row
-returns-clause-row c = (c.in_ok-row.row, c.in_ok-row.ensures, λ q. search rules)
+returns-clause-row c =
+    let change = filled c.args.self.now.places c.insert-2.new.self c.args.self.now.rows c.insert.new.self c.args.conn c.in_ok-place.place c.in_ok-new.field-0 c.args.self.now.seated c.in_ok-place.ensures.was_vacant (λ q. search rules) c.in_ok-place.ensures.updates in
+    (c.in_ok-new.field-0, c.in_ok-new.ensures.new, row_is c.args.self.now.places c.insert-2.new.self c.args.self.now.rows c.insert.new.self c.args.conn c.in_ok-place.place (Some c.in_ok-place.place) (Some c.in_ok-new.field-0) change c.in_ok-place.ensures.updates.changed)
