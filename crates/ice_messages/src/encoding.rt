@@ -17,7 +17,8 @@ use sm_world::{NoMemory, Octets};
 /// No body is longer than this many bytes.
 const BODY_LIMIT: usize = 65536;
 
-fn minor(message: &IceMessage) -> u8
+/// The minor opcode of a message.
+pub fn minor(message: &IceMessage) -> u8
     ensures { result ≡ minor_of message.now }
 {
     match message {

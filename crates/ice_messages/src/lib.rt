@@ -9,5 +9,5 @@ mod message;
 mod tests;
 
 pub use decoding::decode_ice;
-pub use encoding::encode_ice;
+pub use encoding::{encode_ice, minor};
 pub use message::IceMessage;

@@ -1,0 +1,4 @@
+pub mod Errors
+pub mod Offers
+pub mod Setup
+pub mod Histories

@@ -1,0 +1,101 @@
+ghost use Rattle.std.specs.Prelude.{◌≡◌, ◌%◌, ◌<◌, ◌^◌, length, IfOk};
+ghost use Rattle.ice_setup.specs.Errors.{blame, opcode_values as opcode_spelling, text_values as text_spelling, wrong_byte};
+
+use ice_values::{
+    Endian, ErrorBody, Severity, Text16, pad, put_bytes, put_card32, put_text16, put_zeros,
+};
+use sm_world::{NoMemory, Octets};
+use std::alloc::Global;
+
+/// No message of the protocol has this minor opcode (ICE, chapter 7: Error; so for all classes).
+pub const BAD_MINOR: u16 = 0x8000;
+
+/// The message has no place in this state.
+pub const BAD_STATE: u16 = 0x8001;
+
+/// The bytes can't be cut into the message's parts.
+pub const BAD_LENGTH: u16 = 0x8002;
+
+/// Some bytes of the message have no meaning.
+pub const BAD_VALUE: u16 = 0x8003;
+
+/// No protocol has this major opcode.
+pub const BAD_MAJOR: u16 = 0;
+
+/// None of the names of authentication protocols is known.
+pub const NO_AUTHENTICATION: u16 = 1;
+
+/// None of the versions is known.
+pub const NO_VERSION: u16 = 2;
+
+/// The authentication failed.
+pub const AUTHENTICATION_REJECTED: u16 = 4;
+
+/// The protocol is set up already.
+pub const PROTOCOL_DUPLICATE: u16 = 6;
+
+/// The major opcode is taken already.
+pub const MAJOR_OPCODE_DUPLICATE: u16 = 7;
+
+/// No protocol has this name.
+pub const UNKNOWN_PROTOCOL: u16 = 8;
+
+/// The message that an Error refuses.
+#[derive(Clone, Copy, Debug, PartialEq, Eq)]
+pub struct Offending {
+    /// Its minor opcode.
+    pub minor: u8,
+    /// Its number among those of its sender, from 1 on.
+    pub sequence: u32,
+}
+
+/// An Error with values that fill units of 8 bytes.
+pub fn error_of(severity: Severity, class: u16, offending: Offending, values: Octets) -> ErrorBody
+    requires { length values % 8 ≡ 0 }
+    ensures { result ≡ blame severity class offending values }
+{
+    ErrorBody {
+        class,
+        minor: offending.minor,
+        severity,
+        sequence: offending.sequence,
+        values,
+    }
+}
+
+/// The values of a BadMajor and of a MajorOpcodeDuplicate: the opcode, and zeros to a unit.
+pub fn opcode_values(alloc: Global, opcode: u8) -> Result<Octets, NoMemory>
+    ensures spelled { IfOk result (λ values. values ≡ opcode_spelling opcode) }
+    ensures units { IfOk result (λ values. length values % 8 ≡ 0) }
+{
+    let mut values = Octets::new(alloc);
+    put_bytes(&[opcode], &mut values)?;
+    put_zeros(7, &mut values)?;
+    Ok(values)
+}
+
+/// The values of an Error that names a text: a STRING, and zeros to a unit.
+pub fn text_values(alloc: Global, text: &Text16) -> Result<Octets, NoMemory>
+    ensures spelled { IfOk result (λ values. values ≡ text_spelling text.now) }
+    ensures units { IfOk result (λ values. length values % 8 ≡ 0) }
+{
+    let mut values = Octets::new(alloc);
+    put_text16(Endian::Lsb, text, &mut values)?;
+    put_zeros(pad(values.len(), 8), &mut values)?;
+    Ok(values)
+}
+
+/// The values of a BadValue for one byte: its place from the message's start, a length of 1, the
+/// byte, and zeros to a unit. A place behind the end counts as a zero.
+pub fn wrong_byte_values(alloc: Global, at: u32, frame: &[u8]) -> Result<Octets, NoMemory>
+    ensures spelled { IfOk result (λ values. values ≡ wrong_byte at frame.now) }
+    ensures units { IfOk result (λ values. length values % 8 ≡ 0) }
+{
+    let byte = frame.get(at as usize).copied().unwrap_or(0);
+    let mut values = Octets::new(alloc);
+    put_card32(Endian::Lsb, at, &mut values)?;
+    put_card32(Endian::Lsb, 1, &mut values)?;
+    put_bytes(&[byte], &mut values)?;
+    put_zeros(7, &mut values)?;
+    Ok(values)
+}

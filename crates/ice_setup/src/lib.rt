@@ -1,0 +1,19 @@
+//! The set-up of a connection, manager's side: the states of a connection, each a type of its own,
+//! and what each message brings in each of them.
+#![tactic(auto)]
+
+mod answers;
+mod errors;
+mod offers;
+mod others;
+mod states;
+mod taking;
+
+pub use errors::{
+    AUTHENTICATION_REJECTED, BAD_LENGTH, BAD_MAJOR, BAD_MINOR, BAD_STATE, BAD_VALUE,
+    MAJOR_OPCODE_DUPLICATE, NO_AUTHENTICATION, NO_VERSION, Offending, PROTOCOL_DUPLICATE,
+    UNKNOWN_PROTOCOL, error_of, opcode_values, text_values, wrong_byte_values,
+};
+pub use states::{
+    AnySetup, AwaitCookie, AwaitOrder, AwaitProtocol, AwaitProtocolCookie, AwaitSetup, Moved, Ready,
+};
