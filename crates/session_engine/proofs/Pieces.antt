@@ -1,6 +1,6 @@
 -- The rest of a piece: the parts that it still brings, and the acts that these still give.
 use Rattle.std.proofs.Common.{◌≡◌, ◌≢◌, inl, inr, ℕ, ◌+◌, ◌-◌, ◌*◌, ◌/◌, slice_index, ◌%◌, ◌^◌, ◌<◌, ◌≤◌, Bool, true, false, ◌==◌, List, [], ◌∷◌, ◌++◌, length, take, drop, Option, Some, None, refl, sym, ◌∙◌, ap, subst, arith, if◌then◌else◌}
-use Rattle.std.specs.Option.{option_map}
+use Rattle.std.specs.Option.{option_map, is_some}
 use Rattle.std.proofs.Math.Nat.{div-add-mod, add-mul-mod_self_left}
 use Rattle.ice_framing.specs.Frames.{Cut}
 use Rattle.ice_framing.specs.declared.cutting.WholeFrame.{WholeFrame}
@@ -12,17 +12,18 @@ use Rattle.sm_world.specs.declared.events.Event.TheVariants.{Piece}
 use Rattle.ice_framing.specs.Frames.{Standing, fed, cut, behind, standing_of, units, unit_limit}
 use Rattle.ice_framing.proofs.Cuts.{cut-partial}
 use Rattle.ice_framing.proofs.Streams.{standing_of-append}
-use Rattle.session_engine.specs.Answers.{answer_to, oversize_answer, sequence_after, KeepsLive}
+use Rattle.ice_setup.specs.declared.states.AnySetup.{AnySetup}
+use Rattle.session_engine.specs.Answers.{Outcome, outcome, oversize_answer, sequence_after, KeepsLive, kept, kept_by}
 use Rattle.session_engine.specs.Cutting.{WaitsForMore, CutsReady, CutsRow}
 use Rattle.session_engine.specs.Streams.{Part, Whole, TooMuch, parts_at, new_parts}
-use Rattle.session_engine.specs.Machine.{Connection, Machine, Step, connection_of, changed, without, fed_with, counted, stays, answered, part_taken, parts_taken, step}
+use Rattle.session_engine.specs.Machine.{Connection, Machine, Step, connection_of, changed, without, fed_with, counted, stays, says, answered, part_taken, parts_taken, step}
 use Rattle.session_engine.specs.Carries.{Added, Going}
 use Rattle.session_engine.specs.Rows.{row_at, row_count, IsRowOf, Matches, IsLiveAs, Counts, Shows, ShowsFor, Carried, HeldStays, all_cut, to_cut, CutsAt}
 use Rattle.session_engine.specs.declared.row.Row.{Row}
 use Rattle.session_engine.specs.declared.row.Answered.{Answered}
 use Rattle.session_engine.specs.declared.table.Table.{Table}
 use Rattle.session_engine.specs.declared.answers.Answer.{Answer}
-use Rattle.session_engine.specs.declared.answers.Answer.TheVariants.{Silent, Send, Refuse, Close}
+use Rattle.session_engine.specs.declared.answers.Answer.TheVariants.{Stays, Closes}
 use Rattle.session_engine.proofs.Parts.{parts_at-whole, parts_at-partial, parts_at-oversize, new_parts-is, fed-nothing}
 use Rattle.session_engine.proofs.Connections.{same, other, connection_of-changed, connection_of-without, length-changed, distinct-changed}
 use Rattle.session_engine.proofs.Adding.{adds-adds, adds-none, still, going_on}
@@ -67,23 +68,26 @@ live_at c pending table m here elsewhere q = elim (cases_eq q c) [
 pub shows_by : (c : ℕ) (pending : ℕ → List ℕ) (table : Table) (m : Machine) → Matches (pending c) (row_at table c) (connection_of c m.connections) → ((q : ℕ) → (q ≡ c → ⊥) → Matches (pending q) (row_at table q) (connection_of q m.connections)) → Counts table m → Shows pending table m
 shows_by c pending table m here elsewhere counts = record { rows = live_at c pending table m here elsewhere; counts = counts }
 
+-- a row that shows a connection has its state
+has_setup : (row : Row) (setup : AnySetup) → row.setup ≡ Some setup → is_some row.setup ≡ true
+has_setup row setup e = rw e refl
+
 -- where a splitter stands between the pieces
 row_stands : (row : Row) (k : Connection) → IsRowOf [] row k → row.splitter ≡ standing_of k.stream
 row_stands row k is_row =
-    sym (ap (λ (c : _). c.standing) (ap cut (fed-nothing row.splitter) ∙ cut-partial row.splitter (row.partial is_row.ready))) ∙ is_row.stands
+    sym (ap (λ (c : _). c.standing) (ap cut (fed-nothing row.splitter) ∙ cut-partial row.splitter (row.partial (has_setup row k.setup is_row.setup)))) ∙ is_row.stands
 
 -- a connection that just got bytes is shown by the row from before them
 fed_row : (bytes : List ℕ) (row : Row) (k : Connection) → IsRowOf [] row k → IsRowOf bytes row (fed_with bytes k)
 fed_row bytes row k is_row = record {
-  stage = is_row.stage;
+  setup = is_row.setup;
   sequence = is_row.sequence;
   stands = rw (standing_of-append k.stream bytes, row_stands row k is_row) refl;
-  ready = is_row.ready;
 }
 
 fed_parts : (bytes : List ℕ) (row : Row) (k : Connection) → IsRowOf [] row k → new_parts k.stream bytes ≡ parts_at (fed row.splitter bytes)
 fed_parts bytes row k is_row =
-    let within : units (standing_of k.stream) ≤ unit_limit = rw (sym (row_stands row k is_row)) (row.within is_row.ready) in
+    let within : units (standing_of k.stream) ≤ unit_limit = rw (sym (row_stands row k is_row)) (row.within (has_setup row k.setup is_row.setup)) in
     rw (new_parts-is k.stream bytes within, row_stands row k is_row) refl
 
 changed_counts : (f : Connection → Connection) → ((k : Connection) → (f k).number ≡ k.number) → (c : ℕ) (table after : Table) (m : Machine) → Counts table m → row_count after ≡ row_count table → ((q : ℕ) → IsLiveAs (row_at after q) (connection_of q (changed f c m.connections))) → Counts after (record m { connections = changed f c m.connections })
@@ -133,18 +137,12 @@ pub same_counts : (table after : Table) (m : Machine) → Counts table m → row
 same_counts table after m counts count live = record { count = count ∙ counts.count; distinct = counts.distinct; live = live }
 
 -- bytes that complete no part are held
-waits_shown : (row after : Row) (left : List ℕ) (answered_so : Option Answered) (k : Option Connection) → Matches left (Some row) k → WaitsForMore row left answered_so after → Matches [] (Some after) k
-waits_shown row after left answered_so None match waits = elim match [ ]
-waits_shown row after left answered_so (Some k) match waits = record {
-  stage = waits.stage ∙ match.stage;
+waits_shown : (row after : Row) (setup : AnySetup) (left : List ℕ) (answered_so : Option Answered) (k : Connection) → row.setup ≡ Some setup → IsRowOf left row k → WaitsForMore row setup left answered_so after → IsRowOf [] after k
+waits_shown row after setup left answered_so k is match waits = record {
+  setup = waits.setup_is ∙ (sym is ∙ match.setup);
   sequence = waits.sequence ∙ match.sequence;
   stands = rw (waits.splitter, fed-nothing (fed row.splitter left)) match.stands;
-  ready = waits.ready;
 }
-
-row_ready : (row : Row) (left : List ℕ) (k : Option Connection) → Matches left (Some row) k → row.spent ≡ false
-row_ready row left None match = elim match [ ]
-row_ready row left (Some k) match = match.ready
 
 -- what was done is all that was to be done, where the rest of a piece brings nothing
 all_done : (all : Step) (c : ℕ) (left : List ℕ) (old now : Option (List Effect)) (table after : Table) → (taking : Taking all c left old now table) → parts_to_come (row_at table c) left ≡ [] → Matches [] (row_at after c) (connection_of c taking.machine.connections) → ((q : ℕ) → q ≢ c → row_at after q ≡ row_at table q) → row_count after ≡ row_count table → Carried all_cut old now after all true
@@ -162,22 +160,23 @@ all_done all c left old now table after taking none_left here others count =
           );
     }
 
-ends_by : (all : Step) (c : ℕ) (left : List ℕ) (old now : Option (List Effect)) (table after : Table) (cut_so : Option Answered) (row : Option Row) → row_at table c ≡ row → cut_so ≡ None → (taking : Taking all c left old now table) → CutsAt row left cut_so (row_at after c) → Matches left row (connection_of c taking.machine.connections) → ((q : ℕ) → q ≢ c → row_at after q ≡ row_at table q) → row_count after ≡ row_count table → Carried all_cut old now after all true
-ends_by all c left old now table after cut_so None is_row is_end taking cut match others count =
-    all_done all c left old now table after taking (rw is_row refl) (rw (cut.1, none_shown left (connection_of c taking.machine.connections) match) tt) others count
-ends_by all c left old now table after cut_so (Some row) is_row is_end taking (changed_row, changed_is, cut) match others count =
-    elim (cut.ready (row_ready row left (connection_of c taking.machine.connections) match)) [
+ends_by : (all : Step) (c : ℕ) (left : List ℕ) (old now : Option (List Effect)) (table after : Table) (cut_so : Option Answered) (row : Option Row) (k : Option Connection) → row_at table c ≡ row → cut_so ≡ None → (taking : Taking all c left old now table) → connection_of c taking.machine.connections ≡ k → CutsAt row left cut_so (row_at after c) → Matches left row k → ((q : ℕ) → q ≢ c → row_at after q ≡ row_at table q) → row_count after ≡ row_count table → Carried all_cut old now after all true
+ends_by all c left old now table after cut_so None k is_row is_end taking is_k cut match others count =
+    all_done all c left old now table after taking (rw is_row refl) (rw (cut.1, is_k, none_shown left k match) tt) others count
+ends_by all c left old now table after cut_so (Some row) None is_row is_end taking is_k cut match others count = elim match [ ]
+ends_by all c left old now table after cut_so (Some row) (Some k) is_row is_end taking is_k (changed_row, changed_is, cut) match others count =
+    elim (cut.ready k.setup match.setup) [
       | inl whole ↦ cc (is_end, whole.answered_is)
       | inr others_so ↦ elim others_so [
         | inl header ↦ cc (is_end, header.answered_is)
-        | inr waits ↦ all_done all c left old now table after taking (rw is_row (parts_at-partial (fed row.splitter left) waits.partial waits.within)) (rw (changed_is) (waits_shown row changed_row left cut_so (connection_of c taking.machine.connections) match waits)) others count
+        | inr waits ↦ all_done all c left old now table after taking (rw is_row (parts_at-partial (fed row.splitter left) waits.partial waits.within)) (rw (changed_is, is_k) (waits_shown row changed_row k.setup left cut_so k match.setup match waits)) others count
       ]
     ]
 
 -- the rest of a piece is at its end, or its connection isn't live any more
 pub ends : (all : Step) (c : ℕ) (left : List ℕ) (old now : Option (List Effect)) (table after : Table) (cut_so : Option Answered) → cut_so ≡ None → Taking all c left old now table → CutsAt (row_at table c) left cut_so (row_at after c) → ((q : ℕ) → q ≢ c → row_at after q ≡ row_at table q) → row_count after ≡ row_count table → Carried all_cut old now after all true
 ends all c left old now table after cut_so is_end taking cut others count =
-    ends_by all c left old now table after cut_so (row_at table c) refl is_end taking cut (rw (to_cut-same c left) at (taking.shows.rows c)) others count
+    ends_by all c left old now table after cut_so (row_at table c) (connection_of c taking.machine.connections) refl is_end taking refl cut (rw (to_cut-same c left) at (taking.shows.rows c)) others count
 
 -- the run is cut short before a part was answered
 pub stopped : (all : Step) (c : ℕ) (left : List ℕ) (old now : Option (List Effect)) (table after : Table) → Taking all c left old now table → Carried all_cut old now after all false
@@ -201,22 +200,22 @@ some_is_not_none : (a : Answered) → Some a ≡ None → ⊥
 some_is_not_none a e = cc
 
 -- a part takes some of the rest of a piece
-shorter_ready : (row : Row) (left : List ℕ) (answered_so : Answered) (after : Row) → CutsReady row left (Some answered_so) after → length (drop answered_so.taken left) < length left
-shorter_ready row left answered_so after (inl whole) =
+shorter_ready : (row : Row) (setup : AnySetup) (left : List ℕ) (answered_so : Answered) (after : Row) → CutsReady row setup left (Some answered_so) after → length (drop answered_so.taken left) < length left
+shorter_ready row setup left answered_so after (inl whole) =
     let taken_is : answered_so.taken ≡ whole.taken = ap (λ (a : Answered). a.taken) (some_is _ _ whole.answered_is) in
     omega (arith, length-drop answered_so.taken left, whole.some, whole.within)
-shorter_ready row left answered_so after (inr (inl header)) =
+shorter_ready row setup left answered_so after (inr (inl header)) =
     let taken_is : answered_so.taken ≡ length left = ap (λ (a : Answered). a.taken) (some_is _ _ header.answered_is) in
     omega (arith, length-drop answered_so.taken left, header.some)
-shorter_ready row left answered_so after (inr (inr waits)) = absurd (some_is_not_none answered_so waits.answered_is)
+shorter_ready row setup left answered_so after (inr (inr waits)) = absurd (some_is_not_none answered_so waits.answered_is)
 
-shorter_by : (b : Bool) (row : Row) (left : List ℕ) (answered_so : Answered) (after : Row) → row.spent ≡ b → CutsRow row left (Some answered_so) after → length (drop answered_so.taken left) < length left
-shorter_by true row left answered_so after spent cut = absurd (some_is_not_none answered_so (cut.nothing spent))
-shorter_by false row left answered_so after ready cut = shorter_ready row left answered_so after (cut.ready ready)
+shorter_by : (setup : Option AnySetup) (row : Row) (left : List ℕ) (answered_so : Answered) (after : Row) → row.setup ≡ setup → CutsRow row left (Some answered_so) after → length (drop answered_so.taken left) < length left
+shorter_by None row left answered_so after ended cut = absurd (some_is_not_none answered_so (cut.nothing ended))
+shorter_by (Some setup) row left answered_so after ready cut = shorter_ready row setup left answered_so after (cut.ready setup ready)
 
 pub shorter : (row : Option Row) (left : List ℕ) (answered_so : Answered) (after : Option Row) → CutsAt row left (Some answered_so) after → length (drop answered_so.taken left) < length left
 shorter None left answered_so after cut = absurd (some_is_not_none answered_so cut.0)
-shorter (Some row) left answered_so after (changed_row, changed_is, cut) = shorter_by row.spent row left answered_so changed_row refl cut
+shorter (Some row) left answered_so after (changed_row, changed_is, cut) = shorter_by row.setup row left answered_so changed_row refl cut
 
 -- A part of the piece is about to be answered.
 pub record Answering (all : Step) (c : ℕ) (left : List ℕ) (old now : Option (List Effect)) (table : Table) (answer : Answer) : Type 0 where
@@ -234,59 +233,67 @@ next_sequence sequence taken e =
     ap sequence_after e ∙ sym (ap (λ t. t % 2 ^ 32) parts ∙ add-mul-mod_self_left (taken % 2 ^ 32 + 1) (2 ^ 32) (taken / 2 ^ 32))
 
 -- a header that states too much ends its connection
-oversize_by : (b : Bool) (answer : Answer) → (KeepsLive answer → ⊥) → KeepsLive (if b then Close else answer) → ⊥
+oversize_by : (b : Bool) (answer : Answer) → (KeepsLive answer → ⊥) → KeepsLive (if b then Closes None else answer) → ⊥
 oversize_by true answer ends keeps = keeps
 oversize_by false answer ends keeps = ends keeps
 
-oversize_ends : (sequence : ℕ) (header : List ℕ) → KeepsLive (oversize_answer sequence header) → ⊥
-oversize_ends sequence header keeps = oversize_by (slice_index header 1 == 0) _ (λ never. never) keeps
+oversize_ends : (setup : AnySetup) (sequence : ℕ) (header : List ℕ) → KeepsLive (oversize_answer setup sequence header) → ⊥
+oversize_ends setup sequence header keeps = oversize_by (slice_index header 1 == 0) _ (λ never. never) keeps
 
-still_live : (k : Option Connection) (row changed_row : Row) → IsLiveAs (Some row) k → IsLiveAs (Some changed_row) (option_map counted k)
-still_live None row changed_row live = live
-still_live (Some k) row changed_row live = tt
+-- a row that stays live stands where the part brought its connection
+kept_live : (answer : Answer) (setup : AnySetup) → KeepsLive answer → kept_by answer setup ≡ Some setup
+kept_live (Stays message) setup keeps = refl
+kept_live (Closes message) setup keeps = elim keeps [ ]
+
+still_live : (setup : AnySetup) (k : Option Connection) (row changed_row : Row) → IsLiveAs (Some row) k → IsLiveAs (Some changed_row) (option_map (counted setup) k)
+still_live setup None row changed_row live = live
+still_live setup (Some k) row changed_row live = tt
 
 the_row : (one two : Row) → Some one ≡ Some two → two ≡ one
 the_row one two e = cc
 
-answering_counts : (c : ℕ) (table after : Table) (m : Machine) → Counts table m → row_count after ≡ row_count table → ((q : ℕ) → q ≢ c → row_at after q ≡ row_at table q) → (row changed_row : Row) → row_at table c ≡ Some row → row_at after c ≡ Some changed_row → Counts after (record m { connections = changed counted c m.connections })
-answering_counts c table after m counts count others row changed_row is_row is_changed =
-    changed_counts counted (λ k. refl) c table after m counts count (λ q. elim (cases_eq q c) [
-      | inl e ↦ let P : ℕ → Type 0 = λ n. IsLiveAs (row_at after n) (connection_of n (changed counted c m.connections)) in
-          subst P (sym e) (rw (is_changed, connection_of-changed counted (λ k. refl) c c m.connections, same c c refl) (still_live (connection_of c m.connections) row changed_row (rw is_row at (counts.live c))))
-      | inr apart ↦ rw (others q apart, connection_of-changed counted (λ k. refl) c q m.connections, other q c apart) (counts.live q)
+answering_counts : (setup : AnySetup) (c : ℕ) (table after : Table) (m : Machine) → Counts table m → row_count after ≡ row_count table → ((q : ℕ) → q ≢ c → row_at after q ≡ row_at table q) → (row changed_row : Row) → row_at table c ≡ Some row → row_at after c ≡ Some changed_row → Counts after (record m { connections = changed (counted setup) c m.connections })
+answering_counts setup c table after m counts count others row changed_row is_row is_changed =
+    changed_counts (counted setup) (λ k. refl) c table after m counts count (λ q. elim (cases_eq q c) [
+      | inl e ↦ let P : ℕ → Type 0 = λ n. IsLiveAs (row_at after n) (connection_of n (changed (counted setup) c m.connections)) in
+          subst P (sym e) (rw (is_changed, connection_of-changed (counted setup) (λ k. refl) c c m.connections, same c c refl) (still_live setup (connection_of c m.connections) row changed_row (rw is_row at (counts.live c))))
+      | inr apart ↦ rw (others q apart, connection_of-changed (counted setup) (λ k. refl) c q m.connections, other q c apart) (counts.live q)
     ])
 
 -- what is cut behind a whole frame
 behind_standing : (at after : Standing) (frame : WholeFrame) → cut at ≡ behind (frame ∷ []) (cut after) → (cut at).standing ≡ (cut after).standing
 behind_standing at after frame e = ap (λ (c : Cut). c.standing) e
 
+-- every other connection is shown as before
+noted : (setup : AnySetup) (c : ℕ) (left rest : List ℕ) (old now : Option (List Effect)) (table after : Table) (all : Step) → (taking : Taking all c left old now table) → ((q : ℕ) → q ≢ c → row_at after q ≡ row_at table q) → (q : ℕ) → (q ≡ c → ⊥) → Matches (to_cut c rest q) (row_at after q) (connection_of q (changed (counted setup) c taking.machine.connections))
+noted setup c left rest old now table after all taking others q apart =
+    rw (to_cut-other c q rest apart, others q apart, connection_of-changed (counted setup) (λ k. refl) c q taking.machine.connections, other q c apart) (rw (to_cut-other c q left apart) at (taking.shows.rows q))
+
 answering_by : (all : Step) (c : ℕ) (left : List ℕ) (old now : Option (List Effect)) (table after : Table) (answered_so : Answered) (row : Option Row) (k : Option Connection) → row_at table c ≡ row → (taking : Taking all c left old now table) → connection_of c taking.machine.connections ≡ k → CutsAt row left (Some answered_so) (row_at after c) → Matches left row k → ((q : ℕ) → q ≢ c → row_at after q ≡ row_at table q) → row_count after ≡ row_count table → Answering all c (drop answered_so.taken left) old now after answered_so.answer
 answering_by all c left old now table after answered_so None k is_row taking is_k cut match others count = absurd (some_is_not_none answered_so cut.0)
 answering_by all c left old now table after answered_so (Some row) None is_row taking is_k cut match others count = elim match [ ]
 answering_by all c left old now table after answered_so (Some row) (Some k) is_row taking is_k (changed_row, changed_is, cut) match others count =
-    let next : Machine = record taking.machine { connections = changed counted c taking.machine.connections } in
-    let counts : Counts after next = answering_counts c table after taking.machine taking.shows.counts count others row changed_row is_row changed_is in
-    let elsewhere : (q : ℕ) → (q ≡ c → ⊥) → Matches (to_cut c (drop answered_so.taken left) q) (row_at after q) (connection_of q next.connections) =
-    λ q apart. rw (to_cut-other c q (drop answered_so.taken left) apart, others q apart, connection_of-changed counted (λ k. refl) c q taking.machine.connections, other q c apart) (rw (to_cut-other c q left apart) at (taking.shows.rows q)) in
     let numbers : sequence_after row.sequence ≡ sequence_after k.taken = next_sequence row.sequence k.taken match.sequence in
-    elim (cut.ready match.ready) [
+    elim (cut.ready k.setup match.setup) [
       | inl whole ↦
-          let so : answered_so ≡ record { answer = answer_to row.stage (sequence_after row.sequence) (Whole whole.frame); taken = whole.taken } = some_is _ _ whole.answered_is in
-          let is_answer : answered_so.answer ≡ answer_to row.stage (sequence_after row.sequence) (Whole whole.frame) = ap (λ (a : Answered). a.answer) so in
+          let o : Outcome = outcome k.setup (sequence_after row.sequence) (Whole whole.frame) in
+          let next : Machine = record taking.machine { connections = changed (counted o.setup) c taking.machine.connections } in
+          let counts : Counts after next = answering_counts o.setup c table after taking.machine taking.shows.counts count others row changed_row is_row changed_is in
+          let so : answered_so ≡ record { answer = o.answer; taken = whole.taken } = some_is _ _ whole.answered_is in
+          let is_answer : answered_so.answer ≡ o.answer = ap (λ (a : Answered). a.answer) so in
           let is_taken : answered_so.taken ≡ whole.taken = ap (λ (a : Answered). a.taken) so in
           let cuts = parts_at-whole (fed row.splitter left) (fed changed_row.splitter (drop whole.taken left)) whole.frame whole.cuts in
           let to_come : parts_to_come (row_at table c) left ≡ Whole whole.frame ∷ parts_at (fed changed_row.splitter (drop answered_so.taken left)) = rw (is_row, is_taken) cuts in
-          let taken_so : part_taken taking.machine c (Whole whole.frame) ≡ answered next c answered_so.answer = rw (is_k, ← match.stage, ← numbers, is_answer) refl in
+          let taken_so : part_taken taking.machine c (Whole whole.frame) ≡ answered next c answered_so.answer = rw (is_k, ← numbers, is_answer) refl in
           record {
             machine = next;
             rest = parts_at (fed changed_row.splitter (drop answered_so.taken left));
             shows = record {
-              others = elsewhere;
-              here = λ keeps. rw (to_cut-same c (drop answered_so.taken left), changed_is, connection_of-changed counted (λ k. refl) c c taking.machine.connections, same c c refl, is_k) (record {
-                stage = whole.stage;
+              others = noted o.setup c left (drop answered_so.taken left) old now table after all taking others;
+              here = λ keeps. rw (to_cut-same c (drop answered_so.taken left), changed_is, connection_of-changed (counted o.setup) (λ k. refl) c c taking.machine.connections, same c c refl, is_k) (record {
+                setup = whole.setup_is ∙ kept_live o.answer o.setup (rw is_answer at keeps);
                 sequence = whole.sequence ∙ numbers;
                 stands = rw (is_taken) (sym (behind_standing (fed row.splitter left) (fed changed_row.splitter (drop whole.taken left)) whole.frame whole.cuts) ∙ match.stands);
-                ready = whole.ready;
               });
               counts = counts;
             };
@@ -296,21 +303,24 @@ answering_by all c left old now table after answered_so (Some row) (Some k) is_r
           }
       | inr others_so ↦ elim others_so [
         | inl header ↦
-            let so : answered_so ≡ record { answer = answer_to row.stage (sequence_after row.sequence) (TooMuch (take 8 (fed row.splitter left).held)); taken = length left } = some_is _ _ header.answered_is in
-            let is_answer : answered_so.answer ≡ oversize_answer (sequence_after row.sequence) (take 8 (fed row.splitter left).held) = ap (λ (a : Answered). a.answer) so in
-            let to_come : parts_to_come (row_at table c) left ≡ TooMuch (take 8 (fed row.splitter left).held) ∷ [] = rw is_row (parts_at-oversize (fed row.splitter left) header.oversize) in
-            let taken_so : part_taken taking.machine c (TooMuch (take 8 (fed row.splitter left).held)) ≡ answered next c answered_so.answer = rw (is_k, ← numbers, is_answer) refl in
+            let front : List ℕ = take 8 (fed row.splitter left).held in
+            let next : Machine = record taking.machine { connections = changed (counted k.setup) c taking.machine.connections } in
+            let counts : Counts after next = answering_counts k.setup c table after taking.machine taking.shows.counts count others row changed_row is_row changed_is in
+            let so : answered_so ≡ record { answer = oversize_answer k.setup (sequence_after row.sequence) front; taken = length left } = some_is _ _ header.answered_is in
+            let is_answer : answered_so.answer ≡ oversize_answer k.setup (sequence_after row.sequence) front = ap (λ (a : Answered). a.answer) so in
+            let to_come : parts_to_come (row_at table c) left ≡ TooMuch front ∷ [] = rw is_row (parts_at-oversize (fed row.splitter left) header.oversize) in
+            let taken_so : part_taken taking.machine c (TooMuch front) ≡ answered next c answered_so.answer = rw (is_k, ← numbers, is_answer) refl in
             record {
               machine = next;
               rest = [];
               shows = record {
-                others = elsewhere;
-                here = λ keeps. absurd (oversize_ends (sequence_after row.sequence) (take 8 (fed row.splitter left).held) (rw is_answer at keeps));
+                others = noted k.setup c left (drop answered_so.taken left) old now table after all taking others;
+                here = λ keeps. absurd (oversize_ends k.setup (sequence_after row.sequence) front (rw is_answer at keeps));
                 counts = counts;
               };
               going = record { effects = taking.going.effects; added = taking.going.added; holds = rw (to_come, taken_so) at taking.going.holds };
               next = rw (to_come, taken_so) at taking.next;
-              rest_is = λ keeps r r_is. absurd (oversize_ends (sequence_after row.sequence) (take 8 (fed row.splitter left).held) (rw is_answer at keeps));
+              rest_is = λ keeps r r_is. absurd (oversize_ends k.setup (sequence_after row.sequence) front (rw is_answer at keeps));
             }
         | inr waits ↦ absurd (some_is_not_none answered_so waits.answered_is)
       ]
@@ -335,10 +345,8 @@ closed_to_come m c parts rest =
     parts_taken-not_live next c parts absent ∙ sym (parts_taken-not_live next c rest absent)
 
 to_come_is : (answer : Answer) (m : Machine) (c : ℕ) (left : List ℕ) (rest : List Part) (before row : Option Row) → Matches left row (connection_of c (answered m c answer).next.connections) → HeldStays before row → (KeepsLive answer → (r : Row) → before ≡ Some r → rest ≡ parts_at (fed r.splitter left)) → parts_taken (answered m c answer).next c (parts_to_come row left) ≡ parts_taken (answered m c answer).next c rest
-to_come_is Silent m c left rest before row match stays_held rest_is = live_to_come m c left rest before row match stays_held (rest_is tt)
-to_come_is (Send message) m c left rest before row match stays_held rest_is = live_to_come m c left rest before row match stays_held (rest_is tt)
-to_come_is (Refuse error) m c left rest before row match stays_held rest_is = closed_to_come m c (parts_to_come row left) rest
-to_come_is Close m c left rest before row match stays_held rest_is = closed_to_come m c (parts_to_come row left) rest
+to_come_is (Stays message) m c left rest before row match stays_held rest_is = live_to_come m c left rest before row match stays_held (rest_is tt)
+to_come_is (Closes message) m c left rest before row match stays_held rest_is = closed_to_come m c (parts_to_come row left) rest
 
 -- it was answered, and the rest of the piece follows
 pub went_on : (all : Step) (c : ℕ) (left : List ℕ) (old now later : Option (List Effect)) (table after : Table) (answer : Answer) → (whole : Answering all c left old now table answer) → Carried (to_cut c left) now later after (answered whole.machine c answer) true → ((q : ℕ) → HeldStays (row_at table q) (row_at after q)) → Taking all c left old later after

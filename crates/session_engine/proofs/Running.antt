@@ -10,17 +10,13 @@ use Rattle.sm_world.specs.Outside.{adds, TakesNext}
 use Rattle.sm_world.specs.declared.effects.Effect.{Effect}
 use Rattle.sm_world.specs.declared.effects.Effect.TheVariants.{Heard}
 use Rattle.sm_world.specs.declared.events.Event.{Event}
-use Rattle.session_engine.specs.Machine.{Act, Does, Finish, Machine, Item, Came, Did, start, step, script, script_from, run, run_from, deeds_in, deed_in, has_finish}
-use Rattle.session_engine.specs.Carries.{CarriesOut, IsPrefix, IsOnScript, Serves, Brought, next_events, is_whole, items, item_of}
+use Rattle.session_engine.specs.Machine.{Act, Does, Finish, Machine, Item, Came, Did, start as start_with, step, after_all, script_from, run_from, deeds_in, deed_in, has_finish}
+use Rattle.session_engine.specs.Carries.{CarriesOut, IsPrefix, IsOnScript as IsOnScriptOf, Serves as ServesWith, Brought, next_events, is_whole, items, item_of, script as script_with, run as run_with}
+use Rattle.ice_cookie.specs.declared.cookies.Cookie.{Cookie}
 use Rattle.session_engine.specs.Rows.{Shows, all_cut, row_at, row_count}
 use Rattle.session_engine.specs.declared.table.Table.{Table}
 use Rattle.session_engine.specs.declared.fault.ServeFault.{ServeFault}
 use Rattle.session_engine.specs.declared.fault.ServeFault.TheVariants.{LinkFault, Spent, NoMemory}
-
--- the machine after these events
-abbrev pub after_all : Machine → List Event → Machine
-after_all m [] = m
-after_all m (event ∷ events) = after_all (step m event).next events
 
 -- these events are the first of those to come, and the others are left
 abbrev pub BroughtSoFar : Option (List Event) → Option (List Event) → List Event → Type 0
@@ -124,220 +120,237 @@ each_front P es ds event before after n = elim (cases_lt (length es) n) [
   | inr h ↦ rw (take-append-le n es (Heard event ∷ ds) h) (before n)
 ]
 
--- The script of a run with one more event, and the deeds of its effects so far.
-front_on_script : (es ds : List Effect) (event : Event) (left : List Act) → StepAdds (step (after_all start (heard es)) event).acts left ds → has_finish (script (heard es)) ≡ false → deeds es ≡ deeds_in (script (heard es)) → (k : ℕ) → IsPrefix (deeds (es ++ Heard event ∷ take k ds)) (deeds_in (script (heard (es ++ Heard event ∷ take k ds))))
-front_on_script es ds event left adds unfinished all_done k =
-    let acts = (step (after_all start (heard es)) event).acts in
-    let deaf : heard (take k ds) ≡ [] = deaf_front (heard (take k ds)) (heard (drop k ds)) (heard_parts k ds adds.deaf) in
-    let scripts : script (heard (es ++ Heard event ∷ take k ds)) ≡ script (heard es) ++ acts = ap script (heard-more es (take k ds) event deaf) ∙ script_from-more start (heard es) event unfinished in
-    let parts : deeds (take k ds) ++ deeds (drop k ds) ≡ deeds_in adds.done = sym (flat_map-append deed_of (take k ds) (drop k ds)) ∙ (ap deeds (take-append-drop k ds) ∙ adds.so_far) in
-    let all : deeds_in acts ≡ deeds (take k ds) ++ (deeds (drop k ds) ++ deeds_in left) =
-    ap deeds_in (sym adds.parts) ∙ (flat_map-append deed_in adds.done left ∙ (ap (λ xs. xs ++ deeds_in left) (sym parts) ∙ append_assoc (deeds (take k ds)) (deeds (drop k ds)) (deeds_in left))) in (
-      deeds (drop k ds) ++ deeds_in left,
-      ap (λ xs. xs ++ (deeds (drop k ds) ++ deeds_in left)) (deeds-more es (take k ds) event)
-          ∙ (append_assoc (deeds es) (deeds (take k ds)) (deeds (drop k ds) ++ deeds_in left)
-          ∙ (ap (λ xs. xs ++ (deeds (take k ds) ++ (deeds (drop k ds) ++ deeds_in left))) all_done
-          ∙ (ap (λ xs. deeds_in (script (heard es)) ++ xs) (sym all)
-          ∙ (sym (flat_map-append deed_in (script (heard es)) acts) ∙ ap deeds_in (sym scripts))))),
-    )
+-- All that follows is said of a session with this cookie.
+module _ (cookie : Cookie) where
+  abbrev pub start : Machine
+  start = start_with cookie
 
--- what holds of the effects of a run that goes on
-pub record Runs (coming left : Option (List Event)) (table : Table) (n : ℕ) (es : List Effect) : Type 0 where
-  pub shows : Shows all_cut table (after_all start (heard es))
-  pub count : length (heard es) ≡ n
-  pub unfinished : has_finish (script (heard es)) ≡ false
-  pub all_done : deeds es ≡ deeds_in (script (heard es))
-  pub in_order : items es ≡ run (heard es)
-  pub on_script : IsOnScript es
-  pub brought : BroughtSoFar coming left (heard es)
+  abbrev pub script : List Event → List Act
+  script events = script_with cookie events
 
-more_on_script : (es ds : List Effect) (event : Event) (left : List Act) → StepAdds (step (after_all start (heard es)) event).acts left ds → has_finish (script (heard es)) ≡ false → deeds es ≡ deeds_in (script (heard es)) → IsOnScript es → IsOnScript (es ++ Heard event ∷ ds)
-more_on_script es ds event left adds unfinished all_done on_script = record {
-  no_other_deed = each_front (λ xs. IsPrefix (deeds xs) (deeds_in (script (heard xs)))) es ds event on_script.no_other_deed (front_on_script es ds event left adds unfinished all_done);
-  no_deed_missing = each_heard (λ xs. deeds xs ≡ deeds_in (script (heard xs))) es ds event adds.deaf on_script.no_deed_missing all_done;
-  heard_in_time = each_heard (λ xs. has_finish (script (heard xs)) ≡ false) es ds event adds.deaf on_script.heard_in_time unfinished;
-  none_published = rw (flat_map-append file_of es (Heard event ∷ ds), on_script.none_published, adds.quiet) refl;
-}
+  abbrev pub run : List Event → List Item
+  run events = run_with cookie events
 
--- parts of an empty list
-take_none : (n : ℕ) → ◌≡◌ {A = List Effect} (take n []) []
-take_none zero = refl
-take_none (suc n) = refl
+  abbrev pub IsOnScript : List Effect → Type 0
+  IsOnScript effects = IsOnScriptOf cookie effects
 
-drop_none : {A : Type 0} (n : ℕ) → ◌≡◌ {A = List A} (drop n []) []
-drop_none zero = refl
-drop_none (suc n) = refl
+  abbrev pub Serves : Option (List Event) → ℕ → Result (Unit {0}) ServeFault → List Effect → Type 0
+  Serves coming turns answer effects = ServesWith cookie coming turns answer effects
 
-none_heard_yet : (n : ℕ) (event : Event) (more : List Effect) → ◌≡◌ {A = List Effect} (drop n []) (Heard event ∷ more) → ⊥
-none_heard_yet n event more e = none_is_heard event (heard more) (sym (ap heard (sym (drop_none n) ∙ e)))
+  -- The script of a run with one more event, and the deeds of its effects so far.
+  front_on_script : (es ds : List Effect) (event : Event) (left : List Act) → StepAdds (step (after_all start (heard es)) event).acts left ds → has_finish (script (heard es)) ≡ false → deeds es ≡ deeds_in (script (heard es)) → (k : ℕ) → IsPrefix (deeds (es ++ Heard event ∷ take k ds)) (deeds_in (script (heard (es ++ Heard event ∷ take k ds))))
+  front_on_script es ds event left adds unfinished all_done k =
+      let acts = (step (after_all start (heard es)) event).acts in
+      let deaf : heard (take k ds) ≡ [] = deaf_front (heard (take k ds)) (heard (drop k ds)) (heard_parts k ds adds.deaf) in
+      let scripts : script (heard (es ++ Heard event ∷ take k ds)) ≡ script (heard es) ++ acts = ap script (heard-more es (take k ds) event deaf) ∙ script_from-more start (heard es) event unfinished in
+      let parts : deeds (take k ds) ++ deeds (drop k ds) ≡ deeds_in adds.done = sym (flat_map-append deed_of (take k ds) (drop k ds)) ∙ (ap deeds (take-append-drop k ds) ∙ adds.so_far) in
+      let all : deeds_in acts ≡ deeds (take k ds) ++ (deeds (drop k ds) ++ deeds_in left) =
+      ap deeds_in (sym adds.parts) ∙ (flat_map-append deed_in adds.done left ∙ (ap (λ xs. xs ++ deeds_in left) (sym parts) ∙ append_assoc (deeds (take k ds)) (deeds (drop k ds)) (deeds_in left))) in (
+        deeds (drop k ds) ++ deeds_in left,
+        ap (λ xs. xs ++ (deeds (drop k ds) ++ deeds_in left)) (deeds-more es (take k ds) event)
+            ∙ (append_assoc (deeds es) (deeds (take k ds)) (deeds (drop k ds) ++ deeds_in left)
+            ∙ (ap (λ xs. xs ++ (deeds (take k ds) ++ (deeds (drop k ds) ++ deeds_in left))) all_done
+            ∙ (ap (λ xs. deeds_in (script (heard es)) ++ xs) (sym all)
+            ∙ (sym (flat_map-append deed_in (script (heard es)) acts) ∙ ap deeds_in (sym scripts))))),
+      )
 
-brought_none : (coming : Option (List Event)) → BroughtSoFar coming coming []
-brought_none None = refl
-brought_none (Some coming) = (refl, refl)
+  -- what holds of the effects of a run that goes on
+  pub record Runs (coming left : Option (List Event)) (table : Table) (n : ℕ) (es : List Effect) : Type 0 where
+    pub shows : Shows all_cut table (after_all start (heard es))
+    pub count : length (heard es) ≡ n
+    pub unfinished : has_finish (script (heard es)) ≡ false
+    pub all_done : deeds es ≡ deeds_in (script (heard es))
+    pub in_order : items es ≡ run (heard es)
+    pub on_script : IsOnScript es
+    pub brought : BroughtSoFar coming left (heard es)
 
--- nothing was heard yet
-pub runs_begin : (coming : Option (List Event)) (table : Table) → ((q : ℕ) → row_at table q ≡ None) → row_count table ≡ 0 → Runs coming coming table 0 []
-runs_begin coming table none no_rows = record {
-  shows = record { rows = λ q. rw (none q) tt; counts = record { count = no_rows; distinct = tt; live = λ q. rw (none q) tt } };
-  count = refl;
-  unfinished = refl;
-  all_done = refl;
-  in_order = refl;
-  on_script = record {
-    no_other_deed = λ n. rw (take_none n) ([], refl);
-    no_deed_missing = λ n event more is_heard. absurd (none_heard_yet n event more is_heard);
-    heard_in_time = λ n event more is_heard. absurd (none_heard_yet n event more is_heard);
-    none_published = refl;
-  };
-  brought = brought_none coming;
-}
+  more_on_script : (es ds : List Effect) (event : Event) (left : List Act) → StepAdds (step (after_all start (heard es)) event).acts left ds → has_finish (script (heard es)) ≡ false → deeds es ≡ deeds_in (script (heard es)) → IsOnScript es → IsOnScript (es ++ Heard event ∷ ds)
+  more_on_script es ds event left adds unfinished all_done on_script = record {
+    no_other_deed = each_front (λ xs. IsPrefix (deeds xs) (deeds_in (script (heard xs)))) es ds event on_script.no_other_deed (front_on_script es ds event left adds unfinished all_done);
+    no_deed_missing = each_heard (λ xs. deeds xs ≡ deeds_in (script (heard xs))) es ds event adds.deaf on_script.no_deed_missing all_done;
+    heard_in_time = each_heard (λ xs. has_finish (script (heard xs)) ≡ false) es ds event adds.deaf on_script.heard_in_time unfinished;
+    none_published = rw (flat_map-append file_of es (Heard event ∷ ds), on_script.none_published, adds.quiet) refl;
+  }
 
--- the events to come, but for one more
-drop_one_first : (n : ℕ) (xs : List Event) → drop n (drop 1 xs) ≡ drop (suc n) xs
-drop_one_first n [] = drop_none n
-drop_one_first n (x ∷ xs) = refl
+  -- parts of an empty list
+  take_none : (n : ℕ) → ◌≡◌ {A = List Effect} (take n []) []
+  take_none zero = refl
+  take_none (suc n) = refl
 
-drop_one_after : (n : ℕ) (xs : List Event) → drop 1 (drop n xs) ≡ drop (suc n) xs
-drop_one_after zero xs = refl
-drop_one_after (suc n) [] = refl
-drop_one_after (suc n) (x ∷ xs) = drop_one_after n xs
+  drop_none : {A : Type 0} (n : ℕ) → ◌≡◌ {A = List A} (drop n []) []
+  drop_none zero = refl
+  drop_none (suc n) = refl
 
-next_events-more : (n : ℕ) (coming : List Event) → next_events (suc n) coming ≡ next_events n coming ++ next_of (drop n coming) ∷ []
-next_events-more zero coming = refl
-next_events-more (suc n) coming =
-    ap (λ es. next_of coming ∷ es) (next_events-more n (drop 1 coming))
-    ∙ ap (λ xs. next_of coming ∷ (next_events n (drop 1 coming) ++ next_of xs ∷ [])) (drop_one_first n coming)
+  none_heard_yet : (n : ℕ) (event : Event) (more : List Effect) → ◌≡◌ {A = List Effect} (drop n []) (Heard event ∷ more) → ⊥
+  none_heard_yet n event more e = none_is_heard event (heard more) (sym (ap heard (sym (drop_none n) ∙ e)))
 
-length-more : (events : List Event) (event : Event) → length (events ++ event ∷ []) ≡ suc (length events)
-length-more events event = omega (arith, length-append events (event ∷ []))
+  brought_none : (coming : Option (List Event)) → BroughtSoFar coming coming []
+  brought_none None = refl
+  brought_none (Some coming) = (refl, refl)
 
-brought_more : (coming left after : Option (List Event)) (events : List Event) (event : Event) → BroughtSoFar coming left events → TakesNext {E = ServeFault} left after (Ok event) → BroughtSoFar coming after (events ++ event ∷ [])
-brought_more None left after events event brought takes = rw brought at takes
-brought_more (Some coming) left after events event brought takes =
-    let takes_next : (event ≡ next_of (drop (length events) coming)) × (after ≡ Some (drop 1 (drop (length events) coming))) = rw brought.1 at takes in
-    rw (length-more events event) (
-      ap (λ es. es ++ event ∷ []) brought.0 ∙ (ap (λ e. next_events (length events) coming ++ e ∷ []) takes_next.0 ∙ sym (next_events-more (length events) coming)),
-      takes_next.1 ∙ ap Some (drop_one_after (length events) coming),
-    )
+  -- nothing was heard yet
+  pub runs_begin : (coming : Option (List Event)) (table : Table) → ((q : ℕ) → row_at table q ≡ None) → row_count table ≡ 0 → Runs coming coming table 0 []
+  runs_begin coming table none no_rows = record {
+    shows = record { rows = λ q. rw (none q) tt; counts = record { count = no_rows; distinct = tt; live = λ q. rw (none q) tt } };
+    count = refl;
+    unfinished = refl;
+    all_done = refl;
+    in_order = refl;
+    on_script = record {
+      no_other_deed = λ n. rw (take_none n) ([], refl);
+      no_deed_missing = λ n event more is_heard. absurd (none_heard_yet n event more is_heard);
+      heard_in_time = λ n event more is_heard. absurd (none_heard_yet n event more is_heard);
+      none_published = refl;
+    };
+    brought = brought_none coming;
+  }
 
--- CarriesOut for the theorem's lists
-step_adds : (acts : List Act) (whole : Bool) (ds : List Effect) → (out : CarriesOut acts whole ds) → StepAdds acts out.left ds
-step_adds acts whole ds out = record {
-  deaf = out.going.deaf;
-  quiet = out.going.quiet;
-  done = out.going.done;
-  parts = out.going.parts;
-  so_far = out.going.so_far;
-}
+  -- the events to come, but for one more
+  drop_one_first : (n : ℕ) (xs : List Event) → drop n (drop 1 xs) ≡ drop (suc n) xs
+  drop_one_first n [] = drop_none n
+  drop_one_first n (x ∷ xs) = refl
 
-items-more : (es ds : List Effect) (event : Event) → items (es ++ Heard event ∷ ds) ≡ items es ++ (Came event ∷ items ds)
-items-more es ds event = flat_map-append item_of es (Heard event ∷ ds)
+  drop_one_after : (n : ℕ) (xs : List Event) → drop 1 (drop n xs) ≡ drop (suc n) xs
+  drop_one_after zero xs = refl
+  drop_one_after (suc n) [] = refl
+  drop_one_after (suc n) (x ∷ xs) = drop_one_after n xs
 
--- the script after one more event
-script-more : (es ds : List Effect) (event : Event) → heard ds ≡ [] → has_finish (script (heard es)) ≡ false → script (heard (es ++ Heard event ∷ ds)) ≡ script (heard es) ++ (step (after_all start (heard es)) event).acts
-script-more es ds event deaf unfinished = ap script (heard-more es ds event deaf) ∙ script_from-more start (heard es) event unfinished
+  next_events-more : (n : ℕ) (coming : List Event) → next_events (suc n) coming ≡ next_events n coming ++ next_of (drop n coming) ∷ []
+  next_events-more zero coming = refl
+  next_events-more (suc n) coming =
+      ap (λ es. next_of coming ∷ es) (next_events-more n (drop 1 coming))
+      ∙ ap (λ xs. next_of coming ∷ (next_events n (drop 1 coming) ++ next_of xs ∷ [])) (drop_one_first n coming)
 
--- Finish in the script after one more event is Finish in that event's step
-finish-more : (es ds : List Effect) (event : Event) → heard ds ≡ [] → has_finish (script (heard es)) ≡ false → has_finish (script (heard (es ++ Heard event ∷ ds))) ≡ has_finish (step (after_all start (heard es)) event).acts
-finish-more es ds event deaf unfinished =
-    ap has_finish (script-more es ds event deaf unfinished)
-    ∙ (has_finish-append (script (heard es)) (step (after_all start (heard es)) event).acts ∙ rw unfinished refl)
+  length-more : (events : List Event) (event : Event) → length (events ++ event ∷ []) ≡ suc (length events)
+  length-more events event = omega (arith, length-append events (event ∷ []))
 
--- what was done after a whole step
-done-more : (es ds : List Effect) (event : Event) → CarriesOut (step (after_all start (heard es)) event).acts true ds → has_finish (script (heard es)) ≡ false → deeds es ≡ deeds_in (script (heard es)) → deeds (es ++ Heard event ∷ ds) ≡ deeds_in (script (heard (es ++ Heard event ∷ ds)))
-done-more es ds event out unfinished all_done =
-    let acts = (step (after_all start (heard es)) event).acts in
-    let whole : out.going.done ≡ acts = sym (append-nil out.going.done) ∙ (ap (λ xs. out.going.done ++ xs) (sym (out.none_left refl)) ∙ out.going.parts) in
-    deeds-more es ds event
-    ∙ (ap (λ xs. xs ++ deeds ds) all_done
-    ∙ (ap (λ xs. deeds_in (script (heard es)) ++ xs) (out.going.so_far ∙ ap deeds_in whole)
-    ∙ (sym (flat_map-append deed_in (script (heard es)) acts) ∙ ap deeds_in (sym (script-more es ds event out.going.deaf unfinished)))))
+  brought_more : (coming left after : Option (List Event)) (events : List Event) (event : Event) → BroughtSoFar coming left events → TakesNext {E = ServeFault} left after (Ok event) → BroughtSoFar coming after (events ++ event ∷ [])
+  brought_more None left after events event brought takes = rw brought at takes
+  brought_more (Some coming) left after events event brought takes =
+      let takes_next : (event ≡ next_of (drop (length events) coming)) × (after ≡ Some (drop 1 (drop (length events) coming))) = rw brought.1 at takes in
+      rw (length-more events event) (
+        ap (λ es. es ++ event ∷ []) brought.0 ∙ (ap (λ e. next_events (length events) coming ++ e ∷ []) takes_next.0 ∙ sym (next_events-more (length events) coming)),
+        takes_next.1 ∙ ap Some (drop_one_after (length events) coming),
+      )
 
-shown-more : (es ds : List Effect) (event : Event) → CarriesOut (step (after_all start (heard es)) event).acts true ds → has_finish (script (heard es)) ≡ false → items es ≡ run (heard es) → items (es ++ Heard event ∷ ds) ≡ run (heard (es ++ Heard event ∷ ds))
-shown-more es ds event out unfinished in_order =
-    let acts = (step (after_all start (heard es)) event).acts in
-    let whole : out.going.done ≡ acts = sym (append-nil out.going.done) ∙ (ap (λ xs. out.going.done ++ xs) (sym (out.none_left refl)) ∙ out.going.parts) in
-    items-more es ds event
-    ∙ (ap (λ xs. xs ++ (Came event ∷ items ds)) in_order
-    ∙ (ap (λ xs. run (heard es) ++ (Came event ∷ xs)) (out.going.in_order ∙ ap (map Did) (out.going.so_far ∙ ap deeds_in whole))
-    ∙ sym (ap run (heard-more es ds event out.going.deaf) ∙ run_from-more start (heard es) event unfinished)))
+  -- CarriesOut for the theorem's lists
+  step_adds : (acts : List Act) (whole : Bool) (ds : List Effect) → (out : CarriesOut acts whole ds) → StepAdds acts out.left ds
+  step_adds acts whole ds out = record {
+    deaf = out.going.deaf;
+    quiet = out.going.quiet;
+    done = out.going.done;
+    parts = out.going.parts;
+    so_far = out.going.so_far;
+  }
 
--- the run goes on
-pub goes_on : (coming left after : Option (List Event)) (table next : Table) (n : ℕ) (es ds : List Effect) (event : Event) → Runs coming left table n es → TakesNext {E = ServeFault} left after (Ok event) → CarriesOut (step (after_all start (heard es)) event).acts true ds → Shows all_cut next (step (after_all start (heard es)) event).next → has_finish (step (after_all start (heard es)) event).acts ≡ false → Runs coming after next (suc n) (es ++ Heard event ∷ ds)
-goes_on coming left after table next n es ds event runs takes out shows goes =
-    let is_heard = heard-more es ds event out.going.deaf in
-    record {
-      shows = rw (is_heard, after_all-more start (heard es) event) shows;
-      count = ap length is_heard ∙ (length-more (heard es) event ∙ ap suc runs.count);
-      unfinished = finish-more es ds event out.going.deaf runs.unfinished ∙ goes;
-      all_done = done-more es ds event out runs.unfinished runs.all_done;
-      in_order = shown-more es ds event out runs.unfinished runs.in_order;
-      on_script = more_on_script es ds event out.left (step_adds _ true ds out) runs.unfinished runs.all_done runs.on_script;
-      brought = rw is_heard (brought_more coming left after (heard es) event runs.brought takes);
-    }
+  items-more : (es ds : List Effect) (event : Event) → items (es ++ Heard event ∷ ds) ≡ items es ++ (Came event ∷ items ds)
+  items-more es ds event = flat_map-append item_of es (Heard event ∷ ds)
 
--- what was brought, without what is left
-brought_is : (coming left : Option (List Event)) (events : List Event) → BroughtSoFar coming left events → Brought coming events
-brought_is None left events brought = tt
-brought_is (Some coming) left events brought = brought.0
+  -- the script after one more event
+  script-more : (es ds : List Effect) (event : Event) → heard ds ≡ [] → has_finish (script (heard es)) ≡ false → script (heard (es ++ Heard event ∷ ds)) ≡ script (heard es) ++ (step (after_all start (heard es)) event).acts
+  script-more es ds event deaf unfinished = ap script (heard-more es ds event deaf) ∙ script_from-more start (heard es) event unfinished
 
--- a fault but Spent cuts the run short
-not_whole : (fault : ServeFault) → (fault ≡ Spent → ⊥) → is_whole (Err fault) ≡ true → ⊥
-not_whole LinkFault apart e = false≢true e
-not_whole Spent apart e = apart refl
-not_whole NoMemory apart e = false≢true e
+  -- Finish in the script after one more event is Finish in that event's step
+  finish-more : (es ds : List Effect) (event : Event) → heard ds ≡ [] → has_finish (script (heard es)) ≡ false → has_finish (script (heard (es ++ Heard event ∷ ds))) ≡ has_finish (step (after_all start (heard es)) event).acts
+  finish-more es ds event deaf unfinished =
+      ap has_finish (script-more es ds event deaf unfinished)
+      ∙ (has_finish-append (script (heard es)) (step (after_all start (heard es)) event).acts ∙ rw unfinished refl)
 
-ok_is_no_fault : (fault : ServeFault) → ◌≡◌ {A = Result (Unit {0}) ServeFault} (Ok tt) (Err fault) → ⊥
-ok_is_no_fault fault e = cc
+  -- what was done after a whole step
+  done-more : (es ds : List Effect) (event : Event) → CarriesOut (step (after_all start (heard es)) event).acts true ds → has_finish (script (heard es)) ≡ false → deeds es ≡ deeds_in (script (heard es)) → deeds (es ++ Heard event ∷ ds) ≡ deeds_in (script (heard (es ++ Heard event ∷ ds)))
+  done-more es ds event out unfinished all_done =
+      let acts = (step (after_all start (heard es)) event).acts in
+      let whole : out.going.done ≡ acts = sym (append-nil out.going.done) ∙ (ap (λ xs. out.going.done ++ xs) (sym (out.none_left refl)) ∙ out.going.parts) in
+      deeds-more es ds event
+      ∙ (ap (λ xs. xs ++ deeds ds) all_done
+      ∙ (ap (λ xs. deeds_in (script (heard es)) ++ xs) (out.going.so_far ∙ ap deeds_in whole)
+      ∙ (sym (flat_map-append deed_in (script (heard es)) acts) ∙ ap deeds_in (sym (script-more es ds event out.going.deaf unfinished)))))
 
-the_fault : (one other : ServeFault) → ◌≡◌ {A = Result (Unit {0}) ServeFault} (Err one) (Err other) → one ≡ other
-the_fault one other e = cc
+  shown-more : (es ds : List Effect) (event : Event) → CarriesOut (step (after_all start (heard es)) event).acts true ds → has_finish (script (heard es)) ≡ false → items es ≡ run (heard es) → items (es ++ Heard event ∷ ds) ≡ run (heard (es ++ Heard event ∷ ds))
+  shown-more es ds event out unfinished in_order =
+      let acts = (step (after_all start (heard es)) event).acts in
+      let whole : out.going.done ≡ acts = sym (append-nil out.going.done) ∙ (ap (λ xs. out.going.done ++ xs) (sym (out.none_left refl)) ∙ out.going.parts) in
+      items-more es ds event
+      ∙ (ap (λ xs. xs ++ (Came event ∷ items ds)) in_order
+      ∙ (ap (λ xs. run (heard es) ++ (Came event ∷ xs)) (out.going.in_order ∙ ap (map Did) (out.going.so_far ∙ ap deeds_in whole))
+      ∙ sym (ap run (heard-more es ds event out.going.deaf) ∙ run_from-more start (heard es) event unfinished)))
 
-fault_is_no_ok : (fault : ServeFault) → IsOk {T = Unit {0}} (Err fault) → ⊥
-fault_is_no_ok fault e = false≢true e
-
--- the machine's own end
-pub is_end : (coming left after : Option (List Event)) (table : Table) (n turns : ℕ) (es ds : List Effect) (event : Event) → n < turns → Runs coming left table n es → TakesNext {E = ServeFault} left after (Ok event) → CarriesOut (step (after_all start (heard es)) event).acts true ds → has_finish (step (after_all start (heard es)) event).acts ≡ true → Serves coming turns (Ok tt) (es ++ Heard event ∷ ds)
-is_end coming left after table n turns es ds event in_turns runs takes out finishes =
-    let is_heard = heard-more es ds event out.going.deaf in
-    record {
-      carries = record {
+  -- the run goes on
+  pub goes_on : (coming left after : Option (List Event)) (table next : Table) (n : ℕ) (es ds : List Effect) (event : Event) → Runs coming left table n es → TakesNext {E = ServeFault} left after (Ok event) → CarriesOut (step (after_all start (heard es)) event).acts true ds → Shows all_cut next (step (after_all start (heard es)) event).next → has_finish (step (after_all start (heard es)) event).acts ≡ false → Runs coming after next (suc n) (es ++ Heard event ∷ ds)
+  goes_on coming left after table next n es ds event runs takes out shows goes =
+      let is_heard = heard-more es ds event out.going.deaf in
+      record {
+        shows = rw (is_heard, after_all-more start (heard es) event) shows;
+        count = ap length is_heard ∙ (length-more (heard es) event ∙ ap suc runs.count);
+        unfinished = finish-more es ds event out.going.deaf runs.unfinished ∙ goes;
+        all_done = done-more es ds event out runs.unfinished runs.all_done;
+        in_order = shown-more es ds event out runs.unfinished runs.in_order;
         on_script = more_on_script es ds event out.left (step_adds _ true ds out) runs.unfinished runs.all_done runs.on_script;
-        all_done = λ e. done-more es ds event out runs.unfinished runs.all_done;
-        ended = λ e. finish-more es ds event out.going.deaf runs.unfinished ∙ finishes;
-      };
-      brought = rw is_heard (brought_is coming after (heard es ++ event ∷ []) (brought_more coming left after (heard es) event runs.brought takes));
-      in_order = λ e. shown-more es ds event out runs.unfinished runs.in_order;
-      in_turns = omega (arith, ap length is_heard, length-more (heard es) event, runs.count);
-      spent = λ e. absurd (ok_is_no_fault Spent e);
-    }
+        brought = rw is_heard (brought_more coming left after (heard es) event runs.brought takes);
+      }
 
--- a fault as an event was answered
-pub is_cut_short : (coming left after : Option (List Event)) (table : Table) (n turns : ℕ) (es ds : List Effect) (event : Event) (fault : ServeFault) → (fault ≡ Spent → ⊥) → n < turns → Runs coming left table n es → TakesNext {E = ServeFault} left after (Ok event) → CarriesOut (step (after_all start (heard es)) event).acts false ds → Serves coming turns (Err fault) (es ++ Heard event ∷ ds)
-is_cut_short coming left after table n turns es ds event fault apart in_turns runs takes out =
-    let is_heard = heard-more es ds event out.going.deaf in
-    record {
-      carries = record {
-        on_script = more_on_script es ds event out.left (step_adds _ false ds out) runs.unfinished runs.all_done runs.on_script;
-        all_done = λ e. absurd (not_whole fault apart e);
-        ended = λ e. absurd (fault_is_no_ok fault e);
-      };
-      brought = rw is_heard (brought_is coming after (heard es ++ event ∷ []) (brought_more coming left after (heard es) event runs.brought takes));
-      in_order = λ e. absurd (not_whole fault apart e);
-      in_turns = omega (arith, ap length is_heard, length-more (heard es) event, runs.count);
-      spent = λ e. absurd (apart (the_fault fault Spent e));
-    }
+  -- what was brought, without what is left
+  brought_is : (coming left : Option (List Event)) (events : List Event) → BroughtSoFar coming left events → Brought coming events
+  brought_is None left events brought = tt
+  brought_is (Some coming) left events brought = brought.0
 
--- no more came, for a fault of the links or for want of memory, or since the turns are spent
-pub is_over : (coming left : Option (List Event)) (table : Table) (n turns : ℕ) (es : List Effect) (fault : ServeFault) → n ≤ turns → (fault ≡ Spent → n ≡ turns) → Runs coming left table n es → Serves coming turns (Err fault) es
-is_over coming left table n turns es fault in_turns at_end runs = record {
-  carries = record {
-    on_script = runs.on_script;
-    all_done = λ e. runs.all_done;
-    ended = λ e. absurd (fault_is_no_ok fault e);
-  };
-  brought = brought_is coming left (heard es) runs.brought;
-  in_order = λ e. runs.in_order;
-  in_turns = omega (arith, runs.count);
-  spent = λ e. (runs.count ∙ at_end (the_fault fault Spent e), runs.unfinished);
-}
+  -- a fault but Spent cuts the run short
+  not_whole : (fault : ServeFault) → (fault ≡ Spent → ⊥) → is_whole (Err fault) ≡ true → ⊥
+  not_whole LinkFault apart e = false≢true e
+  not_whole Spent apart e = apart refl
+  not_whole NoMemory apart e = false≢true e
+
+  ok_is_no_fault : (fault : ServeFault) → ◌≡◌ {A = Result (Unit {0}) ServeFault} (Ok tt) (Err fault) → ⊥
+  ok_is_no_fault fault e = cc
+
+  the_fault : (one other : ServeFault) → ◌≡◌ {A = Result (Unit {0}) ServeFault} (Err one) (Err other) → one ≡ other
+  the_fault one other e = cc
+
+  fault_is_no_ok : (fault : ServeFault) → IsOk {T = Unit {0}} (Err fault) → ⊥
+  fault_is_no_ok fault e = false≢true e
+
+  -- the machine's own end
+  pub is_end : (coming left after : Option (List Event)) (table : Table) (n turns : ℕ) (es ds : List Effect) (event : Event) → n < turns → Runs coming left table n es → TakesNext {E = ServeFault} left after (Ok event) → CarriesOut (step (after_all start (heard es)) event).acts true ds → has_finish (step (after_all start (heard es)) event).acts ≡ true → Serves coming turns (Ok tt) (es ++ Heard event ∷ ds)
+  is_end coming left after table n turns es ds event in_turns runs takes out finishes =
+      let is_heard = heard-more es ds event out.going.deaf in
+      record {
+        carries = record {
+          on_script = more_on_script es ds event out.left (step_adds _ true ds out) runs.unfinished runs.all_done runs.on_script;
+          all_done = λ e. done-more es ds event out runs.unfinished runs.all_done;
+          ended = λ e. finish-more es ds event out.going.deaf runs.unfinished ∙ finishes;
+        };
+        brought = rw is_heard (brought_is coming after (heard es ++ event ∷ []) (brought_more coming left after (heard es) event runs.brought takes));
+        in_order = λ e. shown-more es ds event out runs.unfinished runs.in_order;
+        in_turns = omega (arith, ap length is_heard, length-more (heard es) event, runs.count);
+        spent = λ e. absurd (ok_is_no_fault Spent e);
+      }
+
+  -- a fault as an event was answered
+  pub is_cut_short : (coming left after : Option (List Event)) (table : Table) (n turns : ℕ) (es ds : List Effect) (event : Event) (fault : ServeFault) → (fault ≡ Spent → ⊥) → n < turns → Runs coming left table n es → TakesNext {E = ServeFault} left after (Ok event) → CarriesOut (step (after_all start (heard es)) event).acts false ds → Serves coming turns (Err fault) (es ++ Heard event ∷ ds)
+  is_cut_short coming left after table n turns es ds event fault apart in_turns runs takes out =
+      let is_heard = heard-more es ds event out.going.deaf in
+      record {
+        carries = record {
+          on_script = more_on_script es ds event out.left (step_adds _ false ds out) runs.unfinished runs.all_done runs.on_script;
+          all_done = λ e. absurd (not_whole fault apart e);
+          ended = λ e. absurd (fault_is_no_ok fault e);
+        };
+        brought = rw is_heard (brought_is coming after (heard es ++ event ∷ []) (brought_more coming left after (heard es) event runs.brought takes));
+        in_order = λ e. absurd (not_whole fault apart e);
+        in_turns = omega (arith, ap length is_heard, length-more (heard es) event, runs.count);
+        spent = λ e. absurd (apart (the_fault fault Spent e));
+      }
+
+  -- no more came, for a fault of the links or for want of memory, or since the turns are spent
+  pub is_over : (coming left : Option (List Event)) (table : Table) (n turns : ℕ) (es : List Effect) (fault : ServeFault) → n ≤ turns → (fault ≡ Spent → n ≡ turns) → Runs coming left table n es → Serves coming turns (Err fault) es
+  is_over coming left table n turns es fault in_turns at_end runs = record {
+    carries = record {
+      on_script = runs.on_script;
+      all_done = λ e. runs.all_done;
+      ended = λ e. absurd (fault_is_no_ok fault e);
+    };
+    brought = brought_is coming left (heard es) runs.brought;
+    in_order = λ e. runs.in_order;
+    in_turns = omega (arith, runs.count);
+    spent = λ e. (runs.count ∙ at_end (the_fault fault Spent e), runs.unfinished);
+  }

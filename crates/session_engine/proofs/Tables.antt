@@ -8,16 +8,16 @@ use Rattle.sm_world.specs.declared.effects.Effect.{Effect}
 use Rattle.sm_world.specs.declared.effects.Effect.TheVariants.{Sent, Shut as WasShut}
 use Rattle.sm_world.specs.declared.events.Event.TheVariants.{Joined}
 use Rattle.ice_values.specs.declared.numbers.Endian.TheVariants.{Lsb}
-use Rattle.ice_values.specs.declared.errors.ErrorBody.{ErrorBody}
+use Rattle.ice_cookie.specs.declared.cookies.Cookie.{Cookie}
 use Rattle.ice_messages.specs.Messages.{canon}
 use Rattle.ice_messages.specs.declared.message.IceMessage.{IceMessage}
-use Rattle.ice_messages.specs.declared.message.IceMessage.TheVariants.{ByteOrder, Error}
+use Rattle.ice_messages.specs.declared.message.IceMessage.TheVariants.{ByteOrder}
 use Rattle.session_engine.specs.Cutting.{IsNewRow}
 use Rattle.session_engine.specs.Machine.{Connection, Machine, connection_of, without, joined, answered, step, Step, stays, live_limit, sends, shuts}
 use Rattle.session_engine.specs.Rows.{row_at, row_count, ChangesRow, Matches, IsRowOf, IsLiveAs, Counts, Shows, ShowsFor, Carried, all_cut}
 use Rattle.session_engine.specs.declared.row.Row.{Row}
 use Rattle.session_engine.specs.declared.table.Table.{Table}
-use Rattle.session_engine.specs.declared.answers.Answer.TheVariants.{Silent, Send, Refuse, Close}
+use Rattle.session_engine.specs.declared.answers.Answer.TheVariants.{Stays, Closes}
 use Rattle.session_engine.specs.declared.fault.ServeFault.{ServeFault}
 use Rattle.session_engine.proofs.Connections.{same, other, connection_of-without, connection_of-append, length-without, distinct-without, distinct-append}
 use Rattle.session_engine.proofs.Adding.{adds-none, untouched, given_up, sent, was_shut, one_after_other}
@@ -42,30 +42,30 @@ leaves m c pending table after changes fewer others counts =
     })
 
 -- nothing is said to it
-pub silent : (m : Machine) (c : ℕ) (pending : ℕ → List ℕ) (table : Table) (old : Option (List Effect)) → ShowsFor Silent c pending table m → Carried pending old old table (answered m c Silent) true
+pub silent : (m : Machine) (c : ℕ) (pending : ℕ → List ℕ) (table : Table) (old : Option (List Effect)) → ShowsFor (Stays None) c pending table m → Carried pending old old table (answered m c (Stays None)) true
 silent m c pending table old shows = record {
   acts = untouched true old;
   shows = λ e. shows_by c pending table m (shows.here tt) shows.others shows.counts;
 }
 
-pub replied : {X : Type 0} (m : Machine) (c : ℕ) (message : IceMessage) (pending : ℕ → List ℕ) (table : Table) (old new : Option (List Effect)) (result : Result X ServeFault) → new ≡ adds old (on_ok result (Sent c (canon Lsb message) ∷ [])) → ShowsFor (Send message) c pending table m → Carried pending old new table (answered m c (Send message)) (is_ok result)
+pub replied : {X : Type 0} (m : Machine) (c : ℕ) (message : IceMessage) (pending : ℕ → List ℕ) (table : Table) (old new : Option (List Effect)) (result : Result X ServeFault) → new ≡ adds old (on_ok result (Sent c (canon Lsb message) ∷ [])) → ShowsFor (Stays (Some message)) c pending table m → Carried pending old new table (answered m c (Stays (Some message))) (is_ok result)
 replied m c message pending table old new result added shows = record {
   acts = sent c (canon Lsb message) old new result added;
   shows = λ e. shows_by c pending table m (shows.here tt) shows.others shows.counts;
 }
 
-pub closed : {X : Type 0} (m : Machine) (c : ℕ) (pending : ℕ → List ℕ) (table after : Table) (old new : Option (List Effect)) (result : Result X ServeFault) → new ≡ adds old (on_ok result (WasShut c ∷ [])) → ChangesRow table after c None → row_count after + (if is_some (row_at table c) then 1 else 0) ≡ row_count table → ShowsFor Close c pending table m → Carried pending old new after (answered m c Close) (is_ok result)
+pub closed : {X : Type 0} (m : Machine) (c : ℕ) (pending : ℕ → List ℕ) (table after : Table) (old new : Option (List Effect)) (result : Result X ServeFault) → new ≡ adds old (on_ok result (WasShut c ∷ [])) → ChangesRow table after c None → row_count after + (if is_some (row_at table c) then 1 else 0) ≡ row_count table → ShowsFor (Closes None) c pending table m → Carried pending old new after (answered m c (Closes None)) (is_ok result)
 closed m c pending table after old new result added changes fewer shows = record {
   acts = was_shut c old new result added;
   shows = λ e. leaves m c pending table after changes fewer shows.others shows.counts;
 }
 
--- an Error was sent, and its connection closed
-pub refused : {X Y : Type 0} (m : Machine) (c : ℕ) (error : ErrorBody) (pending : ℕ → List ℕ) (table after : Table) (old middle new : Option (List Effect)) (x : X) (result : Result Y ServeFault) → middle ≡ adds old (Sent c (canon Lsb (Error error)) ∷ []) → new ≡ adds middle (on_ok result (WasShut c ∷ [])) → ChangesRow table after c None → row_count after + (if is_some (row_at table c) then 1 else 0) ≡ row_count table → ShowsFor (Refuse error) c pending table m → Carried pending old new after (answered m c (Refuse error)) (is_ok result)
-refused {X} {Y} m c error pending table after old middle new x result told added changes fewer shows =
+-- a last message was sent, and its connection closed
+pub refused : {X Y : Type 0} (m : Machine) (c : ℕ) (message : IceMessage) (pending : ℕ → List ℕ) (table after : Table) (old middle new : Option (List Effect)) (x : X) (result : Result Y ServeFault) → middle ≡ adds old (Sent c (canon Lsb message) ∷ []) → new ≡ adds middle (on_ok result (WasShut c ∷ [])) → ChangesRow table after c None → row_count after + (if is_some (row_at table c) then 1 else 0) ≡ row_count table → ShowsFor (Closes (Some message)) c pending table m → Carried pending old new after (answered m c (Closes (Some message))) (is_ok result)
+refused {X} {Y} m c message pending table after old middle new x result told added changes fewer shows =
     let said : Result X ServeFault = Ok x in
     record {
-      acts = one_after_other (sends c (Error error)) (shuts m c).acts (is_ok result) old middle new (sent c (canon Lsb (Error error)) old middle said told) (was_shut c middle new result added);
+      acts = one_after_other (sends c message) (shuts m c).acts (is_ok result) old middle new (sent c (canon Lsb message) old middle said told) (was_shut c middle new result added);
       shows = λ e. leaves m c pending table after changes fewer shows.others shows.counts;
     }
 
@@ -73,9 +73,9 @@ refused {X} {Y} m c error pending table after old middle new x result told added
 pub not_begun : (pending : ℕ → List ℕ) (old : Option (List Effect)) (after : Table) (step : Step) → Carried pending old old after step false
 not_begun pending old after step = record { acts = given_up step.acts old; shows = λ e. absurd (false≢true e) }
 
--- the Error could not be sent
-pub not_refused : (m : Machine) (c : ℕ) (error : ErrorBody) (pending : ℕ → List ℕ) (after : Table) (old new : Option (List Effect)) → new ≡ adds old [] → Carried pending old new after (answered m c (Refuse error)) false
-not_refused m c error pending after old new none_sent = rw (none_sent ∙ adds-none old) (not_begun pending old after (answered m c (Refuse error)))
+-- the last message could not be sent
+pub not_refused : (m : Machine) (c : ℕ) (message : IceMessage) (pending : ℕ → List ℕ) (after : Table) (old new : Option (List Effect)) → new ≡ adds old [] → Carried pending old new after (answered m c (Closes (Some message))) false
+not_refused m c message pending after old new none_sent = rw (none_sent ∙ adds-none old) (not_begun pending old after (answered m c (Closes (Some message))))
 
 -- a step that does nothing
 pub quiet : (pending : ℕ → List ℕ) (old : Option (List Effect)) (after : Table) (m : Machine) → Shows pending after m → Carried pending old old after (stays m) true
@@ -98,22 +98,22 @@ pub joined_again : (m : Machine) (c : ℕ) (table : Table) (old : Option (List E
 joined_again m c table old live shows =
     rw (live_stays m c (row_at table c) (connection_of c m.connections) refl live (shows.rows c)) (quiet all_cut old table m shows)
 
-new_row : (row : Row) (c : ℕ) → IsNewRow row → IsRowOf [] row (joined c)
-new_row row c new = record { stage = new.stage; sequence = new.sequence; stands = rw (new.splitter) refl; ready = new.ready }
+new_row : (cookie : Cookie) (row : Row) (c : ℕ) → IsNewRow cookie row → IsRowOf [] row (joined cookie c)
+new_row cookie row c new = record { setup = new.setup; sequence = new.sequence; stands = rw (new.splitter) refl }
 
-joined_shows : (m : Machine) (c : ℕ) (row : Row) (table after : Table) → connection_of c m.connections ≡ None → IsNewRow row → ChangesRow table after c (Some row) → row_count after ≡ row_count table + 1 → Shows all_cut table m → Shows all_cut after (record m { connections = m.connections ++ joined c ∷ [] })
+joined_shows : (m : Machine) (c : ℕ) (row : Row) (table after : Table) → connection_of c m.connections ≡ None → IsNewRow m.cookie row → ChangesRow table after c (Some row) → row_count after ≡ row_count table + 1 → Shows all_cut table m → Shows all_cut after (record m { connections = m.connections ++ joined m.cookie c ∷ [] })
 joined_shows m c row table after absent new changes more shows =
-    let next : Machine = record m { connections = m.connections ++ joined c ∷ [] } in
-    let here : Matches [] (row_at after c) (connection_of c next.connections) = rw (changes c, connection_of-append c m.connections (joined c) absent, same c c refl) (new_row row c new) in
-    let elsewhere : (q : ℕ) → (q ≡ c → ⊥) → Matches [] (row_at after q) (connection_of q next.connections) = λ q apart. rw (changes q, connection_of-append q m.connections (joined c) absent, other q c apart) (shows.rows q) in
+    let next : Machine = record m { connections = m.connections ++ joined m.cookie c ∷ [] } in
+    let here : Matches [] (row_at after c) (connection_of c next.connections) = rw (changes c, connection_of-append c m.connections (joined m.cookie c) absent, same c c refl) (new_row m.cookie row c new) in
+    let elsewhere : (q : ℕ) → (q ≡ c → ⊥) → Matches [] (row_at after q) (connection_of q next.connections) = λ q apart. rw (changes q, connection_of-append q m.connections (joined m.cookie c) absent, other q c apart) (shows.rows q) in
     shows_by c all_cut after next here elsewhere (record {
-      count = more ∙ (ap (λ n. n + 1) shows.counts.count ∙ sym (length-append m.connections (joined c ∷ [])));
-      distinct = distinct-append m.connections (joined c) shows.counts.distinct absent;
+      count = more ∙ (ap (λ n. n + 1) shows.counts.count ∙ sym (length-append m.connections (joined m.cookie c ∷ [])));
+      distinct = distinct-append m.connections (joined m.cookie c) shows.counts.distinct absent;
       live = λ q. live_as [] (row_at after q) (connection_of q next.connections) (live_at c all_cut after next here elsewhere q);
     })
 
 -- a new connection is sent the manager's order
-pub joins : {X : Type 0} (m : Machine) (c : ℕ) (row : Row) (table after : Table) (old new : Option (List Effect)) (result : Result X ServeFault) → is_some (row_at table c) ≡ false → nat_lt (row_count table) live_limit ≡ true → new ≡ adds old (on_ok result (Sent c (canon Lsb (ByteOrder Lsb)) ∷ [])) → IsNewRow row → ChangesRow table after c (Some row) → row_count after ≡ row_count table + 1 → Shows all_cut table m → Carried all_cut old new after (step m (Joined c)) (is_ok result)
+pub joins : {X : Type 0} (m : Machine) (c : ℕ) (row : Row) (table after : Table) (old new : Option (List Effect)) (result : Result X ServeFault) → is_some (row_at table c) ≡ false → nat_lt (row_count table) live_limit ≡ true → new ≡ adds old (on_ok result (Sent c (canon Lsb (ByteOrder Lsb)) ∷ [])) → IsNewRow m.cookie row → ChangesRow table after c (Some row) → row_count after ≡ row_count table + 1 → Shows all_cut table m → Carried all_cut old new after (step m (Joined c)) (is_ok result)
 joins m c row table after old new result not_live room added is_new changes more shows =
     let absent : connection_of c m.connections ≡ None = not_live_none (row_at table c) (connection_of c m.connections) not_live (shows.rows c) in
     let room_so : nat_lt (length m.connections) live_limit ≡ true = rw (shows.counts.count) at room in

@@ -1,90 +1,97 @@
--- The direct answer to one part of a stream: a whole frame, or a header that states too much.
-use Rattle.std.specs.Prelude.{ℕ, ◌+◌, ◌%◌, ◌^◌, List, [], ◌∷◌, ◌++◌, drop, slice_index, Result, Ok, Err, ◌==◌, ◌&&◌, nat_lt, not, if◌then◌else◌}
-use Rattle.ice_values.specs.Cells.{free, zeros}
-use Rattle.ice_values.specs.Numbers.{number, number_bytes}
+-- What one part of a stream brings: a whole frame, or a header that states too much.
+use Rattle.std.specs.Prelude.{ℕ, ◌+◌, ◌%◌, ◌^◌, Bool, true, false, List, [], drop, slice_index, Option, Some, None, Result, Ok, Err, ◌==◌, ◌&&◌, nat_lt, not, is_some, if◌then◌else◌}
+use Rattle.ice_values.specs.Numbers.{number}
 use Rattle.ice_values.specs.declared.numbers.Endian.{Endian}
-use Rattle.ice_values.specs.declared.numbers.Endian.TheVariants.{Lsb}
-use Rattle.ice_values.specs.declared.severity.Severity.TheVariants.{FatalToConnection}
+use Rattle.ice_values.specs.declared.numbers.Endian.TheVariants.{Lsb, Msb}
+use Rattle.ice_values.specs.declared.severity.Severity.TheVariants.{CanContinue, FatalToConnection}
 use Rattle.ice_values.specs.declared.refusals.DecodeRefusal.{DecodeRefusal}
 use Rattle.ice_values.specs.declared.refusals.DecodeRefusal.TheVariants.{BadMinor, BadLength, BadValue, NoMemory}
 use Rattle.ice_framing.specs.declared.cutting.WholeFrame.{WholeFrame}
 use Rattle.ice_messages.specs.Messages.{IsTooLong}
 use Rattle.ice_messages.specs.Reading.{decode_at}
 use Rattle.ice_messages.specs.declared.message.IceMessage.{IceMessage}
-use Rattle.ice_messages.specs.declared.message.IceMessage.TheVariants.{Error, Ping, PingReply, WantToClose}
+use Rattle.ice_messages.specs.declared.message.IceMessage.TheVariants.{Error, ByteOrder}
+use Rattle.ice_setup.specs.Errors.{bad_minor, bad_state, bad_length, bad_value, bad_major, blame, opcode_values, wrong_byte}
+use Rattle.ice_setup.specs.Setup.{moved, connected, endian_of, opcode_of}
+use Rattle.ice_setup.specs.declared.errors.Offending.{Offending}
+use Rattle.ice_setup.specs.declared.states.AwaitOrder.{AwaitOrder}
+use Rattle.ice_setup.specs.declared.states.AnySetup.{AnySetup}
+use Rattle.ice_setup.specs.declared.states.AnySetup.TheVariants.{AwaitOrder as AtOrder}
+use Rattle.ice_setup.specs.declared.states.Moved.{Moved}
+use Rattle.ice_setup.specs.declared.states.Moved.TheVariants.{Goes, Ends, Close, Ask}
 use Rattle.session_engine.specs.Streams.{Part, Whole, TooMuch}
-use Rattle.session_engine.specs.declared.answers.Stage.{Stage}
-use Rattle.session_engine.specs.declared.answers.Stage.TheVariants.{AwaitOrder, AwaitSetup}
 use Rattle.session_engine.specs.declared.answers.Answer.{Answer}
-use Rattle.session_engine.specs.declared.answers.Answer.TheVariants.{Silent, Send, Refuse, Close}
+use Rattle.session_engine.specs.declared.answers.Answer.TheVariants.{Stays, Closes}
 
--- The classes of Errors (ICE, chapter 7: Error; the generic ones are 0x8000 and up).
-abbrev pub bad_minor : ℕ
-bad_minor = 0x8000
+-- what an Error names of a frame
+abbrev pub named_in : List ℕ → ℕ → Offending
+named_in bytes sequence = record { minor = slice_index bytes 1; sequence = sequence }
 
-abbrev pub bad_state : ℕ
-bad_state = 0x8001
+-- A part that is refused: before ConnectionReply was sent that ends the connection, and later the state is the same.
+abbrev pub refuses : AnySetup → ℕ → Offending → List ℕ → Moved
+refuses setup class offending values =
+    if connected setup then Goes setup (Some (Error (blame CanContinue class offending values)))
+    else Ends (Some (Error (blame FatalToConnection class offending values)))
 
-abbrev pub bad_length : ℕ
-bad_length = 0x8002
-
-abbrev pub bad_value : ℕ
-bad_value = 0x8003
-
-abbrev pub bad_major : ℕ
-bad_major = 0
-
--- An Error that ends the connection, as each does before the set-up.
-abbrev pub refuses : ℕ → ℕ → ℕ → List ℕ → Answer
-refuses class minor sequence values = Refuse (record { class = class; minor = minor; severity = FatalToConnection; sequence = sequence; values = values })
-
--- the values of a BadValue for one byte: its offset, a length of 1, the byte, and zeros to a unit
-abbrev pub wrong_byte : ℕ → List ℕ → List ℕ
-wrong_byte at bytes = number_bytes Lsb 4 at ++ number_bytes Lsb 4 1 ++ (slice_index bytes at ∷ zeros (free 7))
+-- the order that byte 2 of the first frame states
+abbrev pub stated_order : List ℕ → Endian
+stated_order bytes = if slice_index bytes 2 == 1 then Msb else Lsb
 
 -- The first frame is looked at byte by byte: it is ByteOrder, without a body, of an order with a meaning.
-abbrev pub first_answer : ℕ → List ℕ → Answer
-first_answer sequence bytes =
-    if not (slice_index bytes 0 == 0 && slice_index bytes 1 == 1) then refuses bad_state (slice_index bytes 1) sequence []
-    else if not (number Lsb 4 (drop 4 bytes) == 0) then refuses bad_length (slice_index bytes 1) sequence []
-    else if nat_lt 1 (slice_index bytes 2) then refuses bad_value (slice_index bytes 1) sequence (wrong_byte 2 bytes)
-    else Silent
-
--- A message that awaits set-up: Ping is answered, Error is taken silently, WantToClose closes, and no other has its place there.
-abbrev pub message_answer : ℕ → ℕ → IceMessage → Answer
-message_answer minor sequence Ping = Send PingReply
-message_answer minor sequence (Error error) = Silent
-message_answer minor sequence WantToClose = Close
-message_answer minor sequence message = refuses bad_state minor sequence []
+abbrev pub first_moved : AwaitOrder → ℕ → List ℕ → Moved
+first_moved s sequence bytes =
+    if not (slice_index bytes 0 == 0 && slice_index bytes 1 == 1) then refuses (AtOrder s) bad_state (named_in bytes sequence) []
+    else if not (number Lsb 4 (drop 4 bytes) == 0) then refuses (AtOrder s) bad_length (named_in bytes sequence) []
+    else if nat_lt 1 (slice_index bytes 2) then refuses (AtOrder s) bad_value (named_in bytes sequence) (wrong_byte 2 bytes)
+    else moved (AtOrder s) (ByteOrder (stated_order bytes)) sequence
 
 -- what reading a frame gave; reading as such wants no memory
-abbrev pub read_answer : List ℕ → ℕ → Result IceMessage DecodeRefusal → Answer
-read_answer bytes sequence (Ok message) = message_answer (slice_index bytes 1) sequence message
-read_answer bytes sequence (Err BadMinor) = refuses bad_minor (slice_index bytes 1) sequence []
-read_answer bytes sequence (Err BadLength) = refuses bad_length (slice_index bytes 1) sequence []
-read_answer bytes sequence (Err (BadValue at len)) = refuses bad_value (slice_index bytes 1) sequence (wrong_byte at bytes)
-read_answer bytes sequence (Err NoMemory) = Close
+abbrev pub read_moved : AnySetup → ℕ → List ℕ → Result IceMessage DecodeRefusal → Moved
+read_moved setup sequence bytes (Ok message) = moved setup message sequence
+read_moved setup sequence bytes (Err BadMinor) = refuses setup bad_minor (named_in bytes sequence) []
+read_moved setup sequence bytes (Err BadLength) = refuses setup bad_length (named_in bytes sequence) []
+read_moved setup sequence bytes (Err (BadValue at len)) = refuses setup bad_value (named_in bytes sequence) (wrong_byte at bytes)
+read_moved setup sequence bytes (Err NoMemory) = Close
 
--- A later frame: with minor opcode 0 it is taken silently, whatever else it is; then its major opcode is looked at, and then what it spells.
-abbrev pub later_answer : ℕ → Endian → List ℕ → Answer
-later_answer sequence e bytes =
-    if slice_index bytes 1 == 0 then Silent
-    else if not (slice_index bytes 0 == 0) then refuses bad_major (slice_index bytes 1) sequence (slice_index bytes 0 ∷ zeros (free 7))
-    else read_answer bytes sequence (decode_at e bytes)
+-- the client's messages of XSMP have this major opcode
+abbrev pub is_opcode : Option ℕ → ℕ → Bool
+is_opcode None opcode = false
+is_opcode (Some own) opcode = own == opcode
+
+-- A later frame: with minor opcode 0 it is taken silently, whatever else it is; then its major opcode is looked at, and then
+-- what it spells. As long as nobody can register, a message of XSMP closes its connection.
+abbrev pub later_moved : AnySetup → ℕ → Endian → List ℕ → Moved
+later_moved setup sequence e bytes =
+    if slice_index bytes 1 == 0 then Goes setup None
+    else if slice_index bytes 0 == 0 then read_moved setup sequence bytes (decode_at e bytes)
+    else if is_opcode (opcode_of setup) (slice_index bytes 0) then Close
+    else refuses setup bad_major (named_in bytes sequence) (opcode_values (slice_index bytes 0))
+
+abbrev pub frame_moved : AnySetup → ℕ → WholeFrame → Moved
+frame_moved (AtOrder s) sequence frame = first_moved s sequence frame.bytes
+frame_moved setup sequence frame = later_moved setup sequence frame.endian frame.bytes
 
 -- A header that states too much ends the connection, without an Error where its minor opcode is 0.
-abbrev pub oversize_answer : ℕ → List ℕ → Answer
-oversize_answer sequence header =
-    if slice_index header 1 == 0 then Close
-    else refuses bad_length (slice_index header 1) sequence []
+abbrev pub oversize_answer : AnySetup → ℕ → List ℕ → Answer
+oversize_answer setup sequence header =
+    if slice_index header 1 == 0 then Closes None
+    else Closes (Some (Error (blame FatalToConnection bad_length (named_in header sequence) [])))
 
-abbrev pub frame_answer : Stage → ℕ → WholeFrame → Answer
-frame_answer AwaitOrder sequence frame = first_answer sequence frame.bytes
-frame_answer AwaitSetup sequence frame = later_answer sequence frame.endian frame.bytes
+-- What a part brings: where its connection stands then, and what is done about it.
+pub record Outcome : Type 0 where
+  pub setup : AnySetup
+  pub answer : Answer
 
-abbrev pub answer_to : Stage → ℕ → Part → Answer
-answer_to stage sequence (Whole frame) = frame_answer stage sequence frame
-answer_to stage sequence (TooMuch header) = oversize_answer sequence header
+-- A client that wants to close is closed. As long as nobody can register, that holds of one that speaks XSMP too.
+abbrev pub outcome_of : AnySetup → Moved → Outcome
+outcome_of before (Goes setup message) = record { setup = setup; answer = Stays message }
+outcome_of before (Ends message) = record { setup = before; answer = Closes message }
+outcome_of before Close = record { setup = before; answer = Closes None }
+outcome_of before (Ask setup) = record { setup = setup; answer = Closes None }
+
+abbrev pub outcome : AnySetup → ℕ → Part → Outcome
+outcome setup sequence (Whole frame) = outcome_of setup (frame_moved setup sequence frame)
+outcome setup sequence (TooMuch header) = record { setup = setup; answer = oversize_answer setup sequence header }
 
 -- the number of a frame behind so many others: from 1 on, and after 4,294,967,295 comes 0
 abbrev pub sequence_after : ℕ → ℕ
@@ -92,14 +99,25 @@ sequence_after count = (count + 1) % 2 ^ 32
 
 -- What an answer says has a spelling that is not too long.
 abbrev pub CanBeSaid : Answer → Type 0
-CanBeSaid Silent = Unit {0}
-CanBeSaid (Send message) = ¬ (IsTooLong Lsb message)
-CanBeSaid (Refuse error) = ¬ (IsTooLong Lsb (Error error))
-CanBeSaid Close = Unit {0}
+CanBeSaid (Stays (Some message)) = ¬ (IsTooLong Lsb message)
+CanBeSaid (Stays None) = Unit {0}
+CanBeSaid (Closes (Some message)) = ¬ (IsTooLong Lsb message)
+CanBeSaid (Closes None) = Unit {0}
 
 -- The connection stays live after the answer.
 abbrev pub KeepsLive : Answer → Type 0
-KeepsLive Silent = Unit {0}
-KeepsLive (Send message) = Unit {0}
-KeepsLive (Refuse error) = ⊥
-KeepsLive Close = ⊥
+KeepsLive (Stays message) = Unit {0}
+KeepsLive (Closes message) = ⊥
+
+-- where a row stands after an answer: nowhere, once its connection is to be closed
+abbrev pub kept_by : Answer → AnySetup → Option AnySetup
+kept_by (Stays message) setup = Some setup
+kept_by (Closes message) setup = None
+
+abbrev pub kept : Outcome → Option AnySetup
+kept o = kept_by o.answer o.setup
+
+-- the order of the client's numbers is known
+abbrev pub is_ordered : Option AnySetup → Bool
+is_ordered None = false
+is_ordered (Some setup) = is_some (endian_of setup)

@@ -10,23 +10,13 @@ use Rattle.sm_world.specs.declared.events.Event.{Event}
 use Rattle.sm_world.specs.declared.failures.Faults.{Faults}
 use Rattle.sm_world.specs.declared.failures.Failure.{Failure}
 use Rattle.sm_world.specs.declared.failures.Failure.TheVariants.{Failed, NoMemory as OutOfMemory}
-use Rattle.session_engine.specs.Machine.{Act, Item, Came, Did, script, run, deeds_in, has_finish}
+use Rattle.ice_cookie.specs.declared.cookies.Cookie.{Cookie}
+use Rattle.session_engine.specs.Machine.{Act, Item, Came, Did, script_of, run_of, deeds_in, has_finish}
 use Rattle.session_engine.specs.declared.fault.ServeFault.{ServeFault}
 use Rattle.session_engine.specs.declared.fault.ServeFault.TheVariants.{LinkFault, Spent, NoMemory}
 
 abbrev pub IsPrefix : {A : Type 0} → List A → List A → Type 0
 IsPrefix {A} xs ys = (rest : List A) × (xs ++ rest ≡ ys)
-
--- The first effects of a run, against the script of the events among them.
-pub record IsOnScript (effects : List Effect) : Type 0 where
-  -- what was done is what the machine does, as far as it goes
-  pub no_other_deed : (n : ℕ) → IsPrefix (deeds (take n effects)) (deeds_in (script (heard (take n effects))))
-  -- before anything more is heard, all of it was done
-  pub no_deed_missing : (n : ℕ) (event : Event) (more : List Effect) → drop n effects ≡ Heard event ∷ more → deeds (take n effects) ≡ deeds_in (script (heard (take n effects)))
-  -- nothing is heard once the run is at its end
-  pub heard_in_time : (n : ℕ) (event : Event) (more : List Effect) → drop n effects ≡ Heard event ∷ more → has_finish (script (heard (take n effects))) ≡ false
-  -- no file is published
-  pub none_published : published effects ≡ []
 
 -- a run that wasn't cut short by a fault
 abbrev pub is_whole : Result (Unit {0}) ServeFault → Bool
@@ -34,15 +24,6 @@ is_whole (Ok x) = true
 is_whole (Err Spent) = true
 is_whole (Err LinkFault) = false
 is_whole (Err NoMemory) = false
-
--- The effects of a run with this answer are those of the session machine, in its order.
-pub record Carries (effects : List Effect) (answer : Result (Unit {0}) ServeFault) : Type 0 where
-  -- at each point of the run
-  pub on_script : IsOnScript effects
-  -- where no fault cut the run short, all was done
-  pub all_done : is_whole answer ≡ true → deeds effects ≡ deeds_in (script (heard effects))
-  -- Ok is the machine's own end
-  pub ended : IsOk answer → has_finish (script (heard effects)) ≡ true
 
 -- the first n of the events to come, and End for each that isn't there
 abbrev pub next_events : ℕ → List Event → List Event
@@ -70,16 +51,46 @@ item_of (Printed text) = Did (Prints text) ∷ []
 abbrev pub items : List Effect → List Item
 items effects = flat_map item_of effects
 
--- What a call of the engine adds: a run of the session machine over the events that it was brought.
-pub record Serves (coming : Option (List Event)) (turns : ℕ) (answer : Result (Unit {0}) ServeFault) (effects : List Effect) : Type 0 where
-  pub carries : Carries effects answer
-  pub brought : Brought coming (heard effects)
-  -- events and deeds stand in the machine's order
-  pub in_order : is_whole answer ≡ true → items effects ≡ run (heard effects)
-  -- no more is heard than was granted
-  pub in_turns : length (heard effects) ≤ turns
-  -- the turns are spent where so many events were heard and none ended the run
-  pub spent : IsErrOf answer Spent → (length (heard effects) ≡ turns) × (has_finish (script (heard effects)) ≡ false)
+-- All that follows is said of a session with this cookie.
+module _ (cookie : Cookie) where
+  -- the acts of the session machine for these events
+  abbrev pub script : List Event → List Act
+  script events = script_of cookie events
+
+  -- each of these events followed by its deeds
+  abbrev pub run : List Event → List Item
+  run events = run_of cookie events
+
+  -- The first effects of a run, against the script of the events among them.
+  pub record IsOnScript (effects : List Effect) : Type 0 where
+    -- what was done is what the machine does, as far as it goes
+    pub no_other_deed : (n : ℕ) → IsPrefix (deeds (take n effects)) (deeds_in (script (heard (take n effects))))
+    -- before anything more is heard, all of it was done
+    pub no_deed_missing : (n : ℕ) (event : Event) (more : List Effect) → drop n effects ≡ Heard event ∷ more → deeds (take n effects) ≡ deeds_in (script (heard (take n effects)))
+    -- nothing is heard once the run is at its end
+    pub heard_in_time : (n : ℕ) (event : Event) (more : List Effect) → drop n effects ≡ Heard event ∷ more → has_finish (script (heard (take n effects))) ≡ false
+    -- no file is published
+    pub none_published : published effects ≡ []
+
+  -- The effects of a run with this answer are those of the session machine, in its order.
+  pub record Carries (effects : List Effect) (answer : Result (Unit {0}) ServeFault) : Type 0 where
+    -- at each point of the run
+    pub on_script : IsOnScript effects
+    -- where no fault cut the run short, all was done
+    pub all_done : is_whole answer ≡ true → deeds effects ≡ deeds_in (script (heard effects))
+    -- Ok is the machine's own end
+    pub ended : IsOk answer → has_finish (script (heard effects)) ≡ true
+
+  -- What a call of the engine adds: a run of the session machine over the events that it was brought.
+  pub record Serves (coming : Option (List Event)) (turns : ℕ) (answer : Result (Unit {0}) ServeFault) (effects : List Effect) : Type 0 where
+    pub carries : Carries effects answer
+    pub brought : Brought coming (heard effects)
+    -- events and deeds stand in the machine's order
+    pub in_order : is_whole answer ≡ true → items effects ≡ run (heard effects)
+    -- no more is heard than was granted
+    pub in_turns : length (heard effects) ≤ turns
+    -- the turns are spent where so many events were heard and none ended the run
+    pub spent : IsErrOf answer Spent → (length (heard effects) ≡ turns) × (has_finish (script (heard effects)) ≡ false)
 
 -- Some list of effects was added, and it is such that P holds. Where the world tells, it is the list that the world tells.
 pub record Added (old new : Option (List Effect)) (P : List Effect → Type 0) : Type 0 where

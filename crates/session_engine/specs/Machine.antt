@@ -5,30 +5,32 @@ use Rattle.sm_world.specs.declared.events.Event.{Event}
 use Rattle.sm_world.specs.declared.events.Event.TheVariants.{Joined, Piece, Gone, Operator, Tick, End}
 use Rattle.sm_world.specs.Effects.{Deed, Sends, Shuts}
 use Rattle.ice_values.specs.declared.numbers.Endian.TheVariants.{Lsb}
+use Rattle.ice_cookie.specs.declared.cookies.Cookie.{Cookie}
+use Rattle.ice_setup.specs.declared.states.AnySetup.{AnySetup}
+use Rattle.ice_setup.specs.declared.states.AnySetup.TheVariants.{AwaitOrder as AtOrder}
 use Rattle.ice_messages.specs.Messages.{canon}
 use Rattle.ice_messages.specs.declared.message.IceMessage.{IceMessage}
-use Rattle.ice_messages.specs.declared.message.IceMessage.TheVariants.{ByteOrder, Error}
-use Rattle.session_engine.specs.Answers.{answer_to, sequence_after}
+use Rattle.ice_messages.specs.declared.message.IceMessage.TheVariants.{ByteOrder}
+use Rattle.session_engine.specs.Answers.{Outcome, outcome, sequence_after}
 use Rattle.session_engine.specs.Streams.{Part, new_parts}
-use Rattle.session_engine.specs.declared.answers.Stage.{Stage}
-use Rattle.session_engine.specs.declared.answers.Stage.TheVariants.{AwaitOrder, AwaitSetup}
 use Rattle.session_engine.specs.declared.answers.Answer.{Answer}
-use Rattle.session_engine.specs.declared.answers.Answer.TheVariants.{Silent, Send, Refuse, Close}
+use Rattle.session_engine.specs.declared.answers.Answer.TheVariants.{Stays, Closes}
 
 -- what the machine does: a deed, or the end of the run
 pub data Act : Type 0 where
   Does : Deed → Act
   Finish : Act
 
--- a live connection: its number, all the bytes that came on it, how many parts of them were taken, and how far it has come
+-- a live connection: its number, all the bytes that came on it, how many parts of them were taken, and how far its set-up has come
 pub record Connection : Type 0 where
   pub number : ℕ
   pub stream : List ℕ
   pub taken : ℕ
-  pub stage : Stage
+  pub setup : AnySetup
 
--- the live connections, in the order in which they joined
+-- the cookie that a client must show, and the live connections, in the order in which they joined
 pub record Machine : Type 0 where
+  pub cookie : Cookie
   pub connections : List Connection
 
 -- what is done, and the machine afterwards
@@ -37,8 +39,8 @@ pub record Step : Type 0 where
   pub next : Machine
 
 -- before anything came
-abbrev pub start : Machine
-start = record { connections = [] }
+abbrev pub start : Cookie → Machine
+start cookie = record { cookie = cookie; connections = [] }
 
 abbrev pub connection_of : ℕ → List Connection → Option Connection
 connection_of c [] = None
@@ -57,16 +59,16 @@ abbrev pub live_limit : ℕ
 live_limit = 64
 
 -- a connection that just joined
-abbrev pub joined : ℕ → Connection
-joined c = record { number = c; stream = []; taken = 0; stage = AwaitOrder }
+abbrev pub joined : Cookie → ℕ → Connection
+joined cookie c = record { number = c; stream = []; taken = 0; setup = AtOrder (record { cookie = cookie }) }
 
 -- after more bytes came
 abbrev pub fed_with : List ℕ → Connection → Connection
 fed_with bytes k = record k { stream = k.stream ++ bytes }
 
--- after one more part was taken; behind the first it awaits its set-up
-abbrev pub counted : Connection → Connection
-counted k = record k { taken = k.taken + 1; stage = AwaitSetup }
+-- after one more part was taken, behind which its set-up has come so far
+abbrev pub counted : AnySetup → Connection → Connection
+counted setup k = record k { taken = k.taken + 1; setup = setup }
 
 -- nothing is done, and nothing changes but the machine
 abbrev pub stays : Machine → Step
@@ -84,17 +86,24 @@ sends c message = Does (Sends c (canon Lsb message)) ∷ []
 abbrev pub shuts : Machine → ℕ → Step
 shuts m c = record { acts = Does (Shuts c) ∷ []; next = record m { connections = without c m.connections } }
 
+-- what is said, if anything
+abbrev pub says : ℕ → Option IceMessage → List Act
+says c None = []
+says c (Some message) = sends c message
+
 -- the answer to a part of the stream of a live connection
 abbrev pub answered : Machine → ℕ → Answer → Step
-answered m c Silent = stays m
-answered m c (Send message) = record { acts = sends c message; next = m }
-answered m c (Refuse error) = behind (sends c (Error error)) (shuts m c)
-answered m c Close = shuts m c
+answered m c (Stays message) = record { acts = says c message; next = m }
+answered m c (Closes message) = behind (says c message) (shuts m c)
+
+-- what a part brought is noted, and answered
+abbrev pub brought : Machine → ℕ → Outcome → Step
+brought m c o = answered (record m { connections = changed (counted o.setup) c m.connections }) c o.answer
 
 -- what follows a shut is dropped
 abbrev pub part_for : Machine → ℕ → Part → Option Connection → Step
 part_for m c part None = stays m
-part_for m c part (Some k) = answered (record m { connections = changed counted c m.connections }) c (answer_to k.stage (sequence_after k.taken) part)
+part_for m c part (Some k) = brought m c (outcome k.setup (sequence_after k.taken) part)
 
 abbrev pub part_taken : Machine → ℕ → Part → Step
 part_taken m c part = part_for m c part (connection_of c m.connections)
@@ -113,7 +122,7 @@ piece_for m c bytes (Some k) = parts_taken (record m { connections = changed (fe
 abbrev pub join_for : Machine → ℕ → Option Connection → Step
 join_for m c None =
     if nat_lt (length m.connections) live_limit
-    then record { acts = sends c (ByteOrder Lsb); next = record m { connections = m.connections ++ joined c ∷ [] } }
+    then record { acts = sends c (ByteOrder Lsb); next = record m { connections = m.connections ++ joined m.cookie c ∷ [] } }
     else record { acts = Does (Shuts c) ∷ []; next = m }
 join_for m c (Some k) = stays m
 
@@ -140,13 +149,18 @@ deed_in Finish = []
 abbrev pub deeds_in : List Act → List Deed
 deeds_in acts = flat_map deed_in acts
 
+-- the machine after these events
+abbrev pub after_all : Machine → List Event → Machine
+after_all m [] = m
+after_all m (event ∷ events) = after_all (step m event).next events
+
 -- The acts that the machine gives for a list of events. After Finish nothing follows.
 abbrev pub script_from : Machine → List Event → List Act
 script_from m [] = []
 script_from m (event ∷ events) = (step m event).acts ++ (if has_finish (step m event).acts then [] else script_from (step m event).next events)
 
-abbrev pub script : List Event → List Act
-script events = script_from start events
+abbrev pub script_of : Cookie → List Event → List Act
+script_of cookie events = script_from (start cookie) events
 
 -- what the run shows, in its order: an event came, or a deed was done
 pub data Item : Type 0 where
@@ -158,5 +172,5 @@ run_from m [] = []
 run_from m (event ∷ events) = Came event ∷ (map Did (deeds_in (step m event).acts) ++ (if has_finish (step m event).acts then [] else run_from (step m event).next events))
 
 -- each event followed by its deeds, up to the end of the run
-abbrev pub run : List Event → List Item
-run events = run_from start events
+abbrev pub run_of : Cookie → List Event → List Item
+run_of cookie events = run_from (start cookie) events

@@ -34,10 +34,9 @@ CutsAt (Some row) left answered after = (changed : Row) × (after ≡ Some chang
 
 -- A row shows a connection, where these bytes of its stream are still to be cut.
 pub record IsRowOf (pending : List ℕ) (row : Row) (k : Connection) : Type 0 where
-  pub stage : row.stage ≡ k.stage
+  pub setup : row.setup ≡ Some k.setup
   pub sequence : row.sequence ≡ k.taken % 2 ^ 32
   pub stands : (cut (fed row.splitter pending)).standing ≡ standing_of k.stream
-  pub ready : row.spent ≡ false
 
 abbrev pub Matches : List ℕ → Option Row → Option Connection → Type 0
 Matches pending None None = Unit {0}

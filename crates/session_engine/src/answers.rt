@@ -1,211 +1,233 @@
-ghost use Rattle.std.specs.Prelude.{◌≡◌, ◌≤◌, ◌<◌, ◌%◌, ◌^◌, ◌∷◌, length, take, slice_index, IfOk};
-ghost use Rattle.ice_values.specs.Cells.{free, zeros};
-ghost use Rattle.ice_messages.specs.Messages.{IsFrame};
+ghost use Rattle.std.specs.Prelude.{◌≡◌, ◌≤◌, ◌%◌, length, take, slice_index, true, IfOk};
+ghost use Rattle.ice_messages.specs.Messages.{IsFrame, IsTooLong};
 ghost use Rattle.ice_messages.specs.Reading.{decode_at};
-ghost use Rattle.session_engine.specs.Answers.{refuses, wrong_byte, first_answer, later_answer, oversize_answer, message_answer, read_answer, frame_answer, CanBeSaid};
-ghost use Rattle.session_engine.specs.declared.answers.Stage.TheVariants.{AwaitSetup};
+ghost use Rattle.ice_framing.specs.Frames.{byte_limit};
+ghost use Rattle.ice_values.specs.declared.numbers.Endian.{Endian as AnyEndian};
+ghost use Rattle.ice_setup.specs.Setup.{moved as moved_by, CanBeSaid as MovesWithin};
+ghost use Rattle.ice_setup.specs.declared.states.AnySetup.{AnySetup as State};
+ghost use Rattle.session_engine.specs.Answers.{named_in, refuses, first_moved, read_moved, later_moved, frame_moved, is_opcode as is_opcode_of, is_ordered, oversize_answer, outcome_of, kept, kept_by, CanBeSaid};
 
 use ice_framing::{Frame, Splitter};
 use ice_messages::{IceMessage, decode_ice};
-use ice_values::{
-    DecodeRefusal, Endian, ErrorBody, Severity, put_bytes, put_card32, put_zeros, read_card32,
+use ice_setup::{
+    AnySetup, AwaitOrder, BAD_LENGTH, BAD_MAJOR, BAD_MINOR, BAD_STATE, BAD_VALUE, Moved, Offending,
+    error_of, opcode_values, wrong_byte_values,
 };
+use ice_values::{DecodeRefusal, Endian, Severity, read_card32};
 use sm_world::{NoMemory, Octets};
 use std::alloc::Global;
 
-/// How far a connection has come.
-#[derive(Clone, Copy, Debug, PartialEq, Eq)]
-pub enum Stage {
-    /// The first frame, a ByteOrder, is awaited.
-    AwaitOrder,
-    /// The order of the client's numbers is known.
-    AwaitSetup,
-}
-
-/// What the manager does about one frame.
+/// What is done about one part of a client's stream.
 #[derive(Debug, Drop)]
 pub enum Answer {
-    Silent,
-    /// A message goes back.
-    Send(IceMessage),
-    /// An Error goes back, and the connection is closed.
-    Refuse(ErrorBody),
-    /// The connection is closed without a word.
-    Close,
+    /// The message, if any, goes back, and the connection stays.
+    Stays(Option<IceMessage>),
+    /// The message, if any, goes back, and the connection is closed.
+    Closes(Option<IceMessage>),
 }
 
-/// The classes of Errors that are sent (ICE, chapter 7: Error).
-const BAD_MAJOR: u16 = 0;
+/// What an Error names of a frame.
+fn named(sequence: u32, frame: &[u8]) -> Offending
+    requires { 8 ≤ length frame.now }
+    ensures { result ≡ named_in frame.now sequence }
+{
+    Offending {
+        minor: frame[1],
+        sequence,
+    }
+}
 
-const BAD_MINOR: u16 = 0x8000;
-
-const BAD_STATE: u16 = 0x8001;
-
-const BAD_LENGTH: u16 = 0x8002;
-
-const BAD_VALUE: u16 = 0x8003;
-
-/// An Error that ends the connection, with values that fill units of 8 bytes.
-fn refuse(class: u16, minor: u8, sequence: u32, values: Octets) -> Answer
+/// A part of the stream is refused, with values that fill units of 8 bytes.
+fn refuse(setup: AnySetup, class: u16, offending: Offending, values: Octets) -> Moved
     requires units { length values % 8 ≡ 0 }
     requires few { length values ≤ 16 }
-    ensures answer { result ≡ refuses class minor sequence values }
-    ensures said { CanBeSaid result }
+    ensures moved { result ≡ refuses setup class offending values }
+    ensures said { MovesWithin result }
 {
-    Answer::Refuse(ErrorBody {
-        class,
-        minor,
-        severity: Severity::FatalToConnection,
-        sequence,
-        values,
-    })
+    if setup.connected() {
+        let error = error_of(Severity::CanContinue, class, offending, values);
+        return Moved::Goes(setup, Some(IceMessage::Error(error)));
+    }
+    let error = error_of(Severity::FatalToConnection, class, offending, values);
+    Moved::Ends(Some(IceMessage::Error(error)))
 }
 
-/// The values of a BadValue: the place of one byte, a length of 1, and the byte.
-fn wrong_byte_values(alloc: Global, at: u32, frame: &[u8]) -> Result<Octets, NoMemory>
-    ensures { IfOk result (λ values. (values ≡ wrong_byte at frame.now) × (length values ≡ 16)) }
+/// Takes a message of ICE. Where memory is wanting, the connection has no state any more.
+fn take_message(
+    alloc: Global,
+    setup: AnySetup,
+    sequence: u32,
+    message: IceMessage,
+) -> Result<Moved, NoMemory>
+    ensures moved { IfOk result (λ moved. moved ≡ moved_by setup message sequence) }
+    ensures said { (e : AnyEndian) → ¬ (IsTooLong e message) → IfOk result MovesWithin }
 {
-    let byte = frame.get(at as usize).copied().unwrap_or(0);
-    let mut values = Octets::new(alloc);
-    put_card32(Endian::Lsb, at, &mut values)?;
-    put_card32(Endian::Lsb, 1, &mut values)?;
-    put_bytes(&[byte], &mut values)?;
-    put_zeros(7, &mut values)?;
-    Ok(values)
+    match setup.take(alloc, message, sequence) {
+        Ok(moved) => Ok(moved),
+        Err((_, NoMemory)) => Err(NoMemory),
+    }
 }
 
-/// The values of a BadMajor: the opcode, and zeros to a unit.
-fn major_values(alloc: Global, major: u8) -> Result<Octets, NoMemory>
-    ensures { IfOk result (λ values. (values ≡ major ∷ zeros (free 7)) × (length values ≡ 8)) }
-{
-    let mut values = Octets::new(alloc);
-    put_bytes(&[major], &mut values)?;
-    put_zeros(7, &mut values)?;
-    Ok(values)
-}
-
-/// The answer to the first frame of a connection.
-fn answer_first(alloc: Global, sequence: u32, frame: &[u8]) -> Result<Answer, NoMemory>
+/// Takes the first frame of a connection.
+fn take_first(
+    alloc: Global,
+    state: AwaitOrder,
+    sequence: u32,
+    frame: &[u8],
+) -> Result<Moved, NoMemory>
     requires { 8 ≤ length frame.now }
-    ensures answer { IfOk result (λ answer. answer ≡ first_answer sequence frame.now) }
-    ensures said { IfOk result CanBeSaid }
+    ensures moved { IfOk result (λ moved. moved ≡ first_moved state sequence frame.now) }
+    ensures said { IfOk result MovesWithin }
 {
-    let minor = frame[1];
-    if !(frame[0] == 0 && minor == 1) {
-        return Ok(refuse(BAD_STATE, minor, sequence, Octets::new(alloc)));
+    let offending = named(sequence, frame);
+    let setup = AnySetup::AwaitOrder(state);
+    if !(frame[0] == 0 && frame[1] == 1) {
+        return Ok(refuse(setup, BAD_STATE, offending, Octets::new(alloc)));
     }
     if read_card32(Endian::Lsb, &frame[4..]) != 0 {
-        return Ok(refuse(BAD_LENGTH, minor, sequence, Octets::new(alloc)));
+        return Ok(refuse(setup, BAD_LENGTH, offending, Octets::new(alloc)));
     }
     if frame[2] > 1 {
         let values = wrong_byte_values(alloc, 2, frame)?;
-        return Ok(refuse(BAD_VALUE, minor, sequence, values));
+        return Ok(refuse(setup, BAD_VALUE, offending, values));
     }
-    Ok(Answer::Silent)
+    let order = if frame[2] == 1 {
+        Endian::Msb
+    } else {
+        Endian::Lsb
+    };
+    take_message(alloc, setup, sequence, IceMessage::ByteOrder(order))
 }
 
-/// The answer to a message before the set-up.
-fn answer_message(alloc: Global, minor: u8, sequence: u32, message: &IceMessage) -> Answer
-    ensures answer { result ≡ message_answer minor sequence message.now }
-    ensures said { CanBeSaid result }
-{
-    match message {
-        IceMessage::Ping => Answer::Send(IceMessage::PingReply),
-        IceMessage::Error(_) => Answer::Silent,
-        IceMessage::WantToClose => Answer::Close,
-        _ => refuse(BAD_STATE, minor, sequence, Octets::new(alloc)),
-    }
-}
-
-/// The answer to what a frame of major opcode 0 spells.
-fn answer_ice(
+/// Takes what a frame of major opcode 0 spells.
+fn take_ice(
     alloc: Global,
+    setup: AnySetup,
     sequence: u32,
     endian: Endian,
     frame: &[u8],
-) -> Result<Answer, NoMemory>
+) -> Result<Moved, NoMemory>
     requires whole { IsFrame endian frame.now }
+    requires within { length frame.now ≤ byte_limit }
     requires opcode { slice_index frame.now 0 ≡ 0 }
-    ensures answer { IfOk result (λ answer. answer ≡ read_answer frame.now sequence (decode_at endian frame.now)) }
-    ensures said { IfOk result CanBeSaid }
+    ensures moved { IfOk result (λ moved. moved ≡ read_moved setup sequence frame.now (decode_at endian frame.now)) }
+    ensures said { IfOk result MovesWithin }
 {
-    let minor = frame[1];
+    let offending = named(sequence, frame);
     match decode_ice(alloc, endian, frame) {
-        Ok(message) => Ok(answer_message(alloc, minor, sequence, &message)),
+        Ok(message) => take_message(alloc, setup, sequence, message),
         Err(DecodeRefusal::BadMinor) => {
-            Ok(refuse(BAD_MINOR, minor, sequence, Octets::new(alloc)))
+            Ok(refuse(setup, BAD_MINOR, offending, Octets::new(alloc)))
         }
         Err(DecodeRefusal::BadLength) => {
-            Ok(refuse(BAD_LENGTH, minor, sequence, Octets::new(alloc)))
+            Ok(refuse(setup, BAD_LENGTH, offending, Octets::new(alloc)))
         }
         Err(DecodeRefusal::BadValue { at, .. }) => {
             let values = wrong_byte_values(alloc, at, frame)?;
-            Ok(refuse(BAD_VALUE, minor, sequence, values))
+            Ok(refuse(setup, BAD_VALUE, offending, values))
         }
         Err(DecodeRefusal::NoMemory) => Err(NoMemory),
     }
 }
 
-/// The answer to a frame behind the first.
-fn answer_later(
+/// Whether the client's messages of XSMP have this major opcode.
+fn is_opcode(own: Option<u8>, opcode: u8) -> bool
+    ensures { result ≡ is_opcode_of own opcode }
+{
+    match own {
+        Some(own) => own == opcode,
+        None => false,
+    }
+}
+
+/// Takes a frame behind the first.
+fn take_later(
     alloc: Global,
+    setup: AnySetup,
     sequence: u32,
     endian: Endian,
     frame: &[u8],
-) -> Result<Answer, NoMemory>
-    requires { IsFrame endian frame.now }
-    ensures answer { IfOk result (λ answer. answer ≡ later_answer sequence endian frame.now) }
-    ensures said { IfOk result CanBeSaid }
+) -> Result<Moved, NoMemory>
+    requires whole { IsFrame endian frame.now }
+    requires within { length frame.now ≤ byte_limit }
+    ensures moved { IfOk result (λ moved. moved ≡ later_moved setup sequence endian frame.now) }
+    ensures said { IfOk result MovesWithin }
 {
-    let minor = frame[1];
+    let (opcode, minor) = (frame[0], frame[1]);
     if minor == 0 {
-        return Ok(Answer::Silent);
+        return Ok(Moved::Goes(setup, None));
     }
-    if frame[0] != 0 {
-        let values = major_values(alloc, frame[0])?;
-        return Ok(refuse(BAD_MAJOR, minor, sequence, values));
+    if opcode == 0 {
+        return take_ice(alloc, setup, sequence, endian, frame);
     }
-    answer_ice(alloc, sequence, endian, frame)
+    if is_opcode(setup.client_opcode(), opcode) {
+        return Ok(Moved::Close);
+    }
+    let values = opcode_values(alloc, opcode)?;
+    Ok(refuse(setup, BAD_MAJOR, named(sequence, frame), values))
+}
+
+/// Takes a whole frame.
+pub fn take_frame(
+    alloc: Global,
+    setup: AnySetup,
+    sequence: u32,
+    frame: Frame<'_>,
+) -> Result<Moved, NoMemory>
+    requires header { 8 ≤ length frame.bytes.now }
+    requires whole { is_ordered (Some setup) ≡ true → IsFrame frame.endian frame.bytes.now }
+    requires within { length frame.bytes.now ≤ byte_limit }
+    ensures moved { IfOk result (λ moved. moved ≡ frame_moved setup sequence (record { endian = frame.entry.endian; bytes = frame.entry.bytes.now })) }
+    ensures said { IfOk result MovesWithin }
+{
+    match setup {
+        AnySetup::AwaitOrder(state) => take_first(alloc, state, sequence, frame.bytes),
+        setup => take_later(alloc, setup, sequence, frame.endian, frame.bytes),
+    }
+}
+
+/// Where the row of a connection stands behind a whole frame, nowhere once the connection is to be
+/// closed, and how the frame is answered. A client that wants to close is closed.
+pub fn settle(moved: Moved) -> (Option<AnySetup>, Answer)
+    ensures answer { (before : State) → result.1 ≡ (outcome_of before moved).answer }
+    ensures setup { (before : State) → result.0 ≡ kept (outcome_of before moved) }
+    ensures said { MovesWithin moved → CanBeSaid result.1 }
+{
+    match moved {
+        Moved::Goes(setup, message) => (Some(setup), Answer::Stays(message)),
+        Moved::Ends(message) => (None, Answer::Closes(message)),
+        Moved::Close => (None, Answer::Closes(None)),
+        Moved::Ask(_) => (None, Answer::Closes(None)),
+    }
 }
 
 /// The answer to a header that states more than a frame may have.
-fn answer_oversize(alloc: Global, sequence: u32, header: &[u8; 8]) -> Answer
-    ensures answer { result ≡ oversize_answer sequence header.now }
+fn answer_oversize(alloc: Global, setup: &AnySetup, sequence: u32, header: &[u8; 8]) -> Answer
+    ensures answer { result ≡ oversize_answer setup.now sequence header.now }
     ensures said { CanBeSaid result }
 {
-    let minor = header[1];
-    if minor == 0 {
-        return Answer::Close;
+    let offending = named(sequence, header);
+    if offending.minor == 0 {
+        return Answer::Closes(None);
     }
-    refuse(BAD_LENGTH, minor, sequence, Octets::new(alloc))
-}
-
-/// The answer to a whole frame.
-pub fn answer_frame(
-    alloc: Global,
-    stage: Stage,
-    sequence: u32,
-    frame: Frame<'_>,
-) -> Result<Answer, NoMemory>
-    requires header { 8 ≤ length frame.bytes.now }
-    requires whole { stage ≡ AwaitSetup → IsFrame frame.endian frame.bytes.now }
-    ensures answer { IfOk result (λ answer. answer ≡ frame_answer stage sequence (record { endian = frame.entry.endian; bytes = frame.entry.bytes.now })) }
-    ensures said { IfOk result CanBeSaid }
-{
-    match stage {
-        Stage::AwaitOrder => answer_first(alloc, sequence, frame.bytes),
-        Stage::AwaitSetup => answer_later(alloc, sequence, frame.endian, frame.bytes),
-    }
+    let none = Octets::new(alloc);
+    let error = error_of(Severity::FatalToConnection, BAD_LENGTH, offending, none);
+    Answer::Closes(Some(IceMessage::Error(error)))
 }
 
 /// The answer to the header that a splitter holds where it states too much.
-pub fn answer_header(alloc: Global, sequence: u32, splitter: &Splitter) -> Answer
+pub fn answer_header(
+    alloc: Global,
+    setup: &AnySetup,
+    sequence: u32,
+    splitter: &Splitter,
+) -> Answer
     requires { 8 ≤ length splitter.now.held }
-    ensures answer { result ≡ oversize_answer sequence (take 8 splitter.now.held) }
+    ensures answer { result ≡ oversize_answer setup.now sequence (take 8 splitter.now.held) }
     ensures said { CanBeSaid result }
 {
     match splitter.header() {
-        Some(header) => answer_oversize(alloc, sequence, &header),
-        None => Answer::Close,
+        Some(header) => answer_oversize(alloc, setup, sequence, &header),
+        None => Answer::Closes(None),
     }
 }

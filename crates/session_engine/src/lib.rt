@@ -8,7 +8,7 @@ mod row;
 mod serving;
 mod table;
 
-pub use answers::{Answer, Stage};
+pub use answers::Answer;
 pub use fault::ServeFault;
 pub use serving::serve;
 

@@ -1,27 +1,28 @@
-ghost use Rattle.std.specs.Prelude.{◌≡◌, ◌≤◌, true, false, IsSome};
+ghost use Rattle.std.specs.Prelude.{◌≡◌, ◌≤◌, true, is_some, IsSome};
 ghost use Rattle.ice_framing.specs.Frames.{IsPartial, units, unit_limit};
-ghost use Rattle.session_engine.specs.declared.answers.Stage.TheVariants.{AwaitSetup};
+ghost use Rattle.session_engine.specs.Answers.{is_ordered};
 
-use crate::answers::{Answer, Stage, answer_frame, answer_header};
+use crate::answers::{Answer, answer_header, settle, take_frame};
+use ice_cookie::Cookie;
 use ice_framing::Splitter;
+use ice_setup::{AnySetup, AwaitOrder};
 use sm_world::{Conn, NoMemory};
 use std::alloc::Global;
 
-/// What is kept of a live connection: its number, its splitter, the number of its last frame, and
-/// how far it has come.
+/// What is kept of a live connection: its number, how far its set-up has come, the number of its
+/// last frame, and its splitter.
 #[derive(Debug, Drop)]
 pub struct Row {
     conn: Conn,
-    stage: Stage,
+    /// None once the connection is to be closed: nothing more is cut.
+    setup: Option<AnySetup>,
     sequence: u32,
     splitter: Splitter,
-    /// A header stated too much, so nothing more is cut.
-    spent: bool,
     /// Behind the first frame the order of the stream is known.
-    ghost ordered: { stage ≡ AwaitSetup → IsSome splitter.order },
+    ghost ordered: { is_ordered setup ≡ true → IsSome splitter.order },
     /// The splitter can be fed.
-    ghost partial: { spent ≡ false → IsPartial splitter },
-    ghost within: { spent ≡ false → units splitter ≤ unit_limit },
+    ghost partial: { is_some setup ≡ true → IsPartial splitter },
+    ghost within: { is_some setup ≡ true → units splitter ≤ unit_limit },
 }
 
 /// A part of the stream is whole.
@@ -39,17 +40,16 @@ impl Row {
     ghost use Rattle.session_engine.specs.Answers.{CanBeSaid};
     ghost use Rattle.session_engine.specs.Cutting.{IsNewRow, CutsRow};
 
-    /// A connection that just joined.
-    pub fn new(alloc: Global, conn: Conn) -> Result<Row, NoMemory>
-        ensures new { IfOk result IsNewRow }
+    /// A connection that just joined, of a session with this cookie.
+    pub fn new(alloc: Global, cookie: Cookie, conn: Conn) -> Result<Row, NoMemory>
+        ensures new { IfOk result (IsNewRow cookie) }
         ensures conn { IfOk result (λ row. row.conn ≡ conn) }
     {
         Ok(Row {
             conn,
-            stage: Stage::AwaitOrder,
+            setup: Some(AnySetup::AwaitOrder(AwaitOrder::new(cookie))),
             sequence: 0,
             splitter: Splitter::new(alloc)?,
-            spent: false,
         })
     }
 
@@ -59,16 +59,15 @@ impl Row {
         ensures said { IfOk result (λ answered. IfSome answered (λ part. CanBeSaid part.answer)) }
         ensures conn { self.new.conn ≡ self.old.conn }
     {
-        if self.spent {
+        let Some(setup) = self.setup.take() else {
             return Ok(None);
-        }
+        };
         let sequence = self.sequence.wrapping_add(1);
         let taken = match self.splitter.feed(left) {
             Ok(taken) => taken,
             Err(_) => {
-                self.spent = true;
                 self.sequence = sequence;
-                let answer = answer_header(alloc, sequence, &self.splitter);
+                let answer = answer_header(alloc, &setup, sequence, &self.splitter);
                 return Ok(Some(Answered {
                     answer,
                     taken: left.len(),
@@ -76,15 +75,14 @@ impl Row {
             }
         };
         let Some(frame) = self.splitter.next_frame() else {
+            self.setup = Some(setup);
             return Ok(None);
         };
-        let answer = answer_frame(alloc, self.stage, sequence, frame);
+        let moved = take_frame(alloc, setup, sequence, frame);
         self.splitter.take_frame();
-        self.stage = Stage::AwaitSetup;
         self.sequence = sequence;
-        Ok(Some(Answered {
-            answer: answer?,
-            taken,
-        }))
+        let (setup, answer) = settle(moved?);
+        self.setup = setup;
+        Ok(Some(Answered { answer, taken }))
     }
 }

@@ -10,6 +10,7 @@ use crate::ServeFault;
 use crate::answers::Answer;
 use crate::devices::{hear, send, shut};
 use crate::table::Table;
+use ice_cookie::Cookie;
 use ice_messages::IceMessage;
 use ice_values::Endian;
 use sm_world::{Conn, Console, Event, Links, NoMemory};
@@ -39,18 +40,18 @@ fn perform<W: Links>(
     ensures not_spent { result ≢ Err ServeFault.Spent }
 {
     match answer {
-        Answer::Silent => Ok(()),
-        Answer::Send(message) => send(alloc, world, conn, &message),
-        Answer::Refuse(error) => {
+        Answer::Stays(None) => Ok(()),
+        Answer::Stays(Some(message)) => send(alloc, world, conn, &message),
+        Answer::Closes(None) => {
             table.leave(conn);
-            match send(alloc, world, conn, &IceMessage::Error(error)) {
+            shut(world, conn)
+        }
+        Answer::Closes(Some(message)) => {
+            table.leave(conn);
+            match send(alloc, world, conn, &message) {
                 Ok(()) => shut(world, conn),
                 Err(fault) => Err(fault),
             }
-        }
-        Answer::Close => {
-            table.leave(conn);
-            shut(world, conn)
         }
     }
 }
@@ -90,9 +91,10 @@ fn join<W: Links>(
     alloc: Global,
     world: &mut W,
     table: &mut Table,
+    cookie: Cookie,
     conn: Conn,
 ) -> Result<(), ServeFault>
-    ensures carried { (m : Machine) → Shows all_cut table.old m → Carried all_cut (W.outside world.old).told (W.outside world.new).told table.new (step m (Joined conn)) (is_ok result) }
+    ensures carried { (m : Machine) → m.cookie ≡ cookie → Shows all_cut table.old m → Carried all_cut (W.outside world.old).told (W.outside world.new).told table.new (step m (Joined conn)) (is_ok result) }
     ensures coming { (W.outside world.new).coming ≡ (W.outside world.old).coming }
     ensures counts { NotFallen (W.outside world.old).faults (W.outside world.new).faults }
     ensures cause { IfErr result (HasCause (W.outside world.old).faults (W.outside world.new).faults) }
@@ -104,7 +106,7 @@ fn join<W: Links>(
     if table.is_full() {
         return shut(world, conn);
     }
-    match table.join(alloc, conn) {
+    match table.join(alloc, cookie, conn) {
         Ok(()) => send(alloc, world, conn, &IceMessage::ByteOrder(Endian::Lsb)),
         Err(NoMemory) => Err(ServeFault::NoMemory),
     }
@@ -115,17 +117,18 @@ fn take_event<W: Links>(
     alloc: Global,
     world: &mut W,
     table: &mut Table,
+    cookie: Cookie,
     event: &Event,
 ) -> Result<Turn, ServeFault>
-    ensures carried { (m : Machine) → Shows all_cut table.old m → Carried all_cut (W.outside world.old).told (W.outside world.new).told table.new (step m event.now) (is_ok result) }
-    ensures ended { IfOk result (λ turn. (m : Machine) → Shows all_cut table.old m → has_finish (step m event.now).acts ≡ is_end turn) }
+    ensures carried { (m : Machine) → m.cookie ≡ cookie → Shows all_cut table.old m → Carried all_cut (W.outside world.old).told (W.outside world.new).told table.new (step m event.now) (is_ok result) }
+    ensures ended { IfOk result (λ turn. (m : Machine) → m.cookie ≡ cookie → Shows all_cut table.old m → has_finish (step m event.now).acts ≡ is_end turn) }
     ensures coming { (W.outside world.new).coming ≡ (W.outside world.old).coming }
     ensures counts { NotFallen (W.outside world.old).faults (W.outside world.new).faults }
     ensures cause { IfErr result (HasCause (W.outside world.old).faults (W.outside world.new).faults) }
     ensures not_spent { result ≢ Err ServeFault.Spent }
 {
     match event {
-        Event::Joined(conn) => match join(alloc, world, table, *conn) {
+        Event::Joined(conn) => match join(alloc, world, table, cookie, *conn) {
             Ok(()) => Ok(Turn::GoesOn),
             Err(fault) => Err(fault),
         },
@@ -145,9 +148,14 @@ fn take_event<W: Links>(
 }
 
 /// Answers the events of a world until one ends the run, at most `turns` of them.
-pub fn serve<W: Links + Console>(alloc: Global, world: &mut W, turns: u64) -> Result<(), ServeFault>
+pub fn serve<W: Links + Console>(
+    alloc: Global,
+    world: &mut W,
+    cookie: Cookie,
+    turns: u64,
+) -> Result<(), ServeFault>
     // What it adds to the effects is a run of the session machine over the events that it was brought.
-    ensures serves { Added (W.outside world.old).told (W.outside world.new).told (Serves (W.outside world.old).coming turns result) }
+    ensures serves { Added (W.outside world.old).told (W.outside world.new).told (Serves cookie (W.outside world.old).coming turns result) }
     ensures counts { NotFallen (W.outside world.old).faults (W.outside world.new).faults }
     ensures cause { IfErr result (HasCause (W.outside world.old).faults (W.outside world.new).faults) }
 {
@@ -157,7 +165,7 @@ pub fn serve<W: Links + Console>(alloc: Global, world: &mut W, turns: u64) -> Re
             Ok(event) => event,
             Err(fault) => return Err(fault),
         };
-        match take_event(alloc, world, &mut table, &event) {
+        match take_event(alloc, world, &mut table, cookie, &event) {
             Ok(Turn::GoesOn) => {}
             Ok(Turn::Ended) => return Ok(()),
             Err(fault) => return Err(fault),

@@ -1,6 +1,7 @@
 ghost use Rattle.session_engine.specs.Places.{AreSeated};
 
 use crate::row::{Answered, Row};
+use ice_cookie::Cookie;
 use slab::Slab;
 use sm_world::{Conn, NoMemory};
 use std::alloc::Global;
@@ -50,13 +51,13 @@ impl Table {
         self.places.len() >= LIVE_LIMIT
     }
 
-    /// Makes a connection live that isn't.
-    pub fn join(&mut self, alloc: Global, conn: Conn) -> Result<(), NoMemory>
+    /// Makes a connection live that isn't, of a session with this cookie.
+    pub fn join(&mut self, alloc: Global, cookie: Cookie, conn: Conn) -> Result<(), NoMemory>
         requires { row_at self.old conn ≡ None }
-        ensures row { OnOk result ((row : Row) × IsNewRow row × ChangesRow self.old self.new conn (Some row)) }
+        ensures row { OnOk result ((row : Row) × IsNewRow cookie row × ChangesRow self.old self.new conn (Some row)) }
         ensures count { OnOk result (row_count self.new ≡ row_count self.old + 1) }
     {
-        let place = self.rows.insert(Row::new(alloc, conn)?)?;
+        let place = self.rows.insert(Row::new(alloc, cookie, conn)?)?;
         if self.places.insert(conn, place).is_err() {
             self.rows.try_remove(place);
             return Err(NoMemory);

@@ -5,10 +5,10 @@ use Rattle.session_engine.proofs.Loop.{loop_begins, loop_goes_on, loop_ends, loo
 use Rattle.session_engine.proofs.serving.serve.Goals as goal
 
 pub loop-init : goal.loop-init
-loop-init g c = record { runs = loop_begins _ _ c.new-table.result c.new-table.ensures.rows c.new-table.ensures.count; counts = never_fallen _ }
+loop-init g c = record { runs = loop_begins c.args.cookie _ _ c.new-table.result c.new-table.ensures.rows c.new-table.ensures.count; counts = never_fallen _ }
 
 pub returns-in-Err-clause-serves : goal.returns-in-Err-clause-serves
-returns-in-Err-clause-serves g c = loop_over _ _ _ _ _ c.loop.table c.loop.counter c.args.turns c.in-Err.fault (omega arith) (λ e. absurd (c.in-Err.ensures.not_spent (ap Err e))) c.loop.invariant.runs c.in-Err.ensures.effects
+returns-in-Err-clause-serves g c = loop_over c.args.cookie _ _ _ _ _ c.loop.table c.loop.counter c.args.turns c.in-Err.fault (omega arith) (λ e. absurd (c.in-Err.ensures.not_spent (ap Err e))) c.loop.invariant.runs c.in-Err.ensures.effects
 
 pub returns-in-Err-clause-counts : goal.returns-in-Err-clause-counts
 returns-in-Err-clause-counts g c = fallen_never _ _ _ c.loop.invariant.counts c.in-Err.ensures.counts
@@ -17,13 +17,13 @@ pub returns-in-Err-clause-cause : goal.returns-in-Err-clause-cause
 returns-in-Err-clause-cause g c = cause_later (g.W.Told.outside c.args.world.now).faults (g.W.Told.outside c.loop.world).faults (g.W.Told.outside c.hear.new.world).faults c.in-Err.fault c.loop.invariant.counts c.in-Err.ensures.cause
 
 pub returns-in-Ok-Ended-clause-serves : goal.returns-in-Ok-Ended-clause-serves
-returns-in-Ok-Ended-clause-serves g c = loop_ends _ _ _ _ _ _ _ c.loop.table c.take_event.new.table c.loop.counter c.args.turns c.in-Ok.event c.loop-test.true c.loop.invariant.runs c.in-Ok.ensures.effects c.in-Ok.ensures.coming c.in-Ok-Ended.ensures.carried (λ m shows. c.in-Ok-Ended.ensures.ended m shows ∙ ap is_end c.in-Ok-Ended.field-0-is)
+returns-in-Ok-Ended-clause-serves g c = loop_ends c.args.cookie _ _ _ _ _ _ _ c.loop.table c.take_event.new.table c.loop.counter c.args.turns c.in-Ok.event c.loop-test.true c.loop.invariant.runs c.in-Ok.ensures.effects c.in-Ok.ensures.coming c.in-Ok-Ended.ensures.carried (λ m is shows. c.in-Ok-Ended.ensures.ended m is shows ∙ ap is_end c.in-Ok-Ended.field-0-is)
 
 pub returns-in-Ok-Ended-clause-counts : goal.returns-in-Ok-Ended-clause-counts
 returns-in-Ok-Ended-clause-counts g c = fallen_never _ _ _ c.loop.invariant.counts (fallen_never _ _ _ c.in-Ok.ensures.counts c.in-Ok-Ended.ensures.counts)
 
 pub returns-in-Err-take_event-clause-serves : goal.returns-in-Err-take_event-clause-serves
-returns-in-Err-take_event-clause-serves g c = loop_cut_short _ _ _ _ _ _ _ c.loop.table c.take_event.new.table c.loop.counter c.args.turns c.in-Ok.event c.in-Err-take_event.fault (λ e. absurd (c.in-Err-take_event.ensures.not_spent (ap Err e))) c.loop-test.true c.loop.invariant.runs c.in-Ok.ensures.effects c.in-Ok.ensures.coming c.in-Err-take_event.ensures.carried
+returns-in-Err-take_event-clause-serves g c = loop_cut_short c.args.cookie _ _ _ _ _ _ _ c.loop.table c.take_event.new.table c.loop.counter c.args.turns c.in-Ok.event c.in-Err-take_event.fault (λ e. absurd (c.in-Err-take_event.ensures.not_spent (ap Err e))) c.loop-test.true c.loop.invariant.runs c.in-Ok.ensures.effects c.in-Ok.ensures.coming c.in-Err-take_event.ensures.carried
 
 pub returns-in-Err-take_event-clause-counts : goal.returns-in-Err-take_event-clause-counts
 returns-in-Err-take_event-clause-counts g c = fallen_never _ _ _ c.loop.invariant.counts (fallen_never _ _ _ c.in-Ok.ensures.counts c.in-Err-take_event.ensures.counts)
@@ -33,9 +33,9 @@ returns-in-Err-take_event-clause-cause g c = cause_later (g.W.Told.outside c.arg
 
 pub loop-preserved : goal.loop-preserved
 loop-preserved g c = record {
-  runs = loop_goes_on _ _ _ _ _ _ _ _ c.loop.table c.take_event.new.table c.loop.counter (c.loop.counter + 1) c.in-Ok.event (omega arith) c.loop.invariant.runs c.in-Ok.ensures.effects c.in-Ok.ensures.coming c.in-Ok-GoesOn.ensures.coming c.in-Ok-GoesOn.ensures.carried (λ m shows. c.in-Ok-GoesOn.ensures.ended m shows ∙ ap is_end c.in-Ok-GoesOn.field-0-is);
+  runs = loop_goes_on c.args.cookie _ _ _ _ _ _ _ _ c.loop.table c.take_event.new.table c.loop.counter (c.loop.counter + 1) c.in-Ok.event (omega arith) c.loop.invariant.runs c.in-Ok.ensures.effects c.in-Ok.ensures.coming c.in-Ok-GoesOn.ensures.coming c.in-Ok-GoesOn.ensures.carried (λ m is shows. c.in-Ok-GoesOn.ensures.ended m is shows ∙ ap is_end c.in-Ok-GoesOn.field-0-is);
   counts = fallen_never _ _ _ c.loop.invariant.counts (fallen_never _ _ _ c.in-Ok.ensures.counts c.in-Ok-GoesOn.ensures.counts);
 }
 
 pub returns-clause-serves : goal.returns-clause-serves
-returns-clause-serves g c = loop_over _ _ _ _ _ c.loop.table c.loop.counter c.args.turns _ (omega arith) (λ e. omega arith) c.loop.invariant.runs (sym (adds-none _))
+returns-clause-serves g c = loop_over c.args.cookie _ _ _ _ _ c.loop.table c.loop.counter c.args.turns _ (omega arith) (λ e. omega arith) c.loop.invariant.runs (sym (adds-none _))
