@@ -1,6 +1,8 @@
 ghost use Rattle.std.specs.Prelude.{◌≡◌, ◌≤◌, [], length, IfOk};
 ghost use Rattle.ice_setup.specs.Errors.{blame, major_opcode_duplicate, opcode_values as opcode_values_spec, text_values as text_values_spec};
 ghost use Rattle.ice_setup.specs.Setup.{connection_reply as connection_reply_spec, protocol_reply as protocol_reply_spec, rejection as rejection_spec, asks_cookie as asks_cookie_spec};
+ghost use Rattle.ice_values.specs.declared.numbers.Endian.TheVariants.{Lsb};
+ghost use Rattle.ice_messages.specs.Messages.{IsTooLong};
 ghost use Rattle.ice_messages.specs.declared.message.IceMessage.TheVariants.{Error as AnError};
 
 use crate::errors::{
@@ -82,7 +84,8 @@ pub fn bare_error(alloc: Global, severity: Severity, class: u16, offending: Offe
 
 /// A ProtocolSetup is refused, since its opcode is taken.
 pub fn opcode_error(alloc: Global, opcode: u8, offending: Offending) -> Result<IceMessage, NoMemory>
-    ensures { IfOk result (λ error. error ≡ AnError (blame Severity.FatalToProtocol major_opcode_duplicate offending (opcode_values_spec opcode))) }
+    ensures answer { IfOk result (λ error. error ≡ AnError (blame Severity.FatalToProtocol major_opcode_duplicate offending (opcode_values_spec opcode))) }
+    ensures said { IfOk result (λ error. ¬ (IsTooLong Lsb error)) }
 {
     let values = opcode_values(alloc, opcode)?;
     Ok(IceMessage::Error(error_of(
@@ -100,7 +103,8 @@ pub fn protocol_error(
     protocol: &Text16,
     offending: Offending,
 ) -> Result<IceMessage, NoMemory>
-    ensures { IfOk result (λ error. error ≡ AnError (blame Severity.FatalToProtocol class offending (text_values_spec protocol.now))) }
+    ensures answer { IfOk result (λ error. error ≡ AnError (blame Severity.FatalToProtocol class offending (text_values_spec protocol.now))) }
+    ensures said { length (text_values_spec protocol.now) ≤ 65528 → IfOk result (λ error. ¬ (IsTooLong Lsb error)) }
 {
     let values = text_values(alloc, protocol)?;
     Ok(IceMessage::Error(error_of(Severity::FatalToProtocol, class, offending, values)))

@@ -1,5 +1,5 @@
 ghost use Rattle.std.specs.Prelude.{◌≡◌};
-ghost use Rattle.ice_setup.specs.Setup.{other_cell, out_of_place as out_of_place_spec, wants_to_close as wants_to_close_spec, named as named_spec};
+ghost use Rattle.ice_setup.specs.Setup.{other_cell, out_of_place as out_of_place_spec, wants_to_close as wants_to_close_spec, named as named_spec, CanBeSaid};
 
 use crate::answers::bare_error;
 use crate::errors::{BAD_STATE, Offending};
@@ -20,7 +20,8 @@ pub fn named(message: &IceMessage, sequence: u32) -> Offending
 
 /// A message that has no place in the state.
 pub fn out_of_place(alloc: Global, state: AnySetup, offending: Offending) -> Moved
-    ensures { result ≡ out_of_place_spec state offending }
+    ensures answer { result ≡ out_of_place_spec state offending }
+    ensures said { CanBeSaid result }
 {
     if state.connected() {
         let error = bare_error(alloc, Severity::CanContinue, BAD_STATE, offending);
@@ -31,7 +32,8 @@ pub fn out_of_place(alloc: Global, state: AnySetup, offending: Offending) -> Mov
 }
 
 fn wants_to_close(state: AnySetup) -> Moved
-    ensures { result ≡ wants_to_close_spec state }
+    ensures answer { result ≡ wants_to_close_spec state }
+    ensures said { CanBeSaid result }
 {
     match state {
         AnySetup::Ready(state) => Moved::Ask(AnySetup::Ready(state)),
@@ -46,7 +48,8 @@ pub fn take_other(
     message: &IceMessage,
     offending: Offending,
 ) -> Moved
-    ensures { result ≡ other_cell state message.now offending }
+    ensures answer { result ≡ other_cell state message.now offending }
+    ensures said { CanBeSaid result }
 {
     match message {
         IceMessage::Ping => Moved::Goes(state, Some(IceMessage::PingReply)),

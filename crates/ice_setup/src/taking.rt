@@ -1,7 +1,8 @@
-ghost use Rattle.std.specs.Prelude.{◌≡◌, IfOk, MatchResult};
+ghost use Rattle.std.specs.Prelude.{◌≡◌, ◌≤◌, length, IfOk, MatchResult};
 ghost use Rattle.ice_values.specs.declared.numbers.Endian.{Endian as AnyEndian};
 ghost use Rattle.ice_messages.specs.Messages.{IsTooLong};
 ghost use Rattle.ice_messages.specs.declared.message.IceMessage.TheVariants.{AuthenticationReply as AReply};
+ghost use Rattle.ice_setup.specs.Errors.{text_values};
 ghost use Rattle.ice_setup.specs.Offers.{first_version as first_version_spec, first_cookie_name as first_cookie_name_spec};
 ghost use Rattle.ice_setup.specs.Setup.{connection_offer, cookie_cell, protocol_offer, protocol_setup, protocol_cookie_cell, ready_setup, moved, CanBeSaid};
 
@@ -35,10 +36,13 @@ impl AwaitOrder {
         ensures said { (e : AnyEndian) → ¬ (IsTooLong e message) → IfOk result CanBeSaid }
     {
         let offending = named(&message, sequence);
-        match message {
+        match &message {
             IceMessage::ByteOrder(endian) => {
                 let cookie = self.cookie;
-                let next = AnySetup::AwaitSetup(AwaitSetup { cookie, endian });
+                let next = AnySetup::AwaitSetup(AwaitSetup {
+                    cookie,
+                    endian: *endian,
+                });
                 Ok(Moved::Goes(next, None))
             }
             _ => Ok(out_of_place(alloc, AnySetup::AwaitOrder(self), offending)),
@@ -83,13 +87,13 @@ impl AwaitSetup {
         ensures said { (e : AnyEndian) → ¬ (IsTooLong e message) → IfOk result CanBeSaid }
     {
         let offending = named(&message, sequence);
-        match message {
+        match &message {
             IceMessage::ConnectionSetup {
                 names,
                 versions,
                 ..
             } => Ok(self.take_offer(alloc, names.as_slice(), versions.as_slice(), offending)),
-            other => Ok(take_other(alloc, AnySetup::AwaitSetup(self), &other, offending)),
+            _ => Ok(take_other(alloc, AnySetup::AwaitSetup(self), &message, offending)),
         }
     }
 }
@@ -133,11 +137,11 @@ impl AwaitCookie {
         ensures said { (e : AnyEndian) → ¬ (IsTooLong e message) → IfOk result CanBeSaid }
     {
         let offending = named(&message, sequence);
-        match message {
+        match &message {
             IceMessage::AuthenticationReply { proof } => {
                 self.take_proof(alloc, proof.as_slice(), offending)
             }
-            other => Ok(take_other(alloc, AnySetup::AwaitCookie(self), &other, offending)),
+            _ => Ok(take_other(alloc, AnySetup::AwaitCookie(self), &message, offending)),
         }
     }
 }
@@ -150,7 +154,8 @@ impl AwaitProtocol {
         offer: Offer,
         offending: Offending,
     ) -> Result<Moved, (AwaitProtocol, NoMemory)>
-        ensures { MatchResult result (λ m. m ≡ protocol_offer self opcode offer.must offer.version offer.name offending) (λ e. e.0 ≡ self) }
+        ensures exact { MatchResult result (λ m. m ≡ protocol_offer self opcode offer.must offer.version offer.name offending) (λ e. e.0 ≡ self) }
+        ensures said { IfOk result CanBeSaid }
     {
         let severity = Severity::FatalToProtocol;
         let Some(version) = offer.version else {
@@ -194,7 +199,8 @@ impl AwaitProtocol {
         offer: Offer,
         offending: Offending,
     ) -> Result<Moved, (AwaitProtocol, NoMemory)>
-        ensures { MatchResult result (λ m. m ≡ protocol_setup self opcode protocol.now offer.must offer.version offer.name offending) (λ e. e.0 ≡ self) }
+        ensures exact { MatchResult result (λ m. m ≡ protocol_setup self opcode protocol.now offer.must offer.version offer.name offending) (λ e. e.0 ≡ self) }
+        ensures said { length (text_values protocol.now) ≤ 65528 → IfOk result CanBeSaid }
     {
         if opcode == 0 {
             return match opcode_error(alloc, opcode, offending) {
@@ -224,7 +230,7 @@ impl AwaitProtocol {
         ensures said { (e : AnyEndian) → ¬ (IsTooLong e message) → IfOk result CanBeSaid }
     {
         let offending = named(&message, sequence);
-        match message {
+        match &message {
             IceMessage::ProtocolSetup {
                 opcode,
                 must,
@@ -233,10 +239,10 @@ impl AwaitProtocol {
                 versions,
                 ..
             } => {
-                let offer = read_offer(must, names.as_slice(), versions.as_slice());
-                self.take_setup(alloc, opcode, &protocol, offer, offending)
+                let offer = read_offer(*must, names.as_slice(), versions.as_slice());
+                self.take_setup(alloc, *opcode, protocol, offer, offending)
             }
-            other => Ok(take_other(alloc, AnySetup::AwaitProtocol(self), &other, offending)),
+            _ => Ok(take_other(alloc, AnySetup::AwaitProtocol(self), &message, offending)),
         }
     }
 }
@@ -281,13 +287,13 @@ impl AwaitProtocolCookie {
         ensures said { (e : AnyEndian) → ¬ (IsTooLong e message) → IfOk result CanBeSaid }
     {
         let offending = named(&message, sequence);
-        match message {
+        match &message {
             IceMessage::AuthenticationReply { proof } => {
                 self.take_proof(alloc, proof.as_slice(), offending)
             }
-            other => {
+            _ => {
                 let state = AnySetup::AwaitProtocolCookie(self);
-                Ok(take_other(alloc, state, &other, offending))
+                Ok(take_other(alloc, state, &message, offending))
             }
         }
     }
@@ -301,7 +307,8 @@ impl Ready {
         protocol: &Text16,
         offending: Offending,
     ) -> Result<Moved, (Ready, NoMemory)>
-        ensures { MatchResult result (λ m. m ≡ ready_setup self opcode protocol.now offending) (λ e. e.0 ≡ self) }
+        ensures exact { MatchResult result (λ m. m ≡ ready_setup self opcode protocol.now offending) (λ e. e.0 ≡ self) }
+        ensures said { length (text_values protocol.now) ≤ 65528 → IfOk result CanBeSaid }
     {
         if opcode == 0 || opcode == self.opcode {
             return match opcode_error(alloc, opcode, offending) {
@@ -331,13 +338,13 @@ impl Ready {
         ensures said { (e : AnyEndian) → ¬ (IsTooLong e message) → IfOk result CanBeSaid }
     {
         let offending = named(&message, sequence);
-        match message {
+        match &message {
             IceMessage::ProtocolSetup {
                 opcode,
                 protocol,
                 ..
-            } => { self.take_setup(alloc, opcode, &protocol, offending) }
-            other => Ok(take_other(alloc, AnySetup::Ready(self), &other, offending)),
+            } => { self.take_setup(alloc, *opcode, protocol, offending) }
+            _ => Ok(take_other(alloc, AnySetup::Ready(self), &message, offending)),
         }
     }
 }

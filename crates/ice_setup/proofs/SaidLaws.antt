@@ -1,0 +1,39 @@
+-- Which answers have a spelling that is not too long.
+use Rattle.std.proofs.Common.{refl, lit≤, ◌≡◌, ℕ, ◌+◌, ◌<◌, ◌≤◌, List, ◌++◌, Option, Bool, length, ◌∙◌, arith, inl, inr, length-append}
+use Rattle.ice_values.specs.Cells.{Cells, byte, free, zeros, pad_len}
+use Rattle.ice_values.specs.Fields.{ErrorFields, text16, texts, versions}
+use Rattle.ice_values.specs.declared.numbers.Endian.{Endian}
+use Rattle.ice_values.specs.declared.numbers.Endian.TheVariants.{Lsb}
+use Rattle.ice_values.specs.declared.severity.Severity.{Severity}
+use Rattle.ice_values.specs.declared.version.Version.{Version}
+use Rattle.ice_values.proofs.CellLaws.{length-zeros, length-free}
+use Rattle.ice_values.proofs.LengthLaws.{length-error_body, length-text16}
+use Rattle.ice_messages.specs.Messages.{layout, IsTooLong}
+use Rattle.ice_messages.specs.declared.message.IceMessage.TheVariants.{Error, ProtocolSetup}
+use Rattle.ice_setup.specs.Errors.{blame, text_values}
+use Rattle.ice_setup.specs.declared.errors.Offending.{Offending}
+
+-- an Error with few values
+pub error_said : (severity : Severity) (class : ℕ) (offending : Offending) (values : List ℕ) → length values ≤ 65528 → ¬ (IsTooLong Lsb (Error (blame severity class offending values)))
+error_said severity class offending values few = λ too_long.
+    let error : ErrorFields = blame severity class offending values in
+    elim too_long [ inl long_part ↦ long_part | inr long ↦ omega (arith, length-error_body Lsb error, few) ]
+
+length-text_values : (text : List ℕ) → length (text_values text) ≡ length (text16 Lsb text) + pad_len (length (text16 Lsb text)) 8
+length-text_values text =
+    let n = length-zeros (text16 Lsb text) in
+    length-append (zeros (text16 Lsb text)) (zeros (free (pad_len (length (zeros (text16 Lsb text))) 8)))
+    ∙ rw (length-zeros (free (pad_len (length (zeros (text16 Lsb text))) 8)), length-free (pad_len (length (zeros (text16 Lsb text))) 8), n) refl
+
+parts_fit : (front p v r n o : Cells) → length front + length p + length v + length r ≤ length (front ++ p ++ v ++ r ++ n ++ o)
+parts_fit front p v r n o = omega (arith, length-append {A = Option ℕ})
+
+-- the name of a protocol that a ProtocolSetup brought, where that was not too long
+pub protocol_fits : (e : Endian) (opcode : ℕ) (must : Bool) (protocol vendor release : List ℕ) (names : List (List ℕ)) (offered : List Version)
+    → ¬ (IsTooLong e (ProtocolSetup opcode must protocol vendor release names offered)) → length (text_values protocol) ≤ 65528
+protocol_fits e opcode must protocol vendor release names offered said =
+    let front : Cells = byte (length offered) ++ byte (length names) ++ free 6 in
+    let parts = parts_fit front (text16 e protocol) (text16 e vendor) (text16 e release) (texts e names) (versions e offered) in
+    let short : 65536 < length (layout byte e (ProtocolSetup opcode must protocol vendor release names offered)).1 → ⊥ = λ long. said (inr long) in
+    let eight : 8 ≤ length front = lit≤ tt in
+    omega (arith, parts, short, eight, length-text_values protocol, length-text16 e protocol, length-text16 Lsb protocol, length-text16 e vendor, length-text16 e release)
