@@ -4,16 +4,20 @@
 
 mod answers;
 mod errors;
+mod laws;
 mod offers;
 mod others;
 mod states;
 mod taking;
+#[cfg(test)]
+mod tests;
 
 pub use errors::{
     AUTHENTICATION_REJECTED, BAD_LENGTH, BAD_MAJOR, BAD_MINOR, BAD_STATE, BAD_VALUE,
     MAJOR_OPCODE_DUPLICATE, NO_AUTHENTICATION, NO_VERSION, Offending, PROTOCOL_DUPLICATE,
     UNKNOWN_PROTOCOL, error_of, opcode_values, text_values, wrong_byte_values,
 };
+pub use laws::{spelled_messages_fit, states_follow_on};
 pub use states::{
     AnySetup, AwaitCookie, AwaitOrder, AwaitProtocol, AwaitProtocolCookie, AwaitSetup, Moved, Ready,
 };
