@@ -35,7 +35,7 @@ pub struct Answered {
 }
 
 impl Row {
-    ghost use Rattle.std.specs.Prelude.{◌≡◌, ℕ, false, IfOk, IfSome};
+    ghost use Rattle.std.specs.Prelude.{◌≡◌, ◌≤◌, ℕ, length, IfOk, IfSome};
     ghost use Rattle.ice_framing.specs.Frames.{beginning};
     ghost use Rattle.session_engine.specs.Answers.{CanBeSaid};
     ghost use Rattle.session_engine.specs.Cutting.{IsNewRow, CutsRow};
@@ -57,6 +57,7 @@ impl Row {
     pub fn cut(&mut self, alloc: Global, left: &[u8]) -> Result<Option<Answered>, NoMemory>
         ensures cuts { IfOk result (λ answered. CutsRow self.old left.now answered self.new) }
         ensures said { IfOk result (λ answered. IfSome answered (λ part. CanBeSaid part.answer)) }
+        ensures within { IfOk result (λ answered. IfSome answered (λ part. part.taken ≤ length left.now)) }
         ensures conn { self.new.conn ≡ self.old.conn }
     {
         let Some(setup) = self.setup.take() else {

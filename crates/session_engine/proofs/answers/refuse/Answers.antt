@@ -1,0 +1,14 @@
+use Rattle.std.proofs.Common.{◌≤◌, length, arith}
+use Rattle.ice_messages.specs.Messages.{IsTooLong}
+use Rattle.ice_messages.specs.declared.message.IceMessage.TheVariants.{Error}
+use Rattle.ice_values.specs.Fields.{ErrorFields}
+use Rattle.ice_values.specs.declared.numbers.Endian.TheVariants.{Lsb}
+use Rattle.ice_values.specs.declared.severity.Severity.TheVariants.{CanContinue, FatalToConnection}
+use Rattle.ice_setup.proofs.SaidLaws.{error_said}
+use Rattle.session_engine.proofs.answers.refuse.Goals as goal
+
+pub returns-then-connected-clause-said : goal.returns-then-connected-clause-said
+returns-then-connected-clause-said c = rw c.error_of-error.ensures (error_said CanContinue c.args.class c.args.offending c.args.values (omega (arith, c.requires.few)))
+
+pub returns-clause-said : goal.returns-clause-said
+returns-clause-said c = rw c.error_of-error-2.ensures (error_said FatalToConnection c.args.class c.args.offending c.args.values (omega (arith, c.requires.few)))
