@@ -109,7 +109,7 @@ impl AwaitCookie {
     {
         if !self.cookie.matches(proof) {
             return match rejection(alloc, offending) {
-                Ok(error) => Ok(Moved::Ends(Some(error))),
+                Ok(rejected) => Ok(Moved::Ends(Some(rejected))),
                 Err(error) => Err((self, error)),
             };
         }
