@@ -10,6 +10,7 @@ mod numbers;
 mod property;
 mod reading;
 mod refusals;
+mod saves;
 mod severity;
 mod spelled;
 #[cfg(test)]
@@ -37,6 +38,7 @@ pub use property::{
 };
 pub use reading::{read_text16, read_version};
 pub use refusals::{DecodeRefusal, EncodeRefusal, ValueRefusal};
+pub use saves::{dialog_at, dialog_byte, kind_at, kind_byte, style_at, style_byte};
 pub use severity::Severity;
 pub use text::{Text16, TextList};
 pub use version::{Version, VersionList};
