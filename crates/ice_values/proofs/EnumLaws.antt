@@ -4,7 +4,7 @@ use Rattle.std.specs.Prelude.{slice_index, ◌⊎◌, eqb, ◌==◌, if◌then�
 use Rattle.std.proofs.lemmas.Bool.{lt-ltb, le-ltb, eq-eqb, ne_eqb, cases_eq, cases_lt}
 use Rattle.ice_values.specs.Cells.{Cells, Begins}
 use Rattle.ice_values.specs.Fields.{spelling, bool_number, order_number, severity_number}
-use Rattle.ice_values.specs.Frames.{◌>>=◌, or_bad, means_at, bool_meaning, order_meaning, severity_meaning, first_wrong}
+use Rattle.ice_values.specs.Frames.{◌>>=◌, or_bad, means_at, both_at, bool_meaning, order_meaning, severity_meaning, first_wrong}
 use Rattle.ice_values.specs.Saves.{kind_number, style_number, dialog_number, kind_meaning, style_meaning, dialog_meaning}
 use Rattle.sm_world.specs.declared.events.SaveKind.TheVariants.{Global, Local, Both}
 use Rattle.sm_world.specs.declared.events.SaveStyle.TheVariants.{Nothing, Errors, Any}
@@ -87,7 +87,8 @@ bind_err {A} {B} (Err c) f d e = inl (ap (λ (d : DecodeRefusal). Err d) (err_is
 
 -- several enumerated bytes, one after the other
 pub means_both : {A B : Type 0} (p q : List (ℕ × ℕ)) (HasA : A → List ℕ → Type 0) (HasB : B → List ℕ → Type 0) (a : List ℕ → Result A DecodeRefusal) (b : List ℕ → Result B DecodeRefusal) → Means p HasA a → Means q HasB b
-    → Means {A = A × B} (p ++ q) (λ x bytes. HasA x.0 bytes × HasB x.1 bytes) (λ bytes. a bytes >>= λ x. b bytes >>= λ y. Ok (x, y))
+    → Means {A = A × B} (p ++ q) (λ x bytes. HasA x.0 bytes × HasB x.1 bytes) (both_at a b)
+unfolding both_at
 means_both {A} {B} p q HasA HasB a b first second = record {
   takes = λ bytes z e.
       let h = bind_ok (a bytes) (λ x. b bytes >>= λ y. Ok (x, y)) z e in

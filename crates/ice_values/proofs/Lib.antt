@@ -9,4 +9,5 @@ pub mod HeaderLaws
 pub mod BodyLaws
 pub mod EnumLaws
 pub mod ErrorLaws
+pub mod ChoiceLaws
 pub mod LengthLaws

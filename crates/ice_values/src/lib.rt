@@ -24,7 +24,7 @@ pub use array8::{
     read_array8_list, take_array8, take_array8_list, write_array8, write_array8_list,
 };
 pub use errors::ErrorBody;
-pub use frames::{bool_at, decode_error, end_body, order_at, severity_at};
+pub use frames::{bool_at, decode_error, end_body, no_body, order_at, severity_at};
 pub use fronts::{
     skip, take_bytes, take_card16, take_card32, take_proof_data, take_text16, take_texts,
     take_version, take_versions,
