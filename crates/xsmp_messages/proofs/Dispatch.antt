@@ -1,5 +1,5 @@
 -- What decoding answers, over all messages.
-use Rattle.std.proofs.Common.{◌≡◌, ℕ, zero, suc, ◌<◌, ◌≤◌, false, List, [], ◌++◌, Result, Ok, Err, IfOk, IfErr, refl, sym, ◌∙◌, subst, arith, slice_index, inl, inr}
+use Rattle.std.proofs.Common.{◌≡◌, ℕ, zero, suc, ◌<◌, ◌≤◌, false, List, [], Result, Ok, Err, IfOk, IfErr, refl, sym, ◌∙◌, subst, arith, slice_index, inl, inr}
 use Rattle.std.specs.Prelude.{eqb, ◌⊎◌, ◌↔◌}
 use Rattle.std.proofs.lemmas.Bool.{ne_eqb}
 use Rattle.std.proofs.lemmas.List.{append-nil}

@@ -4,7 +4,7 @@ use Rattle.ice_values.specs.Cells.{Cells, byte, free, Begins}
 use Rattle.ice_values.specs.Fields.{ErrorFields, spelling, bool_number, severity_number}
 use Rattle.ice_values.specs.Reading.{nothing_at, after_at, Exact}
 use Rattle.ice_values.specs.Frames.{◌>>=◌, body_at, means_at, both_at, bool_meaning, error_at}
-use Rattle.ice_values.specs.Saves.{kind_number, kind_meaning, style_number, style_meaning}
+use Rattle.ice_values.specs.Saves.{kind_number, kind_meaning, style_number, style_meaning, dialog_number}
 use Rattle.ice_values.specs.declared.numbers.Endian.{Endian}
 use Rattle.ice_values.specs.declared.numbers.Endian.TheVariants.{Lsb, Msb}
 use Rattle.ice_values.specs.declared.refusals.DecodeRefusal.{DecodeRefusal}
@@ -22,7 +22,7 @@ use Rattle.ice_values.proofs.ChoiceLaws.{Opens, form_of, have_of, spelled_of}
 use Rattle.xsmp_messages.specs.Messages.{shape, enumerated, Spells, HasForm}
 use Rattle.xsmp_messages.specs.Reading.{valued_at, flagged_at, asked_at, asked_of_all_at, save_yourself_at, save_yourself_request_at, xsmp_error_at}
 use Rattle.xsmp_messages.specs.declared.message.XsmpMessage.{XsmpMessage}
-use Rattle.xsmp_messages.specs.declared.message.XsmpMessage.TheVariants.{Error, SaveYourself, SaveYourselfRequest}
+use Rattle.xsmp_messages.specs.declared.message.XsmpMessage.TheVariants.{Error, SaveYourself, SaveYourselfRequest, InteractRequest, InteractDone, SaveYourselfDone}
 
 -- what reading the bytes may answer
 abbrev pub Says : Endian → ℕ → List ℕ → Result XsmpMessage DecodeRefusal → Type 0
@@ -103,10 +103,13 @@ abbrev pub request_of : Asked × Bool → XsmpMessage
 request_of x = SaveYourselfRequest x.0.0.0 x.0.0.1 x.0.1.0 x.0.1.1 x.1
 
 -- the bytes that stand for a message's enumerated values
-pub numbers_of : XsmpMessage → List ℕ
+unfoldable pub numbers_of : XsmpMessage → List ℕ
 numbers_of (Error error) = severity_number error.severity ∷ []
 numbers_of (SaveYourself kind shutdown style fast) = kind_number kind ∷ bool_number shutdown ∷ style_number style ∷ bool_number fast ∷ []
 numbers_of (SaveYourselfRequest kind shutdown style fast global) = kind_number kind ∷ bool_number shutdown ∷ style_number style ∷ bool_number fast ∷ bool_number global ∷ []
+numbers_of (InteractRequest dialog) = dialog_number dialog ∷ []
+numbers_of (InteractDone cancel) = bool_number cancel ∷ []
+numbers_of (SaveYourselfDone success) = bool_number success ∷ []
 numbers_of m = []
 
 -- the form of a message is its spelling with free bytes for them

@@ -197,11 +197,7 @@ fn connection_closed(
 }
 
 #[tactic(auto, unfolding(crate::specs::Reading::valued_at))]
-fn set_properties(
-    alloc: Global,
-    endian: Endian,
-    frame: &[u8],
-) -> Result<XsmpMessage, DecodeRefusal>
+fn set_properties(alloc: Global, endian: Endian, frame: &[u8]) -> Result<XsmpMessage, DecodeRefusal>
     requires { 8 ≤ length frame.now }
     ensures { Gives result (valued_at (property_list_at endian) SetProperties frame.now) }
 {

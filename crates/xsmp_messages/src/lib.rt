@@ -2,7 +2,10 @@
 #![tactic(auto)]
 
 mod decoding;
+mod encoding;
+mod lengths;
 mod message;
 
 pub use decoding::decode_xsmp;
+pub use encoding::encode_xsmp;
 pub use message::XsmpMessage;
