@@ -1,5 +1,5 @@
 ghost use Rattle.std.specs.Prelude.{◌≡◌, ◌≤◌, ◌↔◌, ℕ, length, drop, slice_index, OnOk, IfOk, IfErr, Ok};
-ghost use Rattle.ice_values.specs.Reading.{Answers, after_at, proof_data_at, nothing_at};
+ghost use Rattle.ice_values.specs.Reading.{Answers, after_at, proof_data_at};
 ghost use Rattle.ice_values.specs.Frames.{body_at};
 ghost use Rattle.ice_messages.specs.Messages.{Spells, HasForm, HasChoice, Refused, IsFrame, IsMessage, canon};
 ghost use Rattle.ice_messages.specs.Reading.{Gives, makers_at, lists_at, offer_at, protocol_at, empty_at, byte_order_at, connection_setup_at, authentication_required_at, authentication_reply_at, authentication_next_phase_at, connection_reply_at, protocol_setup_at, protocol_reply_at, ice_error_at, decode_at};
@@ -7,7 +7,7 @@ ghost use Rattle.ice_messages.specs.Reading.{Gives, makers_at, lists_at, offer_a
 use crate::IceMessage;
 use ice_values::{
     DecodeRefusal, Endian, Text16, TextList, ValueRefusal, VersionList, bool_at, decode_error,
-    end_body, order_at, skip, take_proof_data, take_text16, take_texts, take_versions,
+    end_body, no_body, order_at, skip, take_proof_data, take_text16, take_texts, take_versions,
 };
 use sm_world::Octets;
 use std::alloc::Global;
@@ -70,16 +70,6 @@ fn take_protocol(
     let (protocol, rest) = take_text16(alloc, endian, bytes)?;
     let (offer, rest) = take_offer(alloc, endian, names, versions, rest)?;
     Ok(((protocol, offer), rest))
-}
-
-/// A body without anything.
-#[tactic(auto, unfolding(ice_values::specs::Frames::body_at, ice_values::specs::Frames::cut, ice_values::specs::Reading::nothing_at))]
-fn no_body(frame: &[u8]) -> Result<(), DecodeRefusal>
-    requires { 8 ≤ length frame.now }
-    ensures { Gives result (body_at nothing_at frame.now) }
-{
-    let (_, body) = frame.split_at(8);
-    end_body(body)
 }
 
 /// A body that is the data of an authentication.

@@ -1,10 +1,14 @@
 -- Enumerated bytes: one law for all of them, and what a message's reading answers.
 use Rattle.std.proofs.Common.{◌≡◌, ℕ, ◌<◌, ◌≤◌, true, false, List, [], ◌∷◌, ◌++◌, Option, Some, None, Result, Ok, Err, cond, refl, sym, ap, ◌∙◌, subst, arith, inl, inr}
-use Rattle.std.specs.Prelude.{slice_index, ◌⊎◌, eqb}
+use Rattle.std.specs.Prelude.{slice_index, ◌⊎◌, eqb, ◌==◌, if◌then◌else◌}
 use Rattle.std.proofs.lemmas.Bool.{lt-ltb, le-ltb, eq-eqb, ne_eqb, cases_eq, cases_lt}
 use Rattle.ice_values.specs.Cells.{Cells, Begins}
 use Rattle.ice_values.specs.Fields.{spelling, bool_number, order_number, severity_number}
-use Rattle.ice_values.specs.Frames.{◌>>=◌, or_bad, means_at, bool_meaning, order_meaning, severity_meaning, first_wrong}
+use Rattle.ice_values.specs.Frames.{◌>>=◌, or_bad, means_at, both_at, bool_meaning, order_meaning, severity_meaning, first_wrong}
+use Rattle.ice_values.specs.Saves.{kind_number, style_number, dialog_number, kind_meaning, style_meaning, dialog_meaning}
+use Rattle.sm_world.specs.declared.events.SaveKind.TheVariants.{Global, Local, Both}
+use Rattle.sm_world.specs.declared.events.SaveStyle.TheVariants.{Nothing, Errors, Any}
+use Rattle.sm_world.specs.declared.events.Dialog.TheVariants.{Error as ErrorDialog, Normal}
 use Rattle.ice_values.specs.declared.numbers.Endian.{Endian}
 use Rattle.ice_values.specs.declared.numbers.Endian.TheVariants.{Lsb, Msb}
 use Rattle.ice_values.specs.declared.severity.Severity.TheVariants.{CanContinue, FatalToProtocol, FatalToConnection}
@@ -83,7 +87,8 @@ bind_err {A} {B} (Err c) f d e = inl (ap (λ (d : DecodeRefusal). Err d) (err_is
 
 -- several enumerated bytes, one after the other
 pub means_both : {A B : Type 0} (p q : List (ℕ × ℕ)) (HasA : A → List ℕ → Type 0) (HasB : B → List ℕ → Type 0) (a : List ℕ → Result A DecodeRefusal) (b : List ℕ → Result B DecodeRefusal) → Means p HasA a → Means q HasB b
-    → Means {A = A × B} (p ++ q) (λ x bytes. HasA x.0 bytes × HasB x.1 bytes) (λ bytes. a bytes >>= λ x. b bytes >>= λ y. Ok (x, y))
+    → Means {A = A × B} (p ++ q) (λ x bytes. HasA x.0 bytes × HasB x.1 bytes) (both_at a b)
+unfolding both_at
 means_both {A} {B} p q HasA HasB a b first second = record {
   takes = λ bytes z e.
       let h = bind_ok (a bytes) (λ x. b bytes >>= λ y. Ok (x, y)) z e in
@@ -112,53 +117,63 @@ choice n k x y z e = elim (cases_eq n k) [
 some_is : {A : Type 0} (x y : A) → ◌≡◌ {A = Option A} (Some x) (Some y) → x ≡ y
 some_is x y e = cc
 
-pub bool_enum : IsEnum bool_meaning bool_number 2
-bool_enum = record {
-  ok = λ n a e. elim (choice n 0 (Some false) _ (Some a) e) [
-    | inl h ↦ h.0 ∙ ap bool_number (some_is false a h.1)
-    | inr h ↦ elim (choice n 1 (Some true) None (Some a) h.1) [ inl k ↦ k.0 ∙ ap bool_number (some_is true a k.1) | inr k ↦ absurd (none_not_some a k.1) ]
+-- the numbers 0 and 1 alone have a meaning
+two_enum : {A : Type 0} (a b : A) (number : A → ℕ) → number a ≡ 0 → number b ≡ 1 → ((x : A) → (x ≡ a) ⊎ (x ≡ b)) → IsEnum (λ n. if n == 0 then Some a else if n == 1 then Some b else None) number 2
+two_enum a b number is_0 is_1 all = record {
+  ok = λ n x e. elim (choice n 0 (Some a) _ (Some x) e) [
+    | inl h ↦ h.0 ∙ sym is_0 ∙ ap number (some_is a x h.1)
+    | inr h ↦ elim (choice n 1 (Some b) None (Some x) h.1) [ inl k ↦ k.0 ∙ sym is_1 ∙ ap number (some_is b x k.1) | inr k ↦ absurd (none_not_some x k.1) ]
   ];
-  again = λ a. elim a as (λ a. bool_meaning (bool_number a) ≡ Some a) [ false ↦ refl | true ↦ refl ];
-  bad = λ n e. elim (choice n 0 (Some false) _ None e) [
-    | inl h ↦ absurd (some_not_none false h.1)
-    | inr h ↦ elim (choice n 1 (Some true) None None h.1) [ inl k ↦ absurd (some_not_none true k.1) | inr k ↦ omega (arith, h.0, k.0) ]
+  again = λ x. elim (all x) [ inl h ↦ rw (h, is_0) refl | inr h ↦ rw (h, is_1) refl ];
+  bad = λ n e. elim (choice n 0 (Some a) _ None e) [
+    | inl h ↦ absurd (some_not_none a h.1)
+    | inr h ↦ elim (choice n 1 (Some b) None None h.1) [ inl k ↦ absurd (some_not_none b k.1) | inr k ↦ omega (arith, h.0, k.0) ]
   ];
-  below = λ a. elim a as (λ a. bool_number a < 2) [ false ↦ omega arith | true ↦ omega arith ];
+  below = λ x. elim (all x) [ inl h ↦ rw (h, is_0) (omega arith) | inr h ↦ rw (h, is_1) (omega arith) ];
 }
+
+-- the numbers 0, 1 and 2 alone
+three_enum : {A : Type 0} (a b c : A) (number : A → ℕ) → number a ≡ 0 → number b ≡ 1 → number c ≡ 2 → ((x : A) → (x ≡ a) ⊎ ((x ≡ b) ⊎ (x ≡ c)))
+    → IsEnum (λ n. if n == 0 then Some a else if n == 1 then Some b else if n == 2 then Some c else None) number 3
+three_enum a b c number is_0 is_1 is_2 all = record {
+  ok = λ n x e. elim (choice n 0 (Some a) _ (Some x) e) [
+    | inl h ↦ h.0 ∙ sym is_0 ∙ ap number (some_is a x h.1)
+    | inr h ↦ elim (choice n 1 (Some b) _ (Some x) h.1) [
+      | inl k ↦ k.0 ∙ sym is_1 ∙ ap number (some_is b x k.1)
+      | inr k ↦ elim (choice n 2 (Some c) None (Some x) k.1) [ inl l ↦ l.0 ∙ sym is_2 ∙ ap number (some_is c x l.1) | inr l ↦ absurd (none_not_some x l.1) ]
+    ]
+  ];
+  again = λ x. elim (all x) [ inl h ↦ rw (h, is_0) refl | inr h ↦ elim h [ inl k ↦ rw (k, is_1) refl | inr k ↦ rw (k, is_2) refl ] ];
+  bad = λ n e. elim (choice n 0 (Some a) _ None e) [
+    | inl h ↦ absurd (some_not_none a h.1)
+    | inr h ↦ elim (choice n 1 (Some b) _ None h.1) [
+      | inl k ↦ absurd (some_not_none b k.1)
+      | inr k ↦ elim (choice n 2 (Some c) None None k.1) [ inl l ↦ absurd (some_not_none c l.1) | inr l ↦ omega (arith, h.0, k.0, l.0) ]
+    ]
+  ];
+  below = λ x. elim (all x) [ inl h ↦ rw (h, is_0) (omega arith) | inr h ↦ elim h [ inl k ↦ rw (k, is_1) (omega arith) | inr k ↦ rw (k, is_2) (omega arith) ] ];
+}
+
+pub bool_enum : IsEnum bool_meaning bool_number 2
+bool_enum = two_enum false true bool_number refl refl (λ x. elim x as (λ x. (x ≡ false) ⊎ (x ≡ true)) [ false ↦ inl refl | true ↦ inr refl ])
 
 pub order_enum : IsEnum order_meaning order_number 2
-order_enum = record {
-  ok = λ n a e. elim (choice n 0 (Some Lsb) _ (Some a) e) [
-    | inl h ↦ h.0 ∙ ap order_number (some_is Lsb a h.1)
-    | inr h ↦ elim (choice n 1 (Some Msb) None (Some a) h.1) [ inl k ↦ k.0 ∙ ap order_number (some_is Msb a k.1) | inr k ↦ absurd (none_not_some a k.1) ]
-  ];
-  again = λ a. elim a as (λ a. order_meaning (order_number a) ≡ Some a) [ Lsb ↦ refl | Msb ↦ refl ];
-  bad = λ n e. elim (choice n 0 (Some Lsb) _ None e) [
-    | inl h ↦ absurd (some_not_none Lsb h.1)
-    | inr h ↦ elim (choice n 1 (Some Msb) None None h.1) [ inl k ↦ absurd (some_not_none Msb k.1) | inr k ↦ omega (arith, h.0, k.0) ]
-  ];
-  below = λ a. elim a as (λ a. order_number a < 2) [ Lsb ↦ omega arith | Msb ↦ omega arith ];
-}
+order_enum = two_enum Lsb Msb order_number refl refl (λ x. elim x as (λ x. (x ≡ Lsb) ⊎ (x ≡ Msb)) [ Lsb ↦ inl refl | Msb ↦ inr refl ])
 
 pub severity_enum : IsEnum severity_meaning severity_number 3
-severity_enum = record {
-  ok = λ n a e. elim (choice n 0 (Some CanContinue) _ (Some a) e) [
-    | inl h ↦ h.0 ∙ ap severity_number (some_is CanContinue a h.1)
-    | inr h ↦ elim (choice n 1 (Some FatalToProtocol) _ (Some a) h.1) [
-      | inl k ↦ k.0 ∙ ap severity_number (some_is FatalToProtocol a k.1)
-      | inr k ↦ elim (choice n 2 (Some FatalToConnection) None (Some a) k.1) [ inl l ↦ l.0 ∙ ap severity_number (some_is FatalToConnection a l.1) | inr l ↦ absurd (none_not_some a l.1) ]
-    ]
-  ];
-  again = λ a. elim a as (λ a. severity_meaning (severity_number a) ≡ Some a) [ CanContinue ↦ refl | FatalToProtocol ↦ refl | FatalToConnection ↦ refl ];
-  bad = λ n e. elim (choice n 0 (Some CanContinue) _ None e) [
-    | inl h ↦ absurd (some_not_none CanContinue h.1)
-    | inr h ↦ elim (choice n 1 (Some FatalToProtocol) _ None h.1) [
-      | inl k ↦ absurd (some_not_none FatalToProtocol k.1)
-      | inr k ↦ elim (choice n 2 (Some FatalToConnection) None None k.1) [ inl l ↦ absurd (some_not_none FatalToConnection l.1) | inr l ↦ omega (arith, h.0, k.0, l.0) ]
-    ]
-  ];
-  below = λ a. elim a as (λ a. severity_number a < 3) [ CanContinue ↦ omega arith | FatalToProtocol ↦ omega arith | FatalToConnection ↦ omega arith ];
-}
+severity_enum =
+    three_enum CanContinue FatalToProtocol FatalToConnection severity_number refl refl refl
+    (λ x. elim x as (λ x. (x ≡ CanContinue) ⊎ ((x ≡ FatalToProtocol) ⊎ (x ≡ FatalToConnection))) [ CanContinue ↦ inl refl | FatalToProtocol ↦ inr (inl refl) | FatalToConnection ↦ inr (inr refl) ])
+
+pub kind_enum : IsEnum kind_meaning kind_number 3
+kind_enum = three_enum Global Local Both kind_number refl refl refl (λ x. elim x as (λ x. (x ≡ Global) ⊎ ((x ≡ Local) ⊎ (x ≡ Both))) [ Global ↦ inl refl | Local ↦ inr (inl refl) | Both ↦ inr (inr refl) ])
+
+pub style_enum : IsEnum style_meaning style_number 3
+style_enum =
+    three_enum Nothing Errors Any style_number refl refl refl (λ x. elim x as (λ x. (x ≡ Nothing) ⊎ ((x ≡ Errors) ⊎ (x ≡ Any))) [ Nothing ↦ inl refl | Errors ↦ inr (inl refl) | Any ↦ inr (inr refl) ])
+
+pub dialog_enum : IsEnum dialog_meaning dialog_number 2
+dialog_enum = two_enum ErrorDialog Normal dialog_number refl refl (λ x. elim x as (λ x. (x ≡ ErrorDialog) ⊎ (x ≡ Normal)) [ ErrorDialog ↦ inl refl | Normal ↦ inr refl ])
 
 -- ---- what reading a message answers
 

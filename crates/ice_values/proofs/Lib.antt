@@ -2,10 +2,12 @@ pub mod CellLaws
 pub mod NumberLaws
 pub mod FieldLaws
 pub mod ListLaws
+pub mod PropertyLaws
 pub mod FrontLaws
 pub mod WriteLaws
 pub mod HeaderLaws
 pub mod BodyLaws
 pub mod EnumLaws
 pub mod ErrorLaws
+pub mod ChoiceLaws
 pub mod LengthLaws

@@ -1,11 +1,12 @@
 -- Bytes that grow at their end by spellings.
-use Rattle.std.proofs.Common.{◌≡◌, ℕ, ◌+◌, ◌<◌, List, [], ◌∷◌, ◌++◌, length, take, get_or, sym, ap, ◌∙◌, append_assoc, refl}
+use Rattle.std.proofs.Common.{◌≡◌, ℕ, ◌+◌, ◌/◌, ◌<◌, List, [], ◌∷◌, ◌++◌, length, take, get_or, sym, ap, ◌∙◌, append_assoc, refl}
 use Rattle.std.specs.Prelude.{flat_map}
 use Rattle.std.proofs.lemmas.List.{append-nil, take_more}
 use Rattle.std.proofs.lemmas.Grind.{flat_map-append}
 use Rattle.ice_values.specs.Cells.{Cells, byte, known, free, zeros, pad_len}
 use Rattle.ice_values.specs.Numbers.{number_bytes, card16, card32}
-use Rattle.ice_values.specs.Fields.{text16, version, proof_data, ErrorFields, error_body, severity_number}
+use Rattle.ice_values.specs.Fields.{text16, version, proof_data, ErrorFields, error_body, severity_number, spelling}
+use Rattle.ice_values.specs.Properties.{array8}
 use Rattle.ice_values.specs.declared.numbers.Endian.{Endian}
 use Rattle.ice_values.specs.declared.version.Version.{Version}
 use Rattle.ice_values.proofs.CellLaws.{zeros-append, zeros-known}
@@ -17,8 +18,14 @@ adds_two old a b whole one new p q e = q ∙ ap (λ (l : List ℕ). l ++ b) p �
 pub adds_three : (old a b c whole one two new : List ℕ) → one ≡ old ++ a → two ≡ one ++ b → new ≡ two ++ c → whole ≡ a ++ b ++ c → new ≡ old ++ whole
 adds_three old a b c whole one two new p q r e = adds_two old (a ++ b) c whole two new (adds_two old a b (a ++ b) one two p q refl) r e
 
+pub adds_cells : (old mid new : List ℕ) (a b : Cells) → mid ≡ old ++ zeros a → new ≡ mid ++ zeros b → new ≡ old ++ zeros (a ++ b)
+adds_cells old mid new a b p q = adds_two old (zeros a) (zeros b) (zeros (a ++ b)) mid new p q (zeros-append a b)
+
 pub zeros-text16 : (e : Endian) (text : List ℕ) (n : ℕ) → n ≡ pad_len (2 + length text) 4 → zeros (text16 e text) ≡ number_bytes e 2 (length text) ++ text ++ zeros (free n)
 zeros-text16 e text n is = rw (is, zeros-append (card16 e (length text) ++ known text) (free (pad_len (2 + length text) 4)), zeros-append (card16 e (length text)) (known text), zeros-known (number_bytes e 2 (length text)), zeros-known text) refl
+
+pub zeros-array8 : (e : Endian) (bytes : List ℕ) (n : ℕ) → n ≡ pad_len (4 + length bytes) 8 → zeros (array8 e bytes) ≡ number_bytes e 4 (length bytes) ++ bytes ++ zeros (free n)
+zeros-array8 e bytes n is = rw (is, zeros-append (card32 e (length bytes) ++ known bytes) (free (pad_len (4 + length bytes) 8)), zeros-append (card32 e (length bytes)) (known bytes), zeros-known (number_bytes e 4 (length bytes)), zeros-known bytes) refl
 
 pub zeros-version : (e : Endian) (v : Version) → zeros (version e v) ≡ number_bytes e 2 v.major ++ number_bytes e 2 v.minor
 zeros-version e v = rw (zeros-append (card16 e v.major) (card16 e v.minor), zeros-known (number_bytes e 2 v.major), zeros-known (number_bytes e 2 v.minor)) refl
@@ -42,3 +49,17 @@ adds_item {A} cells items i x old mid new lt is p q =
     let whole : zeros (flat_map cells (take (i + 1) items)) ≡ zeros (flat_map cells (take i items)) ++ zeros (cells x) =
     ap (λ (l : List A). zeros (flat_map cells l)) grown ∙ ap zeros (flat_map-append cells (take i items) (x ∷ [])) ∙ zeros-append (flat_map cells (take i items)) (cells x ++ []) ∙ ap (λ (l : Cells). zeros (flat_map cells (take i items)) ++ zeros l) (append-nil (cells x)) in
     adds_two old (zeros (flat_map cells (take i items))) (zeros (cells x)) (zeros (flat_map cells (take (i + 1) items))) mid new p q whole
+
+-- a message whose parts are added
+pub adds_message : (e : Endian) (opcode minor count padding : ℕ) (own body : Cells) (old one two three four new : List ℕ) → count ≡ length body → padding ≡ pad_len count 8
+    → one ≡ old ++ (opcode ∷ minor ∷ []) → two ≡ one ++ zeros own → three ≡ two ++ number_bytes e 4 ((count + padding) / 8) → four ≡ three ++ zeros body → new ≡ four ++ zeros (free padding)
+    → new ≡ old ++ zeros (spelling e opcode minor own body)
+adds_message e opcode minor count padding own body old one two three four new is_count is_padding p q r s t =
+    let units : ℕ = (length body + pad_len (length body) 8) / 8 in
+    let pad_is : padding ≡ pad_len (length body) 8 = is_padding ∙ ap (λ (n : ℕ). pad_len n 8) is_count in
+    let units_are : (count + padding) / 8 ≡ units = rw (is_count, pad_is) refl in
+    let head = adds_two old (opcode ∷ minor ∷ []) (zeros own) (zeros (known (opcode ∷ minor ∷ []) ++ own)) one two p q (zeros-append (known (opcode ∷ minor ∷ [])) own) in
+    let three_is : three ≡ two ++ zeros (card32 e units) = r ∙ ap (λ (u : ℕ). two ++ number_bytes e 4 u) units_are ∙ ap (λ (l : List ℕ). two ++ l) (sym (zeros-known (number_bytes e 4 units))) in
+    let header = adds_cells old two three (known (opcode ∷ minor ∷ []) ++ own) (card32 e units) head three_is in
+    let whole = adds_cells old three four (known (opcode ∷ minor ∷ []) ++ own ++ card32 e units) body header s in
+    adds_cells old four new (known (opcode ∷ minor ∷ []) ++ own ++ card32 e units ++ body) (free (pad_len (length body) 8)) whole (t ∙ ap (λ (n : ℕ). four ++ zeros (free n)) pad_is)

@@ -67,6 +67,13 @@ or_bad None at = Err (BadValue at 1)
 unfoldable pub means_at : {A : Type 0} → (ℕ → Option A) → List ℕ → ℕ → Result A DecodeRefusal
 means_at meaning bytes at = or_bad (meaning (slice_index bytes at)) at
 
+-- one meaning, and then another
+unfoldable pub both_at : {A B : Type 0} → (List ℕ → Result A DecodeRefusal) → (List ℕ → Result B DecodeRefusal) → List ℕ → Result (A × B) DecodeRefusal
+both_at first second bytes = do
+  x ← first bytes
+  y ← second bytes
+  Ok (x, y)
+
 abbrev pub bool_meaning : ℕ → Option Bool
 bool_meaning n = if n == 0 then Some false else if n == 1 then Some true else None
 

@@ -4,4 +4,5 @@ pub mod Fields
 pub mod Reading
 pub mod Writing
 pub mod Properties
+pub mod Saves
 pub mod Frames

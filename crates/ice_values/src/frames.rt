@@ -1,5 +1,6 @@
 ghost use Rattle.std.specs.Prelude.{◌≡◌, ◌≤◌, ◌<◌, ◌^◌, length};
-ghost use Rattle.ice_values.specs.Frames.{IsFrame, Gives, ended, means_at, bool_meaning, order_meaning, severity_meaning, error_at};
+ghost use Rattle.ice_values.specs.Reading.{nothing_at};
+ghost use Rattle.ice_values.specs.Frames.{IsFrame, Gives, body_at, ended, means_at, bool_meaning, order_meaning, severity_meaning, error_at};
 
 use crate::numbers::{read_card16, read_card32};
 use crate::{DecodeRefusal, Endian, ErrorBody, Severity};
@@ -16,6 +17,16 @@ pub fn end_body(rest: &[u8]) -> Result<(), DecodeRefusal>
     } else {
         Err(DecodeRefusal::BadLength)
     }
+}
+
+/// Reads a body without anything.
+#[tactic(auto, unfolding(crate::specs::Frames::body_at, crate::specs::Frames::cut, crate::specs::Reading::nothing_at))]
+pub fn no_body(frame: &[u8]) -> Result<(), DecodeRefusal>
+    requires { 8 ≤ length frame.now }
+    ensures { Gives result (body_at nothing_at frame.now) }
+{
+    let (_, body) = frame.split_at(8);
+    end_body(body)
 }
 
 /// The BOOL at a place.

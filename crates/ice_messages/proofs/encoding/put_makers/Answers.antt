@@ -1,6 +1,6 @@
 use Rattle.std.proofs.lemmas.Result.{on_ok_weaker}
 use Rattle.ice_values.specs.Fields.{text16}
-use Rattle.ice_messages.proofs.Puts.{adds_cells}
+use Rattle.ice_values.proofs.WriteLaws.{adds_cells}
 use Rattle.ice_messages.proofs.encoding.put_makers.Goals as goal
 
 pub returns-clause-ok : goal.returns-clause-ok

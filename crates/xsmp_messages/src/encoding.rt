@@ -1,0 +1,167 @@
+ghost use Rattle.std.specs.Prelude.{◌≡◌, ◌≤◌, ◌++◌, ◌↔◌, length, Err, OnOk, OnErr};
+ghost use Rattle.ice_values.specs.Cells.{zeros, byte};
+ghost use Rattle.ice_values.specs.Writing.{Extends};
+ghost use Rattle.xsmp_messages.specs.Messages.{canon, minor_of, layout, IsMessage, IsTooLong};
+
+use crate::XsmpMessage;
+use crate::lengths::body_len;
+use ice_values::{
+    EncodeRefusal, Endian, bool_byte, dialog_byte, kind_byte, pad, put_array8, put_array8_list,
+    put_bytes, put_card16, put_card32, put_error, put_property_list, put_zeros, style_byte,
+};
+use sm_world::{NoMemory, Octets};
+
+fn minor(message: &XsmpMessage) -> u8
+    ensures { result ≡ minor_of message.now }
+{
+    match message {
+        XsmpMessage::Error(_) => 0,
+        XsmpMessage::RegisterClient { .. } => 1,
+        XsmpMessage::RegisterClientReply { .. } => 2,
+        XsmpMessage::SaveYourself { .. } => 3,
+        XsmpMessage::SaveYourselfRequest { .. } => 4,
+        XsmpMessage::InteractRequest { .. } => 5,
+        XsmpMessage::Interact => 6,
+        XsmpMessage::InteractDone { .. } => 7,
+        XsmpMessage::SaveYourselfDone { .. } => 8,
+        XsmpMessage::Die => 9,
+        XsmpMessage::ShutdownCancelled => 10,
+        XsmpMessage::ConnectionClosed { .. } => 11,
+        XsmpMessage::SetProperties { .. } => 12,
+        XsmpMessage::DeleteProperties { .. } => 13,
+        XsmpMessage::GetProperties => 14,
+        XsmpMessage::GetPropertiesReply { .. } => 15,
+        XsmpMessage::SaveYourselfPhase2Request => 16,
+        XsmpMessage::SaveYourselfPhase2 => 17,
+        XsmpMessage::SaveComplete => 18,
+    }
+}
+
+/// Adds the two bytes of a message's own.
+fn put_own(endian: Endian, message: &XsmpMessage, out: &mut Octets) -> Result<(), NoMemory>
+    ensures ok { OnOk result (out.new ≡ out.old ++ zeros (layout byte endian message.now).0) }
+    ensures kept { Extends out.old out.new }
+{
+    match message {
+        XsmpMessage::Error(error) => put_card16(endian, error.class, out),
+        XsmpMessage::InteractRequest { dialog } => put_bytes(&[dialog_byte(*dialog), 0], out),
+        XsmpMessage::InteractDone { cancel } => put_bytes(&[bool_byte(*cancel), 0], out),
+        XsmpMessage::SaveYourselfDone { success } => put_bytes(&[bool_byte(*success), 0], out),
+        XsmpMessage::RegisterClient { .. }
+        | XsmpMessage::RegisterClientReply { .. }
+        | XsmpMessage::SaveYourself { .. }
+        | XsmpMessage::SaveYourselfRequest { .. }
+        | XsmpMessage::Interact
+        | XsmpMessage::Die
+        | XsmpMessage::ShutdownCancelled
+        | XsmpMessage::ConnectionClosed { .. }
+        | XsmpMessage::SetProperties { .. }
+        | XsmpMessage::DeleteProperties { .. }
+        | XsmpMessage::GetProperties
+        | XsmpMessage::GetPropertiesReply { .. }
+        | XsmpMessage::SaveYourselfPhase2Request
+        | XsmpMessage::SaveYourselfPhase2
+        | XsmpMessage::SaveComplete => put_bytes(&[0, 0], out),
+    }
+}
+
+/// Adds the body of a message.
+fn put_body(endian: Endian, message: &XsmpMessage, out: &mut Octets) -> Result<(), NoMemory>
+    requires { IsMessage message.now }
+    ensures ok { OnOk result (out.new ≡ out.old ++ zeros (layout byte endian message.now).1) }
+    ensures kept { Extends out.old out.new }
+{
+    match message {
+        XsmpMessage::Error(error) => put_error(endian, error, out),
+        XsmpMessage::RegisterClient { previous } => put_array8(endian, previous, out),
+        XsmpMessage::RegisterClientReply { id } => put_array8(endian, id, out),
+        XsmpMessage::SaveYourself {
+            kind,
+            shutdown,
+            style,
+            fast,
+        } => {
+            let (kind, shutdown) = (kind_byte(*kind), bool_byte(*shutdown));
+            let (style, fast) = (style_byte(*style), bool_byte(*fast));
+            put_bytes(&[kind, shutdown, style, fast, 0, 0, 0, 0], out)
+        }
+        XsmpMessage::SaveYourselfRequest {
+            kind,
+            shutdown,
+            style,
+            fast,
+            global,
+        } => {
+            let (kind, shutdown) = (kind_byte(*kind), bool_byte(*shutdown));
+            let (style, fast) = (style_byte(*style), bool_byte(*fast));
+            put_bytes(
+                &[kind, shutdown, style, fast, bool_byte(*global), 0, 0, 0],
+                out,
+            )
+        }
+        XsmpMessage::ConnectionClosed { reasons } => put_array8_list(endian, reasons, out),
+        XsmpMessage::SetProperties { properties } => put_property_list(endian, properties, out),
+        XsmpMessage::DeleteProperties { names } => put_array8_list(endian, names, out),
+        XsmpMessage::GetPropertiesReply { properties } => {
+            put_property_list(endian, properties, out)
+        }
+        XsmpMessage::InteractRequest { .. }
+        | XsmpMessage::Interact
+        | XsmpMessage::InteractDone { .. }
+        | XsmpMessage::SaveYourselfDone { .. }
+        | XsmpMessage::Die
+        | XsmpMessage::ShutdownCancelled
+        | XsmpMessage::GetProperties
+        | XsmpMessage::SaveYourselfPhase2Request
+        | XsmpMessage::SaveYourselfPhase2
+        | XsmpMessage::SaveComplete => Ok(()),
+    }
+}
+
+/// Adds a whole message, whose body has so many bytes.
+fn put_message(
+    endian: Endian,
+    opcode: u8,
+    message: &XsmpMessage,
+    count: usize,
+    out: &mut Octets,
+) -> Result<(), NoMemory>
+    requires fits { IsMessage message.now }
+    requires body { count ≡ length (layout byte endian message.now).1 }
+    requires bound { count ≤ 65536 }
+    ensures ok { OnOk result (out.new ≡ out.old ++ canon endian opcode message.now) }
+    ensures kept { Extends out.old out.new }
+{
+    let padding = pad(count, 8);
+    put_bytes(&[opcode, minor(message)], out)?;
+    put_own(endian, message, out)?;
+    put_card32(endian, ((count + padding) / 8) as u32, out)?;
+    put_body(endian, message, out)?;
+    put_zeros(padding, out)
+}
+
+/// Appends the spelling of a message under a major opcode, with zeros in unused and padding
+/// bytes. It is TooLong where its body would pass 65,536 bytes.
+pub fn encode_xsmp(
+    endian: Endian,
+    opcode: u8,
+    message: &XsmpMessage,
+    out: &mut Octets,
+) -> Result<(), EncodeRefusal>
+    ensures ok { OnOk result (out.new ≡ out.old ++ canon endian opcode message.now) }
+    ensures err { OnErr result (out.new ≡ out.old) }
+    ensures too_long { (result ≡ Err EncodeRefusal.TooLong) ↔ IsTooLong endian message.now }
+    // What is encoded has a spelling, so it is decoded again.
+    ensures fits { OnOk result (IsMessage message.now) }
+{
+    let count = match body_len(message) {
+        Some(count) => count,
+        None => return Err(EncodeRefusal::TooLong),
+    };
+    let start = out.len();
+    let written = put_message(endian, opcode, message, count, out);
+    if written.is_err() {
+        out.truncate(start);
+    }
+    Ok(written?)
+}

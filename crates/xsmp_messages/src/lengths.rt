@@ -1,0 +1,36 @@
+ghost use Rattle.std.specs.Prelude.{◌≡◌, ◌≤◌, length, IfSome, OnSome, IfNone};
+ghost use Rattle.ice_values.specs.Cells.{byte};
+ghost use Rattle.ice_values.specs.declared.numbers.Endian.{Endian as AnyEndian};
+ghost use Rattle.xsmp_messages.specs.Messages.{layout, IsMessage, IsTooLong};
+
+use crate::XsmpMessage;
+use ice_values::{array8_len, array8_list_len, error_len, property_list_len};
+
+/// How many bytes the body of a message has, without its padding. None where it is too long.
+pub fn body_len(message: &XsmpMessage) -> Option<usize>
+    ensures none { IfNone result ((e : AnyEndian) → IsTooLong e message.now) }
+    ensures is { IfSome result (λ n. (e : AnyEndian) → n ≡ length (layout byte e message.now).1) }
+    ensures bound { IfSome result (λ n. n ≤ 65536) }
+    ensures fits { OnSome result (IsMessage message.now) }
+{
+    match message {
+        XsmpMessage::Error(error) => error_len(error),
+        XsmpMessage::RegisterClient { previous } => array8_len(previous),
+        XsmpMessage::RegisterClientReply { id } => array8_len(id),
+        XsmpMessage::SaveYourself { .. } | XsmpMessage::SaveYourselfRequest { .. } => Some(8),
+        XsmpMessage::ConnectionClosed { reasons } => array8_list_len(reasons),
+        XsmpMessage::DeleteProperties { names } => array8_list_len(names),
+        XsmpMessage::SetProperties { properties } => property_list_len(properties),
+        XsmpMessage::GetPropertiesReply { properties } => property_list_len(properties),
+        XsmpMessage::InteractRequest { .. }
+        | XsmpMessage::Interact
+        | XsmpMessage::InteractDone { .. }
+        | XsmpMessage::SaveYourselfDone { .. }
+        | XsmpMessage::Die
+        | XsmpMessage::ShutdownCancelled
+        | XsmpMessage::GetProperties
+        | XsmpMessage::SaveYourselfPhase2Request
+        | XsmpMessage::SaveYourselfPhase2
+        | XsmpMessage::SaveComplete => Some(0),
+    }
+}
