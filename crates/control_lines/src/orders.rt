@@ -57,10 +57,9 @@ pub fn read_order(alloc: Global, line: &[u8]) -> Result<Order, OrderRefusal>
     ensures refused { IfErr result (IsRefusal (SaysOrder line.now)) }
 {
     if let Some(field) = line.strip_prefix(b"drop ") {
-        return match read_conn(alloc, field)? {
-            Some(conn) => Ok(Order::DropConn(conn)),
-            None => Err(OrderRefusal::BadLine),
-        };
+        return read_conn(alloc, field)?
+            .map(Order::DropConn)
+            .ok_or(OrderRefusal::BadLine);
     }
     if let Some(id) = line.strip_prefix(b"forget ") {
         if is_id(id) {
@@ -68,8 +67,5 @@ pub fn read_order(alloc: Global, line: &[u8]) -> Result<Order, OrderRefusal>
         }
         return Err(OrderRefusal::BadLine);
     }
-    match read_word(line) {
-        Some(order) => Ok(order),
-        None => Err(OrderRefusal::BadLine),
-    }
+    read_word(line).ok_or(OrderRefusal::BadLine)
 }

@@ -16,10 +16,7 @@ pub fn read_script_line(alloc: Global, line: &[u8]) -> Result<Option<Event>, Ord
     if line.is_empty() || line[0] == b'#' {
         return Ok(None);
     }
-    match read_event(alloc, line) {
-        Ok(event) => Ok(Some(event)),
-        Err(refusal) => Err(refusal),
-    }
+    Ok(Some(read_event(alloc, line)?))
 }
 
 /// The number of a connection and the bytes of a piece, of which there are at most 65,536.
@@ -56,10 +53,7 @@ fn read_event(alloc: Global, line: &[u8]) -> Result<Event, OrderRefusal>
             .ok_or(OrderRefusal::BadLine);
     }
     if let Some(rest) = line.strip_prefix(b"order ") {
-        return match read_order(alloc, rest) {
-            Ok(order) => Ok(Event::Operator(order)),
-            Err(refusal) => Err(refusal),
-        };
+        return Ok(Event::Operator(read_order(alloc, rest)?));
     }
     if let Some(fields) = line.strip_prefix(b"piece ") {
         return match read_piece(alloc, fields)? {

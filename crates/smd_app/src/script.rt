@@ -27,14 +27,13 @@ fn take_line(alloc: Global, events: &mut EventList, line: &[u8]) -> Result<(), O
     ensures taken { OnOk result ((said : List Event) × SayTaken (line.now ∷ []) said × (events.new ≡ events.old ++ said)) }
     ensures refused { IfErr result (IsRefusal (Takes line.now)) }
 {
-    match read_script_line(alloc, line) {
-        Ok(None) => Ok(()),
-        Ok(Some(Event::Operator(_))) => Err(OrderRefusal::BadLine),
-        Ok(Some(event)) => {
+    match read_script_line(alloc, line)? {
+        None => Ok(()),
+        Some(Event::Operator(_)) => Err(OrderRefusal::BadLine),
+        Some(event) => {
             events.push(event)?;
             Ok(())
         }
-        Err(refusal) => Err(refusal),
     }
 }
 
