@@ -1,7 +1,4 @@
-pub mod Splitting
-pub mod LineLemmas
 pub mod ScriptLemmas
-pub mod TraceLemmas
 pub mod InputLemmas
 pub mod Heard
 pub mod Rehearsing

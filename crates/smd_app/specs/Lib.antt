@@ -1,4 +1,3 @@
-pub mod Parts
 pub mod Script
 pub mod Faults
 pub mod Trace

@@ -4,7 +4,6 @@
 mod console;
 mod fault;
 mod laws;
-mod lines;
 mod program;
 mod rehearsal;
 mod script;

@@ -1,12 +1,13 @@
-ghost use Rattle.std.specs.Prelude.{◌≡◌, ◌<◌, ◌∷◌, length, IfOk, IfErr};
+ghost use Rattle.std.specs.Prelude.{◌≡◌, List, [], ◌∷◌, ◌++◌, IfOk, IfErr, OnOk};
 ghost use Rattle.std.specs.List.{AllByRecursion};
 ghost use Rattle.sm_world.specs.Events.{HasPieceSize};
-ghost use Rattle.smd_app.specs.Script.{ScriptSays, lines_of};
+ghost use Rattle.sm_world.specs.declared.events.Event.{Event};
+ghost use Rattle.control_lines.specs.Script.{IsRefusal};
+ghost use Rattle.smd_app.specs.Script.{ScriptSays, SayTaken, Takes};
 ghost use Rattle.smd_app.specs.Faults.{IsScriptFault};
-ghost use Rattle.smd_app.specs.declared.script.ScriptFault.TheVariants.{NoMemory as OutOfMemory};
 
-use crate::lines::{read_line, split_once};
-use sm_world::{EventList, NoMemory};
+use control_lines::{OrderRefusal, next_line, read_script_line};
+use sm_world::{Event, EventList};
 use std::alloc::Global;
 
 /// How many bytes a script can have. A line that holds a byte past these is none.
@@ -20,23 +21,19 @@ pub enum ScriptFault {
     NoMemory,
 }
 
-impl From<NoMemory> for ScriptFault {
-    ghost from_gives = { λ _ fault. fault ≡ OutOfMemory };
-
-    fn from(_error: NoMemory) -> ScriptFault {
-        ScriptFault::NoMemory
-    }
-}
-
-/// The first line of some bytes without its newline, and what follows it.
-fn next_line(script: &[u8]) -> (&[u8], &[u8])
-    requires { 0 < length script.now }
-    ensures lines { lines_of script.now ≡ result.0.now ∷ lines_of result.1.now }
-    ensures shorter { length result.1.now < length script.now }
+/// Adds the event that a line says to those before it, and nothing for a line that is skipped. An
+/// operator's order isn't of a rehearsal's grammar yet.
+fn take_line(alloc: Global, events: &mut EventList, line: &[u8]) -> Result<(), OrderRefusal>
+    ensures taken { OnOk result ((said : List Event) × SayTaken (line.now ∷ []) said × (events.new ≡ events.old ++ said)) }
+    ensures refused { IfErr result (IsRefusal (Takes line.now)) }
 {
-    match split_once(script, b'\n') {
-        Some(parts) => parts,
-        None => (script, &[]),
+    match read_script_line(alloc, line)? {
+        None => Ok(()),
+        Some(Event::Operator(_)) => Err(OrderRefusal::BadLine),
+        Some(event) => {
+            events.push(event)?;
+            Ok(())
+        }
     }
 }
 
@@ -55,9 +52,10 @@ pub fn read_script(alloc: Global, script: &[u8]) -> Result<EventList, ScriptFaul
         if rest.is_empty() && script.len() > SCRIPT_LIMIT {
             return Err(ScriptFault::BadLine(number));
         }
-        match read_line(alloc, line)? {
-            Some(event) => events.push(event)?,
-            None => return Err(ScriptFault::BadLine(number)),
+        match take_line(alloc, &mut events, line) {
+            Ok(()) => {}
+            Err(OrderRefusal::BadLine) => return Err(ScriptFault::BadLine(number)),
+            Err(OrderRefusal::NoMemory) => return Err(ScriptFault::NoMemory),
         }
         left = rest;
     }

@@ -158,6 +158,57 @@ fn answers_of_short_scripts(rt: HostRuntime) -> Result<(), Fail> {
     Ok(())
 }
 
+#[test]
+fn ticks_and_skipped_lines(rt: HostRuntime) -> Result<(), Fail> {
+    let alloc = rt.alloc();
+    let table: [(&str, u64, u8, &str); 10] = [
+        // A comment, an empty line and a tick.
+        (
+            "# one client\n\njoin 1\ntick 600\ngone 1\n",
+            9,
+            0,
+            "join 1\nsent 1 0001000000000000\ntick 600\ngone 1\nend\n|",
+        ),
+        ("#", 1, 0, "end\n|"),
+        ("\n\n\n", 1, 0, "end\n|"),
+        // A skipped line takes no turn, and a tick takes one.
+        ("#\ntick 1\n", 1, 9, "tick 1\n|smd: turns spent\n|"),
+        (
+            "tick 18446744073709551615",
+            9,
+            0,
+            "tick 18446744073709551615\nend\n|",
+        ),
+        // Skipped lines count where a bad one is named.
+        (
+            "# one client\n\njoin x\n",
+            9,
+            7,
+            "smd: bad script line 3\n|",
+        ),
+        (
+            "join 1\n # not at the front\n",
+            9,
+            7,
+            "smd: bad script line 2\n|",
+        ),
+        (
+            "tick 18446744073709551616",
+            9,
+            7,
+            "smd: bad script line 1\n|",
+        ),
+        ("tick 00\n", 9, 7, "smd: bad script line 1\n|"),
+        // An operator's order isn't taken yet.
+        ("#\norder status\n", 9, 7, "smd: bad script line 2\n|"),
+    ];
+    for (script, turns, status, want) in table {
+        let answer = rehearsed(alloc, "rehearse", script.as_bytes(), turns)?;
+        expect_answer(&rt, &answer, status, want.as_bytes())?;
+    }
+    Ok(())
+}
+
 /// One connection that stated its order, then this piece, and what is done about it.
 fn expect_after_order(
     rt: &(impl Abort + Alloc<A = Global>),

@@ -6,7 +6,7 @@ use Rattle.smd_app.proofs.script.read_script.Goals.{else-is_empty-via-then-is_em
 
 pub loop-left-preserved : goal.loop-left-preserved
 loop-left-preserved c =
-    next_reading c.args.script.now c.loop-left.left.now c.next_line.result.0.now c.next_line.result.1.now c.loop-left.events c.push.new.self c.in-Some.event c.loop-left.number c.loop-left.invariant c.next_line.ensures.lines c.next_line.ensures.shorter (rw c.in-Some.is at c.in_ok-event.ensures) c.in_ok-push-in-Some.ensures.ok
+    next_reading c.args.script.now c.loop-left.left.now c.next_line.result.0.now c.next_line.result.1.now c.loop-left.events c.in-Ok.ensures.taken.0 c.take_line.new.events c.loop-left.number c.loop-left.invariant c.next_line.ensures.lines c.next_line.ensures.shorter c.in-Ok.ensures.taken.1 c.in-Ok.ensures.taken.2
     (λ e. elim c.else-is_empty.branch [
       | else-is_empty-via-then-is_empty+else-script-gt-SCRIPT_LIMIT w ↦ omega arith
       | else-is_empty-via-else-is_empty w ↦ absurd (false≢true (rw e at w.if-is_empty.ensures))

@@ -1,0 +1,6 @@
+pub mod Splitting
+pub mod LineCuts
+pub mod Meanings
+pub mod Refusals
+pub mod Again
+pub mod Listing
