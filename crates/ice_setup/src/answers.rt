@@ -15,7 +15,7 @@ use sm_world::{NoMemory, Octets};
 use std::alloc::Global;
 
 /// The manager's major opcode for the messages of XSMP.
-const MANAGER_OPCODE: u8 = 1;
+pub const MANAGER_OPCODE: u8 = 1;
 
 /// A text of the manager's own.
 fn own_text(alloc: Global, bytes: &[u8]) -> Result<Text16, NoMemory>

@@ -9,10 +9,11 @@ use Rattle.sm_world.specs.declared.effects.Effect.TheVariants.{Sent, Shut as Was
 use Rattle.sm_world.specs.declared.events.Event.TheVariants.{Joined}
 use Rattle.ice_values.specs.declared.numbers.Endian.TheVariants.{Lsb}
 use Rattle.ice_cookie.specs.declared.cookies.Cookie.{Cookie}
-use Rattle.ice_messages.specs.Messages.{canon}
-use Rattle.ice_messages.specs.declared.message.IceMessage.{IceMessage}
 use Rattle.ice_messages.specs.declared.message.IceMessage.TheVariants.{ByteOrder}
 use Rattle.session_engine.specs.Cutting.{IsNewRow}
+use Rattle.session_engine.specs.Messages.{spelled}
+use Rattle.session_engine.specs.declared.messages.Message.{Message}
+use Rattle.session_engine.specs.declared.messages.Message.TheVariants.{Ice}
 use Rattle.session_engine.specs.Machine.{Connection, Machine, connection_of, without, joined, answered, step, Step, stays, live_limit, sends, shuts}
 use Rattle.session_engine.specs.Rows.{row_at, row_count, ChangesRow, Matches, IsRowOf, IsLiveAs, Counts, Shows, ShowsFor, Carried, all_cut}
 use Rattle.session_engine.specs.declared.row.Row.{Row}
@@ -48,9 +49,9 @@ silent m c pending table old shows = record {
   shows = λ e. shows_by c pending table m (shows.here tt) shows.others shows.counts;
 }
 
-pub replied : {X : Type 0} (m : Machine) (c : ℕ) (message : IceMessage) (pending : ℕ → List ℕ) (table : Table) (old new : Option (List Effect)) (result : Result X ServeFault) → new ≡ adds old (on_ok result (Sent c (canon Lsb message) ∷ [])) → ShowsFor (Stays (Some message)) c pending table m → Carried pending old new table (answered m c (Stays (Some message))) (is_ok result)
+pub replied : {X : Type 0} (m : Machine) (c : ℕ) (message : Message) (pending : ℕ → List ℕ) (table : Table) (old new : Option (List Effect)) (result : Result X ServeFault) → new ≡ adds old (on_ok result (Sent c (spelled message) ∷ [])) → ShowsFor (Stays (Some message)) c pending table m → Carried pending old new table (answered m c (Stays (Some message))) (is_ok result)
 replied m c message pending table old new result added shows = record {
-  acts = sent c (canon Lsb message) old new result added;
+  acts = sent c (spelled message) old new result added;
   shows = λ e. shows_by c pending table m (shows.here tt) shows.others shows.counts;
 }
 
@@ -61,11 +62,11 @@ closed m c pending table after old new result added changes fewer shows = record
 }
 
 -- a last message was sent, and its connection closed
-pub refused : {X Y : Type 0} (m : Machine) (c : ℕ) (message : IceMessage) (pending : ℕ → List ℕ) (table after : Table) (old middle new : Option (List Effect)) (x : X) (result : Result Y ServeFault) → middle ≡ adds old (Sent c (canon Lsb message) ∷ []) → new ≡ adds middle (on_ok result (WasShut c ∷ [])) → ChangesRow table after c None → row_count after + (if is_some (row_at table c) then 1 else 0) ≡ row_count table → ShowsFor (Closes (Some message)) c pending table m → Carried pending old new after (answered m c (Closes (Some message))) (is_ok result)
+pub refused : {X Y : Type 0} (m : Machine) (c : ℕ) (message : Message) (pending : ℕ → List ℕ) (table after : Table) (old middle new : Option (List Effect)) (x : X) (result : Result Y ServeFault) → middle ≡ adds old (Sent c (spelled message) ∷ []) → new ≡ adds middle (on_ok result (WasShut c ∷ [])) → ChangesRow table after c None → row_count after + (if is_some (row_at table c) then 1 else 0) ≡ row_count table → ShowsFor (Closes (Some message)) c pending table m → Carried pending old new after (answered m c (Closes (Some message))) (is_ok result)
 refused {X} {Y} m c message pending table after old middle new x result told added changes fewer shows =
     let said : Result X ServeFault = Ok x in
     record {
-      acts = one_after_other (sends c message) (shuts m c).acts (is_ok result) old middle new (sent c (canon Lsb message) old middle said told) (was_shut c middle new result added);
+      acts = one_after_other (sends c message) (shuts m c).acts (is_ok result) old middle new (sent c (spelled message) old middle said told) (was_shut c middle new result added);
       shows = λ e. leaves m c pending table after changes fewer shows.others shows.counts;
     }
 
@@ -74,7 +75,7 @@ pub not_begun : (pending : ℕ → List ℕ) (old : Option (List Effect)) (after
 not_begun pending old after step = record { acts = given_up step.acts old; shows = λ e. absurd (false≢true e) }
 
 -- the last message could not be sent
-pub not_refused : (m : Machine) (c : ℕ) (message : IceMessage) (pending : ℕ → List ℕ) (after : Table) (old new : Option (List Effect)) → new ≡ adds old [] → Carried pending old new after (answered m c (Closes (Some message))) false
+pub not_refused : (m : Machine) (c : ℕ) (message : Message) (pending : ℕ → List ℕ) (after : Table) (old new : Option (List Effect)) → new ≡ adds old [] → Carried pending old new after (answered m c (Closes (Some message))) false
 not_refused m c message pending after old new none_sent = rw (none_sent ∙ adds-none old) (not_begun pending old after (answered m c (Closes (Some message))))
 
 -- a step that does nothing
@@ -113,12 +114,12 @@ joined_shows m c row table after absent new changes more shows =
     })
 
 -- a new connection is sent the manager's order
-pub joins : {X : Type 0} (m : Machine) (c : ℕ) (row : Row) (table after : Table) (old new : Option (List Effect)) (result : Result X ServeFault) → is_some (row_at table c) ≡ false → nat_lt (row_count table) live_limit ≡ true → new ≡ adds old (on_ok result (Sent c (canon Lsb (ByteOrder Lsb)) ∷ [])) → IsNewRow m.cookie row → ChangesRow table after c (Some row) → row_count after ≡ row_count table + 1 → Shows all_cut table m → Carried all_cut old new after (step m (Joined c)) (is_ok result)
+pub joins : {X : Type 0} (m : Machine) (c : ℕ) (row : Row) (table after : Table) (old new : Option (List Effect)) (result : Result X ServeFault) → is_some (row_at table c) ≡ false → nat_lt (row_count table) live_limit ≡ true → new ≡ adds old (on_ok result (Sent c (spelled (Ice (ByteOrder Lsb))) ∷ [])) → IsNewRow m.cookie row → ChangesRow table after c (Some row) → row_count after ≡ row_count table + 1 → Shows all_cut table m → Carried all_cut old new after (step m (Joined c)) (is_ok result)
 joins m c row table after old new result not_live room added is_new changes more shows =
     let absent : connection_of c m.connections ≡ None = not_live_none (row_at table c) (connection_of c m.connections) not_live (shows.rows c) in
     let room_so : nat_lt (length m.connections) live_limit ≡ true = rw (shows.counts.count) at room in
     rw (absent, room_so) (record {
-      acts = sent c (canon Lsb (ByteOrder Lsb)) old new result added;
+      acts = sent c (spelled (Ice (ByteOrder Lsb))) old new result added;
       shows = λ e. joined_shows m c row table after absent is_new changes more shows;
     })
 

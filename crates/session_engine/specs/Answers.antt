@@ -1,5 +1,7 @@
 -- What one part of a stream brings: a whole frame, or a header that states too much.
 use Rattle.std.specs.Prelude.{ℕ, ◌+◌, ◌%◌, ◌^◌, Bool, true, false, List, [], drop, slice_index, Option, Some, None, Result, Ok, Err, ◌==◌, ◌&&◌, nat_lt, not, is_some, if◌then◌else◌}
+use Rattle.std.specs.Option.{option_map}
+use Rattle.ice_values.specs.Fields.{ErrorFields}
 use Rattle.ice_values.specs.Numbers.{number}
 use Rattle.ice_values.specs.declared.numbers.Endian.{Endian}
 use Rattle.ice_values.specs.declared.numbers.Endian.TheVariants.{Lsb, Msb}
@@ -7,7 +9,6 @@ use Rattle.ice_values.specs.declared.severity.Severity.TheVariants.{CanContinue,
 use Rattle.ice_values.specs.declared.refusals.DecodeRefusal.{DecodeRefusal}
 use Rattle.ice_values.specs.declared.refusals.DecodeRefusal.TheVariants.{BadMinor, BadLength, BadValue, NoMemory}
 use Rattle.ice_framing.specs.declared.cutting.WholeFrame.{WholeFrame}
-use Rattle.ice_messages.specs.Messages.{IsTooLong}
 use Rattle.ice_messages.specs.Reading.{decode_at}
 use Rattle.ice_messages.specs.declared.message.IceMessage.{IceMessage}
 use Rattle.ice_messages.specs.declared.message.IceMessage.TheVariants.{Error, ByteOrder}
@@ -19,7 +20,10 @@ use Rattle.ice_setup.specs.declared.states.AnySetup.{AnySetup}
 use Rattle.ice_setup.specs.declared.states.AnySetup.TheVariants.{AwaitOrder as AtOrder}
 use Rattle.ice_setup.specs.declared.states.Moved.{Moved}
 use Rattle.ice_setup.specs.declared.states.Moved.TheVariants.{Goes, Ends, Close, Ask}
+use Rattle.xsmp_messages.specs.declared.message.XsmpMessage.TheVariants.{Error as XsmpError}
 use Rattle.session_engine.specs.Streams.{Part, Whole, TooMuch}
+use Rattle.session_engine.specs.declared.messages.Message.{Message}
+use Rattle.session_engine.specs.declared.messages.Message.TheVariants.{Ice, Xsmp}
 use Rattle.session_engine.specs.declared.answers.Answer.{Answer}
 use Rattle.session_engine.specs.declared.answers.Answer.TheVariants.{Stays, Closes}
 
@@ -71,11 +75,16 @@ abbrev pub frame_moved : AnySetup → ℕ → WholeFrame → Moved
 frame_moved (AtOrder s) sequence frame = first_moved s sequence frame.bytes
 frame_moved setup sequence frame = later_moved setup sequence frame.endian frame.bytes
 
+-- an Error about a header: of XSMP where the client's messages of XSMP have its major opcode, and else of ICE
+abbrev pub error_about : Bool → ErrorFields → Message
+error_about true error = Xsmp (XsmpError error)
+error_about false error = Ice (Error error)
+
 -- A header that states too much ends the connection, without an Error where its minor opcode is 0.
 abbrev pub oversize_answer : AnySetup → ℕ → List ℕ → Answer
 oversize_answer setup sequence header =
     if slice_index header 1 == 0 then Closes None
-    else Closes (Some (Error (blame FatalToConnection bad_length (named_in header sequence) [])))
+    else Closes (Some (error_about (is_opcode (opcode_of setup) (slice_index header 0)) (blame FatalToConnection bad_length (named_in header sequence) [])))
 
 -- What a part brings: where its connection stands then, and what is done about it.
 pub record Outcome : Type 0 where
@@ -84,8 +93,8 @@ pub record Outcome : Type 0 where
 
 -- A client that wants to close is closed. As long as nobody can register, that holds of one that speaks XSMP too.
 abbrev pub outcome_of : AnySetup → Moved → Outcome
-outcome_of before (Goes setup message) = record { setup = setup; answer = Stays message }
-outcome_of before (Ends message) = record { setup = before; answer = Closes message }
+outcome_of before (Goes setup message) = record { setup = setup; answer = Stays (option_map Ice message) }
+outcome_of before (Ends message) = record { setup = before; answer = Closes (option_map Ice message) }
 outcome_of before Close = record { setup = before; answer = Closes None }
 outcome_of before (Ask setup) = record { setup = setup; answer = Closes None }
 
@@ -97,12 +106,10 @@ outcome setup sequence (TooMuch header) = record { setup = setup; answer = overs
 abbrev pub sequence_after : ℕ → ℕ
 sequence_after count = (count + 1) % 2 ^ 32
 
--- What an answer says has a spelling that is not too long.
-abbrev pub CanBeSaid : Answer → Type 0
-CanBeSaid (Stays (Some message)) = ¬ (IsTooLong Lsb message)
-CanBeSaid (Stays None) = Unit {0}
-CanBeSaid (Closes (Some message)) = ¬ (IsTooLong Lsb message)
-CanBeSaid (Closes None) = Unit {0}
+-- what is said, if anything
+abbrev pub said_in : Answer → Option Message
+said_in (Stays message) = message
+said_in (Closes message) = message
 
 -- The connection stays live after the answer.
 abbrev pub KeepsLive : Answer → Type 0

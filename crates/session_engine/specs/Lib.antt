@@ -1,4 +1,5 @@
 pub mod Streams
+pub mod Messages
 pub mod Answers
 pub mod Cutting
 pub mod Machine

@@ -8,11 +8,12 @@ use Rattle.ice_values.specs.declared.numbers.Endian.TheVariants.{Lsb}
 use Rattle.ice_cookie.specs.declared.cookies.Cookie.{Cookie}
 use Rattle.ice_setup.specs.declared.states.AnySetup.{AnySetup}
 use Rattle.ice_setup.specs.declared.states.AnySetup.TheVariants.{AwaitOrder as AtOrder}
-use Rattle.ice_messages.specs.Messages.{canon}
-use Rattle.ice_messages.specs.declared.message.IceMessage.{IceMessage}
 use Rattle.ice_messages.specs.declared.message.IceMessage.TheVariants.{ByteOrder}
 use Rattle.session_engine.specs.Answers.{Outcome, outcome, sequence_after}
+use Rattle.session_engine.specs.Messages.{spelled}
 use Rattle.session_engine.specs.Streams.{Part, new_parts}
+use Rattle.session_engine.specs.declared.messages.Message.{Message}
+use Rattle.session_engine.specs.declared.messages.Message.TheVariants.{Ice}
 use Rattle.session_engine.specs.declared.answers.Answer.{Answer}
 use Rattle.session_engine.specs.declared.answers.Answer.TheVariants.{Stays, Closes}
 
@@ -78,16 +79,15 @@ stays m = record { acts = []; next = m }
 abbrev pub behind : List Act → Step → Step
 behind acts step = record { acts = acts ++ step.acts; next = step.next }
 
--- the manager writes its messages least significant byte first, with zeros in unused bytes
-abbrev pub sends : ℕ → IceMessage → List Act
-sends c message = Does (Sends c (canon Lsb message)) ∷ []
+abbrev pub sends : ℕ → Message → List Act
+sends c message = Does (Sends c (spelled message)) ∷ []
 
 -- a connection is closed, and no longer live
 abbrev pub shuts : Machine → ℕ → Step
 shuts m c = record { acts = Does (Shuts c) ∷ []; next = record m { connections = without c m.connections } }
 
 -- what is said, if anything
-abbrev pub says : ℕ → Option IceMessage → List Act
+abbrev pub says : ℕ → Option Message → List Act
 says c None = []
 says c (Some message) = sends c message
 
@@ -122,7 +122,7 @@ piece_for m c bytes (Some k) = parts_taken (record m { connections = changed (fe
 abbrev pub join_for : Machine → ℕ → Option Connection → Step
 join_for m c None =
     if nat_lt (length m.connections) live_limit
-    then record { acts = sends c (ByteOrder Lsb); next = record m { connections = m.connections ++ joined m.cookie c ∷ [] } }
+    then record { acts = sends c (Ice (ByteOrder Lsb)); next = record m { connections = m.connections ++ joined m.cookie c ∷ [] } }
     else record { acts = Does (Shuts c) ∷ []; next = m }
 join_for m c (Some k) = stays m
 

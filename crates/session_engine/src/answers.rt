@@ -5,25 +5,28 @@ ghost use Rattle.ice_framing.specs.Frames.{byte_limit};
 ghost use Rattle.ice_values.specs.declared.numbers.Endian.{Endian as AnyEndian};
 ghost use Rattle.ice_setup.specs.Setup.{moved as moved_by, CanBeSaid as MovesWithin};
 ghost use Rattle.ice_setup.specs.declared.states.AnySetup.{AnySetup as State};
-ghost use Rattle.session_engine.specs.Answers.{named_in, refuses, first_moved, read_moved, later_moved, frame_moved, is_opcode as is_opcode_of, is_ordered, oversize_answer, outcome_of, kept, kept_by, CanBeSaid};
+ghost use Rattle.session_engine.specs.Answers.{named_in, refuses, first_moved, read_moved, later_moved, frame_moved, is_opcode as is_opcode_of, is_ordered, error_about as error_about_of, oversize_answer, outcome_of, said_in, kept};
+ghost use Rattle.session_engine.specs.Messages.{CanBeSaid};
 
+use crate::messages::Message;
 use ice_framing::{Frame, Splitter};
 use ice_messages::{IceMessage, decode_ice};
 use ice_setup::{
     AnySetup, AwaitOrder, BAD_LENGTH, BAD_MAJOR, BAD_MINOR, BAD_STATE, BAD_VALUE, Moved, Offending,
     error_of, opcode_values, wrong_byte_values,
 };
-use ice_values::{DecodeRefusal, Endian, Severity, read_card32};
+use ice_values::{DecodeRefusal, Endian, ErrorBody, Severity, read_card32};
 use sm_world::{NoMemory, Octets};
 use std::alloc::Global;
+use xsmp_messages::XsmpMessage;
 
 /// What is done about one part of a client's stream.
 #[derive(Debug, Drop)]
 pub enum Answer {
     /// The message, if any, goes back, and the connection stays.
-    Stays(Option<IceMessage>),
+    Stays(Option<Message>),
     /// The message, if any, goes back, and the connection is closed.
-    Closes(Option<IceMessage>),
+    Closes(Option<Message>),
 }
 
 /// What an Error names of a frame.
@@ -191,20 +194,30 @@ pub fn take_frame(
 pub fn settle(moved: Moved) -> (Option<AnySetup>, Answer)
     ensures answer { (before : State) → result.1 ≡ (outcome_of before moved).answer }
     ensures setup { (before : State) → result.0 ≡ kept (outcome_of before moved) }
-    ensures said { MovesWithin moved → CanBeSaid result.1 }
+    ensures said { MovesWithin moved → CanBeSaid (said_in result.1) }
 {
     match moved {
-        Moved::Goes(setup, message) => (Some(setup), Answer::Stays(message)),
-        Moved::Ends(message) => (None, Answer::Closes(message)),
+        Moved::Goes(setup, message) => (Some(setup), Answer::Stays(message.map(Message::Ice))),
+        Moved::Ends(message) => (None, Answer::Closes(message.map(Message::Ice))),
         Moved::Close => (None, Answer::Closes(None)),
         Moved::Ask(_) => (None, Answer::Closes(None)),
     }
 }
 
+/// An Error of XSMP, or else of ICE.
+fn error_about(of_xsmp: bool, error: ErrorBody) -> Message
+    ensures { result ≡ error_about_of of_xsmp error }
+{
+    if of_xsmp {
+        return Message::Xsmp(XsmpMessage::Error(error));
+    }
+    Message::Ice(IceMessage::Error(error))
+}
+
 /// The answer to a header that states more than a frame may have.
 fn answer_oversize(alloc: Global, setup: &AnySetup, sequence: u32, header: &[u8; 8]) -> Answer
     ensures answer { result ≡ oversize_answer setup.now sequence header.now }
-    ensures said { CanBeSaid result }
+    ensures said { CanBeSaid (said_in result) }
 {
     let offending = named(sequence, header);
     if offending.minor == 0 {
@@ -212,7 +225,8 @@ fn answer_oversize(alloc: Global, setup: &AnySetup, sequence: u32, header: &[u8;
     }
     let none = Octets::new(alloc);
     let error = error_of(Severity::FatalToConnection, BAD_LENGTH, offending, none);
-    Answer::Closes(Some(IceMessage::Error(error)))
+    let opcode = header[0];
+    Answer::Closes(Some(error_about(is_opcode(setup.client_opcode(), opcode), error)))
 }
 
 /// The answer to the header that a splitter holds where it states too much.
@@ -224,7 +238,7 @@ pub fn answer_header(
 ) -> Answer
     requires { 8 ≤ length splitter.now.held }
     ensures answer { result ≡ oversize_answer setup.now sequence (take 8 splitter.now.held) }
-    ensures said { CanBeSaid result }
+    ensures said { CanBeSaid (said_in result) }
 {
     match splitter.header() {
         Some(header) => answer_oversize(alloc, setup, sequence, &header),

@@ -4,12 +4,14 @@
 mod answers;
 mod devices;
 mod fault;
+mod messages;
 mod row;
 mod serving;
 mod table;
 
 pub use answers::Answer;
 pub use fault::ServeFault;
+pub use messages::Message;
 pub use serving::serve;
 
 #[cfg(test)]

@@ -37,7 +37,8 @@ pub struct Answered {
 impl Row {
     ghost use Rattle.std.specs.Prelude.{◌≡◌, ◌≤◌, ℕ, length, IfOk, IfSome};
     ghost use Rattle.ice_framing.specs.Frames.{beginning};
-    ghost use Rattle.session_engine.specs.Answers.{CanBeSaid};
+    ghost use Rattle.session_engine.specs.Answers.{said_in};
+    ghost use Rattle.session_engine.specs.Messages.{CanBeSaid};
     ghost use Rattle.session_engine.specs.Cutting.{IsNewRow, CutsRow};
 
     /// A connection that just joined, of a session with this cookie.
@@ -56,7 +57,7 @@ impl Row {
     /// Takes the rest of a piece up to the end of the first frame. `None` where it completes none.
     pub fn cut(&mut self, alloc: Global, left: &[u8]) -> Result<Option<Answered>, NoMemory>
         ensures cuts { IfOk result (λ answered. CutsRow self.old left.now answered self.new) }
-        ensures said { IfOk result (λ answered. IfSome answered (λ part. CanBeSaid part.answer)) }
+        ensures said { IfOk result (λ answered. IfSome answered (λ part. CanBeSaid (said_in part.answer))) }
         ensures within { IfOk result (λ answered. IfSome answered (λ part. part.taken ≤ length left.now)) }
         ensures conn { self.new.conn ≡ self.old.conn }
     {

@@ -1,6 +1,7 @@
 ghost use Rattle.std.specs.Prelude.{◌≡◌, ◌≢◌, is_ok, IfOk, IfErr};
 ghost use Rattle.sm_world.specs.declared.events.Event.TheVariants.{Joined, Piece};
-ghost use Rattle.session_engine.specs.Answers.{CanBeSaid};
+ghost use Rattle.session_engine.specs.Answers.{said_in};
+ghost use Rattle.session_engine.specs.Messages.{CanBeSaid};
 ghost use Rattle.session_engine.specs.Carries.{Added, Serves, NotFallen, HasCause};
 ghost use Rattle.session_engine.specs.Machine.{Machine, answered, step, has_finish};
 ghost use Rattle.session_engine.specs.Rows.{Shows, ShowsFor, Carried, KeepsHeld, all_cut};
@@ -9,6 +10,7 @@ ghost use Rattle.session_engine.specs.Turns.{is_end};
 use crate::ServeFault;
 use crate::answers::Answer;
 use crate::devices::{hear, send, shut};
+use crate::messages::Message;
 use crate::table::Table;
 use ice_cookie::Cookie;
 use ice_messages::IceMessage;
@@ -31,7 +33,7 @@ fn perform<W: Links>(
     conn: Conn,
     answer: Answer,
 ) -> Result<(), ServeFault>
-    requires { CanBeSaid answer }
+    requires { CanBeSaid (said_in answer) }
     ensures carried { (m : Machine) (pending : _) → ShowsFor answer conn pending table.old m → Carried pending (W.outside world.old).told (W.outside world.new).told table.new (answered m conn answer) (is_ok result) }
     ensures held { KeepsHeld table.old table.new }
     ensures coming { (W.outside world.new).coming ≡ (W.outside world.old).coming }
@@ -107,7 +109,10 @@ fn join<W: Links>(
         return shut(world, conn);
     }
     match table.join(alloc, cookie, conn) {
-        Ok(()) => send(alloc, world, conn, &IceMessage::ByteOrder(Endian::Lsb)),
+        Ok(()) => {
+            let order = Message::Ice(IceMessage::ByteOrder(Endian::Lsb));
+            send(alloc, world, conn, &order)
+        }
         Err(NoMemory) => Err(ServeFault::NoMemory),
     }
 }

@@ -22,7 +22,8 @@ pub struct Table {
 
 impl Table {
     ghost use Rattle.std.specs.Prelude.{◌≡◌, ◌≢◌, ◌≤◌, ℕ, ◌+◌, length, None, Some, is_some, nat_lt, IfSome, IfOk, OnOk, if◌then◌else◌, not};
-    ghost use Rattle.session_engine.specs.Answers.{CanBeSaid};
+    ghost use Rattle.session_engine.specs.Answers.{said_in};
+    ghost use Rattle.session_engine.specs.Messages.{CanBeSaid};
     ghost use Rattle.session_engine.specs.Cutting.{IsNewRow};
     ghost use Rattle.session_engine.specs.Machine.{live_limit};
     ghost use Rattle.session_engine.specs.Rows.{row_at, row_count, ChangesRow, CutsAt};
@@ -74,7 +75,7 @@ impl Table {
         left: &[u8],
     ) -> Result<Option<Answered>, NoMemory>
         ensures cut { IfOk result (λ answered. CutsAt (row_at self.old conn) left.now answered (row_at self.new conn)) }
-        ensures said { IfOk result (λ answered. IfSome answered (λ part. CanBeSaid part.answer)) }
+        ensures said { IfOk result (λ answered. IfSome answered (λ part. CanBeSaid (said_in part.answer))) }
         ensures within { IfOk result (λ answered. IfSome answered (λ part. part.taken ≤ length left.now)) }
         ensures others { OnOk result ((q : ℕ) → q ≢ conn → row_at self.new q ≡ row_at self.old q) }
         ensures count { OnOk result (row_count self.new ≡ row_count self.old) }

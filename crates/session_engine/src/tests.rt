@@ -3,11 +3,14 @@ ghost use Rattle.std.specs.List.{AllByRecursion};
 ghost use Rattle.sm_world.specs.Events.{HasPieceSize};
 
 use crate::{ServeFault, serve};
+use ice_cookie::Cookie;
 use sm_world::{Effect, Event, EventList, MemWorld, NoMemory, NumberList, Octets, SteadyWorld};
 use std::alloc::Global;
 use std::fmt::Write;
 use std::process::Abort;
 use std::test::Fail;
+
+const COOKIE: Cookie = Cookie([7; 16]);
 
 /// A ByteOrder and a Ping.
 const CLIENT: [u8; 16] = [0, 1, 0, 0, 0, 0, 0, 0, 0, 9, 0, 0, 0, 0, 0, 0];
@@ -88,14 +91,14 @@ fn expect_served(
     requires { AllByRecursion HasPieceSize events }
 {
     let mut world = steady_world(rt.alloc(), events)?;
-    assert_eq!(rt; serve(rt.alloc(), &mut world, 40), Ok(()));
+    assert_eq!(rt; serve(rt.alloc(), &mut world, COOKIE, 40), Ok(()));
     expect_done(rt, world.effects(), want)
 }
 
 /// Serves until the turns are spent.
 fn expect_spent(rt: &(impl Abort + Alloc<A = Global>), turns: u64, want: &str) -> Result<(), Fail> {
     let mut world = steady_world(rt.alloc(), at_once(rt.alloc(), &CLIENT)?)?;
-    let served = serve(rt.alloc(), &mut world, turns);
+    let served = serve(rt.alloc(), &mut world, COOKIE, turns);
     assert_eq!(rt; served, Err(ServeFault::Spent));
     expect_done(rt, world.effects(), want)
 }
@@ -128,7 +131,7 @@ fn a_refused_call_is_a_fault(rt: HostRuntime) -> Result<(), Fail> {
         Octets::new(alloc),
         failing,
     )?;
-    let served = serve(alloc, &mut world, 9);
+    let served = serve(alloc, &mut world, COOKIE, 9);
     assert_eq!(rt; served, Err(ServeFault::LinkFault));
     assert_eq!(rt; world.effects().len(), 1);
     Ok(())

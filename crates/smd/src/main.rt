@@ -1,14 +1,18 @@
 //! `smd`, the session manager.
 #![tactic(auto)]
 
+ghost use Rattle.std.specs.Prelude.{◌≤◌, length, IfOk};
+
 mod adapter;
 
 use adapter::StandardConsole;
-use sm_world::Console;
-use smd_app::smd_main;
+use ice_cookie::Cookie;
+use sm_world::{Console, Octets};
+use smd_app::{Identity, smd_main};
 use std::alloc::Global;
 use std::io::ErrorKind;
 use std::process::ExitCode;
+use std::random::RandomSource;
 use std::{env, io};
 
 const HELP: &str = "smd, the session manager\n\n\
@@ -42,21 +46,41 @@ fn own_text(words: &[String]) -> Option<&'static str> {
     }
 }
 
+/// Who this session manager is: a cookie of random numbers, on the host that it runs on.
+fn identity(rt: &HostRuntime) -> io::Result<Identity>
+    ensures { IfOk result (λ identity. length identity.host ≤ 255) }
+{
+    let mut cookie = [0; 16];
+    rt.fill_bytes(&mut cookie)?;
+    Ok(Identity {
+        cookie: Cookie(cookie),
+        host: Octets::from_vec(Vec::from_slice(rt.alloc(), b"localhost")?),
+    })
+}
+
 /// The status of a run with these words.
-fn answer(alloc: Global, words: &[String], world: &mut StandardConsole) -> u8 {
+fn answer(
+    alloc: Global,
+    words: &[String],
+    world: &mut StandardConsole,
+    identity: Identity,
+) -> u8
+    requires { length identity.host ≤ 255 }
+{
     match own_text(words) {
         Some(text) if world.print(text.as_bytes()).is_ok() => 0,
         Some(_) => 6,
-        None => smd_main(alloc, words, world, u64::MAX),
+        None => smd_main(alloc, words, world, identity, u64::MAX),
     }
 }
 
 fn main(rt: HostRuntime) -> io::Result<ExitCode> {
     let alloc = rt.alloc();
     let words = read_words(&rt);
+    let identity = identity(&rt)?;
     let mut world = StandardConsole::new(rt);
     let status = match words {
-        Ok(words) => answer(alloc, words.as_slice(), &mut world),
+        Ok(words) => answer(alloc, words.as_slice(), &mut world, identity),
         // Nothing else keeps the words from being read.
         Err(_) => {
             let _ = world.print(b"smd: no memory\n");

@@ -6,8 +6,19 @@ use Rattle.std.proofs.lemmas.Bool.{cases_lt, false≢true}
 use Rattle.sm_world.specs.declared.events.Event.{Event}
 use Rattle.sm_world.specs.declared.events.Event.TheVariants.{End}
 use Rattle.session_engine.specs.Carries.{next_events}
-use Rattle.session_engine.specs.Machine.{Act, Does, Finish, Machine, Came, Did, start, step, script, script_from, run, run_from, deeds_in, has_finish}
-use Rattle.smd_app.specs.Rehearsals.{with_end, ends_within}
+use Rattle.session_engine.specs.Machine.{Act, Does, Finish, Machine, Came, Did, Item, start as start_with, step, script_from, run_from, deeds_in, has_finish}
+use Rattle.session_engine.specs.Carries.{script as script_with, run as run_with}
+use Rattle.smd_app.specs.Rehearsals.{rehearsal_cookie, with_end, ends_within}
+
+-- the machine of a rehearsal
+abbrev pub start : Machine
+start = start_with rehearsal_cookie
+
+abbrev pub script : List Event → List Act
+script events = script_with rehearsal_cookie events
+
+abbrev pub run : List Event → List Item
+run events = run_with rehearsal_cookie events
 
 -- Finish in two lists of acts
 has_finish-append : (xs ys : List Act) → has_finish (xs ++ ys) ≡ (if has_finish xs then true else has_finish ys)

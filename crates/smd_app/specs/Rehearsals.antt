@@ -2,12 +2,18 @@
 use Rattle.std.specs.Prelude.{◌≡◌, ℕ, ◌+◌, ◌≤◌, Bool, true, false, List, [], ◌∷◌, ◌++◌, length, take}
 use Rattle.sm_world.specs.declared.events.Event.{Event}
 use Rattle.sm_world.specs.declared.events.Event.TheVariants.{End}
-use Rattle.session_engine.specs.Machine.{script, run, has_finish}
+use Rattle.ice_cookie.specs.declared.cookies.Cookie.{Cookie}
+use Rattle.session_engine.specs.Carries.{script, run}
+use Rattle.session_engine.specs.Machine.{has_finish}
 use Rattle.smd_app.specs.Input.{front}
 use Rattle.smd_app.specs.Script.{ScriptSays}
 use Rattle.smd_app.specs.Trace.{text}
 use Rattle.smd_app.specs.declared.script.TheConstants.{SCRIPT_LIMIT}
 use Rattle.smd_app.specs.declared.rehearsal.Rehearsal.{Rehearsal}
+
+-- the cookie of each rehearsal
+abbrev pub rehearsal_cookie : Cookie
+rehearsal_cookie = record { 0 = 0 ∷ 1 ∷ 2 ∷ 3 ∷ 4 ∷ 5 ∷ 6 ∷ 7 ∷ 8 ∷ 9 ∷ 10 ∷ 11 ∷ 12 ∷ 13 ∷ 14 ∷ 15 ∷ [] }
 
 -- what is read as the script: of one that is too long, one byte more than it can have
 unfoldable pub script_of : List ℕ → List ℕ
@@ -19,7 +25,7 @@ with_end events = events ++ End ∷ []
 
 -- one of the first so many events ends the run
 abbrev pub ends_within : ℕ → List Event → Bool
-ends_within turns events = has_finish (script (take turns (with_end events)))
+ends_within turns events = has_finish (script rehearsal_cookie (take turns (with_end events)))
 
 -- The script was read to its end, and its run came to its own end within the turns.
 pub record Finishes (bytes : List ℕ) (turns : ℕ) (events : List Event) : Type 0 where
@@ -34,11 +40,11 @@ pub record Outlasts (bytes : List ℕ) (turns : ℕ) (events : List Event) : Typ
 
 -- the lines of the whole run
 abbrev pub whole_trace : List Event → List ℕ
-whole_trace events = text (run (with_end events))
+whole_trace events = text (run rehearsal_cookie (with_end events))
 
 -- the lines for the first events, as many as there were turns
 abbrev pub first_trace : ℕ → List Event → List ℕ
-first_trace turns events = text (run (take turns events))
+first_trace turns events = text (run rehearsal_cookie (take turns events))
 
 -- whether the run came to its end, and its lines
 pub record Rehearses (events : List Event) (turns : ℕ) (rehearsal : Rehearsal) : Type 0 where

@@ -3,6 +3,7 @@
 
 mod console;
 mod fault;
+mod identity;
 mod laws;
 mod program;
 mod rehearsal;
@@ -11,5 +12,6 @@ mod script;
 mod tests;
 mod trace;
 
+pub use identity::Identity;
 pub use laws::statuses_exclude_each_other;
 pub use program::smd_main;

@@ -1,9 +1,10 @@
-ghost use Rattle.std.specs.Prelude.{ℕ, List, map, string_bytes, IsTrue, ◌↔◌};
+ghost use Rattle.std.specs.Prelude.{ℕ, List, length, map, string_bytes, IsTrue, ◌↔◌, ◌≤◌};
 ghost use Rattle.session_engine.specs.Carries.{Added, NotFallen};
 ghost use Rattle.smd_app.specs.Statuses.{AreRehearse, Runs, Answers};
 
 use crate::console::read_input;
 use crate::fault::Fault;
+use crate::identity::Identity;
 use crate::rehearsal::run_in_memory;
 use crate::script::{SCRIPT_LIMIT, read_script};
 use sm_world::Console;
@@ -51,12 +52,22 @@ fn run_words<W: Console>(
 
 /// Runs `smd` with these words, which leave out the program's name. The words are `rehearse`: a
 /// script is read from the console, and the trace of its run is printed. At most `turns` events
-/// are taken. The answer is the program's status.
-pub fn smd_main<W: Console>(alloc: Global, words: &[String], world: &mut W, turns: u64) -> u8
+/// are taken. The answer is the program's status. The identity is what `smd` shows of itself to its
+/// clients; a rehearsal asks for none.
+pub fn smd_main<W: Console>(
+    alloc: Global,
+    words: &[String],
+    world: &mut W,
+    identity: Identity,
+    turns: u64,
+) -> u8
+    requires { length identity.host ≤ 255 }
     // What each status says of the script, and all that is printed at it.
     ensures answers { Added (W.outside world.old).told (W.outside world.new).told (Answers (map string_bytes words.now) (W.outside world.old) (W.outside world.new) turns result) }
     ensures counts { NotFallen (W.outside world.old).faults (W.outside world.new).faults }
 {
+    // No words ask for it yet: a rehearsal has a cookie of its own.
+    let _ = identity;
     match run_words(alloc, words, world, turns) {
         Ok(()) => 0,
         Err(fault) => {

@@ -4,9 +4,13 @@ ghost use Rattle.sm_world.specs.Events.{HasPieceSize};
 ghost use Rattle.smd_app.specs.Rehearsals.{Rehearses};
 
 use crate::trace::trace_text;
+use ice_cookie::Cookie;
 use session_engine::{ServeFault, serve};
 use sm_world::{EventList, NoMemory, Octets, SteadyWorld};
 use std::alloc::Global;
+
+/// The cookie of each rehearsal, so that a script can show it.
+const REHEARSAL_COOKIE: Cookie = Cookie([0, 1, 2, 3, 4, 5, 6, 7, 8, 9, 10, 11, 12, 13, 14, 15]);
 
 /// What a run on a world in memory shows.
 #[derive(Debug, Drop)]
@@ -23,7 +27,7 @@ pub fn run_in_memory(alloc: Global, events: EventList, turns: u64) -> Result<Reh
     ensures { IfOk result (Rehearses events turns) }
 {
     let mut world = SteadyWorld::new(alloc, events, Octets::new(alloc), Octets::new(alloc))?;
-    let finished = match serve(alloc, &mut world, turns) {
+    let finished = match serve(alloc, &mut world, REHEARSAL_COOKIE, turns) {
         Ok(()) => true,
         Err(ServeFault::Spent) => false,
         Err(ServeFault::NoMemory) => return Err(NoMemory),
