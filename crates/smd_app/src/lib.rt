@@ -9,6 +9,8 @@ mod program;
 mod rehearsal;
 mod script;
 #[cfg(test)]
+mod rows;
+#[cfg(test)]
 mod tests;
 mod trace;
 

@@ -1,4 +1,7 @@
-use crate::smd_main;
+ghost use Rattle.std.specs.Prelude.{◌≤◌, length};
+
+use crate::{Identity, smd_main};
+use ice_cookie::Cookie;
 use sm_world::{Effect, EventList, MemWorld, NoMemory, NumberList, Octets, SteadyWorld};
 use std::alloc::Global;
 use std::process::Abort;
@@ -6,9 +9,19 @@ use std::test::Fail;
 
 /// What a call of `smd` printed, a bar behind each text, and its status.
 #[derive(Drop)]
-struct Answer {
+pub struct Answer {
     printed: Vec<u8>,
     status: u8,
+}
+
+/// An identity that a rehearsal doesn't ask for.
+fn nobody(alloc: Global) -> Identity
+    ensures { length result.host ≤ 255 }
+{
+    Identity {
+        cookie: Cookie([255; 16]),
+        host: Octets::new(alloc),
+    }
 }
 
 fn printed(alloc: Global, effects: &[Effect]) -> Result<Vec<u8>, NoMemory> {
@@ -37,16 +50,16 @@ fn split_words(alloc: Global, text: &str) -> Result<Vec<String>, Fail> {
     Ok(words)
 }
 
-fn rehearsed(alloc: Global, words: &str, script: &[u8], turns: u64) -> Result<Answer, Fail> {
+pub fn rehearsed(alloc: Global, words: &str, script: &[u8], turns: u64) -> Result<Answer, Fail> {
     let words = split_words(alloc, words)?;
     let input = Octets::from_slice(alloc, script)?;
     let mut world = SteadyWorld::new(alloc, EventList::new(alloc), input, Octets::new(alloc))?;
-    let status = smd_main(alloc, words.as_slice(), &mut world, turns);
+    let status = smd_main(alloc, words.as_slice(), &mut world, nobody(alloc), turns);
     let printed = printed(alloc, world.effects())?;
     Ok(Answer { printed, status })
 }
 
-fn expect_answer(
+pub fn expect_answer(
     rt: &(impl Abort + Alloc<A = Global>),
     answer: &Answer,
     status: u8,
@@ -354,7 +367,7 @@ fn calls_that_fail(rt: HostRuntime) -> Result<(), Fail> {
         numbers.push(failing)?;
         let events = EventList::new(alloc);
         let mut world = MemWorld::new(alloc, events, input, Octets::new(alloc), numbers)?;
-        let given = smd_main(alloc, words.as_slice(), &mut world, turns);
+        let given = smd_main(alloc, words.as_slice(), &mut world, nobody(alloc), turns);
         let answer = Answer {
             printed: printed(alloc, world.effects())?,
             status: given,
