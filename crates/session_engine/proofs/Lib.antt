@@ -8,3 +8,4 @@ pub mod Tables
 pub mod Running
 pub mod Loop
 pub mod Events
+pub mod Limits

@@ -4,6 +4,7 @@
 mod answers;
 mod devices;
 mod fault;
+mod laws;
 mod messages;
 mod row;
 mod serving;
@@ -11,6 +12,7 @@ mod table;
 
 pub use answers::Answer;
 pub use fault::ServeFault;
+pub use laws::at_most_64_live;
 pub use messages::Message;
 pub use serving::serve;
 
