@@ -77,8 +77,8 @@ fn listed_size<T: Spelled>(items: &[T]) -> Option<usize>
     ensures fits { OnSome result (IsListed T.is_spelled items.now) }
 {
     let mut total = 8;
-    for item in items {
-        total = within_limit(total + item.size()?)?;
+    for value in items {
+        total = within_limit(total + value.size()?)?;
     }
     Some(total)
 }

@@ -5,6 +5,8 @@ mod decoding;
 mod encoding;
 mod lengths;
 mod message;
+#[cfg(test)]
+mod tests;
 
 pub use decoding::decode_xsmp;
 pub use encoding::encode_xsmp;

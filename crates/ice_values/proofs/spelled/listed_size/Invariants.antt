@@ -4,6 +4,6 @@ use Rattle.std.specs.Prelude.{flat_map}
 use Rattle.ice_values.specs.declared.numbers.Endian.{Endian}
 use Rattle.ice_values.proofs.spelled.listed_size.Given as goal
 
-abbrev pub invariant-loop-item : goal.invariant-loop-item
-invariant-loop-item g l = ((e : Endian) → l.total ≡ 8 + length (flat_map (g.T.Spelled.cells e) (take l.item-index l.items)))
-    × (8 + l.item-index * 8 ≤ l.total) × (l.total ≤ 65536) × AllByRecursion g.T.Spelled.is_spelled (take l.item-index l.items)
+abbrev pub invariant-loop-value : goal.invariant-loop-value
+invariant-loop-value g l = ((e : Endian) → l.total ≡ 8 + length (flat_map (g.T.Spelled.cells e) (take l.value-index l.items)))
+    × (8 + l.value-index * 8 ≤ l.total) × (l.total ≤ 65536) × AllByRecursion g.T.Spelled.is_spelled (take l.value-index l.items)
