@@ -67,7 +67,7 @@ pub fn smd_main<W: Console>(
     ensures counts { NotFallen (W.outside world.old).faults (W.outside world.new).faults }
 {
     // No words ask for it yet: a rehearsal has a cookie of its own.
-    let _ = identity;
+    drop(identity);
     match run_words(alloc, words, world, turns) {
         Ok(()) => 0,
         Err(fault) => {
