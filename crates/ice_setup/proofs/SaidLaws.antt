@@ -1,5 +1,5 @@
 -- Which answers have a spelling that is not too long.
-use Rattle.std.proofs.Common.{refl, lit≤, ◌≡◌, ℕ, ◌+◌, ◌<◌, ◌≤◌, List, ◌++◌, Option, Bool, length, ◌∙◌, arith, inl, inr, length-append, length-drop, drop}
+use Rattle.std.proofs.Common.{refl, lit≤, ◌≡◌, ℕ, ◌+◌, ◌<◌, ◌≤◌, List, ◌++◌, Option, Bool, length, ap, ◌∙◌, arith, inl, inr, length-append, length-drop, drop}
 use Rattle.ice_values.specs.Cells.{Cells, byte, free, zeros, pad_len}
 use Rattle.ice_values.specs.Fields.{ErrorFields, text16, texts, versions}
 use Rattle.ice_values.specs.declared.numbers.Endian.{Endian}
@@ -24,11 +24,10 @@ error_said severity class offending values few = λ too_long.
     let error : ErrorFields = blame severity class offending values in
     elim too_long [ inl long_part ↦ long_part | inr long ↦ omega (arith, length-error_body Lsb error, few) ]
 
-length-text_values : (text : List ℕ) → length (text_values text) ≡ length (text16 Lsb text) + pad_len (length (text16 Lsb text)) 8
+pub length-text_values : (text : List ℕ) → length (text_values text) ≡ length (text16 Lsb text) + pad_len (length (text16 Lsb text)) 8
 length-text_values text =
-    let n = length-zeros (text16 Lsb text) in
-    length-append (zeros (text16 Lsb text)) (zeros (free (pad_len (length (zeros (text16 Lsb text))) 8)))
-    ∙ rw (length-zeros (free (pad_len (length (zeros (text16 Lsb text))) 8)), length-free (pad_len (length (zeros (text16 Lsb text))) 8), n) refl
+    let padding : ℕ = pad_len (length (text16 Lsb text)) 8 in
+    length-zeros (text16 Lsb text ++ free padding) ∙ length-append (text16 Lsb text) (free padding) ∙ ap (λ (n : ℕ). length (text16 Lsb text) + n) (length-free padding)
 
 parts_fit : (front p v r n o : Cells) → length front + length p + length v + length r ≤ length (front ++ p ++ v ++ r ++ n ++ o)
 parts_fit front p v r n o = omega (arith, length-append {A = Option ℕ})

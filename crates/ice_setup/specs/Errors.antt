@@ -51,7 +51,7 @@ opcode_values opcode = opcode ∷ zeros (free 7)
 
 -- a text and zeros to a unit;
 abbrev pub text_values : List ℕ → List ℕ
-text_values text = zeros (text16 Lsb text) ++ zeros (free (pad_len (length (zeros (text16 Lsb text))) 8))
+text_values text = zeros (text16 Lsb text ++ free (pad_len (length (text16 Lsb text)) 8))
 
 -- and for one byte its offset, a length of 1, the byte, and zeros to a unit.
 abbrev pub wrong_byte : ℕ → List ℕ → List ℕ

@@ -1,8 +1,8 @@
 //! The table of the set-up: every state against every message, and the worked rows to the byte.
 
 use crate::{
-    AnySetup, AwaitOrder, BAD_LENGTH, BAD_MAJOR, BAD_VALUE, Moved, Offending, error_of,
-    opcode_values, spelled_messages_fit, states_follow_on, text_values, wrong_byte_values,
+    AnySetup, AwaitOrder, BAD_LENGTH, BAD_MAJOR, Moved, Offending, error_of, opcode_values,
+    spelled_messages_fit, states_follow_on, text_values, wrong_byte_values,
 };
 use ice_cookie::Cookie;
 use ice_messages::{IceMessage, decode_ice, encode_ice, minor};
@@ -85,6 +85,13 @@ const MESSAGES: [&[u8]; 13] = [
     b"\x00\x0c\x00\x00\x00\x00\x00\x00",
 ];
 
+/// The frames that lead to AwaitSetup, to AwaitProtocol, and to Ready with opcode 5.
+const ORDERED: &[&[u8]] = &[ORDER];
+
+const JOINED: &[&[u8]] = &[ORDER, CONNECT, REPLY];
+
+const SPEAKING: &[&[u8]] = &[ORDER, CONNECT, REPLY, PROTOCOL_5, REPLY];
+
 /// A state by the frames that lead to it, and what each message of MESSAGES brings there: the state
 /// behind it, or the end, and the answer. An answer is its minor opcode, or for an Error its class
 /// and its severity.
@@ -113,7 +120,7 @@ const ROWS: [Row; 6] = [
         ],
     },
     Row {
-        path: &[ORDER],
+        path: ORDERED,
         cells: [
             "AwaitSetup",
             "ends 8001.2",
@@ -149,7 +156,7 @@ const ROWS: [Row; 6] = [
         ],
     },
     Row {
-        path: &[ORDER, CONNECT, REPLY],
+        path: JOINED,
         cells: [
             "AwaitProtocol",
             "AwaitProtocol 8001.0",
@@ -185,7 +192,7 @@ const ROWS: [Row; 6] = [
         ],
     },
     Row {
-        path: &[ORDER, CONNECT, REPLY, PROTOCOL_5, REPLY],
+        path: SPEAKING,
         cells: [
             "Ready",
             "Ready 8001.0",
@@ -298,104 +305,125 @@ fn expect_cell(
     Ok(())
 }
 
-fn expect_row(rt: &(impl Abort + Alloc<A = Global>), row: &Row) -> Result<(), Fail> {
-    for (frame, want) in MESSAGES.iter().zip(&row.cells) {
+fn expect_row(
+    rt: &(impl Abort + Alloc<A = Global>),
+    row: &Row,
+    messages: &[&[u8]],
+) -> Result<(), Fail> {
+    for (frame, want) in messages.iter().zip(&row.cells) {
         expect_cell(rt, row.path, frame, want)?;
+    }
+    Ok(())
+}
+
+fn expect_rows(
+    rt: &(impl Abort + Alloc<A = Global>),
+    rows: &[Row],
+    messages: &[&[u8]],
+) -> Result<(), Fail> {
+    for row in rows {
+        expect_row(rt, row, messages)?;
     }
     Ok(())
 }
 
 #[test]
 fn every_state_takes_every_message(rt: HostRuntime) -> Result<(), Fail> {
-    for row in &ROWS {
-        expect_row(&rt, row)?;
+    expect_rows(&rt, &ROWS, &MESSAGES)
+}
+
+/// An offer behind a path, and what comes.
+struct OfferRow {
+    path: &'static [&'static [u8]],
+    frame: &'static [u8],
+    want: &'static str,
+}
+
+const OFFERS: [OfferRow; 12] = [
+    // Without the cookie's name.
+    OfferRow {
+        path: ORDERED,
+        frame: b"\x00\x02\x01\x01\x05\x00\x00\x00\x00\x00\x00\x00\x00\x00\x00\x00\x03\x00MIT\x00\x00\x00\x03\x001.0\x00\x00\x00\x04\x00NOPE\x00\x00\x01\x00\x00\x00\x00\x00\x00\x00",
+        want: "ends 1.2",
+    },
+    // Authentication is asked for.
+    OfferRow {
+        path: ORDERED,
+        frame: b"\x00\x02\x01\x01\x06\x00\x00\x00\x01\x00\x00\x00\x00\x00\x00\x00\x03\x00MIT\x00\x00\x00\x03\x001.0\x00\x00\x00\x12\x00MIT-MAGIC-COOKIE-1\x01\x00\x00\x00",
+        want: "AwaitCookie 3",
+    },
+    // Without a version 1.0.
+    OfferRow {
+        path: ORDERED,
+        frame: b"\x00\x02\x02\x01\x07\x00\x00\x00\x00\x00\x00\x00\x00\x00\x00\x00\x03\x00MIT\x00\x00\x00\x03\x001.0\x00\x00\x00\x12\x00MIT-MAGIC-COOKIE-1\x01\x00\x01\x00\x02\x00\x00\x00\x00\x00\x00\x00",
+        want: "ends 2.2",
+    },
+    // Opcode 0.
+    OfferRow {
+        path: JOINED,
+        frame: b"\x00\x07\x00\x00\x07\x00\x00\x00\x01\x01\x00\x00\x00\x00\x00\x00\x04\x00XSMP\x00\x00\x03\x00MIT\x00\x00\x00\x03\x001.0\x00\x00\x00\x12\x00MIT-MAGIC-COOKIE-1\x01\x00\x00\x00",
+        want: "AwaitProtocol 7.1",
+    },
+    // Another protocol.
+    OfferRow {
+        path: JOINED,
+        frame: b"\x00\x07\x05\x00\x07\x00\x00\x00\x01\x01\x00\x00\x00\x00\x00\x00\x04\x00XSMQ\x00\x00\x03\x00MIT\x00\x00\x00\x03\x001.0\x00\x00\x00\x12\x00MIT-MAGIC-COOKIE-1\x01\x00\x00\x00",
+        want: "AwaitProtocol 8.1",
+    },
+    // Without a version.
+    OfferRow {
+        path: JOINED,
+        frame: b"\x00\x07\x05\x01\x07\x00\x00\x00\x00\x01\x00\x00\x00\x00\x00\x00\x04\x00XSMP\x00\x00\x03\x00MIT\x00\x00\x00\x03\x001.0\x00\x00\x00\x12\x00MIT-MAGIC-COOKIE-1\x00\x00\x00\x00",
+        want: "AwaitProtocol 2.1",
+    },
+    // Wants authentication, without the cookie's name.
+    OfferRow {
+        path: JOINED,
+        frame: b"\x00\x07\x05\x01\x06\x00\x00\x00\x01\x01\x00\x00\x00\x00\x00\x00\x04\x00XSMP\x00\x00\x03\x00MIT\x00\x00\x00\x03\x001.0\x00\x00\x00\x04\x00NOPE\x00\x00\x01\x00\x00\x00\x00\x00\x00\x00",
+        want: "AwaitProtocol 1.1",
+    },
+    // Without names.
+    OfferRow {
+        path: JOINED,
+        frame: b"\x00\x07\x05\x00\x05\x00\x00\x00\x01\x00\x00\x00\x00\x00\x00\x00\x04\x00XSMP\x00\x00\x03\x00MIT\x00\x00\x00\x03\x001.0\x00\x00\x00\x01\x00\x00\x00\x00\x00\x00\x00",
+        want: "Ready 8",
+    },
+    // Opcode 0.
+    OfferRow {
+        path: SPEAKING,
+        frame: b"\x00\x07\x00\x00\x04\x00\x00\x00\x00\x00\x00\x00\x00\x00\x00\x00\x04\x00XSMQ\x00\x00\x03\x00MIT\x00\x00\x00\x03\x001.0\x00\x00\x00",
+        want: "Ready 7.1",
+    },
+    // Its own opcode.
+    OfferRow {
+        path: SPEAKING,
+        frame: b"\x00\x07\x05\x00\x04\x00\x00\x00\x00\x00\x00\x00\x00\x00\x00\x00\x04\x00XSMQ\x00\x00\x03\x00MIT\x00\x00\x00\x03\x001.0\x00\x00\x00",
+        want: "Ready 7.1",
+    },
+    // Another protocol.
+    OfferRow {
+        path: SPEAKING,
+        frame: b"\x00\x07\x01\x00\x04\x00\x00\x00\x00\x00\x00\x00\x00\x00\x00\x00\x04\x00XSMQ\x00\x00\x03\x00MIT\x00\x00\x00\x03\x001.0\x00\x00\x00",
+        want: "Ready 8.1",
+    },
+    // Again.
+    OfferRow {
+        path: SPEAKING,
+        frame: b"\x00\x07\x01\x00\x04\x00\x00\x00\x00\x00\x00\x00\x00\x00\x00\x00\x04\x00XSMP\x00\x00\x03\x00MIT\x00\x00\x00\x03\x001.0\x00\x00\x00",
+        want: "Ready 6.1",
+    },
+];
+
+fn expect_offers(rt: &(impl Abort + Alloc<A = Global>), offers: &[OfferRow]) -> Result<(), Fail> {
+    for offer in offers {
+        expect_cell(rt, offer.path, offer.frame, offer.want)?;
     }
     Ok(())
 }
 
-/// Offers behind the path of a row: the row, the frame and what comes.
-const OFFERS: [(usize, &[u8], &str); 12] = [
-    // Without the cookie's name.
-    (
-        1,
-        b"\x00\x02\x01\x01\x05\x00\x00\x00\x00\x00\x00\x00\x00\x00\x00\x00\x03\x00MIT\x00\x00\x00\x03\x001.0\x00\x00\x00\x04\x00NOPE\x00\x00\x01\x00\x00\x00\x00\x00\x00\x00",
-        "ends 1.2",
-    ),
-    // Authentication is asked for.
-    (
-        1,
-        b"\x00\x02\x01\x01\x06\x00\x00\x00\x01\x00\x00\x00\x00\x00\x00\x00\x03\x00MIT\x00\x00\x00\x03\x001.0\x00\x00\x00\x12\x00MIT-MAGIC-COOKIE-1\x01\x00\x00\x00",
-        "AwaitCookie 3",
-    ),
-    // Without a version 1.0.
-    (
-        1,
-        b"\x00\x02\x02\x01\x07\x00\x00\x00\x00\x00\x00\x00\x00\x00\x00\x00\x03\x00MIT\x00\x00\x00\x03\x001.0\x00\x00\x00\x12\x00MIT-MAGIC-COOKIE-1\x01\x00\x01\x00\x02\x00\x00\x00\x00\x00\x00\x00",
-        "ends 2.2",
-    ),
-    // Opcode 0.
-    (
-        3,
-        b"\x00\x07\x00\x00\x07\x00\x00\x00\x01\x01\x00\x00\x00\x00\x00\x00\x04\x00XSMP\x00\x00\x03\x00MIT\x00\x00\x00\x03\x001.0\x00\x00\x00\x12\x00MIT-MAGIC-COOKIE-1\x01\x00\x00\x00",
-        "AwaitProtocol 7.1",
-    ),
-    // Another protocol.
-    (
-        3,
-        b"\x00\x07\x05\x00\x07\x00\x00\x00\x01\x01\x00\x00\x00\x00\x00\x00\x04\x00XSMQ\x00\x00\x03\x00MIT\x00\x00\x00\x03\x001.0\x00\x00\x00\x12\x00MIT-MAGIC-COOKIE-1\x01\x00\x00\x00",
-        "AwaitProtocol 8.1",
-    ),
-    // Without a version.
-    (
-        3,
-        b"\x00\x07\x05\x01\x07\x00\x00\x00\x00\x01\x00\x00\x00\x00\x00\x00\x04\x00XSMP\x00\x00\x03\x00MIT\x00\x00\x00\x03\x001.0\x00\x00\x00\x12\x00MIT-MAGIC-COOKIE-1\x00\x00\x00\x00",
-        "AwaitProtocol 2.1",
-    ),
-    // Wants authentication, without the cookie's name.
-    (
-        3,
-        b"\x00\x07\x05\x01\x06\x00\x00\x00\x01\x01\x00\x00\x00\x00\x00\x00\x04\x00XSMP\x00\x00\x03\x00MIT\x00\x00\x00\x03\x001.0\x00\x00\x00\x04\x00NOPE\x00\x00\x01\x00\x00\x00\x00\x00\x00\x00",
-        "AwaitProtocol 1.1",
-    ),
-    // Without names.
-    (
-        3,
-        b"\x00\x07\x05\x00\x05\x00\x00\x00\x01\x00\x00\x00\x00\x00\x00\x00\x04\x00XSMP\x00\x00\x03\x00MIT\x00\x00\x00\x03\x001.0\x00\x00\x00\x01\x00\x00\x00\x00\x00\x00\x00",
-        "Ready 8",
-    ),
-    // Opcode 0.
-    (
-        5,
-        b"\x00\x07\x00\x00\x04\x00\x00\x00\x00\x00\x00\x00\x00\x00\x00\x00\x04\x00XSMQ\x00\x00\x03\x00MIT\x00\x00\x00\x03\x001.0\x00\x00\x00",
-        "Ready 7.1",
-    ),
-    // Its own opcode.
-    (
-        5,
-        b"\x00\x07\x05\x00\x04\x00\x00\x00\x00\x00\x00\x00\x00\x00\x00\x00\x04\x00XSMQ\x00\x00\x03\x00MIT\x00\x00\x00\x03\x001.0\x00\x00\x00",
-        "Ready 7.1",
-    ),
-    // Another protocol.
-    (
-        5,
-        b"\x00\x07\x01\x00\x04\x00\x00\x00\x00\x00\x00\x00\x00\x00\x00\x00\x04\x00XSMQ\x00\x00\x03\x00MIT\x00\x00\x00\x03\x001.0\x00\x00\x00",
-        "Ready 8.1",
-    ),
-    // Again.
-    (
-        5,
-        b"\x00\x07\x01\x00\x04\x00\x00\x00\x00\x00\x00\x00\x00\x00\x00\x00\x04\x00XSMP\x00\x00\x03\x00MIT\x00\x00\x00\x03\x001.0\x00\x00\x00",
-        "Ready 6.1",
-    ),
-];
-
 #[test]
 fn offers_are_tested_in_their_order(rt: HostRuntime) -> Result<(), Fail> {
-    for (row, frame, want) in &OFFERS {
-        let path = ROWS.get(*row).ok_or("no row")?.path;
-        expect_cell(&rt, path, frame, want)?;
-    }
-    Ok(())
+    expect_offers(&rt, &OFFERS)
 }
 
 /// A frame, and the bytes of its answer.
@@ -545,12 +573,16 @@ fn expect_script(rt: &(impl Abort + Alloc<A = Global>), script: &Script) -> Resu
     Ok(())
 }
 
-#[test]
-fn the_set_up_is_answered_to_the_byte(rt: HostRuntime) -> Result<(), Fail> {
-    for script in &SCRIPTS {
-        expect_script(&rt, script)?;
+fn expect_scripts(rt: &(impl Abort + Alloc<A = Global>), scripts: &[Script]) -> Result<(), Fail> {
+    for script in scripts {
+        expect_script(rt, script)?;
     }
     Ok(())
+}
+
+#[test]
+fn the_set_up_is_answered_to_the_byte(rt: HostRuntime) -> Result<(), Fail> {
+    expect_scripts(&rt, &SCRIPTS)
 }
 
 fn expect_bytes(rt: &impl Abort, bytes: &[u8], want: &[u8]) {
@@ -574,60 +606,71 @@ fn errors_name_the_message_and_their_values(rt: HostRuntime) -> Result<(), Fail>
         minor: 9,
         sequence: 4,
     };
-    let severity = Severity::CanContinue;
-    let error = error_of(severity, BAD_LENGTH, ping, Octets::new(alloc));
+    let error = error_of(Severity::CanContinue, BAD_LENGTH, ping, Octets::new(alloc));
     expect_error(
         &rt,
         error,
         b"\x00\x00\x02\x80\x01\x00\x00\x00\x09\x00\x00\x00\x04\x00\x00\x00",
     )?;
-    let foreign = Offending {
-        minor: 9,
-        sequence: 6,
-    };
-    let error = error_of(severity, BAD_MAJOR, foreign, opcode_values(alloc, 5)?);
+    let error = error_of(
+        Severity::CanContinue,
+        BAD_MAJOR,
+        ping,
+        opcode_values(alloc, 5)?,
+    );
     expect_error(
         &rt,
         error,
-        b"\x00\x00\x00\x00\x02\x00\x00\x00\x09\x00\x00\x00\x06\x00\x00\x00\x05\x00\x00\x00\x00\x00\x00\x00",
-    )?;
-    let values = wrong_byte_values(alloc, 2, OTHER_ORDER)?;
-    expect_bytes(
-        &rt,
-        values.as_slice(),
-        b"\x02\x00\x00\x00\x01\x00\x00\x00\x01\x00\x00\x00\x00\x00\x00\x00",
-    );
-    let error = error_of(Severity::FatalToConnection, BAD_VALUE, ping, values);
-    assert_eq!(rt; (error.class, error.minor, error.sequence), (0x8003, 9, 4));
+        b"\x00\x00\x00\x00\x02\x00\x00\x00\x09\x00\x00\x00\x04\x00\x00\x00\x05\x00\x00\x00\x00\x00\x00\x00",
+    )
+}
+
+#[test]
+fn values_are_spelled_in_units(rt: HostRuntime) -> Result<(), Fail> {
+    let alloc = rt.alloc();
     let text = Text16::from_slice(alloc, b"XSMQ")?;
     expect_bytes(
         &rt,
         text_values(alloc, &text)?.as_slice(),
         b"\x04\x00XSMQ\x00\x00",
     );
+    let values = wrong_byte_values(alloc, 2, b"\x00\x01\x07\x00")?;
+    expect_bytes(
+        &rt,
+        values.as_slice(),
+        b"\x02\x00\x00\x00\x01\x00\x00\x00\x07\x00\x00\x00\x00\x00\x00\x00",
+    );
+    Ok(())
+}
+
+/// Ends the test where a state tells other things than these.
+fn expect_told(
+    rt: &(impl Abort + Alloc<A = Global>),
+    path: &[&[u8]],
+    endian: Option<Endian>,
+    connected: bool,
+    opcode: Option<u8>,
+) -> Result<(), Fail> {
+    let state = reached(rt.alloc(), path)?;
+    assert_eq!(rt; state.client_endian(), endian);
+    assert_eq!(rt; state.connected(), connected);
+    assert_eq!(rt; state.client_opcode(), opcode);
     Ok(())
 }
 
 #[test]
 fn a_state_tells_the_client(rt: HostRuntime) -> Result<(), Fail> {
-    for (row, connected) in ROWS.iter().zip(&[false, false, false, true, true, true]) {
-        let state = reached(rt.alloc(), row.path)?;
-        assert_eq!(rt; state.connected(), *connected);
-        let ready = name(&state) == "Ready";
-        assert_eq!(rt; state.client_opcode(), if ready { Some(5) } else { None });
-        let first = name(&state) == "AwaitOrder";
-        let endian = if first { None } else { Some(Endian::Lsb) };
-        assert_eq!(rt; state.client_endian(), endian);
-    }
-    Ok(())
+    expect_told(&rt, &[], None, false, None)?;
+    expect_told(&rt, &[OTHER_ORDER], Some(Endian::Msb), false, None)?;
+    expect_told(&rt, JOINED, Some(Endian::Lsb), true, None)?;
+    expect_told(&rt, SPEAKING, Some(Endian::Lsb), true, Some(5))
 }
 
 #[test]
 fn without_xsmp_the_protocol_may_be_set_up_again(rt: HostRuntime) -> Result<(), Fail> {
     spelled_messages_fit();
     states_follow_on();
-    let path = ROWS.last().ok_or("no row")?.path;
-    let AnySetup::Ready(ready) = reached(rt.alloc(), path)? else {
+    let AnySetup::Ready(ready) = reached(rt.alloc(), SPEAKING)? else {
         return Err("it isn't ready".into());
     };
     let state = AnySetup::AwaitProtocol(ready.unset());
