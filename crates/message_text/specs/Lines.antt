@@ -6,6 +6,7 @@ use Rattle.ice_messages.specs.declared.message.IceMessage.TheVariants.{Error, By
 use Rattle.ice_messages.specs.Messages.{minor_of}
 use Rattle.ice_values.specs.Fields.{order_number}
 use Rattle.ice_values.specs.Saves.{kind_number, style_number, dialog_number}
+use Rattle.ice_values.specs.declared.property.Property.{Property}
 use Rattle.ice_values.specs.declared.version.Version.{Version}
 use Rattle.sm_world.specs.declared.events.SaveKind.{SaveKind}
 use Rattle.sm_world.specs.declared.events.SaveStyle.{SaveStyle}
@@ -94,6 +95,10 @@ save_text kind shutdown style fast =
     ++ (number_field (codes "style") (style_number style)
     ++ bool_field (codes "fast") fast))
 
+-- the properties of a client
+abbrev pub properties_field : List Property → List ℕ
+properties_field properties = field (codes "properties") (list_text property_text properties)
+
 abbrev pub xsmp_fields : XsmpMessage → List ℕ
 xsmp_fields (XsmpError error) = error_text error
 xsmp_fields (RegisterClient previous) = bytes_field (codes "previous") previous
@@ -107,10 +112,10 @@ xsmp_fields (SaveYourselfDone success) = bool_field (codes "success") success
 xsmp_fields Die = []
 xsmp_fields ShutdownCancelled = []
 xsmp_fields (ConnectionClosed reasons) = field (codes "reasons") (list_text hex_text reasons)
-xsmp_fields (SetProperties properties) = field (codes "properties") (list_text property_text properties)
+xsmp_fields (SetProperties properties) = properties_field properties
 xsmp_fields (DeleteProperties names) = field (codes "names") (list_text hex_text names)
 xsmp_fields GetProperties = []
-xsmp_fields (GetPropertiesReply properties) = field (codes "properties") (list_text property_text properties)
+xsmp_fields (GetPropertiesReply properties) = properties_field properties
 xsmp_fields SaveYourselfPhase2Request = []
 xsmp_fields SaveYourselfPhase2 = []
 xsmp_fields SaveComplete = []

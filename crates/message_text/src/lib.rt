@@ -3,6 +3,8 @@
 
 mod fields;
 mod ice;
+#[cfg(test)]
+mod tests;
 mod xsmp;
 
 pub use ice::ice_line;

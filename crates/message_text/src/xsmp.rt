@@ -1,7 +1,8 @@
 ghost use Rattle.std.specs.Prelude.{◌≡◌, ◌++◌, OnOk, IfOk};
-ghost use Rattle.message_text.specs.Lines.{xsmp_name, xsmp_fields, xsmp_text, save_text};
+ghost use Rattle.message_text.specs.Lines.{xsmp_name, xsmp_fields, xsmp_text, save_text, properties_field};
 
 use crate::fields::{put_error, put_field};
+use ice_values::PropertyList;
 use sm_world::{NoMemory, Octets, SaveKind, SaveStyle};
 use std::alloc::Global;
 use xsmp_messages::XsmpMessage;
@@ -50,6 +51,17 @@ fn put_save(
     put_field(alloc, out, "fast", &fast)
 }
 
+/// Appends a list of properties.
+fn put_properties(
+    alloc: Global,
+    out: &mut Octets,
+    properties: &PropertyList,
+) -> Result<(), NoMemory>
+    ensures { OnOk result (out.new ≡ out.old ++ properties_field properties.now) }
+{
+    put_field(alloc, out, "properties", properties)
+}
+
 /// Appends the fields of a message.
 fn put_fields(alloc: Global, out: &mut Octets, message: &XsmpMessage) -> Result<(), NoMemory>
     ensures { OnOk result (out.new ≡ out.old ++ xsmp_fields message.now) }
@@ -78,13 +90,9 @@ fn put_fields(alloc: Global, out: &mut Octets, message: &XsmpMessage) -> Result<
         XsmpMessage::InteractDone { cancel } => put_field(alloc, out, "cancel", cancel),
         XsmpMessage::SaveYourselfDone { success } => put_field(alloc, out, "success", success),
         XsmpMessage::ConnectionClosed { reasons } => put_field(alloc, out, "reasons", reasons),
-        XsmpMessage::SetProperties { properties } => {
-            put_field(alloc, out, "properties", properties)
-        }
+        XsmpMessage::SetProperties { properties } => put_properties(alloc, out, properties),
         XsmpMessage::DeleteProperties { names } => put_field(alloc, out, "names", names),
-        XsmpMessage::GetPropertiesReply { properties } => {
-            put_field(alloc, out, "properties", properties)
-        }
+        XsmpMessage::GetPropertiesReply { properties } => put_properties(alloc, out, properties),
         XsmpMessage::Interact
         | XsmpMessage::Die
         | XsmpMessage::ShutdownCancelled
