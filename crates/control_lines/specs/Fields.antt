@@ -1,5 +1,5 @@
 -- The fields of a line that are bytes.
-use Rattle.std.specs.Prelude.{◌≡◌, ℕ, ◌<◌, ◌≤◌, ◌^◌, List, ◌∷◌, ◌++◌, length, Ok}
+use Rattle.std.specs.Prelude.{◌≡◌, ℕ, ◌<◌, ◌≤◌, ◌^◌, List, [], ◌∷◌, ◌++◌, length, codes, Ok}
 use Rattle.std.specs.Fmt.{decimal}
 use Rattle.hex.specs.Hex.{decode_of, encode_lower}
 
@@ -18,3 +18,8 @@ pub record SaysBytes (fields : List ℕ) (n : ℕ) (bytes : List ℕ) : Type 0 w
 -- the same as it is printed, with its hex in lower case
 abbrev pub bytes_text : ℕ → List ℕ → List ℕ
 bytes_text n bytes = decimal n ++ (32 ∷ encode_lower bytes)
+
+-- bytes in lower-case hex, and - for none
+abbrev pub hex_text : List ℕ → List ℕ
+hex_text [] = codes "-"
+hex_text (b ∷ bytes) = encode_lower (b ∷ bytes)

@@ -9,7 +9,7 @@ use Rattle.sm_world.specs.declared.effects.Effect.{Effect}
 use Rattle.sm_world.specs.declared.effects.Effect.TheVariants.{Heard, Sent, Shut, Started, Wrote, Torn, Synced, SyncFailed, Published, Printed}
 use Rattle.sm_world.specs.declared.events.Event.{Event}
 use Rattle.sm_world.specs.declared.events.Event.TheVariants.{Joined, Piece, Gone, Operator, Tick, End}
-use Rattle.control_lines.specs.Fields.{bytes_text}
+use Rattle.control_lines.specs.Fields.{bytes_text, hex_text}
 use Rattle.control_lines.specs.Orders.{order_text}
 
 abbrev pub event_text : Event → List ℕ
@@ -20,10 +20,9 @@ event_text (Operator order) = codes "order " ++ order_text order
 event_text (Tick milliseconds) = codes "tick " ++ decimal milliseconds
 event_text End = codes "end"
 
--- a field of a command, behind its space: the bytes in lower-case hex, and - for none
+-- a field of a command, behind its space
 abbrev pub field_text : List ℕ → List ℕ
-field_text [] = codes " -"
-field_text (b ∷ bytes) = codes " " ++ encode_lower (b ∷ bytes)
+field_text bytes = codes " " ++ hex_text bytes
 
 -- the directory, where one is set
 abbrev pub directory_text : List ℕ → List ℕ

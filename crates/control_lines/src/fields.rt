@@ -1,6 +1,6 @@
-ghost use Rattle.std.specs.Prelude.{◌≡◌, ◌≢◌, ℕ, ◌<◌, ◌^◌, List, IfOk, MatchOption};
+ghost use Rattle.std.specs.Prelude.{◌≡◌, ◌≢◌, ℕ, ◌<◌, ◌^◌, ◌++◌, List, IfOk, OnOk, MatchOption};
 ghost use Rattle.std.specs.Fmt.{decimal};
-ghost use Rattle.control_lines.specs.Fields.{IsHex, SaysBytes};
+ghost use Rattle.control_lines.specs.Fields.{IsHex, SaysBytes, hex_text};
 
 use crate::lines::split_once;
 use hex::FromHexError;
@@ -68,4 +68,15 @@ pub fn read_bytes(alloc: Global, fields: &[u8]) -> Result<Option<(Conn, Octets)>
         return Ok(None);
     };
     Ok(Some((conn, bytes)))
+}
+
+/// Appends bytes in lower-case hex, or `-` for none.
+pub fn put_hex(alloc: Global, out: &mut Octets, bytes: &[u8]) -> Result<(), NoMemory>
+    ensures { OnOk result (out.new ≡ out.old ++ hex_text bytes.now) }
+{
+    if bytes.is_empty() {
+        return out.append(b"-");
+    }
+    let text = hex::encode(alloc, bytes)?;
+    out.append(text.as_bytes())
 }

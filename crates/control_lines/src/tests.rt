@@ -1,6 +1,6 @@
 use crate::{
     OrderRefusal, a_line_gives_one_event, a_line_says_its_event, a_line_says_one_order,
-    effect_line, has_line, lines_say_one_list, next_line, read_bytes, read_hex, read_number,
+    effect_line, has_line, lines_say_one_list, next_line, put_hex, read_bytes, read_hex, read_number,
     read_order, read_script_line, split_once, started_line,
 };
 use sm_world::{Command, Effect, Event, NoMemory, Octets, OctetsList, Order, PairList};
@@ -191,6 +191,10 @@ fn fields_of_lines(rt: HostRuntime) -> Result<(), Fail> {
     assert!(rt; read_hex(alloc, b"")?.is_none());
     let bytes = read_bytes(alloc, b"9 4A")?;
     assert!(rt; matches!(&bytes, Some((9, bytes)) if bytes.as_slice() == b"J".as_slice()));
+    let mut text = Octets::from_slice(alloc, b"=")?;
+    put_hex(alloc, &mut text, b"Z")?;
+    put_hex(alloc, &mut text, b"")?;
+    assert_eq!(rt; str::from_utf8(text.as_slice())?, "=5a-");
     let parts = split_once(b"a b c", b' ');
     assert!(rt; parts == Some((b"a".as_slice(), b"b c".as_slice())));
     let (line, rest) = next_line(b"\nx");

@@ -6,6 +6,7 @@ ghost use Rattle.control_lines.specs.Fields.{bytes_text};
 ghost use Rattle.control_lines.specs.Orders.{order_text};
 ghost use Rattle.control_lines.specs.Traces.{event_text, field_text, directory_text, pair_text, command_text, started_text, effect_text};
 
+use crate::fields::put_hex;
 use sm_world::{Command, Conn, Effect, Event, NoMemory, Octets, Order};
 use std::alloc::Global;
 
@@ -72,12 +73,8 @@ fn put_event(alloc: Global, out: &mut Octets, event: &Event) -> Result<(), NoMem
 fn put_field(alloc: Global, out: &mut Octets, field: &[u8]) -> Result<(), NoMemory>
     ensures { OnOk result (out.new ≡ out.old ++ field_text field.now) }
 {
-    if field.is_empty() {
-        return out.append(b" -");
-    }
-    let text = hex::encode(alloc, field)?;
     out.append(b" ")?;
-    out.append(text.as_bytes())
+    put_hex(alloc, out, field)
 }
 
 /// Appends the words of a command.

@@ -1,0 +1,11 @@
+//! The messages of ICE and XSMP as lines of text.
+#![tactic(auto)]
+
+mod fields;
+mod ice;
+#[cfg(test)]
+mod tests;
+mod xsmp;
+
+pub use ice::ice_line;
+pub use xsmp::xsmp_line;
