@@ -4,7 +4,7 @@ use Rattle.sm_world.specs.declared.effects.Effect.{Effect}
 use Rattle.sm_world.specs.declared.events.Event.{Event}
 use Rattle.sm_world.specs.declared.events.Event.TheVariants.{Joined, Piece, Gone, Operator, Tick, End}
 use Rattle.ice_cookie.specs.declared.cookies.Cookie.{Cookie}
-use Rattle.session_engine.specs.Machine.{Finish, Connection, Machine, Step, start, connection_of, changed, counted, fed_with, live_limit, says, answered, brought, part_for, part_taken, parts_taken, piece_for, join_for, step, after_all, has_finish}
+use Rattle.session_engine.specs.Machine.{Finish, Connection, Machine, Step, start, connection_of, changed, counted, fed_with, live_limit, answered, part_for, part_taken, parts_taken, piece_for, join_for, step, after_all, has_finish}
 use Rattle.session_engine.specs.Streams.{Part, new_parts}
 use Rattle.session_engine.specs.Answers.{Outcome, outcome, sequence_after}
 use Rattle.session_engine.specs.Rows.{Shows, Carried, all_cut}

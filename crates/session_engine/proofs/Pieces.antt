@@ -13,10 +13,10 @@ use Rattle.ice_framing.specs.Frames.{Standing, fed, cut, behind, standing_of, un
 use Rattle.ice_framing.proofs.Cuts.{cut-partial}
 use Rattle.ice_framing.proofs.Streams.{standing_of-append}
 use Rattle.ice_setup.specs.declared.states.AnySetup.{AnySetup}
-use Rattle.session_engine.specs.Answers.{Outcome, outcome, oversize_answer, sequence_after, KeepsLive, kept, kept_by}
+use Rattle.session_engine.specs.Answers.{Outcome, outcome, oversize_answer, sequence_after, KeepsLive, kept_by}
 use Rattle.session_engine.specs.Cutting.{WaitsForMore, CutsReady, CutsRow}
 use Rattle.session_engine.specs.Streams.{Part, Whole, TooMuch, parts_at, new_parts}
-use Rattle.session_engine.specs.Machine.{Connection, Machine, Step, connection_of, changed, without, fed_with, counted, stays, says, answered, part_taken, parts_taken, step}
+use Rattle.session_engine.specs.Machine.{Connection, Machine, Step, connection_of, changed, without, fed_with, counted, stays, answered, part_taken, parts_taken, step}
 use Rattle.session_engine.specs.Carries.{Added, Going}
 use Rattle.session_engine.specs.Rows.{row_at, row_count, IsRowOf, Matches, IsLiveAs, Counts, Shows, ShowsFor, Carried, HeldStays, all_cut, to_cut, CutsAt}
 use Rattle.session_engine.specs.declared.row.Row.{Row}

@@ -1,8 +1,4 @@
-use Rattle.std.proofs.Common.{◌≤◌, length, arith}
-use Rattle.ice_messages.specs.Messages.{IsTooLong}
-use Rattle.ice_messages.specs.declared.message.IceMessage.TheVariants.{Error}
-use Rattle.ice_values.specs.Fields.{ErrorFields}
-use Rattle.ice_values.specs.declared.numbers.Endian.TheVariants.{Lsb}
+use Rattle.std.proofs.Common.{arith}
 use Rattle.ice_values.specs.declared.severity.Severity.TheVariants.{CanContinue, FatalToConnection}
 use Rattle.ice_setup.proofs.SaidLaws.{error_said}
 use Rattle.session_engine.proofs.answers.refuse.Goals as goal

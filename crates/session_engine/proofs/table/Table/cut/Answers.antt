@@ -1,10 +1,8 @@
-use Rattle.std.proofs.Common.{rules, ◌≡◌, ◌≢◌, ℕ, Some, None, nat_eq, if◌then◌else◌, refl, sym, ◌∙◌, ap}
+use Rattle.std.proofs.Common.{rules, ◌≡◌, Some, ◌∙◌, ap}
 use Rattle.std.specs.Ordering.{nat_cmp}
 use Rattle.std.specs.BTreeMap.{get as place_of}
 use Rattle.slab.specs.Slab.{get, with_value}
 use Rattle.session_engine.specs.Places.{row_in}
-use Rattle.session_engine.specs.Rows.{row_at}
-use Rattle.session_engine.specs.declared.row.Row.{Row}
 use Rattle.session_engine.proofs.CutLemmas.{cuts_live}
 use Rattle.session_engine.proofs.Connections.{other}
 use Rattle.session_engine.proofs.Seats.{rewritten, row_is, seated_after, seated_here, held_number}

@@ -1,4 +1,4 @@
-use Rattle.std.proofs.Common.{◌∙◌, rules}
+use Rattle.std.proofs.Common.{◌∙◌}
 use Rattle.session_engine.proofs.Seats.{live}
 use Rattle.session_engine.proofs.table.Table.is_live.Goals as goal
 

@@ -1,9 +1,7 @@
-use Rattle.std.proofs.Common.{rules, ◌≡◌, ℕ, ◌+◌, None, Some, refl, ◌∙◌, sym}
-use Rattle.std.specs.Option.{is_some}
+use Rattle.std.proofs.Common.{rules, ◌≡◌, None, Some}
 use Rattle.std.specs.Ordering.{nat_cmp}
 use Rattle.std.specs.BTreeMap.{get as place_of}
-use Rattle.session_engine.specs.Rows.{row_at}
-use Rattle.session_engine.proofs.Seats.{filled, live, absent, row_is, seated_after, seated_here}
+use Rattle.session_engine.proofs.Seats.{filled, absent, row_is, seated_after, seated_here}
 use Rattle.session_engine.proofs.table.Table.join.Goals as goal
 
 pub invariant_of-self-else-is_err : goal.invariant_of-self-else-is_err

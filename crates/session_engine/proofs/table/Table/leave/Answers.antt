@@ -1,4 +1,4 @@
-use Rattle.std.proofs.Common.{rules, ◌≡◌, ℕ, ◌+◌, None, Some, nat_eq, if◌then◌else◌, refl}
+use Rattle.std.proofs.Common.{rules, ◌≡◌, ◌+◌, None, if◌then◌else◌, refl}
 use Rattle.std.specs.Option.{is_some}
 use Rattle.std.specs.Ordering.{nat_cmp}
 use Rattle.std.specs.BTreeMap.{get as place_of, btree_map_len}
