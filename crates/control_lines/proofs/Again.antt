@@ -1,5 +1,5 @@
 -- The line of an event that a script can say says that event.
-use Rattle.std.proofs.Common.{◌≡◌, ℕ, List, refl}
+use Rattle.std.proofs.Common.{ℕ, List, refl}
 use Rattle.hex.proofs.HexLemmas.{decode_of-ok, decode_of-encode_lower}
 use Rattle.hex.specs.Hex.{encode_lower}
 use Rattle.sm_world.specs.declared.events.Event.{Event}

@@ -1,5 +1,5 @@
 -- What lists of lines say.
-use Rattle.std.proofs.Common.{◌≡◌, inl, inr, ℕ, List, [], ◌∷◌, ◌++◌, sym, subst}
+use Rattle.std.proofs.Common.{inl, inr, ℕ, List, [], ◌∷◌, ◌++◌, sym, subst}
 use Rattle.std.specs.List.{AllByRecursion}
 use Rattle.sm_world.specs.Events.{HasPieceSize}
 use Rattle.sm_world.specs.declared.events.Event.{Event}

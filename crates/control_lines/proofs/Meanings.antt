@@ -1,5 +1,5 @@
 -- A line has one meaning at most: what it can say is read back from it.
-use Rattle.std.proofs.Common.{◌≡◌, inl, inr, ℕ, ◌<◌, ◌^◌, ◌==◌, List, [], ◌∷◌, ◌++◌, drop, get_or, Option, Some, None, Result, Ok, Err, refl, sym, ◌∙◌, ap, subst, arith, codes, if◌then◌else◌}
+use Rattle.std.proofs.Common.{◌≡◌, inl, inr, ℕ, ◌<◌, ◌^◌, ◌==◌, List, [], ◌∷◌, ◌++◌, drop, get_or, Option, Some, None, Result, Ok, Err, refl, sym, ◌∙◌, ap, arith, codes, if◌then◌else◌}
 use Rattle.std.proofs.lemmas.Fmt.{decimal_is_IsNumeral}
 use Rattle.std.specs.Fmt.{decimal}
 use Rattle.std.specs.Str.Parse.{digits_value}
@@ -11,7 +11,7 @@ use Rattle.sm_world.specs.declared.events.Order.TheVariants.{Checkpoint, Shutdow
 use Rattle.control_lines.specs.Fields.{SaysBytes}
 use Rattle.control_lines.specs.Laws.{MeansOne}
 use Rattle.control_lines.specs.Orders.{SaysOrder}
-use Rattle.control_lines.specs.Script.{Says, SayAll, Gives}
+use Rattle.control_lines.specs.Script.{SayAll, Gives}
 use Rattle.control_lines.proofs.Splitting.{before, behind, before_is, behind_is, decimal_without}
 
 -- what is read back is the only meaning

@@ -1,12 +1,11 @@
 -- What holds of every line: it has one meaning at most, and the line of an event says that event.
-use Rattle.std.specs.Prelude.{◌≡◌, ℕ, ◌<◌, ◌^◌, List, Option}
+use Rattle.std.specs.Prelude.{◌≡◌, ℕ, ◌<◌, ◌^◌, List}
 use Rattle.hex.specs.Hex.{IsBytes}
 use Rattle.sm_world.specs.Events.{HasPieceSize}
 use Rattle.sm_world.specs.declared.events.Event.{Event}
 use Rattle.sm_world.specs.declared.events.Event.TheVariants.{Joined, Piece, Gone, Operator, Tick, End}
-use Rattle.sm_world.specs.declared.events.Order.{Order}
-use Rattle.control_lines.specs.Orders.{IsOrder, SaysOrder}
-use Rattle.control_lines.specs.Script.{Says, Gives, SayAll}
+use Rattle.control_lines.specs.Orders.{IsOrder}
+use Rattle.control_lines.specs.Script.{Says}
 use Rattle.control_lines.specs.Traces.{event_text}
 
 -- at most one value is meant

@@ -1,16 +1,13 @@
 -- The lines of a script, one after the other.
-use Rattle.std.proofs.Common.{◌≡◌, inl, inr, ℕ, ◌+◌, ◌<◌, ◌≤◌, List, [], ◌∷◌, ◌++◌, length, Option, Some, None, IsSome, refl, sym, ◌∙◌, ap, subst, arith, append_assoc, length-append}
+use Rattle.std.proofs.Common.{◌≡◌, ℕ, ◌+◌, ◌<◌, ◌≤◌, List, [], ◌∷◌, ◌++◌, length, Option, Some, None, sym, ◌∙◌, ap, arith, append_assoc, length-append}
 use Rattle.std.specs.List.{AllByRecursion}
 use Rattle.sm_world.specs.Events.{HasPieceSize}
 use Rattle.sm_world.specs.declared.events.Event.{Event}
-use Rattle.sm_world.specs.declared.events.Event.TheVariants.{Operator}
-use Rattle.sm_world.specs.declared.events.Order.{Order}
 use Rattle.control_lines.specs.Lines.{lines_of}
-use Rattle.control_lines.specs.Script.{Says, SayAll, Gives, IsRefusal}
+use Rattle.control_lines.specs.Script.{Gives, IsRefusal}
 use Rattle.control_lines.specs.declared.orders.OrderRefusal.{OrderRefusal}
 use Rattle.control_lines.specs.declared.orders.OrderRefusal.TheVariants.{BadLine, NoMemory}
 use Rattle.control_lines.proofs.Listing.{SayAll-append, SayAll-sized}
-use Rattle.control_lines.proofs.Meanings.{one_given}
 use Rattle.smd_app.specs.declared.script.TheConstants.{SCRIPT_LIMIT}
 use Rattle.smd_app.specs.Script.{IsTaken, Takes, SayTaken}
 
