@@ -16,6 +16,9 @@ fn a_cookie_is_shown_by_its_16_bytes(rt: HostRuntime) -> Result<(), Fail> {
 
 #[test]
 fn its_bytes_are_hidden(rt: HostRuntime) -> Result<(), Fail> {
-    assert_eq!(rt; format!(in rt.alloc(); "{COOKIE:?}")?.as_str(), "Cookie(..)");
+    assert_eq!(rt;
+        format!(in rt.alloc(); "{COOKIE:?}")?.as_str(),
+        "Cookie(..)"
+    );
     Ok(())
 }

@@ -1,5 +1,5 @@
 -- The set-up of a connection, manager's side: what a message brings in a state.
-use Rattle.std.specs.Prelude.{◌≡◌, ℕ, Bool, true, false, List, [], Option, Some, None, ◌==◌, ◌||◌, not, if◌then◌else◌, codes}
+use Rattle.std.specs.Prelude.{ℕ, Bool, true, false, List, [], Option, Some, None, ◌==◌, ◌||◌, not, if◌then◌else◌, codes}
 use Rattle.ice_cookie.specs.Cookies.{shows}
 use Rattle.ice_values.specs.declared.numbers.Endian.{Endian}
 use Rattle.ice_values.specs.declared.numbers.Endian.TheVariants.{Lsb}

@@ -1,4 +1,4 @@
-use Rattle.std.proofs.Common.{◌≡◌, ap, ◌∙◌}
+use Rattle.std.proofs.Common.{ap, ◌∙◌}
 use Rattle.ice_setup.specs.Setup.{other_cell, named}
 use Rattle.ice_setup.specs.declared.errors.Offending.{Offending}
 use Rattle.ice_setup.specs.declared.states.AnySetup.TheVariants.{AwaitSetup as AtSetup}
