@@ -9,6 +9,7 @@ use Rattle.ice_values.specs.declared.numbers.Endian.TheVariants.{Lsb}
 use Rattle.ice_values.specs.declared.refusals.DecodeRefusal.{DecodeRefusal}
 use Rattle.ice_values.specs.declared.refusals.DecodeRefusal.TheVariants.{BadLength}
 use Rattle.ice_values.proofs.CellLaws.{IsBytes, Begins-opened, Begins-marked, Begins-cell}
+use Rattle.ice_values.proofs.BodyLaws.{bind_length}
 use Rattle.ice_values.proofs.HeaderLaws.{Header, own_first, own_second, first_own, second_own}
 use Rattle.ice_values.proofs.EnumLaws.{Answered, answered_as, answered_plain, answered_meant, formed_meant, means_one, bool_enum, order_enum}
 use Rattle.ice_values.proofs.ErrorLaws.{SpellsError, HasErrorForm, error_answered, error_again, error_formed}
@@ -203,10 +204,6 @@ error_says e bytes h =
 pub ice_error_again : (e : Endian) (error : ErrorFields) (bytes : List ℕ) → Spells e (Error error) bytes → ice_error_at e bytes ≡ Ok (Error error)
 unfolding ice_error_at
 ice_error_again e error bytes h = rw (error_again e 0 bytes error h) refl
-
-bind_length : {A B : Type 0} (r : Result A DecodeRefusal) (make : A → B) → (r >>= λ x. Ok (make x)) ≡ Err BadLength → r ≡ Err BadLength
-bind_length (Ok x) make e = absurd cc
-bind_length (Err d) make e = let same : d ≡ BadLength = cc in ap (λ (d : DecodeRefusal). Err d) same
 
 pub ice_error_formed : (e : Endian) (error : ErrorFields) (bytes : List ℕ) → HasForm e (Error error) bytes → ice_error_at e bytes ≡ Err BadLength → ⊥
 unfolding ice_error_at

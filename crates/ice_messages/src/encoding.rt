@@ -8,14 +8,11 @@ ghost use Rattle.ice_messages.specs.Messages.{canon, minor_of, layout, IsMessage
 use crate::IceMessage;
 use crate::lengths::body_len;
 use ice_values::{
-    EncodeRefusal, Endian, Text16, TextList, VersionList, bool_byte, pad, put_bytes, put_card16,
-    put_card32, put_error, put_proof_data, put_text16, put_texts, put_versions, put_zeros,
-    text_len, texts_len,
+    BODY_LIMIT, EncodeRefusal, Endian, Text16, TextList, VersionList, bool_byte, pad, put_bytes,
+    put_card16, put_card32, put_error, put_proof_data, put_text16, put_texts, put_versions,
+    put_zeros, text_len, texts_len,
 };
 use sm_world::{NoMemory, Octets};
-
-/// No body is longer than this many bytes.
-const BODY_LIMIT: usize = 65536;
 
 /// The minor opcode of a message.
 pub fn minor(message: &IceMessage) -> u8

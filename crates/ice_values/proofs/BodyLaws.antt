@@ -1,5 +1,5 @@
 -- Whole bodies are read exactly.
-use Rattle.std.proofs.Common.{◌≡◌, ℕ, ◌<◌, Bool, true, false, List, [], length, drop, cond, Option, Some, None, Result, Ok, Err, refl, sym, subst, arith, inl, inr}
+use Rattle.std.proofs.Common.{◌≡◌, ℕ, ◌<◌, Bool, true, false, List, [], length, drop, cond, Option, Some, None, Result, Ok, Err, refl, sym, ap, subst, arith, inl, inr}
 use Rattle.std.specs.Prelude.{nat_lt, ◌⊎◌}
 use Rattle.std.proofs.lemmas.Bool.{lt-ltb, ltb-true}
 use Rattle.ice_values.specs.Cells.{Cells, free, Begins}
@@ -30,6 +30,10 @@ err_not_ok d x e = absurd cc
 pub bind_ok : {A B : Type 0} (r : Result A DecodeRefusal) (f : A → Result B DecodeRefusal) (y : B) → (r >>= f) ≡ Ok y → (x : A) × (r ≡ Ok x) × (f x ≡ Ok y)
 bind_ok (Ok x) f y e = (x, refl, e)
 bind_ok (Err d) f y e = absurd cc
+
+pub bind_length : {A B : Type 0} (r : Result A DecodeRefusal) (make : A → B) → (r >>= λ x. Ok (make x)) ≡ Err BadLength → r ≡ Err BadLength
+bind_length (Ok x) make e = absurd cc
+bind_length (Err d) make e = let same : d ≡ BadLength = cc in ap (λ (d : DecodeRefusal). Err d) same
 
 ended_cases : {A : Type 0} (rest : List ℕ) (x : A) (b : Bool) (r : Result A DecodeRefusal) → nat_lt (length rest) 8 ≡ b → (◌≡◌ {A = Result A DecodeRefusal} ((cond b (Ok tt) (Err BadLength)) >>= λ (end : Unit {0}). Ok x) r)
     → ((length rest < 8) × (r ≡ Ok x)) ⊎ (r ≡ Err BadLength)

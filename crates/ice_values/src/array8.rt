@@ -6,6 +6,7 @@ ghost use Rattle.ice_values.specs.Writing.{Extends};
 ghost use Rattle.ice_values.specs.declared.numbers.Endian.{Endian as AnyEndian};
 
 use crate::fronts::{skip, take_bytes, take_card32};
+use crate::lengths::BODY_LIMIT;
 use crate::numbers::pad;
 use crate::spelled::{Spelled, read_front, write_whole};
 use crate::writing::{put_bytes, put_card32, put_zeros};
@@ -62,7 +63,7 @@ pub fn array8_len(value: &Array8) -> Option<usize>
     ensures fits { OnSome result (IsArray8 value.now) }
 {
     let count = value.len();
-    if count > 65532 {
+    if count > BODY_LIMIT - 4 {
         return None;
     }
     Some(4 + count + pad(4 + count, 8))

@@ -8,12 +8,19 @@ use crate::numbers::pad;
 use crate::{ErrorBody, Text16, Version};
 use sm_world::Octets;
 
-/// The same number if it is at most the limit of a body.
+/// No body of a message is longer than this many bytes.
+pub const BODY_LIMIT: usize = 65536;
+
+/// The same number if no body is too short for it.
 pub fn within_limit(count: usize) -> Option<usize>
     ensures none { IfNone result (65536 < count) }
     ensures some { IfSome result (λ n. (n ≡ count) × (n ≤ 65536)) }
 {
-    if count <= 65536 { Some(count) } else { None }
+    if count <= BODY_LIMIT {
+        Some(count)
+    } else {
+        None
+    }
 }
 
 fn counted_len(count: usize) -> usize

@@ -29,7 +29,9 @@ pub use fronts::{
     skip, take_bytes, take_card16, take_card32, take_proof_data, take_text16, take_texts,
     take_version, take_versions,
 };
-pub use lengths::{error_len, proof_len, text_len, texts_len, version_len, versions_len};
+pub use lengths::{
+    BODY_LIMIT, error_len, proof_len, text_len, texts_len, version_len, versions_len,
+};
 pub use numbers::{Endian, bool_byte, pad, read_card16, read_card32};
 pub use property::{
     Property, PropertyList, property_len, property_list_len, put_property, put_property_list,

@@ -15,7 +15,7 @@ use Rattle.sm_world.specs.declared.events.SaveStyle.{SaveStyle}
 use Rattle.sm_world.specs.declared.events.SaveStyle.TheVariants.{Nothing}
 use Rattle.ice_values.proofs.FieldLaws.{after, nothing_exact}
 use Rattle.ice_values.proofs.HeaderLaws.{Header, own_first, first_own}
-use Rattle.ice_values.proofs.BodyLaws.{Whole, whole}
+use Rattle.ice_values.proofs.BodyLaws.{Whole, whole, bind_length}
 use Rattle.ice_values.proofs.EnumLaws.{IsEnum, Means, Answered, answered_as, answered_plain, answered_meant, formed_meant, means_one, means_both, kind_enum, style_enum, bool_enum}
 use Rattle.ice_values.proofs.ErrorLaws.{SpellsError, HasErrorForm, error_answered, error_again, error_formed}
 use Rattle.ice_values.proofs.ChoiceLaws.{Opens, form_of, have_of, spelled_of}
@@ -177,10 +177,6 @@ error_says e opcode bytes h =
 pub xsmp_error_again : (e : Endian) (opcode : ℕ) (error : ErrorFields) (bytes : List ℕ) → Spells e opcode (Error error) bytes → xsmp_error_at e bytes ≡ Ok (Error error)
 unfolding xsmp_error_at
 xsmp_error_again e opcode error bytes h = rw (error_again e opcode bytes error h) refl
-
-bind_length : {A B : Type 0} (r : Result A DecodeRefusal) (make : A → B) → (r >>= λ x. Ok (make x)) ≡ Err BadLength → r ≡ Err BadLength
-bind_length (Ok x) make e = absurd cc
-bind_length (Err d) make e = let same : d ≡ BadLength = cc in ap (λ (d : DecodeRefusal). Err d) same
 
 pub xsmp_error_formed : (e : Endian) (opcode : ℕ) (error : ErrorFields) (bytes : List ℕ) → HasForm e opcode (Error error) bytes → xsmp_error_at e bytes ≡ Err BadLength → ⊥
 unfolding xsmp_error_at
