@@ -1,12 +1,9 @@
 -- Spellings: where they begin, end, and have known or free bytes.
-use Rattle.std.proofs.Common.{◌≡◌, ℕ, zero, suc, ◌+◌, ◌<◌, ◌≤◌, List, [], ◌∷◌, ◌++◌, length, drop, Option, Some, None, refl, sym, ap, ◌∙◌, subst, arith, slice_index}
+use Rattle.std.proofs.Common.{◌≡◌, ℕ, zero, suc, ◌+◌, ◌≤◌, List, [], ◌∷◌, ◌++◌, length, drop, Option, Some, None, refl, sym, ap, ◌∙◌, subst, arith, slice_index}
 use Rattle.std.proofs.Common.{Fits, w8}
 use Rattle.std.specs.Prelude.{slice_set}
 use Rattle.ice_values.specs.Cells.{Cells, known, free, zeros, Begins}
-
--- each byte is below 256
-abbrev pub IsBytes : List ℕ → Type 0
-IsBytes bytes = (i : ℕ) → slice_index bytes i < 256
+pub use Rattle.ice_values.specs.Reading.{IsBytes}
 
 -- a slice's bytes are bytes
 pub slice_bytes : (bytes : List ℕ) → ((i : ℕ) → Fits w8 (slice_index bytes i)) → IsBytes bytes

@@ -11,12 +11,8 @@ use Rattle.ice_values.specs.Reading.{◌>>=◌, card_at, bytes_at, skip_at, text
 use Rattle.ice_values.specs.declared.numbers.Endian.{Endian}
 use Rattle.ice_values.specs.declared.version.Version.{Version}
 use Rattle.ice_values.proofs.CellLaws.{IsBytes, Begins-append, Begins-split, Begins-known, from_known, Begins-free, from_free, Begins-fits}
+pub use Rattle.ice_values.specs.Reading.{Exact}
 use Rattle.ice_values.proofs.NumberLaws.{length-number_bytes, number-again, number-fits, back2, back4}
-
--- A reader takes the spellings of values that fit, and no other bytes.
-pub record Exact {X : Type 0} (cells : X → Cells) (Fits : X → Type 0) (read : List ℕ → Option (X × List ℕ)) : Type 0 where
-  pub takes : (bytes : List ℕ) (x : X) (rest : List ℕ) → IsBytes bytes → read bytes ≡ Some (x, rest) → Begins (cells x) bytes rest × Fits x
-  pub again : (bytes : List ℕ) (x : X) (rest : List ℕ) → Fits x → Begins (cells x) bytes rest → read bytes ≡ Some (x, rest)
 
 abbrev some : {A : Type 0} → A → Option A
 some x = Some x

@@ -1,5 +1,5 @@
 -- How many bytes spell each field.
-use Rattle.std.proofs.Common.{◌≡◌, ℕ, ◌+◌, ◌*◌, ◌<◌, List, [], ◌∷◌, ◌++◌, length, take, get_or, refl, sym, ap, ◌∙◌, subst, arith, length-append}
+use Rattle.std.proofs.Common.{◌≡◌, ℕ, ◌+◌, ◌*◌, ◌<◌, ◌≤◌, List, [], ◌∷◌, ◌++◌, length, take, get_or, refl, sym, ap, ◌∙◌, subst, arith, length-append, drop, take-append-drop}
 use Rattle.std.specs.Prelude.{flat_map}
 use Rattle.std.specs.List.{AllByRecursion}
 use Rattle.std.proofs.lemmas.List.{append-nil, take_more}
@@ -7,6 +7,7 @@ use Rattle.std.proofs.lemmas.Grind.{flat_map-append}
 use Rattle.ice_values.specs.Cells.{Cells, byte, known, free, pad_len}
 use Rattle.ice_values.specs.Numbers.{number_bytes, card16, card32}
 use Rattle.ice_values.specs.Fields.{text16, version, versions, proof_data, ErrorFields, error_body}
+use Rattle.ice_values.specs.Properties.{array8, listed}
 use Rattle.ice_values.specs.declared.numbers.Endian.{Endian}
 use Rattle.ice_values.specs.declared.version.Version.{Version}
 use Rattle.ice_values.proofs.CellLaws.{length-known, length-free}
@@ -34,6 +35,27 @@ pub length-more : {A : Type 0} (cells : A → Cells) (items : List A) (i : ℕ) 
 length-more {A} cells items i x lt is =
     let grown : take (i + 1) items ≡ take i items ++ x ∷ [] = take_more items i x lt ∙ ap (λ (y : A). take i items ++ y ∷ []) (sym is) in
     ap (λ (l : List A). length (flat_map cells l)) grown ∙ ap length (flat_map-append cells (take i items) (x ∷ [])) ∙ length-append (flat_map cells (take i items)) (cells x ++ []) ∙ ap (λ (l : Cells). length (flat_map cells (take i items)) + length l) (append-nil (cells x))
+
+-- the first items have no more bytes than all, and neither has one of them
+pub part_within : {A : Type 0} (cells : A → Cells) (items : List A) (i : ℕ) → length (flat_map cells (take i items)) ≤ length (flat_map cells items)
+part_within {A} cells items i =
+    let whole : length (flat_map cells items) ≡ length (flat_map cells (take i items)) + length (flat_map cells (drop i items)) =
+    ap (λ (l : List A). length (flat_map cells l)) (sym (take-append-drop i items)) ∙ ap length (flat_map-append cells (take i items) (drop i items)) ∙ length-append (flat_map cells (take i items)) (flat_map cells (drop i items)) in
+    omega (arith, whole)
+
+pub item_within : {A : Type 0} (cells : A → Cells) (items : List A) (i : ℕ) (x : A) → i < length items → x ≡ get_or items i x → length (flat_map cells (take i items)) + length (cells x) ≤ length (flat_map cells items)
+item_within cells items i x lt is = omega (arith, length-more cells items i x lt is, part_within cells items (i + 1))
+
+length-card32 : (e : Endian) (x : ℕ) → length (card32 e x) ≡ 4
+length-card32 e x = length-known (number_bytes e 4 x) ∙ length-number_bytes e 4 x
+
+pub length-array8 : (e : Endian) (bytes : List ℕ) → length (array8 e bytes) ≡ 4 + length bytes + pad_len (4 + length bytes) 8
+length-array8 e bytes =
+    length-append (card32 e (length bytes) ++ known bytes) (free (pad_len (4 + length bytes) 8)) ∙ rw (length-append (card32 e (length bytes)) (known bytes), length-card32 e (length bytes), length-known bytes, length-free (pad_len (4 + length bytes) 8)) refl
+
+pub length-listed : {A : Type 0} (item : A → Cells) (e : Endian) (items : List A) → length (listed item e items) ≡ 8 + length (flat_map item items)
+length-listed item e items =
+    omega (arith, length-append (card32 e (length items) ++ free 4) (flat_map item items), length-append (card32 e (length items)) (free 4), length-card32 e (length items), length-free 4)
 
 all-append : {A : Type 0} (P : A → Type 0) (xs ys : List A) → AllByRecursion P xs → AllByRecursion P ys → AllByRecursion P (xs ++ ys)
 all-append P [] ys h k = k

@@ -2,6 +2,7 @@ pub mod CellLaws
 pub mod NumberLaws
 pub mod FieldLaws
 pub mod ListLaws
+pub mod PropertyLaws
 pub mod FrontLaws
 pub mod WriteLaws
 pub mod HeaderLaws

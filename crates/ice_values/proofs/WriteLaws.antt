@@ -6,6 +6,7 @@ use Rattle.std.proofs.lemmas.Grind.{flat_map-append}
 use Rattle.ice_values.specs.Cells.{Cells, byte, known, free, zeros, pad_len}
 use Rattle.ice_values.specs.Numbers.{number_bytes, card16, card32}
 use Rattle.ice_values.specs.Fields.{text16, version, proof_data, ErrorFields, error_body, severity_number}
+use Rattle.ice_values.specs.Properties.{array8}
 use Rattle.ice_values.specs.declared.numbers.Endian.{Endian}
 use Rattle.ice_values.specs.declared.version.Version.{Version}
 use Rattle.ice_values.proofs.CellLaws.{zeros-append, zeros-known}
@@ -17,8 +18,14 @@ adds_two old a b whole one new p q e = q ∙ ap (λ (l : List ℕ). l ++ b) p �
 pub adds_three : (old a b c whole one two new : List ℕ) → one ≡ old ++ a → two ≡ one ++ b → new ≡ two ++ c → whole ≡ a ++ b ++ c → new ≡ old ++ whole
 adds_three old a b c whole one two new p q r e = adds_two old (a ++ b) c whole two new (adds_two old a b (a ++ b) one two p q refl) r e
 
+pub adds_cells : (old mid new : List ℕ) (a b : Cells) → mid ≡ old ++ zeros a → new ≡ mid ++ zeros b → new ≡ old ++ zeros (a ++ b)
+adds_cells old mid new a b p q = adds_two old (zeros a) (zeros b) (zeros (a ++ b)) mid new p q (zeros-append a b)
+
 pub zeros-text16 : (e : Endian) (text : List ℕ) (n : ℕ) → n ≡ pad_len (2 + length text) 4 → zeros (text16 e text) ≡ number_bytes e 2 (length text) ++ text ++ zeros (free n)
 zeros-text16 e text n is = rw (is, zeros-append (card16 e (length text) ++ known text) (free (pad_len (2 + length text) 4)), zeros-append (card16 e (length text)) (known text), zeros-known (number_bytes e 2 (length text)), zeros-known text) refl
+
+pub zeros-array8 : (e : Endian) (bytes : List ℕ) (n : ℕ) → n ≡ pad_len (4 + length bytes) 8 → zeros (array8 e bytes) ≡ number_bytes e 4 (length bytes) ++ bytes ++ zeros (free n)
+zeros-array8 e bytes n is = rw (is, zeros-append (card32 e (length bytes) ++ known bytes) (free (pad_len (4 + length bytes) 8)), zeros-append (card32 e (length bytes)) (known bytes), zeros-known (number_bytes e 4 (length bytes)), zeros-known bytes) refl
 
 pub zeros-version : (e : Endian) (v : Version) → zeros (version e v) ≡ number_bytes e 2 v.major ++ number_bytes e 2 v.minor
 zeros-version e v = rw (zeros-append (card16 e v.major) (card16 e v.minor), zeros-known (number_bytes e 2 v.major), zeros-known (number_bytes e 2 v.minor)) refl

@@ -1,5 +1,5 @@
 -- Fields read from left to right: the value at the front of some bytes, and the bytes after it.
-use Rattle.std.specs.Prelude.{◌≡◌, ℕ, zero, suc, ◌+◌, ◌≤◌, List, [], ◌∷◌, length, take, drop, Option, Some, None, Result, Ok, Err, nat_lt, if◌then◌else◌, IfOk, IsErrOf}
+use Rattle.std.specs.Prelude.{◌≡◌, ℕ, zero, suc, ◌+◌, ◌<◌, ◌≤◌, List, [], ◌∷◌, length, take, drop, Option, Some, None, Result, Ok, Err, nat_lt, if◌then◌else◌, slice_index, IfOk, IsErrOf}
 use Rattle.ice_values.specs.Cells.{Cells, Begins, pad_len}
 use Rattle.ice_values.specs.Numbers.{number}
 use Rattle.ice_values.specs.declared.numbers.Endian.{Endian}
@@ -77,6 +77,15 @@ proof_data_at e bytes = do
   n ← card_at e 2 bytes
   rest ← skip_at 6 n.1
   bytes_at n.0 rest
+
+-- each byte is below 256
+abbrev pub IsBytes : List ℕ → Type 0
+IsBytes bytes = (i : ℕ) → slice_index bytes i < 256
+
+-- A reader takes the spellings of values that fit, and no other bytes.
+pub record Exact {X : Type 0} (cells : X → Cells) (Fits : X → Type 0) (read : List ℕ → Option (X × List ℕ)) : Type 0 where
+  pub takes : (bytes : List ℕ) (x : X) (rest : List ℕ) → IsBytes bytes → read bytes ≡ Some (x, rest) → Begins (cells x) bytes rest × Fits x
+  pub again : (bytes : List ℕ) (x : X) (rest : List ℕ) → Fits x → Begins (cells x) bytes rest → read bytes ≡ Some (x, rest)
 
 -- What reading the value at the front of some bytes says.
 pub record ReadsFront {X : Type 0} (cells : X → Cells) (Fits : X → Type 0) (bytes : List ℕ) (result : Result (X × ℕ) ValueRefusal) : Type 0 where

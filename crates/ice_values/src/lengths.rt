@@ -8,6 +8,14 @@ use crate::numbers::pad;
 use crate::{ErrorBody, Text16, Version};
 use sm_world::Octets;
 
+/// The same number if it is at most the limit of a body.
+pub fn within_limit(count: usize) -> Option<usize>
+    ensures none { IfNone result (65536 < count) }
+    ensures some { IfSome result (λ n. (n ≡ count) × (n ≤ 65536)) }
+{
+    if count <= 65536 { Some(count) } else { None }
+}
+
 fn counted_len(count: usize) -> usize
     requires { count < 2 ^ 16 }
     ensures is { result ≡ 2 + count + pad_len (2 + count) 4 }

@@ -11,13 +11,17 @@ mod property;
 mod reading;
 mod refusals;
 mod severity;
+mod spelled;
 #[cfg(test)]
 mod tests;
 mod text;
 mod version;
 mod writing;
 
-pub use array8::{Array8, Array8List};
+pub use array8::{
+    Array8, Array8List, array8_len, array8_list_len, put_array8, put_array8_list, read_array8,
+    read_array8_list, take_array8, take_array8_list, write_array8, write_array8_list,
+};
 pub use errors::ErrorBody;
 pub use frames::{bool_at, decode_error, end_body, order_at, severity_at};
 pub use fronts::{
@@ -26,7 +30,11 @@ pub use fronts::{
 };
 pub use lengths::{error_len, proof_len, text_len, texts_len, version_len, versions_len};
 pub use numbers::{Endian, bool_byte, pad, read_card16, read_card32};
-pub use property::{Property, PropertyList};
+pub use property::{
+    Property, PropertyList, property_len, property_list_len, put_property, put_property_list,
+    read_property, read_property_list, take_property, take_property_list, write_property,
+    write_property_list,
+};
 pub use reading::{read_text16, read_version};
 pub use refusals::{DecodeRefusal, EncodeRefusal, ValueRefusal};
 pub use severity::Severity;
