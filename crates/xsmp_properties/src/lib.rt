@@ -7,7 +7,6 @@ mod named;
 mod refusals;
 mod table;
 mod texts;
-mod waiting;
 #[cfg(test)]
 mod tests;
 

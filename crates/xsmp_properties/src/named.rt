@@ -1,8 +1,7 @@
 ghost use Rattle.std.specs.Prelude.{◌≡◌, [], ◌∷◌, IfOk, OnOk, IsTrue, ◌↔◌, option_copied};
 ghost use Rattle.xsmp_properties.specs.Tables.{set_one, set_all, without_names, find_property, IsTableFull, AreNamesDistinct};
 
-use crate::waiting::property_len;
-use ice_values::{Array8, Property, PropertyList};
+use ice_values::{Array8, Property, PropertyList, property_len};
 use indexmap::IndexMap;
 use sm_world::{Duplicate, NoMemory};
 use std::alloc::Global;
