@@ -46,6 +46,7 @@ without-more names name (p ∷ items) =
     at : (named : Bool) → without_names (names ++ name ∷ []) items ≡ without_names (name ∷ []) (without_names names items) → cond (not (named || false)) (p ∷ without_names (names ++ name ∷ []) items) (without_names (names ++ name ∷ []) items) ≡ cond (not (named || false)) (p ∷ without_names (name ∷ []) (without_names names items)) (without_names (name ∷ []) (without_names names items))
     at true rest = rest
     at false rest = ap (λ (l : List Property). p ∷ l) rest
+
     by : (b : Bool) → without_names (names ++ name ∷ []) items ≡ without_names (name ∷ []) (without_names names items) → cond (not (b || (is_named name p || false))) (p ∷ without_names (names ++ name ∷ []) items) (without_names (names ++ name ∷ []) items) ≡ without_names (name ∷ []) (cond (not b) (p ∷ without_names names items) (without_names names items))
     by true rest = rest
     by false rest = at (is_named name p) rest

@@ -6,9 +6,9 @@ mod hints;
 mod named;
 mod refusals;
 mod table;
-mod texts;
 #[cfg(test)]
 mod tests;
+mod texts;
 
 pub use commands::{command_of, directory_of, environment_of};
 pub use hints::{Hint, hint_of};
