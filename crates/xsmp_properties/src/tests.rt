@@ -64,53 +64,49 @@ fn shown(alloc: Global, table: &PropertyTable) -> Result<Octets, NoMemory> {
     Ok(text)
 }
 
-#[test]
-fn a_name_that_is_set_again_keeps_its_place(rt: HostRuntime) -> Result<(), Fail> {
-    let alloc = rt.alloc();
+/// Sets P, Q and P again.
+fn set_again(alloc: Global) -> Result<PropertyTable, SetRefusal> {
     let mut table = PropertyTable::new(alloc)?;
     set(alloc, &mut table, b"P", b"ARRAY8", b"1|")?;
     set(alloc, &mut table, b"Q", b"ARRAY8", b"2|")?;
     set(alloc, &mut table, b"P", b"ARRAY8", b"3|")?;
-    assert_eq!(rt; shown(alloc, &table)?.as_slice(), b"P=3|Q=2|".as_slice());
-    let twin = table.copy()?;
-    table.delete(&values(alloc, b"X|P|")?);
-    assert_eq!(rt; shown(alloc, &table)?.as_slice(), b"Q=2|".as_slice());
-    assert_eq!(rt; table.get(b"P").is_none(), true);
-    assert_eq!(rt; twin.get(b"P").is_some(), true);
-    assert_eq!(rt; shown(alloc, &twin)?.as_slice(), b"P=3|Q=2|".as_slice());
-    Ok(())
+    Ok(table)
 }
 
-/// Sets one value of so many bytes under the name `P`.
-fn set_long(alloc: Global, table: &mut PropertyTable, count: usize) -> Result<(), SetRefusal> {
-    let mut property = match property(alloc, b"P", b"ARRAY8", b"") {
-        Ok(property) => property,
-        Err(_) => return Err(SetRefusal::NoMemory),
-    };
-    let mut value = Octets::new(alloc);
-    for _i in 0..count {
-        value.append(b"x")?;
-    }
-    property.values.push(value)?;
-    let mut list = PropertyList::new(alloc);
-    list.push(property)?;
-    table.set(&list)
+fn shows(
+    rt: &(impl Abort + Alloc<A = Global>),
+    table: &PropertyTable,
+    text: &[u8],
+) -> Result<(), Fail> {
+    assert_eq!(rt; shown(rt.alloc(), table)?.as_slice(), text);
+    Ok(())
 }
 
 #[test]
-fn a_table_has_16384_bytes_at_most(rt: HostRuntime) -> Result<(), Fail> {
+fn a_name_that_is_set_again_keeps_its_place(rt: HostRuntime) -> Result<(), Fail> {
+    let table = set_again(rt.alloc())?;
+    shows(&rt, &table, b"P=3|Q=2|")
+}
+
+#[test]
+fn a_delete_takes_names_out(rt: HostRuntime) -> Result<(), Fail> {
     let alloc = rt.alloc();
-    let mut table = PropertyTable::new(alloc)?;
-    set_long(alloc, &mut table, 16_348)?;
-    let refused = set_long(alloc, &mut table, 16_349).err();
-    assert_eq!(rt; refused, Some(SetRefusal::TableFull));
-    let refused = set(alloc, &mut table, b"Q", b"", b"").err();
-    assert_eq!(rt; refused, Some(SetRefusal::TableFull));
-    let list = table.list()?;
-    assert_eq!(rt; list.as_slice().len(), 1);
-    let text = shown(alloc, &table)?;
-    assert_eq!(rt; text.len(), 2 + 16_348 + 1);
-    Ok(())
+    let mut table = set_again(alloc)?;
+    let twin = table.copy()?;
+    table.delete(&values(alloc, b"X|P|")?);
+    assert_eq!(rt; table.get(b"P").is_none(), true);
+    shows(&rt, &table, b"Q=2|")?;
+    shows(&rt, &twin, b"P=3|Q=2|")
+}
+
+/// One property `P` of kind `ARRAY8` with one value of so many bytes.
+fn long(alloc: Global, count: usize) -> Result<PropertyList, NoMemory> {
+    let mut property = property(alloc, b"P", b"ARRAY8", b"")?;
+    let value = vec![in alloc; b'x'; count]?;
+    property.values.push(Octets::from_vec(value))?;
+    let mut list = PropertyList::new(alloc);
+    list.push(property)?;
+    Ok(list)
 }
 
 /// So many properties of different names.
@@ -122,37 +118,67 @@ fn many(alloc: Global, count: u8) -> Result<PropertyList, NoMemory> {
     Ok(list)
 }
 
+fn expect_full(
+    rt: &(impl Abort + Alloc<A = Global>),
+    table: &mut PropertyTable,
+    list: &PropertyList,
+) -> Result<(), Fail> {
+    let refused = table.set(list).err();
+    assert_eq!(rt; refused, Some(SetRefusal::TableFull));
+    Ok(())
+}
+
+#[test]
+fn a_table_has_16384_bytes_at_most(rt: HostRuntime) -> Result<(), Fail> {
+    let alloc = rt.alloc();
+    let mut table = PropertyTable::new(alloc)?;
+    table.set(&long(alloc, 16_348)?)?;
+    expect_full(&rt, &mut table, &long(alloc, 16_349)?)?;
+    let text = shown(alloc, &table)?;
+    assert_eq!(rt; text.len(), 2 + 16_348 + 1);
+    Ok(())
+}
+
+#[test]
+fn a_full_table_has_no_room_for_a_name(rt: HostRuntime) -> Result<(), Fail> {
+    let alloc = rt.alloc();
+    let mut table = PropertyTable::new(alloc)?;
+    table.set(&long(alloc, 16_348)?)?;
+    let refused = set(alloc, &mut table, b"Q", b"", b"").err();
+    assert_eq!(rt; refused, Some(SetRefusal::TableFull));
+    Ok(())
+}
+
 #[test]
 fn a_table_has_128_names_at_most(rt: HostRuntime) -> Result<(), Fail> {
     let alloc = rt.alloc();
     let mut table = PropertyTable::new(alloc)?;
-    let refused = table.set(&many(alloc, 129)?).err();
-    assert_eq!(rt; refused, Some(SetRefusal::TableFull));
-    assert_eq!(rt; table.list()?.as_slice().is_empty(), true);
+    expect_full(&rt, &mut table, &many(alloc, 129)?)?;
+    shows(&rt, &table, b"")?;
     table.set(&many(alloc, 128)?)?;
-    let refused = table.set(&many(alloc, 129)?).err();
-    assert_eq!(rt; refused, Some(SetRefusal::TableFull));
+    Ok(())
+}
+
+#[test]
+fn a_full_table_takes_its_names_again(rt: HostRuntime) -> Result<(), Fail> {
+    let alloc = rt.alloc();
+    let mut table = PropertyTable::new(alloc)?;
+    let names = many(alloc, 128)?;
+    table.set(&names)?;
+    expect_full(&rt, &mut table, &many(alloc, 129)?)?;
+    table.set(&names)?;
     assert_eq!(rt; table.list()?.as_slice().len(), 128);
-    table.set(&many(alloc, 128)?)?;
     Ok(())
 }
 
 #[test]
 fn what_stands_for_a_moment_may_pass_a_limit(rt: HostRuntime) -> Result<(), Fail> {
     let alloc = rt.alloc();
-    let mut long = Octets::new(alloc);
-    for _i in 0..20_000 {
-        long.append(b"x")?;
-    }
-    let mut large = property(alloc, b"P", b"ARRAY8", b"")?;
-    large.values.push(long)?;
-    let mut list = PropertyList::new(alloc);
-    list.push(large)?;
+    let mut list = long(alloc, 70_000)?;
     list.push(property(alloc, b"P", b"ARRAY8", b"1|")?)?;
     let mut table = PropertyTable::new(alloc)?;
     table.set(&list)?;
-    assert_eq!(rt; shown(alloc, &table)?.as_slice(), b"P=1|".as_slice());
-    Ok(())
+    shows(&rt, &table, b"P=1|")
 }
 
 fn has_hint(
@@ -169,15 +195,23 @@ fn has_hint(
 }
 
 #[test]
-fn a_hint_is_one_byte_from_0_to_3(rt: HostRuntime) -> Result<(), Fail> {
+fn a_hint_is_a_byte_from_0_to_3(rt: HostRuntime) -> Result<(), Fail> {
     has_hint(&rt, b"CARD8", b"\x00|", Hint::IfRunning)?;
     has_hint(&rt, b"CARD8", b"\x01|", Hint::Anyway)?;
     has_hint(&rt, b"CARD8", b"\x02|", Hint::Immediately)?;
-    has_hint(&rt, b"CARD8", b"\x03|", Hint::Never)?;
+    has_hint(&rt, b"CARD8", b"\x03|", Hint::Never)
+}
+
+#[test]
+fn a_hint_is_one_byte(rt: HostRuntime) -> Result<(), Fail> {
     has_hint(&rt, b"CARD8", b"\x04|", Hint::IfRunning)?;
     has_hint(&rt, b"CARD8", b"\x03\x00|", Hint::IfRunning)?;
     has_hint(&rt, b"CARD8", b"\x03|\x03|", Hint::IfRunning)?;
-    has_hint(&rt, b"CARD8", b"|", Hint::IfRunning)?;
+    has_hint(&rt, b"CARD8", b"|", Hint::IfRunning)
+}
+
+#[test]
+fn a_hint_has_its_kind(rt: HostRuntime) -> Result<(), Fail> {
     has_hint(&rt, b"CARD8", b"", Hint::IfRunning)?;
     has_hint(&rt, b"ARRAY8", b"\x03|", Hint::IfRunning)?;
     has_hint(&rt, b"", b"\x03|", Hint::IfRunning)
@@ -197,11 +231,15 @@ fn has_directory(
 }
 
 #[test]
-fn a_directory_is_one_text(rt: HostRuntime) -> Result<(), Fail> {
+fn a_directory_is_a_text(rt: HostRuntime) -> Result<(), Fail> {
     has_directory(&rt, b"ARRAY8", b"/home|", b"/home")?;
     has_directory(&rt, b"ARRAY8", b"/\xc3\xa9|", b"/\xc3\xa9")?;
     has_directory(&rt, b"ARRAY8", b"/\xc3|", b"")?;
-    has_directory(&rt, b"ARRAY8", b"/\x00|", b"")?;
+    has_directory(&rt, b"ARRAY8", b"/\x00|", b"")
+}
+
+#[test]
+fn a_directory_is_one_value(rt: HostRuntime) -> Result<(), Fail> {
     has_directory(&rt, b"ARRAY8", b"/a|/b|", b"")?;
     has_directory(&rt, b"ARRAY8", b"", b"")?;
     has_directory(&rt, b"LISTofARRAY8", b"/home|", b"")
@@ -238,9 +276,18 @@ fn an_environment_is_names_and_texts(rt: HostRuntime) -> Result<(), Fail> {
     has_environment(&rt, b"LISTofARRAY8", b"A|1|B|=|", b"A|1|B|=|")?;
     has_environment(&rt, b"LISTofARRAY8", b"A||", b"A||")?;
     has_environment(&rt, b"LISTofARRAY8", b"", b"")?;
-    has_environment(&rt, b"LISTofARRAY8", b"A|1|B|", b"")?;
+    has_environment(&rt, b"LISTofARRAY8", b"A|1|B|", b"")
+}
+
+#[test]
+fn a_variable_has_a_name(rt: HostRuntime) -> Result<(), Fail> {
     has_environment(&rt, b"LISTofARRAY8", b"|1|", b"")?;
     has_environment(&rt, b"LISTofARRAY8", b"A=|1|", b"")?;
+    has_environment(&rt, b"LISTofARRAY8", b"A\xff|1|", b"")
+}
+
+#[test]
+fn a_variable_has_a_text(rt: HostRuntime) -> Result<(), Fail> {
     has_environment(&rt, b"LISTofARRAY8", b"A|\xff|", b"")?;
     has_environment(&rt, b"LISTofARRAY8", b"A|1|B|\x00|", b"")?;
     has_environment(&rt, b"ARRAY8", b"A|1|", b"")
@@ -271,35 +318,41 @@ fn a_command_is_a_program_and_its_arguments(rt: HostRuntime) -> Result<(), Fail>
     has_words(&rt, b"LISTofARRAY8", b"rm|a|", b"rm|a|")?;
     has_words(&rt, b"LISTofARRAY8", b"rm||", b"rm||")?;
     has_words(&rt, b"LISTofARRAY8", b"|a|", b"")?;
-    has_words(&rt, b"LISTofARRAY8", b"", b"")?;
+    has_words(&rt, b"LISTofARRAY8", b"", b"")
+}
+
+#[test]
+fn a_command_is_of_texts(rt: HostRuntime) -> Result<(), Fail> {
     has_words(&rt, b"LISTofARRAY8", b"rm|\x00|", b"")?;
     has_words(&rt, b"LISTofARRAY8", b"rm|\xff|", b"")?;
     has_words(&rt, b"ARRAY8", b"rm|", b"")
 }
 
+/// A DiscardCommand with a directory and an environment.
+fn discarding(alloc: Global) -> Result<PropertyTable, SetRefusal> {
+    let mut table = PropertyTable::new(alloc)?;
+    set(alloc, &mut table, b"DiscardCommand", b"LISTofARRAY8", b"rm|")?;
+    set(alloc, &mut table, b"CurrentDirectory", b"ARRAY8", b"/a|")?;
+    set(alloc, &mut table, b"Environment", b"LISTofARRAY8", b"A|1|")?;
+    Ok(table)
+}
+
 #[test]
 fn a_command_has_the_directory_and_environment_of_its_table(rt: HostRuntime) -> Result<(), Fail> {
     let alloc = rt.alloc();
-    let mut table = PropertyTable::new(alloc)?;
-    set(
-        alloc,
-        &mut table,
-        b"DiscardCommand",
-        b"LISTofARRAY8",
-        b"rm|",
-    )?;
-    set(alloc, &mut table, b"CurrentDirectory", b"ARRAY8", b"/a|")?;
-    set(alloc, &mut table, b"Environment", b"LISTofARRAY8", b"A|1|")?;
-    assert_eq!(rt;
-        command_of(alloc, &table, b"RestartCommand")?.is_none(),
-        true
-    );
+    let table = discarding(alloc)?;
     let found = command_of(alloc, &table, b"DiscardCommand")?;
     let command = found.expect(&rt, "a command");
     assert_eq!(rt; command.directory.as_slice(), b"/a".as_slice());
-    assert_eq!(rt;
-        pairs_of(alloc, &command.environment)?.as_slice(),
-        b"A|1|".as_slice()
-    );
+    let pairs = pairs_of(alloc, &command.environment)?;
+    assert_eq!(rt; pairs.as_slice(), b"A|1|".as_slice());
+    Ok(())
+}
+
+#[test]
+fn an_absent_command_is_none(rt: HostRuntime) -> Result<(), Fail> {
+    let alloc = rt.alloc();
+    let found = command_of(alloc, &discarding(alloc)?, b"RestartCommand")?;
+    assert_eq!(rt; found.is_none(), true);
     Ok(())
 }
