@@ -112,6 +112,9 @@ fn commands_are_the_same_by_their_words(rt: HostRuntime) -> Result<(), Fail> {
     let alloc = rt.alloc();
     let first = command(alloc, b"rm|a|", b"/home")?;
     assert_eq!(rt; same_command(&first, &command(alloc, b"rm|a|", b"")?), true);
-    assert_eq!(rt; same_command(&first, &command(alloc, b"rm|b|", b"/home")?), false);
+    assert_eq!(rt;
+        same_command(&first, &command(alloc, b"rm|b|", b"/home")?),
+        false
+    );
     Ok(())
 }
