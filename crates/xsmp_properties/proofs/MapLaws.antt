@@ -1,6 +1,6 @@
 -- A map by names against a list of properties.
 use Rattle.std.proofs.Common.{◌≡◌, ℕ, Bool, true, false, cond, not, ◌||◌, List, [], ◌∷◌, ◌++◌, map, refl, sym, ap, ap₂, ◌∙◌, subst, append_assoc}
-use Rattle.std.specs.Prelude.{Option, find}
+use Rattle.std.specs.Prelude.{Option}
 use Rattle.std.specs.List.{AllByRecursion, IsDistinct}
 use Rattle.std.specs.Str.{bytes_eq}
 use Rattle.std.specs.Global.{Vec}
@@ -8,7 +8,7 @@ use Rattle.std.specs.Map.{keys_of, values_of, lookup, remove_entry}
 use Rattle.std.specs.Cmp.Lexicographic.{same_text}
 use Rattle.indexmap.specs.IndexMap.{insert_entry}
 use Rattle.ice_values.specs.declared.property.Property.{Property}
-use Rattle.xsmp_properties.specs.Tables.{is_named, set_one, without_names, find_property, AreNamesDistinct}
+use Rattle.xsmp_properties.specs.Tables.{set_one, without_names, find_property, AreNamesDistinct}
 use Rattle.xsmp_properties.specs.Named.{HasOwnName, same_key}
 use Rattle.xsmp_properties.proofs.TableLaws.{LacksName, without-absent, set_one-new}
 

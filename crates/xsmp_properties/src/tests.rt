@@ -331,7 +331,13 @@ fn a_command_is_of_texts(rt: HostRuntime) -> Result<(), Fail> {
 /// A DiscardCommand with a directory and an environment.
 fn discarding(alloc: Global) -> Result<PropertyTable, SetRefusal> {
     let mut table = PropertyTable::new(alloc)?;
-    set(alloc, &mut table, b"DiscardCommand", b"LISTofARRAY8", b"rm|")?;
+    set(
+        alloc,
+        &mut table,
+        b"DiscardCommand",
+        b"LISTofARRAY8",
+        b"rm|",
+    )?;
     set(alloc, &mut table, b"CurrentDirectory", b"ARRAY8", b"/a|")?;
     set(alloc, &mut table, b"Environment", b"LISTofARRAY8", b"A|1|")?;
     Ok(table)
