@@ -1,6 +1,6 @@
 -- What is kept of a session between its logins: a record of each client, the commands that are yet
 -- to be run, and a number that each run of the manager raises.
-use Rattle.std.specs.Prelude.{ℕ, Bool, List, [], codes, filter_map}
+use Rattle.std.specs.Prelude.{Bool, List, [], codes, filter_map}
 use Rattle.std.specs.List.{list_any}
 use Rattle.std.specs.Str.{bytes_eq}
 use Rattle.std.specs.Cmp.Lexicographic.{pointwise}
