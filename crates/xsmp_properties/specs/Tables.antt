@@ -1,6 +1,5 @@
 -- What a client says of itself: a list of properties, in the order in which each name was first set.
-use Rattle.std.specs.Prelude.{ℕ, ◌<◌, Bool, not, cond, ◌⊎◌, List, [], ◌∷◌, length, map, flat_map}
-use Rattle.std.specs.Prelude.{Option, find, filter}
+use Rattle.std.specs.Prelude.{ℕ, ◌<◌, Bool, not, cond, ◌⊎◌, List, [], ◌∷◌, length, map, flat_map, Option, find, filter}
 use Rattle.std.specs.List.{list_any, IsDistinct}
 use Rattle.std.specs.Str.{bytes_eq}
 use Rattle.ice_values.specs.Properties.{property}
