@@ -1,0 +1,16 @@
+//! What clients say of themselves: tables of properties, and what is read from them.
+#![tactic(auto)]
+
+mod commands;
+mod hints;
+mod named;
+mod refusals;
+mod table;
+#[cfg(test)]
+mod tests;
+mod texts;
+
+pub use commands::{command_of, directory_of, environment_of};
+pub use hints::{Hint, hint_of};
+pub use refusals::SetRefusal;
+pub use table::PropertyTable;

@@ -1,0 +1,90 @@
+ghost use Rattle.std.specs.Prelude.{◌≡◌, [], Err, IfOk, OnOk, OnErr, option_copied};
+ghost use Rattle.xsmp_properties.specs.Tables.{set_all, without_names, find_property, IsTableFull, AreNamesDistinct};
+ghost use Rattle.xsmp_properties.specs.declared.refusals.SetRefusal.TheVariants.{TableFull};
+
+use crate::SetRefusal;
+use crate::named::NamedProperties;
+use ice_values::{Array8List, Property, PropertyList};
+use sm_world::{Duplicate, NoMemory};
+use std::alloc::Global;
+use std::marker::Model;
+
+/// What a client says of itself (XSMP, chapter 11): at most 128 properties of different names, in
+/// the order in which each name was first set, which at most 16,384 bytes spell.
+#[derive(Drop)]
+pub struct PropertyTable {
+    named: NamedProperties,
+}
+
+impl Model for PropertyTable {
+    ghost use Rattle.std.specs.Prelude.{List};
+    ghost use Rattle.ice_values.specs.declared.property.Property.{Property};
+    ghost use Rattle.xsmp_properties.specs.Tables.{IsTableFull};
+
+    ghost Value = { List Property };
+
+    ghost view = { λ table. table.named };
+
+    ghost invariant = { λ table. ¬ (IsTableFull table.named) };
+}
+
+impl PropertyTable {
+    /// No properties.
+    pub fn new(alloc: Global) -> Result<PropertyTable, NoMemory>
+        ensures { IfOk result (λ table. table ≡ []) }
+    {
+        Ok(PropertyTable {
+            named: NamedProperties::new(alloc),
+        })
+    }
+
+    /// Sets copies of all these properties in turn (XSMP, chapter 7: SetProperties). A property
+    /// takes the place of the one of its name, and a new name goes last. The table is full where
+    /// the table after all of them would pass a limit. A refused call changes nothing.
+    pub fn set(&mut self, list: &PropertyList) -> Result<(), SetRefusal>
+        ensures ok { OnOk result (self.new ≡ set_all self.old list.now) }
+        ensures fits { OnOk result (¬ (IsTableFull (set_all self.old list.now))) }
+        ensures full { result ≡ Err TableFull → IsTableFull (set_all self.old list.now) }
+        ensures err { OnErr result (self.new ≡ self.old) }
+    {
+        let mut named = self.named.copy()?;
+        named.put_all(list.as_slice())?;
+        if named.is_full() {
+            return Err(SetRefusal::TableFull);
+        }
+        self.named = named;
+        Ok(())
+    }
+
+    /// Takes out the properties of these names, as far as there are any (XSMP, chapter 7:
+    /// DeleteProperties). This takes no memory.
+    pub fn delete(&mut self, names: &Array8List)
+        ensures { self.new ≡ without_names names.now self.old }
+    {
+        self.named.remove_all(names.as_slice());
+    }
+
+    /// The property of this name. This takes no memory.
+    pub fn get(&self, name: &[u8]) -> Option<&Property>
+        ensures { option_copied result ≡ find_property name.now self.now }
+    {
+        self.named.get(name)
+    }
+
+    /// Copies of all properties, in order.
+    pub fn list(&self) -> Result<PropertyList, NoMemory>
+        ensures list { IfOk result (λ list. list ≡ self.now) }
+        ensures names { AreNamesDistinct self.now }
+        ensures limits { ¬ (IsTableFull self.now) }
+    {
+        self.named.list()
+    }
+}
+
+impl Duplicate for PropertyTable {
+    fn copy(&self) -> Result<PropertyTable, NoMemory> {
+        Ok(PropertyTable {
+            named: self.named.copy()?,
+        })
+    }
+}

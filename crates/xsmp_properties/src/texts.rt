@@ -1,0 +1,59 @@
+ghost use Rattle.std.specs.Prelude.{◌≡◌, option_copied};
+ghost use Rattle.std.specs.List.{list_all};
+ghost use Rattle.std.specs.Str.{is_utf8};
+ghost use Rattle.xsmp_properties.specs.Readers.{values_of, is_text, is_variable, are_words};
+
+use crate::PropertyTable;
+use ice_values::Array8;
+
+fn is_utf8(bytes: &[u8]) -> bool
+    ensures { result ≡ is_utf8 bytes.now }
+{
+    str::from_utf8(bytes).is_ok()
+}
+
+/// Whether these bytes are UTF-8 without NUL.
+pub(crate) fn is_text(bytes: &[u8]) -> bool
+    ensures { result ≡ is_text bytes.now }
+{
+    is_utf8(bytes) && !bytes.contains(&0)
+}
+
+/// Whether these bytes name a variable of an environment.
+pub(crate) fn is_variable(name: &[u8]) -> bool
+    ensures { result ≡ is_variable name.now }
+{
+    !name.is_empty() && is_text(name) && !name.contains(&b'=')
+}
+
+fn are_texts(values: &[Array8]) -> bool
+    ensures { result ≡ list_all is_text values.now }
+{
+    values.iter().all(|value| is_text(value.as_slice()))
+}
+
+/// Whether these are the words of a command: a program and its arguments.
+pub(crate) fn are_words(values: &[Array8]) -> bool
+    ensures { result ≡ are_words values.now }
+{
+    let [program, ..] = values else {
+        return false;
+    };
+    !program.as_slice().is_empty() && are_texts(values)
+}
+
+/// The values under a name, where they are of a kind.
+pub(crate) fn values_of<'a>(
+    table: &'a PropertyTable,
+    name: &[u8],
+    kind: &[u8],
+) -> Option<&'a [Array8]>
+    ensures { option_copied result ≡ values_of name.now kind.now table.now }
+{
+    let property = table.get(name)?;
+    if kind == property.kind.as_slice() {
+        Some(property.values.as_slice())
+    } else {
+        None
+    }
+}
