@@ -85,11 +85,15 @@ refuses_connection class offending = Ends (Some (Error (blame FatalToConnection 
 abbrev pub refuses_protocol : AnySetup → ℕ → List ℕ → Offending → Moved
 refuses_protocol state class values offending = Goes state (Some (Error (blame FatalToProtocol class offending values)))
 
--- A message without a place in the state: before ConnectionReply was sent that ends the connection, and later the state is the same.
+-- What is refused: before ConnectionReply was sent that ends the connection, and later the state is the same.
+abbrev pub refuses : AnySetup → ℕ → Offending → List ℕ → Moved
+refuses state class offending values =
+    if connected state then Goes state (Some (Error (blame CanContinue class offending values)))
+    else Ends (Some (Error (blame FatalToConnection class offending values)))
+
+-- a message without a place in the state
 abbrev pub out_of_place : AnySetup → Offending → Moved
-out_of_place state offending =
-    if connected state then Goes state (Some (Error (blame CanContinue bad_state offending [])))
-    else Ends (Some (Error (blame FatalToConnection bad_state offending [])))
+out_of_place state offending = refuses state bad_state offending []
 
 -- the client wants to close, which the session decides while it speaks XSMP
 abbrev pub wants_to_close : AnySetup → Moved

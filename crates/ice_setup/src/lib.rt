@@ -19,6 +19,7 @@ pub use errors::{
     UNKNOWN_PROTOCOL, error_of, opcode_values, text_values, wrong_byte_values,
 };
 pub use laws::{spelled_messages_fit, states_follow_on};
+pub use others::refuse;
 pub use states::{
     AnySetup, AwaitCookie, AwaitOrder, AwaitProtocol, AwaitProtocolCookie, AwaitSetup, Moved, Ready,
 };

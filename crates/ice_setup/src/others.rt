@@ -1,11 +1,11 @@
-ghost use Rattle.std.specs.Prelude.{◌≡◌};
-ghost use Rattle.ice_setup.specs.Setup.{other_cell, out_of_place as out_of_place_spec, wants_to_close as wants_to_close_spec, named as named_spec, CanBeSaid};
+ghost use Rattle.std.specs.Prelude.{◌≡◌, ◌≤◌, ◌%◌, length};
+ghost use Rattle.ice_setup.specs.Setup.{refuses, CanBeSaid, other_cell, out_of_place as out_of_place_spec, wants_to_close as wants_to_close_spec, named as named_spec};
 
-use crate::answers::bare_error;
-use crate::errors::{BAD_STATE, Offending};
+use crate::errors::{BAD_STATE, Offending, error_of};
 use crate::states::{AnySetup, Moved};
 use ice_messages::{IceMessage, minor};
 use ice_values::Severity;
+use sm_world::Octets;
 use std::alloc::Global;
 
 /// What an Error names of a message.
@@ -18,17 +18,27 @@ pub fn named(message: &IceMessage, sequence: u32) -> Offending
     }
 }
 
-/// A message that has no place in the state.
-pub fn out_of_place(alloc: Global, state: AnySetup, offending: Offending) -> Moved
-    ensures answer { result ≡ out_of_place_spec state offending }
+/// What is refused in a state, with values that fill units of 8 bytes. Before ConnectionReply was
+/// sent that ends the connection, and later the state is the same.
+pub fn refuse(state: AnySetup, class: u16, offending: Offending, values: Octets) -> Moved
+    requires units { length values % 8 ≡ 0 }
+    requires few { length values ≤ 65528 }
+    ensures moved { result ≡ refuses state class offending values }
     ensures said { CanBeSaid result }
 {
     if state.connected() {
-        let error = bare_error(alloc, Severity::CanContinue, BAD_STATE, offending);
-        return Moved::Goes(state, Some(error));
+        let error = error_of(Severity::CanContinue, class, offending, values);
+        return Moved::Goes(state, Some(IceMessage::Error(error)));
     }
-    let error = bare_error(alloc, Severity::FatalToConnection, BAD_STATE, offending);
-    Moved::Ends(Some(error))
+    let error = error_of(Severity::FatalToConnection, class, offending, values);
+    Moved::Ends(Some(IceMessage::Error(error)))
+}
+
+/// A message that has no place in the state.
+pub fn out_of_place(alloc: Global, state: AnySetup, offending: Offending) -> Moved
+    ensures { result ≡ out_of_place_spec state offending }
+{
+    refuse(state, BAD_STATE, offending, Octets::new(alloc))
 }
 
 fn wants_to_close(state: AnySetup) -> Moved

@@ -5,7 +5,7 @@ use Rattle.ice_values.specs.Fields.{ErrorFields}
 use Rattle.ice_values.specs.Numbers.{number}
 use Rattle.ice_values.specs.declared.numbers.Endian.{Endian}
 use Rattle.ice_values.specs.declared.numbers.Endian.TheVariants.{Lsb, Msb}
-use Rattle.ice_values.specs.declared.severity.Severity.TheVariants.{CanContinue, FatalToConnection}
+use Rattle.ice_values.specs.declared.severity.Severity.TheVariants.{FatalToConnection}
 use Rattle.ice_values.specs.declared.refusals.DecodeRefusal.{DecodeRefusal}
 use Rattle.ice_values.specs.declared.refusals.DecodeRefusal.TheVariants.{BadMinor, BadLength, BadValue, NoMemory}
 use Rattle.ice_framing.specs.declared.cutting.WholeFrame.{WholeFrame}
@@ -13,7 +13,7 @@ use Rattle.ice_messages.specs.Reading.{decode_at}
 use Rattle.ice_messages.specs.declared.message.IceMessage.{IceMessage}
 use Rattle.ice_messages.specs.declared.message.IceMessage.TheVariants.{Error, ByteOrder}
 use Rattle.ice_setup.specs.Errors.{bad_minor, bad_state, bad_length, bad_value, bad_major, blame, opcode_values, wrong_byte}
-use Rattle.ice_setup.specs.Setup.{moved, connected, endian_of, opcode_of}
+use Rattle.ice_setup.specs.Setup.{moved, refuses, endian_of, opcode_of}
 use Rattle.ice_setup.specs.declared.errors.Offending.{Offending}
 use Rattle.ice_setup.specs.declared.states.AwaitOrder.{AwaitOrder}
 use Rattle.ice_setup.specs.declared.states.AnySetup.{AnySetup}
@@ -30,12 +30,6 @@ use Rattle.session_engine.specs.declared.answers.Answer.TheVariants.{Stays, Clos
 -- what an Error names of a frame
 abbrev pub named_in : List ℕ → ℕ → Offending
 named_in bytes sequence = record { minor = slice_index bytes 1; sequence = sequence }
-
--- A part that is refused: before ConnectionReply was sent that ends the connection, and later the state is the same.
-abbrev pub refuses : AnySetup → ℕ → Offending → List ℕ → Moved
-refuses setup class offending values =
-    if connected setup then Goes setup (Some (Error (blame CanContinue class offending values)))
-    else Ends (Some (Error (blame FatalToConnection class offending values)))
 
 -- the order that byte 2 of the first frame states
 abbrev pub stated_order : List ℕ → Endian

@@ -1,11 +1,11 @@
-ghost use Rattle.std.specs.Prelude.{◌≡◌, ◌≤◌, ◌%◌, length, take, slice_index, true, IfOk};
+ghost use Rattle.std.specs.Prelude.{◌≡◌, ◌≤◌, length, take, slice_index, true, IfOk};
 ghost use Rattle.ice_messages.specs.Messages.{IsFrame, IsTooLong};
 ghost use Rattle.ice_messages.specs.Reading.{decode_at};
 ghost use Rattle.ice_framing.specs.Frames.{byte_limit};
 ghost use Rattle.ice_values.specs.declared.numbers.Endian.{Endian as AnyEndian};
 ghost use Rattle.ice_setup.specs.Setup.{moved as moved_by, CanBeSaid as MovesWithin};
 ghost use Rattle.ice_setup.specs.declared.states.AnySetup.{AnySetup as State};
-ghost use Rattle.session_engine.specs.Answers.{named_in, refuses, first_moved, read_moved, later_moved, frame_moved, is_opcode as is_opcode_of, is_ordered, error_about as error_about_of, oversize_answer, outcome_of, said_in, kept};
+ghost use Rattle.session_engine.specs.Answers.{named_in, first_moved, read_moved, later_moved, frame_moved, is_opcode as is_opcode_of, is_ordered, error_about as error_about_of, oversize_answer, outcome_of, said_in, kept};
 ghost use Rattle.session_engine.specs.Messages.{CanBeSaid};
 
 use crate::messages::Message;
@@ -13,7 +13,7 @@ use ice_framing::{Frame, Splitter};
 use ice_messages::{IceMessage, decode_ice};
 use ice_setup::{
     AnySetup, AwaitOrder, BAD_LENGTH, BAD_MAJOR, BAD_MINOR, BAD_STATE, BAD_VALUE, Moved, Offending,
-    error_of, opcode_values, wrong_byte_values,
+    error_of, opcode_values, refuse, wrong_byte_values,
 };
 use ice_values::{DecodeRefusal, Endian, ErrorBody, Severity, read_card32};
 use sm_world::{NoMemory, Octets};
@@ -38,21 +38,6 @@ fn named(sequence: u32, frame: &[u8]) -> Offending
         minor: frame[1],
         sequence,
     }
-}
-
-/// A part of the stream is refused, with values that fill units of 8 bytes.
-fn refuse(setup: AnySetup, class: u16, offending: Offending, values: Octets) -> Moved
-    requires units { length values % 8 ≡ 0 }
-    requires few { length values ≤ 16 }
-    ensures moved { result ≡ refuses setup class offending values }
-    ensures said { MovesWithin result }
-{
-    if setup.connected() {
-        let error = error_of(Severity::CanContinue, class, offending, values);
-        return Moved::Goes(setup, Some(IceMessage::Error(error)));
-    }
-    let error = error_of(Severity::FatalToConnection, class, offending, values);
-    Moved::Ends(Some(IceMessage::Error(error)))
 }
 
 /// Takes a message of ICE. Where memory is wanting, the connection has no state any more.
@@ -230,12 +215,7 @@ fn answer_oversize(alloc: Global, setup: &AnySetup, sequence: u32, header: &[u8;
 }
 
 /// The answer to the header that a splitter holds where it states too much.
-pub fn answer_header(
-    alloc: Global,
-    setup: &AnySetup,
-    sequence: u32,
-    splitter: &Splitter,
-) -> Answer
+pub fn answer_header(alloc: Global, setup: &AnySetup, sequence: u32, splitter: &Splitter) -> Answer
     requires { 8 ≤ length splitter.now.held }
     ensures answer { result ≡ oversize_answer setup.now sequence (take 8 splitter.now.held) }
     ensures said { CanBeSaid (said_in result) }

@@ -5,8 +5,8 @@ ghost use Rattle.sm_world.specs.declared.effects.Effect.TheVariants.{Heard, Sent
 ghost use Rattle.session_engine.specs.Messages.{spelled, IsTooLong};
 ghost use Rattle.session_engine.specs.Carries.{NotFallen, HasCause, fault_of};
 
-use crate::messages::Message;
 use crate::ServeFault;
+use crate::messages::Message;
 use ice_messages::encode_ice;
 use ice_setup::MANAGER_OPCODE;
 use ice_values::{EncodeRefusal, Endian};
