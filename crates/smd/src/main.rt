@@ -59,12 +59,7 @@ fn identity(rt: &HostRuntime) -> io::Result<Identity>
 }
 
 /// The status of a run with these words.
-fn answer(
-    alloc: Global,
-    words: &[String],
-    world: &mut StandardConsole,
-    identity: Identity,
-) -> u8
+fn answer(alloc: Global, words: &[String], world: &mut StandardConsole, identity: Identity) -> u8
     requires { length identity.host ≤ 255 }
 {
     match own_text(words) {

@@ -7,9 +7,9 @@ mod identity;
 mod laws;
 mod program;
 mod rehearsal;
-mod script;
 #[cfg(test)]
 mod rows;
+mod script;
 #[cfg(test)]
 mod tests;
 mod trace;
