@@ -1,7 +1,7 @@
 use crate::{
     OrderRefusal, a_line_gives_one_event, a_line_says_its_event, a_line_says_one_order,
-    effect_line, has_line, lines_say_one_list, next_line, put_hex, read_bytes, read_hex, read_number,
-    read_order, read_script_line, split_once, started_line,
+    effect_line, has_line, lines_say_one_list, next_line, put_hex, read_bytes, read_hex,
+    read_number, read_order, read_script_line, split_once, started_line,
 };
 use sm_world::{Command, Effect, Event, NoMemory, Octets, OctetsList, Order, PairList};
 use std::alloc::Global;
