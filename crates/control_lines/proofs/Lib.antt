@@ -4,3 +4,4 @@ pub mod Meanings
 pub mod Refusals
 pub mod Again
 pub mod Listing
+pub mod InputLemmas

@@ -1,5 +1,4 @@
 pub mod ScriptLemmas
-pub mod InputLemmas
 pub mod Heard
 pub mod Rehearsing
 pub mod Printing

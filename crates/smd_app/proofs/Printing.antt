@@ -8,8 +8,10 @@ use Rattle.sm_world.specs.declared.failures.Failure.{Failure}
 use Rattle.sm_world.specs.declared.failures.Failure.TheVariants.{Failed, NoMemory as DeviceMemory}
 use Rattle.session_engine.specs.Carries.{Added}
 use Rattle.smd_app.specs.Faults.{IsScriptFault}
-use Rattle.smd_app.specs.FaultLines.{Tries, fault_line, fault_status, console_fault, script_fault}
-use Rattle.smd_app.specs.Input.{front, TakesFront}
+use Rattle.control_lines.specs.Printing.{Tries}
+use Rattle.smd_app.specs.FaultLines.{fault_line, fault_status, console_fault, script_fault}
+use Rattle.control_lines.specs.Input.{TakesFront}
+use Rattle.control_lines.proofs.InputLemmas.{front_taken, some_input}
 use Rattle.smd_app.specs.Rehearsals.{script_of, Rehearses}
 use Rattle.smd_app.specs.Script.{ScriptSays}
 use Rattle.smd_app.specs.Statuses.{AreRehearse, Ending, HasEnding, Runs, Answers}
@@ -47,20 +49,11 @@ pub record Took (old mid : Outside) (bytes : List ℕ) : Type 0 where
   pub told : mid.told ≡ old.told
   pub console : old.faults.console ≤ mid.faults.console
 
-front_taken : (limit : ℕ) (told : Option (List ℕ)) (bytes : List ℕ) → TakesFront {E = Failure} limit told (Ok bytes) → (input : List ℕ) × (IfSome told (λ t. t ≡ input)) × (bytes ≡ front limit input)
-unfolding front
-front_taken limit None bytes taken = (bytes, tt, sym (take_all limit bytes taken))
-front_taken limit (Some input) bytes taken = (input, refl, taken)
-
 pub took : (old mid : Outside) (bytes : List ℕ) → mid.told ≡ old.told → TakesFront {E = Failure} (SCRIPT_LIMIT + 1) old.input (Ok bytes) → old.faults.console ≤ mid.faults.console → Took old mid bytes
 unfolding script_of
 took old mid bytes told taken counts =
     let parts = front_taken (SCRIPT_LIMIT + 1) old.input bytes taken in
     record { input = parts.0; is_input = parts.1; is_script = parts.2; told = told; console = counts }
-
-some_input : (told : Option (List ℕ)) → (input : List ℕ) × IfSome told (λ t. t ≡ input)
-some_input None = ([], tt)
-some_input (Some input) = (input, refl)
 
 -- a run that printed these texts after its script was read
 pub ran : (words : List (List ℕ)) (old mid new : Outside) (turns : ℕ) (bytes : List ℕ) (texts : List (List ℕ)) (ending : Ending) → Took old mid bytes → new.told ≡ adds mid.told (map Printed texts) → HasEnding words old.faults.console new.faults.console bytes turns texts ending → Added old.told new.told (Runs words old new turns ending)
