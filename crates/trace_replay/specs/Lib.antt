@@ -3,3 +3,7 @@ pub mod Grammar
 pub mod Frames
 pub mod Shown
 pub mod Shows
+pub mod Steps
+pub mod Parts
+pub mod Flows
+pub mod Watches

@@ -5,8 +5,8 @@ use Rattle.sm_world.specs.declared.events.Event.{Event}
 use Rattle.sm_world.specs.declared.events.Event.TheVariants.{Joined, Piece, Gone, Operator, Tick, End as AtEnd}
 use Rattle.session_engine.specs.Streams.{Part, Whole, TooMuch, parts_of, new_parts}
 use Rattle.trace_replay.specs.Frames.{frame_text}
-use Rattle.trace_replay.specs.declared.flows.Direction.{Direction}
-use Rattle.trace_replay.specs.declared.flows.Direction.TheVariants.{In, Out}
+use Rattle.trace_replay.specs.declared.parts.Direction.{Direction}
+use Rattle.trace_replay.specs.declared.parts.Direction.TheVariants.{In, Out}
 use Rattle.trace_replay.specs.declared.lines.TraceLine.{TraceLine}
 use Rattle.trace_replay.specs.declared.lines.TraceLine.TheVariants.{Heard, End, Sent, Shut, Started, Printed}
 

@@ -4,8 +4,8 @@ use Rattle.control_lines.specs.Lines.{lines_of}
 use Rattle.trace_replay.specs.Grammar.{SaysLine, SayLines}
 use Rattle.trace_replay.specs.Shown.{shown}
 use Rattle.trace_replay.specs.declared.lines.TraceLine.{TraceLine}
-use Rattle.trace_replay.specs.declared.show.ShowAnswer.{ShowAnswer}
-use Rattle.trace_replay.specs.declared.show.ShowAnswer.TheVariants.{Text, Malformed}
+use Rattle.trace_replay.specs.declared.showing.ShowAnswer.{ShowAnswer}
+use Rattle.trace_replay.specs.declared.showing.ShowAnswer.TheVariants.{Text, Malformed}
 
 -- A trace of at most so many bytes whose lines are all of the grammar, and what is shown of it.
 pub record IsShown (limit : ℕ) (trace text : List ℕ) : Type 0 where

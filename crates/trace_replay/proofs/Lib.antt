@@ -1,0 +1,6 @@
+pub mod FieldLemmas
+pub mod LineLemmas
+pub mod PartLemmas
+pub mod FlowLemmas
+pub mod WatchLemmas
+pub mod ReadingLemmas
