@@ -1,10 +1,10 @@
 -- The fields of a text.
-use Rattle.std.proofs.Common.{◌≡◌, ◌≢◌, inl, inr, ℕ, ◌==◌, ◌↔◌, false, List, [], ◌∷◌, ◌++◌, Ok, refl, codes}
+use Rattle.std.proofs.Common.{◌≡◌, ◌≢◌, ℕ, ◌==◌, ◌↔◌, false, List, [], ◌∷◌, ◌++◌, Some, None, refl, sym, subst, arith}
 use Rattle.std.proofs.lemmas.Bool.Decides.{nat_tests}
-use Rattle.std.proofs.Common.{arith}
 use Rattle.control_lines.specs.Parts.{IsWithout}
-use Rattle.trace_replay.specs.Commands.{fields_of, IsField, IsLowerHex, GoOn}
-use Rattle.trace_replay.specs.declared.commands.Place.TheVariants.{Words, Directory, Name}
+use Rattle.trace_replay.specs.Commands.{fields_of, GoOn, IsCommand}
+use Rattle.trace_replay.specs.Steps.{LeadsTo}
+use Rattle.trace_replay.specs.declared.commands.Place.{Place}
 
 not_space : (b : ℕ) → b ≢ 32 → (b == 32) ≡ false
 not_space b apart = grind (arith, nat_tests)
@@ -19,11 +19,14 @@ pub fields_of-last : (text : List ℕ) → IsWithout 32 text → fields_of text 
 fields_of-last [] without = refl
 fields_of-last (b ∷ text) without = rw (not_space b without.0, fields_of-last text without.1) refl
 
--- the marks are no fields
-no_directory_mark : IsField (codes "@") → ⊥
-no_directory_mark (inl e) = absurd cc
-no_directory_mark (inr hex) = let spells = hex.1.spells in absurd cc
+-- One more field leads on.
+pub step_on : (place next : Place) (text left field : List ℕ) (fields : List (List ℕ)) → GoOn place (fields_of left) ↔ IsCommand text → fields_of left ≡ field ∷ fields → LeadsTo place field (Some next) → GoOn next fields ↔ IsCommand text
+step_on place next text left field fields so_far first leads =
+    let P : List (List ℕ) → Type 0 = GoOn place in
+    ((λ goes. so_far.0 (subst P (sym first) ((leads fields).1 goes))), (λ is. (leads fields).0 (subst P first (so_far.1 is))))
 
-no_pair_mark : IsField (codes "+") → ⊥
-no_pair_mark (inl e) = absurd cc
-no_pair_mark (inr hex) = let spells = hex.1.spells in absurd cc
+-- The field can't stand here.
+pub no_command : (place : Place) (text left field : List ℕ) (fields : List (List ℕ)) → GoOn place (fields_of left) ↔ IsCommand text → fields_of left ≡ field ∷ fields → LeadsTo place field None → IsCommand text → ⊥
+no_command place text left field fields so_far first none is =
+    let P : List (List ℕ) → Type 0 = GoOn place in
+    none fields (subst P first (so_far.1 is))

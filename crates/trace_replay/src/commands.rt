@@ -1,4 +1,4 @@
-ghost use Rattle.std.specs.Prelude.{◌≡◌, ◌↔◌, ◌<◌, [], ◌∷◌, length, IsTrue, IfOk, IfSome, MatchOption};
+ghost use Rattle.std.specs.Prelude.{◌≡◌, ◌↔◌, ◌<◌, ℕ, List, [], ◌∷◌, length, IsTrue, IfOk, IfSome, MatchOption};
 ghost use Rattle.control_lines.specs.Fields.{hex_text};
 ghost use Rattle.trace_replay.specs.Commands.{fields_of, IsLowerHex, IsField, GoOn, IsCommand};
 ghost use Rattle.trace_replay.specs.Steps.{LeadsTo};
@@ -94,6 +94,7 @@ impl Place {
 /// The first field of a text, and what stands behind the space after it.
 fn first_field(text: &[u8]) -> (&[u8], Option<&[u8]>)
     ensures fields { MatchOption result.1 (fields_of text.now ≡ result.0.now ∷ []) (λ rest. fields_of text.now ≡ result.0.now ∷ fields_of rest.now) }
+    ensures begins { (fields : List (List ℕ)) × (fields_of text.now ≡ result.0.now ∷ fields) }
     ensures shorter { IfSome result.1 (λ rest. length rest.now < length text.now) }
 {
     match split_once(text, b' ') {

@@ -54,7 +54,7 @@ pub fn read_trace_line(alloc: Global, line: &[u8]) -> Result<TraceLine, OrderRef
             .map(TraceLine::Shut)
             .ok_or(OrderRefusal::BadLine);
     }
-    if line.strip_prefix(b"printed ").is_some() {
+    if let Some(_) = line.strip_prefix(b"printed ") {
         return Ok(TraceLine::Printed);
     }
     if let Some(text) = command_text(line) {
@@ -64,8 +64,10 @@ pub fn read_trace_line(alloc: Global, line: &[u8]) -> Result<TraceLine, OrderRef
             Err(OrderRefusal::BadLine)
         };
     }
-    match read_script_line(alloc, line)? {
-        Some(event) => Ok(TraceLine::Heard(event)),
-        None => Err(OrderRefusal::BadLine),
+    match read_script_line(alloc, line) {
+        Ok(Some(event)) => Ok(TraceLine::Heard(event)),
+        Ok(None) => Err(OrderRefusal::BadLine),
+        Err(OrderRefusal::BadLine) => Err(OrderRefusal::BadLine),
+        Err(OrderRefusal::NoMemory) => Err(OrderRefusal::NoMemory),
     }
 }
