@@ -5,3 +5,4 @@ pub mod Refusals
 pub mod Again
 pub mod Listing
 pub mod InputLemmas
+pub mod WordLemmas

@@ -2,5 +2,4 @@ pub mod ScriptLemmas
 pub mod Heard
 pub mod Rehearsing
 pub mod Printing
-pub mod WordLemmas
 pub mod Excluding

@@ -11,7 +11,7 @@ use Rattle.smd_app.specs.Faults.{IsScriptFault}
 use Rattle.control_lines.specs.Printing.{Tries}
 use Rattle.smd_app.specs.FaultLines.{fault_line, fault_status, console_fault, script_fault}
 use Rattle.control_lines.specs.Input.{TakesFront}
-use Rattle.control_lines.proofs.InputLemmas.{front_taken, some_input}
+use Rattle.control_lines.proofs.InputLemmas.{front_taken, some_input, rose_since}
 use Rattle.smd_app.specs.Rehearsals.{script_of, Rehearses}
 use Rattle.smd_app.specs.Script.{ScriptSays}
 use Rattle.smd_app.specs.Statuses.{AreRehearse, Ending, HasEnding, Runs, Answers}
@@ -35,11 +35,6 @@ adds-adds (Some told) xs ys = ap Some (append_assoc told xs ys)
 pub line_tried : {E : Type 0} (result : Result (Unit {0}) E) (old new : Option (List Effect)) (text : List ℕ) → new ≡ adds old (on_ok result (Printed text ∷ [])) → Added old new (Tries (Some text))
 line_tried (Ok x) old new text e = record { effects = Printed text ∷ []; added = e; holds = record { texts = text ∷ []; printed = refl; tried = inl refl } }
 line_tried (Err x) old new text e = record { effects = []; added = e; holds = record { texts = []; printed = refl; tried = inr refl } }
-
--- what `?` makes of an error
-pub err_is : {A E : Type 0} (result : Result A E) (fault : E) → IsErrAnd result (λ e. e ≡ fault) → result ≡ Err fault
-err_is (Ok x) fault h = absurd h
-err_is (Err e) fault h = ap Err h
 
 -- The script's bytes were read, and nothing else was done.
 pub record Took (old mid : Outside) (bytes : List ℕ) : Type 0 where
@@ -87,10 +82,6 @@ script_refused words old mid turns bytes ScriptMemory are taken bad = ran words 
 -- memory was wanting for the run
 pub run_refused : (words : List (List ℕ)) (old mid : Outside) (turns : ℕ) (bytes : List ℕ) → AreRehearse words → Took old mid bytes → Added old.told mid.told (Runs words old mid turns (Err NoMemory))
 run_refused words old mid turns bytes are taken = ran words old mid mid turns bytes [] (Err NoMemory) taken (sym (adds-none mid.told)) (are, refl)
-
-rose_since : (first before after : ℕ) → first ≤ before → Rose before after → Rose first after
-rose_since first before after not_fallen (inl rose) = inl (omega arith)
-rose_since first before after not_fallen (inr most) = inr most
 
 -- the trace was refused
 pub print_refused : (words : List (List ℕ)) (old mid new : Outside) (turns : ℕ) (bytes : List ℕ) (failure : Failure) → AreRehearse words → Took old mid bytes → new.told ≡ adds mid.told [] → UsesConsole {A = Unit {0}} mid new (Err failure) → Added old.told new.told (Runs words old new turns (Err (console_fault failure)))

@@ -4,3 +4,4 @@ pub mod PartLemmas
 pub mod FlowLemmas
 pub mod WatchLemmas
 pub mod ReadingLemmas
+pub mod Printing

@@ -7,3 +7,5 @@ pub mod Steps
 pub mod Parts
 pub mod Flows
 pub mod Watches
+pub mod Faults
+pub mod Statuses
