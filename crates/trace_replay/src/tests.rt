@@ -39,8 +39,8 @@ const ROWS: [Row; 11] = [
     },
     // In pieces, in upper case, and most significant byte first.
     Row {
-        trace: "piece 7 000101 / piece 7 000000000000 / piece 7 0A0A000000000000",
-        shown: "in 7 1 ByteOrder order=1 / in 7 2 BadMinor",
+        trace: "piece 7 000101 / piece 7 0000000000 / piece 7 0A0A000000000000",
+        shown: "in 7 1 ByteOrder order=1 / in 7 2 ShutdownCancelled",
     },
     // The one direction is no part of the other.
     Row {
