@@ -4,3 +4,5 @@ pub mod Meanings
 pub mod Refusals
 pub mod Again
 pub mod Listing
+pub mod InputLemmas
+pub mod WordLemmas

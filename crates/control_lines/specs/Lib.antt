@@ -5,3 +5,5 @@ pub mod Orders
 pub mod Script
 pub mod Traces
 pub mod Laws
+pub mod Input
+pub mod Printing

@@ -1,6 +1,7 @@
 //! The lines that people read and write: the operator's orders, scripts and traces.
 #![tactic(auto)]
 
+mod console;
 mod fields;
 mod laws;
 mod lines;
@@ -10,6 +11,7 @@ mod script;
 mod tests;
 mod trace;
 
+pub use console::read_input;
 pub use fields::{put_hex, read_bytes, read_conn, read_hex, read_number};
 pub use laws::{
     a_line_gives_one_event, a_line_says_its_event, a_line_says_one_order, lines_say_one_list,

@@ -1,7 +1,5 @@
 pub mod ScriptLemmas
-pub mod InputLemmas
 pub mod Heard
 pub mod Rehearsing
 pub mod Printing
-pub mod WordLemmas
 pub mod Excluding

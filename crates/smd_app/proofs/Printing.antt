@@ -8,8 +8,10 @@ use Rattle.sm_world.specs.declared.failures.Failure.{Failure}
 use Rattle.sm_world.specs.declared.failures.Failure.TheVariants.{Failed, NoMemory as DeviceMemory}
 use Rattle.session_engine.specs.Carries.{Added}
 use Rattle.smd_app.specs.Faults.{IsScriptFault}
-use Rattle.smd_app.specs.FaultLines.{Tries, fault_line, fault_status, console_fault, script_fault}
-use Rattle.smd_app.specs.Input.{front, TakesFront}
+use Rattle.control_lines.specs.Printing.{Tries}
+use Rattle.smd_app.specs.FaultLines.{fault_line, fault_status, console_fault, script_fault}
+use Rattle.control_lines.specs.Input.{TakesFront}
+use Rattle.control_lines.proofs.InputLemmas.{front_taken, some_input, rose_since}
 use Rattle.smd_app.specs.Rehearsals.{script_of, Rehearses}
 use Rattle.smd_app.specs.Script.{ScriptSays}
 use Rattle.smd_app.specs.Statuses.{AreRehearse, Ending, HasEnding, Runs, Answers}
@@ -34,11 +36,6 @@ pub line_tried : {E : Type 0} (result : Result (Unit {0}) E) (old new : Option (
 line_tried (Ok x) old new text e = record { effects = Printed text ∷ []; added = e; holds = record { texts = text ∷ []; printed = refl; tried = inl refl } }
 line_tried (Err x) old new text e = record { effects = []; added = e; holds = record { texts = []; printed = refl; tried = inr refl } }
 
--- what `?` makes of an error
-pub err_is : {A E : Type 0} (result : Result A E) (fault : E) → IsErrAnd result (λ e. e ≡ fault) → result ≡ Err fault
-err_is (Ok x) fault h = absurd h
-err_is (Err e) fault h = ap Err h
-
 -- The script's bytes were read, and nothing else was done.
 pub record Took (old mid : Outside) (bytes : List ℕ) : Type 0 where
   pub input : List ℕ
@@ -47,20 +44,11 @@ pub record Took (old mid : Outside) (bytes : List ℕ) : Type 0 where
   pub told : mid.told ≡ old.told
   pub console : old.faults.console ≤ mid.faults.console
 
-front_taken : (limit : ℕ) (told : Option (List ℕ)) (bytes : List ℕ) → TakesFront {E = Failure} limit told (Ok bytes) → (input : List ℕ) × (IfSome told (λ t. t ≡ input)) × (bytes ≡ front limit input)
-unfolding front
-front_taken limit None bytes taken = (bytes, tt, sym (take_all limit bytes taken))
-front_taken limit (Some input) bytes taken = (input, refl, taken)
-
 pub took : (old mid : Outside) (bytes : List ℕ) → mid.told ≡ old.told → TakesFront {E = Failure} (SCRIPT_LIMIT + 1) old.input (Ok bytes) → old.faults.console ≤ mid.faults.console → Took old mid bytes
 unfolding script_of
 took old mid bytes told taken counts =
     let parts = front_taken (SCRIPT_LIMIT + 1) old.input bytes taken in
     record { input = parts.0; is_input = parts.1; is_script = parts.2; told = told; console = counts }
-
-some_input : (told : Option (List ℕ)) → (input : List ℕ) × IfSome told (λ t. t ≡ input)
-some_input None = ([], tt)
-some_input (Some input) = (input, refl)
 
 -- a run that printed these texts after its script was read
 pub ran : (words : List (List ℕ)) (old mid new : Outside) (turns : ℕ) (bytes : List ℕ) (texts : List (List ℕ)) (ending : Ending) → Took old mid bytes → new.told ≡ adds mid.told (map Printed texts) → HasEnding words old.faults.console new.faults.console bytes turns texts ending → Added old.told new.told (Runs words old new turns ending)
@@ -94,10 +82,6 @@ script_refused words old mid turns bytes ScriptMemory are taken bad = ran words 
 -- memory was wanting for the run
 pub run_refused : (words : List (List ℕ)) (old mid : Outside) (turns : ℕ) (bytes : List ℕ) → AreRehearse words → Took old mid bytes → Added old.told mid.told (Runs words old mid turns (Err NoMemory))
 run_refused words old mid turns bytes are taken = ran words old mid mid turns bytes [] (Err NoMemory) taken (sym (adds-none mid.told)) (are, refl)
-
-rose_since : (first before after : ℕ) → first ≤ before → Rose before after → Rose first after
-rose_since first before after not_fallen (inl rose) = inl (omega arith)
-rose_since first before after not_fallen (inr most) = inr most
 
 -- the trace was refused
 pub print_refused : (words : List (List ℕ)) (old mid new : Outside) (turns : ℕ) (bytes : List ℕ) (failure : Failure) → AreRehearse words → Took old mid bytes → new.told ≡ adds mid.told [] → UsesConsole {A = Unit {0}} mid new (Err failure) → Added old.told new.told (Runs words old new turns (Err (console_fault failure)))

@@ -1,7 +1,6 @@
 pub mod Script
 pub mod Faults
 pub mod Trace
-pub mod Input
 pub mod Rehearsals
 pub mod FaultLines
 pub mod Statuses

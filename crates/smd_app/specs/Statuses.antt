@@ -3,7 +3,8 @@ use Rattle.std.specs.Prelude.{◌≡◌, ℕ, List, [], ◌∷◌, ◌++◌, cod
 use Rattle.sm_world.specs.Outside.{Outside, Rose}
 use Rattle.sm_world.specs.declared.effects.Effect.{Effect}
 use Rattle.sm_world.specs.declared.events.Event.{Event}
-use Rattle.smd_app.specs.FaultLines.{ArePrinted, Tries, fault_line, fault_status}
+use Rattle.control_lines.specs.Printing.{ArePrinted, Tries}
+use Rattle.smd_app.specs.FaultLines.{fault_line, fault_status}
 use Rattle.smd_app.specs.Rehearsals.{script_of, Finishes, Outlasts, whole_trace, first_trace}
 use Rattle.smd_app.specs.Script.{IsFirstBad}
 use Rattle.smd_app.specs.declared.fault.Fault.{Fault}

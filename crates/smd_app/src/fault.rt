@@ -1,6 +1,7 @@
 ghost use Rattle.std.specs.Prelude.{◌≡◌, Some};
 ghost use Rattle.session_engine.specs.Carries.{Added, NotFallen};
-ghost use Rattle.smd_app.specs.FaultLines.{console_fault, script_fault, fault_status, fault_line, Tries};
+ghost use Rattle.control_lines.specs.Printing.{Tries};
+ghost use Rattle.smd_app.specs.FaultLines.{console_fault, script_fault, fault_status, fault_line};
 ghost use Rattle.smd_app.specs.declared.fault.Fault.TheVariants.{Console as ConsoleFault, NoMemory as OutOfMemory};
 
 use crate::script::ScriptFault;

@@ -1,7 +1,6 @@
 //! The session manager's top call: its words, its scripts and what it prints.
 #![tactic(auto)]
 
-mod console;
 mod fault;
 mod identity;
 mod laws;

@@ -2,11 +2,11 @@ ghost use Rattle.std.specs.Prelude.{ℕ, List, length, map, string_bytes, IsTrue
 ghost use Rattle.session_engine.specs.Carries.{Added, NotFallen};
 ghost use Rattle.smd_app.specs.Statuses.{AreRehearse, Runs, Answers};
 
-use crate::console::read_input;
 use crate::fault::Fault;
 use crate::identity::Identity;
 use crate::rehearsal::run_in_memory;
 use crate::script::{SCRIPT_LIMIT, read_script};
+use control_lines::read_input;
 use sm_world::Console;
 use std::alloc::Global;
 

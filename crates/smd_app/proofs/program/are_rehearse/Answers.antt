@@ -1,6 +1,6 @@
 use Rattle.std.proofs.lemmas.Bool.Decides.{Decides-eqb}
 use Rattle.std.proofs.lemmas.Slice.Eq.{slice_eq-Decides}
-use Rattle.smd_app.proofs.WordLemmas.{is_one_word}
+use Rattle.control_lines.proofs.WordLemmas.{is_one_word}
 use Rattle.smd_app.proofs.program.are_rehearse.Goals as goal
 
 pub returns-then-words-eq1 : goal.returns-then-words-eq1

@@ -1,4 +1,5 @@
-use Rattle.smd_app.proofs.Printing.{took, err_is, read_refused, script_refused, run_refused, print_refused, run_ended, run_spent}
+use Rattle.control_lines.proofs.InputLemmas.{err_is}
+use Rattle.smd_app.proofs.Printing.{took, read_refused, script_refused, run_refused, print_refused, run_ended, run_spent}
 use Rattle.smd_app.proofs.program.rehearse.Goals as goal
 
 pub returns-in_err-script-clause-runs : goal.returns-in_err-script-clause-runs

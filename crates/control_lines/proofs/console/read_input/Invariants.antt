@@ -1,5 +1,5 @@
-use Rattle.smd_app.proofs.InputLemmas.{ReadSoFar}
-use Rattle.smd_app.proofs.console.read_input.Given as goal
+use Rattle.control_lines.proofs.InputLemmas.{ReadSoFar}
+use Rattle.control_lines.proofs.console.read_input.Given as goal
 
 abbrev pub invariant-loop-left : goal.invariant-loop-left
 invariant-loop-left g l = ReadSoFar l.limit (g.W.Told.outside l.initial.world) (g.W.Told.outside l.world) l.input l.left

@@ -1,6 +1,6 @@
 ghost use Rattle.std.specs.Prelude.{◌≡◌};
 ghost use Rattle.sm_world.specs.Outside.{UsesConsole};
-ghost use Rattle.smd_app.specs.Input.{TakesFront};
+ghost use Rattle.control_lines.specs.Input.{TakesFront};
 
 use sm_world::{Console, Failure, Octets};
 use std::alloc::Global;

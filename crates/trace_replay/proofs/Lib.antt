@@ -1,0 +1,7 @@
+pub mod FieldLemmas
+pub mod LineLemmas
+pub mod PartLemmas
+pub mod FlowLemmas
+pub mod WatchLemmas
+pub mod ReadingLemmas
+pub mod Printing

@@ -1,0 +1,41 @@
+-- The text of a frame.
+use Rattle.std.specs.Prelude.{ℕ, ◌+◌, ◌*◌, Bool, ◌==◌, nat_le, if◌then◌else◌, List, [], length, drop, slice_index, Result, Ok, Err, codes}
+use Rattle.ice_values.specs.Numbers.{number}
+use Rattle.ice_values.specs.declared.numbers.Endian.{Endian}
+use Rattle.ice_values.specs.declared.refusals.DecodeRefusal.{DecodeRefusal}
+use Rattle.ice_values.specs.declared.refusals.DecodeRefusal.TheVariants.{BadMinor, BadLength, BadValue, NoMemory}
+use Rattle.ice_messages.specs.Reading.{decode_at as ice_at}
+use Rattle.xsmp_messages.specs.Reading.{decode_at as xsmp_at}
+use Rattle.message_text.specs.Lines.{ice_text, xsmp_text}
+use Rattle.ice_framing.specs.declared.cutting.WholeFrame.{WholeFrame}
+
+abbrev pub refusal_text : DecodeRefusal → List ℕ
+refusal_text BadMinor = codes "BadMinor"
+refusal_text BadLength = codes "BadLength"
+refusal_text (BadValue at len) = codes "BadValue"
+refusal_text NoMemory = []
+
+-- a message's line, or why there is none
+abbrev pub text_of : {Message : Type 0} → (Message → List ℕ) → Result Message DecodeRefusal → List ℕ
+text_of line (Ok message) = line message
+text_of line (Err refusal) = refusal_text refusal
+
+-- Messages under major opcode 0 are those of ICE, all others those of XSMP.
+abbrev pub message_text : Endian → List ℕ → List ℕ
+message_text e bytes = if slice_index bytes 0 == 0 then text_of ice_text (ice_at e bytes) else text_of xsmp_text (xsmp_at e bytes)
+
+-- the last minor opcode of the messages under a major opcode
+abbrev pub last_minor : ℕ → ℕ
+last_minor major = if major == 0 then 12 else 18
+
+-- why a header that states more than itself is no message when it stands alone
+abbrev pub header_refusal : List ℕ → DecodeRefusal
+header_refusal bytes = if nat_le (slice_index bytes 1) (last_minor (slice_index bytes 0)) then BadLength else BadMinor
+
+-- the frame has the units that its header states
+abbrev pub is_whole : Endian → List ℕ → Bool
+is_whole e bytes = 8 + 8 * number e 4 (drop 4 bytes) == length bytes
+
+-- The line of the message that a frame spells, or why it spells none. A stream's first frame is its header alone, also where that states more.
+abbrev pub frame_text : WholeFrame → List ℕ
+frame_text frame = if is_whole frame.endian frame.bytes then message_text frame.endian frame.bytes else refusal_text (header_refusal frame.bytes)

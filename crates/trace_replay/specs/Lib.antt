@@ -1,0 +1,11 @@
+pub mod Commands
+pub mod Grammar
+pub mod Frames
+pub mod Shown
+pub mod Shows
+pub mod Steps
+pub mod Parts
+pub mod Flows
+pub mod Watches
+pub mod Faults
+pub mod Statuses

@@ -1,0 +1,63 @@
+-- What `smtrace` prints, and what each of its statuses says.
+use Rattle.std.specs.Prelude.{◌≡◌, ℕ, ◌+◌, List, [], ◌∷◌, ◌++◌, codes, Option, None, Result, Ok, Err, IfSome}
+use Rattle.sm_world.specs.Outside.{Outside, Rose}
+use Rattle.sm_world.specs.declared.effects.Effect.{Effect}
+use Rattle.control_lines.specs.Input.{front}
+use Rattle.control_lines.specs.Printing.{ArePrinted, Tries}
+use Rattle.trace_replay.specs.Faults.{fault_line, fault_status}
+use Rattle.trace_replay.specs.Shows.{IsShown, IsMalformed}
+use Rattle.trace_replay.specs.declared.fault.Fault.{Fault}
+use Rattle.trace_replay.specs.declared.fault.Fault.TheVariants.{BadWords, Malformed, Console, NoMemory}
+use Rattle.trace_replay.specs.declared.program.TheConstants.{TRACE_LIMIT}
+
+-- the words that ask for a trace to be shown
+abbrev pub AreShow : List (List ℕ) → Type 0
+AreShow words = words ≡ codes "show" ∷ []
+
+-- what is read as the trace: of one that is too long, one byte more than it can have
+unfoldable pub trace_of : List ℕ → List ℕ
+trace_of input = front (TRACE_LIMIT + 1) input
+
+-- how a call of `smtrace` ended
+abbrev pub Ending : Type 0
+Ending = Result (Unit {0}) Fault
+
+-- Status 0: the trace was read to its end, and what is shown of it is printed.
+abbrev pub IsPrinted : List ℕ → List (List ℕ) → Type 0
+IsPrinted bytes texts = (text : List ℕ) × IsShown TRACE_LIMIT bytes text × (texts ≡ text ∷ [])
+
+-- What each ending says of the words, of the trace's bytes and of the texts that were printed before the ending's own line. The console's count stood at `before`, and now stands at `after`.
+abbrev pub HasEnding : List (List ℕ) → ℕ → ℕ → List ℕ → List (List ℕ) → Ending → Type 0
+HasEnding words before after bytes texts (Ok x) = AreShow words × IsPrinted bytes texts
+HasEnding words before after bytes texts (Err BadWords) = (¬ (AreShow words)) × (texts ≡ [])
+HasEnding words before after bytes texts (Err (Malformed at)) = AreShow words × IsMalformed TRACE_LIMIT bytes at × (texts ≡ [])
+HasEnding words before after bytes texts (Err Console) = AreShow words × Rose before after × (texts ≡ [])
+HasEnding words before after bytes texts (Err NoMemory) = AreShow words × (texts ≡ [])
+
+-- A run of these words ended so, and its effects are these.
+pub record Runs (words : List (List ℕ)) (old new : Outside) (ending : Ending) (effects : List Effect) : Type 0 where
+  -- the console's input, which is the world's where the world tells it
+  pub input : List ℕ
+  pub is_input : IfSome old.input (λ told. told ≡ input)
+  pub texts : List (List ℕ)
+  pub printed : ArePrinted texts effects
+  pub holds : HasEnding words old.faults.console new.faults.console (trace_of input) texts ending
+
+abbrev pub status_of : Ending → ℕ
+status_of (Ok x) = 0
+status_of (Err fault) = fault_status fault
+
+-- the line of an ending
+abbrev pub line_of : Ending → Option (List ℕ)
+line_of (Ok x) = None
+line_of (Err fault) = fault_line fault
+
+-- A call with these words answered this status: it ran, and then tried its ending's line once.
+pub record Answers (words : List (List ℕ)) (old new : Outside) (status : ℕ) (effects : List Effect) : Type 0 where
+  pub ending : Ending
+  pub number : status ≡ status_of ending
+  pub first : List Effect
+  pub last : List Effect
+  pub parts : effects ≡ first ++ last
+  pub ran : Runs words old new ending first
+  pub tried : Tries (line_of ending) last

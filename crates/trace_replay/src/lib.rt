@@ -1,0 +1,17 @@
+//! Reads the traces of sessions, and shows each message in them.
+#![tactic(auto)]
+
+mod commands;
+mod fault;
+mod flows;
+mod frames;
+mod lines;
+mod parts;
+mod program;
+mod showing;
+#[cfg(test)]
+mod tests;
+mod watch;
+
+pub use program::smtrace_main;
+pub use showing::{ShowAnswer, show};

@@ -1,0 +1,64 @@
+ghost use Rattle.std.specs.Prelude.{ℕ, List, map, string_bytes, IsTrue, ◌↔◌};
+ghost use Rattle.session_engine.specs.Carries.{Added, NotFallen};
+ghost use Rattle.trace_replay.specs.Statuses.{AreShow, Runs, Answers};
+
+use crate::fault::Fault;
+use crate::showing::{ShowAnswer, show_within};
+use control_lines::read_input;
+use sm_world::Console;
+use std::alloc::Global;
+
+/// How many bytes a trace can have. A line that holds a byte past these is none.
+pub const TRACE_LIMIT: usize = 16_777_216;
+
+/// Prints what is shown of the console's input.
+fn show_input<C: Console>(alloc: Global, console: &mut C) -> Result<(), Fault>
+    ensures runs { (words : List (List ℕ)) → AreShow words → Added (C.outside console.old).told (C.outside console.new).told (Runs words (C.outside console.old) (C.outside console.new) result) }
+    ensures counts { NotFallen (C.outside console.old).faults (C.outside console.new).faults }
+{
+    let trace = read_input(alloc, console, TRACE_LIMIT + 1)?;
+    match show_within(alloc, trace.as_slice(), TRACE_LIMIT)? {
+        ShowAnswer::Text(text) => {
+            console.print(text.as_slice())?;
+            Ok(())
+        }
+        ShowAnswer::Malformed { at } => Err(Fault::Malformed(at)),
+    }
+}
+
+/// Whether the words are `show`.
+fn are_show(words: &[String]) -> bool
+    ensures { IsTrue result ↔ AreShow (map string_bytes words.now) }
+{
+    words.len() == 1 && words[0].as_str() == "show"
+}
+
+/// Runs what the words ask for.
+fn run_words<C: Console>(alloc: Global, words: &[String], console: &mut C) -> Result<(), Fault>
+    ensures runs { Added (C.outside console.old).told (C.outside console.new).told (Runs (map string_bytes words.now) (C.outside console.old) (C.outside console.new) result) }
+    ensures counts { NotFallen (C.outside console.old).faults (C.outside console.new).faults }
+{
+    if are_show(words) {
+        show_input(alloc, console)
+    } else {
+        Err(Fault::BadWords)
+    }
+}
+
+/// Runs `smtrace` with these words, which leave out the program's name. The words are `show`: a
+/// trace is read from the console, and each message of it is printed in a line of its own. The
+/// answer is the program's status: 0, 1 for other words, 3 for a trace with a line that isn't of the
+/// grammar, 6 for a fault of the console, and 10 for want of memory.
+pub fn smtrace_main<C: Console>(alloc: Global, words: &[String], console: &mut C) -> u8
+    // What each status says of the trace, and all that is printed at it.
+    ensures answers { Added (C.outside console.old).told (C.outside console.new).told (Answers (map string_bytes words.now) (C.outside console.old) (C.outside console.new) result) }
+    ensures counts { NotFallen (C.outside console.old).faults (C.outside console.new).faults }
+{
+    match run_words(alloc, words, console) {
+        Ok(()) => 0,
+        Err(fault) => {
+            fault.report(alloc, console);
+            fault.status()
+        }
+    }
+}
