@@ -1,7 +1,7 @@
--- What the console of the real program tells: how often it failed, and nothing else.
+-- What the console of a real program tells: how often it failed, and nothing else.
 use Rattle.std.specs.Prelude.{ℕ, ◌≤◌, None}
 use Rattle.sm_world.specs.Outside.{Outside, Rose}
-use Rattle.smtrace.specs.declared.adapter.StandardConsole.{StandardConsole}
+use Rattle.standard_console.specs.declared.console.StandardConsole.{StandardConsole}
 
 -- one more fault was counted
 pub record CountsFault (before after : ℕ) : Type 0 where

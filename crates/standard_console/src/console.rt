@@ -1,5 +1,5 @@
 ghost use Rattle.std.specs.Prelude.{◌≡◌};
-ghost use Rattle.smd.specs.Untold.{console_outside, CountsFault};
+ghost use Rattle.standard_console.specs.Untold.{console_outside, CountsFault};
 
 use sm_world::{Console, Failure, Told};
 use std::io;
