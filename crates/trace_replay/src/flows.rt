@@ -50,7 +50,10 @@ impl Flow {
     ) -> Result<Progress, NoMemory>
         ensures { IfOk result (λ after. (stream : List ℕ) → TakesPiece channel stream piece.now (Progress.Going self) after out.old out.new) }
     {
-        let Flow { mut splitter, shown } = self;
+        let Flow {
+            mut splitter,
+            shown,
+        } = self;
         let mut frames = WholeFrameList::new(alloc);
         let oversize = cut_piece(alloc, &mut splitter, piece, &mut frames)?;
         let shown = put_frames(alloc, out, channel, shown, frames.as_slice())?;

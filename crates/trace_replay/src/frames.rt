@@ -19,6 +19,7 @@ const HEADER_LEN: usize = 8;
 
 /// The last minor opcodes of ICE and of XSMP (ICE, chapter 7; XSMP, chapter 10).
 const LAST_ICE: u8 = 12;
+
 const LAST_XSMP: u8 = 18;
 
 /// Why there is no message, in one word.

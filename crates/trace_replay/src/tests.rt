@@ -161,7 +161,12 @@ fn answered(alloc: Global, word: &str, trace: &[u8]) -> Result<Answer, Fail> {
 fn statuses_of_the_program(rt: HostRuntime) -> Result<(), Fail> {
     let alloc = rt.alloc();
     let table: [(&str, &str, u8, &str); 5] = [
-        ("show", "piece 1 0001000000000000", 0, "in 1 1 ByteOrder order=0\n"),
+        (
+            "show",
+            "piece 1 0001000000000000",
+            0,
+            "in 1 1 ByteOrder order=0\n",
+        ),
         ("show", "", 0, ""),
         ("show", "end\n\n", 3, "malformed at 2\n"),
         ("replay", "end\n", 1, "smtrace: bad words\n"),
@@ -170,7 +175,11 @@ fn statuses_of_the_program(rt: HostRuntime) -> Result<(), Fail> {
     for (word, trace, status, want) in table {
         let answer = answered(alloc, word, trace.as_bytes())?;
         assert_eq!(rt; answer.status, status, "for {word} {trace}");
-        assert_eq!(rt; answer.printed.as_slice(), want.as_bytes(), "for {word} {trace}");
+        assert_eq!(rt;
+            answer.printed.as_slice(),
+            want.as_bytes(),
+            "for {word} {trace}"
+        );
     }
     Ok(())
 }

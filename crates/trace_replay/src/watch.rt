@@ -74,12 +74,7 @@ impl Watch {
     }
 
     /// Appends what is shown of an event.
-    fn take_event(
-        &mut self,
-        alloc: Global,
-        out: &mut Octets,
-        event: &Event,
-    ) -> Result<(), NoMemory>
+    fn take_event(&mut self, alloc: Global, out: &mut Octets, event: &Event) -> Result<(), NoMemory>
         ensures { OnOk result (FollowsLine (TraceLine.Heard event.now) self.old self.new out.old out.new) }
     {
         match event {
