@@ -1,9 +1,9 @@
 -- What the parts of a stream are as a piece comes.
-use Rattle.std.proofs.Common.{◌≡◌, ℕ, zero, suc, ◌+◌, ◌*◌, ◌<◌, ◌≤◌, ◌^◌, Bool, true, false, List, [], ◌∷◌, ◌++◌, length, take, drop, map, Option, Some, None, refl, sym, ◌∙◌, ap, subst, arith, append_assoc, length-append, length-take, codes}
+use Rattle.std.proofs.Common.{◌≡◌, ℕ, zero, suc, ◌+◌, ◌*◌, ◌<◌, ◌≤◌, ◌^◌, true, false, List, [], ◌∷◌, ◌++◌, length, take, map, None, refl, sym, ◌∙◌, ap, subst, arith, append_assoc, length-append, length-take, codes}
 use Rattle.std.specs.List.{AllByRecursion}
 use Rattle.std.proofs.lemmas.Bool.Decides.{nat_tests}
 use Rattle.std.proofs.lemmas.List.{append-nil, map-append, length-map, drop_all}
-use Rattle.ice_framing.specs.Frames.{Standing, Cut, beginning, fed, cut, cut_upto, wanted, units, unit_limit, has_frame, first_frame, without_first, behind, uncut, frames_of, standing_of, is_oversize, IsOversize, IsPartial, StandsAt}
+use Rattle.ice_framing.specs.Frames.{Standing, Cut, beginning, fed, cut, cut_upto, wanted, units, unit_limit, has_frame, first_frame, without_first, behind, uncut, frames_of, standing_of, is_oversize, IsOversize, StandsAt}
 use Rattle.ice_framing.specs.declared.cutting.WholeFrame.{WholeFrame}
 use Rattle.ice_framing.proofs.Cuts.{cond-both, has_frame-true, length-without_first, stated_whole, oversize-fed}
 use Rattle.ice_framing.proofs.Streams.{frames_of-append, standing_of-append, frames_of-oversize, standing_of-oversize}

@@ -1,5 +1,5 @@
 -- A line that begins as one that was sent says nothing else; and no line is shorter than the bytes that it says.
-use Rattle.std.proofs.Common.{◌≡◌, inl, inr, ℕ, ◌+◌, ◌*◌, ◌≤◌, List, ◌∷◌, ◌++◌, length, Option, Some, get_or, refl, sym, ◌∙◌, ap, subst, arith, codes, length-append}
+use Rattle.std.proofs.Common.{◌≡◌, inl, inr, ℕ, ◌+◌, ◌*◌, ◌≤◌, List, ◌∷◌, ◌++◌, length, Option, Some, get_or, sym, ◌∙◌, ap, subst, arith, codes, length-append}
 use Rattle.std.specs.Fmt.{decimal}
 use Rattle.hex.proofs.HexLemmas.{decode_of-ok}
 use Rattle.sm_world.specs.declared.events.Event.{Event}

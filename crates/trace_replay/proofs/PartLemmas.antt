@@ -1,12 +1,8 @@
 -- Showing frames one by one.
-use Rattle.std.proofs.Common.{◌≡◌, ℕ, ◌+◌, ◌<◌, ◌≤◌, ◌^◌, List, [], ◌∷◌, ◌++◌, length, drop, get_or, map, refl, sym, ◌∙◌, ap, arith, append_assoc}
-use Rattle.std.proofs.lemmas.List.{append-nil, at_drop_more, at_drop_all}
-use Rattle.std.specs.List.{AllByRecursion}
+use Rattle.std.proofs.Common.{◌≡◌, ℕ, ◌+◌, ◌<◌, ◌^◌, List, ◌++◌, length, drop, map}
 use Rattle.ice_framing.specs.declared.cutting.WholeFrame.{WholeFrame}
-use Rattle.session_engine.specs.Streams.{Part, Whole}
-use Rattle.trace_replay.specs.Frames.{frame_text}
-use Rattle.trace_replay.specs.Parts.{IsHeaded, ShowsParts, AddsParts}
-use Rattle.trace_replay.specs.Shown.{shown_line, shown_parts}
+use Rattle.session_engine.specs.Streams.{Whole}
+use Rattle.trace_replay.specs.Shown.{shown_parts}
 use Rattle.trace_replay.specs.declared.parts.Channel.{Channel}
 
 -- In the middle of the frames: the lines so far and those of the frames that are left are all the lines.

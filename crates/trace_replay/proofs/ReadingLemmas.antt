@@ -1,12 +1,12 @@
 -- The lines of a trace, one after the other.
-use Rattle.std.proofs.Common.{◌≡◌, inl, inr, ℕ, ◌+◌, ◌<◌, ◌≤◌, ◌^◌, ◌==◌, nat_eq, List, [], ◌∷◌, ◌++◌, length, codes, refl, sym, ◌∙◌, ap, arith, append_assoc, length-append}
+use Rattle.std.proofs.Common.{◌≡◌, ℕ, ◌+◌, ◌<◌, ◌≤◌, ◌^◌, ◌==◌, nat_eq, List, [], ◌∷◌, ◌++◌, length, codes, refl, sym, ◌∙◌, ap, arith, append_assoc, length-append}
 use Rattle.std.proofs.lemmas.List.{append-nil}
 use Rattle.sm_world.specs.declared.events.Event.TheVariants.{Joined, Piece, Gone, Operator, Tick, End as AtEnd}
 use Rattle.ice_framing.proofs.Cuts.{cond-both}
 use Rattle.control_lines.specs.Lines.{before_lines, lines_of}
 use Rattle.trace_replay.specs.Grammar.{SaysLine, SayLines}
 use Rattle.trace_replay.specs.Shown.{Streams, shown, silence, replaced, after_line, line_shown, shown_from}
-use Rattle.trace_replay.specs.Watches.{Shows, AreCountable, FollowsLine}
+use Rattle.trace_replay.specs.Watches.{Shows, FollowsLine}
 use Rattle.trace_replay.specs.declared.lines.TraceLine.{TraceLine}
 use Rattle.trace_replay.specs.declared.lines.TraceLine.TheVariants.{Heard, End, Sent, Shut, Started, Printed}
 use Rattle.trace_replay.specs.declared.watch.Watch.{Watch}

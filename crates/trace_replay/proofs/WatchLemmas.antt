@@ -1,21 +1,19 @@
 -- What the tables keep of the streams.
-use Rattle.std.proofs.Common.{◌≡◌, ◌≢◌, inl, inr, ℕ, ◌<◌, ◌^◌, true, false, List, [], ◌++◌, length, Option, Some, None, Result, Ok, Err, OnOk, nat_eq, if◌then◌else◌, refl, sym, ◌∙◌, ap, subst, arith}
+use Rattle.std.proofs.Common.{◌≡◌, ◌≢◌, inl, inr, ℕ, ◌<◌, ◌^◌, List, [], ◌++◌, length, Option, Some, None, Result, Ok, Err, OnOk, nat_eq, if◌then◌else◌, refl, sym, ◌∙◌, arith}
 use Rattle.std.specs.Ordering.{nat_cmp}
 use Rattle.std.specs.BTreeMap.{BTreeMap, get as row_in}
 use Rattle.std.proofs.lemmas.Bool.{cases_eq}
-use Rattle.std.proofs.lemmas.List.{append-nil}
-use Rattle.sm_world.specs.declared.events.Event.TheVariants.{Joined, Piece}
-use Rattle.ice_framing.specs.Frames.{beginning, cut, standing_of, StandsAt, IsPartial}
+use Rattle.sm_world.specs.declared.events.Event.TheVariants.{Piece}
+use Rattle.ice_framing.specs.Frames.{beginning, cut}
 use Rattle.ice_framing.proofs.Streams.{standing_of-nil}
 use Rattle.session_engine.specs.Streams.{parts_of}
 use Rattle.session_engine.proofs.Connections.{same, other}
 use Rattle.trace_replay.specs.Flows.{IsReadTo, TakesPiece}
-use Rattle.trace_replay.specs.Shown.{Streams, replaced, after_line, shown_piece}
-use Rattle.trace_replay.specs.Watches.{IsRead, Reads, PutPiece, PutsPiece, Shows, AreCountable, Follows, FollowsLine}
+use Rattle.trace_replay.specs.Shown.{replaced}
+use Rattle.trace_replay.specs.Watches.{IsRead, PutPiece, PutsPiece, FollowsLine}
 use Rattle.trace_replay.specs.declared.flows.Flow.{Flow}
 use Rattle.trace_replay.specs.declared.flows.Progress.{Progress}
-use Rattle.trace_replay.specs.declared.flows.Progress.TheVariants.{Going, Ended}
-use Rattle.trace_replay.specs.declared.lines.TraceLine.{TraceLine}
+use Rattle.trace_replay.specs.declared.flows.Progress.TheVariants.{Going}
 use Rattle.trace_replay.specs.declared.lines.TraceLine.TheVariants.{Heard, Sent}
 use Rattle.trace_replay.specs.declared.parts.Channel.{Channel}
 use Rattle.trace_replay.specs.declared.parts.Direction.TheVariants.{In, Out}

@@ -1,5 +1,5 @@
 -- The fields of a command in a trace: its words, then @ and its directory, where it has one, and then for each pair +, a name and a value.
-use Rattle.std.specs.Prelude.{◌≡◌, ◌⊎◌, ℕ, ◌==◌, List, [], ◌∷◌, ◌++◌, codes, if◌then◌else◌}
+use Rattle.std.specs.Prelude.{◌≡◌, ◌⊎◌, ℕ, ◌==◌, List, [], ◌∷◌, codes, if◌then◌else◌}
 use Rattle.control_lines.specs.Fields.{IsHex, hex_text}
 use Rattle.trace_replay.specs.declared.commands.Place.{Place}
 use Rattle.trace_replay.specs.declared.commands.Place.TheVariants.{FirstWord, Words, Directory, Pairs, Name, Value}

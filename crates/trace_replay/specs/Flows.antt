@@ -4,7 +4,6 @@ use Rattle.ice_framing.specs.Frames.{standing_of, StandsAt, IsOversize}
 use Rattle.session_engine.specs.Streams.{parts_of}
 use Rattle.trace_replay.specs.Shown.{shown_piece}
 use Rattle.trace_replay.specs.declared.parts.Channel.{Channel}
-use Rattle.trace_replay.specs.declared.flows.Flow.{Flow}
 use Rattle.trace_replay.specs.declared.flows.Progress.{Progress}
 use Rattle.trace_replay.specs.declared.flows.Progress.TheVariants.{Going, Ended}
 

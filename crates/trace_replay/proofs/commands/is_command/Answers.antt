@@ -1,4 +1,4 @@
-use Rattle.std.proofs.Common.{[], ◌∷◌}
+use Rattle.std.proofs.Common.{[]}
 use Rattle.std.proofs.lemmas.Bool.{false≢true}
 use Rattle.trace_replay.specs.Commands.{fields_of}
 use Rattle.trace_replay.proofs.FieldLemmas.{step_on, no_command}

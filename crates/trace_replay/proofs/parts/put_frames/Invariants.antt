@@ -1,4 +1,3 @@
-use Rattle.std.proofs.Common.{length, drop}
 use Rattle.trace_replay.proofs.PartLemmas.{Putting}
 use Rattle.trace_replay.proofs.parts.put_frames.Given as goal
 

@@ -1,4 +1,4 @@
-use Rattle.std.proofs.Common.{rules, arith}
+use Rattle.std.proofs.Common.{arith}
 use Rattle.std.proofs.lemmas.Bool.{false≢true}
 use Rattle.trace_replay.proofs.ReadingLemmas.{begins, goes_on}
 use Rattle.trace_replay.proofs.showing.show_within.Goals as goal

@@ -1,4 +1,3 @@
-use Rattle.trace_replay.specs.Flows.{IsReadTo}
 use Rattle.trace_replay.proofs.FlowLemmas.{stays_ended}
 use Rattle.trace_replay.proofs.flows.Progress.take.Goals as goal
 
