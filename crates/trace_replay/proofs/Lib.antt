@@ -4,4 +4,5 @@ pub mod PartLemmas
 pub mod FlowLemmas
 pub mod WatchLemmas
 pub mod ReadingLemmas
+pub mod Once
 pub mod Printing

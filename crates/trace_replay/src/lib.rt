@@ -5,6 +5,7 @@ mod commands;
 mod fault;
 mod flows;
 mod frames;
+mod laws;
 mod lines;
 mod parts;
 mod program;
@@ -13,5 +14,6 @@ mod showing;
 mod tests;
 mod watch;
 
+pub use laws::a_trace_has_one_answer;
 pub use program::smtrace_main;
 pub use showing::{ShowAnswer, show};

@@ -1,4 +1,4 @@
-use crate::{ShowAnswer, show, smtrace_main};
+use crate::{ShowAnswer, a_trace_has_one_answer, show, smtrace_main};
 use sm_world::{Effect, EventList, NoMemory, Octets, SteadyWorld};
 use std::alloc::Global;
 use std::process::Abort;
@@ -199,5 +199,11 @@ fn the_longest_trace(rt: HostRuntime) -> Result<(), Fail> {
     let longer = answered(alloc, "show", long_trace(alloc, 16_777_217)?.as_slice())?;
     assert_eq!(rt; longer.printed.as_slice(), b"malformed at 2\n".as_slice());
     assert_eq!(rt; longer.status, 3);
+    Ok(())
+}
+
+#[test]
+fn laws_can_be_cited(_rt: HostRuntime) -> Result<(), Fail> {
+    a_trace_has_one_answer();
     Ok(())
 }
