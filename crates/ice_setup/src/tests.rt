@@ -1,4 +1,4 @@
-//! The table of the set-up: every state against every message, and the worked rows to the byte.
+//! The table of the set-up: every state against every message, and whole set-ups to the byte.
 
 use crate::{
     AnySetup, AwaitOrder, BAD_LENGTH, BAD_MAJOR, Moved, Offending, error_of, opcode_values,
