@@ -1,9 +1,15 @@
 #!/bin/sh
-# Times `smd rehearse` on scripts of 1 MiB and 16 MiB, and prints the ratio of the two times.
-# Usage: bench/rehearse.sh [PROGRAM]. Without a program, that which `rt run` builds in crates/smd.
+# Times `smd rehearse` or `smtrace show` on texts of 1 MiB and 16 MiB, and prints the ratio of the
+# two times. The texts are scripts, and traces as well.
+# Usage: bench/times.sh rehearse|show [PROGRAM]. Without a program, that which `rt run` builds.
 set -eu
 top=$(cd "$(dirname "$0")/.." && pwd)
-exec python3 - "${1:-$top/crates/smd/out/smd}" <<'END'
+case ${1:?usage: bench/times.sh rehearse or show} in
+rehearse) name=smd ;;
+show) name=smtrace ;;
+*) echo "bench/times.sh: no word $1" >&2; exit 2 ;;
+esac
+exec python3 - "$1" "${2:-$top/crates/$name/out/$name}" <<'END'
 import subprocess
 import sys
 import tempfile
@@ -34,22 +40,22 @@ def crowd(size):
     return text[: text.rindex("\n", 0, size) + 1]
 
 
-def seconds(program, text):
+def seconds(word, program, text):
     with tempfile.TemporaryFile() as file:
         file.write(text.encode())
         best = None
         for _ in range(3):
             file.seek(0)
             begin = time.monotonic()
-            run = subprocess.run([program, "rehearse"], stdin=file, stdout=subprocess.PIPE)
+            run = subprocess.run([program, word], stdin=file, stdout=subprocess.PIPE)
             took = time.monotonic() - begin
             assert run.returncode == 0, run.returncode
-            assert run.stdout.endswith(b"\nend\n")
+            assert run.stdout.endswith(b"\nend\n" if word == "rehearse" else b"Ping\n")
             best = took if best is None else min(best, took)
         return best
 
 
-program = sys.argv[1]
+word, program = sys.argv[1:]
 kinds = [
     ("a byte a piece", lambda size: script(size, 1)),
     ("a ping a piece", lambda size: script(size, 8)),
@@ -57,7 +63,7 @@ kinds = [
     ("64 clients, a ping a piece", crowd),
 ]
 for name, made in kinds:
-    small = seconds(program, made(SMALL))
-    large = seconds(program, made(LARGE))
+    small = seconds(word, program, made(SMALL))
+    large = seconds(word, program, made(LARGE))
     print("%s: %.3f s for 1 MiB, %.3f s for 16 MiB, ratio %.1f" % (name, small, large, large / small))
 END
