@@ -1,17 +1,19 @@
 -- What decoding answers, over all messages.
-use Rattle.std.proofs.Common.{◌≡◌, ℕ, zero, suc, ◌<◌, ◌≤◌, false, List, [], Result, Ok, Err, IfOk, IfErr, refl, sym, ◌∙◌, subst, arith, slice_index, inl, inr}
-use Rattle.std.specs.Prelude.{eqb, slice_set, ◌⊎◌, ◌↔◌}
+use Rattle.std.proofs.Common.{◌≡◌, ℕ, zero, suc, ◌<◌, ◌≤◌, false, List, [], ◌∷◌, Result, Ok, Err, IfOk, IfErr, refl, sym, ◌∙◌, subst, arith, slice_index, inl, inr}
+use Rattle.std.specs.Prelude.{eqb, ◌⊎◌, ◌↔◌}
 use Rattle.std.proofs.lemmas.Bool.{ne_eqb}
 use Rattle.std.proofs.lemmas.List.{append-nil}
 use Rattle.ice_values.specs.Cells.{byte, free, Begins}
 use Rattle.ice_values.specs.Fields.{bool_number, order_number, severity_number}
-use Rattle.ice_values.specs.Frames.{IsFrame, Gives, IsChoice}
+use Rattle.ice_values.specs.Frames.{IsFrame, Gives}
 use Rattle.ice_values.specs.declared.numbers.Endian.{Endian}
 use Rattle.ice_values.specs.declared.numbers.Endian.TheVariants.{Lsb, Msb}
 use Rattle.ice_values.specs.declared.severity.Severity.TheVariants.{CanContinue}
 use Rattle.ice_values.specs.declared.refusals.DecodeRefusal.{DecodeRefusal}
-use Rattle.ice_values.specs.declared.refusals.DecodeRefusal.TheVariants.{BadMinor, BadLength, BadValue, NoMemory}
-use Rattle.ice_values.proofs.CellLaws.{IsBytes, Begins-zeros, Begins-set, Begins-opened, Begins-chosen}
+use Rattle.ice_values.specs.declared.refusals.DecodeRefusal.TheVariants.{BadMinor, BadLength}
+use Rattle.ice_values.proofs.CellLaws.{IsBytes, Begins-zeros}
+use Rattle.ice_values.proofs.ChoiceLaws.{Opens, opens_none, form_is_choice as choice_is_form}
+use Rattle.ice_values.proofs.DecodeLaws.{Caused, caused, is_found as found, is_refused as refused}
 use Rattle.ice_values.proofs.HeaderLaws.{Header, minor_is}
 use Rattle.ice_values.proofs.BodyLaws.{ok_not_err}
 use Rattle.ice_messages.specs.Messages.{minor_of, layout, shape, enumerated, IsMessage, Spells, HasForm, HasChoice, canon, Refused}
@@ -107,53 +109,27 @@ branch_formed e bytes NoClose h = not_length _ NoClose (empty_again e 12 NoClose
 
 -- ---- a choice of the enumerated bytes
 
--- a spelling has the form
-has_form : (e : Endian) (m : IceMessage) (bytes : List ℕ) → Spells e m bytes → HasForm e m bytes
-has_form Lsb (Error error) bytes h = (h.0, Begins-opened 9 (shape byte Lsb (Error error)) bytes [] h.1)
-has_form Msb (Error error) bytes h = (h.0, Begins-opened 9 (shape byte Msb (Error error)) bytes [] h.1)
-has_form e (ByteOrder order) bytes h = (h.0, Begins-opened 2 (shape byte e (ByteOrder order)) bytes [] h.1)
-has_form Lsb (ConnectionSetup must vendor release names offered) bytes h = (h.0, Begins-opened 8 (shape byte Lsb (ConnectionSetup must vendor release names offered)) bytes [] h.1)
-has_form Msb (ConnectionSetup must vendor release names offered) bytes h = (h.0, Begins-opened 8 (shape byte Msb (ConnectionSetup must vendor release names offered)) bytes [] h.1)
-has_form e (ProtocolSetup opcode must protocol vendor release names offered) bytes h = (h.0, Begins-opened 3 (shape byte e (ProtocolSetup opcode must protocol vendor release names offered)) bytes [] h.1)
-has_form e m bytes h = h
+-- the bytes that stand for a message's enumerated values
+unfoldable numbers_of : IceMessage → List ℕ
+numbers_of (Error error) = severity_number error.severity ∷ []
+numbers_of (ByteOrder order) = order_number order ∷ []
+numbers_of (ConnectionSetup must vendor release names offered) = bool_number must ∷ []
+numbers_of (ProtocolSetup opcode must protocol vendor release names offered) = bool_number must ∷ []
+numbers_of m = []
 
--- the form doesn't see an enumerated byte
-form_of_chosen : (e : Endian) (m : IceMessage) (bytes chosen : List ℕ) → IsChoice (enumerated m) bytes chosen → HasForm e m chosen → HasForm e m bytes
-form_of_chosen Lsb (Error error) bytes chosen c h = (h.0, Begins-set 9 c.0 (shape (λ n. free 1) Lsb (Error error)) bytes [] refl (subst (λ (b : List ℕ). Begins (shape (λ n. free 1) Lsb (Error error)) b []) c.1 h.1))
-form_of_chosen Msb (Error error) bytes chosen c h = (h.0, Begins-set 9 c.0 (shape (λ n. free 1) Msb (Error error)) bytes [] refl (subst (λ (b : List ℕ). Begins (shape (λ n. free 1) Msb (Error error)) b []) c.1 h.1))
-form_of_chosen e (ByteOrder order) bytes chosen c h = (h.0, Begins-set 2 c.0 (shape (λ n. free 1) e (ByteOrder order)) bytes [] refl (subst (λ (b : List ℕ). Begins (shape (λ n. free 1) e (ByteOrder order)) b []) c.1 h.1))
-form_of_chosen Lsb (ConnectionSetup must vendor release names offered) bytes chosen c h =
-    (h.0, Begins-set 8 c.0 (shape (λ n. free 1) Lsb (ConnectionSetup must vendor release names offered)) bytes [] refl (subst (λ (b : List ℕ). Begins (shape (λ n. free 1) Lsb (ConnectionSetup must vendor release names offered)) b []) c.1 h.1))
-form_of_chosen Msb (ConnectionSetup must vendor release names offered) bytes chosen c h =
-    (h.0, Begins-set 8 c.0 (shape (λ n. free 1) Msb (ConnectionSetup must vendor release names offered)) bytes [] refl (subst (λ (b : List ℕ). Begins (shape (λ n. free 1) Msb (ConnectionSetup must vendor release names offered)) b []) c.1 h.1))
-form_of_chosen e (ProtocolSetup opcode must protocol vendor release names offered) bytes chosen c h =
-    (h.0, Begins-set 3 c.0 (shape (λ n. free 1) e (ProtocolSetup opcode must protocol vendor release names offered)) bytes [] refl (subst (λ (b : List ℕ). Begins (shape (λ n. free 1) e (ProtocolSetup opcode must protocol vendor release names offered)) b []) c.1 h.1))
-form_of_chosen e m bytes chosen c h = subst (λ (b : List ℕ). HasForm e m b) c h
-
--- what has the form is spelled by some choice
-choice_of_form : (e : Endian) (m : IceMessage) (bytes : List ℕ) → HasForm e m bytes → HasChoice e m bytes
-choice_of_form Lsb (Error error) bytes h =
-    let n : ℕ = severity_number error.severity in
-    (slice_set bytes 9 n, (n, refl), (h.0, Begins-chosen 9 n (shape (λ n. free 1) Lsb (Error error)) bytes [] refl h.1))
-choice_of_form Msb (Error error) bytes h =
-    let n : ℕ = severity_number error.severity in
-    (slice_set bytes 9 n, (n, refl), (h.0, Begins-chosen 9 n (shape (λ n. free 1) Msb (Error error)) bytes [] refl h.1))
-choice_of_form e (ByteOrder order) bytes h =
-    let n : ℕ = order_number order in
-    (slice_set bytes 2 n, (n, refl), (h.0, Begins-chosen 2 n (shape (λ n. free 1) e (ByteOrder order)) bytes [] refl h.1))
-choice_of_form Lsb (ConnectionSetup must vendor release names offered) bytes h =
-    let n : ℕ = bool_number must in
-    (slice_set bytes 8 n, (n, refl), (h.0, Begins-chosen 8 n (shape (λ n. free 1) Lsb (ConnectionSetup must vendor release names offered)) bytes [] refl h.1))
-choice_of_form Msb (ConnectionSetup must vendor release names offered) bytes h =
-    let n : ℕ = bool_number must in
-    (slice_set bytes 8 n, (n, refl), (h.0, Begins-chosen 8 n (shape (λ n. free 1) Msb (ConnectionSetup must vendor release names offered)) bytes [] refl h.1))
-choice_of_form e (ProtocolSetup opcode must protocol vendor release names offered) bytes h =
-    let n : ℕ = bool_number must in
-    (slice_set bytes 3 n, (n, refl), (h.0, Begins-chosen 3 n (shape (λ n. free 1) e (ProtocolSetup opcode must protocol vendor release names offered)) bytes [] refl h.1))
-choice_of_form e m bytes h = (bytes, refl, h)
+-- the form of a message is its spelling with free bytes for them
+opens : (e : Endian) (m : IceMessage) → Opens (numbers_of m) (enumerated m) (shape byte e m) (shape (λ n. free 1) e m)
+unfolding numbers_of
+opens Lsb (Error error) = record { opens = refl; marks = refl; are_free = (refl, tt); are_known = (refl, tt) }
+opens Msb (Error error) = record { opens = refl; marks = refl; are_free = (refl, tt); are_known = (refl, tt) }
+opens e (ByteOrder order) = record { opens = refl; marks = refl; are_free = (refl, tt); are_known = (refl, tt) }
+opens Lsb (ConnectionSetup must vendor release names offered) = record { opens = refl; marks = refl; are_free = (refl, tt); are_known = (refl, tt) }
+opens Msb (ConnectionSetup must vendor release names offered) = record { opens = refl; marks = refl; are_free = (refl, tt); are_known = (refl, tt) }
+opens e (ProtocolSetup opcode must protocol vendor release names offered) = record { opens = refl; marks = refl; are_free = (refl, tt); are_known = (refl, tt) }
+opens e m = opens_none (shape byte e m)
 
 pub form_is_choice : (e : Endian) (m : IceMessage) (bytes : List ℕ) → HasForm e m bytes ↔ HasChoice e m bytes
-form_is_choice e m bytes = (choice_of_form e m bytes, λ c. form_of_chosen e m bytes c.0 c.1 (has_form e m c.0 c.2))
+form_is_choice e m bytes = choice_is_form (numbers_of m) (enumerated m) (shape byte e m) (shape (λ n. free 1) e m) (opens e m) (IsMessage m) bytes []
 
 -- ---- all of it
 
@@ -216,44 +192,25 @@ decode_again e bytes m h = decode_is e bytes m (minor_is e 0 (minor_of m) (layou
 -- no choice of the enumerated bytes spells what is refused for its length
 no_choice : (e : Endian) (bytes : List ℕ) → decode_at e bytes ≡ Err BadLength → (m : IceMessage) → HasChoice e m bytes → ⊥
 no_choice e bytes is m choice =
-    let formed = form_of_chosen e m bytes choice.0 choice.1 (has_form e m choice.0 choice.2) in
+    let formed = (form_is_choice e m bytes).1 choice in
     let minor = minor_is e 0 (minor_of m) (layout (λ n. free 1) e m).0 (layout (λ n. free 1) e m).1 bytes formed.1 in
     branch_formed e bytes m formed (sym (decode_is e bytes m minor) ∙ is)
 
 -- what decoding answers is spelled, or has its cause
-pub Caused : Endian → List ℕ → Result IceMessage DecodeRefusal → Type 0
-Caused e bytes (Ok m) = Spells e m bytes
-Caused e bytes (Err d) = Refused e bytes d
-
-caused_known : (e : Endian) (bytes : List ℕ) (m : IceMessage) → minor_of m ≡ slice_index bytes 1 → (r : Result IceMessage DecodeRefusal) → decode_at e bytes ≡ r → Says e bytes r → Caused e bytes r
-unfolding Caused
-caused_known e bytes m is (Ok x) read says = says
-caused_known e bytes m is (Err BadMinor) read says = absurd says
-caused_known e bytes m is (Err BadLength) read says = ((m, is), no_choice e bytes read)
-caused_known e bytes m is (Err (BadValue at len)) read says = says
-caused_known e bytes m is (Err NoMemory) read says = tt
-
-pub decode_caused : (e : Endian) (bytes : List ℕ) → Framed e bytes → Caused e bytes (decode_at e bytes)
-unfolding Caused
+decode_caused : (e : Endian) (bytes : List ℕ) → Framed e bytes → Caused (λ m. Spells e m bytes) (Refused e bytes) (decode_at e bytes)
 decode_caused e bytes f = elim (some_of (slice_index bytes 1)) [
-  | inl known ↦ caused_known e bytes known.0 known.1 (decode_at e bytes) refl (decode_says e bytes known.0 f known.1)
+  | inl known ↦
+      caused (λ m. Spells e m bytes) (Refused e bytes) (λ m. HasForm e m bytes) enumerated bytes (decode_at e bytes) (λ long. ((known.0, known.1), no_choice e bytes long)) (λ at len wrong. wrong) (decode_says e bytes known.0 f known.1)
   | inr none ↦ rw (no_minor e bytes none) (λ m is. omega (arith, minor_below m, none, is))
 ]
 
 -- ---- the clauses of a call that gives this answer
 
 pub is_found : (e : Endian) (bytes : List ℕ) (r : Result IceMessage DecodeRefusal) → Framed e bytes → Gives r (decode_at e bytes) → IfOk r (λ m. Spells e m bytes)
-unfolding Caused
-is_found e bytes (Ok m) f given = subst (Caused e bytes) given (decode_caused e bytes f)
-is_found e bytes (Err d) f given = tt
+is_found e bytes r f given = found (λ m. Spells e m bytes) (Refused e bytes) r (decode_at e bytes) given (decode_caused e bytes f)
 
 pub is_refused : (e : Endian) (bytes : List ℕ) (r : Result IceMessage DecodeRefusal) → Framed e bytes → Gives r (decode_at e bytes) → IfErr r (λ d. Refused e bytes d)
-unfolding Caused
-is_refused e bytes (Ok m) f given = tt
-is_refused e bytes (Err BadMinor) f given = subst (Caused e bytes) given (decode_caused e bytes f)
-is_refused e bytes (Err BadLength) f given = subst (Caused e bytes) given (decode_caused e bytes f)
-is_refused e bytes (Err (BadValue at len)) f given = subst (Caused e bytes) given (decode_caused e bytes f)
-is_refused e bytes (Err NoMemory) f given = tt
+is_refused e bytes r f given = refused (λ m. Spells e m bytes) (Refused e bytes) r (decode_at e bytes) tt given (decode_caused e bytes f)
 
 pub is_only : (e : Endian) (bytes : List ℕ) (r : Result IceMessage DecodeRefusal) (m : IceMessage) → Gives r (decode_at e bytes) → Spells e m bytes → Gives r (Ok m)
 is_only e bytes r m given spelled = subst (Gives r) (decode_again e bytes m spelled) given

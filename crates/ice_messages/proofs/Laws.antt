@@ -1,5 +1,5 @@
 -- Every message is decoded where it is spelled, and every refusal has its cause.
-use Rattle.std.proofs.Common.{◌≡◌, ℕ, Bool, false, List, [], ◌∷◌, ◌++◌, Result, Ok, Err, refl, sym, ap, arith, slice_index}
+use Rattle.std.proofs.Common.{◌≡◌, ℕ, Bool, false, List, [], ◌∷◌, ◌++◌, Result, Ok, Err, refl, sym, arith, slice_index}
 use Rattle.ice_values.specs.Cells.{byte, free, Begins}
 use Rattle.ice_values.specs.Fields.{ErrorFields, proof_data, IsProofData, spelling, bool_number, order_number}
 use Rattle.ice_values.specs.Reading.{proof_data_at, nothing_at, after_at}

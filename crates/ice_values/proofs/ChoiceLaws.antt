@@ -1,6 +1,6 @@
 -- A spelling whose enumerated bytes are free, and the choices of these bytes.
 use Rattle.std.proofs.Common.{◌≡◌, ℕ, zero, suc, List, [], ◌∷◌, Option, Some, None, refl, slice_index, subst}
-use Rattle.std.specs.Prelude.{slice_set}
+use Rattle.std.specs.Prelude.{slice_set, ◌↔◌}
 use Rattle.ice_values.specs.Cells.{Cells, Begins}
 use Rattle.ice_values.specs.Frames.{IsChoice}
 use Rattle.ice_values.proofs.CellLaws.{marked, opened, cell_at, Begins-marked, Begins-opened, Begins-cell, Begins-set, Begins-chosen}
@@ -109,11 +109,18 @@ module _ (numbers : List ℕ) (places : List (ℕ × ℕ)) (spelled formed : Cel
   spelled_of bytes rest have h = subst (λ (cells : Cells). Begins cells bytes rest) law.marks (begins_marked numbers places formed bytes rest have h)
 
   -- the form doesn't see an enumerated byte
-  pub form_of_chosen : (bytes chosen rest : List ℕ) → IsChoice places bytes chosen → Begins formed chosen rest → Begins formed bytes rest
+  form_of_chosen : (bytes chosen rest : List ℕ) → IsChoice places bytes chosen → Begins formed chosen rest → Begins formed bytes rest
   form_of_chosen bytes chosen rest c h = begins_set places formed bytes chosen rest (all_free numbers places formed law.are_free) c h
 
   -- what has the form is spelled by some choice
-  pub choice_of_form : (bytes rest : List ℕ) → Begins formed bytes rest → (chosen : List ℕ) × IsChoice places bytes chosen × Begins spelled chosen rest
+  choice_of_form : (bytes rest : List ℕ) → Begins formed bytes rest → (chosen : List ℕ) × IsChoice places bytes chosen × Begins spelled chosen rest
   choice_of_form bytes rest h =
       let c = begins_chosen numbers places formed bytes rest law.are_free h in
       (c.0, c.1, subst (λ (cells : Cells). Begins cells c.0 rest) law.marks c.2)
+
+  -- What has the form is what some choice spells. Fits is what else is asked of the message.
+  pub form_is_choice : (Fits : Type 0) (bytes rest : List ℕ) → (Fits × Begins formed bytes rest) ↔ ((chosen : List ℕ) × IsChoice places bytes chosen × (Fits × Begins spelled chosen rest))
+  form_is_choice Fits bytes rest = (
+    λ h. let c = choice_of_form bytes rest h.1 in (c.0, c.1, (h.0, c.2)),
+    λ c. (c.2.0, form_of_chosen bytes c.0 rest c.1 (form_of c.0 rest c.2.1)),
+  )

@@ -130,7 +130,7 @@ counts e w k limit number = record {
       let back : Begins (free (pad_len (w + length b.0.0) k)) b.0.1 d.0 = rw q.1 s in
       let whole = Begins-append (known (number_bytes e w (length b.0.0)) ++ known b.0.0) (free (pad_len (w + length b.0.0) k)) bytes b.0.1 d.0
       (Begins-append (known (number_bytes e w (length b.0.0))) (known b.0.0) bytes a.0.1 b.0.1 front q.0) back in
-      subst (λ (y : List ℕ × List ℕ). Begins (counted e w k y.0) bytes y.1 × (length y.0 < limit)) (some_is (b.0.0, d.0) (x, rest) d.2) (whole, rw q.1 p.1);
+      subst (λ (y : List ℕ × List ℕ). Begins (counted e w k y.0) bytes y.1 × (length y.0 < limit)) {x = (b.0.0, d.0)} (some_is (b.0.0, d.0) (x, rest) d.2) (whole, rw q.1 p.1);
   again = λ bytes x rest lt h.
       let a = Begins-split (known (number_bytes e w (length x)) ++ known x) (free (pad_len (w + length x) k)) bytes rest h in
       let b = Begins-split (known (number_bytes e w (length x))) (known x) bytes a.0 a.1 in

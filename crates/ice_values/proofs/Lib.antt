@@ -10,4 +10,5 @@ pub mod BodyLaws
 pub mod EnumLaws
 pub mod ErrorLaws
 pub mod ChoiceLaws
+pub mod DecodeLaws
 pub mod LengthLaws

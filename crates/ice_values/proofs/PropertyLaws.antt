@@ -53,7 +53,7 @@ property_exact e = record {
       let kind_fit = Begins-fits (array8 e q.0.0) p.0.1 q.0.1 kind.0 name_fit in
       let values = (array8_list_exact e).takes q.0.1 r.0.0 r.0.1 kind_fit r.1 in
       let whole = Begins-append (array8 e p.0.0 ++ array8 e q.0.0) (array8_list e r.0.0) bytes q.0.1 r.0.1 (Begins-append (array8 e p.0.0) (array8 e q.0.0) bytes p.0.1 q.0.1 name.0 kind.0) values.0 in
-      subst (λ (y : Property × List ℕ). Begins (property e y.0) bytes y.1 × IsProperty y.0) (some_is (property_of p.0.0 q.0.0 r.0.0, r.0.1) (x, rest) r.2) (whole, record { name = name.1; kind = kind.1; values = values.1 });
+      subst (λ (y : Property × List ℕ). Begins (property e y.0) bytes y.1 × IsProperty y.0) {x = (property_of p.0.0 q.0.0 r.0.0, r.0.1)} (some_is (property_of p.0.0 q.0.0 r.0.0, r.0.1) (x, rest) r.2) (whole, record { name = name.1; kind = kind.1; values = values.1 });
   again = λ bytes x rest fits h.
       let a = Begins-split (array8 e x.name ++ array8 e x.kind) (array8_list e x.values) bytes rest h in
       let b = Begins-split (array8 e x.name) (array8 e x.kind) bytes a.0 a.1 in

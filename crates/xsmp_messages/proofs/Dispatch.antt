@@ -13,7 +13,7 @@ use Rattle.ice_values.specs.declared.numbers.Endian.{Endian}
 use Rattle.ice_values.specs.declared.numbers.Endian.TheVariants.{Lsb, Msb}
 use Rattle.ice_values.specs.declared.severity.Severity.TheVariants.{CanContinue}
 use Rattle.ice_values.specs.declared.refusals.DecodeRefusal.{DecodeRefusal}
-use Rattle.ice_values.specs.declared.refusals.DecodeRefusal.TheVariants.{BadMinor, BadLength, BadValue, NoMemory}
+use Rattle.ice_values.specs.declared.refusals.DecodeRefusal.TheVariants.{BadMinor, BadLength}
 use Rattle.sm_world.specs.declared.events.SaveKind.TheVariants.{Global}
 use Rattle.sm_world.specs.declared.events.SaveStyle.TheVariants.{Nothing}
 use Rattle.sm_world.specs.declared.events.Dialog.TheVariants.{Normal}
@@ -23,7 +23,8 @@ use Rattle.ice_values.proofs.PropertyLaws.{array8_exact, array8_list_exact, prop
 use Rattle.ice_values.proofs.HeaderLaws.{Header, minor_is}
 use Rattle.ice_values.proofs.BodyLaws.{ok_not_err}
 use Rattle.ice_values.proofs.EnumLaws.{bool_enum, dialog_enum}
-use Rattle.ice_values.proofs.ChoiceLaws.{opens_none, form_of, form_of_chosen, choice_of_form}
+use Rattle.ice_values.proofs.ChoiceLaws.{opens_none, form_is_choice as choice_is_form}
+use Rattle.ice_values.proofs.DecodeLaws.{Caused, caused, is_found as found, is_refused as refused}
 use Rattle.xsmp_messages.specs.Messages.{minor_of, layout, shape, enumerated, IsMessage, Spells, HasForm, HasChoice, canon, Refused}
 use Rattle.xsmp_messages.specs.Reading.{valued_at, empty_at, flagged_at, save_yourself_at, save_yourself_request_at, xsmp_error_at, decode_at}
 use Rattle.xsmp_messages.specs.declared.message.XsmpMessage.{XsmpMessage}
@@ -146,21 +147,8 @@ opens e opcode (InteractDone cancel) = record { opens = refl; marks = refl; are_
 opens e opcode (SaveYourselfDone success) = record { opens = refl; marks = refl; are_free = (refl, tt); are_known = (refl, tt) }
 opens e opcode m = opens_none (shape byte e opcode m)
 
--- the form of what some choice spells
-formed : (e : Endian) (opcode : ℕ) (m : XsmpMessage) (bytes : List ℕ) → HasChoice e opcode m bytes → HasForm e opcode m bytes
-formed e opcode m bytes choice =
-    let spelled = shape byte e opcode m in
-    let form = shape (λ n. free 1) e opcode m in
-    let law = opens e opcode m in
-    (choice.2.0, form_of_chosen (numbers_of m) (enumerated m) spelled form law bytes choice.0 [] choice.1 (form_of (numbers_of m) (enumerated m) spelled form law choice.0 [] choice.2.1))
-
-chosen : (e : Endian) (opcode : ℕ) (m : XsmpMessage) (bytes : List ℕ) → HasForm e opcode m bytes → HasChoice e opcode m bytes
-chosen e opcode m bytes h =
-    let c = choice_of_form (numbers_of m) (enumerated m) (shape byte e opcode m) (shape (λ n. free 1) e opcode m) (opens e opcode m) bytes [] h.1 in
-    (c.0, c.1, (h.0, c.2))
-
 pub form_is_choice : (e : Endian) (opcode : ℕ) (m : XsmpMessage) (bytes : List ℕ) → HasForm e opcode m bytes ↔ HasChoice e opcode m bytes
-form_is_choice e opcode m bytes = (chosen e opcode m bytes, formed e opcode m bytes)
+form_is_choice e opcode m bytes = choice_is_form (numbers_of m) (enumerated m) (shape byte e opcode m) (shape (λ n. free 1) e opcode m) (opens e opcode m) (IsMessage m) bytes []
 
 -- ---- all of it
 
@@ -233,44 +221,27 @@ decode_again e opcode bytes m h = decode_is e bytes m (minor_is e opcode (minor_
 -- no choice of the enumerated bytes spells what is refused for its length
 no_choice : (e : Endian) (bytes : List ℕ) → decode_at e bytes ≡ Err BadLength → (opcode : ℕ) (m : XsmpMessage) → HasChoice e opcode m bytes → ⊥
 no_choice e bytes is opcode m choice =
-    let form = formed e opcode m bytes choice in
-    let minor = minor_is e opcode (minor_of m) (layout (λ n. free 1) e m).0 (layout (λ n. free 1) e m).1 bytes form.1 in
-    branch_formed e opcode bytes m form (sym (decode_is e bytes m minor) ∙ is)
+    let formed = (form_is_choice e opcode m bytes).1 choice in
+    let minor = minor_is e opcode (minor_of m) (layout (λ n. free 1) e m).0 (layout (λ n. free 1) e m).1 bytes formed.1 in
+    branch_formed e opcode bytes m formed (sym (decode_is e bytes m minor) ∙ is)
 
 -- what decoding answers is spelled, or has its cause
-pub Caused : Endian → List ℕ → Result XsmpMessage DecodeRefusal → Type 0
-Caused e bytes (Ok m) = Spells e (slice_index bytes 0) m bytes
-Caused e bytes (Err d) = Refused e bytes d
-
-caused_known : (e : Endian) (bytes : List ℕ) (m : XsmpMessage) → minor_of m ≡ slice_index bytes 1 → (r : Result XsmpMessage DecodeRefusal) → decode_at e bytes ≡ r → Says e (slice_index bytes 0) bytes r → Caused e bytes r
-unfolding Caused
-caused_known e bytes m is (Ok x) read says = says
-caused_known e bytes m is (Err BadMinor) read says = absurd says
-caused_known e bytes m is (Err BadLength) read says = ((m, is), no_choice e bytes read)
-caused_known e bytes m is (Err (BadValue at len)) read says = says
-caused_known e bytes m is (Err NoMemory) read says = tt
-
-pub decode_caused : (e : Endian) (bytes : List ℕ) → Framed e bytes → Caused e bytes (decode_at e bytes)
-unfolding Caused
-decode_caused e bytes f = elim (some_of (slice_index bytes 1)) [
-  | inl known ↦ caused_known e bytes known.0 known.1 (decode_at e bytes) refl (decode_says e bytes known.0 f known.1)
-  | inr none ↦ rw (no_minor e bytes none) (λ m is. omega (arith, minor_below m, none, is))
-]
+decode_caused : (e : Endian) (bytes : List ℕ) → Framed e bytes → Caused (λ m. Spells e (slice_index bytes 0) m bytes) (Refused e bytes) (decode_at e bytes)
+decode_caused e bytes f =
+    let opcode : ℕ = slice_index bytes 0 in
+    elim (some_of (slice_index bytes 1)) [
+      | inl known ↦
+          caused (λ m. Spells e opcode m bytes) (Refused e bytes) (λ m. HasForm e opcode m bytes) enumerated bytes (decode_at e bytes) (λ long. ((known.0, known.1), no_choice e bytes long)) (λ at len wrong. wrong) (decode_says e bytes known.0 f known.1)
+      | inr none ↦ rw (no_minor e bytes none) (λ m is. omega (arith, minor_below m, none, is))
+    ]
 
 -- ---- the clauses of a call that gives this answer
 
 pub is_found : (e : Endian) (bytes : List ℕ) (r : Result XsmpMessage DecodeRefusal) → Framed e bytes → Gives r (decode_at e bytes) → IfOk r (λ m. Spells e (slice_index bytes 0) m bytes)
-unfolding Caused
-is_found e bytes (Ok m) f given = subst (Caused e bytes) given (decode_caused e bytes f)
-is_found e bytes (Err d) f given = tt
+is_found e bytes r f given = found (λ m. Spells e (slice_index bytes 0) m bytes) (Refused e bytes) r (decode_at e bytes) given (decode_caused e bytes f)
 
 pub is_refused : (e : Endian) (bytes : List ℕ) (r : Result XsmpMessage DecodeRefusal) → Framed e bytes → Gives r (decode_at e bytes) → IfErr r (λ d. Refused e bytes d)
-unfolding Caused
-is_refused e bytes (Ok m) f given = tt
-is_refused e bytes (Err BadMinor) f given = subst (Caused e bytes) given (decode_caused e bytes f)
-is_refused e bytes (Err BadLength) f given = subst (Caused e bytes) given (decode_caused e bytes f)
-is_refused e bytes (Err (BadValue at len)) f given = subst (Caused e bytes) given (decode_caused e bytes f)
-is_refused e bytes (Err NoMemory) f given = tt
+is_refused e bytes r f given = refused (λ m. Spells e (slice_index bytes 0) m bytes) (Refused e bytes) r (decode_at e bytes) tt given (decode_caused e bytes f)
 
 pub is_only : (e : Endian) (opcode : ℕ) (bytes : List ℕ) (r : Result XsmpMessage DecodeRefusal) (m : XsmpMessage) → Gives r (decode_at e bytes) → Spells e opcode m bytes → Gives r (Ok m)
 is_only e opcode bytes r m given spelled = subst (Gives r) (decode_again e opcode bytes m spelled) given

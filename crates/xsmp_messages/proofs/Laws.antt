@@ -1,9 +1,9 @@
 -- Every message is decoded where it is spelled, and every refusal has its cause.
-use Rattle.std.proofs.Common.{◌≡◌, ℕ, Bool, false, List, [], ◌∷◌, ◌++◌, Option, Result, Ok, Err, refl, ap, slice_index}
+use Rattle.std.proofs.Common.{◌≡◌, ℕ, Bool, false, List, [], ◌∷◌, ◌++◌, Option, Result, Ok, Err, refl, slice_index}
 use Rattle.ice_values.specs.Cells.{Cells, byte, free, Begins}
 use Rattle.ice_values.specs.Fields.{ErrorFields, spelling, bool_number, severity_number}
 use Rattle.ice_values.specs.Reading.{nothing_at, after_at, Exact}
-use Rattle.ice_values.specs.Frames.{◌>>=◌, body_at, means_at, both_at, bool_meaning, error_at}
+use Rattle.ice_values.specs.Frames.{body_at, means_at, both_at, bool_meaning, error_at}
 use Rattle.ice_values.specs.Saves.{kind_number, kind_meaning, style_number, style_meaning, dialog_number}
 use Rattle.ice_values.specs.declared.numbers.Endian.{Endian}
 use Rattle.ice_values.specs.declared.numbers.Endian.TheVariants.{Lsb, Msb}
