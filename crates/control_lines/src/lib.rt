@@ -10,6 +10,7 @@ mod script;
 #[cfg(test)]
 mod tests;
 mod trace;
+mod words;
 
 pub use console::read_input;
 pub use fields::{put_hex, read_bytes, read_conn, read_hex, read_number};
@@ -20,3 +21,4 @@ pub use lines::{next_line, split_once};
 pub use orders::{OrderRefusal, read_order};
 pub use script::read_script_line;
 pub use trace::{effect_line, has_line, started_line};
+pub use words::are_one_word;

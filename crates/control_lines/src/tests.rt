@@ -1,7 +1,7 @@
 use crate::{
     OrderRefusal, a_line_gives_one_event, a_line_says_its_event, a_line_says_one_order,
-    effect_line, has_line, lines_say_one_list, next_line, put_hex, read_bytes, read_hex,
-    read_number, read_order, read_script_line, split_once, started_line,
+    are_one_word, effect_line, has_line, lines_say_one_list, next_line, put_hex, read_bytes,
+    read_hex, read_number, read_order, read_script_line, split_once, started_line,
 };
 use sm_world::{Command, Effect, Event, NoMemory, Octets, OctetsList, Order, PairList};
 use std::alloc::Global;
@@ -208,5 +208,19 @@ fn laws_can_be_called(_rt: HostRuntime) -> Result<(), Fail> {
     a_line_gives_one_event();
     lines_say_one_list();
     a_line_says_its_event();
+    Ok(())
+}
+
+#[test]
+fn one_word_of_a_command_line(rt: HostRuntime) -> Result<(), Fail> {
+    let alloc = rt.alloc();
+    let mut words = Vec::new(alloc);
+    assert!(rt; !are_one_word(words.as_slice(), "status"));
+    words.push("status".to_string(alloc)?)?;
+    assert!(rt; are_one_word(words.as_slice(), "status"));
+    assert!(rt; !are_one_word(words.as_slice(), "statu"));
+    assert!(rt; !are_one_word(words.as_slice(), ""));
+    words.push("status".to_string(alloc)?)?;
+    assert!(rt; !are_one_word(words.as_slice(), "status"));
     Ok(())
 }

@@ -1,4 +1,4 @@
-ghost use Rattle.std.specs.Prelude.{ℕ, List, length, map, string_bytes, IsTrue, ◌↔◌, ◌≤◌};
+ghost use Rattle.std.specs.Prelude.{ℕ, List, length, map, string_bytes, ◌≤◌};
 ghost use Rattle.session_engine.specs.Carries.{Added, NotFallen};
 ghost use Rattle.smd_app.specs.Statuses.{AreRehearse, Runs, Answers};
 
@@ -6,7 +6,7 @@ use crate::fault::Fault;
 use crate::identity::Identity;
 use crate::rehearsal::run_in_memory;
 use crate::script::{SCRIPT_LIMIT, read_script};
-use control_lines::read_input;
+use control_lines::{are_one_word, read_input};
 use sm_world::Console;
 use std::alloc::Global;
 
@@ -26,13 +26,6 @@ fn rehearse<W: Console>(alloc: Global, world: &mut W, turns: u64) -> Result<(), 
     }
 }
 
-/// Whether the words are `rehearse`.
-fn are_rehearse(words: &[String]) -> bool
-    ensures { IsTrue result ↔ AreRehearse (map string_bytes words.now) }
-{
-    words.len() == 1 && words[0].as_str() == "rehearse"
-}
-
 /// Runs what the words ask for.
 fn run_words<W: Console>(
     alloc: Global,
@@ -43,7 +36,7 @@ fn run_words<W: Console>(
     ensures runs { Added (W.outside world.old).told (W.outside world.new).told (Runs (map string_bytes words.now) (W.outside world.old) (W.outside world.new) turns result) }
     ensures counts { NotFallen (W.outside world.old).faults (W.outside world.new).faults }
 {
-    if are_rehearse(words) {
+    if are_one_word(words, "rehearse") {
         rehearse(alloc, world, turns)
     } else {
         Err(Fault::BadWords)

@@ -1,3 +1,6 @@
+ghost use Rattle.std.specs.Prelude.{◌≡◌, ◌∷◌, [], codes, map, string_bytes, Some, None};
+
+use control_lines::are_one_word;
 use std::io::ErrorKind;
 use std::{env, io};
 
@@ -24,14 +27,17 @@ pub struct OwnTexts {
 
 impl OwnTexts {
     /// The text for these words, where they are one of the two.
-    pub fn answer(&self, words: &[String]) -> Option<&'static str> {
-        if words.len() != 1 {
-            return None;
-        }
-        match words[0].as_str() {
-            "--help" => Some(self.help),
-            "--version" => Some(self.version),
-            _ => None,
+    pub fn answer(&self, words: &[String]) -> Option<&'static str>
+        ensures help { map string_bytes words.now ≡ codes "--help" ∷ [] → result ≡ Some self.now.help }
+        ensures version { map string_bytes words.now ≡ codes "--version" ∷ [] → result ≡ Some self.now.version }
+        ensures none { ¬ (map string_bytes words.now ≡ codes "--help" ∷ []) → ¬ (map string_bytes words.now ≡ codes "--version" ∷ []) → result ≡ None }
+    {
+        if are_one_word(words, "--help") {
+            Some(self.help)
+        } else if are_one_word(words, "--version") {
+            Some(self.version)
+        } else {
+            None
         }
     }
 }

@@ -1,10 +1,10 @@
-ghost use Rattle.std.specs.Prelude.{ℕ, List, map, string_bytes, IsTrue, ◌↔◌};
+ghost use Rattle.std.specs.Prelude.{ℕ, List, map, string_bytes};
 ghost use Rattle.session_engine.specs.Carries.{Added, NotFallen};
 ghost use Rattle.trace_replay.specs.Statuses.{AreShow, Runs, Answers};
 
 use crate::fault::Fault;
 use crate::showing::{ShowAnswer, show_within};
-use control_lines::read_input;
+use control_lines::{are_one_word, read_input};
 use sm_world::Console;
 use std::alloc::Global;
 
@@ -26,19 +26,12 @@ fn show_input<C: Console>(alloc: Global, console: &mut C) -> Result<(), Fault>
     }
 }
 
-/// Whether the words are `show`.
-fn are_show(words: &[String]) -> bool
-    ensures { IsTrue result ↔ AreShow (map string_bytes words.now) }
-{
-    words.len() == 1 && words[0].as_str() == "show"
-}
-
 /// Runs what the words ask for.
 fn run_words<C: Console>(alloc: Global, words: &[String], console: &mut C) -> Result<(), Fault>
     ensures runs { Added (C.outside console.old).told (C.outside console.new).told (Runs (map string_bytes words.now) (C.outside console.old) (C.outside console.new) result) }
     ensures counts { NotFallen (C.outside console.old).faults (C.outside console.new).faults }
 {
-    if are_show(words) {
+    if are_one_word(words, "show") {
         show_input(alloc, console)
     } else {
         Err(Fault::BadWords)
