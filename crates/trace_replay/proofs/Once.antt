@@ -16,7 +16,6 @@ use Rattle.trace_replay.specs.Shown.{shown}
 use Rattle.trace_replay.specs.Shows.{IsMalformed, ShowsWithin}
 use Rattle.trace_replay.specs.declared.lines.TraceLine.{TraceLine}
 use Rattle.trace_replay.specs.declared.lines.TraceLine.TheVariants.{Heard, End, Sent, Shut, Started, Printed}
-use Rattle.trace_replay.specs.declared.showing.ShowAnswer.{ShowAnswer}
 use Rattle.trace_replay.specs.declared.showing.ShowAnswer.TheVariants.{Text, Malformed}
 
 -- ---- numbers and bytes
