@@ -6,3 +6,5 @@ pub mod Again
 pub mod Listing
 pub mod InputLemmas
 pub mod WordLemmas
+pub mod ProgramLemmas
+pub mod FirstBad

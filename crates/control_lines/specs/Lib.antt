@@ -7,3 +7,4 @@ pub mod Traces
 pub mod Laws
 pub mod Input
 pub mod Printing
+pub mod Programs

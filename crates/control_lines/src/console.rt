@@ -1,6 +1,7 @@
-ghost use Rattle.std.specs.Prelude.{◌≡◌};
-ghost use Rattle.sm_world.specs.Outside.{UsesConsole};
+ghost use Rattle.std.specs.Prelude.{◌≡◌, Some};
+ghost use Rattle.sm_world.specs.Outside.{Added, NotFallen, UsesConsole};
 ghost use Rattle.control_lines.specs.Input.{TakesFront};
+ghost use Rattle.control_lines.specs.Printing.{Tries};
 
 use sm_world::{Console, Failure, Octets};
 use std::alloc::Global;
@@ -31,4 +32,12 @@ pub fn read_input<W: Console>(alloc: Global, world: &mut W, limit: usize) -> Res
         left -= count;
     }
     Ok(input)
+}
+
+/// Prints a line. A refusal changes nothing more.
+pub fn try_line<W: Console>(world: &mut W, line: &[u8])
+    ensures tried { Added (W.outside world.old).told (W.outside world.new).told (Tries (Some line.now)) }
+    ensures counts { NotFallen (W.outside world.old).faults (W.outside world.new).faults }
+{
+    let _ = world.print(line);
 }

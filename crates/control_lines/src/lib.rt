@@ -12,7 +12,7 @@ mod tests;
 mod trace;
 mod words;
 
-pub use console::read_input;
+pub use console::{read_input, try_line};
 pub use fields::{put_hex, read_bytes, read_conn, read_hex, read_number};
 pub use laws::{
     a_line_gives_one_event, a_line_says_its_event, a_line_says_one_order, lines_say_one_list,

@@ -1,9 +1,12 @@
 use crate::{
     OrderRefusal, a_line_gives_one_event, a_line_says_its_event, a_line_says_one_order,
     are_one_word, effect_line, has_line, lines_say_one_list, next_line, put_hex, read_bytes,
-    read_hex, read_number, read_order, read_script_line, split_once, started_line,
+    read_hex, read_number, read_order, read_script_line, split_once, started_line, try_line,
 };
-use sm_world::{Command, Effect, Event, NoMemory, Octets, OctetsList, Order, PairList};
+use sm_world::{
+    Command, Effect, Event, EventList, MemWorld, NoMemory, NumberList, Octets, OctetsList, Order,
+    PairList,
+};
 use std::alloc::Global;
 use std::process::Abort;
 use std::test::Fail;
@@ -199,6 +202,28 @@ fn fields_of_lines(rt: HostRuntime) -> Result<(), Fail> {
     assert!(rt; parts == Some((b"a".as_slice(), b"b c".as_slice())));
     let (line, rest) = next_line(b"\nx");
     assert!(rt; line.is_empty() && rest == b"x".as_slice());
+    Ok(())
+}
+
+/// A world without input whose second call fails.
+fn failing_world(alloc: Global) -> Result<MemWorld, NoMemory> {
+    let mut failing = NumberList::new(alloc);
+    failing.push(2)?;
+    let events = EventList::new(alloc);
+    let input = Octets::new(alloc);
+    MemWorld::new(alloc, events, input, Octets::new(alloc), failing)
+}
+
+#[test]
+fn a_refused_line_is_not_tried_again(rt: HostRuntime) -> Result<(), Fail> {
+    let mut world = failing_world(rt.alloc())?;
+    try_line(&mut world, b"one\n");
+    try_line(&mut world, b"two\n");
+    assert_eq!(rt; world.effects().len(), 1);
+    let first = world.effects().first();
+    assert!(rt;
+        matches!(first, Some(Effect::Printed(text)) if text.as_slice() == b"one\n".as_slice())
+    );
     Ok(())
 }
 

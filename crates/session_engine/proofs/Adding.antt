@@ -1,26 +1,18 @@
--- One call after another: the effects that they add, and the acts that these do.
-use Rattle.std.proofs.Common.{◌≡◌, inl, inr, arith, ℕ, Bool, true, false, List, [], ◌∷◌, ◌++◌, Option, Some, None, Result, Ok, Err, is_ok, refl, sym, subst, ◌∙◌, ap, append_assoc}
+-- One call after another: the acts that their effects do, and the cause of a fault.
+use Rattle.std.proofs.Common.{◌≡◌, inl, inr, arith, ℕ, Bool, true, false, List, [], ◌∷◌, ◌++◌, Option, Result, Ok, Err, is_ok, refl, sym, subst, ◌∙◌, ap, append_assoc}
 use Rattle.std.proofs.lemmas.List.{append-nil, map-append}
 use Rattle.std.proofs.lemmas.Bool.{false≢true}
 use Rattle.std.proofs.lemmas.Grind.{flat_map-append}
 use Rattle.sm_world.specs.Effects.{Deed, Sends, Shuts, event_of, deed_of, file_of}
-use Rattle.sm_world.specs.Outside.{adds, on_ok}
+use Rattle.sm_world.specs.Outside.{adds, on_ok, Added, NotFallen}
 use Rattle.sm_world.specs.declared.effects.Effect.{Effect}
 use Rattle.sm_world.specs.declared.effects.Effect.TheVariants.{Sent, Shut}
+use Rattle.sm_world.proofs.Adding.{adds-adds, adds-none}
 use Rattle.session_engine.specs.Machine.{Act, Does, Did, deed_in}
-use Rattle.session_engine.specs.Carries.{Added, Going, CarriesOut, NotFallen, HasCause, item_of}
+use Rattle.session_engine.specs.Carries.{Going, CarriesOut, HasCause, item_of}
 use Rattle.sm_world.specs.declared.failures.Faults.{Faults}
 use Rattle.session_engine.specs.declared.fault.ServeFault.{ServeFault}
 use Rattle.session_engine.specs.declared.fault.ServeFault.TheVariants.{LinkFault, Spent, NoMemory}
-
--- effects that are added one after the other
-pub adds-adds : (old : Option (List Effect)) (es ds : List Effect) → adds (adds old es) ds ≡ adds old (es ++ ds)
-adds-adds None es ds = refl
-adds-adds (Some told) es ds = ap Some (append_assoc told es ds)
-
-pub adds-none : (old : Option (List Effect)) → adds old [] ≡ old
-adds-none None = refl
-adds-none (Some told) = ap Some (append-nil told)
 
 -- nothing was done, and all is left
 pub still : (acts : List Act) → Going acts acts []
@@ -88,18 +80,6 @@ given_up acts old = record {
   effects = [];
   added = sym (adds-none old);
   holds = record { left = acts; going = still acts; none_left = λ e. absurd (false≢true e) };
-}
-
--- counts that never fall
-pub never_fallen : (faults : Faults) → NotFallen faults faults
-never_fallen faults = record { disk = omega arith; links = omega arith; spawner = omega arith; console = omega arith }
-
-pub fallen_never : (first second third : Faults) → NotFallen first second → NotFallen second third → NotFallen first third
-fallen_never first second third one two = record {
-  disk = omega (arith, one.disk, two.disk);
-  links = omega (arith, one.links, two.links);
-  spawner = omega (arith, one.spawner, two.spawner);
-  console = omega (arith, one.console, two.console);
 }
 
 -- a fault's cause in the later of two parts of a call is one in the whole call

@@ -11,7 +11,7 @@ use Rattle.session_engine.specs.Rows.{Shows, Carried, all_cut}
 use Rattle.session_engine.specs.declared.table.Table.{Table}
 use Rattle.session_engine.specs.declared.answers.Answer.{Answer}
 use Rattle.session_engine.specs.declared.answers.Answer.TheVariants.{Stays, Closes}
-use Rattle.session_engine.proofs.Adding.{adds-none}
+use Rattle.sm_world.proofs.Adding.{adds-none}
 use Rattle.session_engine.proofs.Running.{has_finish-append}
 
 -- no part of a stream ends the run

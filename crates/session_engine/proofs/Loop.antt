@@ -1,18 +1,18 @@
 -- The engine's loop: what one turn adds to the effects of a run, whether the world tells them or not.
 use Rattle.std.proofs.Common.{◌≡◌, ℕ, suc, ◌<◌, ◌≤◌, true, false, List, [], ◌∷◌, ◌++◌, Option, None, Ok, Err, refl, sym, ◌∙◌, ap, append_assoc}
 use Rattle.sm_world.specs.Effects.{heard}
-use Rattle.sm_world.specs.Outside.{adds, TakesNext}
+use Rattle.sm_world.specs.Outside.{adds, TakesNext, Added}
 use Rattle.sm_world.specs.declared.effects.Effect.{Effect}
 use Rattle.sm_world.specs.declared.effects.Effect.TheVariants.{Heard}
 use Rattle.sm_world.specs.declared.events.Event.{Event}
 use Rattle.ice_cookie.specs.declared.cookies.Cookie.{Cookie}
 use Rattle.session_engine.specs.Machine.{Machine, start, step, after_all, has_finish}
-use Rattle.session_engine.specs.Carries.{Added, Serves}
+use Rattle.session_engine.specs.Carries.{Serves}
 use Rattle.session_engine.specs.Rows.{Shows, Carried, all_cut, row_at, row_count}
 use Rattle.session_engine.specs.declared.table.Table.{Table}
 use Rattle.session_engine.specs.declared.fault.ServeFault.{ServeFault}
 use Rattle.session_engine.specs.declared.fault.ServeFault.TheVariants.{Spent}
-use Rattle.session_engine.proofs.Adding.{adds-adds, adds-none}
+use Rattle.sm_world.proofs.Adding.{adds-adds, adds-none}
 use Rattle.session_engine.proofs.Events.{cookie_kept}
 use Rattle.session_engine.proofs.Running.{Runs, runs_begin, goes_on, is_end, is_cut_short, is_over}
 

@@ -6,7 +6,7 @@ use Rattle.ice_framing.specs.Frames.{Cut}
 use Rattle.ice_framing.specs.declared.cutting.WholeFrame.{WholeFrame}
 use Rattle.std.proofs.lemmas.List.{length-drop, take_all}
 use Rattle.std.proofs.lemmas.Bool.{cases_eq, false≢true}
-use Rattle.sm_world.specs.Outside.{adds}
+use Rattle.sm_world.specs.Outside.{adds, Added}
 use Rattle.sm_world.specs.declared.effects.Effect.{Effect}
 use Rattle.sm_world.specs.declared.events.Event.TheVariants.{Piece}
 use Rattle.ice_framing.specs.Frames.{Standing, fed, cut, behind, standing_of, units, unit_limit}
@@ -17,7 +17,7 @@ use Rattle.session_engine.specs.Answers.{Outcome, outcome, oversize_answer, sequ
 use Rattle.session_engine.specs.Cutting.{WaitsForMore, CutsReady, CutsRow}
 use Rattle.session_engine.specs.Streams.{Part, Whole, TooMuch, parts_at, new_parts}
 use Rattle.session_engine.specs.Machine.{Connection, Machine, Step, connection_of, changed, without, fed_with, counted, stays, answered, part_taken, parts_taken, step}
-use Rattle.session_engine.specs.Carries.{Added, Going}
+use Rattle.session_engine.specs.Carries.{Going}
 use Rattle.session_engine.specs.Rows.{row_at, row_count, IsRowOf, Matches, IsLiveAs, Counts, Shows, ShowsFor, Carried, HeldStays, all_cut, to_cut, CutsAt}
 use Rattle.session_engine.specs.declared.row.Row.{Row}
 use Rattle.session_engine.specs.declared.row.Answered.{Answered}
@@ -26,7 +26,8 @@ use Rattle.session_engine.specs.declared.answers.Answer.{Answer}
 use Rattle.session_engine.specs.declared.answers.Answer.TheVariants.{Stays, Closes}
 use Rattle.session_engine.proofs.Parts.{parts_at-whole, parts_at-partial, parts_at-oversize, new_parts-is, fed-nothing}
 use Rattle.session_engine.proofs.Connections.{same, other, connection_of-changed, connection_of-without, length-changed, distinct-changed}
-use Rattle.session_engine.proofs.Adding.{adds-adds, adds-none, still, going_on}
+use Rattle.sm_world.proofs.Adding.{adds-adds, adds-none}
+use Rattle.session_engine.proofs.Adding.{still, going_on}
 
 -- the part of a slice from a place on
 pub from_place : (n : ℕ) (xs : List ℕ) → take (length xs - n) (drop n xs) ≡ drop n xs

@@ -21,7 +21,8 @@ use Rattle.session_engine.specs.declared.table.Table.{Table}
 use Rattle.session_engine.specs.declared.answers.Answer.TheVariants.{Stays, Closes}
 use Rattle.session_engine.specs.declared.fault.ServeFault.{ServeFault}
 use Rattle.session_engine.proofs.Connections.{same, other, connection_of-without, connection_of-append, length-without, distinct-without, distinct-append}
-use Rattle.session_engine.proofs.Adding.{adds-none, untouched, given_up, sent, was_shut, one_after_other}
+use Rattle.sm_world.proofs.Adding.{adds-none}
+use Rattle.session_engine.proofs.Adding.{untouched, given_up, sent, was_shut, one_after_other}
 use Rattle.session_engine.proofs.Pieces.{shows_by, live_at, live_as}
 
 live_some : (row : Option Row) (k : Option Connection) → IsLiveAs row k → is_some row ≡ is_some k

@@ -3,7 +3,7 @@ use Rattle.std.specs.Prelude.{◌≡◌, ◌≤◌, ℕ, zero, suc, Bool, true, 
 use Rattle.std.specs.List.{flat_map}
 use Rattle.sm_world.specs.Effects.{Sends, Shuts, Starts, Prints, heard, deeds, published}
 use Rattle.sm_world.specs.Events.{next_of}
-use Rattle.sm_world.specs.Outside.{Rose, adds}
+use Rattle.sm_world.specs.Outside.{Rose}
 use Rattle.sm_world.specs.declared.effects.Effect.{Effect}
 use Rattle.sm_world.specs.declared.effects.Effect.TheVariants.{Heard, Sent, Shut, Started, Wrote, Torn, Synced, SyncFailed, Published, Printed}
 use Rattle.sm_world.specs.declared.events.Event.{Event}
@@ -91,19 +91,6 @@ module _ (cookie : Cookie) where
     pub in_turns : length (heard effects) ≤ turns
     -- the turns are spent where so many events were heard and none ended the run
     pub spent : IsErrOf answer Spent → (length (heard effects) ≡ turns) × (has_finish (script (heard effects)) ≡ false)
-
--- Some list of effects was added, and it is such that P holds. Where the world tells, it is the list that the world tells.
-pub record Added (old new : Option (List Effect)) (P : List Effect → Type 0) : Type 0 where
-  pub effects : List Effect
-  pub added : new ≡ adds old effects
-  pub holds : P effects
-
--- no count fell
-pub record NotFallen (old new : Faults) : Type 0 where
-  pub disk : old.disk ≤ new.disk
-  pub links : old.links ≤ new.links
-  pub spawner : old.spawner ≤ new.spawner
-  pub console : old.console ≤ new.console
 
 -- why a call on the links did nothing, as a fault of the run
 abbrev pub fault_of : Failure → ServeFault

@@ -5,7 +5,8 @@ use Rattle.std.specs.BTreeMap.{get as place_of, btree_map_len}
 use Rattle.sm_world.specs.declared.effects.Effect.{Effect}
 use Rattle.ice_framing.specs.Frames.{fed, cut}
 use Rattle.session_engine.specs.Answers.{KeepsLive}
-use Rattle.session_engine.specs.Carries.{Added, CarriesOut}
+use Rattle.sm_world.specs.Outside.{Added}
+use Rattle.session_engine.specs.Carries.{CarriesOut}
 use Rattle.session_engine.specs.Cutting.{CutsRow}
 use Rattle.session_engine.specs.Machine.{Connection, Machine, Step, connection_of}
 use Rattle.ice_framing.specs.Frames.{standing_of}

@@ -1,9 +1,9 @@
 ghost use Rattle.std.specs.Prelude.{◌≡◌, ◌≢◌, [], ◌∷◌, ◌++◌, IfOk, IfErr, OnOk, IsErrOf};
 ghost use Rattle.sm_world.specs.Events.{HasPieceSize};
-ghost use Rattle.sm_world.specs.Outside.{adds, on_ok, of_ok, TakesNext};
+ghost use Rattle.sm_world.specs.Outside.{adds, on_ok, of_ok, TakesNext, NotFallen};
 ghost use Rattle.sm_world.specs.declared.effects.Effect.TheVariants.{Heard, Sent, Shut};
 ghost use Rattle.session_engine.specs.Messages.{spelled, IsTooLong};
-ghost use Rattle.session_engine.specs.Carries.{NotFallen, HasCause, fault_of};
+ghost use Rattle.session_engine.specs.Carries.{HasCause, fault_of};
 
 use crate::ServeFault;
 use crate::messages::Message;

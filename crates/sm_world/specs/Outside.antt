@@ -38,9 +38,22 @@ abbrev pub of_ok : {A E : Type 0} → (A → Effect) → Result A E → List Eff
 of_ok effect (Ok x) = effect x ∷ []
 of_ok effect (Err e) = []
 
+-- Some list of effects was added, and it is such that P holds. Where the world tells, it is the list that the world tells.
+pub record Added (old new : Option (List Effect)) (P : List Effect → Type 0) : Type 0 where
+  pub effects : List Effect
+  pub added : new ≡ adds old effects
+  pub holds : P effects
+
 -- A count rose, or stands at the largest number.
 abbrev pub Rose : ℕ → ℕ → Type 0
 Rose before after = (before < after) ⊎ (after ≡ 2 ^ 64 - 1)
+
+-- no count fell
+pub record NotFallen (old new : Faults) : Type 0 where
+  pub disk : old.disk ≤ new.disk
+  pub links : old.links ≤ new.links
+  pub spawner : old.spawner ≤ new.spawner
+  pub console : old.console ≤ new.console
 
 -- What no call of Links or Console changes: the store, and the files of a peer.
 pub record KeepsFiles (old new : Outside) : Type 0 where

@@ -6,8 +6,9 @@ use Rattle.std.proofs.lemmas.Bool.{cases_lt, false≢true}
 use Rattle.sm_world.specs.declared.events.Event.{Event}
 use Rattle.sm_world.specs.declared.events.Event.TheVariants.{End}
 use Rattle.session_engine.specs.Carries.{next_events}
-use Rattle.session_engine.specs.Machine.{Act, Does, Finish, Machine, Came, Did, Item, start as start_with, step, script_from, run_from, deeds_in, has_finish}
+use Rattle.session_engine.specs.Machine.{Act, Machine, Came, Did, Item, start as start_with, step, script_from, run_from, deeds_in, has_finish}
 use Rattle.session_engine.specs.Carries.{script as script_with, run as run_with}
+use Rattle.session_engine.proofs.Running.{has_finish-append}
 use Rattle.smd_app.specs.Rehearsals.{rehearsal_cookie, with_end, ends_within}
 
 -- the machine of a rehearsal
@@ -19,12 +20,6 @@ script events = script_with rehearsal_cookie events
 
 abbrev pub run : List Event → List Item
 run events = run_with rehearsal_cookie events
-
--- Finish in two lists of acts
-has_finish-append : (xs ys : List Act) → has_finish (xs ++ ys) ≡ (if has_finish xs then true else has_finish ys)
-has_finish-append [] ys = refl
-has_finish-append (Does deed ∷ xs) ys = has_finish-append xs ys
-has_finish-append (Finish ∷ xs) ys = refl
 
 later_finish : (b : Bool) (rest : List Act) → (if b then true else has_finish (if b then [] else rest)) ≡ true → b ≡ false → has_finish rest ≡ true
 later_finish true rest e unfinished = absurd (false≢true (sym unfinished))

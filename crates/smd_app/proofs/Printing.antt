@@ -1,64 +1,35 @@
 -- What was printed, and how a run ended.
-use Rattle.std.proofs.Common.{◌≡◌, inl, inr, ℕ, ◌+◌, ◌≤◌, true, false, List, [], ◌∷◌, ◌++◌, map, Option, Some, None, Result, Ok, Err, IfSome, IsErrAnd, refl, sym, ◌∙◌, ap, subst, arith, append_assoc}
-use Rattle.std.proofs.lemmas.List.{append-nil, take_all}
-use Rattle.sm_world.specs.Outside.{Outside, Rose, UsesConsole, adds, on_ok}
-use Rattle.sm_world.specs.declared.effects.Effect.{Effect}
+use Rattle.std.proofs.Common.{◌≡◌, ℕ, ◌+◌, true, false, List, [], ◌∷◌, map, Ok, Err, refl, sym, ◌∙◌, ap, subst}
+use Rattle.sm_world.specs.Outside.{Outside, Added, Rose, UsesConsole, adds}
 use Rattle.sm_world.specs.declared.effects.Effect.TheVariants.{Printed}
+use Rattle.sm_world.specs.declared.events.Event.{Event}
 use Rattle.sm_world.specs.declared.failures.Failure.{Failure}
 use Rattle.sm_world.specs.declared.failures.Failure.TheVariants.{Failed, NoMemory as DeviceMemory}
-use Rattle.session_engine.specs.Carries.{Added}
-use Rattle.smd_app.specs.Faults.{IsScriptFault}
+use Rattle.sm_world.proofs.Adding.{adds-none}
 use Rattle.control_lines.specs.Printing.{Tries}
+use Rattle.control_lines.specs.Programs.{status_by, line_by}
+use Rattle.control_lines.proofs.InputLemmas.{rose_since}
+use Rattle.control_lines.proofs.ProgramLemmas.{Took as TookWithin, ran as ran_with, ran_unread, reported as reported_with}
+use Rattle.smd_app.specs.Faults.{IsScriptFault}
 use Rattle.smd_app.specs.FaultLines.{fault_line, fault_status, console_fault, script_fault}
-use Rattle.control_lines.specs.Input.{TakesFront}
-use Rattle.control_lines.proofs.InputLemmas.{front_taken, some_input, rose_since}
 use Rattle.smd_app.specs.Rehearsals.{script_of, Rehearses}
 use Rattle.smd_app.specs.Script.{ScriptSays}
 use Rattle.smd_app.specs.Statuses.{AreRehearse, Ending, HasEnding, Runs, Answers}
 use Rattle.smd_app.specs.declared.fault.Fault.{Fault}
 use Rattle.smd_app.specs.declared.fault.Fault.TheVariants.{BadWords, Console, BadLine, Spent, NoMemory}
-use Rattle.sm_world.specs.declared.events.Event.{Event}
 use Rattle.smd_app.specs.declared.rehearsal.Rehearsal.{Rehearsal}
 use Rattle.smd_app.specs.declared.script.ScriptFault.{ScriptFault}
 use Rattle.smd_app.specs.declared.script.ScriptFault.TheVariants.{BadLine as FirstBadLine, NoMemory as ScriptMemory}
 use Rattle.smd_app.specs.declared.script.TheConstants.{SCRIPT_LIMIT}
 
-pub adds-none : (told : Option (List Effect)) → adds told [] ≡ told
-adds-none None = refl
-adds-none (Some told) = ap Some (append-nil told)
-
-pub adds-adds : (told : Option (List Effect)) (xs ys : List Effect) → adds (adds told xs) ys ≡ adds told (xs ++ ys)
-adds-adds None xs ys = refl
-adds-adds (Some told) xs ys = ap Some (append_assoc told xs ys)
-
--- a line was tried
-pub line_tried : {E : Type 0} (result : Result (Unit {0}) E) (old new : Option (List Effect)) (text : List ℕ) → new ≡ adds old (on_ok result (Printed text ∷ [])) → Added old new (Tries (Some text))
-line_tried (Ok x) old new text e = record { effects = Printed text ∷ []; added = e; holds = record { texts = text ∷ []; printed = refl; tried = inl refl } }
-line_tried (Err x) old new text e = record { effects = []; added = e; holds = record { texts = []; printed = refl; tried = inr refl } }
-
 -- The script's bytes were read, and nothing else was done.
-pub record Took (old mid : Outside) (bytes : List ℕ) : Type 0 where
-  pub input : List ℕ
-  pub is_input : IfSome old.input (λ told. told ≡ input)
-  pub is_script : bytes ≡ script_of input
-  pub told : mid.told ≡ old.told
-  pub console : old.faults.console ≤ mid.faults.console
-
-pub took : (old mid : Outside) (bytes : List ℕ) → mid.told ≡ old.told → TakesFront {E = Failure} (SCRIPT_LIMIT + 1) old.input (Ok bytes) → old.faults.console ≤ mid.faults.console → Took old mid bytes
-unfolding script_of
-took old mid bytes told taken counts =
-    let parts = front_taken (SCRIPT_LIMIT + 1) old.input bytes taken in
-    record { input = parts.0; is_input = parts.1; is_script = parts.2; told = told; console = counts }
+abbrev pub Took : Outside → Outside → List ℕ → Type 0
+Took old mid bytes = TookWithin (SCRIPT_LIMIT + 1) old mid bytes
 
 -- a run that printed these texts after its script was read
-pub ran : (words : List (List ℕ)) (old mid new : Outside) (turns : ℕ) (bytes : List ℕ) (texts : List (List ℕ)) (ending : Ending) → Took old mid bytes → new.told ≡ adds mid.told (map Printed texts) → HasEnding words old.faults.console new.faults.console bytes turns texts ending → Added old.told new.told (Runs words old new turns ending)
-ran words old mid new turns bytes texts ending taken printed holds =
-    let P : List ℕ → Type 0 = λ b. HasEnding words old.faults.console new.faults.console b turns texts ending in
-    record {
-      effects = map Printed texts;
-      added = printed ∙ ap (λ told. adds told (map Printed texts)) taken.told;
-      holds = record { input = taken.input; is_input = taken.is_input; texts = texts; printed = refl; holds = subst P taken.is_script holds };
-    }
+ran : (words : List (List ℕ)) (old mid new : Outside) (turns : ℕ) (bytes : List ℕ) (texts : List (List ℕ)) (ending : Ending) → Took old mid bytes → new.told ≡ adds mid.told (map Printed texts) → HasEnding words old.faults.console new.faults.console bytes turns texts ending → Added old.told new.told (Runs words old new turns ending)
+ran words old mid new turns bytes texts ending =
+    ran_with (SCRIPT_LIMIT + 1) (λ read printed. HasEnding words old.faults.console new.faults.console read turns printed ending) old mid new bytes texts
 
 refused : (words : List (List ℕ)) (before after : ℕ) (bytes : List ℕ) (turns : ℕ) (failure : Failure) → AreRehearse words → (failure ≡ Failed → Rose before after) → HasEnding words before after bytes turns [] (Err (console_fault failure))
 refused words before after bytes turns Failed are rose = (are, rose refl, refl)
@@ -67,12 +38,8 @@ refused words before after bytes turns DeviceMemory are rose = (are, refl)
 -- the console's input was refused
 pub read_refused : (words : List (List ℕ)) (old new : Outside) (turns : ℕ) (failure : Failure) → AreRehearse words → new.told ≡ old.told → UsesConsole {A = List ℕ} old new (Err failure) → Added old.told new.told (Runs words old new turns (Err (console_fault failure)))
 read_refused words old new turns failure are told uses =
-    let some = some_input old.input in
-    record {
-      effects = [];
-      added = told ∙ sym (adds-none old.told);
-      holds = record { input = some.0; is_input = some.1; texts = []; printed = refl; holds = refused words old.faults.console new.faults.console (script_of some.0) turns failure are (λ e. uses.cause (ap Err e)) };
-    }
+    ran_unread (λ input texts. HasEnding words old.faults.console new.faults.console (script_of input) turns texts (Err (console_fault failure))) old new told
+    (λ input. refused words old.faults.console new.faults.console (script_of input) turns failure are (λ e. uses.cause (ap Err e)))
 
 -- the script has a bad line, or memory was wanting
 pub script_refused : (words : List (List ℕ)) (old mid : Outside) (turns : ℕ) (bytes : List ℕ) (cause : ScriptFault) → AreRehearse words → Took old mid bytes → IsScriptFault bytes cause → Added old.told mid.told (Runs words old mid turns (Err (script_fault cause)))
@@ -103,12 +70,7 @@ run_spent words old mid new turns bytes shown events rehearsal are taken says re
 -- other words
 pub bad_words : (words : List (List ℕ)) (old : Outside) (turns : ℕ) → (AreRehearse words → ⊥) → Added old.told old.told (Runs words old old turns (Err BadWords))
 bad_words words old turns others =
-    let some = some_input old.input in
-    record {
-      effects = [];
-      added = sym (adds-none old.told);
-      holds = record { input = some.0; is_input = some.1; texts = []; printed = refl; holds = (others, refl) };
-    }
+    ran_unread (λ input texts. HasEnding words old.faults.console old.faults.console (script_of input) turns texts (Err BadWords)) old old refl (λ input. (others, refl))
 
 -- The line of a fault changes nothing of what the fault says.
 still_holds : (words : List (List ℕ)) (before after later : ℕ) (bytes : List ℕ) (turns : ℕ) (texts : List (List ℕ)) (fault : Fault) → (fault ≡ Console → later ≡ after) → HasEnding words before after bytes turns texts (Err fault) → HasEnding words before later bytes turns texts (Err fault)
@@ -122,23 +84,9 @@ still_holds words before after later bytes turns texts NoMemory silent holds = h
 -- a run that ended with a fault, and then the fault's line
 pub reported : (words : List (List ℕ)) (old mid new : Outside) (turns status : ℕ) (fault : Fault) → Added old.told mid.told (Runs words old mid turns (Err fault)) → Added mid.told new.told (Tries (fault_line fault)) → (fault ≡ Console → new ≡ mid) → status ≡ fault_status fault → Added old.told new.told (Answers words old new turns status)
 reported words old mid new turns status fault runs line silent number =
-    let run = runs.holds in
-    record {
-      effects = runs.effects ++ line.effects;
-      added = line.added ∙ (ap (λ told. adds told line.effects) runs.added ∙ adds-adds old.told runs.effects line.effects);
-      holds = record {
-        ending = Err fault;
-        number = number;
-        first = runs.effects;
-        last = line.effects;
-        parts = refl;
-        ran = record {
-          input = run.input;
-          is_input = run.is_input;
-          texts = run.texts;
-          printed = run.printed;
-          holds = still_holds words old.faults.console mid.faults.console new.faults.console (script_of run.input) turns run.texts fault (λ e. ap (λ outside. outside.faults.console) (silent e)) run.holds;
-        };
-        tried = line.holds;
-      };
-    }
+    reported_with old.input
+    (λ ending input texts. HasEnding words old.faults.console mid.faults.console (script_of input) turns texts ending)
+    (λ ending input texts. HasEnding words old.faults.console new.faults.console (script_of input) turns texts ending)
+    (status_by fault_status) (line_by fault_line) old.told mid.told new.told status (Err fault) runs line
+    (λ input texts holds. still_holds words old.faults.console mid.faults.console new.faults.console (script_of input) turns texts fault (λ e. ap (λ outside. outside.faults.console) (silent e)) holds)
+    number

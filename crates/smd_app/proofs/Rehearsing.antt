@@ -2,10 +2,10 @@
 use Rattle.std.proofs.Common.{◌≡◌, ℕ, true, false, List, [], Option, Some, Ok, Err, refl, sym, ◌∙◌, ap, subst}
 use Rattle.std.proofs.lemmas.Bool.{false≢true}
 use Rattle.sm_world.specs.Effects.{heard}
-use Rattle.sm_world.specs.Outside.{adds}
+use Rattle.sm_world.specs.Outside.{adds, Added}
 use Rattle.sm_world.specs.declared.effects.Effect.{Effect}
 use Rattle.sm_world.specs.declared.events.Event.{Event}
-use Rattle.session_engine.specs.Carries.{Added, Serves, items}
+use Rattle.session_engine.specs.Carries.{Serves, items}
 use Rattle.session_engine.specs.declared.fault.ServeFault.TheVariants.{Spent}
 use Rattle.smd_app.specs.Rehearsals.{Rehearses, rehearsal_cookie}
 use Rattle.smd_app.specs.Trace.{text}

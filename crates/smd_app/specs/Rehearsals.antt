@@ -16,7 +16,7 @@ abbrev pub rehearsal_cookie : Cookie
 rehearsal_cookie = record { 0 = 0 ∷ 1 ∷ 2 ∷ 3 ∷ 4 ∷ 5 ∷ 6 ∷ 7 ∷ 8 ∷ 9 ∷ 10 ∷ 11 ∷ 12 ∷ 13 ∷ 14 ∷ 15 ∷ [] }
 
 -- what is read as the script: of one that is too long, one byte more than it can have
-unfoldable pub script_of : List ℕ → List ℕ
+abbrev pub script_of : List ℕ → List ℕ
 script_of input = front (SCRIPT_LIMIT + 1) input
 
 -- all that a script brings: its events, and then End

@@ -1,9 +1,9 @@
 -- What `smd` prints, and what each of its statuses says.
-use Rattle.std.specs.Prelude.{◌≡◌, ℕ, List, [], ◌∷◌, ◌++◌, codes, Option, None, Result, Ok, Err, IfSome}
+use Rattle.std.specs.Prelude.{◌≡◌, ℕ, List, [], ◌∷◌, codes, Result, Ok, Err}
 use Rattle.sm_world.specs.Outside.{Outside, Rose}
 use Rattle.sm_world.specs.declared.effects.Effect.{Effect}
 use Rattle.sm_world.specs.declared.events.Event.{Event}
-use Rattle.control_lines.specs.Printing.{ArePrinted, Tries}
+use Rattle.control_lines.specs.Programs.{RunsAs, AnswersAs, status_by, line_by}
 use Rattle.smd_app.specs.FaultLines.{fault_line, fault_status}
 use Rattle.smd_app.specs.Rehearsals.{script_of, Finishes, Outlasts, whole_trace, first_trace}
 use Rattle.smd_app.specs.Script.{IsFirstBad}
@@ -36,29 +36,9 @@ HasEnding words before after bytes turns texts (Err Spent) = AreRehearse words �
 HasEnding words before after bytes turns texts (Err NoMemory) = AreRehearse words × (texts ≡ [])
 
 -- A run of these words ended so, and its effects are these.
-pub record Runs (words : List (List ℕ)) (old new : Outside) (turns : ℕ) (ending : Ending) (effects : List Effect) : Type 0 where
-  -- the console's input, which is the world's where the world tells it
-  pub input : List ℕ
-  pub is_input : IfSome old.input (λ told. told ≡ input)
-  pub texts : List (List ℕ)
-  pub printed : ArePrinted texts effects
-  pub holds : HasEnding words old.faults.console new.faults.console (script_of input) turns texts ending
-
-abbrev pub status_of : Ending → ℕ
-status_of (Ok x) = 0
-status_of (Err fault) = fault_status fault
-
--- the line of an ending
-abbrev pub line_of : Ending → Option (List ℕ)
-line_of (Ok x) = None
-line_of (Err fault) = fault_line fault
+abbrev pub Runs : List (List ℕ) → Outside → Outside → ℕ → Ending → List Effect → Type 0
+Runs words old new turns ending = RunsAs old.input (λ input texts. HasEnding words old.faults.console new.faults.console (script_of input) turns texts ending)
 
 -- A call with these words answered this status: it ran, and then tried its ending's line once.
-pub record Answers (words : List (List ℕ)) (old new : Outside) (turns status : ℕ) (effects : List Effect) : Type 0 where
-  pub ending : Ending
-  pub number : status ≡ status_of ending
-  pub first : List Effect
-  pub last : List Effect
-  pub parts : effects ≡ first ++ last
-  pub ran : Runs words old new turns ending first
-  pub tried : Tries (line_of ending) last
+abbrev pub Answers : List (List ℕ) → Outside → Outside → ℕ → ℕ → List Effect → Type 0
+Answers words old new turns = AnswersAs (Runs words old new turns) (status_by fault_status) (line_by fault_line)

@@ -1,10 +1,11 @@
-ghost use Rattle.std.specs.Prelude.{◌≡◌, Some};
-ghost use Rattle.session_engine.specs.Carries.{Added, NotFallen};
+ghost use Rattle.std.specs.Prelude.{◌≡◌};
+ghost use Rattle.sm_world.specs.Outside.{Added, NotFallen};
 ghost use Rattle.control_lines.specs.Printing.{Tries};
 ghost use Rattle.smd_app.specs.FaultLines.{console_fault, script_fault, fault_status, fault_line};
 ghost use Rattle.smd_app.specs.declared.fault.Fault.TheVariants.{Console as ConsoleFault, NoMemory as OutOfMemory};
 
 use crate::script::ScriptFault;
+use control_lines::try_line;
 use sm_world::{Console, Failure, NoMemory};
 use std::alloc::Global;
 
@@ -47,14 +48,6 @@ impl From<ScriptFault> for Fault {
             ScriptFault::NoMemory => Fault::NoMemory,
         }
     }
-}
-
-/// Prints a line. A refusal changes nothing more.
-fn try_line<W: Console>(world: &mut W, line: &[u8])
-    ensures tried { Added (W.outside world.old).told (W.outside world.new).told (Tries (Some line.now)) }
-    ensures counts { NotFallen (W.outside world.old).faults (W.outside world.new).faults }
-{
-    let _ = world.print(line);
 }
 
 impl Fault {

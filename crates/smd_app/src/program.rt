@@ -1,5 +1,5 @@
 ghost use Rattle.std.specs.Prelude.{ℕ, List, length, map, string_bytes, ◌≤◌};
-ghost use Rattle.session_engine.specs.Carries.{Added, NotFallen};
+ghost use Rattle.sm_world.specs.Outside.{Added, NotFallen};
 ghost use Rattle.smd_app.specs.Statuses.{AreRehearse, Runs, Answers};
 
 use crate::fault::Fault;

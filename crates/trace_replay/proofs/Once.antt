@@ -1,14 +1,14 @@
 -- A line of a trace says one thing at most, and so a trace has one answer.
-use Rattle.std.proofs.Common.{◌≡◌, inl, inr, ℕ, ◌<◌, ◌≤◌, ◌^◌, ◌==◌, List, [], ◌∷◌, ◌++◌, length, get_or, Some, refl, sym, ◌∙◌, ap, subst, arith, codes, length-append, if◌then◌else◌}
+use Rattle.std.proofs.Common.{◌≡◌, inl, inr, ℕ, ◌<◌, ◌≤◌, ◌^◌, ◌==◌, List, [], ◌∷◌, ◌++◌, length, get_or, Some, refl, sym, ◌∙◌, ap, subst, arith, codes, if◌then◌else◌}
 use Rattle.std.specs.Fmt.{decimal}
-use Rattle.std.proofs.lemmas.Bool.{cases_lt}
-use Rattle.std.proofs.lemmas.List.{append-nil}
+use Rattle.std.specs.List.{AllByRecursion}
 use Rattle.sm_world.specs.declared.events.Event.{Event}
 use Rattle.sm_world.specs.declared.events.Event.TheVariants.{Joined, Piece, Gone, Operator, Tick, End as AtEnd}
 use Rattle.control_lines.specs.Fields.{SaysBytes}
 use Rattle.control_lines.specs.Laws.{MeansOne}
 use Rattle.control_lines.specs.Lines.{lines_of}
 use Rattle.control_lines.specs.Script.{Says}
+use Rattle.control_lines.proofs.FirstBad.{BadAt, same_place, none_bad}
 use Rattle.control_lines.proofs.Meanings.{one_given, same_bytes}
 use Rattle.control_lines.proofs.Splitting.{before, before_is, decimal_without}
 use Rattle.trace_replay.specs.Grammar.{SaysLine, SayLines}
@@ -16,7 +16,6 @@ use Rattle.trace_replay.specs.Shown.{shown}
 use Rattle.trace_replay.specs.Shows.{IsMalformed, ShowsWithin}
 use Rattle.trace_replay.specs.declared.lines.TraceLine.{TraceLine}
 use Rattle.trace_replay.specs.declared.lines.TraceLine.TheVariants.{Heard, End, Sent, Shut, Started, Printed}
-use Rattle.trace_replay.specs.declared.showing.ShowAnswer.{ShowAnswer}
 use Rattle.trace_replay.specs.declared.showing.ShowAnswer.TheVariants.{Text, Malformed}
 
 -- ---- numbers and bytes
@@ -180,51 +179,36 @@ one_list (line ∷ lines) (said ∷ others) (said' ∷ others') one two =
 
 -- ---- one answer
 
-same_first : (xs ys : List ℕ) (xss yss : List (List ℕ)) → xs ∷ xss ≡ ys ∷ yss → xs ≡ ys
-same_first xs ys xss yss e = cc
+-- the line says something
+abbrev IsGood : List ℕ → Type 0
+IsGood line = (meaning : TraceLine) × SaysLine line meaning
 
-same_others : (xs ys : List ℕ) (xss yss : List (List ℕ)) → xs ∷ xss ≡ ys ∷ yss → xss ≡ yss
-same_others xs ys xss yss e = cc
+all_good : (lines : List (List ℕ)) (said : List TraceLine) → SayLines lines said → AllByRecursion IsGood lines
+all_good [] said say = tt
+all_good (line ∷ lines) [] say = elim say [ ]
+all_good (line ∷ lines) (first ∷ said) say = ((first, say.0), all_good lines said say.1)
 
--- what a line says that stands among good lines
-said_among : (before : List (List ℕ)) (line : List ℕ) (after good rest : List (List ℕ)) (said : List TraceLine) → before ++ line ∷ after ≡ good ++ rest → length before < length good → SayLines good said → (meaning : TraceLine) × SaysLine line meaning
-said_among before line after [] rest said same short say = absurd (omega arith)
-said_among before line after (g ∷ good) rest [] same short say = elim say [ ]
-said_among [] line after (g ∷ good) rest (first ∷ said) same short say =
-    let P : List ℕ → Type 0 = λ l. SaysLine l first in (first, subst P (sym (same_first line g after (good ++ rest) same)) say.0)
-said_among (b ∷ before) line after (g ∷ good) rest (first ∷ said) same short say =
-    said_among before line after good rest said (same_others b g (before ++ line ∷ after) (good ++ rest) same) (omega arith) say.1
-
-none_before : (limit : ℕ) (trace : List ℕ) (n k : ℕ) (one : IsMalformed limit trace n) (other : IsMalformed limit trace k) → length one.good < length other.good → ⊥
-none_before limit trace n k one other short =
-    let same : one.good ++ one.line ∷ one.others ≡ other.good ++ other.line ∷ other.others = sym one.lines ∙ other.lines in
-    let says = said_among one.good one.line one.others other.good (other.line ∷ other.others) other.said same short other.all_good in
-    elim one.bad [
-      | inl none ↦ none says.0 says.1
-      | inr last ↦ omega (arith, ap length same, length-append one.good (one.line ∷ one.others), length-append other.good (other.line ∷ other.others), ap length last.1)
-    ]
-
-same_place : (limit : ℕ) (trace : List ℕ) (n k : ℕ) → IsMalformed limit trace n → IsMalformed limit trace k → n ≡ k
-same_place limit trace n k one other = elim (cases_lt (length one.good) (length other.good)) [
-  | inl h ↦ absurd (none_before limit trace n k one other h)
-  | inr h ↦ elim (cases_lt (length other.good) (length one.good)) [
-    | inl h' ↦ absurd (none_before limit trace k n other one h')
-    | inr h' ↦ omega (arith, one.number, other.number)
-  ]
-]
+bad_at : (limit : ℕ) (trace : List ℕ) (n : ℕ) → IsMalformed limit trace n → BadAt IsGood (limit < length trace) (lines_of trace) n
+bad_at limit trace n first = record {
+  good = first.good;
+  line = first.line;
+  others = first.others;
+  parts = first.lines;
+  number = first.number;
+  all_good = all_good first.good first.said first.all_good;
+  bad = elim first.bad [
+    | inl none ↦ inl (λ says. none says.0 says.1)
+    | inr last ↦ inr last
+  ];
+}
 
 never_both : (limit : ℕ) (trace : List ℕ) (n : ℕ) (said : List TraceLine) → length trace ≤ limit → SayLines (lines_of trace) said → IsMalformed limit trace n → ⊥
 never_both limit trace n said within say bad =
-    let P : List (List ℕ) → Type 0 = λ lines. SayLines lines said in
-    let says = said_among bad.good bad.line bad.others (bad.good ++ bad.line ∷ bad.others) [] said (sym (append-nil (bad.good ++ bad.line ∷ bad.others))) (omega (arith, length-append bad.good (bad.line ∷ bad.others))) (subst P bad.lines say) in
-    elim bad.bad [
-      | inl none ↦ none says.0 says.1
-      | inr last ↦ omega (arith, last.0, within)
-    ]
+    none_bad IsGood (limit < length trace) (lines_of trace) n (all_good (lines_of trace) said say) (λ long. omega (arith, long, within)) (bad_at limit trace n bad)
 
 pub one_answer : (limit : ℕ) (trace : List ℕ) → MeansOne (ShowsWithin limit trace)
 one_answer limit trace (Text text) (Text other) one two =
     ap Text (one.text_is ∙ (ap shown (one_list (lines_of trace) one.said two.said one.say two.say) ∙ sym two.text_is))
 one_answer limit trace (Text text) (Malformed at) one two = absurd (never_both limit trace at one.said one.within one.say two)
 one_answer limit trace (Malformed at) (Text text) one two = absurd (never_both limit trace at two.said two.within two.say one)
-one_answer limit trace (Malformed at) (Malformed other) one two = ap Malformed (same_place limit trace at other one two)
+one_answer limit trace (Malformed at) (Malformed other) one two = ap Malformed (same_place IsGood (limit < length trace) (lines_of trace) at other (bad_at limit trace at one) (bad_at limit trace other two))

@@ -1,9 +1,9 @@
 -- What `smtrace` prints, and what each of its statuses says.
-use Rattle.std.specs.Prelude.{◌≡◌, ℕ, ◌+◌, List, [], ◌∷◌, ◌++◌, codes, Option, None, Result, Ok, Err, IfSome}
+use Rattle.std.specs.Prelude.{◌≡◌, ℕ, ◌+◌, List, [], ◌∷◌, codes, Result, Ok, Err}
 use Rattle.sm_world.specs.Outside.{Outside, Rose}
 use Rattle.sm_world.specs.declared.effects.Effect.{Effect}
 use Rattle.control_lines.specs.Input.{front}
-use Rattle.control_lines.specs.Printing.{ArePrinted, Tries}
+use Rattle.control_lines.specs.Programs.{RunsAs, AnswersAs, status_by, line_by}
 use Rattle.trace_replay.specs.Faults.{fault_line, fault_status}
 use Rattle.trace_replay.specs.Shows.{IsShown, IsMalformed}
 use Rattle.trace_replay.specs.declared.fault.Fault.{Fault}
@@ -15,7 +15,7 @@ abbrev pub AreShow : List (List ℕ) → Type 0
 AreShow words = words ≡ codes "show" ∷ []
 
 -- what is read as the trace: of one that is too long, one byte more than it can have
-unfoldable pub trace_of : List ℕ → List ℕ
+abbrev pub trace_of : List ℕ → List ℕ
 trace_of input = front (TRACE_LIMIT + 1) input
 
 -- how a call of `smtrace` ended
@@ -35,29 +35,9 @@ HasEnding words before after bytes texts (Err Console) = AreShow words × Rose b
 HasEnding words before after bytes texts (Err NoMemory) = AreShow words × (texts ≡ [])
 
 -- A run of these words ended so, and its effects are these.
-pub record Runs (words : List (List ℕ)) (old new : Outside) (ending : Ending) (effects : List Effect) : Type 0 where
-  -- the console's input, which is the world's where the world tells it
-  pub input : List ℕ
-  pub is_input : IfSome old.input (λ told. told ≡ input)
-  pub texts : List (List ℕ)
-  pub printed : ArePrinted texts effects
-  pub holds : HasEnding words old.faults.console new.faults.console (trace_of input) texts ending
-
-abbrev pub status_of : Ending → ℕ
-status_of (Ok x) = 0
-status_of (Err fault) = fault_status fault
-
--- the line of an ending
-abbrev pub line_of : Ending → Option (List ℕ)
-line_of (Ok x) = None
-line_of (Err fault) = fault_line fault
+abbrev pub Runs : List (List ℕ) → Outside → Outside → Ending → List Effect → Type 0
+Runs words old new ending = RunsAs old.input (λ input texts. HasEnding words old.faults.console new.faults.console (trace_of input) texts ending)
 
 -- A call with these words answered this status: it ran, and then tried its ending's line once.
-pub record Answers (words : List (List ℕ)) (old new : Outside) (status : ℕ) (effects : List Effect) : Type 0 where
-  pub ending : Ending
-  pub number : status ≡ status_of ending
-  pub first : List Effect
-  pub last : List Effect
-  pub parts : effects ≡ first ++ last
-  pub ran : Runs words old new ending first
-  pub tried : Tries (line_of ending) last
+abbrev pub Answers : List (List ℕ) → Outside → Outside → ℕ → List Effect → Type 0
+Answers words old new = AnswersAs (Runs words old new) (status_by fault_status) (line_by fault_line)

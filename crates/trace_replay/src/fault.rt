@@ -1,9 +1,10 @@
-ghost use Rattle.std.specs.Prelude.{◌≡◌, Some};
-ghost use Rattle.session_engine.specs.Carries.{Added, NotFallen};
+ghost use Rattle.std.specs.Prelude.{◌≡◌};
+ghost use Rattle.sm_world.specs.Outside.{Added, NotFallen};
 ghost use Rattle.control_lines.specs.Printing.{Tries};
 ghost use Rattle.trace_replay.specs.Faults.{console_fault, fault_status, fault_line};
 ghost use Rattle.trace_replay.specs.declared.fault.Fault.TheVariants.{Console as ConsoleFault, NoMemory as OutOfMemory};
 
+use control_lines::try_line;
 use sm_world::{Console, Failure, NoMemory};
 use std::alloc::Global;
 
@@ -34,14 +35,6 @@ impl From<NoMemory> for Fault {
     fn from(_error: NoMemory) -> Fault {
         Fault::NoMemory
     }
-}
-
-/// Prints a line. A refusal changes nothing more.
-fn try_line<C: Console>(console: &mut C, line: &[u8])
-    ensures tried { Added (C.outside console.old).told (C.outside console.new).told (Tries (Some line.now)) }
-    ensures counts { NotFallen (C.outside console.old).faults (C.outside console.new).faults }
-{
-    let _ = console.print(line);
 }
 
 impl Fault {

@@ -1,5 +1,5 @@
 ghost use Rattle.std.specs.Prelude.{ℕ, List, map, string_bytes};
-ghost use Rattle.session_engine.specs.Carries.{Added, NotFallen};
+ghost use Rattle.sm_world.specs.Outside.{Added, NotFallen};
 ghost use Rattle.trace_replay.specs.Statuses.{AreShow, Runs, Answers};
 
 use crate::fault::Fault;

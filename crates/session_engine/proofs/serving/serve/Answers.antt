@@ -1,6 +1,7 @@
 use Rattle.std.proofs.Common.{◌+◌, Err, sym, ◌∙◌, ap, arith}
 use Rattle.session_engine.specs.Turns.{is_end}
-use Rattle.session_engine.proofs.Adding.{adds-none, never_fallen, fallen_never, cause_later}
+use Rattle.sm_world.proofs.Adding.{adds-none, never_fallen, fallen_never}
+use Rattle.session_engine.proofs.Adding.{cause_later}
 use Rattle.session_engine.proofs.Loop.{loop_begins, loop_goes_on, loop_ends, loop_cut_short, loop_over}
 use Rattle.session_engine.proofs.serving.serve.Goals as goal
 

@@ -1,4 +1,4 @@
-use Rattle.session_engine.specs.Carries.{Added, NotFallen}
+use Rattle.sm_world.specs.Outside.{Added, NotFallen}
 use Rattle.session_engine.proofs.Running.{Runs}
 use Rattle.session_engine.proofs.serving.serve.Given as goal
 

@@ -2,7 +2,7 @@ use Rattle.std.proofs.Common.{ℕ, List, refl, sym, ◌∙◌, subst, drop}
 use Rattle.sm_world.specs.declared.events.Event.TheVariants.{Piece}
 use Rattle.session_engine.specs.Machine.{step}
 use Rattle.session_engine.specs.Rows.{to_cut, row_at}
-use Rattle.session_engine.proofs.Adding.{never_fallen, fallen_never}
+use Rattle.sm_world.proofs.Adding.{never_fallen, fallen_never}
 use Rattle.session_engine.proofs.Pieces.{Taking, begins, ends, answering, went_on, cut_short, shorter, from_place}
 use Rattle.session_engine.proofs.serving.take_piece.Goals as goal
 

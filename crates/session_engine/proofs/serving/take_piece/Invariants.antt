@@ -1,6 +1,6 @@
 use Rattle.std.proofs.Common.{◌≡◌, length}
 use Rattle.sm_world.specs.declared.events.Event.TheVariants.{Piece}
-use Rattle.session_engine.specs.Carries.{NotFallen}
+use Rattle.sm_world.specs.Outside.{NotFallen}
 use Rattle.session_engine.specs.Machine.{Machine, step}
 use Rattle.session_engine.specs.Rows.{Shows, all_cut}
 use Rattle.session_engine.proofs.Pieces.{Taking}

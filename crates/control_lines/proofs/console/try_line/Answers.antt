@@ -1,5 +1,5 @@
-use Rattle.smd_app.proofs.Printing.{line_tried}
-use Rattle.smd_app.proofs.fault.try_line.Goals as goal
+use Rattle.control_lines.proofs.ProgramLemmas.{line_tried}
+use Rattle.control_lines.proofs.console.try_line.Goals as goal
 
 pub returns-clause-tried : goal.returns-clause-tried
 returns-clause-tried g c =
