@@ -1,5 +1,5 @@
 -- Cutting a stream into its frames: once for all of it, or as more of it comes.
-use Rattle.std.proofs.Common.{◌≡◌, ℕ, zero, suc, ◌+◌, ◌<◌, ◌≤◌, Bool, true, false, cond, List, [], ◌∷◌, ◌++◌, length, take, drop, Option, Some, inl, inr, ◌⊎◌, ◌*◌, refl, sym, ap, ◌∙◌, subst, arith, append_assoc, length-append, length-drop}
+use Rattle.std.proofs.Common.{◌≡◌, ℕ, zero, suc, ◌+◌, ◌<◌, ◌≤◌, Bool, true, false, cond, List, [], ◌∷◌, ◌++◌, length, take, drop, Option, Some, inl, inr, ◌⊎◌, ◌*◌, refl, sym, ap, ◌∙◌, subst, arith, append-nil, append_assoc, length-append, length-drop}
 use Rattle.std.proofs.lemmas.Bool.{cases_lt}
 use Rattle.std.proofs.lemmas.Bool.Decides.{nat_tests}
 use Rattle.std.proofs.lemmas.List.{take-append-le, drop-append-le, take_all}
@@ -163,6 +163,10 @@ cut_upto-standing (suc n) at here =
 pub has_frame-standing : (at : Standing) → has_frame (cut at).standing ≡ false
 has_frame-standing at = subst (λ (c : Cut). has_frame c.standing ≡ false) (cut_upto-enough (length at.held) at (omega arith)) (cut_upto-standing (length at.held) at (omega arith))
 
+-- nothing more comes
+pub fed-nil : (at : Standing) → fed at [] ≡ at
+fed-nil at = ap (λ (bytes : List ℕ). let to : Standing = record { order = at.order; held = bytes } in to) (append-nil at.held)
+
 -- what is fed in two parts
 pub fed-fed : (at : Standing) (bytes more : List ℕ) → fed (fed at bytes) more ≡ fed at (bytes ++ more)
 fed-fed at bytes more = standing_is at.order at.order ((at.held ++ bytes) ++ more) (at.held ++ (bytes ++ more)) refl (append_assoc at.held bytes more)
@@ -190,3 +194,9 @@ is_oversize-true at much = grind (arith, nat_tests)
 
 pub is_oversize-false : (at : Standing) → is_oversize at ≡ false → units at ≤ 8192
 is_oversize-false at within = grind (arith, nat_tests)
+
+pub true-is_oversize : (at : Standing) → IsOversize at → is_oversize at ≡ true
+true-is_oversize at much = grind (arith, nat_tests)
+
+pub false-is_oversize : (at : Standing) → units at ≤ 8192 → is_oversize at ≡ false
+false-is_oversize at within = grind (arith, nat_tests)

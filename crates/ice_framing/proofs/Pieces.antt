@@ -5,17 +5,13 @@ use Rattle.std.specs.List.{concat}
 use Rattle.ice_framing.specs.Frames.{Standing, Cut, fed, units, IsPartial, IsOversize, uncut, behind, cut, StandsAt, EndsIn, header_of}
 use Rattle.ice_framing.specs.declared.cutting.WholeFrame.{WholeFrame}
 use Rattle.ice_framing.specs.declared.splitting.Oversize.{Oversize}
-use Rattle.ice_framing.proofs.Cuts.{cut-partial, cut-oversize, cut-fed, fed-fed, units-fed, stated_whole, oversize-fed}
+use Rattle.ice_framing.proofs.Cuts.{cut-partial, cut-oversize, cut-fed, fed-nil, fed-fed, units-fed, stated_whole, oversize-fed}
 
 -- Part of a cut is done: these frames, and then what is cut from where the stream stands and the rest.
 pub record Going (whole : Cut) (frames : List WholeFrame) (at : Standing) (rest : List ℕ) : Type 0 where
   pub same : behind frames (cut (fed at rest)) ≡ whole
   pub partial : IsPartial at
   pub within : units at ≤ 8192
-
--- nothing more comes
-fed-nil : (at : Standing) → fed at [] ≡ at
-fed-nil at = ap (λ (bytes : List ℕ). let to : Standing = record { order = at.order; held = bytes } in to) (append-nil at.held)
 
 no_items : (rest : List ℕ) → length rest ≡ 0 → rest ≡ []
 no_items [] none = refl

@@ -1,11 +1,10 @@
 -- The parts of a stream that comes in pieces.
-use Rattle.std.proofs.Common.{◌≡◌, ℕ, ◌≤◌, true, false, List, [], ◌∷◌, ◌++◌, map, take, refl, ◌∙◌, ap, arith, append_assoc}
+use Rattle.std.proofs.Common.{◌≡◌, ℕ, ◌≤◌, List, [], ◌∷◌, ◌++◌, map, take, refl, ◌∙◌, ap, append_assoc}
 use Rattle.std.proofs.Math.Seq.{drop-append_seam}
 use Rattle.std.proofs.lemmas.List.{append-nil, map-append}
-use Rattle.std.proofs.lemmas.Bool.Decides.{nat_tests}
-use Rattle.ice_framing.specs.Frames.{Standing, Cut, fed, cut, behind, frames_of, standing_of, is_oversize, IsPartial, IsOversize, units, unit_limit}
+use Rattle.ice_framing.specs.Frames.{Standing, Cut, fed, cut, behind, frames_of, standing_of, IsPartial, IsOversize, units, unit_limit}
 use Rattle.ice_framing.specs.declared.cutting.WholeFrame.{WholeFrame}
-use Rattle.ice_framing.proofs.Cuts.{cut-partial, cut-oversize}
+use Rattle.ice_framing.proofs.Cuts.{cut-partial, cut-oversize, true-is_oversize, false-is_oversize}
 use Rattle.ice_framing.proofs.Streams.{frames_of-append, standing_of-append}
 use Rattle.session_engine.specs.Streams.{Part, Whole, TooMuch, oversize_part, parts_at, parts_of, new_parts}
 
@@ -18,32 +17,24 @@ pub parts_at-whole : (at after : Standing) (frame : WholeFrame) → cut at ≡ b
 unfolding parts_in
 parts_at-whole at after frame e = ap parts_in e
 
-not_oversize : (at : Standing) → units at ≤ unit_limit → is_oversize at ≡ false
-not_oversize at within = grind (arith, nat_tests)
-
 -- where no part is whole there is none
 pub parts_at-partial : (at : Standing) → IsPartial at → units at ≤ unit_limit → parts_at at ≡ []
 unfolding parts_in
-parts_at-partial at partial within = ap parts_in (cut-partial at partial) ∙ rw (not_oversize at within) refl
-
-is_too_much : (at : Standing) → IsOversize at → is_oversize at ≡ true
-is_too_much at oversize = grind (arith, nat_tests)
+parts_at-partial at partial within = ap parts_in (cut-partial at partial) ∙ rw (false-is_oversize at within) refl
 
 -- a header that states too much is the last part
 pub parts_at-oversize : (at : Standing) → IsOversize at → parts_at at ≡ TooMuch (take 8 at.held) ∷ []
 unfolding parts_in
-parts_at-oversize at oversize = ap parts_in (cut-oversize at oversize) ∙ rw (is_too_much at oversize) refl
+parts_at-oversize at oversize = ap parts_in (cut-oversize at oversize) ∙ rw (true-is_oversize at oversize) refl
+
+-- as a piece comes, parts come behind those that there are
+pub parts_of-append : (stream piece : List ℕ) → units (standing_of stream) ≤ unit_limit → parts_of (stream ++ piece) ≡ parts_of stream ++ parts_at (fed (standing_of stream) piece)
+parts_of-append stream piece within =
+    let before : parts_of stream ≡ map Whole (frames_of stream) = rw (false-is_oversize (standing_of stream) within) (append-nil (map Whole (frames_of stream))) in
+    let frames : frames_of (stream ++ piece) ≡ frames_of stream ++ (cut (fed (standing_of stream) piece)).frames = frames_of-append stream piece in
+    let standing : standing_of (stream ++ piece) ≡ (cut (fed (standing_of stream) piece)).standing = standing_of-append stream piece in
+    rw (before, frames, standing, map-append) (append_assoc (map Whole (frames_of stream)) (map Whole (cut (fed (standing_of stream) piece)).frames) (oversize_part (cut (fed (standing_of stream) piece)).standing))
 
 -- the parts that a piece brings are those from where the stream stood
 pub new_parts-is : (stream piece : List ℕ) → units (standing_of stream) ≤ unit_limit → new_parts stream piece ≡ parts_at (fed (standing_of stream) piece)
-new_parts-is stream piece within =
-    let before : parts_of stream ≡ map Whole (frames_of stream) = rw (not_oversize (standing_of stream) within) (append-nil (map Whole (frames_of stream))) in
-    let frames : frames_of (stream ++ piece) ≡ frames_of stream ++ (cut (fed (standing_of stream) piece)).frames = frames_of-append stream piece in
-    let standing : standing_of (stream ++ piece) ≡ (cut (fed (standing_of stream) piece)).standing = standing_of-append stream piece in
-    let all : parts_of (stream ++ piece) ≡ map Whole (frames_of stream) ++ parts_at (fed (standing_of stream) piece) =
-    rw (frames, standing, map-append) (append_assoc (map Whole (frames_of stream)) (map Whole (cut (fed (standing_of stream) piece)).frames) (oversize_part (cut (fed (standing_of stream) piece)).standing)) in
-    rw (before, all) (drop-append_seam (map Whole (frames_of stream)) (parts_at (fed (standing_of stream) piece)))
-
--- nothing more came
-pub fed-nothing : (at : Standing) → fed at [] ≡ at
-fed-nothing at = ap (λ held. record { order = at.order; held = held }) (append-nil at.held)
+new_parts-is stream piece within = rw (parts_of-append stream piece within) (drop-append_seam (parts_of stream) (parts_at (fed (standing_of stream) piece)))

@@ -10,7 +10,7 @@ use Rattle.sm_world.specs.Outside.{adds, Added}
 use Rattle.sm_world.specs.declared.effects.Effect.{Effect}
 use Rattle.sm_world.specs.declared.events.Event.TheVariants.{Piece}
 use Rattle.ice_framing.specs.Frames.{Standing, fed, cut, behind, standing_of, units, unit_limit}
-use Rattle.ice_framing.proofs.Cuts.{cut-partial}
+use Rattle.ice_framing.proofs.Cuts.{fed-nil, cut-partial}
 use Rattle.ice_framing.proofs.Streams.{standing_of-append}
 use Rattle.ice_setup.specs.declared.states.AnySetup.{AnySetup}
 use Rattle.session_engine.specs.Answers.{Outcome, outcome, oversize_answer, sequence_after, KeepsLive, kept_by}
@@ -24,7 +24,7 @@ use Rattle.session_engine.specs.declared.row.Answered.{Answered}
 use Rattle.session_engine.specs.declared.table.Table.{Table}
 use Rattle.session_engine.specs.declared.answers.Answer.{Answer}
 use Rattle.session_engine.specs.declared.answers.Answer.TheVariants.{Stays, Closes}
-use Rattle.session_engine.proofs.Parts.{parts_at-whole, parts_at-partial, parts_at-oversize, new_parts-is, fed-nothing}
+use Rattle.session_engine.proofs.Parts.{parts_at-whole, parts_at-partial, parts_at-oversize, new_parts-is}
 use Rattle.session_engine.proofs.Connections.{same, other, connection_of-changed, connection_of-without, length-changed, distinct-changed}
 use Rattle.sm_world.proofs.Adding.{adds-adds, adds-none}
 use Rattle.session_engine.proofs.Adding.{still, going_on}
@@ -76,7 +76,7 @@ has_setup row setup e = rw e refl
 -- where a splitter stands between the pieces
 row_stands : (row : Row) (k : Connection) → IsRowOf [] row k → row.splitter ≡ standing_of k.stream
 row_stands row k is_row =
-    sym (ap (λ (c : _). c.standing) (ap cut (fed-nothing row.splitter) ∙ cut-partial row.splitter (row.partial (has_setup row k.setup is_row.setup)))) ∙ is_row.stands
+    sym (ap (λ (c : _). c.standing) (ap cut (fed-nil row.splitter) ∙ cut-partial row.splitter (row.partial (has_setup row k.setup is_row.setup)))) ∙ is_row.stands
 
 -- a connection that just got bytes is shown by the row from before them
 fed_row : (bytes : List ℕ) (row : Row) (k : Connection) → IsRowOf [] row k → IsRowOf bytes row (fed_with bytes k)
@@ -142,7 +142,7 @@ waits_shown : (row after : Row) (setup : AnySetup) (left : List ℕ) (answered_s
 waits_shown row after setup left answered_so k is match waits = record {
   setup = waits.setup_is ∙ (sym is ∙ match.setup);
   sequence = waits.sequence ∙ match.sequence;
-  stands = rw (waits.splitter, fed-nothing (fed row.splitter left)) match.stands;
+  stands = rw (waits.splitter, fed-nil (fed row.splitter left)) match.stands;
 }
 
 -- what was done is all that was to be done, where the rest of a piece brings nothing

@@ -1,14 +1,13 @@
 -- What the parts of a stream are as a piece comes.
-use Rattle.std.proofs.Common.{◌≡◌, ℕ, zero, suc, ◌+◌, ◌*◌, ◌<◌, ◌≤◌, ◌^◌, true, false, List, [], ◌∷◌, ◌++◌, length, take, map, None, refl, sym, ◌∙◌, ap, subst, arith, append_assoc, length-append, length-take, codes}
+use Rattle.std.proofs.Common.{◌≡◌, ℕ, zero, suc, ◌+◌, ◌*◌, ◌<◌, ◌≤◌, ◌^◌, List, [], ◌∷◌, ◌++◌, length, take, map, None, refl, sym, ◌∙◌, ap, subst, arith, append_assoc, length-append, length-take, codes}
 use Rattle.std.specs.List.{AllByRecursion}
-use Rattle.std.proofs.lemmas.Bool.Decides.{nat_tests}
-use Rattle.std.proofs.lemmas.List.{append-nil, map-append, length-map, drop_all}
+use Rattle.std.proofs.lemmas.List.{append-nil, length-map, drop_all}
 use Rattle.ice_framing.specs.Frames.{Standing, Cut, beginning, fed, cut, cut_upto, wanted, units, unit_limit, has_frame, first_frame, without_first, behind, uncut, frames_of, standing_of, is_oversize, IsOversize, StandsAt}
 use Rattle.ice_framing.specs.declared.cutting.WholeFrame.{WholeFrame}
-use Rattle.ice_framing.proofs.Cuts.{cond-both, has_frame-true, length-without_first, stated_whole, oversize-fed}
-use Rattle.ice_framing.proofs.Streams.{frames_of-append, standing_of-append, frames_of-oversize, standing_of-oversize}
+use Rattle.ice_framing.proofs.Cuts.{cond-both, has_frame-true, length-without_first, stated_whole, oversize-fed, is_oversize-true, true-is_oversize, false-is_oversize}
+use Rattle.ice_framing.proofs.Streams.{standing_of-append, frames_of-oversize, standing_of-oversize}
 use Rattle.session_engine.specs.Streams.{Part, Whole, TooMuch, oversize_part, parts_at, parts_of, new_parts}
-use Rattle.session_engine.proofs.Parts.{new_parts-is}
+use Rattle.session_engine.proofs.Parts.{parts_of-append, new_parts-is}
 use Rattle.trace_replay.specs.Parts.{IsHeaded, ShowsParts}
 use Rattle.trace_replay.specs.Shown.{part_text, shown_line, shown_parts, shown_piece}
 use Rattle.trace_replay.specs.declared.parts.Channel.{Channel}
@@ -37,19 +36,10 @@ all_counted : (stream : List ℕ) → 8 * length (frames_of stream) + length (st
 unfolding cut
 all_counted stream = counted_upto (length stream) (fed beginning stream)
 
-is_too_much : (at : Standing) → is_oversize at ≡ true → unit_limit < units at
-is_too_much at much = grind (arith, nat_tests)
-
-not_oversize : (at : Standing) → units at ≤ unit_limit → is_oversize at ≡ false
-not_oversize at within = grind (arith, nat_tests)
-
-too_much : (at : Standing) → IsOversize at → is_oversize at ≡ true
-too_much at much = grind (arith, nat_tests)
-
 oversize_few : (at : Standing) → length (oversize_part at) ≤ length at.held
 oversize_few at =
     cond-both (λ (parts : List Part). length parts ≤ length at.held) (is_oversize at) (TooMuch (take 8 at.held) ∷ []) []
-    (λ much. omega (arith, stated_whole at (omega (arith, is_too_much at much))))
+    (λ much. omega (arith, stated_whole at (omega (arith, is_oversize-true at much))))
     (λ none. omega arith)
 
 length-parts_of : (stream : List ℕ) → length (parts_of stream) ≡ length (frames_of stream) + length (oversize_part (standing_of stream))
@@ -59,28 +49,20 @@ length-parts_of stream = length-append (map Whole (frames_of stream)) (oversize_
 pub parts_few : (stream : List ℕ) → length (parts_of stream) ≤ length stream
 parts_few stream = omega (arith, length-parts_of stream, all_counted stream, oversize_few (standing_of stream))
 
--- as a piece comes, parts come behind those that there are
-parts_of-append : (stream piece : List ℕ) → units (standing_of stream) ≤ unit_limit → parts_of (stream ++ piece) ≡ parts_of stream ++ parts_at (fed (standing_of stream) piece)
-parts_of-append stream piece within =
-    let before : parts_of stream ≡ map Whole (frames_of stream) = rw (not_oversize (standing_of stream) within) (append-nil (map Whole (frames_of stream))) in
-    let frames : frames_of (stream ++ piece) ≡ frames_of stream ++ (cut (fed (standing_of stream) piece)).frames = frames_of-append stream piece in
-    let standing : standing_of (stream ++ piece) ≡ (cut (fed (standing_of stream) piece)).standing = standing_of-append stream piece in
-    rw (before, frames, standing, map-append) (append_assoc (map Whole (frames_of stream)) (map Whole (cut (fed (standing_of stream) piece)).frames) (oversize_part (cut (fed (standing_of stream) piece)).standing))
-
 -- The new parts are numbered behind those that there were, and the numbers are not too large.
 pub numbers_fit : (stream piece : List ℕ) → units (standing_of stream) ≤ unit_limit → length (parts_of (stream ++ piece)) ≡ length (parts_of stream) + length (new_parts stream piece)
 numbers_fit stream piece within = ap length (parts_of-append stream piece within) ∙ length-append (parts_of stream) (parts_at (fed (standing_of stream) piece)) ∙ ap (λ (parts : List Part). length (parts_of stream) + length parts) (sym (new_parts-is stream piece within))
 
 -- no header states too much
 pub parts_going : (stream piece : List ℕ) → units (standing_of stream) ≤ unit_limit → units (cut (fed (standing_of stream) piece)).standing ≤ unit_limit → new_parts stream piece ≡ map Whole (cut (fed (standing_of stream) piece)).frames
-parts_going stream piece within end = new_parts-is stream piece within ∙ rw (not_oversize (cut (fed (standing_of stream) piece)).standing end) (append-nil (map Whole (cut (fed (standing_of stream) piece)).frames))
+parts_going stream piece within end = new_parts-is stream piece within ∙ rw (false-is_oversize (cut (fed (standing_of stream) piece)).standing end) (append-nil (map Whole (cut (fed (standing_of stream) piece)).frames))
 
 -- a header states too much
 pub parts_ended : (stream piece : List ℕ) → units (standing_of stream) ≤ unit_limit → IsOversize (cut (fed (standing_of stream) piece)).standing → new_parts stream piece ≡ map Whole (cut (fed (standing_of stream) piece)).frames ++ TooMuch (take 8 (cut (fed (standing_of stream) piece)).standing.held) ∷ []
-parts_ended stream piece within much = new_parts-is stream piece within ∙ rw (too_much (cut (fed (standing_of stream) piece)).standing much) refl
+parts_ended stream piece within much = new_parts-is stream piece within ∙ rw (true-is_oversize (cut (fed (standing_of stream) piece)).standing much) refl
 
 length-oversize : (stream : List ℕ) → IsOversize (standing_of stream) → length (parts_of stream) ≡ length (frames_of stream) + 1
-length-oversize stream much = length-parts_of stream ∙ rw (too_much (standing_of stream) much) refl
+length-oversize stream much = length-parts_of stream ∙ rw (true-is_oversize (standing_of stream) much) refl
 
 -- behind a header that states too much nothing comes
 pub nothing_more : (stream piece : List ℕ) → IsOversize (standing_of stream) → IsOversize (standing_of (stream ++ piece)) × (new_parts stream piece ≡ [])
