@@ -1,7 +1,6 @@
 -- What the lines of a script say.
 use Rattle.std.specs.Prelude.{◌≡◌, ◌⊎◌, ℕ, ◌<◌, ◌≤◌, ◌^◌, List, [], ◌∷◌, ◌++◌, length, codes, Option, Some, None}
 use Rattle.std.specs.Fmt.{decimal}
-use Rattle.sm_world.specs.declared.events.TheConstants.{PIECE_LIMIT}
 use Rattle.sm_world.specs.declared.events.Event.{Event}
 use Rattle.sm_world.specs.declared.events.Event.TheVariants.{Joined, Piece, Gone, Operator, Tick, End}
 use Rattle.control_lines.specs.Fields.{SaysBytes}
@@ -12,7 +11,7 @@ use Rattle.control_lines.specs.declared.orders.OrderRefusal.TheVariants.{BadLine
 -- the fields of a piece, which has at most 65,536 bytes
 pub record SaysPiece (fields : List ℕ) (n : ℕ) (bytes : List ℕ) : Type 0 where
   pub said : SaysBytes fields n bytes
-  pub within : length bytes ≤ PIECE_LIMIT
+  pub within : length bytes ≤ 65536
 
 -- The line, without its newline, says this event.
 abbrev pub Says : List ℕ → Event → Type 0

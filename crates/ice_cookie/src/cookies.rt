@@ -1,4 +1,4 @@
-ghost use Rattle.std.specs.Prelude.{◌≡◌, ◌↔◌, IsTrue};
+ghost use Rattle.std.specs.Prelude.{◌≡◌, ◌↔◌, length, IsTrue};
 ghost use Rattle.ice_cookie.specs.Cookies.{shows};
 
 use std::fmt;
@@ -13,8 +13,21 @@ impl Cookie {
         ensures equal { IsTrue result ↔ (proof.now ≡ self.now.0) }
         ensures test { result ≡ shows self.now proof.now }
     {
-        proof == self.0.as_slice()
+        proof.len() == self.0.len() && differing(&self.0, proof) == 0
     }
+}
+
+/// In how many places the bytes differ. Each of them is looked at, whatever they are, so that the time
+/// taken doesn't tell where the first difference is.
+fn differing(own: &[u8], shown: &[u8]) -> usize
+    requires { length own.now ≡ length shown.now }
+    ensures { (result ≡ 0) ↔ (shown.now ≡ own.now) }
+{
+    let mut count = 0;
+    for at in 0..own.len() {
+        count += usize::from(own[at] != shown[at]);
+    }
+    count
 }
 
 /// The bytes are secret, so they aren't shown.

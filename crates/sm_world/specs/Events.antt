@@ -1,6 +1,5 @@
 -- What comes from outside.
 use Rattle.std.specs.Prelude.{◌≤◌, List, [], ◌∷◌, length}
-use Rattle.sm_world.specs.declared.events.TheConstants.{PIECE_LIMIT}
 use Rattle.sm_world.specs.declared.events.Event.{Event}
 use Rattle.sm_world.specs.declared.events.Event.TheVariants.{Joined, Piece, Gone, Operator, Tick, End}
 
@@ -11,7 +10,7 @@ next_of (event ∷ events) = event
 
 -- A piece has at least one byte and at most 65,536.
 abbrev pub HasPieceSize : Event → Type 0
-HasPieceSize (Piece conn bytes) = (1 ≤ length bytes) × (length bytes ≤ PIECE_LIMIT)
+HasPieceSize (Piece conn bytes) = (1 ≤ length bytes) × (length bytes ≤ 65536)
 HasPieceSize (Joined conn) = Unit {0}
 HasPieceSize (Gone conn) = Unit {0}
 HasPieceSize (Operator order) = Unit {0}

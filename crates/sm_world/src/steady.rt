@@ -1,4 +1,4 @@
-ghost use Rattle.std.specs.Prelude.{◌≡◌, [], Some, IfOk};
+ghost use Rattle.std.specs.Prelude.{◌≡◌, ◌≤◌, [], ◌∷◌, length, Some, IfOk};
 ghost use Rattle.std.specs.List.{AllByRecursion};
 ghost use Rattle.sm_world.specs.Events.{HasPieceSize};
 
@@ -58,32 +58,72 @@ impl Told for SteadyWorld {
 }
 
 impl Links for SteadyWorld {
-    fn listen(&mut self, _socket: &str, _control: &str) -> Result<(), Failure> {
+    ghost use Rattle.sm_world.specs.Outside.{adds, on_ok, of_ok, UsesLinks, TakesNext};
+    ghost use Rattle.sm_world.specs.Worlds.{steady_outside, steady_file};
+    ghost use Rattle.sm_world.specs.declared.effects.Effect.TheVariants.{Heard, Sent, Shut};
+
+    fn listen(&mut self, _socket: &str, _control: &str) -> Result<(), Failure>
+        ensures effects { (steady_outside self.new).told ≡ (steady_outside self.old).told }
+        ensures coming { (steady_outside self.new).coming ≡ (steady_outside self.old).coming }
+        ensures uses { UsesLinks (steady_outside self.old) (steady_outside self.new) result }
+        ensures file { steady_file self.new ≡ steady_file self.old }
+    {
         Ok(())
     }
 
-    fn next(&mut self) -> Result<Event, Failure> {
+    fn next(&mut self) -> Result<Event, Failure>
+        ensures effects { (steady_outside self.new).told ≡ adds (steady_outside self.old).told (of_ok Heard result) }
+        ensures coming { TakesNext (steady_outside self.old).coming (steady_outside self.new).coming result }
+        ensures size { IfOk result HasPieceSize }
+        ensures uses { UsesLinks (steady_outside self.old) (steady_outside self.new) result }
+        ensures file { steady_file self.new ≡ steady_file self.old }
+    {
         Ok(self.tape.hear()?)
     }
 
-    fn send(&mut self, to: Conn, bytes: &[u8]) -> Result<(), Failure> {
+    fn send(&mut self, to: Conn, bytes: &[u8]) -> Result<(), Failure>
+        ensures effects { (steady_outside self.new).told ≡ adds (steady_outside self.old).told (on_ok result (Sent to bytes.now ∷ [])) }
+        ensures coming { (steady_outside self.new).coming ≡ (steady_outside self.old).coming }
+        ensures uses { UsesLinks (steady_outside self.old) (steady_outside self.new) result }
+        ensures file { steady_file self.new ≡ steady_file self.old }
+    {
         let bytes = self.tape.octets(bytes)?;
         self.tape.note(Effect::Sent(to, bytes))?;
         Ok(())
     }
 
-    fn shut(&mut self, to: Conn) -> Result<(), Failure> {
+    fn shut(&mut self, to: Conn) -> Result<(), Failure>
+        ensures effects { (steady_outside self.new).told ≡ adds (steady_outside self.old).told (on_ok result (Shut to ∷ [])) }
+        ensures coming { (steady_outside self.new).coming ≡ (steady_outside self.old).coming }
+        ensures uses { UsesLinks (steady_outside self.old) (steady_outside self.new) result }
+        ensures file { steady_file self.new ≡ steady_file self.old }
+    {
         self.tape.note(Effect::Shut(to))?;
         Ok(())
     }
 }
 
 impl Console for SteadyWorld {
-    fn read(&mut self, into: &mut [u8]) -> Result<usize, Failure> {
+    ghost use Rattle.sm_world.specs.Outside.{adds, on_ok, UsesConsole, Reads};
+    ghost use Rattle.sm_world.specs.Worlds.{steady_outside, steady_file};
+    ghost use Rattle.sm_world.specs.declared.effects.Effect.TheVariants.{Printed};
+
+    fn read(&mut self, into: &mut [u8]) -> Result<usize, Failure>
+        ensures within { IfOk result (λ n. n ≤ length into.old) }
+        ensures effects { (steady_outside self.new).told ≡ (steady_outside self.old).told }
+        ensures input { Reads (steady_outside self.old).input (steady_outside self.new).input into.old into.new result }
+        ensures uses { UsesConsole (steady_outside self.old) (steady_outside self.new) result }
+        ensures file { steady_file self.new ≡ steady_file self.old }
+    {
         Ok(self.tape.read(into))
     }
 
-    fn print(&mut self, bytes: &[u8]) -> Result<(), Failure> {
+    fn print(&mut self, bytes: &[u8]) -> Result<(), Failure>
+        ensures effects { (steady_outside self.new).told ≡ adds (steady_outside self.old).told (on_ok result (Printed bytes.now ∷ [])) }
+        ensures input { (steady_outside self.new).input ≡ (steady_outside self.old).input }
+        ensures uses { UsesConsole (steady_outside self.old) (steady_outside self.new) result }
+        ensures file { steady_file self.new ≡ steady_file self.old }
+    {
         let bytes = self.tape.octets(bytes)?;
         self.tape.note(Effect::Printed(bytes))?;
         Ok(())

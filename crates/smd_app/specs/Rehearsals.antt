@@ -8,7 +8,6 @@ use Rattle.session_engine.specs.Machine.{has_finish}
 use Rattle.control_lines.specs.Input.{front}
 use Rattle.smd_app.specs.Script.{ScriptSays}
 use Rattle.smd_app.specs.Trace.{text}
-use Rattle.smd_app.specs.declared.script.TheConstants.{SCRIPT_LIMIT}
 use Rattle.smd_app.specs.declared.rehearsal.Rehearsal.{Rehearsal}
 
 -- the cookie of each rehearsal
@@ -17,7 +16,7 @@ rehearsal_cookie = record { 0 = 0 ∷ 1 ∷ 2 ∷ 3 ∷ 4 ∷ 5 ∷ 6 ∷ 7 ∷ 
 
 -- what is read as the script: of one that is too long, one byte more than it can have
 abbrev pub script_of : List ℕ → List ℕ
-script_of input = front (SCRIPT_LIMIT + 1) input
+script_of input = front (16777217) input
 
 -- all that a script brings: its events, and then End
 abbrev pub with_end : List Event → List Event

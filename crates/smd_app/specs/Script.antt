@@ -5,7 +5,6 @@ use Rattle.sm_world.specs.declared.events.Event.{Event}
 use Rattle.sm_world.specs.declared.events.Event.TheVariants.{Joined, Piece, Gone, Operator, Tick, End}
 use Rattle.control_lines.specs.Lines.{lines_of}
 use Rattle.control_lines.specs.Script.{Says, SayAll, IsSkipped}
-use Rattle.smd_app.specs.declared.script.TheConstants.{SCRIPT_LIMIT}
 
 -- An event of a rehearsal. An operator's order isn't taken yet.
 abbrev pub IsTaken : Event → Type 0
@@ -28,7 +27,7 @@ pub record SayTaken (lines : List (List ℕ)) (events : List Event) : Type 0 whe
 
 -- A script says these events: it has at most 16,777,216 bytes, and its lines say them.
 pub record ScriptSays (script : List ℕ) (events : List Event) : Type 0 where
-  pub within : length script ≤ SCRIPT_LIMIT
+  pub within : length script ≤ 16777216
   pub all : SayTaken (lines_of script) events
 
 -- The n-th line, counted from 1, is the first that isn't of the grammar: it is neither skipped nor says an event that is taken, or it is the last of a script that is too long.
@@ -40,4 +39,4 @@ pub record IsFirstBad (script : List ℕ) (n : ℕ) : Type 0 where
   pub lines : lines_of script ≡ good ++ line ∷ others
   pub number : n ≡ length good + 1
   pub all_good : SayTaken good events
-  pub bad : ((given : Option Event) → Takes line given → ⊥) ⊎ ((SCRIPT_LIMIT < length script) × (others ≡ []))
+  pub bad : ((given : Option Event) → Takes line given → ⊥) ⊎ ((16777216 < length script) × (others ≡ []))

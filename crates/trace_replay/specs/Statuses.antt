@@ -8,7 +8,6 @@ use Rattle.trace_replay.specs.Faults.{fault_line, fault_status}
 use Rattle.trace_replay.specs.Shows.{IsShown, IsMalformed}
 use Rattle.trace_replay.specs.declared.fault.Fault.{Fault}
 use Rattle.trace_replay.specs.declared.fault.Fault.TheVariants.{BadWords, Malformed, Console, NoMemory}
-use Rattle.trace_replay.specs.declared.program.TheConstants.{TRACE_LIMIT}
 
 -- the words that ask for a trace to be shown
 abbrev pub AreShow : List (List ℕ) → Type 0
@@ -16,7 +15,7 @@ AreShow words = words ≡ codes "show" ∷ []
 
 -- what is read as the trace: of one that is too long, one byte more than it can have
 abbrev pub trace_of : List ℕ → List ℕ
-trace_of input = front (TRACE_LIMIT + 1) input
+trace_of input = front (16777217) input
 
 -- how a call of `smtrace` ended
 abbrev pub Ending : Type 0
@@ -24,13 +23,13 @@ Ending = Result (Unit {0}) Fault
 
 -- Status 0: the trace was read to its end, and what is shown of it is printed.
 abbrev pub IsPrinted : List ℕ → List (List ℕ) → Type 0
-IsPrinted bytes texts = (text : List ℕ) × IsShown TRACE_LIMIT bytes text × (texts ≡ text ∷ [])
+IsPrinted bytes texts = (text : List ℕ) × IsShown 16777216 bytes text × (texts ≡ text ∷ [])
 
 -- What each ending says of the words, of the trace's bytes and of the texts that were printed before the ending's own line. The console's count stood at `before`, and now stands at `after`.
 abbrev pub HasEnding : List (List ℕ) → ℕ → ℕ → List ℕ → List (List ℕ) → Ending → Type 0
 HasEnding words before after bytes texts (Ok x) = AreShow words × IsPrinted bytes texts
 HasEnding words before after bytes texts (Err BadWords) = (¬ (AreShow words)) × (texts ≡ [])
-HasEnding words before after bytes texts (Err (Malformed at)) = AreShow words × IsMalformed TRACE_LIMIT bytes at × (texts ≡ [])
+HasEnding words before after bytes texts (Err (Malformed at)) = AreShow words × IsMalformed 16777216 bytes at × (texts ≡ [])
 HasEnding words before after bytes texts (Err Console) = AreShow words × Rose before after × (texts ≡ [])
 HasEnding words before after bytes texts (Err NoMemory) = AreShow words × (texts ≡ [])
 
