@@ -93,10 +93,10 @@ cut-oversize at much = cut-none at (oversize-has_frame at much)
 
 -- ---- more bytes
 
-frame_is : (d e : Endian) (xs ys : List ℕ) → d ≡ e → xs ≡ ys → ◌≡◌ {A = WholeFrame} (record { endian = d; bytes = xs }) (record { endian = e; bytes = ys })
+pub frame_is : (d e : Endian) (xs ys : List ℕ) → d ≡ e → xs ≡ ys → ◌≡◌ {A = WholeFrame} (record { endian = d; bytes = xs }) (record { endian = e; bytes = ys })
 frame_is d e xs ys p q = rw (p, q) refl
 
-standing_is : (d e : Option Endian) (xs ys : List ℕ) → d ≡ e → xs ≡ ys → ◌≡◌ {A = Standing} (record { order = d; held = xs }) (record { order = e; held = ys })
+pub standing_is : (d e : Option Endian) (xs ys : List ℕ) → d ≡ e → xs ≡ ys → ◌≡◌ {A = Standing} (record { order = d; held = xs }) (record { order = e; held = ys })
 standing_is d e xs ys p q = rw (p, q) refl
 
 -- a header that is whole says the same

@@ -41,7 +41,7 @@ cut_off_stands whole frames at splitter rest error going much header states =
     let there = (cut_off whole frames at rest going much).1 in
     (header ∙ ap (λ to. header_of to) there, subst (λ (to : Standing). IsOversize to) there much, states ∙ ap (λ to. units to) there)
 
-behind-behind : (front frames : List WholeFrame) (c : Cut) → behind front (behind frames c) ≡ behind (front ++ frames) c
+pub behind-behind : (front frames : List WholeFrame) (c : Cut) → behind front (behind frames c) ≡ behind (front ++ frames) c
 behind-behind front frames c = ap (λ (all : List WholeFrame). let b : Cut = record { frames = all; standing = c.standing } in b) (sym (append_assoc front frames c.frames))
 
 -- behind a piece's frames come those of what follows it

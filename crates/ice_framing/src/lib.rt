@@ -2,9 +2,11 @@
 #![tactic(auto)]
 
 mod cutting;
+mod remainder;
 mod splitting;
 #[cfg(test)]
 mod tests;
 
 pub use cutting::{WholeFrame, WholeFrameList, cut_piece, cut_pieces};
+pub use remainder::Remainder;
 pub use splitting::{FRAME_LIMIT, Frame, Oversize, Splitter, UNIT_LIMIT};

@@ -13,7 +13,7 @@ pub const UNIT_LIMIT: u32 = 8_192;
 /// How many bytes a frame has at most: its header and 8,192 units.
 pub const FRAME_LIMIT: usize = 65_544;
 
-const HEADER_LEN: usize = 8;
+pub(crate) const HEADER_LEN: usize = 8;
 
 /// A frame that a splitter lends (ICE, chapter 3, Message Format).
 #[derive(Clone, Copy, Debug, PartialEq, Eq)]
@@ -54,7 +54,7 @@ impl Model for Splitter {
 }
 
 /// The order of the next frame: the one that is known, or what byte 2 of a stream's first frame says.
-fn endian_of(order: Option<Endian>, held: &[u8]) -> Endian
+pub(crate) fn endian_of(order: Option<Endian>, held: &[u8]) -> Endian
     requires { 8 ≤ length held.now }
     ensures { result ≡ endian_in order held.now }
 {
@@ -71,7 +71,7 @@ fn endian_of(order: Option<Endian>, held: &[u8]) -> Endian
 }
 
 /// The units that the next frame's header states, as soon as it is whole; none in a stream's first.
-fn units_of(order: Option<Endian>, held: &[u8]) -> u32
+pub(crate) fn units_of(order: Option<Endian>, held: &[u8]) -> u32
     ensures { result ≡ units_in order held.now }
 {
     let Some(endian) = order else {

@@ -29,7 +29,7 @@ unfolding cut
 no_parts = refl
 
 -- a new one
-pub new_read : (stream : List ℕ) (found : Option Progress) (flow : Flow) → IsRead stream found → found ≡ None → flow.splitter ≡ beginning → flow.shown ≡ 0 → IsReadTo stream (Going flow)
+pub new_read : (stream : List ℕ) (found : Option Progress) (flow : Flow) → IsRead stream found → found ≡ None → flow.remainder ≡ beginning → flow.shown ≡ 0 → IsReadTo stream (Going flow)
 new_read stream found flow read is splitter shown =
     let empty : stream ≡ [] = rw is at read in
     rw (empty) ((rw (standing_of-nil) (splitter, omega arith, omega arith)), shown ∙ sym no_parts)

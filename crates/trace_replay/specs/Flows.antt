@@ -9,7 +9,7 @@ use Rattle.trace_replay.specs.declared.flows.Progress.TheVariants.{Going, Ended}
 
 -- This is how far a stream was read.
 abbrev pub IsReadTo : List ℕ → Progress → Type 0
-IsReadTo stream (Going flow) = StandsAt (standing_of stream) flow.splitter None × (flow.shown ≡ length (parts_of stream))
+IsReadTo stream (Going flow) = StandsAt (standing_of stream) flow.remainder None × (flow.shown ≡ length (parts_of stream))
 IsReadTo stream Ended = IsOversize (standing_of stream)
 
 -- The parts that a piece brings were shown, and the stream was read so far.

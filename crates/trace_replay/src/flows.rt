@@ -1,19 +1,14 @@
-ghost use Rattle.std.specs.Prelude.{◌≤◌};
-ghost use Rattle.ice_framing.specs.Frames.{IsPartial, units, unit_limit};
-
 use crate::parts::{Channel, put_frames, put_line};
-use ice_framing::{Splitter, WholeFrameList, cut_piece};
+use ice_framing::{Remainder, WholeFrameList};
 use sm_world::{NoMemory, Octets};
 use std::alloc::Global;
 
 /// How far a stream was read that can go on.
 #[derive(Debug, Drop)]
 pub struct Flow {
-    splitter: Splitter,
+    remainder: Remainder,
     /// How many of its frames were shown.
     shown: u64,
-    ghost partial: { IsPartial splitter },
-    ghost within: { units splitter ≤ unit_limit },
 }
 
 /// How far the stream of one direction of a connection was read.
@@ -30,14 +25,14 @@ impl Flow {
     ghost use Rattle.ice_framing.specs.Frames.{beginning};
     ghost use Rattle.trace_replay.specs.Flows.{TakesPiece};
 
-    /// Before the first byte.
-    pub fn new(alloc: Global) -> Result<Flow, NoMemory>
-        ensures { IfOk result (λ flow. (flow.splitter ≡ beginning) × (flow.shown ≡ 0)) }
+    /// Before the first byte; this takes no memory.
+    pub fn new(alloc: Global) -> Flow
+        ensures { (result.remainder ≡ beginning) × (result.shown ≡ 0) }
     {
-        Ok(Flow {
-            splitter: Splitter::new(alloc)?,
+        Flow {
+            remainder: Remainder::new(alloc),
             shown: 0,
-        })
+        }
     }
 
     /// Shows the parts that a piece brings.
@@ -50,16 +45,13 @@ impl Flow {
     ) -> Result<Progress, NoMemory>
         ensures { IfOk result (λ after. (stream : List ℕ) → TakesPiece channel stream piece.now (Progress.Going self) after out.old out.new) }
     {
-        let Flow {
-            mut splitter,
-            shown,
-        } = self;
+        let Flow { remainder, shown } = self;
         let mut frames = WholeFrameList::new(alloc);
-        let oversize = cut_piece(alloc, &mut splitter, piece, &mut frames)?;
+        let remainder = remainder.take(alloc, piece, &mut frames)?;
         let shown = put_frames(alloc, out, channel, shown, frames.as_slice())?;
-        match oversize {
-            None => Ok(Progress::Going(Flow { splitter, shown })),
-            Some(_) => {
+        match remainder {
+            Some(remainder) => Ok(Progress::Going(Flow { remainder, shown })),
+            None => {
                 put_line(alloc, out, channel, shown.saturating_add(1), b"Oversize")?;
                 Ok(Progress::Ended)
             }

@@ -47,7 +47,7 @@ impl Table {
     {
         let row = match self.rows.remove(&channel.conn) {
             Some(row) => row,
-            None => Progress::Going(Flow::new(alloc)?),
+            None => Progress::Going(Flow::new(alloc)),
         };
         let row = row.take(alloc, out, channel, piece)?;
         self.rows.insert(channel.conn, row)?;
