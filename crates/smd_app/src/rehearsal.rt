@@ -1,4 +1,4 @@
-ghost use Rattle.std.specs.Prelude.{IfOk};
+ghost use Rattle.std.specs.Prelude.{◌≡◌, length, IfOk};
 ghost use Rattle.std.specs.List.{AllByRecursion};
 ghost use Rattle.sm_world.specs.Events.{HasPieceSize};
 ghost use Rattle.smd_app.specs.Rehearsals.{Rehearses};
@@ -12,6 +12,9 @@ use std::alloc::Global;
 /// The cookie of each rehearsal, so that a script can show it.
 const REHEARSAL_COOKIE: Cookie = Cookie([0, 1, 2, 3, 4, 5, 6, 7, 8, 9, 10, 11, 12, 13, 14, 15]);
 
+/// How many bytes a store has.
+const STORE_LEN: usize = 16_777_280;
+
 /// What a run on a world in memory shows.
 #[derive(Debug, Drop)]
 pub struct Rehearsal {
@@ -21,12 +24,20 @@ pub struct Rehearsal {
     pub finished: bool,
 }
 
-/// Runs these events and then End on a world in memory, at most `turns` of them.
+/// A store that nothing was written to: its bytes are 0.
+fn blank_store(alloc: Global) -> Result<Octets, NoMemory>
+    ensures { IfOk result (λ store. length store ≡ 16777280) }
+{
+    Ok(Octets::from_vec(vec![in alloc; 0; STORE_LEN]?))
+}
+
+/// Runs these events and then End on a world in memory whose store is blank, at most `turns` of them.
 pub fn run_in_memory(alloc: Global, events: EventList, turns: u64) -> Result<Rehearsal, NoMemory>
     requires { AllByRecursion HasPieceSize events }
     ensures { IfOk result (Rehearses events turns) }
 {
-    let mut world = SteadyWorld::new(alloc, events, Octets::new(alloc), Octets::new(alloc))?;
+    let store = blank_store(alloc)?;
+    let mut world = SteadyWorld::new(alloc, events, Octets::new(alloc), store)?;
     let finished = match serve(alloc, &mut world, REHEARSAL_COOKIE, turns) {
         Ok(()) => true,
         Err(ServeFault::Spent) => false,

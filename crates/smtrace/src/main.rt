@@ -4,7 +4,6 @@
 use sm_world::Console;
 use standard_console::{OwnTexts, StandardConsole, read_words};
 use std::alloc::Global;
-use std::io;
 use std::process::ExitCode;
 use trace_replay::smtrace_main;
 
@@ -25,7 +24,7 @@ fn answer(alloc: Global, words: &[String], console: &mut StandardConsole) -> u8 
     }
 }
 
-fn main(rt: HostRuntime) -> io::Result<ExitCode> {
+fn main(rt: HostRuntime) -> ExitCode {
     let alloc = rt.alloc();
     let words = read_words(&rt);
     let mut console = StandardConsole::new(rt);
@@ -37,5 +36,5 @@ fn main(rt: HostRuntime) -> io::Result<ExitCode> {
             10
         }
     };
-    Ok(ExitCode::from(status))
+    ExitCode::from(status)
 }

@@ -3,7 +3,7 @@ ghost use Rattle.standard_console.specs.Untold.{console_outside, CountsFault};
 
 use sm_world::{Console, Failure, Told};
 use std::io;
-use std::io::{Read, Write};
+use std::io::{ErrorKind, Read, Write};
 
 /// Standard input and output. What they hold is told to nobody; each fault is counted.
 #[derive(Drop)]
@@ -32,10 +32,15 @@ impl Told for StandardConsole {
 
 impl Console for StandardConsole {
     fn read(&mut self, into: &mut [u8]) -> Result<usize, Failure> {
-        match self.rt.reader().read(into) {
-            Ok(count) => Ok(count),
-            Err(_) => Err(self.failed()),
+        // A read that a signal interrupted is tried again.
+        for _ in 0..u64::MAX {
+            match self.rt.reader().read(into) {
+                Ok(count) => return Ok(count),
+                Err(error) if error.kind() == ErrorKind::Interrupted => {}
+                Err(_) => break,
+            }
         }
+        Err(self.failed())
     }
 
     fn print(&mut self, bytes: &[u8]) -> Result<(), Failure> {
