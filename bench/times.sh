@@ -1,7 +1,7 @@
 #!/bin/sh
-# Times `smd rehearse` or `smtrace show` on texts of 1 MiB and 16 MiB, and prints the ratio of the
-# two times. The texts are scripts, and traces as well.
-# Usage: bench/times.sh rehearse|show [PROGRAM]. Without a program, that which `rt run` builds.
+# Times `smd rehearse` or `smtrace show` on texts of at most 1 MiB and 16 MiB, and prints the ratio of
+# the two times against that of the two sizes. The texts are scripts, and traces as well.
+# Usage: bench/times.sh rehearse|show [PROGRAM]. Without a program, that which `tools/build` builds.
 set -eu
 top=$(cd "$(dirname "$0")/.." && pwd)
 case ${1:?usage: bench/times.sh rehearse or show} in
@@ -23,21 +23,26 @@ LARGE = 16 << 20
 
 def script(size, width):
     """One client that pings: its stream in pieces of `width` bytes, in at most `size` bytes."""
-    head = "join 1\npiece 1 %s\n" % ORDER.hex()
-    stream = (PING * width).hex()
-    lines = ["piece 1 %s\n" % stream[at : at + 2 * width] for at in range(0, len(stream), 2 * width)]
-    block = "".join(lines)
-    room = size - len(head)
-    text = head + block * (room // len(block) + 1)
-    return text[: text.rindex("\n", 0, size) + 1]
+    stream = PING.hex() * max(1, width // 8)
+    pieces = ["piece 1 %s\n" % stream[at : at + 2 * width] for at in range(0, len(stream), 2 * width)]
+    return fill("join 1\npiece 1 %s\n" % ORDER.hex(), ["".join(pieces)], size)
 
 
 def crowd(size):
     """64 clients that ping in turn, in at most `size` bytes."""
     head = "".join("join %d\npiece %d %s\n" % (n, n, ORDER.hex()) for n in range(1, 65))
-    block = "".join("piece %d %s\n" % (n, PING.hex()) for n in range(1, 65))
-    text = head + block * ((size - len(head)) // len(block) + 1)
-    return text[: text.rindex("\n", 0, size) + 1]
+    return fill(head, ["piece %d %s\n" % (n, PING.hex()) for n in range(1, 65)], size)
+
+
+def fill(head, turns, size):
+    """What comes first, and then these turns again and again, as far as they fit."""
+    block = "".join(turns)
+    text = head + block * ((size - len(head)) // len(block))
+    for turn in turns:
+        if len(text) + len(turn) > size:
+            break
+        text += turn
+    return text
 
 
 def seconds(word, program, text):
@@ -63,7 +68,10 @@ kinds = [
     ("64 clients, a ping a piece", crowd),
 ]
 for name, made in kinds:
-    small = seconds(word, program, made(SMALL))
-    large = seconds(word, program, made(LARGE))
-    print("%s: %.3f s for 1 MiB, %.3f s for 16 MiB, ratio %.1f" % (name, small, large, large / small))
+    texts = [made(SMALL), made(LARGE)]
+    times = [seconds(word, program, text) for text in texts]
+    print(
+        "%s: %.3f s for %d bytes, %.3f s for %d bytes: %.1f times as long, for %.1f times as much"
+        % (name, times[0], len(texts[0]), times[1], len(texts[1]), times[1] / times[0], len(texts[1]) / len(texts[0]))
+    )
 END

@@ -9,7 +9,7 @@ use xsmp_properties::PropertyTable;
 /// What is kept of one client.
 #[derive(Drop)]
 pub struct Entry {
-    /// The client's ID (XSMP, chapter 6: RegisterClientReply).
+    /// The client's ID (XSMP, chapter 6), as a RegisterClientReply gave it (chapter 7).
     pub id: Array8,
     /// What the client said of itself.
     pub table: PropertyTable,

@@ -1,11 +1,12 @@
 use crate::{
     OrderRefusal, a_line_gives_one_event, a_line_says_its_event, a_line_says_one_order,
     are_one_word, effect_line, has_line, lines_say_one_list, next_line, put_hex, read_bytes,
-    read_hex, read_number, read_order, read_script_line, split_once, started_line, try_line,
+    read_conn, read_hex, read_input, read_number, read_order, read_script_line, split_once,
+    started_line, try_line,
 };
 use sm_world::{
     Command, Effect, Event, EventList, MemWorld, NoMemory, NumberList, Octets, OctetsList, Order,
-    PairList,
+    PairList, SteadyWorld,
 };
 use std::alloc::Global;
 use std::process::Abort;
@@ -202,6 +203,29 @@ fn fields_of_lines(rt: HostRuntime) -> Result<(), Fail> {
     assert!(rt; parts == Some((b"a".as_slice(), b"b c".as_slice())));
     let (line, rest) = next_line(b"\nx");
     assert!(rt; line.is_empty() && rest == b"x".as_slice());
+    Ok(())
+}
+
+#[test]
+fn numbers_of_connections(rt: HostRuntime) -> Result<(), Fail> {
+    let alloc = rt.alloc();
+    assert_eq!(rt; read_conn(alloc, b"0")?, Some(0));
+    assert_eq!(rt; read_conn(alloc, b"4294967295")?, Some(4_294_967_295));
+    assert_eq!(rt; read_conn(alloc, b"4294967296")?, None);
+    assert_eq!(rt; read_conn(alloc, b"01")?, None);
+    Ok(())
+}
+
+#[test]
+fn the_input_is_read_to_its_end_or_to_the_limit(rt: HostRuntime) -> Result<(), Fail> {
+    let alloc = rt.alloc();
+    for (limit, want) in [(0, ""), (4, "line"), (6, "line\n1"), (99, "line\n1")] {
+        let input = Octets::from_slice(alloc, b"line\n1")?;
+        let events = EventList::new(alloc);
+        let mut world = SteadyWorld::new(alloc, events, input, Octets::new(alloc))?;
+        let read = read_input(alloc, &mut world, limit)?;
+        assert_eq!(rt; str::from_utf8(read.as_slice())?, want, "limit {limit}");
+    }
     Ok(())
 }
 

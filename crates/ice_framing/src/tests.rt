@@ -1,4 +1,4 @@
-use crate::{FRAME_LIMIT, Oversize, Splitter, WholeFrameList, cut_pieces};
+use crate::{FRAME_LIMIT, Oversize, Remainder, Splitter, WholeFrameList, cut_pieces};
 use ice_values::Endian;
 use sm_world::{NoMemory, Octets, OctetsList};
 use std::alloc::Global;
@@ -45,6 +45,19 @@ fn shown(alloc: Global, frames: &WholeFrameList, end: Option<Oversize>) -> Resul
     Ok(text)
 }
 
+/// A line for each frame that the pieces bring to a remainder, and how the stream ends.
+fn shown_by_remainder(alloc: Global, pieces: &[Octets]) -> Result<Vec<u8>, Fail> {
+    let mut frames = WholeFrameList::new(alloc);
+    let mut remainder = Remainder::new(alloc);
+    for piece in pieces {
+        match remainder.take(alloc, piece.as_slice(), &mut frames)? {
+            Some(rest) => remainder = rest,
+            None => return shown(alloc, &frames, Some(Oversize { units: 8_193 })),
+        }
+    }
+    shown(alloc, &frames, None)
+}
+
 #[test]
 fn cut_anywhere(rt: HostRuntime) -> Result<(), Fail> {
     let alloc = rt.alloc();
@@ -79,6 +92,8 @@ fn cut_anywhere(rt: HostRuntime) -> Result<(), Fail> {
                 let end = cut_pieces(alloc, pieces.as_slice(), &mut frames)?;
                 let text = shown(alloc, &frames, end)?;
                 assert_eq!(rt; text.as_slice(), want, "cut at {first} and {second}");
+                let text = shown_by_remainder(alloc, pieces.as_slice())?;
+                assert_eq!(rt; text.as_slice(), want, "cut at {first} and {second}");
             }
         }
     }
@@ -93,6 +108,7 @@ fn at_limit(
     header: [u8; 8],
 ) -> Result<Result<usize, Oversize>, Fail> {
     let mut splitter = Splitter::new(alloc)?;
+    assert!(rt; splitter.capacity() >= FRAME_LIMIT);
     let _ = splitter.feed(first);
     let Some(_) = splitter.next_frame() else {
         return Ok(Ok(0));

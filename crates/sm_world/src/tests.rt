@@ -80,8 +80,12 @@ fn octets_are_kept(rt: HostRuntime) -> Result<(), Fail> {
     octets.append(b"bc")?;
     let copy = octets.copy()?;
     assert_eq!(rt; copy.as_slice(), b"abc".as_slice());
-    let again = Octets::from_vec(octets.into_vec());
+    let mut again = Octets::from_vec(octets.into_vec());
     assert_eq!(rt; again.as_slice(), b"abc".as_slice());
+    again.truncate(2);
+    assert_eq!(rt; again.as_slice(), b"ab".as_slice());
+    again.truncate(3);
+    assert_eq!(rt; again.len(), 2);
     Ok(())
 }
 
