@@ -1,0 +1,1 @@
+//! The token of a few connections, by cases written down by hand.
