@@ -1,0 +1,1 @@
+//! Rounds of a few connections, by cases written down by hand.
