@@ -64,6 +64,11 @@ is_nil (x ∷ xs) = false
 abbrev pub conns_of : List Member → List ℕ
 conns_of members = map (λ m. m.conn) members
 
+-- no connection stands twice
+abbrev pub are_distinct : List ℕ → Bool
+are_distinct [] = true
+are_distinct (conn ∷ conns) = not (list_any (λ other. other == conn) conns) && are_distinct conns
+
 -- everybody saves in the first phase
 abbrev pub all_saving : List ℕ → List Member
 all_saving conns = map (λ conn. record { conn = conn; step = Saving }) conns

@@ -1,6 +1,5 @@
-ghost use Rattle.std.specs.Prelude.{◌≡◌, nat_eq, IsTrue, IfOk};
-ghost use Rattle.std.specs.List.{IsDistinct};
-ghost use Rattle.round_agreement.specs.Agreement.{is_saving, is_first_saving, is_saved, is_at, is_nil, conns_of, all_saving, with_step, without_member, with_second, owing, two_ready as second_ready, agreed as all_agreed, deserted as all_left};
+ghost use Rattle.std.specs.Prelude.{◌≡◌, IsTrue, IfOk};
+ghost use Rattle.round_agreement.specs.Agreement.{is_saving, is_first_saving, is_saved, is_at, is_nil, conns_of, are_distinct, all_saving, with_step, without_member, with_second, owing, two_ready as second_ready, agreed as all_agreed, deserted as all_left};
 ghost use Rattle.round_agreement.specs.declared.members.Step.TheVariants.{WantsTwo, Done};
 
 use crate::members::{all_done, is_nil, nobody_saves, set_second, set_step, somebody_wants_two};
@@ -34,7 +33,7 @@ impl Round {
     /// Begins a round in which all members save in the first phase. No member may stand twice. A
     /// refused call drops the list.
     pub fn begin(alloc: Global, members: ConnList, wanted: Wanted) -> Result<Round, NoMemory>
-        requires { IsDistinct nat_eq members }
+        requires { IsTrue (are_distinct members) }
         ensures members { IfOk result (λ round. round.members ≡ all_saving members) }
         ensures empty { IfOk result (λ round. round.began_empty ≡ is_nil members) }
         ensures wanted { IfOk result (λ round. round.wanted ≡ wanted) }
