@@ -87,14 +87,32 @@ fn shows(
     Ok(())
 }
 
+/// These DiscardCommands stop standing, one after the other.
+fn stray_all(
+    alloc: Global,
+    ledger: &mut Ledger,
+    files: &[u8],
+    last: &[u8],
+) -> Result<(), SetRefusal> {
+    let book = book(alloc, last)?;
+    for file in files {
+        ledger.stray(command(alloc, &[*file])?, &book)?;
+    }
+    Ok(())
+}
+
+fn retire(alloc: Global, ledger: &mut Ledger, old: &[u8], new: &[u8]) -> Result<(), SetRefusal> {
+    ledger.retire(&book(alloc, old)?, &book(alloc, new)?)?;
+    Ok(())
+}
+
 #[test]
 fn a_state_is_discarded_after_the_next_book(rt: HostRuntime) -> Result<(), Fail> {
     let alloc = rt.alloc();
     let mut ledger = Ledger::new(alloc, CommandList::new(alloc));
-    ledger.retire(&book(alloc, b"")?, &book(alloc, b"a")?)?;
+    retire(alloc, &mut ledger, b"", b"a")?;
     shows(&rt, &ledger, b"", b"a", b"")?;
-    ledger.stray(command(alloc, b"a")?, &book(alloc, b"a")?)?;
-    ledger.retire(&book(alloc, b"a")?, &book(alloc, b"b")?)?;
+    retire(alloc, &mut ledger, b"a", b"b")?;
     shows(&rt, &ledger, b"a", b"b", b"a")?;
     ledger.note(&commands(alloc, b"a")?);
     shows(&rt, &ledger, b"", b"b", b"")
@@ -104,11 +122,8 @@ fn a_state_is_discarded_after_the_next_book(rt: HostRuntime) -> Result<(), Fail>
 fn each_command_is_pending_once_and_in_order(rt: HostRuntime) -> Result<(), Fail> {
     let alloc = rt.alloc();
     let mut ledger = Ledger::new(alloc, commands(alloc, b"pq")?);
-    ledger.stray(command(alloc, b"s")?, &book(alloc, b"oq")?)?;
-    ledger.stray(command(alloc, b"s")?, &book(alloc, b"oq")?)?;
-    ledger.stray(command(alloc, b"t")?, &book(alloc, b"oq")?)?;
-    ledger.stray(command(alloc, b"o")?, &book(alloc, b"oq")?)?;
-    ledger.retire(&book(alloc, b"oq")?, &book(alloc, b"tn")?)?;
+    stray_all(alloc, &mut ledger, b"sstop", b"oq")?;
+    retire(alloc, &mut ledger, b"oq", b"tn")?;
     shows(&rt, &ledger, b"pqos", b"sq", b"po")
 }
 
@@ -116,11 +131,9 @@ fn each_command_is_pending_once_and_in_order(rt: HostRuntime) -> Result<(), Fail
 fn at_most_128_strays_are_kept(rt: HostRuntime) -> Result<(), Fail> {
     let alloc = rt.alloc();
     let mut ledger = Ledger::new(alloc, CommandList::new(alloc));
-    let none = Book::empty(alloc)?;
-    for file in 0..130u8 {
-        ledger.stray(command(alloc, &[file])?, &none)?;
-    }
-    ledger.retire(&none, &none)?;
+    let files = Vec::from_iter(alloc, 0..130u8)?;
+    stray_all(alloc, &mut ledger, &files, b"")?;
+    retire(alloc, &mut ledger, b"", b"")?;
     assert_eq!(rt; ledger.pending().as_slice().len(), 128);
     Ok(())
 }
