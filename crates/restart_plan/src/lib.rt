@@ -1,0 +1,8 @@
+//! Which clients are started again: when a book is opened, and when a client departs.
+#![tactic(auto)]
+
+mod restarts;
+#[cfg(test)]
+mod tests;
+
+pub use restarts::{plan, respawn};
