@@ -1,49 +1,64 @@
--- The table of connections that the code keeps, against the machine.
-use Rattle.std.specs.Prelude.{◌≡◌, ℕ, ◌%◌, ◌^◌, Bool, true, List, [], ◌∷◌, length, Option, Some, None, nat_eq, if◌then◌else◌}
+-- What the code keeps of the connections, against the machine.
+use Rattle.std.specs.Prelude.{◌≡◌, ℕ, ◌+◌, ◌%◌, ◌^◌, Bool, true, List, [], ◌∷◌, ◌++◌, length, drop, Option, Some, None, nat_eq, is_some, if◌then◌else◌}
 use Rattle.std.specs.Ordering.{nat_cmp}
 use Rattle.std.specs.BTreeMap.{get as place_of, btree_map_len}
-use Rattle.sm_world.specs.declared.effects.Effect.{Effect}
-use Rattle.ice_framing.specs.Frames.{fed, cut}
-use Rattle.session_engine.specs.Answers.{KeepsLive}
 use Rattle.sm_world.specs.Outside.{Added}
+use Rattle.sm_world.specs.declared.effects.Effect.{Effect}
+use Rattle.ice_framing.specs.Frames.{fed, cut, standing_of}
 use Rattle.session_engine.specs.Carries.{CarriesOut}
-use Rattle.session_engine.specs.Cutting.{CutsRow}
-use Rattle.session_engine.specs.Machine.{Connection, Machine, Step, connection_of}
-use Rattle.ice_framing.specs.Frames.{standing_of}
-use Rattle.session_engine.specs.Places.{row_in}
+use Rattle.session_engine.specs.Cutting.{Cuts}
+use Rattle.session_engine.specs.Machine.{Connection, Machine, Step, acts_of, connection_of, part_taken}
+use Rattle.session_engine.specs.Places.{kept_in}
+use Rattle.session_engine.specs.Streams.{Part, parts_at, parts_of}
 use Rattle.session_engine.specs.declared.answers.Answer.{Answer}
-use Rattle.session_engine.specs.declared.row.Row.{Row}
-use Rattle.session_engine.specs.declared.row.Answered.{Answered}
-use Rattle.session_engine.specs.declared.table.Table.{Table}
+use Rattle.session_engine.specs.declared.answers.Answer.TheVariants.{Stays, Closes}
+use Rattle.session_engine.specs.declared.connection.Connection.{Connection as Kept}
+use Rattle.session_engine.specs.declared.connection.Answered.{Answered}
+use Rattle.session_engine.specs.declared.engine.Engine.{Engine}
+use Rattle.session_engine.specs.declared.live.Connections.{Connections}
 
--- the row of a connection, and None where it isn't live
-abbrev pub row_at : Table → ℕ → Option Row
-row_at table c = row_in table.rows (place_of nat_cmp table.places c)
+-- what is kept of a connection, and None where it isn't live
+abbrev pub kept_at : Connections → ℕ → Option Kept
+kept_at live c = kept_in live.seats (place_of nat_cmp live.places c)
 
 -- how many connections are live
-abbrev pub row_count : Table → ℕ
-row_count table = btree_map_len table.places
+abbrev pub kept_count : Connections → ℕ
+kept_count live = btree_map_len live.places
 
--- this connection now has that row, and every other the row that it had
-abbrev pub ChangesRow : Table → Table → ℕ → Option Row → Type 0
-ChangesRow old new c row = (q : ℕ) → row_at new q ≡ (if nat_eq q c then row else row_at old q)
+-- of this connection that is kept now, and of every other what was
+abbrev pub ChangesAt : Connections → Connections → ℕ → Option Kept → Type 0
+ChangesAt old new c kept = (q : ℕ) → kept_at new q ≡ (if nat_eq q c then kept else kept_at old q)
 
 -- what cutting does at a connection, live or not
-abbrev pub CutsAt : Option Row → List ℕ → Option Answered → Option Row → Type 0
+abbrev pub CutsAt : Option Kept → List ℕ → Option Answered → Option Kept → Type 0
 CutsAt None left answered after = (answered ≡ None) × (after ≡ None)
-CutsAt (Some row) left answered after = (changed : Row) × (after ≡ Some changed) × CutsRow row left answered changed
+CutsAt (Some before) left answered after = (kept : Kept) × (after ≡ Some kept) × Cuts before left answered kept
 
--- A row shows a connection, where these bytes of its stream are still to be cut.
-pub record IsRowOf (pending : List ℕ) (row : Row) (k : Connection) : Type 0 where
-  pub setup : row.setup ≡ Some k.setup
-  pub sequence : row.sequence ≡ k.taken % 2 ^ 32
-  pub stands : (cut (fed row.splitter pending)).standing ≡ standing_of k.stream
+-- this connection isn't live any more
+pub record Leaves (c : ℕ) (old new : Connections) : Type 0 where
+  pub change : ChangesAt old new c None
+  pub count : kept_count new + (if is_some (kept_at old c) then 1 else 0) ≡ kept_count old
 
-abbrev pub Matches : List ℕ → Option Row → Option Connection → Type 0
+-- a connection that an answer closes isn't live any more
+abbrev pub LeavesWhereClosed : ℕ → Answer → Connections → Connections → Type 0
+LeavesWhereClosed c (Stays message) old new = new ≡ old
+LeavesWhereClosed c (Closes message) old new = Leaves c old new
+
+-- What is kept shows a connection, where these bytes of its stream are still to be cut.
+pub record IsKeptOf (pending : List ℕ) (kept : Kept) (k : Connection) : Type 0 where
+  pub setup : kept.setup ≡ k.setup
+  pub sequence : kept.sequence ≡ k.taken % 2 ^ 32
+  pub stands : (cut (fed kept.splitter pending)).standing ≡ standing_of k.stream
+  -- the parts that were taken, and that the others are still to be cut
+  pub before : List Part
+  pub count : length before ≡ k.taken
+  pub parts : before ++ parts_at (fed kept.splitter pending) ≡ parts_of k.stream
+
+abbrev pub Matches : List ℕ → Option Kept → Option Connection → Type 0
 Matches pending None None = Unit {0}
 Matches pending None (Some k) = ⊥
-Matches pending (Some row) None = ⊥
-Matches pending (Some row) (Some k) = IsRowOf pending row k
+Matches pending (Some kept) None = ⊥
+Matches pending (Some kept) (Some k) = IsKeptOf pending kept k
 
 -- No two connections have the same number.
 abbrev pub AreDistinct : List Connection → Type 0
@@ -58,40 +73,48 @@ all_cut q = []
 abbrev pub to_cut : ℕ → List ℕ → ℕ → List ℕ
 to_cut c left q = if nat_eq q c then left else []
 
--- a row stands where a connection is live
-abbrev pub IsLiveAs : Option Row → Option Connection → Type 0
-IsLiveAs None None = Unit {0}
-IsLiveAs None (Some k) = ⊥
-IsLiveAs (Some row) None = ⊥
-IsLiveAs (Some row) (Some k) = Unit {0}
-
--- as many rows as connections, one each
-pub record Counts (table : Table) (m : Machine) : Type 0 where
-  pub count : row_count table ≡ length m.connections
+-- the live connections show those of the machine
+pub record ShowsLive (pending : ℕ → List ℕ) (live : Connections) (m : Machine) : Type 0 where
+  pub each : (q : ℕ) → Matches (pending q) (kept_at live q) (connection_of q m.connections)
+  pub count : kept_count live ≡ length m.connections
   pub distinct : AreDistinct m.connections
-  pub live : (q : ℕ) → IsLiveAs (row_at table q) (connection_of q m.connections)
 
--- the table shows the machine
-pub record Shows (pending : ℕ → List ℕ) (table : Table) (m : Machine) : Type 0 where
-  pub rows : (q : ℕ) → Matches (pending q) (row_at table q) (connection_of q m.connections)
-  pub counts : Counts table m
+-- the session in memory shows the machine
+pub record Shows (pending : ℕ → List ℕ) (engine : Engine) (m : Machine) : Type 0 where
+  pub cookie : m.cookie ≡ engine.cookie
+  pub live : ShowsLive pending engine.live m
 
--- The table shows the machine but for one connection, which is shown too where the answer keeps it live.
-pub record ShowsFor (answer : Answer) (c : ℕ) (pending : ℕ → List ℕ) (table : Table) (m : Machine) : Type 0 where
-  pub others : (q : ℕ) → (q ≡ c → ⊥) → Matches (pending q) (row_at table q) (connection_of q m.connections)
-  pub here : KeepsLive answer → Matches (pending c) (row_at table c) (connection_of c m.connections)
-  pub counts : Counts table m
+-- It gave the acts of a step, and shows the machine after it.
+pub record Gives (step : Step) (engine : Engine) : Type 0 where
+  pub acts : engine.acts ≡ acts_of step
+  pub shows : Shows all_cut engine step.next
 
--- The effects that were added do the acts of a step, and the table shows the machine after it.
-pub record Carried (pending : ℕ → List ℕ) (old new : Option (List Effect)) (table : Table) (step : Step) (whole : Bool) : Type 0 where
-  pub acts : Added old new (CarriesOut step.acts whole)
-  pub shows : whole ≡ true → Shows pending table step.next
+-- the parts that the stream of a connection has behind those that were taken
+abbrev pub parts_on : Option Connection → List Part
+parts_on None = []
+parts_on (Some k) = drop k.taken (parts_of k.stream)
 
--- what the splitter of a connection holds stays for as long as it is live
-abbrev pub HeldStays : Option Row → Option Row → Type 0
-HeldStays before None = Unit {0}
-HeldStays None (Some after) = ⊥
-HeldStays (Some before) (Some after) = after ≡ before
+abbrev pub parts_left : Machine → ℕ → List Part
+parts_left m c = parts_on (connection_of c m.connections)
 
-abbrev pub KeepsHeld : Table → Table → Type 0
-KeepsHeld old new = (q : ℕ) → HeldStays (row_at old q) (row_at new q)
+-- The next part of a connection's stream was taken: it gave what that brings, and shows the machine after it.
+pub record TakesPart (m : Machine) (c : ℕ) (left : List ℕ) (engine : Engine) : Type 0 where
+  pub part : Part
+  pub rest : List Part
+  pub is_next : parts_left m c ≡ part ∷ rest
+  pub acts : engine.acts ≡ acts_of (part_taken m c part)
+  pub shows : Shows (to_cut c left) engine (part_taken m c part).next
+
+-- No part is left.
+pub record TakesNone (m : Machine) (c : ℕ) (engine : Engine) : Type 0 where
+  pub none_left : parts_left m c ≡ []
+  pub shows : Shows all_cut engine m
+
+abbrev pub Takes : Machine → ℕ → List ℕ → Option ℕ → Engine → Type 0
+Takes m c left None engine = TakesNone m c engine
+Takes m c left (Some count) engine = TakesPart m c (drop count left) engine
+
+-- The effects that were added do the acts of a step, and the session shows the machine after it.
+pub record Carried (old new : Option (List Effect)) (engine : Engine) (step : Step) (whole : Bool) : Type 0 where
+  pub acts : Added old new (CarriesOut (acts_of step) whole)
+  pub shows : whole ≡ true → Shows all_cut engine step.next
