@@ -98,6 +98,14 @@ fn fill(held: &mut Vec<u8>, piece: &[u8], target: usize) -> usize
     count
 }
 
+/// Room for the largest frame, and for no more.
+fn reserve(alloc: Global) -> Result<Vec<u8>, NoMemory>
+    ensures empty { IfOk result (λ held. held.items ≡ []) }
+    ensures room { IfOk result (λ held. vec_capacity held ≡ 65544) }
+{
+    Ok(Vec::with_capacity(alloc, FRAME_LIMIT)?)
+}
+
 impl Splitter {
     /// A splitter before a stream's first byte. It reserves the 65,544 bytes of the largest frame; no
     /// later call takes memory.
@@ -106,7 +114,7 @@ impl Splitter {
     {
         Ok(Splitter {
             order: None,
-            held: Vec::with_capacity(alloc, FRAME_LIMIT)?,
+            held: reserve(alloc)?,
         })
     }
 
@@ -182,6 +190,13 @@ impl Splitter {
     {
         self.order = Some(endian_of(self.order, &self.held));
         self.held.clear();
+    }
+
+    /// Drops all that is held, whatever it is.
+    pub fn forget(&mut self)
+        ensures { self.new ≡ record { order = self.old.order; held = [] } }
+    {
+        self.held.truncate(0);
     }
 
     /// The header of the frame that comes next, as soon as it is whole.

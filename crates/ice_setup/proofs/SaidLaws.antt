@@ -11,11 +11,12 @@ use Rattle.ice_values.proofs.CellLaws.{length-zeros, length-free, length-known, 
 use Rattle.ice_values.proofs.NumberLaws.{length-number_bytes}
 use Rattle.ice_values.proofs.HeaderLaws.{parts_of}
 use Rattle.ice_values.proofs.LengthLaws.{length-error_body, length-text16}
-use Rattle.ice_messages.specs.Messages.{minor_of, layout, IsMessage, HasLongPart, IsTooLong}
+use Rattle.ice_messages.specs.Messages.{minor_of, layout, IsTooLong}
 use Rattle.ice_messages.specs.declared.message.IceMessage.{IceMessage}
-use Rattle.ice_messages.specs.declared.message.IceMessage.TheVariants.{Error, ConnectionSetup, AuthenticationRequired, AuthenticationReply, AuthenticationNextPhase, ProtocolSetup}
+use Rattle.ice_messages.specs.declared.message.IceMessage.TheVariants.{Error, ProtocolSetup}
 use Rattle.ice_setup.specs.Errors.{blame, text_values}
 use Rattle.ice_setup.specs.Laws.{SpelledFits}
+use Rattle.ice_setup.specs.Setup.{HasFittingBody}
 use Rattle.ice_setup.specs.declared.errors.Offending.{Offending}
 
 -- an Error with few values
@@ -32,34 +33,22 @@ length-text_values text =
 parts_fit : (front p v r n o : Cells) → length front + length p + length v + length r ≤ length (front ++ p ++ v ++ r ++ n ++ o)
 parts_fit front p v r n o = omega (arith, length-append {A = Option ℕ})
 
--- the name of a protocol that a ProtocolSetup brought, where that was not too long
+-- the name of a protocol that a ProtocolSetup brought, where its body was not too long
 pub protocol_fits : (e : Endian) (opcode : ℕ) (must : Bool) (protocol vendor release : List ℕ) (names : List (List ℕ)) (offered : List Version)
-    → ¬ (IsTooLong e (ProtocolSetup opcode must protocol vendor release names offered)) → length (text_values protocol) ≤ 65528
-protocol_fits e opcode must protocol vendor release names offered said =
+    → HasFittingBody e (ProtocolSetup opcode must protocol vendor release names offered) → length (text_values protocol) ≤ 65528
+protocol_fits e opcode must protocol vendor release names offered fits =
     let front : Cells = byte (length offered) ++ byte (length names) ++ free 6 in
     let parts = parts_fit front (text16 e protocol) (text16 e vendor) (text16 e release) (texts e names) (versions e offered) in
-    let short : 65536 < length (layout byte e (ProtocolSetup opcode must protocol vendor release names offered)).1 → ⊥ = λ long. said (inr long) in
     let eight : 8 ≤ length front = lit≤ tt in
-    omega (arith, parts, short, eight, length-text_values protocol, length-text16 e protocol, length-text16 Lsb protocol, length-text16 e vendor, length-text16 e release)
+    omega (arith, parts, fits, eight, length-text_values protocol, length-text16 e protocol, length-text16 Lsb protocol, length-text16 e vendor, length-text16 e release)
 
 -- ---- what a frame spells
-
-no_long_part : (m : IceMessage) → IsMessage m → HasLongPart m → ⊥
-no_long_part (ConnectionSetup must vendor release names offered) fits long = elim long [ inl n ↦ omega (arith, fits.2.0) | inr v ↦ omega (arith, fits.2.2) ]
-no_long_part (ProtocolSetup opcode must protocol vendor release names offered) fits long = elim long [ inl n ↦ omega (arith, fits.3.0) | inr v ↦ omega (arith, fits.3.2) ]
-no_long_part (AuthenticationRequired index proof) fits long = omega (arith, fits)
-no_long_part (AuthenticationReply proof) fits long = omega (arith, fits)
-no_long_part (AuthenticationNextPhase proof) fits long = omega (arith, fits)
-no_long_part m fits long = long
 
 two_own : (e : Endian) (m : IceMessage) → length (layout byte e m).0 ≡ 2
 two_own e (Error error) = length-known (number_bytes e 2 error.class) ∙ length-number_bytes e 2 error.class
 two_own e m = refl
 
 pub spelled_fits : SpelledFits
-spelled_fits e m bytes spells short = λ too_long. elim too_long [
-  | inl long ↦ no_long_part m spells.0 long
-  | inr long ↦
-      let parts = parts_of e 0 (minor_of m) (layout byte e m).0 (layout byte e m).1 bytes (two_own e m) spells.1 in
-      omega (arith, Begins-length (layout byte e m).1 (drop 8 bytes) parts.0 parts.1.body_at, length-drop 8 bytes)
-]
+spelled_fits e m bytes spells short =
+    let parts = parts_of e 0 (minor_of m) (layout byte e m).0 (layout byte e m).1 bytes (two_own e m) spells.1 in
+    omega (arith, short, Begins-length (layout byte e m).1 (drop 8 bytes) parts.0 parts.1.body_at, length-drop 8 bytes)

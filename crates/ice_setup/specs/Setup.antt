@@ -1,10 +1,12 @@
 -- The set-up of a connection, manager's side: what a message brings in a state.
-use Rattle.std.specs.Prelude.{ℕ, Bool, true, false, List, [], Option, Some, None, ◌==◌, ◌||◌, not, if◌then◌else◌, codes}
+use Rattle.std.specs.Prelude.{ℕ, ◌≤◌, Bool, true, false, List, [], length, Option, Some, None, ◌==◌, ◌||◌, not, if◌then◌else◌, codes}
 use Rattle.ice_cookie.specs.Cookies.{shows}
+use Rattle.ice_values.specs.Cells.{byte}
+use Rattle.ice_values.specs.Fields.{ErrorFields}
 use Rattle.ice_values.specs.declared.numbers.Endian.{Endian}
 use Rattle.ice_values.specs.declared.numbers.Endian.TheVariants.{Lsb}
 use Rattle.ice_values.specs.declared.severity.Severity.TheVariants.{CanContinue, FatalToProtocol, FatalToConnection}
-use Rattle.ice_messages.specs.Messages.{minor_of, IsTooLong}
+use Rattle.ice_messages.specs.Messages.{minor_of, layout, IsTooLong}
 use Rattle.ice_messages.specs.declared.message.IceMessage.{IceMessage}
 use Rattle.ice_messages.specs.declared.message.IceMessage.TheVariants.{Error, ByteOrder, ConnectionSetup, AuthenticationRequired, AuthenticationReply, ConnectionReply, ProtocolSetup, ProtocolReply, Ping, PingReply, WantToClose}
 use Rattle.ice_setup.specs.Errors.{bad_state, no_authentication, no_version, authentication_rejected, protocol_duplicate, major_opcode_duplicate, unknown_protocol, blame, opcode_values, text_values}
@@ -85,11 +87,15 @@ refuses_connection class offending = Ends (Some (Error (blame FatalToConnection 
 abbrev pub refuses_protocol : AnySetup → ℕ → List ℕ → Offending → Moved
 refuses_protocol state class values offending = Goes state (Some (Error (blame FatalToProtocol class offending values)))
 
+-- the Error of what is refused in a state: before ConnectionReply was sent it is fatal to the connection
+abbrev pub refusal : AnySetup → ℕ → Offending → List ℕ → ErrorFields
+refusal state class offending values = blame (if connected state then CanContinue else FatalToConnection) class offending values
+
 -- What is refused: before ConnectionReply was sent that ends the connection, and later the state is the same.
 abbrev pub refuses : AnySetup → ℕ → Offending → List ℕ → Moved
 refuses state class offending values =
-    if connected state then Goes state (Some (Error (blame CanContinue class offending values)))
-    else Ends (Some (Error (blame FatalToConnection class offending values)))
+    if connected state then Goes state (Some (Error (refusal state class offending values)))
+    else Ends (Some (Error (refusal state class offending values)))
 
 -- a message without a place in the state
 abbrev pub out_of_place : AnySetup → Offending → Moved
@@ -178,6 +184,10 @@ moved (AtCookie s) message sequence = cookie_cell s message (named message seque
 moved (AtProtocol s) message sequence = protocol_cell s message (named message sequence)
 moved (AtProtocolCookie s) message sequence = protocol_cookie_cell s message (named message sequence)
 moved (AtReady s) message sequence = ready_cell s message (named message sequence)
+
+-- its body has at most 65,536 bytes
+abbrev pub HasFittingBody : Endian → IceMessage → Type 0
+HasFittingBody e message = length (layout byte e message).1 ≤ 65536
 
 -- What is answered has a spelling that is not too long.
 abbrev pub CanBeSaid : Moved → Type 0

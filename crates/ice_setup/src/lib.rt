@@ -18,8 +18,8 @@ pub use errors::{
     MAJOR_OPCODE_DUPLICATE, NO_AUTHENTICATION, NO_VERSION, Offending, PROTOCOL_DUPLICATE,
     UNKNOWN_PROTOCOL, error_of, opcode_values, text_values, wrong_byte_values,
 };
-pub use laws::{spelled_messages_fit, states_follow_on};
-pub use others::refuse;
+pub use laws::spelled_messages_fit;
+pub use others::refusal;
 pub use states::{
     AnySetup, AwaitCookie, AwaitOrder, AwaitProtocol, AwaitProtocolCookie, AwaitSetup, Moved, Ready,
 };

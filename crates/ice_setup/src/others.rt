@@ -1,10 +1,13 @@
 ghost use Rattle.std.specs.Prelude.{◌≡◌, ◌≤◌, ◌%◌, length};
-ghost use Rattle.ice_setup.specs.Setup.{refuses, CanBeSaid, other_cell, out_of_place as out_of_place_spec, wants_to_close as wants_to_close_spec, named as named_spec};
+ghost use Rattle.ice_values.specs.declared.numbers.Endian.TheVariants.{Lsb};
+ghost use Rattle.ice_messages.specs.Messages.{IsTooLong};
+ghost use Rattle.ice_messages.specs.declared.message.IceMessage.TheVariants.{Error as AnError};
+ghost use Rattle.ice_setup.specs.Setup.{refusal as refusal_of, refuses, CanBeSaid, other_cell, out_of_place as out_of_place_spec, wants_to_close as wants_to_close_spec, named as named_spec};
 
 use crate::errors::{BAD_STATE, Offending, error_of};
 use crate::states::{AnySetup, Moved};
 use ice_messages::{IceMessage, minor};
-use ice_values::Severity;
+use ice_values::{ErrorBody, Severity};
 use sm_world::Octets;
 use std::alloc::Global;
 
@@ -18,20 +21,35 @@ pub fn named(message: &IceMessage, sequence: u32) -> Offending
     }
 }
 
+/// The Error of what is refused in a state, with values that fill units of 8 bytes. It is fatal to
+/// the connection before ConnectionReply was sent, and can continue later.
+pub fn refusal(state: &AnySetup, class: u16, offending: Offending, values: Octets) -> ErrorBody
+    requires units { length values % 8 ≡ 0 }
+    requires few { length values ≤ 65528 }
+    ensures error { result ≡ refusal_of state.now class offending values }
+    ensures said { ¬ (IsTooLong Lsb (AnError result)) }
+{
+    let severity = if state.connected() {
+        Severity::CanContinue
+    } else {
+        Severity::FatalToConnection
+    };
+    error_of(severity, class, offending, values)
+}
+
 /// What is refused in a state, with values that fill units of 8 bytes. Before ConnectionReply was
 /// sent that ends the connection, and later the state is the same.
-pub fn refuse(state: AnySetup, class: u16, offending: Offending, values: Octets) -> Moved
+fn refuse(state: AnySetup, class: u16, offending: Offending, values: Octets) -> Moved
     requires units { length values % 8 ≡ 0 }
     requires few { length values ≤ 65528 }
     ensures moved { result ≡ refuses state class offending values }
     ensures said { CanBeSaid result }
 {
+    let error = IceMessage::Error(refusal(&state, class, offending, values));
     if state.connected() {
-        let error = error_of(Severity::CanContinue, class, offending, values);
-        return Moved::Goes(state, Some(IceMessage::Error(error)));
+        return Moved::Goes(state, Some(error));
     }
-    let error = error_of(Severity::FatalToConnection, class, offending, values);
-    Moved::Ends(Some(IceMessage::Error(error)))
+    Moved::Ends(Some(error))
 }
 
 /// A message that has no place in the state.

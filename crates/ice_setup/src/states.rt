@@ -6,20 +6,20 @@ use ice_messages::IceMessage;
 use ice_values::Endian;
 
 /// The client's ByteOrder is awaited.
-#[derive(Debug, Drop)]
+#[derive(Clone, Copy, Debug)]
 pub struct AwaitOrder {
     pub(crate) cookie: Cookie,
 }
 
 /// The client's ConnectionSetup is awaited.
-#[derive(Debug, Drop)]
+#[derive(Clone, Copy, Debug)]
 pub struct AwaitSetup {
     pub(crate) cookie: Cookie,
     pub(crate) endian: Endian,
 }
 
 /// The cookie for the connection is awaited.
-#[derive(Debug, Drop)]
+#[derive(Clone, Copy, Debug)]
 pub struct AwaitCookie {
     pub(crate) cookie: Cookie,
     pub(crate) endian: Endian,
@@ -28,14 +28,14 @@ pub struct AwaitCookie {
 }
 
 /// The client is connected, and its ProtocolSetup is awaited.
-#[derive(Debug, Drop)]
+#[derive(Clone, Copy, Debug)]
 pub struct AwaitProtocol {
     pub(crate) cookie: Cookie,
     pub(crate) endian: Endian,
 }
 
 /// The cookie for XSMP is awaited.
-#[derive(Debug, Drop)]
+#[derive(Clone, Copy, Debug)]
 pub struct AwaitProtocolCookie {
     pub(crate) cookie: Cookie,
     pub(crate) endian: Endian,
@@ -46,7 +46,7 @@ pub struct AwaitProtocolCookie {
 }
 
 /// The client speaks XSMP.
-#[derive(Debug, Drop)]
+#[derive(Clone, Copy, Debug)]
 pub struct Ready {
     pub(crate) cookie: Cookie,
     pub(crate) endian: Endian,
@@ -55,7 +55,7 @@ pub struct Ready {
 }
 
 /// How far the set-up of a connection has come (ICE, chapter 6, of the party that accepts).
-#[derive(Debug, Drop)]
+#[derive(Clone, Copy, Debug)]
 pub enum AnySetup {
     AwaitOrder(AwaitOrder),
     AwaitSetup(AwaitSetup),

@@ -1,10 +1,9 @@
 ghost use Rattle.std.specs.Prelude.{◌≡◌, ◌≤◌, length, IfOk, MatchResult};
 ghost use Rattle.ice_values.specs.declared.numbers.Endian.{Endian as AnyEndian};
-ghost use Rattle.ice_messages.specs.Messages.{IsTooLong};
 ghost use Rattle.ice_messages.specs.declared.message.IceMessage.TheVariants.{AuthenticationReply as AReply};
 ghost use Rattle.ice_setup.specs.Errors.{text_values};
 ghost use Rattle.ice_setup.specs.Offers.{first_version as first_version_spec, first_cookie_name as first_cookie_name_spec};
-ghost use Rattle.ice_setup.specs.Setup.{connection_offer, cookie_cell, protocol_offer, protocol_setup, protocol_cookie_cell, ready_setup, moved, CanBeSaid};
+ghost use Rattle.ice_setup.specs.Setup.{connection_offer, cookie_cell, protocol_offer, protocol_setup, protocol_cookie_cell, ready_setup, moved, HasFittingBody, CanBeSaid};
 
 use crate::answers::{
     asks_cookie, bare_error, connection_reply, opcode_error, protocol_error, protocol_reply,
@@ -33,7 +32,7 @@ impl AwaitOrder {
         sequence: u32,
     ) -> Result<Moved, (AwaitOrder, NoMemory)>
         ensures exact { MatchResult result (λ m. m ≡ moved (AnySetup.AwaitOrder self) message sequence) (λ e. e.0 ≡ self) }
-        ensures said { (e : AnyEndian) → ¬ (IsTooLong e message) → IfOk result CanBeSaid }
+        ensures said { (e : AnyEndian) → HasFittingBody e message → IfOk result CanBeSaid }
     {
         let offending = named(&message, sequence);
         match &message {
@@ -84,7 +83,7 @@ impl AwaitSetup {
         sequence: u32,
     ) -> Result<Moved, (AwaitSetup, NoMemory)>
         ensures exact { MatchResult result (λ m. m ≡ moved (AnySetup.AwaitSetup self) message sequence) (λ e. e.0 ≡ self) }
-        ensures said { (e : AnyEndian) → ¬ (IsTooLong e message) → IfOk result CanBeSaid }
+        ensures said { (e : AnyEndian) → HasFittingBody e message → IfOk result CanBeSaid }
     {
         let offending = named(&message, sequence);
         match &message {
@@ -134,7 +133,7 @@ impl AwaitCookie {
         sequence: u32,
     ) -> Result<Moved, (AwaitCookie, NoMemory)>
         ensures exact { MatchResult result (λ m. m ≡ moved (AnySetup.AwaitCookie self) message sequence) (λ e. e.0 ≡ self) }
-        ensures said { (e : AnyEndian) → ¬ (IsTooLong e message) → IfOk result CanBeSaid }
+        ensures said { (e : AnyEndian) → HasFittingBody e message → IfOk result CanBeSaid }
     {
         let offending = named(&message, sequence);
         match &message {
@@ -227,7 +226,7 @@ impl AwaitProtocol {
         sequence: u32,
     ) -> Result<Moved, (AwaitProtocol, NoMemory)>
         ensures exact { MatchResult result (λ m. m ≡ moved (AnySetup.AwaitProtocol self) message sequence) (λ e. e.0 ≡ self) }
-        ensures said { (e : AnyEndian) → ¬ (IsTooLong e message) → IfOk result CanBeSaid }
+        ensures said { (e : AnyEndian) → HasFittingBody e message → IfOk result CanBeSaid }
     {
         let offending = named(&message, sequence);
         match &message {
@@ -284,7 +283,7 @@ impl AwaitProtocolCookie {
         sequence: u32,
     ) -> Result<Moved, (AwaitProtocolCookie, NoMemory)>
         ensures exact { MatchResult result (λ m. m ≡ moved (AnySetup.AwaitProtocolCookie self) message sequence) (λ e. e.0 ≡ self) }
-        ensures said { (e : AnyEndian) → ¬ (IsTooLong e message) → IfOk result CanBeSaid }
+        ensures said { (e : AnyEndian) → HasFittingBody e message → IfOk result CanBeSaid }
     {
         let offending = named(&message, sequence);
         match &message {
@@ -335,7 +334,7 @@ impl Ready {
         sequence: u32,
     ) -> Result<Moved, (Ready, NoMemory)>
         ensures exact { MatchResult result (λ m. m ≡ moved (AnySetup.Ready self) message sequence) (λ e. e.0 ≡ self) }
-        ensures said { (e : AnyEndian) → ¬ (IsTooLong e message) → IfOk result CanBeSaid }
+        ensures said { (e : AnyEndian) → HasFittingBody e message → IfOk result CanBeSaid }
     {
         let offending = named(&message, sequence);
         match &message {
@@ -358,7 +357,7 @@ impl AnySetup {
         sequence: u32,
     ) -> Result<Moved, (AnySetup, NoMemory)>
         ensures exact { MatchResult result (λ m. m ≡ moved self message sequence) (λ e. e.0 ≡ self) }
-        ensures said { (e : AnyEndian) → ¬ (IsTooLong e message) → IfOk result CanBeSaid }
+        ensures said { (e : AnyEndian) → HasFittingBody e message → IfOk result CanBeSaid }
     {
         match self {
             AnySetup::AwaitOrder(state) => match state.take(alloc, message, sequence) {

@@ -2,7 +2,7 @@
 
 use crate::{
     AnySetup, AwaitOrder, BAD_LENGTH, BAD_MAJOR, Moved, Offending, error_of, opcode_values,
-    spelled_messages_fit, states_follow_on, text_values, wrong_byte_values,
+    spelled_messages_fit, text_values, wrong_byte_values,
 };
 use ice_cookie::Cookie;
 use ice_messages::{IceMessage, decode_ice, encode_ice, minor};
@@ -669,7 +669,6 @@ fn a_state_tells_the_client(rt: HostRuntime) -> Result<(), Fail> {
 #[test]
 fn without_xsmp_the_protocol_may_be_set_up_again(rt: HostRuntime) -> Result<(), Fail> {
     spelled_messages_fit();
-    states_follow_on();
     let AnySetup::Ready(ready) = reached(rt.alloc(), SPEAKING)? else {
         return Err("it isn't ready".into());
     };

@@ -1,18 +1,22 @@
--- One call after another: the acts that their effects do, and the cause of a fault.
-use Rattle.std.proofs.Common.{◌≡◌, inl, inr, arith, ℕ, Bool, true, false, List, [], ◌∷◌, ◌++◌, Option, Result, Ok, Err, is_ok, refl, sym, subst, ◌∙◌, ap, append_assoc}
+-- One act after the other: what their effects do, and the cause of a halt.
+use Rattle.std.proofs.Common.{◌≡◌, inl, inr, arith, Bool, true, false, List, [], ◌∷◌, ◌++◌, drop, map, Option, Result, Ok, Err, is_ok, refl, sym, subst, ◌∙◌, ap, append_assoc}
 use Rattle.std.proofs.lemmas.List.{append-nil, map-append}
 use Rattle.std.proofs.lemmas.Bool.{false≢true}
 use Rattle.std.proofs.lemmas.Grind.{flat_map-append}
-use Rattle.sm_world.specs.Effects.{Deed, Sends, Shuts, event_of, deed_of, file_of}
+use Rattle.sm_world.specs.Effects.{event_of, deed_of, file_of}
 use Rattle.sm_world.specs.Outside.{adds, on_ok, Added, NotFallen}
 use Rattle.sm_world.specs.declared.effects.Effect.{Effect}
-use Rattle.sm_world.specs.declared.effects.Effect.TheVariants.{Sent, Shut}
-use Rattle.sm_world.proofs.Adding.{adds-adds, adds-none}
-use Rattle.session_engine.specs.Machine.{Act, Does, Did, deed_in}
-use Rattle.session_engine.specs.Carries.{Going, CarriesOut, HasCause, item_of}
 use Rattle.sm_world.specs.declared.failures.Faults.{Faults}
-use Rattle.session_engine.specs.declared.fault.ServeFault.{ServeFault}
-use Rattle.session_engine.specs.declared.fault.ServeFault.TheVariants.{LinkFault, Spent, NoMemory}
+use Rattle.sm_world.proofs.Adding.{adds-adds, adds-none}
+use Rattle.session_engine.specs.Acts.{deed_in}
+use Rattle.session_engine.specs.Carries.{Going, CarriesOut, item_of}
+use Rattle.session_engine.specs.Causes.{IsCaused, HasCause, fault_of}
+use Rattle.session_engine.specs.Machine.{Did}
+use Rattle.session_engine.specs.declared.acts.Act.{Act}
+use Rattle.session_engine.specs.declared.acts.Act.TheVariants.{Finish}
+use Rattle.session_engine.specs.declared.fault.Halt.{Halt}
+use Rattle.session_engine.specs.declared.fault.Halt.TheVariants.{Links, NoMemory}
+use Rattle.session_engine.specs.declared.fault.ServeFault.TheVariants.{Spent}
 
 -- nothing was done, and all is left
 pub still : (acts : List Act) → Going acts acts []
@@ -30,41 +34,43 @@ going_on all acts rest left es ds first then = record {
   in_order = rw (flat_map-append item_of es ds, first.in_order, then.in_order, flat_map-append deed_of es ds, map-append) refl;
 }
 
--- What one call of a device did: nothing at an error.
-pub record IsDeed (effect : Effect) (deed : Deed) : Type 0 where
+-- The effect of a device's call is what the outside sees of an act.
+pub record IsDoneBy (effect : Effect) (act : Act) : Type 0 where
   pub deaf : event_of effect ≡ []
   pub quiet : file_of effect ≡ []
-  pub does : deed_of effect ≡ deed ∷ []
-  pub shows : item_of effect ≡ Did deed ∷ []
+  pub does : deed_of effect ≡ deed_in act
+  pub shows : item_of effect ≡ map Did (deed_in act)
 
-pub one_deed : {X : Type 0} (effect : Effect) (deed : Deed) → IsDeed effect deed → (old new : Option (List Effect)) (result : Result X ServeFault) → new ≡ adds old (on_ok result (effect ∷ [])) → Added old new (CarriesOut (Does deed ∷ []) (is_ok result))
-one_deed effect deed is_deed old new (Ok x) added = record {
+one_going : (effect : Effect) (act : Act) → IsDoneBy effect act → Going (act ∷ []) [] (effect ∷ [])
+one_going effect act is_done = record {
+  deaf = rw (is_done.deaf) refl;
+  quiet = rw (is_done.quiet) refl;
+  done = act ∷ [];
+  parts = refl;
+  so_far = rw (is_done.does) refl;
+  in_order = rw (is_done.does, is_done.shows) (append-nil (map Did (deed_in act)) ∙ ap (map Did) (sym (append-nil (deed_in act))));
+}
+
+-- one call of a device: at an error nothing was done
+pub one_act : {X : Type 0} (effect : Effect) (act : Act) → IsDoneBy effect act → (old new : Option (List Effect)) (result : Result X Halt) → new ≡ adds old (on_ok result (effect ∷ [])) → Added old new (CarriesOut (act ∷ []) (is_ok result))
+one_act effect act is_done old new (Ok x) added = record {
   effects = effect ∷ [];
   added = added;
-  holds = record {
-    left = [];
-    going = record {
-      deaf = rw (is_deed.deaf) refl;
-      quiet = rw (is_deed.quiet) refl;
-      done = Does deed ∷ [];
-      parts = refl;
-      so_far = rw (is_deed.does) refl;
-      in_order = rw (is_deed.does, is_deed.shows) refl;
-    };
-    none_left = λ e. refl;
-  };
+  holds = record { left = []; going = one_going effect act is_done; none_left = λ e. refl };
 }
-one_deed effect deed is_deed old new (Err fault) added = record {
+one_act effect act is_done old new (Err halt) added = record {
   effects = [];
   added = added;
-  holds = record { left = Does deed ∷ []; going = still (Does deed ∷ []); none_left = λ e. absurd (false≢true e) };
+  holds = record { left = act ∷ []; going = still (act ∷ []); none_left = λ e. absurd (false≢true e) };
 }
 
-pub sent : {X : Type 0} (c : ℕ) (bytes : List ℕ) (old new : Option (List Effect)) (result : Result X ServeFault) → new ≡ adds old (on_ok result (Sent c bytes ∷ [])) → Added old new (CarriesOut (Does (Sends c bytes) ∷ []) (is_ok result))
-sent c bytes = one_deed (Sent c bytes) (Sends c bytes) (record { deaf = refl; quiet = refl; does = refl; shows = refl })
-
-pub was_shut : {X : Type 0} (c : ℕ) (old new : Option (List Effect)) (result : Result X ServeFault) → new ≡ adds old (on_ok result (Shut c ∷ [])) → Added old new (CarriesOut (Does (Shuts c) ∷ []) (is_ok result))
-was_shut c = one_deed (Shut c) (Shuts c) (record { deaf = refl; quiet = refl; does = refl; shows = refl })
+-- the end of the run is nothing that a device does
+pub finished : (old : Option (List Effect)) → Added old old (CarriesOut (Finish ∷ []) true)
+finished old = record {
+  effects = [];
+  added = sym (adds-none old);
+  holds = record { left = []; going = record { deaf = refl; quiet = refl; done = Finish ∷ []; parts = refl; so_far = refl; in_order = refl }; none_left = λ e. refl };
+}
 
 -- nothing had to be done
 pub untouched : (whole : Bool) (old : Option (List Effect)) → Added old old (CarriesOut [] whole)
@@ -82,24 +88,50 @@ given_up acts old = record {
   holds = record { left = acts; going = still acts; none_left = λ e. absurd (false≢true e) };
 }
 
--- a fault's cause in the later of two parts of a call is one in the whole call
-pub cause_later : (first second third : Faults) (fault : ServeFault) → NotFallen first second → HasCause second third fault → HasCause first third fault
-cause_later first second third LinkFault one (inl rose) = inl (omega (arith, one.links))
-cause_later first second third LinkFault one (inr full) = inr full
-cause_later first second third Spent one cause = tt
+-- before the first of some acts
+pub all_left : (acts : List Act) (old : Option (List Effect)) → Added old old (Going acts acts)
+all_left acts old = record { effects = []; added = sym (adds-none old); holds = still acts }
+
+-- these acts were done too, which begin what was left
+pub done_too : (all acts rest : List Act) (old middle new : Option (List Effect)) → Added old middle (Going all (acts ++ rest)) → Added middle new (CarriesOut acts true) → Added old new (Going all rest)
+done_too all acts rest old middle new one two = record {
+  effects = one.effects ++ two.effects;
+  added = two.added ∙ (ap (λ t. adds t two.effects) one.added ∙ adds-adds old one.effects two.effects);
+  holds = rw (two.holds.none_left refl) at (going_on all acts rest two.holds.left one.effects two.effects one.holds two.holds.going);
+}
+
+-- of these acts some were done, and then no more
+pub halted : (all acts rest : List Act) (old middle new : Option (List Effect)) → Added old middle (Going all (acts ++ rest)) → Added middle new (CarriesOut acts false) → Added old new (CarriesOut all false)
+halted all acts rest old middle new one two = record {
+  effects = one.effects ++ two.effects;
+  added = two.added ∙ (ap (λ t. adds t two.effects) one.added ∙ adds-adds old one.effects two.effects);
+  holds = record {
+    left = two.holds.left ++ rest;
+    going = going_on all acts rest two.holds.left one.effects two.effects one.holds two.holds.going;
+    none_left = λ e. absurd (false≢true e);
+  };
+}
+
+-- nothing is left
+pub all_done : (all : List Act) (old new : Option (List Effect)) → Added old new (Going all []) → Added old new (CarriesOut all true)
+all_done all old new going = record { effects = going.effects; added = going.added; holds = record { left = []; going = going.holds; none_left = λ e. refl } }
+
+-- no more is done of what is left
+pub stopped : (all left : List Act) (old new : Option (List Effect)) → Added old new (Going all left) → Added old new (CarriesOut all false)
+stopped all left old new going = record { effects = going.effects; added = going.added; holds = record { left = left; going = going.holds; none_left = λ e. absurd (false≢true e) } }
+
+-- a halt is no want of turns
+pub never_spent : (halt : Halt) → fault_of halt ≡ Spent → ⊥
+never_spent Links e = absurd cc
+never_spent NoMemory e = absurd cc
+
+-- the cause of a halt in the later of two parts of a call is one in the whole call
+pub cause_later : (first second third : Faults) (halt : Halt) → NotFallen first second → IsCaused second third halt → IsCaused first third halt
+cause_later first second third Links one (inl rose) = inl (omega (arith, one.links))
+cause_later first second third Links one (inr full) = inr full
 cause_later first second third NoMemory one cause = tt
 
--- all of some acts, and then the acts behind them
-pub one_after_other : (acts rest : List Act) (whole : Bool) (old middle new : Option (List Effect)) → Added old middle (CarriesOut acts true) → Added middle new (CarriesOut rest whole) → Added old new (CarriesOut (acts ++ rest) whole)
-one_after_other acts rest whole old middle new one two =
-    let begun : Going (acts ++ rest) rest one.effects = rw (one.holds.none_left refl) at (going_on (acts ++ rest) acts rest one.holds.left [] one.effects (still (acts ++ rest)) one.holds.going) in
-    let begun_so : Going (acts ++ rest) (rest ++ []) one.effects = subst (λ left. Going (acts ++ rest) left one.effects) (sym (append-nil rest)) begun in
-    record {
-      effects = one.effects ++ two.effects;
-      added = two.added ∙ (ap (λ t. adds t two.effects) one.added ∙ adds-adds old one.effects two.effects);
-      holds = record {
-        left = two.holds.left;
-        going = subst (λ left. Going (acts ++ rest) left (one.effects ++ two.effects)) (append-nil two.holds.left) (going_on (acts ++ rest) rest [] two.holds.left one.effects two.effects begun_so two.holds.going);
-        none_left = two.holds.none_left;
-      };
-    }
+-- ... and one of the run's fault
+pub fault_cause : (old new : Faults) (halt : Halt) → IsCaused old new halt → HasCause old new (fault_of halt)
+fault_cause old new Links cause = cause
+fault_cause old new NoMemory cause = tt

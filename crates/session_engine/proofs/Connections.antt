@@ -4,7 +4,7 @@ use Rattle.std.specs.Option.{option_map, is_some}
 use Rattle.std.proofs.lemmas.Bool.{cases_eq}
 use Rattle.std.proofs.lemmas.Bool.Decides.{nat_tests}
 use Rattle.session_engine.specs.Machine.{Connection, connection_of, changed, without}
-use Rattle.session_engine.specs.Rows.{AreDistinct}
+use Rattle.session_engine.specs.Shown.{AreDistinct}
 
 pub same : (a b : ℕ) → a ≡ b → nat_eq a b ≡ true
 same a b e = eq-eqb a b e
@@ -97,6 +97,14 @@ without_absent c [] absent = refl
 without_absent c (k ∷ ks) absent = elim (cases_eq k.number c) [
   | inl e ↦ let found : Some k ≡ None = rw (same k.number c e) at absent in cc
   | inr apart ↦ rw (other k.number c apart) (ap (λ xs. k ∷ xs) (without_absent c ks (rw (other k.number c apart) at absent)))
+]
+
+-- a change of one that isn't there changes nothing
+pub changed_absent : (f : Connection → Connection) (c : ℕ) (ks : List Connection) → connection_of c ks ≡ None → changed f c ks ≡ ks
+changed_absent f c [] absent = refl
+changed_absent f c (k ∷ ks) absent = elim (cases_eq k.number c) [
+  | inl e ↦ let found : Some k ≡ None = rw (same k.number c e) at absent in cc
+  | inr apart ↦ rw (other k.number c apart) (ap (λ xs. k ∷ xs) (changed_absent f c ks (rw (other k.number c apart) at absent)))
 ]
 
 pub length-without : (c : ℕ) (ks : List Connection) → AreDistinct ks → length (without c ks) + (if is_some (connection_of c ks) then 1 else 0) ≡ length ks

@@ -2,10 +2,9 @@ pub mod CutLemmas
 pub mod Parts
 pub mod Connections
 pub mod Adding
+pub mod Running
+pub mod Showing
 pub mod Pieces
 pub mod Seats
-pub mod Tables
-pub mod Running
 pub mod Loop
-pub mod Events
 pub mod Limits

@@ -4,10 +4,11 @@ use Rattle.std.proofs.lemmas.Bool.Decides.{nat_tests}
 use Rattle.sm_world.specs.declared.events.Event.{Event}
 use Rattle.sm_world.specs.declared.events.Event.TheVariants.{Joined, Piece, Gone, Operator, Tick, End}
 use Rattle.ice_cookie.specs.declared.cookies.Cookie.{Cookie}
-use Rattle.session_engine.specs.Answers.{Outcome, outcome, sequence_after}
-use Rattle.session_engine.specs.Machine.{Connection, Machine, Step, start, connection_of, changed, without, joined, fed_with, counted, live_limit, answered, part_for, part_taken, parts_taken, piece_for, join_for, step, after_all}
+use Rattle.session_engine.specs.Answers.{outcome, sequence_after}
+use Rattle.session_engine.specs.Machine.{Connection, Machine, Step, start, connection_of, changed, without, joined, fed_with, counted, live_limit, noted, fed_on, parted, answered, brought, part_for, part_taken, parts_taken, piece_for, join_for, step, after_all}
 use Rattle.session_engine.specs.Streams.{Part, new_parts}
 use Rattle.session_engine.specs.declared.answers.Answer.{Answer}
+use Rattle.session_engine.specs.declared.answers.Outcome.{Outcome}
 use Rattle.session_engine.specs.declared.answers.Answer.TheVariants.{Stays, Closes}
 use Rattle.session_engine.proofs.Connections.{length-changed}
 
@@ -28,7 +29,7 @@ changed-few f m c few = omega (arith, few, length-changed f c m.connections)
 without-few : (m : Machine) (c : ℕ) → AreFew m → AreFew (record m { connections = without c m.connections })
 without-few m c few = omega (arith, few, fewer c m.connections)
 
-answered-few : (m : Machine) (c : ℕ) (answer : Answer) → AreFew m → AreFew (answered m c answer).next
+answered-few : (m : Machine) (c : ℕ) (answer : Answer) → AreFew m → AreFew (answered m c answer)
 answered-few m c (Stays message) few = few
 answered-few m c (Closes message) few = without-few m c few
 
@@ -36,7 +37,7 @@ part_for-few : (m : Machine) (c : ℕ) (part : Part) (k : Option Connection) →
 part_for-few m c part None few = few
 part_for-few m c part (Some k) few =
     let o : Outcome = outcome k.setup (sequence_after k.taken) part in
-    answered-few (record m { connections = changed (counted o.setup) c m.connections }) c o.answer (changed-few (counted o.setup) m c few)
+    answered-few (noted m c o.setup) c o.answer (changed-few (counted o.setup) m c few)
 
 parts_taken-few : (m : Machine) (c : ℕ) (parts : List Part) → AreFew m → AreFew (parts_taken m c parts).next
 parts_taken-few m c [] few = few
@@ -44,7 +45,7 @@ parts_taken-few m c (part ∷ parts) few = parts_taken-few (part_taken m c part)
 
 piece_for-few : (m : Machine) (c : ℕ) (bytes : List ℕ) (k : Option Connection) → AreFew m → AreFew (piece_for m c bytes k).next
 piece_for-few m c bytes None few = few
-piece_for-few m c bytes (Some k) few = parts_taken-few (record m { connections = changed (fed_with bytes) c m.connections }) c (new_parts k.stream bytes) (changed-few (fed_with bytes) m c few)
+piece_for-few m c bytes (Some k) few = parts_taken-few (fed_on m c bytes) c (new_parts k.stream bytes) (changed-few (fed_with bytes) m c few)
 
 more_by : (m : Machine) (c : ℕ) (b : Bool) (one other : Step) → nat_lt (length m.connections) live_limit ≡ b → one.next ≡ record m { connections = m.connections ++ joined m.cookie c ∷ [] } → other.next ≡ m → AreFew m → AreFew (if◌then◌else◌ {A = Step} b one other).next
 more_by m c true one other room is_one is_other few =

@@ -10,11 +10,15 @@ use Rattle.sm_world.specs.Outside.{adds, TakesNext}
 use Rattle.sm_world.specs.declared.effects.Effect.{Effect}
 use Rattle.sm_world.specs.declared.effects.Effect.TheVariants.{Heard}
 use Rattle.sm_world.specs.declared.events.Event.{Event}
-use Rattle.session_engine.specs.Machine.{Act, Does, Finish, Machine, Item, Came, Did, start as start_with, step, after_all, script_from, run_from, deeds_in, deed_in, has_finish}
-use Rattle.session_engine.specs.Carries.{CarriesOut, IsPrefix, IsOnScript as IsOnScriptOf, Serves as ServesWith, Brought, next_events, is_whole, items, item_of, script as script_with, run as run_with}
+use Rattle.session_engine.specs.Acts.{deeds_in, deed_in, is_finish, has_finish}
+use Rattle.session_engine.specs.Machine.{Machine, Item, Came, Did, acts_of, start as start_with, step, after_all, script_from, run_from}
+use Rattle.session_engine.specs.declared.acts.Act.{Act}
+use Rattle.session_engine.specs.declared.acts.Act.TheVariants.{Say, Shut, Finish}
+use Rattle.session_engine.specs.Carries.{Going, CarriesOut, IsPrefix, IsOnScript as IsOnScriptOf, Serves as ServesWith, Brought, next_events, is_whole, items, item_of, script as script_with, run as run_with}
 use Rattle.ice_cookie.specs.declared.cookies.Cookie.{Cookie}
-use Rattle.session_engine.specs.Rows.{Shows, all_cut, row_at, row_count}
-use Rattle.session_engine.specs.declared.table.Table.{Table}
+use Rattle.session_engine.specs.Shown.{Shows, all_cut}
+use Rattle.session_engine.specs.declared.engine.Engine.{Engine}
+use Rattle.session_engine.specs.declared.fault.Halt.{Halt}
 use Rattle.session_engine.specs.declared.fault.ServeFault.{ServeFault}
 use Rattle.session_engine.specs.declared.fault.ServeFault.TheVariants.{LinkFault, Spent, NoMemory}
 
@@ -26,7 +30,8 @@ BroughtSoFar (Some coming) left events = (events ≡ next_events (length events)
 -- Finish in two lists of acts
 pub has_finish-append : (xs ys : List Act) → has_finish (xs ++ ys) ≡ (if has_finish xs then true else has_finish ys)
 has_finish-append [] ys = refl
-has_finish-append (Does deed ∷ xs) ys = has_finish-append xs ys
+has_finish-append (Say conn message ∷ xs) ys = has_finish-append xs ys
+has_finish-append (Shut conn ∷ xs) ys = has_finish-append xs ys
 has_finish-append (Finish ∷ xs) ys = refl
 
 no_finish_by : (b : Bool) (rest : List Act) → (if b then true else has_finish (if b then [] else rest)) ≡ false → (b ≡ false) × (has_finish rest ≡ false)
@@ -42,29 +47,21 @@ nothing_either true = refl
 nothing_either false = refl
 
 -- one more event after events without Finish
-pub script_from-more : (m : Machine) (events : List Event) (event : Event) → has_finish (script_from m events) ≡ false → script_from m (events ++ event ∷ []) ≡ script_from m events ++ (step (after_all m events) event).acts
-script_from-more m [] event unfinished = rw (nothing_either {A = Act} (has_finish (step m event).acts)) (append-nil (step m event).acts)
+pub script_from-more : (m : Machine) (events : List Event) (event : Event) → has_finish (script_from m events) ≡ false → script_from m (events ++ event ∷ []) ≡ script_from m events ++ (acts_of (step (after_all m events) event))
+script_from-more m [] event unfinished = rw (nothing_either {A = Act} (has_finish (acts_of (step m event)))) (append-nil (acts_of (step m event)))
 script_from-more m (first ∷ events) event unfinished =
-    let parts = unfinished_parts (step m first).acts (script_from (step m first).next events) unfinished in
-    rw (parts.0) (ap (λ acts. (step m first).acts ++ acts) (script_from-more (step m first).next events event parts.1) ∙ sym (append_assoc (step m first).acts (script_from (step m first).next events) (step (after_all (step m first).next events) event).acts))
+    let parts = unfinished_parts (acts_of (step m first)) (script_from (step m first).next events) unfinished in
+    rw (parts.0) (ap (λ acts. (acts_of (step m first)) ++ acts) (script_from-more (step m first).next events event parts.1) ∙ sym (append_assoc (acts_of (step m first)) (script_from (step m first).next events) (acts_of (step (after_all (step m first).next events) event))))
 
-pub run_from-more : (m : Machine) (events : List Event) (event : Event) → has_finish (script_from m events) ≡ false → run_from m (events ++ event ∷ []) ≡ run_from m events ++ (Came event ∷ map Did (deeds_in (step (after_all m events) event).acts))
-run_from-more m [] event unfinished = rw (nothing_either {A = Item} (has_finish (step m event).acts)) (ap (λ is. Came event ∷ is) (append-nil (map Did (deeds_in (step m event).acts))))
+pub run_from-more : (m : Machine) (events : List Event) (event : Event) → has_finish (script_from m events) ≡ false → run_from m (events ++ event ∷ []) ≡ run_from m events ++ (Came event ∷ map Did (deeds_in (acts_of (step (after_all m events) event))))
+run_from-more m [] event unfinished = rw (nothing_either {A = Item} (has_finish (acts_of (step m event)))) (ap (λ is. Came event ∷ is) (append-nil (map Did (deeds_in (acts_of (step m event))))))
 run_from-more m (first ∷ events) event unfinished =
-    let parts = unfinished_parts (step m first).acts (script_from (step m first).next events) unfinished in
-    rw (parts.0) (ap (λ is. Came first ∷ is) (ap (λ is. map Did (deeds_in (step m first).acts) ++ is) (run_from-more (step m first).next events event parts.1) ∙ sym (append_assoc (map Did (deeds_in (step m first).acts)) (run_from (step m first).next events) (Came event ∷ map Did (deeds_in (step (after_all (step m first).next events) event).acts)))))
+    let parts = unfinished_parts (acts_of (step m first)) (script_from (step m first).next events) unfinished in
+    rw (parts.0) (ap (λ is. Came first ∷ is) (ap (λ is. map Did (deeds_in (acts_of (step m first))) ++ is) (run_from-more (step m first).next events event parts.1) ∙ sym (append_assoc (map Did (deeds_in (acts_of (step m first)))) (run_from (step m first).next events) (Came event ∷ map Did (deeds_in (acts_of (step (after_all (step m first).next events) event)))))))
 
 pub after_all-more : (m : Machine) (events : List Event) (event : Event) → after_all m (events ++ event ∷ []) ≡ (step (after_all m events) event).next
 after_all-more m [] event = refl
 after_all-more m (first ∷ events) event = after_all-more (step m first).next events event
-
--- What a step adds to the effects: it hears nothing, publishes nothing, and does the first of its acts.
-pub record StepAdds (acts left : List Act) (ds : List Effect) : Type 0 where
-  pub deaf : heard ds ≡ []
-  pub quiet : published ds ≡ []
-  pub done : List Act
-  pub parts : done ++ left ≡ acts
-  pub so_far : deeds ds ≡ deeds_in done
 
 -- a part of effects that hear nothing hears nothing
 deaf_front : (xs ys : List Event) → xs ++ ys ≡ [] → xs ≡ []
@@ -138,9 +135,9 @@ module _ (cookie : Cookie) where
   Serves coming turns answer effects = ServesWith cookie coming turns answer effects
 
   -- The script of a run with one more event, and the deeds of its effects so far.
-  front_on_script : (es ds : List Effect) (event : Event) (left : List Act) → StepAdds (step (after_all start (heard es)) event).acts left ds → has_finish (script (heard es)) ≡ false → deeds es ≡ deeds_in (script (heard es)) → (k : ℕ) → IsPrefix (deeds (es ++ Heard event ∷ take k ds)) (deeds_in (script (heard (es ++ Heard event ∷ take k ds))))
+  front_on_script : (es ds : List Effect) (event : Event) (left : List Act) → Going (acts_of (step (after_all start (heard es)) event)) left ds → has_finish (script (heard es)) ≡ false → deeds es ≡ deeds_in (script (heard es)) → (k : ℕ) → IsPrefix (deeds (es ++ Heard event ∷ take k ds)) (deeds_in (script (heard (es ++ Heard event ∷ take k ds))))
   front_on_script es ds event left adds unfinished all_done k =
-      let acts = (step (after_all start (heard es)) event).acts in
+      let acts = (acts_of (step (after_all start (heard es)) event)) in
       let deaf : heard (take k ds) ≡ [] = deaf_front (heard (take k ds)) (heard (drop k ds)) (heard_parts k ds adds.deaf) in
       let scripts : script (heard (es ++ Heard event ∷ take k ds)) ≡ script (heard es) ++ acts = ap script (heard-more es (take k ds) event deaf) ∙ script_from-more start (heard es) event unfinished in
       let parts : deeds (take k ds) ++ deeds (drop k ds) ≡ deeds_in adds.done = sym (flat_map-append deed_of (take k ds) (drop k ds)) ∙ (ap deeds (take-append-drop k ds) ∙ adds.so_far) in
@@ -155,8 +152,8 @@ module _ (cookie : Cookie) where
       )
 
   -- what holds of the effects of a run that goes on
-  pub record Runs (coming left : Option (List Event)) (table : Table) (n : ℕ) (es : List Effect) : Type 0 where
-    pub shows : Shows all_cut table (after_all start (heard es))
+  pub record Runs (coming left : Option (List Event)) (engine : Engine) (n : ℕ) (es : List Effect) : Type 0 where
+    pub shows : Shows all_cut engine (after_all start (heard es))
     pub count : length (heard es) ≡ n
     pub unfinished : has_finish (script (heard es)) ≡ false
     pub all_done : deeds es ≡ deeds_in (script (heard es))
@@ -164,7 +161,7 @@ module _ (cookie : Cookie) where
     pub on_script : IsOnScript es
     pub brought : BroughtSoFar coming left (heard es)
 
-  more_on_script : (es ds : List Effect) (event : Event) (left : List Act) → StepAdds (step (after_all start (heard es)) event).acts left ds → has_finish (script (heard es)) ≡ false → deeds es ≡ deeds_in (script (heard es)) → IsOnScript es → IsOnScript (es ++ Heard event ∷ ds)
+  more_on_script : (es ds : List Effect) (event : Event) (left : List Act) → Going (acts_of (step (after_all start (heard es)) event)) left ds → has_finish (script (heard es)) ≡ false → deeds es ≡ deeds_in (script (heard es)) → IsOnScript es → IsOnScript (es ++ Heard event ∷ ds)
   more_on_script es ds event left adds unfinished all_done on_script = record {
     no_other_deed = each_front (λ xs. IsPrefix (deeds xs) (deeds_in (script (heard xs)))) es ds event on_script.no_other_deed (front_on_script es ds event left adds unfinished all_done);
     no_deed_missing = each_heard (λ xs. deeds xs ≡ deeds_in (script (heard xs))) es ds event adds.deaf on_script.no_deed_missing all_done;
@@ -189,9 +186,9 @@ module _ (cookie : Cookie) where
   brought_none (Some coming) = (refl, refl)
 
   -- nothing was heard yet
-  pub runs_begin : (coming : Option (List Event)) (table : Table) → ((q : ℕ) → row_at table q ≡ None) → row_count table ≡ 0 → Runs coming coming table 0 []
-  runs_begin coming table none no_rows = record {
-    shows = record { rows = λ q. rw (none q) tt; counts = record { count = no_rows; distinct = tt; live = λ q. rw (none q) tt } };
+  pub runs_begin : (coming : Option (List Event)) (engine : Engine) → Shows all_cut engine start → Runs coming coming engine 0 []
+  runs_begin coming engine shows = record {
+    shows = shows;
     count = refl;
     unfinished = refl;
     all_done = refl;
@@ -224,7 +221,7 @@ module _ (cookie : Cookie) where
   length-more : (events : List Event) (event : Event) → length (events ++ event ∷ []) ≡ suc (length events)
   length-more events event = omega (arith, length-append events (event ∷ []))
 
-  brought_more : (coming left after : Option (List Event)) (events : List Event) (event : Event) → BroughtSoFar coming left events → TakesNext {E = ServeFault} left after (Ok event) → BroughtSoFar coming after (events ++ event ∷ [])
+  brought_more : (coming left after : Option (List Event)) (events : List Event) (event : Event) → BroughtSoFar coming left events → TakesNext {E = Halt} left after (Ok event) → BroughtSoFar coming after (events ++ event ∷ [])
   brought_more None left after events event brought takes = rw brought at takes
   brought_more (Some coming) left after events event brought takes =
       let takes_next : (event ≡ next_of (drop (length events) coming)) × (after ≡ Some (drop 1 (drop (length events) coming))) = rw brought.1 at takes in
@@ -233,42 +230,32 @@ module _ (cookie : Cookie) where
         takes_next.1 ∙ ap Some (drop_one_after (length events) coming),
       )
 
-  -- CarriesOut for the theorem's lists
-  step_adds : (acts : List Act) (whole : Bool) (ds : List Effect) → (out : CarriesOut acts whole ds) → StepAdds acts out.left ds
-  step_adds acts whole ds out = record {
-    deaf = out.going.deaf;
-    quiet = out.going.quiet;
-    done = out.going.done;
-    parts = out.going.parts;
-    so_far = out.going.so_far;
-  }
-
   items-more : (es ds : List Effect) (event : Event) → items (es ++ Heard event ∷ ds) ≡ items es ++ (Came event ∷ items ds)
   items-more es ds event = flat_map-append item_of es (Heard event ∷ ds)
 
   -- the script after one more event
-  script-more : (es ds : List Effect) (event : Event) → heard ds ≡ [] → has_finish (script (heard es)) ≡ false → script (heard (es ++ Heard event ∷ ds)) ≡ script (heard es) ++ (step (after_all start (heard es)) event).acts
+  script-more : (es ds : List Effect) (event : Event) → heard ds ≡ [] → has_finish (script (heard es)) ≡ false → script (heard (es ++ Heard event ∷ ds)) ≡ script (heard es) ++ (acts_of (step (after_all start (heard es)) event))
   script-more es ds event deaf unfinished = ap script (heard-more es ds event deaf) ∙ script_from-more start (heard es) event unfinished
 
   -- Finish in the script after one more event is Finish in that event's step
-  finish-more : (es ds : List Effect) (event : Event) → heard ds ≡ [] → has_finish (script (heard es)) ≡ false → has_finish (script (heard (es ++ Heard event ∷ ds))) ≡ has_finish (step (after_all start (heard es)) event).acts
+  finish-more : (es ds : List Effect) (event : Event) → heard ds ≡ [] → has_finish (script (heard es)) ≡ false → has_finish (script (heard (es ++ Heard event ∷ ds))) ≡ has_finish (acts_of (step (after_all start (heard es)) event))
   finish-more es ds event deaf unfinished =
       ap has_finish (script-more es ds event deaf unfinished)
-      ∙ (has_finish-append (script (heard es)) (step (after_all start (heard es)) event).acts ∙ rw unfinished refl)
+      ∙ (has_finish-append (script (heard es)) (acts_of (step (after_all start (heard es)) event)) ∙ rw unfinished refl)
 
   -- what was done after a whole step
-  done-more : (es ds : List Effect) (event : Event) → CarriesOut (step (after_all start (heard es)) event).acts true ds → has_finish (script (heard es)) ≡ false → deeds es ≡ deeds_in (script (heard es)) → deeds (es ++ Heard event ∷ ds) ≡ deeds_in (script (heard (es ++ Heard event ∷ ds)))
+  done-more : (es ds : List Effect) (event : Event) → CarriesOut (acts_of (step (after_all start (heard es)) event)) true ds → has_finish (script (heard es)) ≡ false → deeds es ≡ deeds_in (script (heard es)) → deeds (es ++ Heard event ∷ ds) ≡ deeds_in (script (heard (es ++ Heard event ∷ ds)))
   done-more es ds event out unfinished all_done =
-      let acts = (step (after_all start (heard es)) event).acts in
+      let acts = (acts_of (step (after_all start (heard es)) event)) in
       let whole : out.going.done ≡ acts = sym (append-nil out.going.done) ∙ (ap (λ xs. out.going.done ++ xs) (sym (out.none_left refl)) ∙ out.going.parts) in
       deeds-more es ds event
       ∙ (ap (λ xs. xs ++ deeds ds) all_done
       ∙ (ap (λ xs. deeds_in (script (heard es)) ++ xs) (out.going.so_far ∙ ap deeds_in whole)
       ∙ (sym (flat_map-append deed_in (script (heard es)) acts) ∙ ap deeds_in (sym (script-more es ds event out.going.deaf unfinished)))))
 
-  shown-more : (es ds : List Effect) (event : Event) → CarriesOut (step (after_all start (heard es)) event).acts true ds → has_finish (script (heard es)) ≡ false → items es ≡ run (heard es) → items (es ++ Heard event ∷ ds) ≡ run (heard (es ++ Heard event ∷ ds))
+  shown-more : (es ds : List Effect) (event : Event) → CarriesOut (acts_of (step (after_all start (heard es)) event)) true ds → has_finish (script (heard es)) ≡ false → items es ≡ run (heard es) → items (es ++ Heard event ∷ ds) ≡ run (heard (es ++ Heard event ∷ ds))
   shown-more es ds event out unfinished in_order =
-      let acts = (step (after_all start (heard es)) event).acts in
+      let acts = (acts_of (step (after_all start (heard es)) event)) in
       let whole : out.going.done ≡ acts = sym (append-nil out.going.done) ∙ (ap (λ xs. out.going.done ++ xs) (sym (out.none_left refl)) ∙ out.going.parts) in
       items-more es ds event
       ∙ (ap (λ xs. xs ++ (Came event ∷ items ds)) in_order
@@ -276,8 +263,8 @@ module _ (cookie : Cookie) where
       ∙ sym (ap run (heard-more es ds event out.going.deaf) ∙ run_from-more start (heard es) event unfinished)))
 
   -- the run goes on
-  pub goes_on : (coming left after : Option (List Event)) (table next : Table) (n : ℕ) (es ds : List Effect) (event : Event) → Runs coming left table n es → TakesNext {E = ServeFault} left after (Ok event) → CarriesOut (step (after_all start (heard es)) event).acts true ds → Shows all_cut next (step (after_all start (heard es)) event).next → has_finish (step (after_all start (heard es)) event).acts ≡ false → Runs coming after next (suc n) (es ++ Heard event ∷ ds)
-  goes_on coming left after table next n es ds event runs takes out shows goes =
+  pub goes_on : (coming left after : Option (List Event)) (engine next : Engine) (n : ℕ) (es ds : List Effect) (event : Event) → Runs coming left engine n es → TakesNext {E = Halt} left after (Ok event) → CarriesOut (acts_of (step (after_all start (heard es)) event)) true ds → Shows all_cut next (step (after_all start (heard es)) event).next → has_finish (acts_of (step (after_all start (heard es)) event)) ≡ false → Runs coming after next (suc n) (es ++ Heard event ∷ ds)
+  goes_on coming left after engine next n es ds event runs takes out shows goes =
       let is_heard = heard-more es ds event out.going.deaf in
       record {
         shows = rw (is_heard, after_all-more start (heard es) event) shows;
@@ -285,7 +272,7 @@ module _ (cookie : Cookie) where
         unfinished = finish-more es ds event out.going.deaf runs.unfinished ∙ goes;
         all_done = done-more es ds event out runs.unfinished runs.all_done;
         in_order = shown-more es ds event out runs.unfinished runs.in_order;
-        on_script = more_on_script es ds event out.left (step_adds _ true ds out) runs.unfinished runs.all_done runs.on_script;
+        on_script = more_on_script es ds event out.left out.going runs.unfinished runs.all_done runs.on_script;
         brought = rw is_heard (brought_more coming left after (heard es) event runs.brought takes);
       }
 
@@ -310,12 +297,12 @@ module _ (cookie : Cookie) where
   fault_is_no_ok fault e = false≢true e
 
   -- the machine's own end
-  pub is_end : (coming left after : Option (List Event)) (table : Table) (n turns : ℕ) (es ds : List Effect) (event : Event) → n < turns → Runs coming left table n es → TakesNext {E = ServeFault} left after (Ok event) → CarriesOut (step (after_all start (heard es)) event).acts true ds → has_finish (step (after_all start (heard es)) event).acts ≡ true → Serves coming turns (Ok tt) (es ++ Heard event ∷ ds)
-  is_end coming left after table n turns es ds event in_turns runs takes out finishes =
+  pub is_end : (coming left after : Option (List Event)) (engine : Engine) (n turns : ℕ) (es ds : List Effect) (event : Event) → n < turns → Runs coming left engine n es → TakesNext {E = Halt} left after (Ok event) → CarriesOut (acts_of (step (after_all start (heard es)) event)) true ds → has_finish (acts_of (step (after_all start (heard es)) event)) ≡ true → Serves coming turns (Ok tt) (es ++ Heard event ∷ ds)
+  is_end coming left after engine n turns es ds event in_turns runs takes out finishes =
       let is_heard = heard-more es ds event out.going.deaf in
       record {
         carries = record {
-          on_script = more_on_script es ds event out.left (step_adds _ true ds out) runs.unfinished runs.all_done runs.on_script;
+          on_script = more_on_script es ds event out.left out.going runs.unfinished runs.all_done runs.on_script;
           all_done = λ e. done-more es ds event out runs.unfinished runs.all_done;
           ended = λ e. finish-more es ds event out.going.deaf runs.unfinished ∙ finishes;
         };
@@ -326,12 +313,12 @@ module _ (cookie : Cookie) where
       }
 
   -- a fault as an event was answered
-  pub is_cut_short : (coming left after : Option (List Event)) (table : Table) (n turns : ℕ) (es ds : List Effect) (event : Event) (fault : ServeFault) → (fault ≡ Spent → ⊥) → n < turns → Runs coming left table n es → TakesNext {E = ServeFault} left after (Ok event) → CarriesOut (step (after_all start (heard es)) event).acts false ds → Serves coming turns (Err fault) (es ++ Heard event ∷ ds)
-  is_cut_short coming left after table n turns es ds event fault apart in_turns runs takes out =
+  pub is_cut_short : (coming left after : Option (List Event)) (engine : Engine) (n turns : ℕ) (es ds : List Effect) (event : Event) (fault : ServeFault) → (fault ≡ Spent → ⊥) → n < turns → Runs coming left engine n es → TakesNext {E = Halt} left after (Ok event) → CarriesOut (acts_of (step (after_all start (heard es)) event)) false ds → Serves coming turns (Err fault) (es ++ Heard event ∷ ds)
+  is_cut_short coming left after engine n turns es ds event fault apart in_turns runs takes out =
       let is_heard = heard-more es ds event out.going.deaf in
       record {
         carries = record {
-          on_script = more_on_script es ds event out.left (step_adds _ false ds out) runs.unfinished runs.all_done runs.on_script;
+          on_script = more_on_script es ds event out.left out.going runs.unfinished runs.all_done runs.on_script;
           all_done = λ e. absurd (not_whole fault apart e);
           ended = λ e. absurd (fault_is_no_ok fault e);
         };
@@ -342,8 +329,8 @@ module _ (cookie : Cookie) where
       }
 
   -- no more came, for a fault of the links or for want of memory, or since the turns are spent
-  pub is_over : (coming left : Option (List Event)) (table : Table) (n turns : ℕ) (es : List Effect) (fault : ServeFault) → n ≤ turns → (fault ≡ Spent → n ≡ turns) → Runs coming left table n es → Serves coming turns (Err fault) es
-  is_over coming left table n turns es fault in_turns at_end runs = record {
+  pub is_over : (coming left : Option (List Event)) (engine : Engine) (n turns : ℕ) (es : List Effect) (fault : ServeFault) → n ≤ turns → (fault ≡ Spent → n ≡ turns) → Runs coming left engine n es → Serves coming turns (Err fault) es
+  is_over coming left engine n turns es fault in_turns at_end runs = record {
     carries = record {
       on_script = runs.on_script;
       all_done = λ e. runs.all_done;

@@ -13,7 +13,7 @@ use Rattle.ice_messages.specs.Reading.{decode_at}
 use Rattle.ice_messages.specs.declared.message.IceMessage.{IceMessage}
 use Rattle.ice_messages.specs.declared.message.IceMessage.TheVariants.{Error, ByteOrder}
 use Rattle.ice_setup.specs.Errors.{bad_minor, bad_state, bad_length, bad_value, bad_major, blame, opcode_values, wrong_byte}
-use Rattle.ice_setup.specs.Setup.{moved, refuses, endian_of, opcode_of}
+use Rattle.ice_setup.specs.Setup.{moved, refusal, connected, endian_of, opcode_of}
 use Rattle.ice_setup.specs.declared.errors.Offending.{Offending}
 use Rattle.ice_setup.specs.declared.states.AwaitOrder.{AwaitOrder}
 use Rattle.ice_setup.specs.declared.states.AnySetup.{AnySetup}
@@ -25,6 +25,7 @@ use Rattle.session_engine.specs.Streams.{Part, Whole, TooMuch}
 use Rattle.session_engine.specs.declared.messages.Message.{Message}
 use Rattle.session_engine.specs.declared.messages.Message.TheVariants.{Ice, Xsmp}
 use Rattle.session_engine.specs.declared.answers.Answer.{Answer}
+use Rattle.session_engine.specs.declared.answers.Outcome.{Outcome}
 use Rattle.session_engine.specs.declared.answers.Answer.TheVariants.{Stays, Closes}
 
 -- what an Error names of a frame
@@ -35,21 +36,46 @@ named_in bytes sequence = record { minor = slice_index bytes 1; sequence = seque
 abbrev pub stated_order : List ℕ → Endian
 stated_order bytes = if slice_index bytes 2 == 1 then Msb else Lsb
 
+-- the connection goes on from here, and the message, if any, goes back
+abbrev pub staying : AnySetup → Option Message → Outcome
+staying setup message = record { setup = setup; answer = Stays message }
+
+-- the message, if any, goes back, and the connection is closed
+abbrev pub closing : AnySetup → Option Message → Outcome
+closing setup message = record { setup = setup; answer = Closes message }
+
+-- A frame is refused: before ConnectionReply was sent that closes the connection.
+abbrev pub refused : AnySetup → ℕ → Offending → List ℕ → Outcome
+refused setup class offending values =
+    if connected setup then staying setup (Some (Ice (Error (refusal setup class offending values))))
+    else closing setup (Some (Ice (Error (refusal setup class offending values))))
+
+-- A client that wants to close is closed. As long as nobody can register, that holds of one that speaks XSMP too.
+abbrev pub outcome_of : AnySetup → Moved → Outcome
+outcome_of before (Goes setup message) = staying setup (option_map Ice message)
+outcome_of before (Ends message) = closing before (option_map Ice message)
+outcome_of before Close = closing before None
+outcome_of before (Ask setup) = closing setup None
+
+-- what a message of ICE brings
+abbrev pub message_outcome : AnySetup → IceMessage → ℕ → Outcome
+message_outcome setup message sequence = outcome_of setup (moved setup message sequence)
+
 -- The first frame is looked at byte by byte: it is ByteOrder, without a body, of an order with a meaning.
-abbrev pub first_moved : AwaitOrder → ℕ → List ℕ → Moved
-first_moved s sequence bytes =
-    if not (slice_index bytes 0 == 0 && slice_index bytes 1 == 1) then refuses (AtOrder s) bad_state (named_in bytes sequence) []
-    else if not (number Lsb 4 (drop 4 bytes) == 0) then refuses (AtOrder s) bad_length (named_in bytes sequence) []
-    else if nat_lt 1 (slice_index bytes 2) then refuses (AtOrder s) bad_value (named_in bytes sequence) (wrong_byte 2 bytes)
-    else moved (AtOrder s) (ByteOrder (stated_order bytes)) sequence
+abbrev pub first_outcome : AwaitOrder → ℕ → List ℕ → Outcome
+first_outcome s sequence bytes =
+    if not (slice_index bytes 0 == 0 && slice_index bytes 1 == 1) then refused (AtOrder s) bad_state (named_in bytes sequence) []
+    else if not (number Lsb 4 (drop 4 bytes) == 0) then refused (AtOrder s) bad_length (named_in bytes sequence) []
+    else if nat_lt 1 (slice_index bytes 2) then refused (AtOrder s) bad_value (named_in bytes sequence) (wrong_byte 2 bytes)
+    else message_outcome (AtOrder s) (ByteOrder (stated_order bytes)) sequence
 
 -- what reading a frame gave; reading as such wants no memory
-abbrev pub read_moved : AnySetup → ℕ → List ℕ → Result IceMessage DecodeRefusal → Moved
-read_moved setup sequence bytes (Ok message) = moved setup message sequence
-read_moved setup sequence bytes (Err BadMinor) = refuses setup bad_minor (named_in bytes sequence) []
-read_moved setup sequence bytes (Err BadLength) = refuses setup bad_length (named_in bytes sequence) []
-read_moved setup sequence bytes (Err (BadValue at len)) = refuses setup bad_value (named_in bytes sequence) (wrong_byte at bytes)
-read_moved setup sequence bytes (Err NoMemory) = Close
+abbrev pub read_outcome : AnySetup → ℕ → List ℕ → Result IceMessage DecodeRefusal → Outcome
+read_outcome setup sequence bytes (Ok message) = message_outcome setup message sequence
+read_outcome setup sequence bytes (Err BadMinor) = refused setup bad_minor (named_in bytes sequence) []
+read_outcome setup sequence bytes (Err BadLength) = refused setup bad_length (named_in bytes sequence) []
+read_outcome setup sequence bytes (Err (BadValue at len)) = refused setup bad_value (named_in bytes sequence) (wrong_byte at bytes)
+read_outcome setup sequence bytes (Err NoMemory) = closing setup None
 
 -- the client's messages of XSMP have this major opcode
 abbrev pub is_opcode : Option ℕ → ℕ → Bool
@@ -58,16 +84,16 @@ is_opcode (Some own) opcode = own == opcode
 
 -- A later frame: with minor opcode 0 it is taken silently, whatever else it is; then its major opcode is looked at, and then
 -- what it spells. As long as nobody can register, a message of XSMP closes its connection.
-abbrev pub later_moved : AnySetup → ℕ → Endian → List ℕ → Moved
-later_moved setup sequence e bytes =
-    if slice_index bytes 1 == 0 then Goes setup None
-    else if slice_index bytes 0 == 0 then read_moved setup sequence bytes (decode_at e bytes)
-    else if is_opcode (opcode_of setup) (slice_index bytes 0) then Close
-    else refuses setup bad_major (named_in bytes sequence) (opcode_values (slice_index bytes 0))
+abbrev pub later_outcome : AnySetup → ℕ → Endian → List ℕ → Outcome
+later_outcome setup sequence e bytes =
+    if slice_index bytes 1 == 0 then staying setup None
+    else if slice_index bytes 0 == 0 then read_outcome setup sequence bytes (decode_at e bytes)
+    else if is_opcode (opcode_of setup) (slice_index bytes 0) then closing setup None
+    else refused setup bad_major (named_in bytes sequence) (opcode_values (slice_index bytes 0))
 
-abbrev pub frame_moved : AnySetup → ℕ → WholeFrame → Moved
-frame_moved (AtOrder s) sequence frame = first_moved s sequence frame.bytes
-frame_moved setup sequence frame = later_moved setup sequence frame.endian frame.bytes
+abbrev pub frame_outcome : AnySetup → ℕ → WholeFrame → Outcome
+frame_outcome (AtOrder s) sequence frame = first_outcome s sequence frame.bytes
+frame_outcome setup sequence frame = later_outcome setup sequence frame.endian frame.bytes
 
 -- an Error about a header: of XSMP where the client's messages of XSMP have its major opcode, and else of ICE
 abbrev pub error_about : Bool → ErrorFields → Message
@@ -80,20 +106,9 @@ oversize_answer setup sequence header =
     if slice_index header 1 == 0 then Closes None
     else Closes (Some (error_about (is_opcode (opcode_of setup) (slice_index header 0)) (blame FatalToConnection bad_length (named_in header sequence) [])))
 
--- What a part brings: where its connection stands then, and what is done about it.
-pub record Outcome : Type 0 where
-  pub setup : AnySetup
-  pub answer : Answer
-
--- A client that wants to close is closed. As long as nobody can register, that holds of one that speaks XSMP too.
-abbrev pub outcome_of : AnySetup → Moved → Outcome
-outcome_of before (Goes setup message) = record { setup = setup; answer = Stays (option_map Ice message) }
-outcome_of before (Ends message) = record { setup = before; answer = Closes (option_map Ice message) }
-outcome_of before Close = record { setup = before; answer = Closes None }
-outcome_of before (Ask setup) = record { setup = setup; answer = Closes None }
-
+-- what a part brings
 abbrev pub outcome : AnySetup → ℕ → Part → Outcome
-outcome setup sequence (Whole frame) = outcome_of setup (frame_moved setup sequence frame)
+outcome setup sequence (Whole frame) = frame_outcome setup sequence frame
 outcome setup sequence (TooMuch header) = record { setup = setup; answer = oversize_answer setup sequence header }
 
 -- the number of a frame behind so many others: from 1 on, and after 4,294,967,295 comes 0
@@ -110,15 +125,6 @@ abbrev pub KeepsLive : Answer → Type 0
 KeepsLive (Stays message) = Unit {0}
 KeepsLive (Closes message) = ⊥
 
--- where a row stands after an answer: nowhere, once its connection is to be closed
-abbrev pub kept_by : Answer → AnySetup → Option AnySetup
-kept_by (Stays message) setup = Some setup
-kept_by (Closes message) setup = None
-
-abbrev pub kept : Outcome → Option AnySetup
-kept o = kept_by o.answer o.setup
-
 -- the order of the client's numbers is known
-abbrev pub is_ordered : Option AnySetup → Bool
-is_ordered None = false
-is_ordered (Some setup) = is_some (endian_of setup)
+abbrev pub is_ordered : AnySetup → Bool
+is_ordered setup = is_some (endian_of setup)

@@ -3,15 +3,13 @@ use Rattle.std.specs.Prelude.{◌≡◌, ◌≤◌, ℕ, zero, suc, Bool, true, 
 use Rattle.std.specs.List.{flat_map}
 use Rattle.sm_world.specs.Effects.{Sends, Shuts, Starts, Prints, heard, deeds, published}
 use Rattle.sm_world.specs.Events.{next_of}
-use Rattle.sm_world.specs.Outside.{Rose}
 use Rattle.sm_world.specs.declared.effects.Effect.{Effect}
 use Rattle.sm_world.specs.declared.effects.Effect.TheVariants.{Heard, Sent, Shut, Started, Wrote, Torn, Synced, SyncFailed, Published, Printed}
 use Rattle.sm_world.specs.declared.events.Event.{Event}
-use Rattle.sm_world.specs.declared.failures.Faults.{Faults}
-use Rattle.sm_world.specs.declared.failures.Failure.{Failure}
-use Rattle.sm_world.specs.declared.failures.Failure.TheVariants.{Failed, NoMemory as OutOfMemory}
 use Rattle.ice_cookie.specs.declared.cookies.Cookie.{Cookie}
-use Rattle.session_engine.specs.Machine.{Act, Item, Came, Did, script_of, run_of, deeds_in, has_finish}
+use Rattle.session_engine.specs.Acts.{deeds_in, has_finish}
+use Rattle.session_engine.specs.Machine.{Item, Came, Did, script_of, run_of}
+use Rattle.session_engine.specs.declared.acts.Act.{Act}
 use Rattle.session_engine.specs.declared.fault.ServeFault.{ServeFault}
 use Rattle.session_engine.specs.declared.fault.ServeFault.TheVariants.{LinkFault, Spent, NoMemory}
 
@@ -91,17 +89,6 @@ module _ (cookie : Cookie) where
     pub in_turns : length (heard effects) ≤ turns
     -- the turns are spent where so many events were heard and none ended the run
     pub spent : IsErrOf answer Spent → (length (heard effects) ≡ turns) × (has_finish (script (heard effects)) ≡ false)
-
--- why a call on the links did nothing, as a fault of the run
-abbrev pub fault_of : Failure → ServeFault
-fault_of Failed = LinkFault
-fault_of OutOfMemory = NoMemory
-
--- the device's fault comes only where its count rose
-abbrev pub HasCause : Faults → Faults → ServeFault → Type 0
-HasCause old new LinkFault = Rose old.links new.links
-HasCause old new Spent = Unit {0}
-HasCause old new NoMemory = Unit {0}
 
 -- Effects that do all but the acts that are left, and hear and publish nothing.
 pub record Going (all left : List Act) (effects : List Effect) : Type 0 where

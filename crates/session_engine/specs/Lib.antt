@@ -1,9 +1,11 @@
 pub mod Streams
 pub mod Messages
 pub mod Answers
+pub mod Acts
+pub mod Causes
 pub mod Cutting
 pub mod Machine
 pub mod Carries
 pub mod Places
-pub mod Rows
+pub mod Shown
 pub mod Turns

@@ -3,24 +3,30 @@ use Rattle.std.specs.Prelude.{ℕ, ◌+◌, length, nat_lt, Bool, true, false, L
 use Rattle.std.specs.List.{flat_map}
 use Rattle.sm_world.specs.declared.events.Event.{Event}
 use Rattle.sm_world.specs.declared.events.Event.TheVariants.{Joined, Piece, Gone, Operator, Tick, End}
-use Rattle.sm_world.specs.Effects.{Deed, Sends, Shuts}
+use Rattle.sm_world.specs.Effects.{Deed}
 use Rattle.ice_values.specs.declared.numbers.Endian.TheVariants.{Lsb}
 use Rattle.ice_cookie.specs.declared.cookies.Cookie.{Cookie}
 use Rattle.ice_setup.specs.declared.states.AnySetup.{AnySetup}
 use Rattle.ice_setup.specs.declared.states.AnySetup.TheVariants.{AwaitOrder as AtOrder}
 use Rattle.ice_messages.specs.declared.message.IceMessage.TheVariants.{ByteOrder}
-use Rattle.session_engine.specs.Answers.{Outcome, outcome, sequence_after}
-use Rattle.session_engine.specs.Messages.{spelled}
+use Rattle.session_engine.specs.Acts.{deeds_in, has_finish, answer_acts}
+use Rattle.session_engine.specs.Answers.{outcome, sequence_after}
 use Rattle.session_engine.specs.Streams.{Part, new_parts}
-use Rattle.session_engine.specs.declared.messages.Message.{Message}
+use Rattle.session_engine.specs.declared.acts.Act.{Act}
+use Rattle.session_engine.specs.declared.acts.Act.TheVariants.{Say, Shut, Finish}
 use Rattle.session_engine.specs.declared.messages.Message.TheVariants.{Ice}
 use Rattle.session_engine.specs.declared.answers.Answer.{Answer}
+use Rattle.session_engine.specs.declared.answers.Outcome.{Outcome}
 use Rattle.session_engine.specs.declared.answers.Answer.TheVariants.{Stays, Closes}
 
--- what the machine does: a deed, or the end of the run
-pub data Act : Type 0 where
-  Does : Deed → Act
-  Finish : Act
+-- what the machine notes, in its order: it took a part of a connection's stream, or it gave an act
+pub data Entry : Type 0 where
+  Took : ℕ → Part → Entry
+  Does : Act → Entry
+
+abbrev pub act_in : Entry → List Act
+act_in (Took c part) = []
+act_in (Does act) = act ∷ []
 
 -- a live connection: its number, all the bytes that came on it, how many parts of them were taken, and how far its set-up has come
 pub record Connection : Type 0 where
@@ -34,10 +40,14 @@ pub record Machine : Type 0 where
   pub cookie : Cookie
   pub connections : List Connection
 
--- what is done, and the machine afterwards
+-- what is noted, and the machine afterwards
 pub record Step : Type 0 where
-  pub acts : List Act
+  pub line : List Entry
   pub next : Machine
+
+-- the acts of a step
+abbrev pub acts_of : Step → List Act
+acts_of step = flat_map act_in step.line
 
 -- before anything came
 abbrev pub start : Cookie → Machine
@@ -73,37 +83,37 @@ counted setup k = record k { taken = k.taken + 1; setup = setup }
 
 -- nothing is done, and nothing changes but the machine
 abbrev pub stays : Machine → Step
-stays m = record { acts = []; next = m }
+stays m = record { line = []; next = m }
 
--- these acts, and then that step
-abbrev pub behind : List Act → Step → Step
-behind acts step = record { acts = acts ++ step.acts; next = step.next }
+-- these entries, and then that step
+abbrev pub behind : List Entry → Step → Step
+behind line step = record { line = line ++ step.line; next = step.next }
 
-abbrev pub sends : ℕ → Message → List Act
-sends c message = Does (Sends c (spelled message)) ∷ []
+-- a connection is no longer live
+abbrev pub parted : Machine → ℕ → Machine
+parted m c = record m { connections = without c m.connections }
 
--- a connection is closed, and no longer live
-abbrev pub shuts : Machine → ℕ → Step
-shuts m c = record { acts = Does (Shuts c) ∷ []; next = record m { connections = without c m.connections } }
+-- one more part of a connection was taken, behind which its set-up has come so far
+abbrev pub noted : Machine → ℕ → AnySetup → Machine
+noted m c setup = record m { connections = changed (counted setup) c m.connections }
 
--- what is said, if anything
-abbrev pub says : ℕ → Option Message → List Act
-says c None = []
-says c (Some message) = sends c message
+-- more bytes came on a connection
+abbrev pub fed_on : Machine → ℕ → List ℕ → Machine
+fed_on m c bytes = record m { connections = changed (fed_with bytes) c m.connections }
 
--- the answer to a part of the stream of a live connection
-abbrev pub answered : Machine → ℕ → Answer → Step
-answered m c (Stays message) = record { acts = says c message; next = m }
-answered m c (Closes message) = behind (says c message) (shuts m c)
+-- the machine behind an answer
+abbrev pub answered : Machine → ℕ → Answer → Machine
+answered m c (Stays message) = m
+answered m c (Closes message) = parted m c
 
 -- what a part brought is noted, and answered
-abbrev pub brought : Machine → ℕ → Outcome → Step
-brought m c o = answered (record m { connections = changed (counted o.setup) c m.connections }) c o.answer
+abbrev pub brought : Machine → ℕ → Part → Outcome → Step
+brought m c part o = record { line = Took c part ∷ map Does (answer_acts c o.answer); next = answered (noted m c o.setup) c o.answer }
 
 -- what follows a shut is dropped
 abbrev pub part_for : Machine → ℕ → Part → Option Connection → Step
 part_for m c part None = stays m
-part_for m c part (Some k) = brought m c (outcome k.setup (sequence_after k.taken) part)
+part_for m c part (Some k) = brought m c part (outcome k.setup (sequence_after k.taken) part)
 
 abbrev pub part_taken : Machine → ℕ → Part → Step
 part_taken m c part = part_for m c part (connection_of c m.connections)
@@ -111,43 +121,28 @@ part_taken m c part = part_for m c part (connection_of c m.connections)
 -- parts are taken one by one
 abbrev pub parts_taken : Machine → ℕ → List Part → Step
 parts_taken m c [] = stays m
-parts_taken m c (part ∷ parts) = behind (part_taken m c part).acts (parts_taken (part_taken m c part).next c parts)
+parts_taken m c (part ∷ parts) = behind (part_taken m c part).line (parts_taken (part_taken m c part).next c parts)
 
 -- a piece on a live connection brings the parts that it makes whole
 abbrev pub piece_for : Machine → ℕ → List ℕ → Option Connection → Step
 piece_for m c bytes None = stays m
-piece_for m c bytes (Some k) = parts_taken (record m { connections = changed (fed_with bytes) c m.connections }) c (new_parts k.stream bytes)
+piece_for m c bytes (Some k) = parts_taken (fed_on m c bytes) c (new_parts k.stream bytes)
 
 -- a new connection is sent the manager's ByteOrder, or closed at once where 64 are live
 abbrev pub join_for : Machine → ℕ → Option Connection → Step
 join_for m c None =
     if nat_lt (length m.connections) live_limit
-    then record { acts = sends c (Ice (ByteOrder Lsb)); next = record m { connections = m.connections ++ joined m.cookie c ∷ [] } }
-    else record { acts = Does (Shuts c) ∷ []; next = m }
+    then record { line = Does (Say c (Ice (ByteOrder Lsb))) ∷ []; next = record m { connections = m.connections ++ joined m.cookie c ∷ [] } }
+    else record { line = Does (Shut c) ∷ []; next = m }
 join_for m c (Some k) = stays m
 
 abbrev pub step : Machine → Event → Step
 step m (Joined c) = join_for m c (connection_of c m.connections)
 step m (Piece c bytes) = piece_for m c bytes (connection_of c m.connections)
-step m (Gone c) = stays (record m { connections = without c m.connections })
+step m (Gone c) = stays (parted m c)
 step m (Operator order) = stays m
 step m (Tick milliseconds) = stays m
-step m End = record { acts = Finish ∷ []; next = m }
-
-abbrev pub is_finish : Act → Bool
-is_finish (Does deed) = false
-is_finish Finish = true
-
-abbrev pub has_finish : List Act → Bool
-has_finish [] = false
-has_finish (act ∷ acts) = if is_finish act then true else has_finish acts
-
-abbrev pub deed_in : Act → List Deed
-deed_in (Does deed) = deed ∷ []
-deed_in Finish = []
-
-abbrev pub deeds_in : List Act → List Deed
-deeds_in acts = flat_map deed_in acts
+step m End = record { line = Does Finish ∷ []; next = m }
 
 -- the machine after these events
 abbrev pub after_all : Machine → List Event → Machine
@@ -157,7 +152,7 @@ after_all m (event ∷ events) = after_all (step m event).next events
 -- The acts that the machine gives for a list of events. After Finish nothing follows.
 abbrev pub script_from : Machine → List Event → List Act
 script_from m [] = []
-script_from m (event ∷ events) = (step m event).acts ++ (if has_finish (step m event).acts then [] else script_from (step m event).next events)
+script_from m (event ∷ events) = acts_of (step m event) ++ (if has_finish (acts_of (step m event)) then [] else script_from (step m event).next events)
 
 abbrev pub script_of : Cookie → List Event → List Act
 script_of cookie events = script_from (start cookie) events
@@ -169,7 +164,7 @@ pub data Item : Type 0 where
 
 abbrev pub run_from : Machine → List Event → List Item
 run_from m [] = []
-run_from m (event ∷ events) = Came event ∷ (map Did (deeds_in (step m event).acts) ++ (if has_finish (step m event).acts then [] else run_from (step m event).next events))
+run_from m (event ∷ events) = Came event ∷ (map Did (deeds_in (acts_of (step m event))) ++ (if has_finish (acts_of (step m event)) then [] else run_from (step m event).next events))
 
 -- each event followed by its deeds, up to the end of the run
 abbrev pub run_of : Cookie → List Event → List Item

@@ -1,11 +1,10 @@
-ghost use Rattle.std.specs.Prelude.{◌≡◌, ◌≤◌, length, take, slice_index, true, IfOk};
-ghost use Rattle.ice_messages.specs.Messages.{IsFrame, IsTooLong};
+ghost use Rattle.std.specs.Prelude.{◌≡◌, ◌≤◌, ◌%◌, length, take, slice_index, true, IfOk};
+ghost use Rattle.ice_messages.specs.Messages.{IsFrame};
 ghost use Rattle.ice_messages.specs.Reading.{decode_at};
 ghost use Rattle.ice_framing.specs.Frames.{byte_limit};
 ghost use Rattle.ice_values.specs.declared.numbers.Endian.{Endian as AnyEndian};
-ghost use Rattle.ice_setup.specs.Setup.{moved as moved_by, CanBeSaid as MovesWithin};
-ghost use Rattle.ice_setup.specs.declared.states.AnySetup.{AnySetup as State};
-ghost use Rattle.session_engine.specs.Answers.{named_in, first_moved, read_moved, later_moved, frame_moved, is_opcode as is_opcode_of, is_ordered, error_about as error_about_of, oversize_answer, outcome_of, said_in, kept};
+ghost use Rattle.ice_setup.specs.Setup.{HasFittingBody, CanBeSaid as MovesWithin};
+ghost use Rattle.session_engine.specs.Answers.{named_in, outcome_of, message_outcome, refused, first_outcome, read_outcome, later_outcome, frame_outcome, is_opcode as is_opcode_of, is_ordered, error_about as error_about_of, oversize_answer, said_in};
 ghost use Rattle.session_engine.specs.Messages.{CanBeSaid};
 
 use crate::messages::Message;
@@ -13,7 +12,7 @@ use ice_framing::{Frame, Splitter};
 use ice_messages::{IceMessage, decode_ice};
 use ice_setup::{
     AnySetup, AwaitOrder, BAD_LENGTH, BAD_MAJOR, BAD_MINOR, BAD_STATE, BAD_VALUE, Moved, Offending,
-    error_of, opcode_values, refuse, wrong_byte_values,
+    error_of, opcode_values, refusal, wrong_byte_values,
 };
 use ice_values::{DecodeRefusal, Endian, ErrorBody, Severity, read_card32};
 use sm_world::{NoMemory, Octets};
@@ -29,6 +28,14 @@ pub enum Answer {
     Closes(Option<Message>),
 }
 
+/// What a part of a client's stream brings.
+#[derive(Debug, Drop)]
+pub struct Outcome {
+    /// How far the connection's set-up has come then.
+    pub setup: AnySetup,
+    pub answer: Answer,
+}
+
 /// What an Error names of a frame.
 fn named(sequence: u32, frame: &[u8]) -> Offending
     requires { 8 ≤ length frame.now }
@@ -40,19 +47,54 @@ fn named(sequence: u32, frame: &[u8]) -> Offending
     }
 }
 
-/// Takes a message of ICE. Where memory is wanting, the connection has no state any more.
+/// What the set-up brings, as an outcome. A client that wants to close is closed.
+fn settle(before: AnySetup, moved: Moved) -> Outcome
+    ensures outcome { result ≡ outcome_of before moved }
+    ensures said { MovesWithin moved → CanBeSaid (said_in result.answer) }
+{
+    let (setup, answer) = match moved {
+        Moved::Goes(setup, message) => (setup, Answer::Stays(message.map(Message::Ice))),
+        Moved::Ends(message) => (before, Answer::Closes(message.map(Message::Ice))),
+        Moved::Close => (before, Answer::Closes(None)),
+        Moved::Ask(setup) => (setup, Answer::Closes(None)),
+    };
+    Outcome { setup, answer }
+}
+
+/// Takes a message of ICE.
 fn take_message(
     alloc: Global,
     setup: AnySetup,
     sequence: u32,
     message: IceMessage,
-) -> Result<Moved, NoMemory>
-    ensures moved { IfOk result (λ moved. moved ≡ moved_by setup message sequence) }
-    ensures said { (e : AnyEndian) → ¬ (IsTooLong e message) → IfOk result MovesWithin }
+) -> Result<Outcome, NoMemory>
+    ensures outcome { IfOk result (λ outcome. outcome ≡ message_outcome setup message sequence) }
+    ensures said { (e : AnyEndian) → HasFittingBody e message → IfOk result (λ outcome. CanBeSaid (said_in outcome.answer)) }
 {
     match setup.take(alloc, message, sequence) {
-        Ok(moved) => Ok(moved),
+        Ok(moved) => Ok(settle(setup, moved)),
         Err((_, NoMemory)) => Err(NoMemory),
+    }
+}
+
+/// Refuses a frame, with values that fill units of 8 bytes. Before ConnectionReply was sent that
+/// closes the connection.
+fn refuse(setup: AnySetup, class: u16, offending: Offending, values: Octets) -> Outcome
+    requires units { length values % 8 ≡ 0 }
+    requires few { length values ≤ 65528 }
+    ensures outcome { result ≡ refused setup class offending values }
+    ensures said { CanBeSaid (said_in result.answer) }
+{
+    let error = Message::Ice(IceMessage::Error(refusal(&setup, class, offending, values)));
+    if setup.connected() {
+        return Outcome {
+            setup,
+            answer: Answer::Stays(Some(error)),
+        };
+    }
+    Outcome {
+        setup,
+        answer: Answer::Closes(Some(error)),
     }
 }
 
@@ -62,10 +104,10 @@ fn take_first(
     state: AwaitOrder,
     sequence: u32,
     frame: &[u8],
-) -> Result<Moved, NoMemory>
+) -> Result<Outcome, NoMemory>
     requires { 8 ≤ length frame.now }
-    ensures moved { IfOk result (λ moved. moved ≡ first_moved state sequence frame.now) }
-    ensures said { IfOk result MovesWithin }
+    ensures outcome { IfOk result (λ outcome. outcome ≡ first_outcome state sequence frame.now) }
+    ensures said { IfOk result (λ outcome. CanBeSaid (said_in outcome.answer)) }
 {
     let offending = named(sequence, frame);
     let setup = AnySetup::AwaitOrder(state);
@@ -94,12 +136,12 @@ fn take_ice(
     sequence: u32,
     endian: Endian,
     frame: &[u8],
-) -> Result<Moved, NoMemory>
+) -> Result<Outcome, NoMemory>
     requires whole { IsFrame endian frame.now }
     requires within { length frame.now ≤ byte_limit }
     requires opcode { slice_index frame.now 0 ≡ 0 }
-    ensures moved { IfOk result (λ moved. moved ≡ read_moved setup sequence frame.now (decode_at endian frame.now)) }
-    ensures said { IfOk result MovesWithin }
+    ensures outcome { IfOk result (λ outcome. outcome ≡ read_outcome setup sequence frame.now (decode_at endian frame.now)) }
+    ensures said { IfOk result (λ outcome. CanBeSaid (said_in outcome.answer)) }
 {
     let offending = named(sequence, frame);
     match decode_ice(alloc, endian, frame) {
@@ -135,21 +177,27 @@ fn take_later(
     sequence: u32,
     endian: Endian,
     frame: &[u8],
-) -> Result<Moved, NoMemory>
+) -> Result<Outcome, NoMemory>
     requires whole { IsFrame endian frame.now }
     requires within { length frame.now ≤ byte_limit }
-    ensures moved { IfOk result (λ moved. moved ≡ later_moved setup sequence endian frame.now) }
-    ensures said { IfOk result MovesWithin }
+    ensures outcome { IfOk result (λ outcome. outcome ≡ later_outcome setup sequence endian frame.now) }
+    ensures said { IfOk result (λ outcome. CanBeSaid (said_in outcome.answer)) }
 {
     let (opcode, minor) = (frame[0], frame[1]);
     if minor == 0 {
-        return Ok(Moved::Goes(setup, None));
+        return Ok(Outcome {
+            setup,
+            answer: Answer::Stays(None),
+        });
     }
     if opcode == 0 {
         return take_ice(alloc, setup, sequence, endian, frame);
     }
     if is_opcode(setup.client_opcode(), opcode) {
-        return Ok(Moved::Close);
+        return Ok(Outcome {
+            setup,
+            answer: Answer::Closes(None),
+        });
     }
     let values = opcode_values(alloc, opcode)?;
     Ok(refuse(setup, BAD_MAJOR, named(sequence, frame), values))
@@ -161,31 +209,16 @@ pub fn take_frame(
     setup: AnySetup,
     sequence: u32,
     frame: Frame<'_>,
-) -> Result<Moved, NoMemory>
+) -> Result<Outcome, NoMemory>
     requires header { 8 ≤ length frame.bytes.now }
-    requires whole { is_ordered (Some setup) ≡ true → IsFrame frame.endian frame.bytes.now }
+    requires whole { is_ordered setup ≡ true → IsFrame frame.endian frame.bytes.now }
     requires within { length frame.bytes.now ≤ byte_limit }
-    ensures moved { IfOk result (λ moved. moved ≡ frame_moved setup sequence (record { endian = frame.entry.endian; bytes = frame.entry.bytes.now })) }
-    ensures said { IfOk result MovesWithin }
+    ensures outcome { IfOk result (λ outcome. outcome ≡ frame_outcome setup sequence (record { endian = frame.entry.endian; bytes = frame.entry.bytes.now })) }
+    ensures said { IfOk result (λ outcome. CanBeSaid (said_in outcome.answer)) }
 {
     match setup {
         AnySetup::AwaitOrder(state) => take_first(alloc, state, sequence, frame.bytes),
         setup => take_later(alloc, setup, sequence, frame.endian, frame.bytes),
-    }
-}
-
-/// Where the row of a connection stands behind a whole frame, nowhere once the connection is to be
-/// closed, and how the frame is answered. A client that wants to close is closed.
-pub fn settle(moved: Moved) -> (Option<AnySetup>, Answer)
-    ensures answer { (before : State) → result.1 ≡ (outcome_of before moved).answer }
-    ensures setup { (before : State) → result.0 ≡ kept (outcome_of before moved) }
-    ensures said { MovesWithin moved → CanBeSaid (said_in result.1) }
-{
-    match moved {
-        Moved::Goes(setup, message) => (Some(setup), Answer::Stays(message.map(Message::Ice))),
-        Moved::Ends(message) => (None, Answer::Closes(message.map(Message::Ice))),
-        Moved::Close => (None, Answer::Closes(None)),
-        Moved::Ask(_) => (None, Answer::Closes(None)),
     }
 }
 

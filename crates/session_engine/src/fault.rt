@@ -1,7 +1,7 @@
 ghost use Rattle.std.specs.Prelude.{◌≡◌};
-ghost use Rattle.session_engine.specs.declared.fault.ServeFault.TheVariants.{NoMemory as OutOfMemory};
+ghost use Rattle.session_engine.specs.Causes.{fault_of, halt_of};
 
-use sm_world::NoMemory;
+use sm_world::Failure;
 use thiserror::Error;
 
 /// Why a run ended before its time.
@@ -13,14 +13,36 @@ pub enum ServeFault {
     /// So many events were heard as were granted.
     #[error("turns spent")]
     Spent,
-    #[error("no memory")]
+    #[error("out of memory")]
     NoMemory,
 }
 
-impl From<NoMemory> for ServeFault {
-    ghost from_gives = { λ _ fault. fault ≡ OutOfMemory };
+/// Why what an event brings isn't done to its end.
+#[derive(Clone, Copy, Debug, PartialEq, Eq)]
+pub enum Halt {
+    /// The links refused.
+    Links,
+    NoMemory,
+}
 
-    fn from(_error: NoMemory) -> ServeFault {
-        ServeFault::NoMemory
+impl Halt {
+    /// The fault of the run that it ends.
+    pub fn fault(self) -> ServeFault
+        ensures { result ≡ fault_of self }
+    {
+        match self {
+            Halt::Links => ServeFault::LinkFault,
+            Halt::NoMemory => ServeFault::NoMemory,
+        }
+    }
+}
+
+/// Why a call on the links did nothing.
+pub fn link_halt(failure: Failure) -> Halt
+    ensures { result ≡ halt_of failure }
+{
+    match failure {
+        Failure::Failed => Halt::Links,
+        Failure::NoMemory => Halt::NoMemory,
     }
 }

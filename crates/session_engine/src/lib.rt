@@ -1,16 +1,20 @@
 //! The session machine over a world: what comes in is answered, one event at a time.
 #![tactic(auto)]
 
+mod act_list;
+mod acts;
 mod answers;
-mod devices;
+mod connection;
+mod engine;
 mod fault;
 mod laws;
+mod live;
 mod messages;
-mod row;
 mod serving;
-mod table;
+mod shell;
 
-pub use answers::Answer;
+pub use acts::Act;
+pub use answers::{Answer, Outcome};
 pub use fault::ServeFault;
 pub use laws::at_most_64_live;
 pub use messages::Message;

@@ -1,120 +1,122 @@
-ghost use Rattle.std.specs.Prelude.{◌≡◌, ◌≢◌, is_ok, IfOk, IfErr};
-ghost use Rattle.sm_world.specs.declared.events.Event.TheVariants.{Joined, Piece};
-ghost use Rattle.session_engine.specs.Answers.{said_in};
-ghost use Rattle.session_engine.specs.Messages.{CanBeSaid};
+ghost use Rattle.std.specs.Prelude.{◌≡◌, is_ok, IfOk, IfErr};
+ghost use Rattle.std.specs.List.{AllByRecursion};
 ghost use Rattle.sm_world.specs.Outside.{Added, NotFallen};
-ghost use Rattle.session_engine.specs.Carries.{Serves, HasCause};
-ghost use Rattle.session_engine.specs.Machine.{Machine, answered, step, has_finish};
-ghost use Rattle.session_engine.specs.Rows.{Shows, ShowsFor, Carried, KeepsHeld, all_cut};
-ghost use Rattle.session_engine.specs.Turns.{is_end};
+ghost use Rattle.sm_world.specs.declared.events.Event.TheVariants.{Joined, Piece};
+ghost use Rattle.session_engine.specs.Acts.{CanBeDone, is_finish, has_finish};
+ghost use Rattle.session_engine.specs.Carries.{CarriesOut, Serves};
+ghost use Rattle.session_engine.specs.Causes.{HearsNone, HasCause};
+ghost use Rattle.session_engine.specs.Machine.{Machine, acts_of, step};
+ghost use Rattle.session_engine.specs.Shown.{Shows, Carried, all_cut};
+ghost use Rattle.session_engine.specs.Turns.{is_end, either};
 
-use crate::ServeFault;
-use crate::answers::Answer;
-use crate::devices::{hear, send, shut};
-use crate::messages::Message;
-use crate::table::Table;
+use crate::acts::Act;
+use crate::engine::Engine;
+use crate::fault::{Halt, ServeFault};
+use crate::shell::{Shell, hear};
 use ice_cookie::Cookie;
-use ice_messages::IceMessage;
-use ice_values::Endian;
 use sm_world::{Conn, Console, Event, Links, NoMemory};
 use std::alloc::Global;
 
-/// Whether the run goes on after an event.
+/// Whether the run goes on after some acts.
 #[derive(Clone, Copy, Debug, PartialEq, Eq)]
 pub enum Turn {
     GoesOn,
     Ended,
 }
 
-/// Does what the answer to a part of the stream says.
-fn perform<W: Links>(
-    alloc: Global,
-    world: &mut W,
-    table: &mut Table,
-    conn: Conn,
-    answer: Answer,
-) -> Result<(), ServeFault>
-    requires { CanBeSaid (said_in answer) }
-    ensures carried { (m : Machine) (pending : _) → ShowsFor answer conn pending table.old m → Carried pending (W.outside world.old).told (W.outside world.new).told table.new (answered m conn answer) (is_ok result) }
-    ensures held { KeepsHeld table.old table.new }
-    ensures coming { (W.outside world.new).coming ≡ (W.outside world.old).coming }
-    ensures counts { NotFallen (W.outside world.old).faults (W.outside world.new).faults }
-    ensures cause { IfErr result (HasCause (W.outside world.old).faults (W.outside world.new).faults) }
-    ensures not_spent { result ≢ Err ServeFault.Spent }
-{
-    match answer {
-        Answer::Stays(None) => Ok(()),
-        Answer::Stays(Some(message)) => send(alloc, world, conn, &message),
-        Answer::Closes(None) => {
-            table.leave(conn);
-            shut(world, conn)
-        }
-        Answer::Closes(Some(message)) => {
-            table.leave(conn);
-            match send(alloc, world, conn, &message) {
-                Ok(()) => shut(world, conn),
-                Err(fault) => Err(fault),
-            }
+impl Turn {
+    /// The run ends where one of both ends it.
+    fn and(self, other: Turn) -> Turn
+        ensures { is_end result ≡ either (is_end self) (is_end other) }
+    {
+        match self {
+            Turn::GoesOn => other,
+            Turn::Ended => Turn::Ended,
         }
     }
 }
 
-/// Answers the frames that a piece completes, one by one. What follows a shut is dropped.
+/// Whether an act ends the run.
+fn ends(act: &Act) -> bool
+    ensures { result ≡ is_finish act.now }
+{
+    match act {
+        Act::Say(_, _) => false,
+        Act::Shut(_) => false,
+        Act::Finish => true,
+    }
+}
+
+/// Whether one of these acts ends the run.
+fn turn_of(acts: &[Act]) -> Turn
+    ensures { is_end result ≡ has_finish acts.now }
+{
+    for act in acts {
+        if ends(act) {
+            return Turn::Ended;
+        }
+    }
+    Turn::GoesOn
+}
+
+/// Does acts, and says whether one of them ends the run.
+fn carry_out<W: Links>(world: &mut W, shell: &mut Shell, acts: &[Act]) -> Result<Turn, Halt>
+    requires { AllByRecursion CanBeDone acts.now }
+    ensures done { Added (W.outside world.old).told (W.outside world.new).told (CarriesOut acts.now (is_ok result)) }
+    ensures turn { IfOk result (λ turn. is_end turn ≡ has_finish acts.now) }
+    ensures alone { HearsNone (W.outside world.old) (W.outside world.new) result }
+{
+    match shell.perform(world, acts) {
+        Ok(()) => Ok(turn_of(acts)),
+        Err(halt) => Err(halt),
+    }
+}
+
+/// Does what the parts of the stream bring that a piece completes, one by one.
 fn take_piece<W: Links>(
     alloc: Global,
     world: &mut W,
-    table: &mut Table,
+    engine: &mut Engine,
+    shell: &mut Shell,
     conn: Conn,
     bytes: &[u8],
-) -> Result<(), ServeFault>
-    ensures carried { (m : Machine) → Shows all_cut table.old m → Carried all_cut (W.outside world.old).told (W.outside world.new).told table.new (step m (Piece conn bytes.now)) (is_ok result) }
-    ensures coming { (W.outside world.new).coming ≡ (W.outside world.old).coming }
-    ensures counts { NotFallen (W.outside world.old).faults (W.outside world.new).faults }
-    ensures cause { IfErr result (HasCause (W.outside world.old).faults (W.outside world.new).faults) }
-    ensures not_spent { result ≢ Err ServeFault.Spent }
+) -> Result<Turn, Halt>
+    ensures carried { (m : Machine) → Shows all_cut engine.old m → Carried (W.outside world.old).told (W.outside world.new).told engine.new (step m (Piece conn bytes.now)) (is_ok result) }
+    ensures turn { (m : Machine) → Shows all_cut engine.old m → IfOk result (λ turn. is_end turn ≡ has_finish (acts_of (step m (Piece conn bytes.now)))) }
+    ensures alone { HearsNone (W.outside world.old) (W.outside world.new) result }
 {
     let mut left = bytes;
+    let mut turn = Turn::GoesOn;
     loop {
-        match table.cut(alloc, conn, left) {
-            Ok(None) => return Ok(()),
-            Ok(Some(part)) => {
-                left = &left[part.taken..];
-                match perform(alloc, world, table, conn, part.answer) {
-                    Ok(()) => {}
-                    Err(fault) => return Err(fault),
+        match engine.cut(alloc, conn, left) {
+            Ok(None) => return Ok(turn),
+            Ok(Some(count)) => {
+                left = &left[count..];
+                match carry_out(world, shell, engine.acts()) {
+                    Ok(last) => turn = turn.and(last),
+                    Err(halt) => return Err(halt),
                 }
             }
-            Err(NoMemory) => return Err(ServeFault::NoMemory),
+            Err(NoMemory) => return Err(Halt::NoMemory),
         }
     }
 }
 
-/// Sends a new connection the manager's order. Where as many are live as can be, it is closed.
-fn join<W: Links>(
+/// Does what a new connection brings.
+fn take_join<W: Links>(
     alloc: Global,
     world: &mut W,
-    table: &mut Table,
-    cookie: Cookie,
+    engine: &mut Engine,
+    shell: &mut Shell,
     conn: Conn,
-) -> Result<(), ServeFault>
-    ensures carried { (m : Machine) → m.cookie ≡ cookie → Shows all_cut table.old m → Carried all_cut (W.outside world.old).told (W.outside world.new).told table.new (step m (Joined conn)) (is_ok result) }
-    ensures coming { (W.outside world.new).coming ≡ (W.outside world.old).coming }
-    ensures counts { NotFallen (W.outside world.old).faults (W.outside world.new).faults }
-    ensures cause { IfErr result (HasCause (W.outside world.old).faults (W.outside world.new).faults) }
-    ensures not_spent { result ≢ Err ServeFault.Spent }
+) -> Result<Turn, Halt>
+    ensures carried { (m : Machine) → Shows all_cut engine.old m → Carried (W.outside world.old).told (W.outside world.new).told engine.new (step m (Joined conn)) (is_ok result) }
+    ensures turn { (m : Machine) → Shows all_cut engine.old m → IfOk result (λ turn. is_end turn ≡ has_finish (acts_of (step m (Joined conn)))) }
+    ensures alone { HearsNone (W.outside world.old) (W.outside world.new) result }
 {
-    if table.is_live(conn) {
-        return Ok(());
-    }
-    if table.is_full() {
-        return shut(world, conn);
-    }
-    match table.join(alloc, cookie, conn) {
-        Ok(()) => {
-            let order = Message::Ice(IceMessage::ByteOrder(Endian::Lsb));
-            send(alloc, world, conn, &order)
-        }
-        Err(NoMemory) => Err(ServeFault::NoMemory),
+    match engine.join(alloc, conn) {
+        Ok(()) => carry_out(world, shell, engine.acts()),
+        Err(NoMemory) => Err(Halt::NoMemory),
     }
 }
 
@@ -122,34 +124,26 @@ fn join<W: Links>(
 fn take_event<W: Links>(
     alloc: Global,
     world: &mut W,
-    table: &mut Table,
-    cookie: Cookie,
+    engine: &mut Engine,
+    shell: &mut Shell,
     event: &Event,
-) -> Result<Turn, ServeFault>
-    ensures carried { (m : Machine) → m.cookie ≡ cookie → Shows all_cut table.old m → Carried all_cut (W.outside world.old).told (W.outside world.new).told table.new (step m event.now) (is_ok result) }
-    ensures ended { IfOk result (λ turn. (m : Machine) → m.cookie ≡ cookie → Shows all_cut table.old m → has_finish (step m event.now).acts ≡ is_end turn) }
-    ensures coming { (W.outside world.new).coming ≡ (W.outside world.old).coming }
-    ensures counts { NotFallen (W.outside world.old).faults (W.outside world.new).faults }
-    ensures cause { IfErr result (HasCause (W.outside world.old).faults (W.outside world.new).faults) }
-    ensures not_spent { result ≢ Err ServeFault.Spent }
+) -> Result<Turn, Halt>
+    ensures carried { (m : Machine) → Shows all_cut engine.old m → Carried (W.outside world.old).told (W.outside world.new).told engine.new (step m event.now) (is_ok result) }
+    ensures turn { (m : Machine) → Shows all_cut engine.old m → IfOk result (λ turn. is_end turn ≡ has_finish (acts_of (step m event.now))) }
+    ensures alone { HearsNone (W.outside world.old) (W.outside world.new) result }
 {
     match event {
-        Event::Joined(conn) => match join(alloc, world, table, cookie, *conn) {
-            Ok(()) => Ok(Turn::GoesOn),
-            Err(fault) => Err(fault),
-        },
+        Event::Joined(conn) => take_join(alloc, world, engine, shell, *conn),
         Event::Piece(conn, bytes) => {
-            match take_piece(alloc, world, table, *conn, bytes.as_slice()) {
-                Ok(()) => Ok(Turn::GoesOn),
-                Err(fault) => Err(fault),
-            }
+            take_piece(alloc, world, engine, shell, *conn, bytes.as_slice())
         }
         Event::Gone(conn) => {
-            table.leave(*conn);
-            Ok(Turn::GoesOn)
+            engine.leave(*conn);
+            carry_out(world, shell, engine.acts())
         }
-        Event::Operator(_) | Event::Tick(_) => Ok(Turn::GoesOn),
-        Event::End => Ok(Turn::Ended),
+        Event::Operator(_) => Ok(Turn::GoesOn),
+        Event::Tick(_) => Ok(Turn::GoesOn),
+        Event::End => carry_out(world, shell, &[Act::Finish]),
     }
 }
 
@@ -165,16 +159,17 @@ pub fn serve<W: Links + Console>(
     ensures counts { NotFallen (W.outside world.old).faults (W.outside world.new).faults }
     ensures cause { IfErr result (HasCause (W.outside world.old).faults (W.outside world.new).faults) }
 {
-    let mut table = Table::new(alloc);
+    let mut engine = Engine::new(alloc, cookie);
+    let mut shell = Shell::new(alloc);
     for _ in 0..turns {
         let event = match hear(world) {
             Ok(event) => event,
-            Err(fault) => return Err(fault),
+            Err(halt) => return Err(halt.fault()),
         };
-        match take_event(alloc, world, &mut table, cookie, &event) {
+        match take_event(alloc, world, &mut engine, &mut shell, &event) {
             Ok(Turn::GoesOn) => {}
             Ok(Turn::Ended) => return Ok(()),
-            Err(fault) => return Err(fault),
+            Err(halt) => return Err(halt.fault()),
         }
     }
     Err(ServeFault::Spent)

@@ -6,7 +6,9 @@ use Rattle.std.proofs.lemmas.Bool.{cases_lt, false≢true}
 use Rattle.sm_world.specs.declared.events.Event.{Event}
 use Rattle.sm_world.specs.declared.events.Event.TheVariants.{End}
 use Rattle.session_engine.specs.Carries.{next_events}
-use Rattle.session_engine.specs.Machine.{Act, Machine, Came, Did, Item, start as start_with, step, script_from, run_from, deeds_in, has_finish}
+use Rattle.session_engine.specs.Acts.{deeds_in, has_finish}
+use Rattle.session_engine.specs.Machine.{Machine, Came, Did, Item, acts_of, start as start_with, step, script_from, run_from}
+use Rattle.session_engine.specs.declared.acts.Act.{Act}
 use Rattle.session_engine.specs.Carries.{script as script_with, run as run_with}
 use Rattle.session_engine.proofs.Running.{has_finish-append}
 use Rattle.smd_app.specs.Rehearsals.{rehearsal_cookie, with_end, ends_within}
@@ -34,7 +36,7 @@ pub script_stops : (m : Machine) (xs ys : List Event) → has_finish (script_fro
 script_stops m [] ys e = absurd (false≢true e)
 script_stops m (x ∷ xs) ys e =
     let next = (step m x).next in
-    let acts = (step m x).acts in
+    let acts = acts_of (step m x) in
     same_rest (has_finish acts) acts (script_from next (xs ++ ys)) (script_from next xs)
     (λ unfinished. script_stops next xs ys (later_finish (has_finish acts) (script_from next xs) (sym (has_finish-append acts (if has_finish acts then [] else script_from next xs)) ∙ e) unfinished))
 
@@ -42,7 +44,7 @@ pub run_stops : (m : Machine) (xs ys : List Event) → has_finish (script_from m
 run_stops m [] ys e = absurd (false≢true e)
 run_stops m (x ∷ xs) ys e =
     let next = (step m x).next in
-    let acts = (step m x).acts in
+    let acts = acts_of (step m x) in
     ap (λ is. Came x ∷ is) (same_rest (has_finish acts) (map Did (deeds_in acts)) (run_from next (xs ++ ys)) (run_from next xs)
     (λ unfinished. run_stops next xs ys (later_finish (has_finish acts) (script_from next xs) (sym (has_finish-append acts (if has_finish acts then [] else script_from next xs)) ∙ e) unfinished)))
 
@@ -55,7 +57,7 @@ pub end_finishes : (m : Machine) (events : List Event) → has_finish (script_fr
 end_finishes m [] = refl
 end_finishes m (x ∷ xs) =
     let next = (step m x).next in
-    let acts = (step m x).acts in
+    let acts = acts_of (step m x) in
     has_finish-append acts (if has_finish acts then [] else script_from next (with_end xs)) ∙ either_way (has_finish acts) (script_from next (with_end xs)) (end_finishes next xs)
 
 -- the first events to come, as far as one End

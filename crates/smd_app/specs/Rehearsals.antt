@@ -4,7 +4,7 @@ use Rattle.sm_world.specs.declared.events.Event.{Event}
 use Rattle.sm_world.specs.declared.events.Event.TheVariants.{End}
 use Rattle.ice_cookie.specs.declared.cookies.Cookie.{Cookie}
 use Rattle.session_engine.specs.Carries.{script, run}
-use Rattle.session_engine.specs.Machine.{has_finish}
+use Rattle.session_engine.specs.Acts.{has_finish}
 use Rattle.control_lines.specs.Input.{front}
 use Rattle.smd_app.specs.Script.{ScriptSays}
 use Rattle.smd_app.specs.Trace.{text}

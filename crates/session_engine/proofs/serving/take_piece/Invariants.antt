@@ -2,17 +2,17 @@ use Rattle.std.proofs.Common.{◌≡◌, length}
 use Rattle.sm_world.specs.declared.events.Event.TheVariants.{Piece}
 use Rattle.sm_world.specs.Outside.{NotFallen}
 use Rattle.session_engine.specs.Machine.{Machine, step}
-use Rattle.session_engine.specs.Rows.{Shows, all_cut}
+use Rattle.session_engine.specs.Shown.{Shows, all_cut}
 use Rattle.session_engine.proofs.Pieces.{Taking}
 use Rattle.session_engine.proofs.serving.take_piece.Given as goal
 
--- for each machine that the table showed before the piece
-abbrev pub invariant-loop-part : goal.invariant-loop-part
-invariant-loop-part g l = record {
-  taking : (m : Machine) → Shows all_cut l.fn.table m → Taking (step m (Piece l.conn l.bytes)) l.conn l.left (g.W.Told.outside l.fn.world).told (g.W.Told.outside l.world).told l.table;
+-- for each machine that the session showed before the piece
+abbrev pub invariant-loop-count : goal.invariant-loop-count
+invariant-loop-count g l = record {
+  taking : (m : Machine) → Shows all_cut l.fn.engine m → Taking (step m (Piece l.conn l.bytes)) l.conn l.left (g.W.Told.outside l.fn.world).told (g.W.Told.outside l.world).told l.engine l.turn;
   coming : (g.W.Told.outside l.world).coming ≡ (g.W.Told.outside l.fn.world).coming;
   counts : NotFallen (g.W.Told.outside l.fn.world).faults (g.W.Told.outside l.world).faults;
 }
 
-abbrev pub decreases-loop-part : goal.decreases-loop-part
-decreases-loop-part g l = length l.left
+abbrev pub decreases-loop-count : goal.decreases-loop-count
+decreases-loop-count g l = length l.left

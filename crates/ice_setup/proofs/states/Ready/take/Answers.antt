@@ -1,7 +1,6 @@
 use Rattle.std.proofs.Common.{ap, subst, ◌∙◌}
-use Rattle.ice_messages.specs.Messages.{IsTooLong}
 use Rattle.ice_messages.specs.declared.message.IceMessage.{IceMessage}
-use Rattle.ice_setup.specs.Setup.{other_cell, named}
+use Rattle.ice_setup.specs.Setup.{other_cell, named, HasFittingBody}
 use Rattle.ice_setup.specs.declared.errors.Offending.{Offending}
 use Rattle.ice_setup.specs.declared.states.AnySetup.TheVariants.{Ready as AtReady}
 use Rattle.ice_setup.proofs.Cells.{other-ready}
@@ -17,4 +16,4 @@ pub returns-in-ProtocolSetup-clause-said : goal.returns-in-ProtocolSetup-clause-
 returns-in-ProtocolSetup-clause-said c = λ e fits.
     c.take_setup.ensures.said
     (protocol_fits e c.in-ProtocolSetup.opcode c.in-ProtocolSetup.must c.in-ProtocolSetup.protocol c.in-ProtocolSetup.vendor c.in-ProtocolSetup.release c.in-ProtocolSetup.names c.in-ProtocolSetup.versions
-    (subst (λ (m : IceMessage). ¬ (IsTooLong e m)) c.in-ProtocolSetup.is fits))
+    (subst (λ (m : IceMessage). HasFittingBody e m) c.in-ProtocolSetup.is fits))

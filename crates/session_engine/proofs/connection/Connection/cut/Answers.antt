@@ -1,0 +1,47 @@
+use Rattle.std.proofs.Common.{rules, ◌≡◌, ◌∷◌, [], refl, sym, ◌∙◌, ap, take, length, drop}
+use Rattle.ice_framing.specs.Frames.{fed, cut, behind, IsOversize}
+use Rattle.ice_framing.specs.declared.cutting.WholeFrame.{WholeFrame}
+use Rattle.session_engine.specs.Answers.{outcome, oversize_answer, sequence_after, KeepsLive}
+use Rattle.session_engine.specs.Streams.{Whole, TooMuch}
+use Rattle.session_engine.specs.declared.answers.Outcome.{Outcome}
+use Rattle.session_engine.proofs.CutLemmas.{behind_standing, held_all, none_whole, forgotten, oversize_ends}
+use Rattle.session_engine.proofs.Parts.{parts_at-whole, parts_at-oversize}
+use Rattle.session_engine.proofs.connection.Connection.cut.Goals as goal
+
+pub returns-in-Err-clause-cuts : goal.returns-in-Err-clause-cuts
+returns-in-Err-clause-cuts c =
+    let at = fed c.args.self.now.splitter c.args.left.now in
+    let oversize : IsOversize at = search rules in
+    let answer : c.answer_header-answer.result ≡ oversize_answer c.args.self.now.setup (sequence_after c.args.self.now.sequence) (take 8 at.held) = search rules in
+    record {
+      part = TooMuch (take 8 at.held);
+      parts = parts_at-oversize at oversize ∙ ap (λ ps. TooMuch (take 8 at.held) ∷ ps) (sym (forgotten c.feed.new.self c.forget.new.self c.args.left.now c.forget.ensures));
+      answer = answer;
+      setup = refl;
+      sequence = refl;
+      stands = λ keeps. absurd (oversize_ends c.args.self.now.setup (sequence_after c.args.self.now.sequence) (take 8 at.held) (rw answer at keeps));
+    }
+
+pub returns-in-None-clause-cuts : goal.returns-in-None-clause-cuts
+returns-in-None-clause-cuts c =
+    let held = held_all c.args.self.now.splitter c.feed.new.self c.args.left.now c.in-Ok.count c.in-Ok.ensures.taken (c.in-Ok.ensures.all.1 c.in-None.ensures.none) in
+    record {
+      none = none_whole c.args.self.now.splitter c.feed.new.self c.args.left.now held c.in-None.ensures.none c.in-Ok.ensures.within.0;
+      setup = refl;
+      sequence = refl;
+      splitter = held;
+    }
+
+pub returns-clause-cuts : goal.returns-clause-cuts
+returns-clause-cuts c =
+    let frame : WholeFrame = record { endian = c.in-Some.frame.endian; bytes = c.in-Some.frame.bytes.now } in
+    let is : c.in_ok-outcome.outcome ≡ outcome c.args.self.now.setup (sequence_after c.args.self.now.sequence) (Whole frame) = search rules in
+    let cuts : cut (fed c.args.self.now.splitter c.args.left.now) ≡ behind (frame ∷ []) (cut (fed c.take_frame.new.self (drop c.in-Ok.count c.args.left.now))) = search rules in
+    record {
+      part = Whole frame;
+      parts = parts_at-whole (fed c.args.self.now.splitter c.args.left.now) (fed c.take_frame.new.self (drop c.in-Ok.count c.args.left.now)) frame cuts;
+      answer = ap (λ (o : Outcome). o.answer) is;
+      setup = ap (λ (o : Outcome). o.setup) is;
+      sequence = refl;
+      stands = λ keeps. behind_standing (fed c.args.self.now.splitter c.args.left.now) (fed c.take_frame.new.self (drop c.in-Ok.count c.args.left.now)) frame cuts;
+    }

@@ -1,6 +1,0 @@
-use Rattle.std.proofs.Common.{◌∙◌}
-use Rattle.session_engine.proofs.Seats.{live}
-use Rattle.session_engine.proofs.table.Table.is_live.Goals as goal
-
-pub returns : goal.returns
-returns c = c.contains_key.ensures ∙ live c.args.self.now.places c.args.self.now.rows c.args.conn c.args.self.now.seated

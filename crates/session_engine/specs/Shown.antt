@@ -1,0 +1,120 @@
+-- What the code keeps of the connections, against the machine.
+use Rattle.std.specs.Prelude.{◌≡◌, ℕ, ◌+◌, ◌%◌, ◌^◌, Bool, true, List, [], ◌∷◌, ◌++◌, length, drop, Option, Some, None, nat_eq, is_some, if◌then◌else◌}
+use Rattle.std.specs.Ordering.{nat_cmp}
+use Rattle.std.specs.BTreeMap.{get as place_of, btree_map_len}
+use Rattle.sm_world.specs.Outside.{Added}
+use Rattle.sm_world.specs.declared.effects.Effect.{Effect}
+use Rattle.ice_framing.specs.Frames.{fed, cut, standing_of}
+use Rattle.session_engine.specs.Carries.{CarriesOut}
+use Rattle.session_engine.specs.Cutting.{Cuts}
+use Rattle.session_engine.specs.Machine.{Connection, Machine, Step, acts_of, connection_of, part_taken}
+use Rattle.session_engine.specs.Places.{kept_in}
+use Rattle.session_engine.specs.Streams.{Part, parts_at, parts_of}
+use Rattle.session_engine.specs.declared.answers.Answer.{Answer}
+use Rattle.session_engine.specs.declared.answers.Answer.TheVariants.{Stays, Closes}
+use Rattle.session_engine.specs.declared.connection.Connection.{Connection as Kept}
+use Rattle.session_engine.specs.declared.connection.Answered.{Answered}
+use Rattle.session_engine.specs.declared.engine.Engine.{Engine}
+use Rattle.session_engine.specs.declared.live.Connections.{Connections}
+
+-- what is kept of a connection, and None where it isn't live
+abbrev pub kept_at : Connections → ℕ → Option Kept
+kept_at live c = kept_in live.seats (place_of nat_cmp live.places c)
+
+-- how many connections are live
+abbrev pub kept_count : Connections → ℕ
+kept_count live = btree_map_len live.places
+
+-- of this connection that is kept now, and of every other what was
+abbrev pub ChangesAt : Connections → Connections → ℕ → Option Kept → Type 0
+ChangesAt old new c kept = (q : ℕ) → kept_at new q ≡ (if nat_eq q c then kept else kept_at old q)
+
+-- what cutting does at a connection, live or not
+abbrev pub CutsAt : Option Kept → List ℕ → Option Answered → Option Kept → Type 0
+CutsAt None left answered after = (answered ≡ None) × (after ≡ None)
+CutsAt (Some before) left answered after = (kept : Kept) × (after ≡ Some kept) × Cuts before left answered kept
+
+-- this connection isn't live any more
+pub record Leaves (c : ℕ) (old new : Connections) : Type 0 where
+  pub change : ChangesAt old new c None
+  pub count : kept_count new + (if is_some (kept_at old c) then 1 else 0) ≡ kept_count old
+
+-- a connection that an answer closes isn't live any more
+abbrev pub LeavesWhereClosed : ℕ → Answer → Connections → Connections → Type 0
+LeavesWhereClosed c (Stays message) old new = new ≡ old
+LeavesWhereClosed c (Closes message) old new = Leaves c old new
+
+-- What is kept shows a connection, where these bytes of its stream are still to be cut.
+pub record IsKeptOf (pending : List ℕ) (kept : Kept) (k : Connection) : Type 0 where
+  pub setup : kept.setup ≡ k.setup
+  pub sequence : kept.sequence ≡ k.taken % 2 ^ 32
+  pub stands : (cut (fed kept.splitter pending)).standing ≡ standing_of k.stream
+  -- the parts that were taken, and that the others are still to be cut
+  pub before : List Part
+  pub count : length before ≡ k.taken
+  pub parts : before ++ parts_at (fed kept.splitter pending) ≡ parts_of k.stream
+
+abbrev pub Matches : List ℕ → Option Kept → Option Connection → Type 0
+Matches pending None None = Unit {0}
+Matches pending None (Some k) = ⊥
+Matches pending (Some kept) None = ⊥
+Matches pending (Some kept) (Some k) = IsKeptOf pending kept k
+
+-- No two connections have the same number.
+abbrev pub AreDistinct : List Connection → Type 0
+AreDistinct [] = Unit {0}
+AreDistinct (k ∷ ks) = (connection_of k.number ks ≡ None) × AreDistinct ks
+
+-- nothing is still to be cut
+abbrev pub all_cut : ℕ → List ℕ
+all_cut q = []
+
+-- of this connection the rest of a piece is still to be cut
+abbrev pub to_cut : ℕ → List ℕ → ℕ → List ℕ
+to_cut c left q = if nat_eq q c then left else []
+
+-- the live connections show those of the machine
+pub record ShowsLive (pending : ℕ → List ℕ) (live : Connections) (m : Machine) : Type 0 where
+  pub each : (q : ℕ) → Matches (pending q) (kept_at live q) (connection_of q m.connections)
+  pub count : kept_count live ≡ length m.connections
+  pub distinct : AreDistinct m.connections
+
+-- the session in memory shows the machine
+pub record Shows (pending : ℕ → List ℕ) (engine : Engine) (m : Machine) : Type 0 where
+  pub cookie : m.cookie ≡ engine.cookie
+  pub live : ShowsLive pending engine.live m
+
+-- It gave the acts of a step, and shows the machine after it.
+pub record Gives (step : Step) (engine : Engine) : Type 0 where
+  pub acts : engine.acts ≡ acts_of step
+  pub shows : Shows all_cut engine step.next
+
+-- the parts that the stream of a connection has behind those that were taken
+abbrev pub parts_on : Option Connection → List Part
+parts_on None = []
+parts_on (Some k) = drop k.taken (parts_of k.stream)
+
+abbrev pub parts_left : Machine → ℕ → List Part
+parts_left m c = parts_on (connection_of c m.connections)
+
+-- The next part of a connection's stream was taken: it gave what that brings, and shows the machine after it.
+pub record TakesPart (m : Machine) (c : ℕ) (left : List ℕ) (engine : Engine) : Type 0 where
+  pub part : Part
+  pub rest : List Part
+  pub is_next : parts_left m c ≡ part ∷ rest
+  pub acts : engine.acts ≡ acts_of (part_taken m c part)
+  pub shows : Shows (to_cut c left) engine (part_taken m c part).next
+
+-- No part is left.
+pub record TakesNone (m : Machine) (c : ℕ) (engine : Engine) : Type 0 where
+  pub none_left : parts_left m c ≡ []
+  pub shows : Shows all_cut engine m
+
+abbrev pub Takes : Machine → ℕ → List ℕ → Option ℕ → Engine → Type 0
+Takes m c left None engine = TakesNone m c engine
+Takes m c left (Some count) engine = TakesPart m c (drop count left) engine
+
+-- The effects that were added do the acts of a step, and the session shows the machine after it.
+pub record Carried (old new : Option (List Effect)) (engine : Engine) (step : Step) (whole : Bool) : Type 0 where
+  pub acts : Added old new (CarriesOut (acts_of step) whole)
+  pub shows : whole ≡ true → Shows all_cut engine step.next

@@ -1,0 +1,83 @@
+use crate::acts::Act;
+use crate::answers::Answer;
+use crate::messages::Message;
+use sm_world::{Conn, NoMemory};
+use std::alloc::Global;
+use std::marker::Model;
+
+/// What is to be done, in its order. Each message in it has a spelling that is not too long.
+#[derive(Debug, Drop)]
+pub struct ActList {
+    items: Vec<Act>,
+}
+
+impl Model for ActList {
+    ghost use Rattle.std.specs.Prelude.{List};
+    ghost use Rattle.std.specs.List.{AllByRecursion};
+    ghost use Rattle.session_engine.specs.Acts.{CanBeDone};
+    ghost use Rattle.session_engine.specs.declared.acts.Act.{Act};
+
+    ghost Value = { List Act };
+
+    ghost view = { λ list. list.items.items };
+
+    ghost invariant = { λ list. AllByRecursion CanBeDone list.items.items };
+}
+
+impl ActList {
+    ghost use Rattle.std.specs.Prelude.{◌≡◌, [], ◌∷◌, ◌++◌, OnOk};
+    ghost use Rattle.std.specs.List.{AllByRecursion};
+    ghost use Rattle.session_engine.specs.Acts.{CanBeDone, says, answer_acts};
+    ghost use Rattle.session_engine.specs.Messages.{CanBeSaid};
+
+    /// Nothing; this takes no memory.
+    pub fn new(alloc: Global) -> ActList
+        ensures { result ≡ [] }
+    {
+        ActList {
+            items: Vec::new(alloc),
+        }
+    }
+
+    /// Drops all acts. The memory stays, for those that come next.
+    pub fn clear(&mut self)
+        ensures { self.new ≡ [] }
+    {
+        self.items.clear();
+    }
+
+    pub fn push(&mut self, act: Act) -> Result<(), NoMemory>
+        requires { CanBeDone act }
+        ensures { OnOk result (self.new ≡ self.old ++ act ∷ []) }
+    {
+        self.items.push(act)?;
+        Ok(())
+    }
+
+    /// Adds that a message is sent, if there is one.
+    pub fn say(&mut self, to: Conn, message: Option<Message>) -> Result<(), NoMemory>
+        requires { CanBeSaid message }
+        ensures { OnOk result (self.new ≡ self.old ++ says to message) }
+    {
+        match message {
+            Some(message) => self.push(Act::Say(to, message)),
+            None => Ok(()),
+        }
+    }
+
+    /// Adds that a last message is sent, if there is one, and that the connection is closed.
+    pub fn close(&mut self, to: Conn, message: Option<Message>) -> Result<(), NoMemory>
+        requires { CanBeSaid message }
+        ensures { OnOk result (self.new ≡ self.old ++ answer_acts to (Answer.Closes message)) }
+    {
+        self.say(to, message)?;
+        self.push(Act::Shut(to))
+    }
+
+    pub fn as_slice(&self) -> &[Act]
+        ensures is { result.now ≡ self.now }
+        ensures can { AllByRecursion CanBeDone result.now }
+    {
+        self.items.as_slice()
+    }
+}

@@ -1,0 +1,91 @@
+ghost use Rattle.std.specs.Prelude.{◌≡◌, ◌≤◌, true, IsSome};
+ghost use Rattle.ice_framing.specs.Frames.{IsPartial, units, unit_limit};
+ghost use Rattle.session_engine.specs.Answers.{is_ordered};
+
+use crate::answers::{Answer, answer_header, take_frame};
+use ice_cookie::Cookie;
+use ice_framing::Splitter;
+use ice_setup::{AnySetup, AwaitOrder};
+use sm_world::{Conn, NoMemory};
+use std::alloc::Global;
+
+/// What is kept of a live connection: its number, how far its set-up has come, the number of its
+/// last frame, and its splitter.
+#[derive(Debug, Drop)]
+pub struct Connection {
+    conn: Conn,
+    setup: AnySetup,
+    sequence: u32,
+    splitter: Splitter,
+    /// Behind the first frame the order of the stream is known.
+    ghost ordered: { is_ordered setup ≡ true → IsSome splitter.order },
+    /// The splitter can be fed.
+    ghost partial: { IsPartial splitter },
+    ghost within: { units splitter ≤ unit_limit },
+}
+
+/// A part of the stream is whole.
+#[derive(Debug, Drop)]
+pub struct Answered {
+    /// How it is answered.
+    pub answer: Answer,
+    /// How many bytes of the piece completed it.
+    pub count: usize,
+}
+
+impl Connection {
+    ghost use Rattle.std.specs.Prelude.{◌≡◌, ◌≤◌, ℕ, length, IfOk, IfSome};
+    ghost use Rattle.ice_framing.specs.Frames.{beginning};
+    ghost use Rattle.session_engine.specs.Answers.{said_in};
+    ghost use Rattle.session_engine.specs.Messages.{CanBeSaid};
+    ghost use Rattle.session_engine.specs.Cutting.{IsNew, Cuts};
+
+    /// A connection that just joined, of a session with this cookie.
+    pub fn new(alloc: Global, cookie: Cookie, conn: Conn) -> Result<Connection, NoMemory>
+        ensures new { IfOk result (IsNew cookie) }
+        ensures conn { IfOk result (λ connection. connection.conn ≡ conn) }
+    {
+        Ok(Connection {
+            conn,
+            setup: AnySetup::AwaitOrder(AwaitOrder::new(cookie)),
+            sequence: 0,
+            splitter: Splitter::new(alloc)?,
+        })
+    }
+
+    /// Takes the rest of a piece up to the end of the first part. `None` where it completes none.
+    pub fn cut(&mut self, alloc: Global, left: &[u8]) -> Result<Option<Answered>, NoMemory>
+        ensures cuts { IfOk result (λ answered. Cuts self.old left.now answered self.new) }
+        ensures said { IfOk result (λ answered. IfSome answered (λ part. CanBeSaid (said_in part.answer))) }
+        ensures some { IfOk result (λ answered. IfSome answered (λ part. 1 ≤ part.count)) }
+        ensures within { IfOk result (λ answered. IfSome answered (λ part. part.count ≤ length left.now)) }
+        ensures conn { self.new.conn ≡ self.old.conn }
+    {
+        let sequence = self.sequence.wrapping_add(1);
+        let count = match self.splitter.feed(left) {
+            Ok(count) => count,
+            Err(_) => {
+                let answer = answer_header(alloc, &self.setup, sequence, &self.splitter);
+                self.sequence = sequence;
+                self.splitter.forget();
+                return Ok(Some(Answered {
+                    answer,
+                    count: left.len(),
+                }));
+            }
+        };
+        let frame = match self.splitter.next_frame() {
+            Some(frame) => frame,
+            None => return Ok(None),
+        };
+        let taken = take_frame(alloc, self.setup, sequence, frame);
+        self.splitter.take_frame();
+        self.sequence = sequence;
+        let outcome = taken?;
+        self.setup = outcome.setup;
+        Ok(Some(Answered {
+            answer: outcome.answer,
+            count,
+        }))
+    }
+}
