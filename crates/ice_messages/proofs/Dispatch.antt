@@ -1,26 +1,28 @@
 -- What decoding answers, over all messages.
-use Rattle.std.proofs.Common.{◌≡◌, ℕ, zero, suc, ◌<◌, ◌≤◌, false, List, [], ◌∷◌, Result, Ok, Err, IfOk, IfErr, refl, sym, ◌∙◌, subst, arith, slice_index, inl, inr}
+use Rattle.std.proofs.Common.{◌≡◌, ℕ, zero, suc, ◌+◌, ◌*◌, ◌<◌, ◌≤◌, false, List, [], ◌∷◌, Result, Ok, Err, IfOk, IfErr, refl, sym, ap, ◌∙◌, subst, arith, length, length-append, drop, slice_index, inl, inr}
 use Rattle.std.specs.Prelude.{eqb, ◌⊎◌, ◌↔◌}
-use Rattle.std.proofs.lemmas.Bool.{ne_eqb}
+use Rattle.std.proofs.lemmas.Bool.{ne_eqb, le-leb, lt-leb}
 use Rattle.std.proofs.lemmas.List.{append-nil}
-use Rattle.ice_values.specs.Cells.{byte, free, Begins}
+use Rattle.ice_values.specs.Cells.{Cells, byte, free, pad_len, Begins}
+use Rattle.ice_values.specs.Numbers.{number, number_bytes}
 use Rattle.ice_values.specs.Fields.{bool_number, order_number, severity_number}
-use Rattle.ice_values.specs.Frames.{IsFrame, Gives}
+use Rattle.ice_values.specs.Frames.{IsFrame, cut_refusal, Gives}
 use Rattle.ice_values.specs.declared.numbers.Endian.{Endian}
 use Rattle.ice_values.specs.declared.numbers.Endian.TheVariants.{Lsb, Msb}
 use Rattle.ice_values.specs.declared.severity.Severity.TheVariants.{CanContinue}
 use Rattle.ice_values.specs.declared.refusals.DecodeRefusal.{DecodeRefusal}
-use Rattle.ice_values.specs.declared.refusals.DecodeRefusal.TheVariants.{BadMinor, BadLength}
-use Rattle.ice_values.proofs.CellLaws.{IsBytes, Begins-zeros}
+use Rattle.ice_values.specs.declared.refusals.DecodeRefusal.TheVariants.{BadMinor, BadLength, NoMemory}
+use Rattle.ice_values.proofs.CellLaws.{IsBytes, Begins-zeros, length-zeros, length-known}
+use Rattle.ice_values.proofs.NumberLaws.{length-number_bytes}
 use Rattle.ice_values.proofs.ChoiceLaws.{Opens, opens_none, form_is_choice as choice_is_form}
-use Rattle.ice_values.proofs.DecodeLaws.{Caused, caused, is_found as found, is_refused as refused}
-use Rattle.ice_values.proofs.HeaderLaws.{Header, minor_is}
+use Rattle.ice_values.proofs.DecodeLaws.{Caused, caused, is_spelled, has_cause, needs_no_memory, is_found as found, is_refused as refused}
+use Rattle.ice_values.proofs.HeaderLaws.{Header, minor_is, is_frame, is_cut, length-spelling}
 use Rattle.ice_values.proofs.BodyLaws.{ok_not_err}
-use Rattle.ice_messages.specs.Messages.{minor_of, layout, shape, enumerated, IsMessage, Spells, HasForm, HasChoice, canon, Refused}
+use Rattle.ice_messages.specs.Messages.{minor_of, layout, shape, enumerated, IsIceFrame, IsMessage, Spells, HasForm, HasChoice, canon, Refused}
 use Rattle.ice_messages.specs.Reading.{empty_at, byte_order_at, connection_setup_at, authentication_required_at, authentication_reply_at, authentication_next_phase_at, connection_reply_at, protocol_setup_at, protocol_reply_at, ice_error_at, decode_at}
 use Rattle.ice_messages.specs.declared.message.IceMessage.{IceMessage}
 use Rattle.ice_messages.specs.declared.message.IceMessage.TheVariants.{Error, ByteOrder, ConnectionSetup, AuthenticationRequired, AuthenticationReply, AuthenticationNextPhase, ConnectionReply, ProtocolSetup, ProtocolReply, Ping, PingReply, WantToClose, NoClose}
-use Rattle.ice_messages.proofs.Laws.{Says, empty_says, empty_again, order_says, order_again, order_formed, required_says, required_again, reply_says, reply_again, next_says, next_again, connected_says, connected_again, answer_says, answer_again, setup_says, setup_again, setup_formed, protocol_says, protocol_again, protocol_formed, error_says, ice_error_again, ice_error_formed}
+use Rattle.ice_messages.proofs.MessageLaws.{Says, empty_says, empty_again, order_says, order_again, order_formed, required_says, required_again, reply_says, reply_again, next_says, next_again, connected_says, connected_again, answer_says, answer_again, setup_says, setup_again, setup_formed, protocol_says, protocol_again, protocol_formed, error_says, ice_error_again, ice_error_formed}
 
 -- the reading of a message's minor opcode
 branch : Endian → List ℕ → IceMessage → Result IceMessage DecodeRefusal
@@ -174,16 +176,10 @@ no_minor e bytes lt =
     let other : (k : ℕ) → k ≤ 12 → eqb n k ≡ false = λ k le. ne_eqb n k (λ same. omega (arith, lt, le, same)) in
     rw (other 0 (omega arith), other 1 (omega arith), other 2 (omega arith), other 3 (omega arith), other 4 (omega arith), other 5 (omega arith), other 6 (omega arith), other 7 (omega arith), other 8 (omega arith), other 9 (omega arith), other 10 (omega arith), other 11 (omega arith), other 12 (omega arith)) refl
 
--- a frame of major opcode 0
-pub record Framed (e : Endian) (bytes : List ℕ) : Type 0 where
-  pub frame : IsFrame e bytes
-  pub fits : IsBytes bytes
-  pub major : slice_index bytes 0 ≡ 0
-
-header_of : (e : Endian) (bytes : List ℕ) (m : IceMessage) → Framed e bytes → minor_of m ≡ slice_index bytes 1 → Header e 0 (minor_of m) bytes
+header_of : (e : Endian) (bytes : List ℕ) (m : IceMessage) → IsIceFrame e bytes → minor_of m ≡ slice_index bytes 1 → Header e 0 (minor_of m) bytes
 header_of e bytes m f is = record { frame = f.frame; fits = f.fits; opcode_at = f.major; minor_at = sym is }
 
-decode_says : (e : Endian) (bytes : List ℕ) (m : IceMessage) → Framed e bytes → minor_of m ≡ slice_index bytes 1 → Says e bytes (decode_at e bytes)
+decode_says : (e : Endian) (bytes : List ℕ) (m : IceMessage) → IsIceFrame e bytes → minor_of m ≡ slice_index bytes 1 → Says e bytes (decode_at e bytes)
 decode_says e bytes m f is = rw (decode_is e bytes m (sym is)) (branch_says e bytes m (header_of e bytes m f is))
 
 pub decode_again : (e : Endian) (bytes : List ℕ) (m : IceMessage) → Spells e m bytes → decode_at e bytes ≡ Ok m
@@ -197,7 +193,7 @@ no_choice e bytes is m choice =
     branch_formed e bytes m formed (sym (decode_is e bytes m minor) ∙ is)
 
 -- what decoding answers is spelled, or has its cause
-decode_caused : (e : Endian) (bytes : List ℕ) → Framed e bytes → Caused (λ m. Spells e m bytes) (Refused e bytes) (decode_at e bytes)
+decode_caused : (e : Endian) (bytes : List ℕ) → IsIceFrame e bytes → Caused (λ m. Spells e m bytes) (Refused e bytes) (decode_at e bytes)
 decode_caused e bytes f = elim (some_of (slice_index bytes 1)) [
   | inl known ↦
       caused (λ m. Spells e m bytes) (Refused e bytes) (λ m. HasForm e m bytes) enumerated bytes (decode_at e bytes) (λ long. ((known.0, known.1), no_choice e bytes long)) (λ at len wrong. wrong) (decode_says e bytes known.0 f known.1)
@@ -206,10 +202,10 @@ decode_caused e bytes f = elim (some_of (slice_index bytes 1)) [
 
 -- ---- the clauses of a call that gives this answer
 
-pub is_found : (e : Endian) (bytes : List ℕ) (r : Result IceMessage DecodeRefusal) → Framed e bytes → Gives r (decode_at e bytes) → IfOk r (λ m. Spells e m bytes)
+pub is_found : (e : Endian) (bytes : List ℕ) (r : Result IceMessage DecodeRefusal) → IsIceFrame e bytes → Gives r (decode_at e bytes) → IfOk r (λ m. Spells e m bytes)
 is_found e bytes r f given = found (λ m. Spells e m bytes) (Refused e bytes) r (decode_at e bytes) given (decode_caused e bytes f)
 
-pub is_refused : (e : Endian) (bytes : List ℕ) (r : Result IceMessage DecodeRefusal) → Framed e bytes → Gives r (decode_at e bytes) → IfErr r (λ d. Refused e bytes d)
+pub is_refused : (e : Endian) (bytes : List ℕ) (r : Result IceMessage DecodeRefusal) → IsIceFrame e bytes → Gives r (decode_at e bytes) → IfErr r (λ d. Refused e bytes d)
 is_refused e bytes r f given = refused (λ m. Spells e m bytes) (Refused e bytes) r (decode_at e bytes) tt given (decode_caused e bytes f)
 
 pub is_only : (e : Endian) (bytes : List ℕ) (r : Result IceMessage DecodeRefusal) (m : IceMessage) → Gives r (decode_at e bytes) → Spells e m bytes → Gives r (Ok m)
@@ -218,3 +214,50 @@ is_only e bytes r m given spelled = subst (Gives r) (decode_again e bytes m spel
 -- the spelling with zeros is one
 pub canon_spells : (e : Endian) (m : IceMessage) → IsMessage m → Spells e m (canon e m)
 canon_spells e m fits = (fits, subst (λ (b : List ℕ). Begins (shape byte e m) b []) (append-nil (canon e m)) (Begins-zeros (shape byte e m) []))
+
+-- ---- the laws of reading and spelling
+
+pub is_exact : (e : Endian) (bytes : List ℕ) (m : IceMessage) → IsIceFrame e bytes → (decode_at e bytes ≡ Ok m) ↔ Spells e m bytes
+is_exact e bytes m f = (λ is. is_spelled (λ m. Spells e m bytes) (Refused e bytes) (decode_at e bytes) m (decode_caused e bytes f) is, decode_again e bytes m)
+
+pub is_caused : (e : Endian) (bytes : List ℕ) (d : DecodeRefusal) → IsIceFrame e bytes → decode_at e bytes ≡ Err d → Refused e bytes d
+is_caused e bytes d f is = has_cause (λ m. Spells e m bytes) (Refused e bytes) (decode_at e bytes) d (decode_caused e bytes f) is
+
+pub not_for_memory : (e : Endian) (bytes : List ℕ) → IsIceFrame e bytes → decode_at e bytes ≡ Err NoMemory → ⊥
+not_for_memory e bytes f is = needs_no_memory (λ m. Spells e m bytes) (Refused e bytes) (decode_at e bytes) (decode_caused e bytes f) is
+
+pub canon_again : (e : Endian) (m : IceMessage) → IsMessage m → decode_at e (canon e m) ≡ Ok m
+canon_again e m fits = decode_again e (canon e m) m (canon_spells e m fits)
+
+-- ---- frames
+
+length-own : (mark : ℕ → Cells) → ((n : ℕ) → length (mark n) ≡ 1) → (e : Endian) (m : IceMessage) → length (layout mark e m).0 ≡ 2
+length-own mark one e (Error error) = length-known (number_bytes e 2 error.class) ∙ length-number_bytes e 2 error.class
+length-own mark one e (ByteOrder order) = omega (arith, length-append (mark (order_number order)) (free 1), one (order_number order))
+length-own mark one e (ProtocolSetup opcode must protocol vendor release names offered) = ap suc (one (bool_number must))
+length-own mark one e m = refl
+
+pub canon_is_frame : (e : Endian) (m : IceMessage) → IsMessage m → length (layout byte e m).1 ≤ 65536 → IsFrame e (canon e m)
+canon_is_frame e m fits short =
+    let own : Cells = (layout byte e m).0 in
+    let body : Cells = (layout byte e m).1 in
+    let two = length-own byte (λ n. refl) e m in
+    let count : length (canon e m) ≡ 8 + length body + pad_len (length body) 8 = length-zeros (shape byte e m) ∙ length-spelling e 0 (minor_of m) own body two in
+    is_frame e 0 (minor_of m) own body (canon e m) two (omega (arith, count, short)) (canon_spells e m fits).1
+
+-- what has fewer units than it states has no message's form
+no_form : (e : Endian) (m : IceMessage) (bytes : List ℕ) → IsBytes bytes → length bytes < 8 + 8 * number e 4 (drop 4 bytes) → HasChoice e m bytes → ⊥
+no_form e m bytes fits short choice =
+    is_cut e 0 (minor_of m) (layout (λ n. free 1) e m).0 (layout (λ n. free 1) e m).1 bytes (length-own (λ n. free 1) (λ n. refl) e m) fits short ((form_is_choice e m bytes).1 choice).1
+
+pub minors : (n : ℕ) → (n ≤ 12) ↔ ((m : IceMessage) × (minor_of m ≡ n))
+minors n = (
+  λ le. elim (some_of n) [ inl h ↦ h | inr lt ↦ absurd (omega (arith, le, lt)) ],
+  λ h. omega (arith, minor_below h.0, h.1),
+)
+
+pub cut_is_refused : (e : Endian) (bytes : List ℕ) → IsBytes bytes → length bytes < 8 + 8 * number e 4 (drop 4 bytes) → Refused e bytes (cut_refusal 12 bytes)
+cut_is_refused e bytes fits short = elim (some_of (slice_index bytes 1)) [
+  | inl known ↦ rw (le-leb (slice_index bytes 1) 12 (omega (arith, minor_below known.0, known.1))) ((known.0, known.1), λ m choice. no_form e m bytes fits short choice)
+  | inr none ↦ rw (lt-leb (slice_index bytes 1) 12 none) (λ m is. omega (arith, minor_below m, none, is))
+]

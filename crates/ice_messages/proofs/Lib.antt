@@ -1,5 +1,5 @@
 pub mod Parts
 pub mod Setups
-pub mod Laws
+pub mod MessageLaws
 pub mod Dispatch
 pub mod Puts

@@ -10,6 +10,7 @@ use Rattle.ice_values.specs.declared.refusals.DecodeRefusal.TheVariants.{BadMino
 use Rattle.ice_messages.specs.declared.message.IceMessage.{IceMessage}
 use Rattle.ice_messages.specs.declared.message.IceMessage.TheVariants.{Error, ByteOrder, ConnectionSetup, AuthenticationRequired, AuthenticationReply, AuthenticationNextPhase, ConnectionReply, ProtocolSetup, ProtocolReply, Ping, PingReply, WantToClose, NoClose}
 pub use Rattle.ice_values.specs.Frames.{IsFrame, first_wrong, IsChoice}
+use Rattle.ice_values.specs.Reading.{IsBytes}
 
 abbrev pub minor_of : IceMessage → ℕ
 minor_of (Error error) = 0
@@ -81,6 +82,12 @@ IsMessage Ping = Unit {0}
 IsMessage PingReply = Unit {0}
 IsMessage WantToClose = Unit {0}
 IsMessage NoClose = Unit {0}
+
+-- a frame of bytes under major opcode 0
+pub record IsIceFrame (e : Endian) (bytes : List ℕ) : Type 0 where
+  pub frame : IsFrame e bytes
+  pub fits : IsBytes bytes
+  pub major : slice_index bytes 0 ≡ 0
 
 -- The bytes are a spelling of the message. Unused and padding bytes are free.
 abbrev pub Spells : Endian → IceMessage → List ℕ → Type 0

@@ -1,9 +1,9 @@
-ghost use Rattle.std.specs.Prelude.{◌≡◌, ◌≢◌, ◌≤◌, ◌+◌, ◌/◌, ◌*◌, ◌++◌, [], ◌∷◌, length, Err, OnOk, OnErr, IfSome, IfNone, ◌↔◌};
+ghost use Rattle.std.specs.Prelude.{◌≡◌, ◌≢◌, ◌≤◌, ◌+◌, ◌/◌, ◌*◌, ◌++◌, [], ◌∷◌, length, slice_index, Err, OnOk, OnErr, IfSome, IfNone, ◌↔◌};
 ghost use Rattle.ice_values.specs.Cells.{zeros, byte};
 ghost use Rattle.ice_values.specs.Fields.{text16, texts, versions as version_cells, IsVersion};
 ghost use Rattle.ice_values.specs.Writing.{Extends};
 ghost use Rattle.ice_values.specs.declared.numbers.Endian.{Endian as AnyEndian};
-ghost use Rattle.ice_messages.specs.Messages.{canon, minor_of, layout, IsMessage, IsOffer, HasLongPart, IsTooLong};
+ghost use Rattle.ice_messages.specs.Messages.{IsFrame, canon, minor_of, layout, IsMessage, IsOffer, HasLongPart, IsTooLong};
 
 use crate::IceMessage;
 use crate::lengths::body_len;
@@ -203,6 +203,7 @@ fn put_message(
     requires body { count ≡ length (layout byte endian message.now).1 }
     requires bound { count ≤ 65536 }
     ensures ok { OnOk result (out.new ≡ out.old ++ canon endian message.now) }
+    ensures frame { OnOk result (IsFrame endian (canon endian message.now) × (slice_index (canon endian message.now) 0 ≡ 0)) }
     ensures kept { Extends out.old out.new }
 {
     let padding = pad(count, 8);
@@ -227,6 +228,8 @@ pub fn encode_ice(
     ensures too_long { (result ≡ Err EncodeRefusal.TooLong) ↔ IsTooLong endian message.now }
     // What is encoded has a spelling, so it is decoded again.
     ensures fits { OnOk result (IsMessage message.now) }
+    // What is appended is a frame of major opcode 0.
+    ensures frame { OnOk result (IsFrame endian (canon endian message.now) × (slice_index (canon endian message.now) 0 ≡ 0)) }
 {
     let count = match body_len(message) {
         Some(count) if count <= BODY_LIMIT => count,

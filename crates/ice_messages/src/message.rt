@@ -1,6 +1,9 @@
 use ice_values::{Endian, ErrorBody, Text16, TextList, VersionList};
 use sm_world::Octets;
 
+/// The last minor opcode: those from 0 to it are the messages (ICE, chapter 7: ICE Minor opcodes).
+pub const LAST_ICE_MINOR: u8 = 12;
+
 /// A message of major opcode 0 (ICE, chapter 7).
 #[derive(Debug, Drop)]
 pub enum IceMessage {

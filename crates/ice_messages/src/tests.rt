@@ -1,6 +1,9 @@
 //! Each message as the standard spells it (ICE, chapter 7: Message Encoding), written down by hand.
 
-use crate::{IceMessage, decode_ice, encode_ice};
+use crate::{
+    IceMessage, an_encoded_message_is_decoded, cut_bytes_are_refused, decode_ice,
+    decoding_is_exact, encode_ice,
+};
 use ice_values::{DecodeRefusal, EncodeRefusal, Endian, Text16, put_card32, read_card32};
 use sm_world::{NoMemory, Octets};
 use std::alloc::Global;
@@ -235,5 +238,13 @@ fn a_body_has_at_most_65536_bytes(rt: HostRuntime) -> Result<(), Fail> {
         assert_eq!(rt; written == Err(EncodeRefusal::TooLong), refused, "{size}");
         assert_eq!(rt; out.len(), if refused { 4 } else { 4 + 8 + 65_536 });
     }
+    Ok(())
+}
+
+#[test]
+fn laws_can_be_called(_rt: HostRuntime) -> Result<(), Fail> {
+    decoding_is_exact();
+    an_encoded_message_is_decoded();
+    cut_bytes_are_refused();
     Ok(())
 }

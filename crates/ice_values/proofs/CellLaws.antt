@@ -3,6 +3,7 @@ use Rattle.std.proofs.Common.{◌≡◌, ℕ, zero, suc, ◌+◌, ◌≤◌, Lis
 use Rattle.std.proofs.Common.{Fits, w8}
 use Rattle.std.specs.Prelude.{slice_set}
 use Rattle.ice_values.specs.Cells.{Cells, known, free, zeros, Begins}
+use Rattle.ice_values.proofs.OptionLaws.{none_not_some}
 pub use Rattle.ice_values.specs.Reading.{IsBytes}
 
 -- a slice's bytes are bytes
@@ -137,15 +138,9 @@ Begins-opened zero (Some c ∷ cells) (x ∷ bytes) rest h = h.1
 Begins-opened (suc at) (None ∷ cells) (x ∷ bytes) rest h = Begins-opened at cells bytes rest h
 Begins-opened (suc at) (Some c ∷ cells) (x ∷ bytes) rest h = (h.0, Begins-opened at cells bytes rest h.1)
 
-some : {A : Type 0} → A → Option A
-some a = Some a
-
-none_here : {A : Type 0} (a : A) → ◌≡◌ {A = Option A} None (Some a) → ⊥
-none_here a e = absurd cc
-
 -- a byte that is known stands in the bytes
 pub Begins-cell : (at b : ℕ) (cells : Cells) (bytes rest : List ℕ) → cell_at at cells ≡ Some (Some b) → Begins cells bytes rest → slice_index bytes at ≡ b
-Begins-cell at b [] bytes rest e h = absurd (none_here (Some b) e)
+Begins-cell at b [] bytes rest e h = absurd (none_not_some (Some b) e)
 Begins-cell at b (None ∷ cells) [] rest e h = absurd h
 Begins-cell at b (Some c ∷ cells) [] rest e h = absurd h
 Begins-cell zero b (None ∷ cells) (x ∷ bytes) rest e h = absurd cc
@@ -155,7 +150,7 @@ Begins-cell (suc at) b (Some c ∷ cells) (x ∷ bytes) rest e h = Begins-cell a
 
 -- a byte that is free may be any other
 pub Begins-set : (at b : ℕ) (cells : Cells) (bytes rest : List ℕ) → cell_at at cells ≡ Some None → Begins cells (slice_set bytes at b) rest → Begins cells bytes rest
-Begins-set at b [] bytes rest e h = absurd (none_here None e)
+Begins-set at b [] bytes rest e h = absurd (none_not_some None e)
 Begins-set at b (None ∷ cells) [] rest e h = absurd h
 Begins-set at b (Some c ∷ cells) [] rest e h = absurd h
 Begins-set zero b (None ∷ cells) (x ∷ bytes) rest e h = h
@@ -165,7 +160,7 @@ Begins-set (suc at) b (Some c ∷ cells) (x ∷ bytes) rest e h = (h.0, Begins-s
 
 -- a free byte may be chosen
 pub Begins-chosen : (at b : ℕ) (cells : Cells) (bytes rest : List ℕ) → cell_at at cells ≡ Some None → Begins cells bytes rest → Begins (marked at b cells) (slice_set bytes at b) rest
-Begins-chosen at b [] bytes rest e h = absurd (none_here None e)
+Begins-chosen at b [] bytes rest e h = absurd (none_not_some None e)
 Begins-chosen at b (None ∷ cells) [] rest e h = absurd h
 Begins-chosen at b (Some c ∷ cells) [] rest e h = absurd h
 Begins-chosen zero b (None ∷ cells) (x ∷ bytes) rest e h = (refl, h)

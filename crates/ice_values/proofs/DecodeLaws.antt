@@ -8,7 +8,10 @@ use Rattle.ice_values.proofs.EnumLaws.{Answered}
 -- what is answered is spelled, or has its cause
 abbrev pub Caused : {M : Type 0} → (M → Type 0) → (DecodeRefusal → Type 0) → Result M DecodeRefusal → Type 0
 Caused Spelled Refused (Ok m) = Spelled m
-Caused Spelled Refused (Err d) = Refused d
+Caused Spelled Refused (Err BadMinor) = Refused BadMinor
+Caused Spelled Refused (Err BadLength) = Refused BadLength
+Caused Spelled Refused (Err (BadValue at len)) = Refused (BadValue at len)
+Caused Spelled Refused (Err NoMemory) = ⊥
 
 module _ {M : Type 0} (Spelled : M → Type 0) (Refused : DecodeRefusal → Type 0) where
   -- of the reading of a minor opcode that some message has
@@ -19,6 +22,19 @@ module _ {M : Type 0} (Spelled : M → Type 0) (Refused : DecodeRefusal → Type
   caused Formed places bytes (Err BadLength) long wrong says = long refl
   caused Formed places bytes (Err (BadValue at len)) long wrong says = wrong at len says
   caused Formed places bytes (Err NoMemory) long wrong says = absurd says
+
+  -- what the answer says, whatever call is made
+  pub is_spelled : (answer : Result M DecodeRefusal) (m : M) → Caused Spelled Refused answer → answer ≡ Ok m → Spelled m
+  is_spelled answer m h is = subst (Caused Spelled Refused) is h
+
+  pub has_cause : (answer : Result M DecodeRefusal) (d : DecodeRefusal) → Caused Spelled Refused answer → answer ≡ Err d → Refused d
+  has_cause answer BadMinor h is = subst (Caused Spelled Refused) is h
+  has_cause answer BadLength h is = subst (Caused Spelled Refused) is h
+  has_cause answer (BadValue at len) h is = subst (Caused Spelled Refused) is h
+  has_cause answer NoMemory h is = absurd (subst (Caused Spelled Refused) is h)
+
+  pub needs_no_memory : (answer : Result M DecodeRefusal) → Caused Spelled Refused answer → answer ≡ Err NoMemory → ⊥
+  needs_no_memory answer h is = subst (Caused Spelled Refused) is h
 
   -- the clauses of a call that gives this answer
   pub is_found : (result answer : Result M DecodeRefusal) → Gives result answer → Caused Spelled Refused answer → IfOk result Spelled

@@ -14,6 +14,7 @@ use Rattle.ice_values.specs.declared.numbers.Endian.TheVariants.{Lsb, Msb}
 use Rattle.ice_values.specs.declared.severity.Severity.TheVariants.{CanContinue, FatalToProtocol, FatalToConnection}
 use Rattle.ice_values.specs.declared.refusals.DecodeRefusal.{DecodeRefusal}
 use Rattle.ice_values.specs.declared.refusals.DecodeRefusal.TheVariants.{BadMinor, BadLength, BadValue, NoMemory}
+use Rattle.ice_values.proofs.OptionLaws.{none_not_some, some_not_none, some_is}
 use Rattle.ice_values.proofs.HeaderLaws.{Header}
 use Rattle.ice_values.proofs.BodyLaws.{Whole, ok_is, err_is, ok_not_err, err_not_ok, bind_ok}
 
@@ -51,12 +52,6 @@ means_one meaning number k at law = record {
       let h = or_bad_err (meaning (slice_index bytes at)) at d e in
       (at, h.1, rw (le-ltb (slice_index bytes at) k (law.bad (slice_index bytes at) h.0)) refl);
 }
-
-none_not_some : {A : Type 0} (a : A) → ◌≡◌ {A = Option A} None (Some a) → ⊥
-none_not_some a e = absurd cc
-
-some_not_none : {A : Type 0} (a : A) → ◌≡◌ {A = Option A} (Some a) None → ⊥
-some_not_none a e = absurd cc
 
 first_wrong-append_none : (places others : List (ℕ × ℕ)) (bytes : List ℕ) → first_wrong places bytes ≡ None → first_wrong (places ++ others) bytes ≡ first_wrong others bytes
 first_wrong-append_none [] others bytes e = refl
@@ -113,9 +108,6 @@ choice n k x y z e = elim (cases_eq n k) [
   | inl same ↦ inl (same, sym (rw (eq-eqb n k same) refl) ∙ e)
   | inr other ↦ inr (other, sym (rw (ne_eqb n k other) refl) ∙ e)
 ]
-
-some_is : {A : Type 0} (x y : A) → ◌≡◌ {A = Option A} (Some x) (Some y) → x ≡ y
-some_is x y e = cc
 
 -- the numbers 0 and 1 alone have a meaning
 two_enum : {A : Type 0} (a b : A) (number : A → ℕ) → number a ≡ 0 → number b ≡ 1 → ((x : A) → (x ≡ a) ⊎ (x ≡ b)) → IsEnum (λ n. if n == 0 then Some a else if n == 1 then Some b else None) number 2

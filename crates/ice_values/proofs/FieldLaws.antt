@@ -12,13 +12,8 @@ use Rattle.ice_values.specs.declared.numbers.Endian.{Endian}
 use Rattle.ice_values.specs.declared.version.Version.{Version}
 use Rattle.ice_values.proofs.CellLaws.{IsBytes, Begins-append, Begins-split, Begins-known, from_known, Begins-free, from_free, Begins-fits}
 pub use Rattle.ice_values.specs.Reading.{Exact}
+use Rattle.ice_values.proofs.OptionLaws.{some_is}
 use Rattle.ice_values.proofs.NumberLaws.{length-number_bytes, number-again, number-fits, back2, back4}
-
-abbrev some : {A : Type 0} → A → Option A
-some x = Some x
-
-pub some_is : {A : Type 0} (x y : A) → some x ≡ some y → x ≡ y
-some_is x y e = cc
 
 pub bind_some : {A B : Type 0} (r : Option A) (f : A → Option B) (y : B) → (r >>= f) ≡ Some y → (x : A) × (r ≡ Some x) × (f x ≡ Some y)
 bind_some (Some x) f y e = (x, refl, e)

@@ -1,13 +1,13 @@
 -- A frame is a message's spelling where its header, its own bytes and its body are.
-use Rattle.std.proofs.Common.{◌≡◌, ℕ, ◌+◌, ◌-◌, ◌*◌, ◌/◌, ◌<◌, ◌≤◌, List, [], ◌∷◌, ◌++◌, length, drop, refl, sym, ap, ◌∙◌, subst, arith, slice_index, take-append-drop, length-drop}
+use Rattle.std.proofs.Common.{◌≡◌, ℕ, ◌+◌, ◌-◌, ◌*◌, ◌/◌, ◌^◌, ◌<◌, ◌≤◌, List, [], ◌∷◌, ◌++◌, length, drop, refl, sym, ap, ◌∙◌, subst, arith, slice_index, take-append-drop, length-drop, length-append}
 use Rattle.std.proofs.lemmas.List.{drop-drop}
 use Rattle.ice_values.specs.Cells.{Cells, byte, known, free, Begins, pad_len}
 use Rattle.ice_values.specs.Numbers.{number, number_bytes, card32}
 use Rattle.ice_values.specs.Fields.{spelling}
 use Rattle.ice_values.specs.Frames.{IsFrame}
 use Rattle.ice_values.specs.declared.numbers.Endian.{Endian}
-use Rattle.ice_values.proofs.CellLaws.{IsBytes, IsBytes-drop, Begins-append, Begins-split, Begins-known, Begins-free, Begins-drop, Begins-length, Begins-marked, Begins-opened, Begins-cell, all_free, length-known, length-free}
-use Rattle.ice_values.proofs.NumberLaws.{back4, length-number_bytes}
+use Rattle.ice_values.proofs.CellLaws.{IsBytes, IsBytes-drop, Begins-append, Begins-split, Begins-known, from_known, Begins-free, Begins-drop, Begins-length, Begins-marked, Begins-opened, Begins-cell, all_free, length-known, length-free}
+use Rattle.ice_values.proofs.NumberLaws.{back4, length-number_bytes, number-again, number-fits}
 
 -- a frame of these opcodes
 pub record Header (e : Endian) (opcode minor : ℕ) (bytes : List ℕ) : Type 0 where
@@ -48,12 +48,13 @@ spelled e opcode minor own body bytes rest h is_own is_body short =
     (Begins-append (known (opcode ∷ minor ∷ [])) own bytes (drop 2 bytes) (drop 4 bytes) front is_own) length_field) is_body) padding
 
 -- what a message's spelling says of its parts
-pub record Parts (own body : Cells) (bytes rest : List ℕ) : Type 0 where
+pub record Parts (e : Endian) (own body : Cells) (bytes rest : List ℕ) : Type 0 where
   pub own_at : Begins own (drop 2 bytes) (drop 4 bytes)
   pub body_at : Begins body (drop 8 bytes) rest
   pub left : length rest ≡ pad_len (length body) 8
+  pub units_at : drop 4 bytes ≡ number_bytes e 4 ((length body + pad_len (length body) 8) / 8) ++ drop 8 bytes
 
-pub parts_of : (e : Endian) (opcode minor : ℕ) (own body : Cells) (bytes : List ℕ) → length own ≡ 2 → Begins (spelling e opcode minor own body) bytes [] → (rest : List ℕ) × Parts own body bytes rest
+pub parts_of : (e : Endian) (opcode minor : ℕ) (own body : Cells) (bytes : List ℕ) → length own ≡ 2 → Begins (spelling e opcode minor own body) bytes [] → (rest : List ℕ) × Parts e own body bytes rest
 parts_of e opcode minor own body bytes two h =
     let units : ℕ = (length body + pad_len (length body) 8) / 8 in
     let front : Cells = known (opcode ∷ minor ∷ []) in
@@ -71,9 +72,47 @@ parts_of e opcode minor own body bytes two h =
       record {
         own_at = rw (two_in, four_in) f.2;
         body_at = rw eight_in b.2;
+        units_at = rw (four_in, eight_in) (from_known (number_bytes e 4 units) d.0 b.0 d.2);
         left = let len = Begins-length (free (pad_len (length body) 8)) a.0 [] a.2 in omega (arith, len, length-free (pad_len (length body) 8));
       },
     )
+
+pub length-spelling : (e : Endian) (opcode minor : ℕ) (own body : Cells) → length own ≡ 2 → length (spelling e opcode minor own body) ≡ 8 + length body + pad_len (length body) 8
+length-spelling e opcode minor own body two =
+    let units : ℕ = (length body + pad_len (length body) 8) / 8 in
+    let front : Cells = known (opcode ∷ minor ∷ []) in
+    let opcodes : length front ≡ 2 = refl in
+    omega (
+      arith,
+      opcodes,
+      two,
+      length-append front own,
+      length-append (front ++ own ++ card32 e units ++ body) (free (pad_len (length body) 8)),
+      length-append (front ++ own ++ card32 e units) body,
+      length-append (front ++ own) (card32 e units),
+      length-known (number_bytes e 4 units),
+      length-number_bytes e 4 units,
+      length-free (pad_len (length body) 8),
+    )
+
+-- A spelling whose units a CARD32 can state is a frame.
+pub is_frame : (e : Endian) (opcode minor : ℕ) (own body : Cells) (bytes : List ℕ) → length own ≡ 2 → length bytes < 8 + 8 * 256 ^ 4 → Begins (spelling e opcode minor own body) bytes [] → IsFrame e bytes
+is_frame e opcode minor own body bytes two short h =
+    let parts = parts_of e opcode minor own body bytes two h in
+    let units : ℕ = (length body + pad_len (length body) 8) / 8 in
+    let count = ap length parts.1.units_at ∙ length-append (number_bytes e 4 units) (drop 8 bytes) in
+    let after = Begins-length body (drop 8 bytes) parts.0 parts.1.body_at in
+    let header : 8 ≤ length bytes = omega (arith, count, length-number_bytes e 4 units, length-drop 4 bytes) in
+    let whole : length bytes ≡ 8 + 8 * units = omega (arith, header, after, length-drop 8 bytes, parts.1.left) in
+    let stated : number e 4 (drop 4 bytes) ≡ units = rw parts.1.units_at (number-again e 4 units (drop 8 bytes) (omega (arith, whole, short))) in
+    record { header = header; units = omega (arith, whole, stated) }
+
+-- What has fewer units than it states is no spelling.
+pub is_cut : (e : Endian) (opcode minor : ℕ) (own body : Cells) (bytes : List ℕ) → length own ≡ 2 → IsBytes bytes → length bytes < 8 + 8 * number e 4 (drop 4 bytes) → Begins (spelling e opcode minor own body) bytes [] → ⊥
+is_cut e opcode minor own body bytes two fits short h =
+    let stated = number-fits e 4 (drop 4 bytes) (IsBytes-drop 4 bytes fits) in
+    let frame = is_frame e opcode minor own body bytes two (omega (arith, short, stated)) h in
+    omega (arith, frame.units, short)
 
 -- two bytes of a header that are free
 pub free_own : (bytes : List ℕ) → 8 ≤ length bytes → Begins (free 2) (drop 2 bytes) (drop 4 bytes)

@@ -1,3 +1,4 @@
+pub mod OptionLaws
 pub mod CellLaws
 pub mod NumberLaws
 pub mod FieldLaws

@@ -9,7 +9,8 @@ use Rattle.ice_values.specs.Reading.{◌>>=◌, many_at, FailsAs}
 use Rattle.ice_values.specs.declared.refusals.ValueRefusal.{ValueRefusal}
 use Rattle.ice_values.specs.declared.refusals.ValueRefusal.TheVariants.{TooLong, Short, NoMemory}
 use Rattle.ice_values.proofs.CellLaws.{IsBytes, Begins-append, Begins-split, Begins-fits}
-use Rattle.ice_values.proofs.FieldLaws.{Exact, bind_some, some_is}
+use Rattle.ice_values.proofs.OptionLaws.{some_is}
+use Rattle.ice_values.proofs.FieldLaws.{Exact, bind_some}
 
 many_taken : {A : Type 0} (cells : A → Cells) (Fits : A → Type 0) (read : List ℕ → Option (A × List ℕ)) → Exact cells Fits read → (n : ℕ) (bytes : List ℕ) (xs : List A) (rest : List ℕ) → IsBytes bytes
     → many_at read n bytes ≡ Some (xs, rest) → Begins (flat_map cells xs) bytes rest × IsCounted Fits n xs

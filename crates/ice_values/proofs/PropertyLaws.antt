@@ -8,7 +8,8 @@ use Rattle.ice_values.specs.Reading.{◌>>=◌, Exact, card_at, skip_at, many_at
 use Rattle.ice_values.specs.declared.numbers.Endian.{Endian}
 use Rattle.ice_values.specs.declared.property.Property.{Property}
 use Rattle.ice_values.proofs.CellLaws.{Begins-append, Begins-split, Begins-fits}
-use Rattle.ice_values.proofs.FieldLaws.{bind_some, some_is, card4, counts, skip_taken, skip_again}
+use Rattle.ice_values.proofs.OptionLaws.{some_is}
+use Rattle.ice_values.proofs.FieldLaws.{bind_some, card4, counts, skip_taken, skip_again}
 use Rattle.ice_values.proofs.ListLaws.{many}
 
 pub array8_exact : (e : Endian) → Exact (array8 e) IsArray8 (array8_at e)

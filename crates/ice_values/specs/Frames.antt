@@ -1,5 +1,5 @@
 -- Whole messages read from their frames: how a body is cut, and what enumerated bytes mean.
-use Rattle.std.specs.Prelude.{◌≡◌, ℕ, ◌+◌, ◌*◌, ◌≤◌, Bool, true, false, List, [], ◌∷◌, length, drop, slice_index, slice_set, Option, Some, None, Result, Ok, Err, nat_lt, ◌==◌, if◌then◌else◌}
+use Rattle.std.specs.Prelude.{◌≡◌, ℕ, ◌+◌, ◌*◌, ◌≤◌, Bool, true, false, List, [], ◌∷◌, length, drop, slice_index, slice_set, Option, Some, None, Result, Ok, Err, nat_lt, nat_le, ◌==◌, if◌then◌else◌}
 use Rattle.ice_values.specs.Numbers.{number}
 use Rattle.ice_values.specs.Fields.{ErrorFields}
 use Rattle.ice_values.specs.declared.numbers.Endian.{Endian}
@@ -82,6 +82,10 @@ order_meaning n = if n == 0 then Some Lsb else if n == 1 then Some Msb else None
 
 abbrev pub severity_meaning : ℕ → Option Severity
 severity_meaning n = if n == 0 then Some CanContinue else if n == 1 then Some FatalToProtocol else if n == 2 then Some FatalToConnection else None
+
+-- Why bytes that have fewer units than they state are no message, where the minor opcodes go from 0 to the last.
+abbrev pub cut_refusal : ℕ → List ℕ → DecodeRefusal
+cut_refusal last bytes = if nat_le (slice_index bytes 1) last then BadLength else BadMinor
 
 -- Places of enumerated bytes, each with its number of meanings, which are those from 0 on: the first whose byte has none.
 abbrev pub first_wrong : List (ℕ × ℕ) → List ℕ → Option ℕ

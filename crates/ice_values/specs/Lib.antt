@@ -6,3 +6,4 @@ pub mod Writing
 pub mod Properties
 pub mod Saves
 pub mod Frames
+pub mod Classes

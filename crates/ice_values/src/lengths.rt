@@ -11,6 +11,9 @@ use sm_world::Octets;
 /// No body of a message is longer than this many bytes.
 pub const BODY_LIMIT: usize = 65536;
 
+/// No data of an authentication is longer, since its count is a CARD16.
+const DATA_LIMIT: usize = 65535;
+
 /// The same number if no body is too short for it.
 pub fn within_limit(count: usize) -> Option<usize>
     ensures none { IfNone result (65536 < count) }
@@ -86,7 +89,7 @@ pub fn proof_len(proof: &Octets) -> Option<usize>
     ensures fits { OnSome result (IsProofData proof.now) }
 {
     let count = proof.len();
-    if count > 65535 {
+    if count > DATA_LIMIT {
         return None;
     }
     Some(8 + count)
@@ -100,7 +103,7 @@ pub fn error_len(error: &ErrorBody) -> Option<usize>
     ensures fits { OnSome result (IsError error.now) }
 {
     let count = error.values.len();
-    if count > 65528 {
+    if count > BODY_LIMIT - 8 {
         return None;
     }
     Some(8 + count)

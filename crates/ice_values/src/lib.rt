@@ -2,6 +2,7 @@
 #![tactic(auto)]
 
 mod array8;
+mod class;
 mod errors;
 mod frames;
 mod fronts;
@@ -23,6 +24,7 @@ pub use array8::{
     Array8, Array8List, array8_len, array8_list_len, put_array8, put_array8_list, read_array8,
     read_array8_list, take_array8, take_array8_list, write_array8, write_array8_list,
 };
+pub use class::ErrorClass;
 pub use errors::ErrorBody;
 pub use frames::{bool_at, decode_error, end_body, no_body, order_at, severity_at};
 pub use fronts::{

@@ -5,7 +5,7 @@ ghost use Rattle.ice_values.specs.Numbers.{number};
 
 use byteorder::{BigEndian, ByteOrder, LittleEndian};
 
-/// The order in which a party writes the bytes of its numbers (ICE, section 4).
+/// The order in which a party writes the bytes of its numbers (ICE, chapter 5: ByteOrder).
 #[derive(Clone, Copy, Debug, PartialEq, Eq)]
 pub enum Endian {
     /// Least significant byte first.

@@ -1,7 +1,7 @@
 ghost use Rattle.std.specs.Prelude.{◌≡◌};
 ghost use Rattle.ice_values.specs.Fields.{severity_number};
 
-/// How far an Error reaches (ICE, chapter 5).
+/// How far an Error reaches (ICE, chapter 4: Error).
 #[derive(Clone, Copy, Debug, PartialEq, Eq)]
 pub enum Severity {
     CanContinue,

@@ -2,11 +2,11 @@
 //! written down by hand.
 
 use crate::{
-    Array8, DecodeRefusal, Endian, Text16, ValueRefusal, Version, array8_len, array8_list_len,
-    dialog_at, dialog_byte, kind_at, kind_byte, property_len, property_list_len, read_array8,
-    read_array8_list, read_property, read_property_list, read_text16, read_version, style_at,
-    style_byte, write_array8, write_array8_list, write_property, write_property_list, write_text16,
-    write_version,
+    Array8, DecodeRefusal, Endian, ErrorClass, Text16, ValueRefusal, Version, array8_len,
+    array8_list_len, dialog_at, dialog_byte, kind_at, kind_byte, property_len, property_list_len,
+    read_array8, read_array8_list, read_property, read_property_list, read_text16, read_version,
+    style_at, style_byte, write_array8, write_array8_list, write_property, write_property_list,
+    write_text16, write_version,
 };
 use sm_world::{Dialog, Octets, SaveKind, SaveStyle};
 use std::alloc::Global;
@@ -254,5 +254,15 @@ fn enumerated_bytes_have_their_meanings_alone(rt: HostRuntime) -> Result<(), Fai
     assert_eq!(rt; dialog_at(&bytes, 1), Ok(Dialog::Normal));
     assert_eq!(rt; dialog_at(&bytes, 2), wrong(2));
     assert_eq!(rt; dialog_byte(Dialog::Error), 0);
+    Ok(())
+}
+
+#[test]
+fn classes_of_errors_have_their_numbers(rt: HostRuntime) -> Result<(), Fail> {
+    assert_eq!(rt; ErrorClass::BadState.number(), 0x8001);
+    assert_eq!(rt; ErrorClass::SetupFailed.number(), 3);
+    assert_eq!(rt; ErrorClass::of_number(8), Some(ErrorClass::UnknownProtocol));
+    assert_eq!(rt; ErrorClass::of_number(0x8003), Some(ErrorClass::BadValue));
+    assert_eq!(rt; ErrorClass::of_number(9), None);
     Ok(())
 }

@@ -1,11 +1,14 @@
 -- The text of a frame.
-use Rattle.std.specs.Prelude.{ℕ, ◌+◌, ◌*◌, Bool, ◌==◌, nat_le, if◌then◌else◌, List, [], length, drop, slice_index, Result, Ok, Err, codes}
+use Rattle.std.specs.Prelude.{ℕ, ◌+◌, ◌*◌, Bool, ◌==◌, if◌then◌else◌, List, [], length, drop, slice_index, Result, Ok, Err, codes}
 use Rattle.ice_values.specs.Numbers.{number}
+use Rattle.ice_values.specs.Frames.{cut_refusal}
 use Rattle.ice_values.specs.declared.numbers.Endian.{Endian}
 use Rattle.ice_values.specs.declared.refusals.DecodeRefusal.{DecodeRefusal}
 use Rattle.ice_values.specs.declared.refusals.DecodeRefusal.TheVariants.{BadMinor, BadLength, BadValue, NoMemory}
 use Rattle.ice_messages.specs.Reading.{decode_at as ice_at}
 use Rattle.xsmp_messages.specs.Reading.{decode_at as xsmp_at}
+use Rattle.ice_messages.specs.declared.message.TheConstants.{LAST_ICE_MINOR}
+use Rattle.xsmp_messages.specs.declared.message.TheConstants.{LAST_XSMP_MINOR}
 use Rattle.message_text.specs.Lines.{ice_text, xsmp_text}
 use Rattle.ice_framing.specs.declared.cutting.WholeFrame.{WholeFrame}
 
@@ -26,11 +29,11 @@ message_text e bytes = if slice_index bytes 0 == 0 then text_of ice_text (ice_at
 
 -- the last minor opcode of the messages under a major opcode
 abbrev pub last_minor : ℕ → ℕ
-last_minor major = if major == 0 then 12 else 18
+last_minor major = if major == 0 then LAST_ICE_MINOR else LAST_XSMP_MINOR
 
 -- why a header that states more than itself is no message when it stands alone
 abbrev pub header_refusal : List ℕ → DecodeRefusal
-header_refusal bytes = if nat_le (slice_index bytes 1) (last_minor (slice_index bytes 0)) then BadLength else BadMinor
+header_refusal bytes = cut_refusal (last_minor (slice_index bytes 0)) bytes
 
 -- the frame has the units that its header states
 abbrev pub is_whole : Endian → List ℕ → Bool

@@ -8,19 +8,14 @@ ghost use Rattle.trace_replay.specs.Frames.{refusal_text, text_of, last_minor, h
 ghost use Rattle.ice_values.specs.declared.refusals.DecodeRefusal.TheVariants.{NoMemory as OutOfMemory};
 
 use ice_framing::WholeFrame;
-use ice_messages::decode_ice;
+use ice_messages::{LAST_ICE_MINOR, decode_ice};
 use ice_values::{DecodeRefusal, Endian, read_card32};
 use message_text::{ice_line, xsmp_line};
 use sm_world::{NoMemory, Octets};
 use std::alloc::Global;
-use xsmp_messages::decode_xsmp;
+use xsmp_messages::{LAST_XSMP_MINOR, decode_xsmp};
 
 const HEADER_LEN: usize = 8;
-
-/// The last minor opcodes of ICE and of XSMP (ICE, chapter 7; XSMP, chapter 10).
-const LAST_ICE: u8 = 12;
-
-const LAST_XSMP: u8 = 18;
 
 /// Why there is no message, in one word.
 fn refused_text(alloc: Global, refusal: DecodeRefusal) -> Result<Octets, NoMemory>
@@ -72,7 +67,11 @@ fn refuse_header(header: &[u8]) -> DecodeRefusal
     requires { 8 ≤ length header.now }
     ensures { result ≡ header_refusal header.now }
 {
-    let last = if header[0] == 0 { LAST_ICE } else { LAST_XSMP };
+    let last = if header[0] == 0 {
+        LAST_ICE_MINOR
+    } else {
+        LAST_XSMP_MINOR
+    };
     if header[1] <= last {
         DecodeRefusal::BadLength
     } else {

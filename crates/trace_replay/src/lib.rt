@@ -14,6 +14,6 @@ mod showing;
 mod tests;
 mod watch;
 
-pub use laws::a_trace_has_one_answer;
+pub use laws::{a_cut_header_is_refused, a_trace_has_one_answer};
 pub use program::smtrace_main;
 pub use showing::{ShowAnswer, show};

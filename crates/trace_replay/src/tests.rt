@@ -1,4 +1,4 @@
-use crate::{ShowAnswer, a_trace_has_one_answer, show, smtrace_main};
+use crate::{ShowAnswer, a_cut_header_is_refused, a_trace_has_one_answer, show, smtrace_main};
 use sm_world::{Effect, EventList, NoMemory, Octets, SteadyWorld};
 use std::alloc::Global;
 use std::process::Abort;
@@ -205,5 +205,6 @@ fn the_longest_trace(rt: HostRuntime) -> Result<(), Fail> {
 #[test]
 fn laws_can_be_cited(_rt: HostRuntime) -> Result<(), Fail> {
     a_trace_has_one_answer();
+    a_cut_header_is_refused();
     Ok(())
 }

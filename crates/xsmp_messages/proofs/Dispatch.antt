@@ -1,35 +1,37 @@
 -- What decoding answers, over all messages.
-use Rattle.std.proofs.Common.{◌≡◌, ℕ, zero, suc, ◌<◌, ◌≤◌, false, List, [], Result, Ok, Err, IfOk, IfErr, refl, sym, ◌∙◌, subst, arith, slice_index, inl, inr}
+use Rattle.std.proofs.Common.{◌≡◌, ℕ, zero, suc, ◌+◌, ◌*◌, ◌<◌, ◌≤◌, false, List, [], Result, Ok, Err, IfOk, IfErr, refl, sym, ap, ◌∙◌, subst, arith, length, length-append, drop, slice_index, inl, inr}
 use Rattle.std.specs.Prelude.{eqb, ◌⊎◌, ◌↔◌}
-use Rattle.std.proofs.lemmas.Bool.{ne_eqb}
+use Rattle.std.proofs.lemmas.Bool.{ne_eqb, le-leb, lt-leb}
 use Rattle.std.proofs.lemmas.List.{append-nil}
-use Rattle.ice_values.specs.Cells.{byte, free, Begins}
+use Rattle.ice_values.specs.Cells.{Cells, byte, free, pad_len, Begins}
+use Rattle.ice_values.specs.Numbers.{number, number_bytes}
 use Rattle.ice_values.specs.Fields.{bool_number}
 use Rattle.ice_values.specs.Reading.{nothing_at}
 use Rattle.ice_values.specs.Properties.{array8, IsArray8, array8_at, array8_list, array8_list_at, property_list, property_list_at, IsListed, IsProperty}
-use Rattle.ice_values.specs.Frames.{IsFrame, Gives, bool_meaning}
+use Rattle.ice_values.specs.Frames.{IsFrame, cut_refusal, Gives, bool_meaning}
 use Rattle.ice_values.specs.Saves.{dialog_number, dialog_meaning}
 use Rattle.ice_values.specs.declared.numbers.Endian.{Endian}
 use Rattle.ice_values.specs.declared.numbers.Endian.TheVariants.{Lsb, Msb}
 use Rattle.ice_values.specs.declared.severity.Severity.TheVariants.{CanContinue}
 use Rattle.ice_values.specs.declared.refusals.DecodeRefusal.{DecodeRefusal}
-use Rattle.ice_values.specs.declared.refusals.DecodeRefusal.TheVariants.{BadMinor, BadLength}
+use Rattle.ice_values.specs.declared.refusals.DecodeRefusal.TheVariants.{BadMinor, BadLength, NoMemory}
 use Rattle.sm_world.specs.declared.events.SaveKind.TheVariants.{Global}
 use Rattle.sm_world.specs.declared.events.SaveStyle.TheVariants.{Nothing}
 use Rattle.sm_world.specs.declared.events.Dialog.TheVariants.{Normal}
-use Rattle.ice_values.proofs.CellLaws.{IsBytes, Begins-zeros}
+use Rattle.ice_values.proofs.CellLaws.{IsBytes, Begins-zeros, length-zeros, length-known}
+use Rattle.ice_values.proofs.NumberLaws.{length-number_bytes}
 use Rattle.ice_values.proofs.FieldLaws.{nothing_exact}
 use Rattle.ice_values.proofs.PropertyLaws.{array8_exact, array8_list_exact, property_list_exact}
-use Rattle.ice_values.proofs.HeaderLaws.{Header, minor_is}
+use Rattle.ice_values.proofs.HeaderLaws.{Header, minor_is, is_frame, is_cut, length-spelling}
 use Rattle.ice_values.proofs.BodyLaws.{ok_not_err}
 use Rattle.ice_values.proofs.EnumLaws.{bool_enum, dialog_enum}
 use Rattle.ice_values.proofs.ChoiceLaws.{opens_none, form_is_choice as choice_is_form}
-use Rattle.ice_values.proofs.DecodeLaws.{Caused, caused, is_found as found, is_refused as refused}
-use Rattle.xsmp_messages.specs.Messages.{minor_of, layout, shape, enumerated, IsMessage, Spells, HasForm, HasChoice, canon, Refused}
+use Rattle.ice_values.proofs.DecodeLaws.{Caused, caused, is_spelled, has_cause, needs_no_memory, is_found as found, is_refused as refused}
+use Rattle.xsmp_messages.specs.Messages.{minor_of, layout, shape, enumerated, IsXsmpFrame, IsMessage, Spells, HasForm, HasChoice, canon, Refused}
 use Rattle.xsmp_messages.specs.Reading.{valued_at, empty_at, flagged_at, save_yourself_at, save_yourself_request_at, xsmp_error_at, decode_at}
 use Rattle.xsmp_messages.specs.declared.message.XsmpMessage.{XsmpMessage}
 use Rattle.xsmp_messages.specs.declared.message.XsmpMessage.TheVariants.{Error, RegisterClient, RegisterClientReply, SaveYourself, SaveYourselfRequest, InteractRequest, Interact, InteractDone, SaveYourselfDone, Die, ShutdownCancelled, ConnectionClosed, SetProperties, DeleteProperties, GetProperties, GetPropertiesReply, SaveYourselfPhase2Request, SaveYourselfPhase2, SaveComplete}
-use Rattle.xsmp_messages.proofs.Laws.{Says, valued_says, valued_again, flagged_says, flagged_again, flagged_formed, save_says, save_again, save_formed, request_says, request_again, request_formed, error_says, xsmp_error_again, xsmp_error_formed, numbers_of, HasOpenForm, save_opens, request_opens}
+use Rattle.xsmp_messages.proofs.MessageLaws.{Says, valued_says, valued_again, flagged_says, flagged_again, flagged_formed, save_says, save_again, save_formed, request_says, request_again, request_formed, error_says, xsmp_error_again, xsmp_error_formed, numbers_of, HasOpenForm, save_opens, request_opens}
 
 -- the reading of a message's minor opcode
 branch : Endian → List ℕ → XsmpMessage → Result XsmpMessage DecodeRefusal
@@ -205,12 +207,7 @@ no_minor e bytes lt =
     let other : (k : ℕ) → k ≤ 18 → eqb n k ≡ false = λ k le. ne_eqb n k (λ same. omega (arith, lt, le, same)) in
     rw (other 0 (omega arith), other 1 (omega arith), other 2 (omega arith), other 3 (omega arith), other 4 (omega arith), other 5 (omega arith), other 6 (omega arith), other 7 (omega arith), other 8 (omega arith), other 9 (omega arith), other 10 (omega arith), other 11 (omega arith), other 12 (omega arith), other 13 (omega arith), other 14 (omega arith), other 15 (omega arith), other 16 (omega arith), other 17 (omega arith), other 18 (omega arith)) refl
 
--- a frame, under its major opcode
-pub record Framed (e : Endian) (bytes : List ℕ) : Type 0 where
-  pub frame : IsFrame e bytes
-  pub fits : IsBytes bytes
-
-decode_says : (e : Endian) (bytes : List ℕ) (m : XsmpMessage) → Framed e bytes → minor_of m ≡ slice_index bytes 1 → Says e (slice_index bytes 0) bytes (decode_at e bytes)
+decode_says : (e : Endian) (bytes : List ℕ) (m : XsmpMessage) → IsXsmpFrame e bytes → minor_of m ≡ slice_index bytes 1 → Says e (slice_index bytes 0) bytes (decode_at e bytes)
 decode_says e bytes m f is =
     let header : Header e (slice_index bytes 0) (minor_of m) bytes = record { frame = f.frame; fits = f.fits; opcode_at = refl; minor_at = sym is } in
     rw (decode_is e bytes m (sym is)) (branch_says e (slice_index bytes 0) bytes m header)
@@ -226,7 +223,7 @@ no_choice e bytes is opcode m choice =
     branch_formed e opcode bytes m formed (sym (decode_is e bytes m minor) ∙ is)
 
 -- what decoding answers is spelled, or has its cause
-decode_caused : (e : Endian) (bytes : List ℕ) → Framed e bytes → Caused (λ m. Spells e (slice_index bytes 0) m bytes) (Refused e bytes) (decode_at e bytes)
+decode_caused : (e : Endian) (bytes : List ℕ) → IsXsmpFrame e bytes → Caused (λ m. Spells e (slice_index bytes 0) m bytes) (Refused e bytes) (decode_at e bytes)
 decode_caused e bytes f =
     let opcode : ℕ = slice_index bytes 0 in
     elim (some_of (slice_index bytes 1)) [
@@ -237,10 +234,10 @@ decode_caused e bytes f =
 
 -- ---- the clauses of a call that gives this answer
 
-pub is_found : (e : Endian) (bytes : List ℕ) (r : Result XsmpMessage DecodeRefusal) → Framed e bytes → Gives r (decode_at e bytes) → IfOk r (λ m. Spells e (slice_index bytes 0) m bytes)
+pub is_found : (e : Endian) (bytes : List ℕ) (r : Result XsmpMessage DecodeRefusal) → IsXsmpFrame e bytes → Gives r (decode_at e bytes) → IfOk r (λ m. Spells e (slice_index bytes 0) m bytes)
 is_found e bytes r f given = found (λ m. Spells e (slice_index bytes 0) m bytes) (Refused e bytes) r (decode_at e bytes) given (decode_caused e bytes f)
 
-pub is_refused : (e : Endian) (bytes : List ℕ) (r : Result XsmpMessage DecodeRefusal) → Framed e bytes → Gives r (decode_at e bytes) → IfErr r (λ d. Refused e bytes d)
+pub is_refused : (e : Endian) (bytes : List ℕ) (r : Result XsmpMessage DecodeRefusal) → IsXsmpFrame e bytes → Gives r (decode_at e bytes) → IfErr r (λ d. Refused e bytes d)
 is_refused e bytes r f given = refused (λ m. Spells e (slice_index bytes 0) m bytes) (Refused e bytes) r (decode_at e bytes) tt given (decode_caused e bytes f)
 
 pub is_only : (e : Endian) (opcode : ℕ) (bytes : List ℕ) (r : Result XsmpMessage DecodeRefusal) (m : XsmpMessage) → Gives r (decode_at e bytes) → Spells e opcode m bytes → Gives r (Ok m)
@@ -249,3 +246,51 @@ is_only e opcode bytes r m given spelled = subst (Gives r) (decode_again e opcod
 -- the spelling with zeros is one
 pub canon_spells : (e : Endian) (opcode : ℕ) (m : XsmpMessage) → IsMessage m → Spells e opcode m (canon e opcode m)
 canon_spells e opcode m fits = (fits, subst (λ (b : List ℕ). Begins (shape byte e opcode m) b []) (append-nil (canon e opcode m)) (Begins-zeros (shape byte e opcode m) []))
+
+-- ---- the laws of reading and spelling
+
+pub is_exact : (e : Endian) (bytes : List ℕ) (m : XsmpMessage) → IsXsmpFrame e bytes → (decode_at e bytes ≡ Ok m) ↔ Spells e (slice_index bytes 0) m bytes
+is_exact e bytes m f = (λ is. is_spelled (λ m. Spells e (slice_index bytes 0) m bytes) (Refused e bytes) (decode_at e bytes) m (decode_caused e bytes f) is, decode_again e (slice_index bytes 0) bytes m)
+
+pub is_caused : (e : Endian) (bytes : List ℕ) (d : DecodeRefusal) → IsXsmpFrame e bytes → decode_at e bytes ≡ Err d → Refused e bytes d
+is_caused e bytes d f is = has_cause (λ m. Spells e (slice_index bytes 0) m bytes) (Refused e bytes) (decode_at e bytes) d (decode_caused e bytes f) is
+
+pub not_for_memory : (e : Endian) (bytes : List ℕ) → IsXsmpFrame e bytes → decode_at e bytes ≡ Err NoMemory → ⊥
+not_for_memory e bytes f is = needs_no_memory (λ m. Spells e (slice_index bytes 0) m bytes) (Refused e bytes) (decode_at e bytes) (decode_caused e bytes f) is
+
+pub canon_again : (e : Endian) (opcode : ℕ) (m : XsmpMessage) → IsMessage m → decode_at e (canon e opcode m) ≡ Ok m
+canon_again e opcode m fits = decode_again e opcode (canon e opcode m) m (canon_spells e opcode m fits)
+
+-- ---- frames
+
+length-own : (mark : ℕ → Cells) → ((n : ℕ) → length (mark n) ≡ 1) → (e : Endian) (m : XsmpMessage) → length (layout mark e m).0 ≡ 2
+length-own mark one e (Error error) = length-known (number_bytes e 2 error.class) ∙ length-number_bytes e 2 error.class
+length-own mark one e (InteractRequest dialog) = omega (arith, length-append (mark (dialog_number dialog)) (free 1), one (dialog_number dialog))
+length-own mark one e (InteractDone cancel) = omega (arith, length-append (mark (bool_number cancel)) (free 1), one (bool_number cancel))
+length-own mark one e (SaveYourselfDone success) = omega (arith, length-append (mark (bool_number success)) (free 1), one (bool_number success))
+length-own mark one e m = refl
+
+pub canon_is_frame : (e : Endian) (opcode : ℕ) (m : XsmpMessage) → IsMessage m → length (layout byte e m).1 ≤ 65536 → IsFrame e (canon e opcode m)
+canon_is_frame e opcode m fits short =
+    let own : Cells = (layout byte e m).0 in
+    let body : Cells = (layout byte e m).1 in
+    let two = length-own byte (λ n. refl) e m in
+    let count : length (canon e opcode m) ≡ 8 + length body + pad_len (length body) 8 = length-zeros (shape byte e opcode m) ∙ length-spelling e opcode (minor_of m) own body two in
+    is_frame e opcode (minor_of m) own body (canon e opcode m) two (omega (arith, count, short)) (canon_spells e opcode m fits).1
+
+-- what has fewer units than it states has no message's form
+no_form : (e : Endian) (opcode : ℕ) (m : XsmpMessage) (bytes : List ℕ) → IsBytes bytes → length bytes < 8 + 8 * number e 4 (drop 4 bytes) → HasChoice e opcode m bytes → ⊥
+no_form e opcode m bytes fits short choice =
+    is_cut e opcode (minor_of m) (layout (λ n. free 1) e m).0 (layout (λ n. free 1) e m).1 bytes (length-own (λ n. free 1) (λ n. refl) e m) fits short ((form_is_choice e opcode m bytes).1 choice).1
+
+pub minors : (n : ℕ) → (n ≤ 18) ↔ ((m : XsmpMessage) × (minor_of m ≡ n))
+minors n = (
+  λ le. elim (some_of n) [ inl h ↦ h | inr lt ↦ absurd (omega (arith, le, lt)) ],
+  λ h. omega (arith, minor_below h.0, h.1),
+)
+
+pub cut_is_refused : (e : Endian) (bytes : List ℕ) → IsBytes bytes → length bytes < 8 + 8 * number e 4 (drop 4 bytes) → Refused e bytes (cut_refusal 18 bytes)
+cut_is_refused e bytes fits short = elim (some_of (slice_index bytes 1)) [
+  | inl known ↦ rw (le-leb (slice_index bytes 1) 18 (omega (arith, minor_below known.0, known.1))) ((known.0, known.1), λ opcode m choice. no_form e opcode m bytes fits short choice)
+  | inr none ↦ rw (lt-leb (slice_index bytes 1) 18 none) (λ m is. omega (arith, minor_below m, none, is))
+]

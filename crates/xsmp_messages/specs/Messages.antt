@@ -10,6 +10,7 @@ use Rattle.ice_values.specs.declared.refusals.DecodeRefusal.TheVariants.{BadMino
 use Rattle.xsmp_messages.specs.declared.message.XsmpMessage.{XsmpMessage}
 use Rattle.xsmp_messages.specs.declared.message.XsmpMessage.TheVariants.{Error, RegisterClient, RegisterClientReply, SaveYourself, SaveYourselfRequest, InteractRequest, Interact, InteractDone, SaveYourselfDone, Die, ShutdownCancelled, ConnectionClosed, SetProperties, DeleteProperties, GetProperties, GetPropertiesReply, SaveYourselfPhase2Request, SaveYourselfPhase2, SaveComplete}
 pub use Rattle.ice_values.specs.Frames.{IsFrame, first_wrong, IsChoice}
+use Rattle.ice_values.specs.Reading.{IsBytes}
 
 abbrev pub minor_of : XsmpMessage → ℕ
 minor_of (Error error) = 0
@@ -101,6 +102,11 @@ IsMessage (GetPropertiesReply properties) = IsListed IsProperty properties
 IsMessage SaveYourselfPhase2Request = Unit {0}
 IsMessage SaveYourselfPhase2 = Unit {0}
 IsMessage SaveComplete = Unit {0}
+
+-- a frame of bytes, under any major opcode
+pub record IsXsmpFrame (e : Endian) (bytes : List ℕ) : Type 0 where
+  pub frame : IsFrame e bytes
+  pub fits : IsBytes bytes
 
 -- The bytes are a spelling of the message under a major opcode. Unused and padding bytes are free.
 abbrev pub Spells : Endian → ℕ → XsmpMessage → List ℕ → Type 0

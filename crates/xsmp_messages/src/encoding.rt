@@ -1,7 +1,7 @@
 ghost use Rattle.std.specs.Prelude.{◌≡◌, ◌≤◌, ◌++◌, ◌↔◌, length, Err, OnOk, OnErr};
 ghost use Rattle.ice_values.specs.Cells.{zeros, byte};
 ghost use Rattle.ice_values.specs.Writing.{Extends};
-ghost use Rattle.xsmp_messages.specs.Messages.{canon, minor_of, layout, IsMessage, IsTooLong};
+ghost use Rattle.xsmp_messages.specs.Messages.{IsFrame, canon, minor_of, layout, IsMessage, IsTooLong};
 
 use crate::XsmpMessage;
 use crate::lengths::body_len;
@@ -130,6 +130,7 @@ fn put_message(
     requires body { count ≡ length (layout byte endian message.now).1 }
     requires bound { count ≤ 65536 }
     ensures ok { OnOk result (out.new ≡ out.old ++ canon endian opcode message.now) }
+    ensures frame { OnOk result (IsFrame endian (canon endian opcode message.now)) }
     ensures kept { Extends out.old out.new }
 {
     let padding = pad(count, 8);
@@ -153,6 +154,8 @@ pub fn encode_xsmp(
     ensures too_long { (result ≡ Err EncodeRefusal.TooLong) ↔ IsTooLong endian message.now }
     // What is encoded has a spelling, so it is decoded again.
     ensures fits { OnOk result (IsMessage message.now) }
+    // What is appended is a frame.
+    ensures frame { OnOk result (IsFrame endian (canon endian opcode message.now)) }
 {
     let count = match body_len(message) {
         Some(count) => count,

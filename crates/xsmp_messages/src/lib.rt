@@ -3,6 +3,7 @@
 
 mod decoding;
 mod encoding;
+mod laws;
 mod lengths;
 mod message;
 #[cfg(test)]
@@ -10,4 +11,5 @@ mod tests;
 
 pub use decoding::decode_xsmp;
 pub use encoding::encode_xsmp;
-pub use message::XsmpMessage;
+pub use laws::{an_encoded_message_is_decoded, cut_bytes_are_refused, decoding_is_exact};
+pub use message::{XsmpMessage, LAST_XSMP_MINOR};

@@ -1,6 +1,9 @@
 use ice_values::{Array8, Array8List, ErrorBody, PropertyList};
 use sm_world::{Dialog, SaveKind, SaveStyle};
 
+/// The last minor opcode: those from 0 to it are the messages (XSMP, chapter 10: Messages).
+pub const LAST_XSMP_MINOR: u8 = 18;
+
 /// A message of XSMP, which each party sends under a major opcode of its own (XSMP, chapter 10).
 #[derive(Debug, Drop)]
 pub enum XsmpMessage {

@@ -1,7 +1,10 @@
 //! Each message as the standard spells it (XSMP, chapter 10: Messages), written down by hand under
 //! major opcode 7.
 
-use crate::{XsmpMessage, decode_xsmp, encode_xsmp};
+use crate::{
+    XsmpMessage, an_encoded_message_is_decoded, cut_bytes_are_refused, decode_xsmp,
+    decoding_is_exact, encode_xsmp,
+};
 use ice_values::{
     Array8List, DecodeRefusal, EncodeRefusal, Endian, Property, PropertyList, put_card32,
     read_card32,
@@ -308,5 +311,13 @@ fn a_body_has_at_most_65536_bytes(rt: HostRuntime) -> Result<(), Fail> {
         assert_eq!(rt; written == Err(EncodeRefusal::TooLong), refused);
         assert_eq!(rt; out.len(), if refused { 4 } else { 4 + 8 + 65_536 });
     }
+    Ok(())
+}
+
+#[test]
+fn laws_can_be_called(_rt: HostRuntime) -> Result<(), Fail> {
+    decoding_is_exact();
+    an_encoded_message_is_decoded();
+    cut_bytes_are_refused();
     Ok(())
 }
