@@ -1,0 +1,4 @@
+//! x
+#![tactic(auto)]
+
+pub fn one() -> u32 { 1 }
