@@ -8,3 +8,4 @@ pub mod Reading
 pub mod Books
 pub mod Replies
 pub mod Rules
+pub mod Examples

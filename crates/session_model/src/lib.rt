@@ -5,9 +5,11 @@
 mod events;
 mod marks;
 mod phase;
+mod sessions;
 mod waits;
 
 pub use events::{Act, SessionEvent};
 pub use marks::Marks;
 pub use phase::Phase;
+pub use sessions::sessions_compute;
 pub use waits::{Owner, Wait};
