@@ -46,6 +46,30 @@ agreement r round = agreement_with r.clients round (next_book r round)
 
 -- The rules
 
+abbrev pub save_yourself : Wanted → XsmpMessage
+save_yourself wanted = SaveYourself wanted.kind wanted.shutdown wanted.style wanted.fast
+
+-- the one client, or all that are registered
+abbrev pub members_for : Option ℕ → List ℕ → List ℕ
+members_for None conns = conns
+members_for (Some c) conns = c ∷ []
+
+abbrev pub begin : List ℕ → Wanted → List Move
+begin conns wanted = Began conns wanted ∷ gave_each (save_yourself wanted) conns
+
+-- the first of the rounds that wait
+abbrev pub begin_first : List ℕ → List Wait → List Move
+begin_first conns [] = []
+begin_first conns (wait ∷ waits) = begin (members_for wait.wanted.only conns) wait.wanted
+
+-- no shutdown was agreed, and nobody owes an answer
+abbrev pub is_free : Reading → Bool
+is_free r = not r.run.is_ending && not (list_any (λ c. is_owing (r.clients.phase c)) r.clients.registered)
+
+abbrev pub idle_rule : Bool → Reading → List Move
+idle_rule true r = begin_first r.clients.registered r.rounds.waits
+idle_rule false r = []
+
 -- the members that want to save in the second phase
 abbrev pub wanting_two : List Member → List ℕ
 wanting_two members = conns_of (filter (λ m. wants_two m.step) members)
@@ -62,29 +86,6 @@ agreed_rule false r round = over_rule (deserted round)
 abbrev pub running_rule : Bool → Reading → Agreement → List Move
 running_rule true r round = gave_each SaveYourselfPhase2 (wanting_two round.members)
 running_rule false r round = agreed_rule (agreed round) r round
-
-abbrev pub save_yourself : Wanted → XsmpMessage
-save_yourself wanted = SaveYourself wanted.kind wanted.shutdown wanted.style wanted.fast
-
--- the one client, or all that are registered
-abbrev pub members_for : Option ℕ → List ℕ → List ℕ
-members_for None conns = conns
-members_for (Some c) conns = c ∷ []
-
-abbrev pub begin : List ℕ → Wanted → List Move
-begin conns wanted = Began conns wanted ∷ gave_each (save_yourself wanted) conns
-
-abbrev pub begin_first : List ℕ → List Wait → List Move
-begin_first conns [] = []
-begin_first conns (wait ∷ waits) = begin (members_for wait.wanted.only conns) wait.wanted
-
--- no shutdown was agreed, and nobody owes an answer
-abbrev pub is_free : Reading → Bool
-is_free r = not r.run.is_ending && not (list_any (λ c. is_owing (r.clients.phase c)) r.clients.registered)
-
-abbrev pub idle_rule : Bool → Reading → List Move
-idle_rule true r = begin_first r.clients.registered r.rounds.waits
-idle_rule false r = []
 
 abbrev pub round_rule : Reading → Option Agreement → List Move
 round_rule r None = idle_rule (is_free r) r
