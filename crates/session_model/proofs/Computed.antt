@@ -4,7 +4,7 @@ use Rattle.std.specs.Str.{is_utf8, chars}
 use Rattle.std.specs.Fmt.{digits}
 use Rattle.hex.specs.Hex.{encode_with}
 use lib.Utf8.{encode}
-use Rattle.session_model.specs.Examples.{ANewClientSaves, AnUnknownIdIsRefused, PropertiesAreKept, AFullTableIsRefused, ThereIsRoomFor64, ACheckpointGoesOn, ACheckpointWaitsForAll, TheTokenGoesOn, TheTokenIsGivenBack, OnlyErrorsAreAllowed, AShutdownIsCancelled, AnEmptySessionEnds, OrdersAnswer, AnOldStateIsDiscarded, ASessionIsTakenUp}
+use Rattle.session_model.specs.Examples.{ANewClientSaves, AnUnknownIdIsRefused, PropertiesAreKept, AFullTableIsRefused, ThereIsRoomFor64, ACheckpointGoesOn, ACheckpointWaitsForAll, TheTokenGoesOn, TheTokenIsHeldByOne, TheTokenIsGivenBack, OnlyErrorsAreAllowed, AShutdownIsCancelled, AnEmptySessionEnds, OrdersAnswer, AnOldStateIsDiscarded, ExpectedEntriesStay, ASessionIsTakenUp}
 
 pub a_new_client_saves : ANewClientSaves
 unfolding encode_with is_utf8 chars encode digits
@@ -38,6 +38,10 @@ pub the_token_goes_on : TheTokenGoesOn
 unfolding encode_with is_utf8 chars encode digits
 the_token_goes_on = refl
 
+pub the_token_is_held_by_one : TheTokenIsHeldByOne
+unfolding encode_with is_utf8 chars encode digits
+the_token_is_held_by_one = refl
+
 pub the_token_is_given_back : TheTokenIsGivenBack
 unfolding encode_with is_utf8 chars encode digits
 the_token_is_given_back = refl
@@ -61,6 +65,10 @@ orders_answer = refl
 pub an_old_state_is_discarded : AnOldStateIsDiscarded
 unfolding encode_with is_utf8 chars encode digits
 an_old_state_is_discarded = refl
+
+pub expected_entries_stay : ExpectedEntriesStay
+unfolding encode_with is_utf8 chars encode digits
+expected_entries_stay = refl
 
 pub a_session_is_taken_up : ASessionIsTakenUp
 unfolding encode_with is_utf8 chars encode digits

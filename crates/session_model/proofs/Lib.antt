@@ -1,1 +1,4 @@
 pub mod Computed
+pub mod Lists
+pub mod PhaseSteps
+pub mod Sound

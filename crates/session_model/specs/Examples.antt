@@ -159,6 +159,13 @@ TheTokenGoesOn =
       (asks_all ∷ says 1 (InteractRequest Normal) ∷ says 2 (InteractRequest Normal) ∷ Left 1 ∷ [])
       (Say 1 (SaveYourself Both false Any false) ∷ Say 2 (SaveYourself Both false Any false) ∷ Say 1 Interact ∷ Say 2 Interact ∷ [])
 
+-- while one has the token, another who asks waits
+abbrev pub TheTokenIsHeldByOne : Type 0
+TheTokenIsHeldByOne =
+    Brings (log_in_and_save (1 ∷ 2 ∷ []) ++ asks_all ∷ says 1 (InteractRequest Normal) ∷ [])
+      (says 2 (InteractRequest Normal) ∷ says 1 (InteractRequest Normal) ∷ says 1 (InteractDone false) ∷ [])
+      (Blame 1 (record { class = 32769; minor = 5; severity = CanContinue; sequence = 9; values = [] }) ∷ Say 2 Interact ∷ [])
+
 -- who gives the token back may ask again; the other's turn comes when it is free
 abbrev pub TheTokenIsGivenBack : Type 0
 TheTokenIsGivenBack =
@@ -242,6 +249,17 @@ second_book entries = record { entries = entries; pending = []; epoch = 2 }
 -- what a new client of the second run says of itself
 abbrev pub entry_7 : Entry
 entry_7 = entry_of_run 2 1 (codes "c7")
+
+-- Before any of them comes back a new client saves. The entries stay, since their clients are expected.
+abbrev pub ExpectedEntriesStay : Type 0
+ExpectedEntriesStay =
+    all_acts (run (opened last_book) (logs_in 7 ++ sets 7 (restarts (codes "c7")) ∷ saved 7 ∷ []))
+      ≡ Commit (second_book last_entries)
+        ∷ map (λ n. Start (plain ((99 ∷ (48 + n) ∷ []) ∷ []))) (up_to 6)
+        ++ Say 7 (RegisterClientReply (codes "smd-00000002-00000001"))
+        ∷ asks_for_save 7
+        ∷ Commit (second_book (last_entries ++ entry_7 ∷ []))
+        ∷ Say 7 SaveComplete ∷ []
 
 -- Each client of the last run is started again. Those that come back get their IDs and aren't asked to save; a new one is, and gets an
 -- entry of its own. At the shutdown the entry of a client that isn't to be started again goes; that of one which never came
