@@ -2,3 +2,5 @@ pub mod Computed
 pub mod Lists
 pub mod PhaseSteps
 pub mod Sound
+pub mod Level
+pub mod Ruled

@@ -51,7 +51,7 @@ or-false : (b : Bool) → (b || false) ≡ b
 or-false true = refl
 or-false false = refl
 
-or-true : (b : Bool) → (b || true) ≡ true
+pub or-true : (b : Bool) → (b || true) ≡ true
 or-true true = refl
 or-true false = refl
 
@@ -68,7 +68,7 @@ unset-by true i p e r = r ∙ ap (λ (q : Option Phase). is_registered q) (e ref
 unset-by false i p e r = r
 
 -- where c is this connection, what is known of the one is known of the other
-phase-there : (c d : ℕ) (h : History) (p : Option Phase) → of.phase_of d h ≡ p → eqb d c ≡ true → of.phase_of c h ≡ p
+pub phase-there : (c d : ℕ) (h : History) (p : Option Phase) → of.phase_of d h ≡ p → eqb d c ≡ true → of.phase_of c h ≡ p
 phase-there c d h p f e = let k : d ≡ c = grind (arith, nat_tests) in subst (λ (x : ℕ). of.phase_of x h ≡ p) k f
 
 registered-heard : (event : SessionEvent) (h : History) → AreRegistered h → AreRegistered (Outside event ▷ h)
