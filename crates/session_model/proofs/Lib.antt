@@ -4,3 +4,5 @@ pub mod PhaseSteps
 pub mod Sound
 pub mod Level
 pub mod Ruled
+pub mod Replied
+pub mod Asked

@@ -120,7 +120,7 @@ all-done-in c (d ∷ cs) phase saved e i =
       (and-left (is_done (step_of (phase d) (is_some (saved d)))) (all_done (of.rows phase saved cs)) e)
 
 -- in one of two ways, by whether c is there
-member-by : (b : Bool) (p q : Option Phase) → (b ≡ true → is_member q ≡ false) → (b ≡ false → is_member p ≡ false) → is_member (cond b q p) ≡ false
+pub member-by : (b : Bool) (p q : Option Phase) → (b ≡ true → is_member q ≡ false) → (b ≡ false → is_member p ≡ false) → is_member (cond b q p) ≡ false
 member-by true p q f g = f refl
 member-by false p q f g = g refl
 

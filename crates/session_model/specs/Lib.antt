@@ -9,3 +9,4 @@ pub mod Books
 pub mod Replies
 pub mod Rules
 pub mod Examples
+pub mod Laws
