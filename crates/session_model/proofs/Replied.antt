@@ -1,0 +1,236 @@
+-- The answers keep what holds between events, and so does all that an event brings.
+use Rattle.std.proofs.Common.{◌≡◌, refl, ℕ, zero, suc, Bool, true, false, cond, not, ◌&&◌, ◌||◌, List, [], ◌∷◌, ◌++◌, ◌+◌, ◌*◌, map, length, filter, eqb, sym, ap, subst, ◌∙◌, arith, rules}
+use Rattle.std.specs.Prelude.{Option, Some, None, is_some, is_none, filter_map, codes, nat_le}
+use Rattle.sm_world.specs.declared.commands.Command.{Command}
+use Rattle.sm_world.specs.declared.events.Order.{Order}
+use Rattle.sm_world.specs.declared.events.Order.TheVariants.{Checkpoint, Shutdown, Cancel, Status, DropConn, Forget}
+use Rattle.xsmp_properties.specs.Tables.{set_all}
+use Rattle.checkpoint_records.specs.declared.records.Book.{Book}
+use Rattle.checkpoint_records.specs.declared.records.Entry.{Entry}
+use Rattle.restart_plan.specs.Restarts.{respawn, opening_restarts}
+use Rattle.discard_ledger.specs.Discards.{issuable}
+use Rattle.xsmp_messages.specs.declared.message.XsmpMessage.{XsmpMessage}
+use Rattle.xsmp_messages.specs.declared.message.XsmpMessage.TheVariants.{Error, RegisterClient, RegisterClientReply, SaveYourself, SaveYourselfRequest, InteractRequest, Interact, InteractDone, SaveYourselfDone, Die, ShutdownCancelled, ConnectionClosed, SetProperties, DeleteProperties, GetProperties, GetPropertiesReply, SaveYourselfPhase2Request, SaveYourselfPhase2, SaveComplete}
+use Rattle.interact_queue.specs.Queue.{is_in}
+use Rattle.session_model.specs.declared.phase.Phase.{Phase}
+use Rattle.session_model.specs.declared.phase.Phase.TheVariants.{Unregistered, Idle, Saving, Asked, Interacting, WantsTwo, SavingTwo, AskedTwo, InteractingTwo, Done, Owing, Dying}
+use Rattle.session_model.specs.declared.events.SessionEvent.{SessionEvent}
+use Rattle.session_model.specs.declared.events.SessionEvent.TheVariants.{Joined, Ready, Said, Left, Operator}
+use Rattle.session_model.specs.Phases.{is_bound, is_registered, is_unregistered, is_member, is_dying, is_owing, is_saving, is_first_saving, is_interacting, is_shutdown, may_interact, cancelled_phase}
+use Rattle.session_model.specs.Tables.{is_full, entry_of, is_recorded}
+use Rattle.session_model.specs.Errors.{Arrival, client_id, no_room, bad_id, full_table, lone_shutdown}
+use Rattle.session_model.specs.Moves.{Move, Outside, Gave, Blamed, Unset, Closed, Cancelled, Tried, Committed, Printed, Respawn, Resign, Restart, History, Opened, ◌▷◌, onto, gave_each, tried_each}
+use Rattle.session_model.specs.Readings as of
+use Rattle.session_model.specs.Reading.{Reading, reading, wanted_in, client_of}
+use Rattle.session_model.specs.Books.{issue, discarded, standing, command_anyway, book_forgetting, opening_moves, raised}
+use Rattle.session_model.specs.Replies.{refused, or_bad_state, respawn_moves, entry_respawn, id_respawn, respawned, depart, has_no_room, enter, may_rejoin, rejoin, register, called_off, want_cancel, answered, unless_dying, said, resigned, forgotten, forget_one, forget, may_wait, ordered, has_no_place, reply, status_text}
+use Rattle.session_model.specs.Rules.{settled, settle, finished, taken, opened, run}
+use Rattle.session_model.proofs.Lists.{Once}
+use Rattle.session_model.proofs.Sound.{Fits, AllFit, Sound}
+use Rattle.session_model.proofs.Level.{Level, Good, AllPlain, good-by, good-plain, level-reply, level-unset, plain-append, plain-tried, level-emptied, once-cancelled}
+use Rattle.session_model.proofs.Ruled.{member-by, conns-rows, plain-issue, good-settle, good-finished}
+
+-- Plain answers
+
+plain-cond : (b : Bool) (xs ys : List Move) → AllPlain xs → AllPlain ys → AllPlain (cond b xs ys)
+plain-cond true xs ys p q = p
+plain-cond false xs ys p q = q
+
+plain-or-bad : (b : Bool) (x : Arrival) (moves : List Move) → AllPlain moves → AllPlain (or_bad_state b x moves)
+plain-or-bad true x moves p = p
+plain-or-bad false x moves p = (tt, tt)
+
+plain-respawn : (id : List ℕ) (command : Option Command) → AllPlain (respawn_moves id command)
+plain-respawn id None = tt
+plain-respawn id (Some command) = (tt, tt)
+
+plain-entry : (r : Reading) (id : List ℕ) (entry : Option Entry) → AllPlain (entry_respawn r id entry)
+plain-entry r id None = tt
+plain-entry r id (Some entry) = plain-respawn id (respawn entry (r.run.respawns id))
+
+plain-id : (r : Reading) (id : Option (List ℕ)) → AllPlain (id_respawn r id)
+plain-id r None = tt
+plain-id r (Some id) = plain-entry r id (entry_of id r.store.book)
+
+plain-respawned : (r : Reading) (c : ℕ) → AllPlain (respawned r c)
+plain-respawned r c = plain-cond (is_dying (r.clients.phase c)) [] (id_respawn r (r.clients.id c)) tt (plain-id r (r.clients.id c))
+
+plain-resigned : (command : Option Command) → AllPlain (resigned command)
+plain-resigned None = tt
+plain-resigned (Some command) = (tt, tt)
+
+plain-forgotten : (r : Reading) (entry : Entry) (book : Book) → AllPlain (forgotten r entry book)
+plain-forgotten r entry book =
+    (tt, (tt, plain-append (resigned (command_anyway (codes "ResignCommand") entry)) (discarded r.clients book) (plain-resigned (command_anyway (codes "ResignCommand") entry)) (plain-issue book (issuable (standing r.clients) book.pending))))
+
+plain-forget_one : (r : Reading) (id : List ℕ) (entry : Option Entry) → AllPlain (forget_one r id entry)
+plain-forget_one r id None = (tt, tt)
+plain-forget_one r id (Some entry) = plain-cond (is_some (client_of id r.clients)) (Printed (codes "live") ∷ []) (forgotten r entry (book_forgetting r.store id)) (tt, tt) (plain-forgotten r entry (book_forgetting r.store id))
+
+-- A shutdown is called off
+
+cancelled-no-member : (p : Option Phase) → is_member (cancelled_phase p) ≡ false
+cancelled-no-member None = refl
+cancelled-no-member (Some Done) = refl
+cancelled-no-member (Some p) = refl
+
+fit-cancelled : (conns : List ℕ) (h : History) → AllFit (gave_each ShutdownCancelled conns) h
+fit-cancelled [] h = tt
+fit-cancelled (c ∷ conns) h = (tt, fit-cancelled conns (Gave c ShutdownCancelled ▷ h))
+
+good-off : (conns : List ℕ) (h : History) → conns ≡ of.members h → Good h → Good (onto h (Cancelled ∷ gave_each ShutdownCancelled conns))
+good-off conns h e g = good-by (Cancelled ∷ gave_each ShutdownCancelled conns) h (tt, fit-cancelled conns (Cancelled ▷ h)) g.sound
+    (level-emptied ShutdownCancelled once-cancelled conns (Cancelled ▷ h) refl
+      (λ c. member-by (is_in c conns) (of.phase_of c h) (cancelled_phase (of.phase_of c h)) (λ i. cancelled-no-member (of.phase_of c h))
+        (λ i. sym (g.level c) ∙ sym (ap (λ (cs : List ℕ). is_in c cs) e) ∙ i)))
+
+-- the round as it was read before, where its members are still the same
+good-called_off : (o : Option of.Begun) (before h : History) → of.members before ≡ of.members h → Good h → Good (onto h (called_off (of.course o (of.rows (λ c. of.phase_of c before) (λ c. of.saved_of c before) (of.members before)))))
+good-called_off None before h e g = g
+good-called_off (Some r) before h e g = good-off _ h (conns-rows (λ c. of.phase_of c before) (λ c. of.saved_of c before) (of.members before) ∙ e) g
+
+good-cond : (b : Bool) (xs ys : List Move) (h : History) → Good (onto h xs) → Good (onto h ys) → Good (onto h (cond b xs ys))
+good-cond true xs ys h p q = p
+good-cond false xs ys h p q = q
+
+good-or-bad : (b : Bool) (x : Arrival) (moves : List Move) (h : History) → Good h → (b ≡ true → Good (onto h moves)) → Good (onto h (or_bad_state b x moves))
+good-or-bad true x moves h g k = k refl
+good-or-bad false x moves h g k = good-plain (refused x) h (tt, tt) g
+
+good-want_cancel : (b : Bool) (x : Arrival) (before h : History) → of.members before ≡ of.members h → Good h → Good (onto h (want_cancel (reading before) x b))
+good-want_cancel true x before h e g = good-called_off (of.running before) before h e g
+good-want_cancel false x before h e g = good-plain (refused x) h (tt, tt) g
+
+-- Registration
+
+good-reply-to : (c : ℕ) (id : List ℕ) (h : History) → of.phase_of c h ≡ Some Unregistered → Good h → Good (Gave c (RegisterClientReply id) ▷ h)
+good-reply-to c id h e g = good-by (Gave c (RegisterClientReply id) ∷ []) h (e, tt) g.sound (level-reply c id h g.level)
+
+good-turned-away : (c : ℕ) (error : _) (h : History) → of.phase_of c h ≡ Some Unregistered → Good h → Good (onto h (Blamed c error ∷ Unset c ∷ []))
+good-turned-away c error h e g = good-by (Blamed c error ∷ Unset c ∷ []) h (tt, (e, tt)) g.sound (level-unset c (Blamed c error ▷ h) e g.level)
+
+good-register : (r : Reading) (x : Arrival) (previous : List ℕ) (h : History) → of.phase_of x.conn h ≡ Some Unregistered → Good h → Good (onto h (register r x previous))
+good-register r x [] h e g =
+    good-cond (has_no_room r) (Blamed x.conn (no_room x) ∷ Unset x.conn ∷ []) (Gave x.conn (RegisterClientReply (client_id r.store.book.epoch (r.run.given + 1))) ∷ []) h
+      (good-turned-away x.conn (no_room x) h e g) (good-reply-to x.conn (client_id r.store.book.epoch (r.run.given + 1)) h e g)
+good-register r x (b ∷ id) h e g =
+    good-cond (may_rejoin r (b ∷ id)) (Gave x.conn (RegisterClientReply (b ∷ id)) ∷ []) (Blamed x.conn (bad_id x) ∷ []) h
+      (good-reply-to x.conn (b ∷ id) h e g) (good-plain (Blamed x.conn (bad_id x) ∷ []) h (tt, tt) g)
+
+unregistered-is : (p : Option Phase) → is_unregistered p ≡ true → p ≡ Some Unregistered
+unregistered-is (Some Unregistered) e = refl
+unregistered-is p e = absurd (grind arith)
+
+cond-same : {A : Type 0} (b : Bool) (x : A) → cond b x x ≡ x
+cond-same true x = refl
+cond-same false x = refl
+
+-- Messages
+
+-- the messages whose answers aren't plain
+abbrev is_grave : XsmpMessage → Bool
+is_grave (RegisterClient previous) = true
+is_grave (InteractDone true) = true
+is_grave m = false
+
+plain-answered : (r : Reading) (x : Arrival) (m : XsmpMessage) (p : Option Phase) → is_grave m ≡ false → AllPlain (answered r x m p)
+plain-answered r x (RegisterClient previous) p e = absurd (grind arith)
+plain-answered r x (InteractDone true) p e = absurd (grind arith)
+plain-answered r x (InteractDone false) p e = plain-or-bad (is_owing p || is_interacting p) x [] tt
+plain-answered r x (SetProperties list) p e = plain-or-bad (is_bound p) x _ (plain-cond (is_full (set_all (r.clients.table x.conn) list)) (Blamed x.conn (full_table x) ∷ []) [] (tt, tt) tt)
+plain-answered r x (DeleteProperties names) p e = plain-or-bad (is_bound p) x [] tt
+plain-answered r x GetProperties p e = plain-or-bad (is_bound p) x _ (refl, tt)
+plain-answered r x (SaveYourselfRequest kind shutdown style fast global) p e = plain-or-bad (is_bound p) x _ (plain-cond (shutdown && not global) (Blamed x.conn (lone_shutdown x) ∷ []) [] (tt, tt) tt)
+plain-answered r x (InteractRequest dialog) p e = plain-or-bad (is_owing p || is_saving p && may_interact (wanted_in r.rounds.running) dialog) x [] tt
+plain-answered r x (SaveYourselfDone success) p e = plain-or-bad (is_owing p || is_saving p) x [] tt
+plain-answered r x SaveYourselfPhase2Request p e = plain-or-bad (is_owing p || is_first_saving p) x [] tt
+plain-answered r x m p e = (tt, tt)
+
+-- the message that is answered was heard: it is the latest move
+good-answered : (c : ℕ) (m : XsmpMessage) (sequence : ℕ) (frame : List ℕ) (h : History) (p : Option Phase) → of.phase_of c h ≡ p → Good (Outside (Said c m sequence frame) ▷ h)
+    → Good (onto (Outside (Said c m sequence frame) ▷ h) (answered (reading h) (record { conn = c; message = m; sequence = sequence; frame = frame }) m p))
+good-answered c (RegisterClient previous) sequence frame h p e g =
+    good-or-bad (is_unregistered p) (record { conn = c; message = RegisterClient previous; sequence = sequence; frame = frame }) (register (reading h) (record { conn = c; message = RegisterClient previous; sequence = sequence; frame = frame }) previous)
+      (Outside (Said c (RegisterClient previous) sequence frame) ▷ h) g
+      (λ u. good-register (reading h) (record { conn = c; message = RegisterClient previous; sequence = sequence; frame = frame }) previous (Outside (Said c (RegisterClient previous) sequence frame) ▷ h)
+        (cond-same (eqb c c) (of.phase_of c h) ∙ e ∙ unregistered-is p u) g)
+good-answered c (InteractDone true) sequence frame h p e g =
+    good-or-bad (is_owing p || is_interacting p) (record { conn = c; message = InteractDone true; sequence = sequence; frame = frame })
+      (cond (is_owing p) [] (want_cancel (reading h) (record { conn = c; message = InteractDone true; sequence = sequence; frame = frame }) (is_shutdown (wanted_in (of.round h)))))
+      (Outside (Said c (InteractDone true) sequence frame) ▷ h) g
+      (λ u. good-cond (is_owing p) [] (want_cancel (reading h) (record { conn = c; message = InteractDone true; sequence = sequence; frame = frame }) (is_shutdown (wanted_in (of.round h)))) (Outside (Said c (InteractDone true) sequence frame) ▷ h) g
+        (good-want_cancel (is_shutdown (wanted_in (of.round h))) (record { conn = c; message = InteractDone true; sequence = sequence; frame = frame }) h (Outside (Said c (InteractDone true) sequence frame) ▷ h) refl g))
+good-answered c m sequence frame h p e g =
+    good-plain (answered (reading h) (record { conn = c; message = m; sequence = sequence; frame = frame }) m p) (Outside (Said c m sequence frame) ▷ h)
+      (plain-answered (reading h) (record { conn = c; message = m; sequence = sequence; frame = frame }) m p refl) g
+
+good-unless : (c : ℕ) (m : XsmpMessage) (sequence : ℕ) (frame : List ℕ) (h : History) (p : Option Phase) → of.phase_of c h ≡ p → Good (Outside (Said c m sequence frame) ▷ h)
+    → Good (onto (Outside (Said c m sequence frame) ▷ h) (unless_dying (reading h) (record { conn = c; message = m; sequence = sequence; frame = frame }) p))
+good-unless c m sequence frame h (Some Dying) e g = g
+good-unless c m sequence frame h None e g = good-answered c m sequence frame h None e g
+good-unless c m sequence frame h (Some p) e g = good-answered c m sequence frame h (Some p) e g
+
+good-said : (c : ℕ) (m : XsmpMessage) (sequence : ℕ) (frame : List ℕ) (h : History) → Good (Outside (Said c m sequence frame) ▷ h)
+    → Good (onto (Outside (Said c m sequence frame) ▷ h) (said (reading h) (record { conn = c; message = m; sequence = sequence; frame = frame }) m))
+good-said c (ConnectionClosed reasons) sequence frame h g = good-plain (depart (reading h) c) (Outside (Said c (ConnectionClosed reasons) sequence frame) ▷ h) (tt, plain-respawned (reading h) c) g
+good-said c (Error error) sequence frame h g = g
+good-said c m sequence frame h g = good-unless c m sequence frame h (of.phase_of c h) refl g
+
+-- Orders
+
+good-ordered : (order : Order) (h : History) → Good (Outside (Operator order) ▷ h) → Good (onto (Outside (Operator order) ▷ h) (ordered (reading h) order))
+good-ordered Checkpoint h g = good-plain (may_wait (reading h)) (Outside (Operator Checkpoint) ▷ h) (tt, tt) g
+good-ordered Shutdown h g = good-plain (may_wait (reading h)) (Outside (Operator Shutdown) ▷ h) (tt, tt) g
+good-ordered Cancel h g =
+    good-cond (is_shutdown (wanted_in (of.round h))) (Printed (codes "ok") ∷ called_off (of.round h)) (Printed (codes "no shutdown") ∷ []) (Outside (Operator Cancel) ▷ h)
+      (good-called_off (of.running h) h (Printed (codes "ok") ▷ Outside (Operator Cancel) ▷ h) refl (good-plain (Printed (codes "ok") ∷ []) (Outside (Operator Cancel) ▷ h) (tt, tt) g))
+      (good-plain (Printed (codes "no shutdown") ∷ []) (Outside (Operator Cancel) ▷ h) (tt, tt) g)
+good-ordered (DropConn c) h g =
+    good-plain (ordered (reading h) (DropConn c)) (Outside (Operator (DropConn c)) ▷ h)
+      (plain-cond (is_in c (of.live h)) (Printed (codes "ok") ∷ depart (reading h) c) (Printed (codes "no connection") ∷ []) (tt, (tt, plain-respawned (reading h) c)) (tt, tt)) g
+good-ordered (Forget id) h g =
+    good-plain (forget (reading h) id) (Outside (Operator (Forget id)) ▷ h)
+      (plain-cond (of.is_ending h || is_some (of.round h)) (Printed (codes "busy") ∷ []) (forget_one (reading h) id (entry_of id (of.book h))) (tt, tt) (plain-forget_one (reading h) id (entry_of id (of.book h)))) g
+good-ordered Status h g = good-plain (Printed (status_text (reading h)) ∷ []) (Outside (Operator Status) ▷ h) (tt, tt) g
+
+-- Events
+
+good-outside : (event : SessionEvent) (h : History) → Good h → Good (Outside event ▷ h)
+good-outside event h g = good-plain (Outside event ∷ []) h (tt, tt) g
+
+good-reply : (event : SessionEvent) (h : History) → Good h → Good (onto (Outside event ▷ h) (reply (reading h) event))
+good-reply (Joined c) h g = good-plain _ (Outside (Joined c) ▷ h) (plain-cond (has_no_place (reading h)) (Closed c ∷ []) [] (tt, tt) tt) (good-outside (Joined c) h g)
+good-reply (Ready c) h g = good-outside (Ready c) h g
+good-reply (Said c m sequence frame) h g = good-said c m sequence frame h (good-outside (Said c m sequence frame) h g)
+good-reply (Left c) h g = good-plain (respawned (reading h) c) (Outside (Left c) ▷ h) (plain-respawned (reading h) c) (good-outside (Left c) h g)
+good-reply (Operator order) h g = good-ordered order h (good-outside (Operator order) h g)
+
+pub good-taken : (event : SessionEvent) (h : History) → Good h → Good (taken event h)
+good-taken event h g =
+    let answered_to : History = onto (Outside event ▷ h) (reply (reading h) event) in
+    good-finished (settled answered_to) (good-settle (4 * length (of.waits answered_to) + 4) answered_to (good-reply event h g))
+
+-- Runs
+
+good-start : (book : Book) → Good (Opened book)
+good-start book = record {
+  sound = record {
+    registered_are = λ c. refl;
+    once = tt;
+    one_holder = λ c d e f. absurd (grind arith);
+    die_at_end = λ c e. absurd (grind arith);
+    idle_is_empty = λ e. refl;
+    wait_for_registered = λ c e. absurd (grind arith);
+  };
+  level = λ c. refl;
+}
+
+plain-opening : (book : Book) → AllPlain (opening_moves book)
+plain-opening book = (tt, plain-append (issue (raised book) book.pending) (tried_each Restart (opening_restarts book.entries)) (plain-issue (raised book) book.pending) (plain-tried Restart (opening_restarts book.entries)))
+
+pub good-opened : (book : Book) → Good (opened book)
+good-opened book = good-plain (opening_moves book) (Opened book) (plain-opening book) (good-start book)
+
+pub good-run : (events : List SessionEvent) (h : History) → Good h → Good (run h events)
+good-run [] h g = g
+good-run (event ∷ events) h g = good-run events (taken event h) (good-taken event h g)

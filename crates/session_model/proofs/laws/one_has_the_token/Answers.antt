@@ -1,0 +1,6 @@
+use Rattle.session_model.specs.Rules.{opened}
+use Rattle.session_model.proofs.Replied.{good-opened, good-run}
+use Rattle.session_model.proofs.laws.one_has_the_token.Goals as goal
+
+pub returns : goal.returns
+returns c = λ book events. (good-run events (opened book) (good-opened book)).sound.one_holder

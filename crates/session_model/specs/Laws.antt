@@ -1,0 +1,47 @@
+-- Laws of the session, whatever comes from outside.
+use Rattle.std.specs.Prelude.{List, nat_eq, true, ℕ, ◌≡◌}
+use Rattle.std.specs.List.{IsDistinct, list_any}
+use Rattle.checkpoint_records.specs.declared.records.Book.{Book}
+use Rattle.session_model.specs.declared.events.SessionEvent.{SessionEvent}
+use Rattle.interact_queue.specs.Queue.{is_in}
+use Rattle.session_model.specs.Phases.{is_asked, is_dying, is_interacting, is_member, is_registered}
+use Rattle.session_model.specs.Moves.{History}
+use Rattle.session_model.specs.Waits.{is_only}
+use Rattle.session_model.specs.Rules.{opened, run}
+use Rattle.session_model.specs.Readings as of
+
+-- this holds at the start and between the events of every run
+abbrev pub Always : (History → Type 0) → Type 0
+Always Holds = (book : Book) (events : List SessionEvent) → Holds (run (opened book) events)
+
+-- nobody is registered twice
+abbrev pub NobodyRegistersTwice : Type 0
+NobodyRegistersTwice = Always (λ h. IsDistinct nat_eq (of.registered h))
+
+-- the registered connections are those whose phase says so
+abbrev pub PhasesTellWhoIsRegistered : Type 0
+PhasesTellWhoIsRegistered = Always (λ h. (c : ℕ) → is_in c (of.registered h) ≡ is_registered (of.phase_of c h))
+
+-- one client has the token at most
+abbrev pub OneHasTheToken : Type 0
+OneHasTheToken = Always (λ h. (c d : ℕ) → is_interacting (of.phase_of c h) ≡ true → is_interacting (of.phase_of d h) ≡ true → c ≡ d)
+
+-- The members of the running round are those that it has asked to save: in every phase from there on until the round ends.
+-- Where no round runs there are none.
+abbrev pub MembersAreAskedToSave : Type 0
+MembersAreAskedToSave = Always (λ h. (c : ℕ) → is_in c (of.members h) ≡ is_member (of.phase_of c h))
+
+-- a round of one client waits only while that client is registered
+abbrev pub RoundsWaitForRegistered : Type 0
+RoundsWaitForRegistered = Always (λ h. (c : ℕ) → list_any (λ wait. is_only c wait.wanted.only) (of.waits h) ≡ true → is_registered (of.phase_of c h) ≡ true)
+
+-- who was told to die was told so because a shutdown was agreed
+abbrev pub DeathIsOfShutdown : Type 0
+DeathIsOfShutdown = Always (λ h. (c : ℕ) → is_dying (of.phase_of c h) ≡ true → of.is_ending h ≡ true)
+
+-- those that wait for the token are those whose phase says so, and nobody stands twice among them; this holds of each history
+abbrev pub PhasesTellWhoWaits : Type 0
+PhasesTellWhoWaits = (h : History) (c : ℕ) → is_in c (of.waiting h) ≡ is_asked (of.phase_of c h)
+
+abbrev pub NobodyWaitsTwice : Type 0
+NobodyWaitsTwice = (h : History) → IsDistinct nat_eq (of.waiting h)

@@ -1,0 +1,12 @@
+pub mod Phases
+pub mod Tables
+pub mod Errors
+pub mod Moves
+pub mod Waits
+pub mod Readings
+pub mod Reading
+pub mod Books
+pub mod Replies
+pub mod Rules
+pub mod Examples
+pub mod Laws

@@ -1,0 +1,41 @@
+use checkpoint_records::Book;
+use ice_values::ErrorBody;
+use sm_world::{Command, Conn, Octets, Order};
+use xsmp_messages::XsmpMessage;
+
+/// What the session hears.
+#[derive(Drop)]
+pub enum SessionEvent {
+    /// A connection was opened.
+    Joined(Conn),
+    /// XSMP has begun on it.
+    Ready(Conn),
+    /// A message came on it: the message, its number among all that came on the connection, and
+    /// the whole frame.
+    Said(Conn, XsmpMessage, u32, Octets),
+    /// The connection is gone.
+    Left(Conn),
+    /// The operator asks for something.
+    Operator(Order),
+}
+
+/// What the session does to the outside.
+#[derive(Drop)]
+pub enum Act {
+    /// This message is sent.
+    Say(Conn, XsmpMessage),
+    /// This Error is sent.
+    Blame(Conn, ErrorBody),
+    /// XSMP ends on the connection, which stays.
+    Unset(Conn),
+    /// The connection is shut.
+    Shut(Conn),
+    /// A command is started.
+    Start(Command),
+    /// The book is written to the store.
+    Commit(Book),
+    /// A line is printed, which is given without its newline.
+    Print(Octets),
+    /// The run ends.
+    Finish,
+}

@@ -1,0 +1,41 @@
+ghost use Rattle.session_model.specs.Laws.{NobodyRegistersTwice, PhasesTellWhoIsRegistered, OneHasTheToken, MembersAreAskedToSave, RoundsWaitForRegistered, DeathIsOfShutdown, PhasesTellWhoWaits, NobodyWaitsTwice};
+
+/// Does nothing: its contract is a law of every history. Nobody is registered twice.
+pub fn nobody_registers_twice()
+    ensures { NobodyRegistersTwice }
+{}
+
+/// Does nothing: its contract is a law of every history. The registered connections are those whose phase says so.
+pub fn phases_tell_who_is_registered()
+    ensures { PhasesTellWhoIsRegistered }
+{}
+
+/// Does nothing: its contract is a law of every history. One client has the token at most.
+pub fn one_has_the_token()
+    ensures { OneHasTheToken }
+{}
+
+/// Does nothing: its contract is a law of every history. The members of the running round are those that it has asked to save.
+pub fn members_are_asked_to_save()
+    ensures { MembersAreAskedToSave }
+{}
+
+/// Does nothing: its contract is a law of every history. A round of one client waits only while that client is registered.
+pub fn rounds_wait_for_registered()
+    ensures { RoundsWaitForRegistered }
+{}
+
+/// Does nothing: its contract is a law of every history. Who was told to die was told so because a shutdown was agreed.
+pub fn death_is_of_shutdown()
+    ensures { DeathIsOfShutdown }
+{}
+
+/// Does nothing: its contract is a law of every history. Those that wait for the token are those whose phase says so.
+pub fn phases_tell_who_waits()
+    ensures { PhasesTellWhoWaits }
+{}
+
+/// Does nothing: its contract is a law of every history. Nobody waits twice for the token.
+pub fn nobody_waits_twice()
+    ensures { NobodyWaitsTwice }
+{}

@@ -1,0 +1,22 @@
+ghost use Rattle.session_model.specs.Examples.{ANewClientSaves, AnUnknownIdIsRefused, PropertiesAreKept, AFullTableIsRefused, ThereIsRoomFor64, ACheckpointGoesOn, ACheckpointWaitsForAll, TheTokenGoesOn, TheTokenIsHeldByOne, TheTokenIsGivenBack, OnlyErrorsAreAllowed, AShutdownIsCancelled, AnEmptySessionEnds, OrdersAnswer, AnOldStateIsDiscarded, ExpectedEntriesStay, ASessionIsTakenUp};
+
+/// Does nothing: its contract is a list of worked sessions, each of which the definitions compute.
+pub fn sessions_compute()
+    ensures a_new_client_saves { ANewClientSaves }
+    ensures an_unknown_id_is_refused { AnUnknownIdIsRefused }
+    ensures properties_are_kept { PropertiesAreKept }
+    ensures a_full_table_is_refused { AFullTableIsRefused }
+    ensures there_is_room_for64 { ThereIsRoomFor64 }
+    ensures a_checkpoint_goes_on { ACheckpointGoesOn }
+    ensures a_checkpoint_waits_for_all { ACheckpointWaitsForAll }
+    ensures the_token_goes_on { TheTokenGoesOn }
+    ensures the_token_is_held_by_one { TheTokenIsHeldByOne }
+    ensures the_token_is_given_back { TheTokenIsGivenBack }
+    ensures only_errors_are_allowed { OnlyErrorsAreAllowed }
+    ensures a_shutdown_is_cancelled { AShutdownIsCancelled }
+    ensures an_empty_session_ends { AnEmptySessionEnds }
+    ensures orders_answer { OrdersAnswer }
+    ensures an_old_state_is_discarded { AnOldStateIsDiscarded }
+    ensures expected_entries_stay { ExpectedEntriesStay }
+    ensures a_session_is_taken_up { ASessionIsTakenUp }
+{}
