@@ -92,9 +92,7 @@ impl InteractQueue {
         ensures spare { self.old.spare ≤ self.new.spare }
     {
         self.waiting.retain(|other| *other != conn);
-        if self.holder == Some(conn) {
-            self.holder = None;
-        }
+        self.holder = self.holder.filter(|holder| *holder != conn);
     }
 
     /// Who has the token.
@@ -111,6 +109,6 @@ impl InteractQueue {
         ensures spare { self.old.spare ≤ self.new.spare }
     {
         self.waiting.clear();
-        self.holder = None;
+        self.release();
     }
 }

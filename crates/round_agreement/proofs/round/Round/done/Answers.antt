@@ -5,4 +5,4 @@ use Rattle.round_agreement.proofs.MemberLaws.{conns-moved}
 use Rattle.round_agreement.proofs.round.Round.done.Goals as goal
 
 pub invariant_of-self : goal.invariant_of-self
-invariant_of-self c = grind (arith, common_steps, conns-moved c.args.conn (Done c.args.success) c.self.inside.members.items)
+invariant_of-self c = grind (arith, common_steps, conns-moved)
