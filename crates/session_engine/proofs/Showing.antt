@@ -329,3 +329,24 @@ takes_none m c left before after cuts shows cookie =
         };
       };
     }
+
+match_used_up : (kept : Option Kept) (k : Option Connection) → Matches [] kept k → parts_on k ≡ []
+match_used_up None None match = refl
+match_used_up None (Some k) match = elim match [ ]
+match_used_up (Some kept) None match = elim match [ ]
+match_used_up (Some kept) (Some k) match = left_of [] kept k match ∙ none_whole kept
+
+-- nothing is left of a piece
+pub used_up : (m : Machine) (c : ℕ) (left : List ℕ) (engine : Engine) → length left ≡ 0 → Shows (to_cut c left) engine m → TakesNone m c engine
+used_up m c (x ∷ left) engine none shows = absurd (omega arith)
+used_up m c [] engine none shows = record {
+  none_left = match_used_up (kept_at engine.live c) (connection_of c m.connections) (rw (to_cut-same c []) at (shows.live.each c));
+  shows = record {
+    cookie = shows.cookie;
+    live = record {
+      each = everywhere (λ q. Matches [] (kept_at engine.live q) (connection_of q m.connections)) c (rw (to_cut-same c []) at (shows.live.each c)) (λ q apart. rw (to_cut-other c q [] apart) at (shows.live.each q));
+      count = shows.live.count;
+      distinct = shows.live.distinct;
+    };
+  };
+}

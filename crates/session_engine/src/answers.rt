@@ -52,13 +52,24 @@ fn settle(before: AnySetup, moved: Moved) -> Outcome
     ensures outcome { result ≡ outcome_of before moved }
     ensures said { MovesWithin moved → CanBeSaid (said_in result.answer) }
 {
-    let (setup, answer) = match moved {
-        Moved::Goes(setup, message) => (setup, Answer::Stays(message.map(Message::Ice))),
-        Moved::Ends(message) => (before, Answer::Closes(message.map(Message::Ice))),
-        Moved::Close => (before, Answer::Closes(None)),
-        Moved::Ask(setup) => (setup, Answer::Closes(None)),
-    };
-    Outcome { setup, answer }
+    match moved {
+        Moved::Goes(setup, message) => Outcome {
+            setup,
+            answer: Answer::Stays(message.map(Message::Ice)),
+        },
+        Moved::Ends(message) => Outcome {
+            setup: before,
+            answer: Answer::Closes(message.map(Message::Ice)),
+        },
+        Moved::Close => Outcome {
+            setup: before,
+            answer: Answer::Closes(None),
+        },
+        Moved::Ask(setup) => Outcome {
+            setup,
+            answer: Answer::Closes(None),
+        },
+    }
 }
 
 /// Takes a message of ICE.
