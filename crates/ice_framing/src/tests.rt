@@ -100,7 +100,8 @@ fn cut_anywhere(rt: HostRuntime) -> Result<(), Fail> {
     Ok(())
 }
 
-/// What a splitter answers to a header behind a first frame; it then holds that header and no frame.
+/// What a splitter answers to a header behind a first frame; it then holds that header and no frame,
+/// until it forgets it.
 fn at_limit(
     rt: &impl Abort,
     alloc: Global,
@@ -118,6 +119,12 @@ fn at_limit(
     assert!(rt; splitter.next_frame().is_none());
     assert_eq!(rt; splitter.held(), 8);
     assert!(rt; splitter.header() == Some(header));
+    assert!(rt; splitter.capacity() >= FRAME_LIMIT);
+    splitter.forget();
+    assert_eq!(rt; splitter.held(), 0);
+    assert!(rt; splitter.capacity() >= FRAME_LIMIT);
+    splitter.forget();
+    assert_eq!(rt; splitter.held(), 0);
     Ok(answer)
 }
 

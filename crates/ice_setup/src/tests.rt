@@ -2,7 +2,7 @@
 
 use crate::{
     AnySetup, AwaitOrder, BAD_LENGTH, BAD_MAJOR, Moved, Offending, error_of, opcode_values,
-    spelled_messages_fit, text_values, wrong_byte_values,
+    refusal, spelled_messages_fit, text_values, wrong_byte_values,
 };
 use ice_cookie::Cookie;
 use ice_messages::{IceMessage, decode_ice, encode_ice, minor};
@@ -606,7 +606,8 @@ fn errors_name_the_message_and_their_values(rt: HostRuntime) -> Result<(), Fail>
         minor: 9,
         sequence: 4,
     };
-    let error = error_of(Severity::CanContinue, BAD_LENGTH, ping, Octets::new(alloc));
+    let joined = reached(alloc, JOINED)?;
+    let error = refusal(&joined, BAD_LENGTH, ping, Octets::new(alloc));
     expect_error(
         &rt,
         error,

@@ -29,7 +29,7 @@ held_all at now left n taken all = taken ∙ ap (fed at) (take_all n left (omega
 pub none_whole : (at now : Standing) (left : List ℕ) → now ≡ fed at left → IsPartial now → units now ≤ unit_limit → parts_at (fed at left) ≡ []
 none_whole at now left held partial within = ap parts_at (sym held) ∙ parts_at-partial now partial within
 
--- ---- a header that states too much
+-- ---- an oversize frame
 
 drop_whole : (xs : List ℕ) → drop (length xs) xs ≡ []
 drop_whole [] = refl
@@ -43,7 +43,7 @@ empty_within : (order : Option Endian) → units (record { order = order; held =
 empty_within None = omega arith
 empty_within (Some e) = omega arith
 
--- nothing is cut behind it
+-- nothing is cut behind its header
 pub forgotten : (before after : Standing) (left : List ℕ) → after ≡ record { order = before.order; held = [] } → parts_at (fed after (drop (length left) left)) ≡ []
 forgotten before after left is = rw (is, drop_whole left) (parts_at-partial (record { order = before.order; held = [] }) (empty_partial before.order) (empty_within before.order))
 

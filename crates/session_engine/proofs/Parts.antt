@@ -22,7 +22,7 @@ pub parts_at-partial : (at : Standing) → IsPartial at → units at ≤ unit_li
 unfolding parts_in
 parts_at-partial at partial within = ap parts_in (cut-partial at partial) ∙ rw (false-is_oversize at within) refl
 
--- a header that states too much is the last part
+-- the header of an oversize frame is the last part
 pub parts_at-oversize : (at : Standing) → IsOversize at → parts_at at ≡ TooMuch (take 8 at.held) ∷ []
 unfolding parts_in
 parts_at-oversize at oversize = ap parts_in (cut-oversize at oversize) ∙ rw (true-is_oversize at oversize) refl

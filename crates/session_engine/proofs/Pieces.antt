@@ -117,10 +117,6 @@ cut_short all c left rest_left old now later before after turn taking part done 
       shows = λ e. absurd cc;
     }
 
--- memory was wanting for a part
-pub not_taken : (all : Step) (c : ℕ) (left : List ℕ) (old now : Option (List Effect)) (before after : Engine) (turn : Turn) → Taking all c left old now before turn → Carried old now after all false
-not_taken all c left old now before after turn taking = record { acts = stopped (acts_of all) (acts_of (rest_taken taking.machine c)) old now taking.going; shows = λ e. absurd cc }
-
 none_taken : (m : Machine) (c : ℕ) → parts_left m c ≡ [] → rest_taken m c ≡ stays m
 none_taken m c none = ap (parts_taken m c) none
 

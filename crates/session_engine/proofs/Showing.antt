@@ -74,33 +74,6 @@ parts_shown m c pending before after leaves others alike count distinct = record
 
 -- ---- events
 
--- before anything came
-begins_empty : (cookie : Cookie) (live : Connections) → ((q : ℕ) → kept_at live q ≡ None) → kept_count live ≡ 0 → ShowsLive all_cut live (record { cookie = cookie; connections = [] })
-begins_empty cookie live none count = record { each = λ q. rw (none q) tt; count = count; distinct = tt }
-
-pub begins_with : (engine : Engine) → ((q : ℕ) → kept_at engine.live q ≡ None) → kept_count engine.live ≡ 0 → Shows all_cut engine (record { cookie = engine.cookie; connections = [] })
-begins_with engine none count = record { cookie = refl; live = begins_empty engine.cookie engine.live none count }
-
--- a connection that is live joins again
-live_stays : (m : Machine) (c : ℕ) (kept : Option Kept) (k : Option Connection) → connection_of c m.connections ≡ k → is_some kept ≡ true → Matches [] kept k → step m (Joined c) ≡ stays m
-live_stays m c None k is_k live match = absurd (false≢true live)
-live_stays m c (Some kept) None is_k live match = elim match [ ]
-live_stays m c (Some kept) (Some k) is_k live match = rw (is_k) refl
-
-pub joined_again : (m : Machine) (c : ℕ) (before after : Engine) → is_some (kept_at before.live c) ≡ true → Shows all_cut before m → after.cookie ≡ before.cookie → after.live ≡ before.live → after.acts ≡ [] → Gives (step m (Joined c)) after
-joined_again m c before after live shows cookie kept acts =
-    rw (live_stays m c (kept_at before.live c) (connection_of c m.connections) refl live (shows.live.each c)) (record {
-      acts = acts;
-      shows = record { cookie = shows.cookie ∙ sym cookie; live = rw kept shows.live };
-    })
-
--- one too many is closed at once
-pub turned_away : (m : Machine) (c : ℕ) (before after : Engine) → is_some (kept_at before.live c) ≡ false → nat_lt (kept_count before.live) live_limit ≡ false → Shows all_cut before m → after.cookie ≡ before.cookie → after.live ≡ before.live → after.acts ≡ Shut c ∷ [] → Gives (step m (Joined c)) after
-turned_away m c before after absent full shows cookie kept acts =
-    let none : connection_of c m.connections ≡ None = none_live (kept_at before.live c) (connection_of c m.connections) absent (shows.live.each c) in
-    let full_so : nat_lt (length m.connections) live_limit ≡ false = rw (shows.live.count) at full in
-    rw (none, full_so) (record { acts = acts; shows = record { cookie = shows.cookie ∙ sym cookie; live = rw kept shows.live } })
-
 new_kept : (cookie : Cookie) (kept : Kept) (c : ℕ) → IsNew cookie kept → IsKeptOf [] kept (joined cookie c)
 new_kept cookie kept c new = record { setup = new.setup; sequence = new.sequence; stands = rw (new.splitter) refl; before = []; count = refl; parts = rw (new.splitter) refl }
 
@@ -329,3 +302,24 @@ takes_none m c left before after cuts shows cookie =
         };
       };
     }
+
+match_used_up : (kept : Option Kept) (k : Option Connection) → Matches [] kept k → parts_on k ≡ []
+match_used_up None None match = refl
+match_used_up None (Some k) match = elim match [ ]
+match_used_up (Some kept) None match = elim match [ ]
+match_used_up (Some kept) (Some k) match = left_of [] kept k match ∙ none_whole kept
+
+-- nothing is left of a piece
+pub used_up : (m : Machine) (c : ℕ) (left : List ℕ) (engine : Engine) → length left ≡ 0 → Shows (to_cut c left) engine m → TakesNone m c engine
+used_up m c (x ∷ left) engine none shows = absurd (omega arith)
+used_up m c [] engine none shows = record {
+  none_left = match_used_up (kept_at engine.live c) (connection_of c m.connections) (rw (to_cut-same c []) at (shows.live.each c));
+  shows = record {
+    cookie = shows.cookie;
+    live = record {
+      each = everywhere (λ q. Matches [] (kept_at engine.live q) (connection_of q m.connections)) c (rw (to_cut-same c []) at (shows.live.each c)) (λ q apart. rw (to_cut-other c q [] apart) at (shows.live.each q));
+      count = shows.live.count;
+      distinct = shows.live.distinct;
+    };
+  };
+}

@@ -1,4 +1,4 @@
--- What one part of a stream brings: a whole frame, or a header that states too much.
+-- What one part of a stream brings: a whole frame, or the header of an oversize frame.
 use Rattle.std.specs.Prelude.{ℕ, ◌+◌, ◌%◌, ◌^◌, Bool, true, false, List, [], drop, slice_index, Option, Some, None, Result, Ok, Err, ◌==◌, ◌&&◌, nat_lt, not, is_some, if◌then◌else◌}
 use Rattle.std.specs.Option.{option_map}
 use Rattle.ice_values.specs.Fields.{ErrorFields}
@@ -100,7 +100,7 @@ abbrev pub error_about : Bool → ErrorFields → Message
 error_about true error = Xsmp (XsmpError error)
 error_about false error = Ice (Error error)
 
--- A header that states too much ends the connection, without an Error where its minor opcode is 0.
+-- An oversize frame ends the connection, without an Error where its minor opcode is 0.
 abbrev pub oversize_answer : AnySetup → ℕ → List ℕ → Answer
 oversize_answer setup sequence header =
     if slice_index header 1 == 0 then Closes None

@@ -1,4 +1,4 @@
--- The parts of a stream, one by one: its whole frames, and a header that states too much, behind which nothing is cut.
+-- The parts of a stream, one by one: its whole frames, and the header of an oversize frame, behind which nothing is cut.
 use Rattle.std.specs.Prelude.{ℕ, List, [], ◌∷◌, ◌++◌, map, length, take, drop, if◌then◌else◌}
 use Rattle.ice_framing.specs.Frames.{Standing, beginning, fed, cut, is_oversize}
 use Rattle.ice_framing.specs.declared.cutting.WholeFrame.{WholeFrame}
@@ -7,7 +7,7 @@ pub data Part : Type 0 where
   Whole : WholeFrame → Part
   TooMuch : List ℕ → Part
 
--- the header in front, where it states too much
+-- the header in front, where its frame is oversize
 abbrev pub oversize_part : Standing → List Part
 oversize_part at = if is_oversize at then TooMuch (take 8 at.held) ∷ [] else []
 

@@ -4,7 +4,7 @@ ghost use Rattle.ice_messages.specs.Reading.{decode_at};
 ghost use Rattle.ice_framing.specs.Frames.{byte_limit};
 ghost use Rattle.ice_values.specs.declared.numbers.Endian.{Endian as AnyEndian};
 ghost use Rattle.ice_setup.specs.Setup.{HasFittingBody, CanBeSaid as MovesWithin};
-ghost use Rattle.session_engine.specs.Answers.{named_in, outcome_of, message_outcome, refused, first_outcome, read_outcome, later_outcome, frame_outcome, is_opcode as is_opcode_of, is_ordered, error_about as error_about_of, oversize_answer, said_in};
+ghost use Rattle.session_engine.specs.Answers.{named_in, staying, closing, outcome_of, message_outcome, refused, first_outcome, read_outcome, later_outcome, frame_outcome, is_opcode as is_opcode_of, is_ordered, error_about as error_about_of, oversize_answer, said_in};
 ghost use Rattle.session_engine.specs.Messages.{CanBeSaid};
 
 use crate::messages::Message;
@@ -36,6 +36,24 @@ pub struct Outcome {
     pub answer: Answer,
 }
 
+impl Outcome {
+    /// The connection goes on from here, and the message, if any, goes back.
+    fn stays(setup: AnySetup, message: Option<Message>) -> Outcome
+        ensures { result ≡ staying setup message }
+    {
+        let answer = Answer::Stays(message);
+        Outcome { setup, answer }
+    }
+
+    /// The message, if any, goes back, and the connection is closed.
+    fn closes(setup: AnySetup, message: Option<Message>) -> Outcome
+        ensures { result ≡ closing setup message }
+    {
+        let answer = Answer::Closes(message);
+        Outcome { setup, answer }
+    }
+}
+
 /// What an Error names of a frame.
 fn named(sequence: u32, frame: &[u8]) -> Offending
     requires { 8 ≤ length frame.now }
@@ -52,13 +70,12 @@ fn settle(before: AnySetup, moved: Moved) -> Outcome
     ensures outcome { result ≡ outcome_of before moved }
     ensures said { MovesWithin moved → CanBeSaid (said_in result.answer) }
 {
-    let (setup, answer) = match moved {
-        Moved::Goes(setup, message) => (setup, Answer::Stays(message.map(Message::Ice))),
-        Moved::Ends(message) => (before, Answer::Closes(message.map(Message::Ice))),
-        Moved::Close => (before, Answer::Closes(None)),
-        Moved::Ask(setup) => (setup, Answer::Closes(None)),
-    };
-    Outcome { setup, answer }
+    match moved {
+        Moved::Goes(setup, message) => Outcome::stays(setup, message.map(Message::Ice)),
+        Moved::Ends(message) => Outcome::closes(before, message.map(Message::Ice)),
+        Moved::Close => Outcome::closes(before, None),
+        Moved::Ask(setup) => Outcome::closes(setup, None),
+    }
 }
 
 /// Takes a message of ICE.
@@ -87,15 +104,9 @@ fn refuse(setup: AnySetup, class: u16, offending: Offending, values: Octets) -> 
 {
     let error = Message::Ice(IceMessage::Error(refusal(&setup, class, offending, values)));
     if setup.connected() {
-        return Outcome {
-            setup,
-            answer: Answer::Stays(Some(error)),
-        };
+        return Outcome::stays(setup, Some(error));
     }
-    Outcome {
-        setup,
-        answer: Answer::Closes(Some(error)),
-    }
+    Outcome::closes(setup, Some(error))
 }
 
 /// Takes the first frame of a connection.
@@ -185,19 +196,13 @@ fn take_later(
 {
     let (opcode, minor) = (frame[0], frame[1]);
     if minor == 0 {
-        return Ok(Outcome {
-            setup,
-            answer: Answer::Stays(None),
-        });
+        return Ok(Outcome::stays(setup, None));
     }
     if opcode == 0 {
         return take_ice(alloc, setup, sequence, endian, frame);
     }
     if is_opcode(setup.client_opcode(), opcode) {
-        return Ok(Outcome {
-            setup,
-            answer: Answer::Closes(None),
-        });
+        return Ok(Outcome::closes(setup, None));
     }
     let values = opcode_values(alloc, opcode)?;
     Ok(refuse(setup, BAD_MAJOR, named(sequence, frame), values))
@@ -232,7 +237,7 @@ fn error_about(of_xsmp: bool, error: ErrorBody) -> Message
     Message::Ice(IceMessage::Error(error))
 }
 
-/// The answer to a header that states more than a frame may have.
+/// The answer to the header of an oversize frame.
 fn answer_oversize(alloc: Global, setup: &AnySetup, sequence: u32, header: &[u8; 8]) -> Answer
     ensures answer { result ≡ oversize_answer setup.now sequence header.now }
     ensures said { CanBeSaid (said_in result) }
@@ -247,7 +252,7 @@ fn answer_oversize(alloc: Global, setup: &AnySetup, sequence: u32, header: &[u8;
     Answer::Closes(Some(error_about(is_opcode(setup.client_opcode(), opcode), error)))
 }
 
-/// The answer to the header that a splitter holds where it states too much.
+/// The answer to the header of an oversize frame, which a splitter holds.
 pub fn answer_header(alloc: Global, setup: &AnySetup, sequence: u32, splitter: &Splitter) -> Answer
     requires { 8 ≤ length splitter.now.held }
     ensures answer { result ≡ oversize_answer setup.now sequence (take 8 splitter.now.held) }

@@ -83,12 +83,7 @@ impl Engine {
 
     /// Hears the rest of a piece up to the end of the first part of the stream, and says how many
     /// bytes that was. `None` where it completes no part.
-    pub fn cut(
-        &mut self,
-        alloc: Global,
-        conn: Conn,
-        left: &[u8],
-    ) -> Result<Option<usize>, NoMemory>
+    pub fn cut(&mut self, alloc: Global, conn: Conn, left: &[u8]) -> Result<Option<usize>, NoMemory>
         ensures takes { (m : Machine) → Shows (to_cut conn left.now) self.old m → IfOk result (λ count. Takes m conn left.now count self.new) }
         ensures some { IfOk result (λ count. IfSome count (λ n. 1 ≤ n)) }
         ensures within { IfOk result (λ count. IfSome count (λ n. n ≤ length left.now)) }

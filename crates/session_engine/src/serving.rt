@@ -87,7 +87,7 @@ fn take_piece<W: Links>(
 {
     let mut left = bytes;
     let mut turn = Turn::GoesOn;
-    loop {
+    while !left.is_empty() {
         match engine.cut(alloc, conn, left) {
             Ok(None) => return Ok(turn),
             Ok(Some(count)) => {
@@ -100,6 +100,7 @@ fn take_piece<W: Links>(
             Err(NoMemory) => return Err(Halt::NoMemory),
         }
     }
+    Ok(turn)
 }
 
 /// Does what a new connection brings.

@@ -2,7 +2,7 @@ ghost use Rattle.std.specs.Prelude.{IfOk, ◌≤◌, length};
 ghost use Rattle.std.specs.List.{AllByRecursion};
 ghost use Rattle.sm_world.specs.Events.{HasPieceSize};
 
-use crate::{ServeFault, serve};
+use crate::{ServeFault, at_most_64_live, serve};
 use ice_cookie::Cookie;
 use sm_world::{Effect, Event, EventList, MemWorld, NoMemory, NumberList, Octets, SteadyWorld};
 use std::alloc::Global;
@@ -139,6 +139,7 @@ fn a_refused_call_is_a_fault(rt: HostRuntime) -> Result<(), Fail> {
 
 #[test]
 fn turns_are_spent(rt: HostRuntime) -> Result<(), Fail> {
+    at_most_64_live(COOKIE);
     expect_spent(&rt, 0, "")?;
     expect_spent(&rt, 1, ORDER_SENT)?;
     expect_spent(&rt, 2, PING_ANSWERED)

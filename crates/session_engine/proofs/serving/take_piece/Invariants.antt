@@ -7,12 +7,12 @@ use Rattle.session_engine.proofs.Pieces.{Taking}
 use Rattle.session_engine.proofs.serving.take_piece.Given as goal
 
 -- for each machine that the session showed before the piece
-abbrev pub invariant-loop-count : goal.invariant-loop-count
-invariant-loop-count g l = record {
+abbrev pub invariant-loop-left : goal.invariant-loop-left
+invariant-loop-left g l = record {
   taking : (m : Machine) → Shows all_cut l.fn.engine m → Taking (step m (Piece l.conn l.bytes)) l.conn l.left (g.W.Told.outside l.fn.world).told (g.W.Told.outside l.world).told l.engine l.turn;
   coming : (g.W.Told.outside l.world).coming ≡ (g.W.Told.outside l.fn.world).coming;
   counts : NotFallen (g.W.Told.outside l.fn.world).faults (g.W.Told.outside l.world).faults;
 }
 
-abbrev pub decreases-loop-count : goal.decreases-loop-count
-decreases-loop-count g l = length l.left
+abbrev pub decreases-loop-left : goal.decreases-loop-left
+decreases-loop-left g l = length l.left
