@@ -6,3 +6,4 @@ pub mod Level
 pub mod Ruled
 pub mod Replied
 pub mod Asked
+pub mod Rest

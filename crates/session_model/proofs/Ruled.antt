@@ -137,7 +137,7 @@ fit-die [] h e = tt
 fit-die (c ∷ conns) h e = (e, fit-die conns (Gave c Die ▷ h) e)
 
 -- the history in which a round has just been agreed
-abbrev closing : Book → History → History
+abbrev pub closing : Book → History → History
 closing book h = Agreed ▷ Committed book ▷ h
 
 sound-closing : (book : Book) (h : History) → Sound h → Sound (closing book h)
@@ -162,7 +162,7 @@ good-die book h e s = good-by (gave_each Die (of.registered h)) (closing book h)
       (λ c. member-by (is_in c (of.registered h)) (of.phase_of c h) (dying_phase (of.phase_of c h)) (λ i. dying-no-member (of.phase_of c h)) (λ i. unregistered-no-member (of.phase_of c h) (sym (s.registered_are c) ∙ i))))
 
 -- the connections that are shut at the end
-abbrev others : Clients → List ℕ
+abbrev pub others : Clients → List ℕ
 others clients = filter (λ c. not (is_in c clients.registered)) clients.live
 
 good-ended : (book : Book) (h : History) → of.is_ending (closing book h) ≡ true → Sound h → Good (onto (closing book h) (ended (reading h).clients book))
@@ -249,10 +249,10 @@ good-idle false h f e g = g
 -- A round that runs
 
 -- the members of a round, as far as they are
-abbrev rows_now : History → List Member
+abbrev pub rows_now : History → List Member
 rows_now h = of.rows (λ c. of.phase_of c h) (λ c. of.saved_of c h) (of.members h)
 
-abbrev round_now : of.Begun → History → Agreement
+abbrev pub round_now : of.Begun → History → Agreement
 round_now r h = record { members = rows_now h; began_empty = is_nil r.members; wanted = r.wanted }
 
 ending-closing : (r : of.Begun) (book : Book) (h : History) → of.running h ≡ Some r → r.wanted.shutdown ≡ true → of.is_ending (closing book h) ≡ true
