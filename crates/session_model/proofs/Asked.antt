@@ -66,11 +66,11 @@ none-ready : (p : Option Phase) → NoneMore p (ready_phase p)
 none-ready None e = absurd (grind arith)
 none-ready (Some p) e = e
 
-none-at : (b : Bool) (p q : Option Phase) → NoneMore p q → NoneMore p (cond b q p)
+pub none-at : (b : Bool) (p q : Option Phase) → NoneMore p q → NoneMore p (cond b q p)
 none-at true p q k e = k e
 none-at false p q k e = e
 
-none-gone : (b : Bool) (p : Option Phase) → NoneMore p (cond b None p)
+pub none-gone : (b : Bool) (p : Option Phase) → NoneMore p (cond b None p)
 none-gone true p e = absurd (grind arith)
 none-gone false p e = e
 

@@ -7,3 +7,5 @@ pub mod Ruled
 pub mod Replied
 pub mod Asked
 pub mod Rest
+pub mod Falls
+pub mod Rests

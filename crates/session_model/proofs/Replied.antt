@@ -198,7 +198,7 @@ good-ordered Status h g = good-plain (Printed (status_text (reading h)) ∷ []) 
 good-outside : (event : SessionEvent) (h : History) → Good h → Good (Outside event ▷ h)
 good-outside event h g = good-plain (Outside event ∷ []) h (tt, tt) g
 
-good-reply : (event : SessionEvent) (h : History) → Good h → Good (onto (Outside event ▷ h) (reply (reading h) event))
+pub good-reply : (event : SessionEvent) (h : History) → Good h → Good (onto (Outside event ▷ h) (reply (reading h) event))
 good-reply (Joined c) h g = good-plain _ (Outside (Joined c) ▷ h) (plain-cond (has_no_place (reading h)) (Closed c ∷ []) [] (tt, tt) tt) (good-outside (Joined c) h g)
 good-reply (Ready c) h g = good-outside (Ready c) h g
 good-reply (Said c m sequence frame) h g = good-said c m sequence frame h (good-outside (Said c m sequence frame) h g)

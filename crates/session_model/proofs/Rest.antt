@@ -64,7 +64,7 @@ same-waiting h g s = filter-same (λ c. is_asked (of.phase_of c g)) (λ c. is_as
 same-held : (h g : History) → SameToken h g → of.is_held g ≡ of.is_held h
 same-held h g s = any-same (λ c. is_interacting (of.phase_of c g)) (λ c. is_interacting (of.phase_of c h)) (of.registered g) s.interacting ∙ ap (λ (cs : List ℕ). list_any (λ c. is_interacting (of.phase_of c h)) cs) s.registered
 
-same-next : (h g : History) → SameToken h g → next_holder (of.is_held g) (of.waiting g) ≡ next_holder (of.is_held h) (of.waiting h)
+pub same-next : (h g : History) → SameToken h g → next_holder (of.is_held g) (of.waiting g) ≡ next_holder (of.is_held h) (of.waiting h)
 same-next h g s = ap (λ (b : Bool). next_holder b (of.waiting g)) (same-held h g s) ∙ ap (λ (cs : List ℕ). next_holder (of.is_held h) cs) (same-waiting h g s)
 
 -- Messages to each
@@ -77,23 +77,23 @@ registered-gave : (m : XsmpMessage) → is_reply m ≡ false → (c : ℕ) (h : 
 registered-gave (RegisterClientReply id) e c h = absurd (grind arith)
 registered-gave m e c h = refl
 
-waits-each : (m : XsmpMessage) → is_reply m ≡ false → (conns : List ℕ) (h : History) → of.waits (onto h (gave_each m conns)) ≡ of.waits h
+pub waits-each : (m : XsmpMessage) → is_reply m ≡ false → (conns : List ℕ) (h : History) → of.waits (onto h (gave_each m conns)) ≡ of.waits h
 waits-each m e [] h = refl
 waits-each m e (c ∷ conns) h = waits-each m e conns (Gave c m ▷ h) ∙ waits-gave m e c h
 
-registered-each : (m : XsmpMessage) → is_reply m ≡ false → (conns : List ℕ) (h : History) → of.registered (onto h (gave_each m conns)) ≡ of.registered h
+pub registered-each : (m : XsmpMessage) → is_reply m ≡ false → (conns : List ℕ) (h : History) → of.registered (onto h (gave_each m conns)) ≡ of.registered h
 registered-each m e [] h = refl
 registered-each m e (c ∷ conns) h = registered-each m e conns (Gave c m ▷ h) ∙ registered-gave m e c h
 
-askers-each : (m : XsmpMessage) (conns : List ℕ) (h : History) → of.askers (onto h (gave_each m conns)) ≡ of.askers h
+pub askers-each : (m : XsmpMessage) (conns : List ℕ) (h : History) → of.askers (onto h (gave_each m conns)) ≡ of.askers h
 askers-each m [] h = refl
 askers-each m (c ∷ conns) h = askers-each m conns (Gave c m ▷ h)
 
-running-each : (m : XsmpMessage) (conns : List ℕ) (h : History) → of.running (onto h (gave_each m conns)) ≡ of.running h
+pub running-each : (m : XsmpMessage) (conns : List ℕ) (h : History) → of.running (onto h (gave_each m conns)) ≡ of.running h
 running-each m [] h = refl
 running-each m (c ∷ conns) h = running-each m conns (Gave c m ▷ h)
 
-same-each : (m : XsmpMessage) → IsOnce m → is_reply m ≡ false → ((p : Option Phase) → is_asked (phase_given m p) ≡ is_asked p) → ((p : Option Phase) → is_interacting (phase_given m p) ≡ is_interacting p) → (conns : List ℕ) (h : History)
+pub same-each : (m : XsmpMessage) → IsOnce m → is_reply m ≡ false → ((p : Option Phase) → is_asked (phase_given m p) ≡ is_asked p) → ((p : Option Phase) → is_interacting (phase_given m p) ≡ is_interacting p) → (conns : List ℕ) (h : History)
     → SameToken h (onto h (gave_each m conns))
 same-each m o e a i conns h = record {
   asked = λ c. ap (λ (p : Option Phase). is_asked p) (phase-each m o conns h c) ∙ at-one (λ p. is_asked p) (is_in c conns) (of.phase_of c h) (phase_given m (of.phase_of c h)) (a (of.phase_of c h));
@@ -104,19 +104,19 @@ same-each m o e a i conns h = record {
 
 -- The parts
 
-two_most : (b : Bool) → cond b 2 1 ≤ 2
+pub two_most : (b : Bool) → cond b 2 1 ≤ 2
 two_most true = omega arith
 two_most false = omega arith
 
-one_least : (b : Bool) → 1 ≤ cond b 2 1
+pub one_least : (b : Bool) → 1 ≤ cond b 2 1
 one_least true = omega arith
 one_least false = omega arith
 
-round-most : (o : Option Agreement) → round_part o ≤ 2
+pub round-most : (o : Option Agreement) → round_part o ≤ 2
 round-most None = omega arith
 round-most (Some round) = two_most (two_ready round.members)
 
-token-most : (o : Option ℕ) → token_part o ≤ 2
+pub token-most : (o : Option ℕ) → token_part o ≤ 2
 token-most None = omega arith
 token-most (Some c) = omega arith
 
@@ -168,7 +168,7 @@ now-held c cs h e g =
       (g.sound.registered_are c ∙ asked-registered (of.phase_of c h) (first-asked c cs h e))
       (held-own c (of.phase_of c h) (asked-held (of.phase_of c h) (first-asked c cs h e)))
 
-falls-token : (c : ℕ) (cs : List ℕ) (h : History) → of.is_held h ≡ false → of.waiting h ≡ c ∷ cs → Good h → left_to_do (Gave c Interact ▷ h) < left_to_do h
+pub falls-token : (c : ℕ) (cs : List ℕ) (h : History) → of.is_held h ≡ false → of.waiting h ≡ c ∷ cs → Good h → left_to_do (Gave c Interact ▷ h) < left_to_do h
 falls-token c cs h n e g =
     let r : round_part (of.round (Gave c Interact ▷ h)) ≡ round_part (of.round h) = ap (λ (o : Option Agreement). round_part o) (round-token c h) in
     let a : token_part (next_holder (of.is_held (Gave c Interact ▷ h)) (of.waiting (Gave c Interact ▷ h))) ≡ 0 = ap (λ (b : Bool). token_part (next_holder b (of.waiting (Gave c Interact ▷ h)))) (now-held c cs h e g) in
@@ -177,7 +177,7 @@ falls-token c cs h n e g =
 
 -- The second phase begins
 
-round-part-some : (r : of.Begun) (h : History) → of.running h ≡ Some r → round_part (of.round h) ≡ cond (two_ready (rows_now h)) 2 1
+pub round-part-some : (r : of.Begun) (h : History) → of.running h ≡ Some r → round_part (of.round h) ≡ cond (two_ready (rows_now h)) 2 1
 round-part-some r h e = ap (λ (o : Option of.Begun). round_part (of.course o (rows_now h))) e
 
 cond-conns : (b : Bool) (m : Member) (ms : List Member) → conns_of (cond b (m ∷ ms) ms) ≡ cond b (m.conn ∷ conns_of ms) (conns_of ms)
@@ -232,7 +232,7 @@ wants-by true p s t k = second-wants p t
 wants-by false p s t k = wants-any p t s ∙ k refl
 
 -- the history in which those that want the second phase have begun with it
-abbrev seconded : History → History
+abbrev pub seconded : History → History
 seconded h = onto h (gave_each SaveYourselfPhase2 (wanting_two (rows_now h)))
 
 not-given : (c : ℕ) (h : History) → is_in c (of.members h) ≡ true → is_in c (wanting_two (rows_now h)) ≡ false → wants_two (step_of (of.phase_of c h) (is_some (of.saved_of c h))) ≡ false
@@ -253,7 +253,7 @@ not-ready h =
     and-second (list_all (λ (m : Member). is_done m.step || wants_two m.step) (rows_now (seconded h))) (list_any (λ (m : Member). wants_two m.step) (rows_now (seconded h)))
       (none-wants (λ c. of.phase_of c (seconded h)) (λ c. of.saved_of c (seconded h)) (of.members (seconded h)) (λ c i. seconded-wants c h i))
 
-falls-second : (r : of.Begun) (h : History) → of.running h ≡ Some r → two_ready (rows_now h) ≡ true → left_to_do (seconded h) < left_to_do h
+pub falls-second : (r : of.Begun) (h : History) → of.running h ≡ Some r → two_ready (rows_now h) ≡ true → left_to_do (seconded h) < left_to_do h
 falls-second r h e t =
     let w : length (of.waits (seconded h)) ≡ length (of.waits h) = ap (λ (ws : List Wait). length ws) (waits-each SaveYourselfPhase2 refl (wanting_two (rows_now h)) h) in
     let n : token_part (next_holder (of.is_held (seconded h)) (of.waiting (seconded h))) ≡ token_part (next_holder (of.is_held h) (of.waiting h)) =

@@ -19,6 +19,7 @@ pub use laws::{
     death_is_of_shutdown,
     phases_tell_who_waits,
     nobody_waits_twice,
+    settling_comes_to_rest,
 };
 pub use marks::Marks;
 pub use phase::Phase;
