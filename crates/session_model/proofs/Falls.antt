@@ -1,31 +1,28 @@
 -- The rules that end and begin rounds leave less to do, so settling comes to rest.
-use Rattle.std.proofs.Common.{◌≡◌, refl, ℕ, zero, suc, ◌+◌, ◌*◌, ◌<◌, ◌≤◌, Bool, true, false, cond, not, ◌&&◌, ◌||◌, List, [], ◌∷◌, ◌++◌, map, filter, drop, length, eqb, sym, ap, subst, ◌∙◌, arith, rules, inl, inr}
-use Rattle.std.specs.Prelude.{Option, Some, None, is_some, is_none, filter_map, ◌⊎◌}
+use Rattle.std.proofs.Common.{◌≡◌, refl, ℕ, zero, suc, ◌+◌, ◌*◌, ◌<◌, ◌≤◌, Bool, true, false, cond, not, ◌&&◌, List, [], ◌∷◌, ◌++◌, map, filter, drop, length, eqb, sym, ap, subst, ◌∙◌, arith, inl, inr}
+use Rattle.std.specs.Prelude.{Option, Some, None, filter_map, ◌⊎◌}
 use Rattle.std.proofs.lemmas.Bool.Decides.{nat_tests}
 use Rattle.sm_world.specs.declared.commands.Command.{Command}
 use Rattle.checkpoint_records.specs.declared.records.Book.{Book}
 use Rattle.round_agreement.specs.declared.wanted.Wanted.{Wanted}
-use Rattle.round_agreement.specs.declared.round.Member.{Member}
 use Rattle.round_agreement.specs.Agreement.{Agreement, two_ready, agreed, deserted, is_nil, conns_of}
-use Rattle.xsmp_messages.specs.declared.message.XsmpMessage.{XsmpMessage}
-use Rattle.xsmp_messages.specs.declared.message.XsmpMessage.TheVariants.{SaveYourself, Interact, SaveComplete, Die, SaveYourselfPhase2}
-use Rattle.interact_queue.specs.Queue.{is_in, without, next_holder}
+use Rattle.xsmp_messages.specs.declared.message.XsmpMessage.TheVariants.{SaveComplete, Die}
+use Rattle.interact_queue.specs.Queue.{is_in, next_holder}
 use Rattle.discard_ledger.specs.Discards.{issuable}
 use Rattle.session_model.specs.declared.phase.Phase.{Phase}
-use Rattle.session_model.specs.declared.phase.Phase.TheVariants.{Unregistered, Idle, Saving, Asked, Interacting, WantsTwo, SavingTwo, AskedTwo, InteractingTwo, Done, Owing, Dying}
+use Rattle.session_model.specs.declared.phase.Phase.TheVariants.{Unregistered, Idle, Done}
 use Rattle.session_model.specs.declared.waits.Wait.{Wait}
 use Rattle.session_model.specs.Phases.{is_registered, is_asked, is_interacting, is_shutdown, dying_phase, begun_phase, completed_phase}
-use Rattle.session_model.specs.Moves.{Move, Cause, Outside, Gave, Closed, Began, Over, Agreed, Tried, Committed, Finished, History, ◌▷◌, onto, gave_each, tried_each, Discard, End}
+use Rattle.session_model.specs.Moves.{Move, Cause, Closed, Began, Over, Tried, Committed, Finished, History, ◌▷◌, onto, gave_each, tried_each, Discard, End}
 use Rattle.session_model.specs.Waits.{is_only, disowned, waits_left}
 use Rattle.session_model.specs.Readings as of
-use Rattle.session_model.specs.Reading.{Clients, reading}
+use Rattle.session_model.specs.Reading.{reading}
 use Rattle.session_model.specs.Books.{next_book, issue, discarded, standing}
-use Rattle.session_model.specs.Rules.{last_command, ended, completed, agreement, agreement_with, wanting_two, over_rule, agreed_rule, running_rule, save_yourself, members_for, begin, begin_first, is_free, idle_rule, round_rule, token_rule, rule, go_on, settle, settled, finished}
-use Rattle.session_model.proofs.Sound.{or-true}
+use Rattle.session_model.specs.Rules.{last_command, ended, completed, agreement, agreement_with, over_rule, agreed_rule, running_rule, save_yourself, members_for, begin, begin_first, is_free, idle_rule, round_rule, token_rule, rule, go_on, settle, settled, finished}
 use Rattle.session_model.proofs.Level.{Good, onto-append, phase-each, once-begun, once-completed, once-dying}
 use Rattle.session_model.proofs.Ruled.{denied, differ, rows_now, round_now, closing, others, good-rule}
-use Rattle.session_model.proofs.Asked.{in-filter, phases-tell, none-given, none-gone, none-at}
-use Rattle.session_model.proofs.Rest.{left_to_do, round_part, token_part, SameToken, same-next, same-each, waits-each, registered-each, askers-each, running-each, round-part-some, one_least, round-most, at-most, falls-token, falls-second}
+use Rattle.session_model.proofs.Asked.{phases-tell, none-gone}
+use Rattle.session_model.proofs.Rest.{left_to_do, round_part, token_part, SameToken, same-next, same-each, waits-each, running-each, round-part-some, one_least, round-most, at-most, falls-token, falls-second}
 
 -- Moves that leave rounds and the token alone
 
@@ -162,13 +159,13 @@ dropped false ws = omega arith
 hushed-die : (book : Book) (h : History) → Good h → Hushed (length (of.waits h)) (onto (closing book h) (gave_each Die (of.registered h)))
 hushed-die book h g = record {
   waits =
-    let e : length (of.waits (onto (closing book h) (gave_each Die (of.registered h)))) ≡ length (of.waits (closing book h)) = ap (λ (ws : List Wait). length ws) (waits-each Die refl (of.registered h) (closing book h)) in
-    omega (arith, e, dropped (is_shutdown (of.wanted h)) (of.waits h));
+      let e : length (of.waits (onto (closing book h) (gave_each Die (of.registered h)))) ≡ length (of.waits (closing book h)) = ap (λ (ws : List Wait). length ws) (waits-each Die refl (of.registered h) (closing book h)) in
+      omega (arith, e, dropped (is_shutdown (of.wanted h)) (of.waits h));
   running = running-each Die (of.registered h) (closing book h);
   none = λ c.
-    ap (λ (p : Option Phase). is_asked p) (phase-each Die once-dying (of.registered h) (closing book h) c)
+      ap (λ (p : Option Phase). is_asked p) (phase-each Die once-dying (of.registered h) (closing book h) c)
       ∙ asked-by (is_in c (of.registered h)) (of.phase_of c h) (dying_phase (of.phase_of c h)) (λ i. dying-asked (of.phase_of c h))
-        (λ i. asked-registered (of.phase_of c h) (sym (g.sound.registered_are c) ∙ i));
+      (λ i. asked-registered (of.phase_of c h) (sym (g.sound.registered_are c) ∙ i));
 }
 
 onto-three : (h : History) (xs ys zs : List Move) → onto h (xs ++ ys ++ zs) ≡ onto (onto (onto h xs) ys) zs
@@ -180,8 +177,8 @@ peace-ended book h g =
     let shut : List ℕ = others (reading h).clients in
     let last : List Command = filter_map (last_command (reading h).clients) book.entries in
     let k : AtPeace (length (of.waits h)) (onto (onto dead (map Closed shut)) (tried_each End last)) =
-      peace-same (length (of.waits h)) (onto dead (map Closed shut)) (onto (onto dead (map Closed shut)) (tried_each End last)) (silent-all (tried_each End last) (onto dead (map Closed shut)) (silent-tried End last))
-        (peace-hushed (length (of.waits h)) (onto dead (map Closed shut)) (hushed-all (length (of.waits h)) shut dead (hushed-die book h g))) in
+    peace-same (length (of.waits h)) (onto dead (map Closed shut)) (onto (onto dead (map Closed shut)) (tried_each End last)) (silent-all (tried_each End last) (onto dead (map Closed shut)) (silent-tried End last))
+    (peace-hushed (length (of.waits h)) (onto dead (map Closed shut)) (hushed-all (length (of.waits h)) shut dead (hushed-die book h g))) in
     subst (λ (k : History). AtPeace (length (of.waits h)) k) (sym (onto-three (closing book h) (gave_each Die (of.registered h)) (map Closed shut) (tried_each End last))) k
 
 completed-asked : (p : Option Phase) → is_asked (completed_phase p) ≡ is_asked p
@@ -200,13 +197,13 @@ token-closing book h = record { asked = λ c. refl; interacting = λ c. refl; re
 peace-complete : (conns : List ℕ) (book : Book) (h : History) → token_part (next_holder (of.is_held h) (of.waiting h)) ≡ 0 → AtPeace (length (of.waits h)) (onto (closing book h) (gave_each SaveComplete conns))
 peace-complete conns book h n = record {
   waits =
-    let e : length (of.waits (onto (closing book h) (gave_each SaveComplete conns))) ≡ length (of.waits (closing book h)) = ap (λ (ws : List Wait). length ws) (waits-each SaveComplete refl conns (closing book h)) in
-    omega (arith, e, dropped (is_shutdown (of.wanted h)) (of.waits h));
+      let e : length (of.waits (onto (closing book h) (gave_each SaveComplete conns))) ≡ length (of.waits (closing book h)) = ap (λ (ws : List Wait). length ws) (waits-each SaveComplete refl conns (closing book h)) in
+      omega (arith, e, dropped (is_shutdown (of.wanted h)) (of.waits h));
   running = running-each SaveComplete conns (closing book h);
   token =
-    ap (λ (o : Option ℕ). token_part o)
+      ap (λ (o : Option ℕ). token_part o)
       (same-next (closing book h) (onto (closing book h) (gave_each SaveComplete conns)) (same-each SaveComplete once-completed refl completed-asked completed-interacting conns (closing book h))
-        ∙ same-next h (closing book h) (token-closing book h)) ∙ n;
+      ∙ same-next h (closing book h) (token-closing book h)) ∙ n;
 }
 
 peace-completed : (b : Bool) (book : Book) (h : History) (round : Agreement) → Good h → token_part (next_holder (of.is_held h) (of.waiting h)) ≡ 0
@@ -219,9 +216,9 @@ peace-agreed : (book : Book) (h : History) (round : Agreement) → Good h → to
 peace-agreed book h round g n =
     let done : List Move = completed round.wanted.shutdown (reading h).clients round book in
     let k : AtPeace (length (of.waits h)) (onto (onto (closing book h) done) (discarded (reading h).clients book)) =
-      peace-same (length (of.waits h)) (onto (closing book h) done) (onto (onto (closing book h) done) (discarded (reading h).clients book))
-        (silent-all (discarded (reading h).clients book) (onto (closing book h) done) (silent-issue book (issuable (standing (reading h).clients) book.pending)))
-        (peace-completed round.wanted.shutdown book h round g n) in
+    peace-same (length (of.waits h)) (onto (closing book h) done) (onto (onto (closing book h) done) (discarded (reading h).clients book))
+    (silent-all (discarded (reading h).clients book) (onto (closing book h) done) (silent-issue book (issuable (standing (reading h).clients) book.pending)))
+    (peace-completed round.wanted.shutdown book h round g n) in
     subst (λ (k : History). AtPeace (length (of.waits h)) k) (sym (onto-append (closing book h) done (discarded (reading h).clients book))) k
 
 pub no-round : (h : History) → of.running h ≡ None → round_part (of.round h) ≡ 0
@@ -276,9 +273,9 @@ falls-begin wait ws h e r n =
     let w : length (of.waits g) ≡ length ws = ap (λ (vs : List Wait). length vs) (waits-each (save_yourself wait.wanted) refl conns (Began conns wait.wanted ▷ h) ∙ ap (λ (vs : List Wait). drop 1 vs) e) in
     let v : length (of.waits h) ≡ length ws + 1 = ap (λ (vs : List Wait). length vs) e ∙ omega arith in
     let t : token_part (next_holder (of.is_held g) (of.waiting g)) ≡ 0 =
-      ap (λ (o : Option ℕ). token_part o)
-        (same-next (Began conns wait.wanted ▷ h) g (same-each (save_yourself wait.wanted) once-begun refl begun-asked begun-interacting conns (Began conns wait.wanted ▷ h))
-          ∙ same-next h (Began conns wait.wanted ▷ h) (token-began conns wait.wanted h)) ∙ n in
+    ap (λ (o : Option ℕ). token_part o)
+    (same-next (Began conns wait.wanted ▷ h) g (same-each (save_yourself wait.wanted) once-begun refl begun-asked begun-interacting conns (Began conns wait.wanted ▷ h))
+    ∙ same-next h (Began conns wait.wanted ▷ h) (token-began conns wait.wanted h)) ∙ n in
     omega (arith, w, v, t, round-most (of.round g))
 
 falls-first : (ws : List Wait) (h : History) → of.waits h ≡ ws → of.running h ≡ None → token_part (next_holder (of.is_held h) (of.waiting h)) ≡ 0 → Falls h (begin_first (of.registered h) ws)

@@ -1,30 +1,25 @@
 -- Settling comes to rest: each rule that holds makes less of what is left to do.
-use Rattle.std.proofs.Common.{◌≡◌, refl, ℕ, zero, suc, ◌+◌, ◌*◌, ◌<◌, ◌≤◌, Bool, true, false, cond, not, ◌&&◌, ◌||◌, List, [], ◌∷◌, ◌++◌, map, filter, drop, length, eqb, sym, ap, subst, ◌∙◌, arith, rules}
-use Rattle.std.specs.Prelude.{Option, Some, None, is_some, is_none}
+use Rattle.std.proofs.Common.{◌≡◌, refl, ℕ, ◌+◌, ◌*◌, ◌<◌, ◌≤◌, Bool, true, false, cond, ◌&&◌, ◌||◌, List, [], ◌∷◌, filter, length, eqb, sym, ap, ◌∙◌, arith}
+use Rattle.std.specs.Prelude.{Option, Some, None, is_some}
 use Rattle.std.specs.List.{list_any, list_all}
 use Rattle.std.proofs.lemmas.Bool.Decides.{nat_tests}
-use Rattle.sm_world.specs.declared.commands.Command.{Command}
 use Rattle.ice_values.specs.declared.property.Property.{Property}
-use Rattle.checkpoint_records.specs.declared.records.Book.{Book}
-use Rattle.round_agreement.specs.declared.wanted.Wanted.{Wanted}
 use Rattle.round_agreement.specs.declared.round.Member.{Member}
-use Rattle.round_agreement.specs.Agreement.{Agreement, is_done, wants_two, all_done, two_ready, agreed, deserted, is_nil, conns_of}
+use Rattle.round_agreement.specs.Agreement.{Agreement, is_done, wants_two, two_ready, conns_of}
 use Rattle.xsmp_messages.specs.declared.message.XsmpMessage.{XsmpMessage}
-use Rattle.xsmp_messages.specs.declared.message.XsmpMessage.TheVariants.{RegisterClientReply, SaveYourself, Interact, SaveComplete, Die, SaveYourselfPhase2}
-use Rattle.interact_queue.specs.Queue.{is_in, without, next_holder}
+use Rattle.xsmp_messages.specs.declared.message.XsmpMessage.TheVariants.{RegisterClientReply, Interact, SaveYourselfPhase2}
+use Rattle.interact_queue.specs.Queue.{is_in, next_holder}
 use Rattle.session_model.specs.declared.phase.Phase.{Phase}
-use Rattle.session_model.specs.declared.phase.Phase.TheVariants.{Unregistered, Idle, Saving, Asked, Interacting, WantsTwo, SavingTwo, AskedTwo, InteractingTwo, Done, Owing, Dying}
+use Rattle.session_model.specs.declared.phase.Phase.TheVariants.{Asked, WantsTwo, AskedTwo, Done}
 use Rattle.session_model.specs.declared.waits.Wait.{Wait}
-use Rattle.session_model.specs.Phases.{is_registered, is_asked, is_interacting, step_of, held_phase, second_begun_phase, dying_phase, begun_phase, completed_phase, phase_given}
-use Rattle.session_model.specs.Moves.{Move, Outside, Gave, Blamed, Closed, Began, Over, Agreed, Tried, Committed, Printed, Finished, History, ◌▷◌, onto, gave_each, tried_each}
-use Rattle.session_model.specs.Waits.{waits_left}
+use Rattle.session_model.specs.Phases.{is_registered, is_asked, is_interacting, step_of, held_phase, second_begun_phase, phase_given}
+use Rattle.session_model.specs.Moves.{Gave, History, ◌▷◌, onto, gave_each}
 use Rattle.session_model.specs.Readings as of
-use Rattle.session_model.specs.Reading.{reading}
-use Rattle.session_model.specs.Rules.{wanting_two, save_yourself, rule, go_on, settle}
+use Rattle.session_model.specs.Rules.{wanting_two}
 use Rattle.session_model.proofs.PhaseSteps.{is_reply}
 use Rattle.session_model.proofs.Sound.{at-one, or-true}
-use Rattle.session_model.proofs.Level.{Good, IsOnce, phase-each, members-each, once-begun, once-completed, once-dying}
-use Rattle.session_model.proofs.Ruled.{any-in, differ, denied, rows_now, good-rule}
+use Rattle.session_model.proofs.Level.{Good, IsOnce, phase-each, members-each}
+use Rattle.session_model.proofs.Ruled.{any-in, differ, denied, rows_now}
 use Rattle.session_model.proofs.Asked.{phases-tell, in-filter}
 
 -- What is left to do: four for each round that waits, one for a round that runs and one more where its second phase is due, two
@@ -142,7 +137,7 @@ rows-same f g s t (c ∷ cs) k = ap (λ (x : _). record { conn = c; step = x } �
 round-token : (c : ℕ) (h : History) → of.round (Gave c Interact ▷ h) ≡ of.round h
 round-token c h = ap (λ (xs : List Member). of.course (of.running h) xs)
     (rows-same (λ d. of.phase_of d h) (λ d. of.phase_of d (Gave c Interact ▷ h)) (λ d. of.saved_of d h) (λ d. of.saved_of d (Gave c Interact ▷ h)) (of.members h)
-      (λ d. step-at (eqb c d) (of.phase_of d h) (held_phase (of.phase_of d h)) (of.saved_of d h) (held-step (of.phase_of d h))))
+    (λ d. step-at (eqb c d) (of.phase_of d h) (held_phase (of.phase_of d h)) (of.saved_of d h) (held-step (of.phase_of d h))))
 
 asked-held : (p : Option Phase) → is_asked p ≡ true → is_interacting (held_phase p) ≡ true
 asked-held (Some Asked) e = refl
@@ -165,8 +160,8 @@ first-asked c cs h e =
 now-held : (c : ℕ) (cs : List ℕ) (h : History) → of.waiting h ≡ c ∷ cs → Good h → of.is_held (Gave c Interact ▷ h) ≡ true
 now-held c cs h e g =
     any-in (λ d. is_interacting (of.phase_of d (Gave c Interact ▷ h))) c (of.registered h)
-      (g.sound.registered_are c ∙ asked-registered (of.phase_of c h) (first-asked c cs h e))
-      (held-own c (of.phase_of c h) (asked-held (of.phase_of c h) (first-asked c cs h e)))
+    (g.sound.registered_are c ∙ asked-registered (of.phase_of c h) (first-asked c cs h e))
+    (held-own c (of.phase_of c h) (asked-held (of.phase_of c h) (first-asked c cs h e)))
 
 pub falls-token : (c : ℕ) (cs : List ℕ) (h : History) → of.is_held h ≡ false → of.waiting h ≡ c ∷ cs → Good h → left_to_do (Gave c Interact ▷ h) < left_to_do h
 falls-token c cs h n e g =
@@ -188,7 +183,7 @@ wanting-is : (f : ℕ → Option Phase) (s : ℕ → Option (List Property)) (cs
 wanting-is f s [] = refl
 wanting-is f s (c ∷ cs) =
     cond-conns (wants_two (step_of (f c) (is_some (s c)))) (record { conn = c; step = step_of (f c) (is_some (s c)) }) (filter (λ m. wants_two m.step) (of.rows f s cs))
-      ∙ ap (λ (xs : List ℕ). cond (wants_two (step_of (f c) (is_some (s c)))) (c ∷ xs) xs) (wanting-is f s cs)
+    ∙ ap (λ (xs : List ℕ). cond (wants_two (step_of (f c) (is_some (s c)))) (c ∷ xs) xs) (wanting-is f s cs)
 
 in-wanting : (f : ℕ → Option Phase) (s : ℕ → Option (List Property)) (c : ℕ) (cs : List ℕ) → is_in c cs ≡ true → wants_two (step_of (f c) (is_some (s c))) ≡ true → is_in c (wanting_two (of.rows f s cs)) ≡ true
 in-wanting f s c cs i w =
@@ -199,7 +194,7 @@ none-wants f s [] k = refl
 none-wants f s (c ∷ cs) k =
     let own : (eqb c c || is_in c cs) ≡ true = grind (arith, nat_tests) in
     ap (λ (x : Bool). x || list_any (λ (m : Member). wants_two m.step) (of.rows f s cs)) (k c own)
-      ∙ none-wants f s cs (λ d i. k d (ap (λ (x : Bool). eqb c d || x) i ∙ or-true (eqb c d)))
+    ∙ none-wants f s cs (λ d i. k d (ap (λ (x : Bool). eqb c d || x) i ∙ or-true (eqb c d)))
 
 wants-any : (p : Option Phase) (s t : Bool) → wants_two (step_of p s) ≡ wants_two (step_of p t)
 wants-any None s t = refl
@@ -241,8 +236,8 @@ not-given c h i n = denied (wants_two (step_of (of.phase_of c h) (is_some (of.sa
 seconded-wants : (c : ℕ) (h : History) → is_in c (of.members (seconded h)) ≡ true → wants_two (step_of (of.phase_of c (seconded h)) (is_some (of.saved_of c (seconded h)))) ≡ false
 seconded-wants c h i =
     ap (λ (p : Option Phase). wants_two (step_of p (is_some (of.saved_of c (seconded h))))) (phase-each SaveYourselfPhase2 once-second (wanting_two (rows_now h)) h c)
-      ∙ wants-by (is_in c (wanting_two (rows_now h))) (of.phase_of c h) (is_some (of.saved_of c h)) (is_some (of.saved_of c (seconded h)))
-        (not-given c h (sym (ap (λ (xs : List ℕ). is_in c xs) (members-each SaveYourselfPhase2 (wanting_two (rows_now h)) h)) ∙ i))
+    ∙ wants-by (is_in c (wanting_two (rows_now h))) (of.phase_of c h) (is_some (of.saved_of c h)) (is_some (of.saved_of c (seconded h)))
+    (not-given c h (sym (ap (λ (xs : List ℕ). is_in c xs) (members-each SaveYourselfPhase2 (wanting_two (rows_now h)) h)) ∙ i))
 
 and-second : (x y : Bool) → y ≡ false → (x && y) ≡ false
 and-second true y e = e
@@ -251,14 +246,14 @@ and-second false y e = refl
 not-ready : (h : History) → two_ready (rows_now (seconded h)) ≡ false
 not-ready h =
     and-second (list_all (λ (m : Member). is_done m.step || wants_two m.step) (rows_now (seconded h))) (list_any (λ (m : Member). wants_two m.step) (rows_now (seconded h)))
-      (none-wants (λ c. of.phase_of c (seconded h)) (λ c. of.saved_of c (seconded h)) (of.members (seconded h)) (λ c i. seconded-wants c h i))
+    (none-wants (λ c. of.phase_of c (seconded h)) (λ c. of.saved_of c (seconded h)) (of.members (seconded h)) (λ c i. seconded-wants c h i))
 
 pub falls-second : (r : of.Begun) (h : History) → of.running h ≡ Some r → two_ready (rows_now h) ≡ true → left_to_do (seconded h) < left_to_do h
 falls-second r h e t =
     let w : length (of.waits (seconded h)) ≡ length (of.waits h) = ap (λ (ws : List Wait). length ws) (waits-each SaveYourselfPhase2 refl (wanting_two (rows_now h)) h) in
     let n : token_part (next_holder (of.is_held (seconded h)) (of.waiting (seconded h))) ≡ token_part (next_holder (of.is_held h) (of.waiting h)) =
-      ap (λ (o : Option ℕ). token_part o) (same-next h (seconded h) (same-each SaveYourselfPhase2 once-second refl second-asked second-interacting (wanting_two (rows_now h)) h)) in
+    ap (λ (o : Option ℕ). token_part o) (same-next h (seconded h) (same-each SaveYourselfPhase2 once-second refl second-asked second-interacting (wanting_two (rows_now h)) h)) in
     let a : round_part (of.round (seconded h)) ≡ 1 =
-      round-part-some r (seconded h) (running-each SaveYourselfPhase2 (wanting_two (rows_now h)) h ∙ e) ∙ ap (λ (b : Bool). cond b 2 1) (not-ready h) in
+    round-part-some r (seconded h) (running-each SaveYourselfPhase2 (wanting_two (rows_now h)) h ∙ e) ∙ ap (λ (b : Bool). cond b 2 1) (not-ready h) in
     let b : round_part (of.round h) ≡ 2 = round-part-some r h e ∙ ap (λ (b : Bool). cond b 2 1) t in
     omega (arith, w, n, a, b)

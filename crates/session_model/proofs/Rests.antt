@@ -1,6 +1,6 @@
 -- Between events no rule holds.
-use Rattle.std.proofs.Common.{◌≡◌, refl, ℕ, ◌+◌, ◌*◌, ◌≤◌, List, [], ◌∷◌, ◌++◌, length, ap, ◌∙◌, arith, rules}
-use Rattle.std.specs.Prelude.{Option, Some, None}
+use Rattle.std.proofs.Common.{◌≡◌, ℕ, ◌≤◌, List, [], ◌∷◌, length, ap, arith}
+use Rattle.std.specs.Prelude.{Option}
 use Rattle.checkpoint_records.specs.declared.records.Book.{Book}
 use Rattle.interact_queue.specs.Queue.{next_holder}
 use Rattle.restart_plan.specs.Restarts.{opening_restarts}
@@ -13,7 +13,6 @@ use Rattle.session_model.specs.Replies.{reply}
 use Rattle.session_model.specs.Books.{raised, issue, opening_moves}
 use Rattle.session_model.specs.Rules.{rule, settled, taken, opened, run}
 use Rattle.session_model.proofs.Level.{Good}
-use Rattle.session_model.proofs.Ruled.{good-settle}
 use Rattle.session_model.proofs.Replied.{good-reply, good-taken, good-opened}
 use Rattle.session_model.proofs.Rest.{left_to_do, round_part, token_part, same-next}
 use Rattle.session_model.proofs.Falls.{Same, AllSilent, silent-all, silent-append, silent-tried, silent-issue, no-round, falls-rule, rests-zero, settled-rests, finished-rests}
