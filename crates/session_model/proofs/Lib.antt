@@ -9,3 +9,4 @@ pub mod Asked
 pub mod Rest
 pub mod Falls
 pub mod Rests
+pub mod Kept

@@ -18,7 +18,8 @@ use Rattle.session_model.specs.declared.events.SessionEvent.{SessionEvent}
 use Rattle.session_model.specs.declared.events.SessionEvent.TheVariants.{Joined, Ready, Said, Left, Operator}
 use Rattle.session_model.specs.Phases.{is_bound, is_unregistered, is_member, is_dying, is_owing, is_saving, is_first_saving, is_interacting, is_shutdown, may_interact, cancelled_phase}
 use Rattle.session_model.specs.Tables.{is_full, entry_of}
-use Rattle.session_model.specs.Errors.{Arrival, client_id, no_room, bad_id, full_table, lone_shutdown}
+use Rattle.checkpoint_records.specs.Rules.{client_id}
+use Rattle.session_model.specs.Errors.{Arrival, no_room, bad_id, full_table, lone_shutdown}
 use Rattle.session_model.specs.Moves.{Move, Outside, Gave, Blamed, Unset, Closed, Cancelled, Printed, Restart, History, Opened, ◌▷◌, onto, gave_each, tried_each}
 use Rattle.session_model.specs.Readings as of
 use Rattle.session_model.specs.Reading.{Reading, reading, wanted_in, client_of}

@@ -18,7 +18,7 @@ use Rattle.session_model.specs.declared.events.SessionEvent.{SessionEvent}
 use Rattle.session_model.specs.declared.events.SessionEvent.TheVariants.{Joined, Left, Operator, Ready, Said}
 use Rattle.session_model.specs.declared.events.Act.{Act}
 use Rattle.session_model.specs.declared.events.Act.TheVariants.{Blame, Commit, Finish, Print, Say, Shut, Start}
-use Rattle.session_model.specs.Errors.{client_id}
+use Rattle.checkpoint_records.specs.Rules.{client_id}
 use Rattle.session_model.specs.Moves.{all_acts}
 use Rattle.session_model.specs.Rules.{opened, run}
 
