@@ -10,3 +10,5 @@ pub mod Rest
 pub mod Falls
 pub mod Rests
 pub mod Kept
+pub mod Tidy
+pub mod Short
