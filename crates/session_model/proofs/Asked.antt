@@ -1,20 +1,18 @@
 -- Who waits for the token.
-use Rattle.std.proofs.Common.{◌≡◌, refl, ℕ, Bool, true, false, cond, not, ◌&&◌, ◌||◌, List, [], ◌∷◌, ◌++◌, filter, eqb, sym, ap, subst, ◌∙◌, arith, rules}
+use Rattle.std.proofs.Common.{◌≡◌, refl, ℕ, Bool, true, false, cond, not, ◌&&◌, ◌||◌, List, [], ◌∷◌, ◌++◌, filter, eqb, sym, ap, ◌∙◌, arith}
 use Rattle.std.specs.Prelude.{Option, Some, None}
 use Rattle.std.proofs.lemmas.Bool.Decides.{nat_tests}
-use Rattle.sm_world.specs.declared.events.Dialog.{Dialog}
 use Rattle.xsmp_messages.specs.declared.message.XsmpMessage.{XsmpMessage}
-use Rattle.xsmp_messages.specs.declared.message.XsmpMessage.TheVariants.{Error, RegisterClient, RegisterClientReply, SaveYourself, SaveYourselfRequest, InteractRequest, Interact, InteractDone, SaveYourselfDone, Die, ShutdownCancelled, ConnectionClosed, SetProperties, DeleteProperties, GetProperties, GetPropertiesReply, SaveYourselfPhase2Request, SaveYourselfPhase2, SaveComplete}
+use Rattle.xsmp_messages.specs.declared.message.XsmpMessage.TheVariants.{RegisterClientReply, SaveYourself, InteractRequest, Interact, InteractDone, SaveYourselfDone, Die, ShutdownCancelled, SaveYourselfPhase2Request, SaveYourselfPhase2, SaveComplete}
 use Rattle.interact_queue.specs.Queue.{is_in, without}
 use Rattle.session_model.specs.declared.phase.Phase.{Phase}
 use Rattle.session_model.specs.declared.phase.Phase.TheVariants.{Unregistered, Idle, Saving, Asked, Interacting, WantsTwo, SavingTwo, AskedTwo, InteractingTwo, Done, Owing, Dying}
 use Rattle.session_model.specs.declared.events.SessionEvent.{SessionEvent}
 use Rattle.session_model.specs.declared.events.SessionEvent.TheVariants.{Joined, Ready, Said, Left, Operator}
-use Rattle.session_model.specs.Phases.{is_asked, is_saving, may_interact, asked_phase, talked_phase, saved_phase, second_phase, phase_said, registered_phase, begun_phase, held_phase, second_begun_phase, completed_phase, cancelled_phase, dying_phase, phase_given, ready_phase}
-use Rattle.session_model.specs.Moves.{Move, Outside, Gave, Blamed, Unset, Closed, History, Opened, ◌▷◌}
+use Rattle.session_model.specs.Phases.{is_asked, is_saving, may_interact, asked_phase, talked_phase, saved_phase, second_phase, cancelled_phase, dying_phase, phase_given, ready_phase}
+use Rattle.session_model.specs.Moves.{Move, Outside, Gave, Unset, Closed, History, Opened, ◌▷◌}
 use Rattle.session_model.specs.Readings as of
 use Rattle.session_model.proofs.Lists.{in-without, in-append, Once, once-push, once-without}
-use Rattle.session_model.proofs.Sound.{or-true}
 
 -- A step by which nobody begins to wait
 
@@ -66,11 +64,11 @@ none-ready : (p : Option Phase) → NoneMore p (ready_phase p)
 none-ready None e = absurd (grind arith)
 none-ready (Some p) e = e
 
-none-at : (b : Bool) (p q : Option Phase) → NoneMore p q → NoneMore p (cond b q p)
+pub none-at : (b : Bool) (p q : Option Phase) → NoneMore p q → NoneMore p (cond b q p)
 none-at true p q k e = k e
 none-at false p q k e = e
 
-none-gone : (b : Bool) (p : Option Phase) → NoneMore p (cond b None p)
+pub none-gone : (b : Bool) (p : Option Phase) → NoneMore p (cond b None p)
 none-gone true p e = absurd (grind arith)
 none-gone false p e = e
 
@@ -99,7 +97,7 @@ ask-case false false a i p k f e = f e
 in-asked : (c d : ℕ) (s a : Bool) (cs : List ℕ) → is_in c (cond (s && a) (without d cs ++ d ∷ []) cs) ≡ cond (s && a) ((not (eqb d c) && is_in c cs) || (eqb d c || false)) (is_in c cs)
 in-asked c d s a cs =
     in-cond c (s && a) (without d cs ++ d ∷ []) cs
-      ∙ ap (λ (x : Bool). cond (s && a) x (is_in c cs)) (in-append c (without d cs) (d ∷ []) ∙ ap (λ (x : Bool). x || (eqb d c || false)) (in-without c d cs))
+    ∙ ap (λ (x : Bool). cond (s && a) x (is_in c cs)) (in-append c (without d cs) (d ∷ []) ∙ ap (λ (x : Bool). x || (eqb d c || false)) (in-without c d cs))
 
 abbrev HaveAsked : History → Type 0
 HaveAsked h = (c : ℕ) → is_asked (of.phase_of c h) ≡ true → is_in c (of.askers h) ≡ true
@@ -110,7 +108,7 @@ saving-there c d h e = let k : d ≡ c = grind (arith, nat_tests) in ap (λ (x :
 asked-said : (d : ℕ) (m : XsmpMessage) (sequence : ℕ) (frame : List ℕ) (h : History) → HaveAsked h → HaveAsked (Outside (Said d m sequence frame) ▷ h)
 asked-said d (InteractRequest dialog) sequence frame h k c e =
     in-asked c d (is_saving (of.phase_of d h)) (may_interact (of.wanted h) dialog) (of.askers h)
-      ∙ ask-case (eqb d c) (is_saving (of.phase_of d h)) (may_interact (of.wanted h) dialog) (is_in c (of.askers h)) (of.phase_of c h) (saving-there c d h) (k c) e
+    ∙ ask-case (eqb d c) (is_saving (of.phase_of d h)) (may_interact (of.wanted h) dialog) (is_in c (of.askers h)) (of.phase_of c h) (saving-there c d h) (k c) e
 asked-said d (InteractDone false) sequence frame h k c e = k c (none-at (eqb d c) (of.phase_of c h) (talked_phase (of.phase_of c h)) (none-talked (of.phase_of c h)) e)
 asked-said d (InteractDone true) sequence frame h k c e = k c (none-at (eqb d c) (of.phase_of c h) (of.phase_of c h) (λ x. x) e)
 asked-said d (SaveYourselfDone success) sequence frame h k c e = k c (none-at (eqb d c) (of.phase_of c h) (saved_phase (of.phase_of c h)) (none-saved (of.phase_of c h)) e)
@@ -154,7 +152,7 @@ pub in-filter : (test : ℕ → Bool) (c : ℕ) (cs : List ℕ) → is_in c (fil
 in-filter test c [] = and-false (test c)
 in-filter test c (d ∷ cs) =
     in-cond c (test d) (d ∷ filter test cs) (filter test cs)
-      ∙ filter-case (test d) (eqb d c) (is_in c cs) (test c) (is_in c (filter test cs)) (test-there test c d) (in-filter test c cs)
+    ∙ filter-case (test d) (eqb d c) (is_in c cs) (test c) (is_in c (filter test cs)) (test-there test c d) (in-filter test c cs)
 
 waits-case : (a i : Bool) → (a ≡ true → i ≡ true) → (a && i) ≡ a
 waits-case true i k = k refl

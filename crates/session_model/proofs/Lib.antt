@@ -6,3 +6,9 @@ pub mod Level
 pub mod Ruled
 pub mod Replied
 pub mod Asked
+pub mod Rest
+pub mod Falls
+pub mod Rests
+pub mod Kept
+pub mod Tidy
+pub mod Short

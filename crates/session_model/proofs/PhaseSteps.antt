@@ -1,12 +1,12 @@
 -- What the steps of a phase keep.
-use Rattle.std.proofs.Common.{◌≡◌, refl, ℕ, Bool, true, false, cond, not, ◌&&◌, ◌||◌, sym, ap, ◌∙◌, arith, rules}
+use Rattle.std.proofs.Common.{◌≡◌, refl, Bool, true, false, cond, not, ◌&&◌, arith}
 use Rattle.std.specs.Prelude.{Option, Some, None}
 use Rattle.sm_world.specs.declared.events.Dialog.{Dialog}
 use Rattle.xsmp_messages.specs.declared.message.XsmpMessage.{XsmpMessage}
-use Rattle.xsmp_messages.specs.declared.message.XsmpMessage.TheVariants.{Error, RegisterClient, RegisterClientReply, SaveYourself, SaveYourselfRequest, InteractRequest, Interact, InteractDone, SaveYourselfDone, Die, ShutdownCancelled, ConnectionClosed, SetProperties, DeleteProperties, GetProperties, GetPropertiesReply, SaveYourselfPhase2Request, SaveYourselfPhase2, SaveComplete}
+use Rattle.xsmp_messages.specs.declared.message.XsmpMessage.TheVariants.{RegisterClientReply, SaveYourself, InteractRequest, Interact, InteractDone, SaveYourselfDone, Die, ShutdownCancelled, SaveYourselfPhase2Request, SaveYourselfPhase2, SaveComplete}
 use Rattle.session_model.specs.declared.phase.Phase.{Phase}
-use Rattle.session_model.specs.declared.phase.Phase.TheVariants.{Unregistered, Idle, Saving, Asked, Interacting, WantsTwo, SavingTwo, AskedTwo, InteractingTwo, Done, Owing, Dying}
-use Rattle.session_model.specs.Phases.{is_registered, is_member, is_interacting, is_dying, is_asked, asked_phase, talked_phase, saved_phase, second_phase, phase_said, registered_phase, begun_phase, held_phase, second_begun_phase, completed_phase, cancelled_phase, dying_phase, phase_given, ready_phase}
+use Rattle.session_model.specs.declared.phase.Phase.TheVariants.{Unregistered, Idle, Saving, Asked, AskedTwo, Done}
+use Rattle.session_model.specs.Phases.{is_registered, is_member, is_interacting, is_dying, asked_phase, talked_phase, saved_phase, second_phase, phase_said, registered_phase, begun_phase, held_phase, second_begun_phase, completed_phase, cancelled_phase, dying_phase, phase_given, ready_phase}
 
 -- a step that neither registers a client, nor takes it into a round or out of it, nor gives it the token, nor tells it to die
 pub record Quiet (p q : Option Phase) : Type 0 where

@@ -1,6 +1,6 @@
 -- The answers keep what holds between events, and so does all that an event brings.
-use Rattle.std.proofs.Common.{◌≡◌, refl, ℕ, zero, suc, Bool, true, false, cond, not, ◌&&◌, ◌||◌, List, [], ◌∷◌, ◌++◌, ◌+◌, ◌*◌, map, length, filter, eqb, sym, ap, subst, ◌∙◌, arith, rules}
-use Rattle.std.specs.Prelude.{Option, Some, None, is_some, is_none, filter_map, codes, nat_le}
+use Rattle.std.proofs.Common.{◌≡◌, refl, ℕ, Bool, true, false, cond, not, ◌&&◌, ◌||◌, List, [], ◌∷◌, ◌+◌, ◌*◌, length, eqb, sym, ap, ◌∙◌, arith}
+use Rattle.std.specs.Prelude.{Option, Some, None, is_some, codes}
 use Rattle.sm_world.specs.declared.commands.Command.{Command}
 use Rattle.sm_world.specs.declared.events.Order.{Order}
 use Rattle.sm_world.specs.declared.events.Order.TheVariants.{Checkpoint, Shutdown, Cancel, Status, DropConn, Forget}
@@ -10,24 +10,24 @@ use Rattle.checkpoint_records.specs.declared.records.Entry.{Entry}
 use Rattle.restart_plan.specs.Restarts.{respawn, opening_restarts}
 use Rattle.discard_ledger.specs.Discards.{issuable}
 use Rattle.xsmp_messages.specs.declared.message.XsmpMessage.{XsmpMessage}
-use Rattle.xsmp_messages.specs.declared.message.XsmpMessage.TheVariants.{Error, RegisterClient, RegisterClientReply, SaveYourself, SaveYourselfRequest, InteractRequest, Interact, InteractDone, SaveYourselfDone, Die, ShutdownCancelled, ConnectionClosed, SetProperties, DeleteProperties, GetProperties, GetPropertiesReply, SaveYourselfPhase2Request, SaveYourselfPhase2, SaveComplete}
+use Rattle.xsmp_messages.specs.declared.message.XsmpMessage.TheVariants.{Error, RegisterClient, RegisterClientReply, SaveYourselfRequest, InteractRequest, InteractDone, SaveYourselfDone, ShutdownCancelled, ConnectionClosed, SetProperties, DeleteProperties, GetProperties, SaveYourselfPhase2Request}
 use Rattle.interact_queue.specs.Queue.{is_in}
 use Rattle.session_model.specs.declared.phase.Phase.{Phase}
-use Rattle.session_model.specs.declared.phase.Phase.TheVariants.{Unregistered, Idle, Saving, Asked, Interacting, WantsTwo, SavingTwo, AskedTwo, InteractingTwo, Done, Owing, Dying}
+use Rattle.session_model.specs.declared.phase.Phase.TheVariants.{Unregistered, Done, Dying}
 use Rattle.session_model.specs.declared.events.SessionEvent.{SessionEvent}
 use Rattle.session_model.specs.declared.events.SessionEvent.TheVariants.{Joined, Ready, Said, Left, Operator}
-use Rattle.session_model.specs.Phases.{is_bound, is_registered, is_unregistered, is_member, is_dying, is_owing, is_saving, is_first_saving, is_interacting, is_shutdown, may_interact, cancelled_phase}
-use Rattle.session_model.specs.Tables.{is_full, entry_of, is_recorded}
-use Rattle.session_model.specs.Errors.{Arrival, client_id, no_room, bad_id, full_table, lone_shutdown}
-use Rattle.session_model.specs.Moves.{Move, Outside, Gave, Blamed, Unset, Closed, Cancelled, Tried, Committed, Printed, Respawn, Resign, Restart, History, Opened, ◌▷◌, onto, gave_each, tried_each}
+use Rattle.session_model.specs.Phases.{is_bound, is_unregistered, is_member, is_dying, is_owing, is_saving, is_first_saving, is_interacting, is_shutdown, may_interact, cancelled_phase}
+use Rattle.session_model.specs.Tables.{is_full, entry_of}
+use Rattle.checkpoint_records.specs.Rules.{client_id}
+use Rattle.session_model.specs.Errors.{Arrival, no_room, bad_id, full_table, lone_shutdown}
+use Rattle.session_model.specs.Moves.{Move, Outside, Gave, Blamed, Unset, Closed, Cancelled, Printed, Restart, History, Opened, ◌▷◌, onto, gave_each, tried_each}
 use Rattle.session_model.specs.Readings as of
 use Rattle.session_model.specs.Reading.{Reading, reading, wanted_in, client_of}
 use Rattle.session_model.specs.Books.{issue, discarded, standing, command_anyway, book_forgetting, opening_moves, raised}
-use Rattle.session_model.specs.Replies.{refused, or_bad_state, respawn_moves, entry_respawn, id_respawn, respawned, depart, has_no_room, enter, may_rejoin, rejoin, register, called_off, want_cancel, answered, unless_dying, said, resigned, forgotten, forget_one, forget, may_wait, ordered, has_no_place, reply, status_text}
-use Rattle.session_model.specs.Rules.{settled, settle, finished, taken, opened, run}
-use Rattle.session_model.proofs.Lists.{Once}
-use Rattle.session_model.proofs.Sound.{Fits, AllFit, Sound}
-use Rattle.session_model.proofs.Level.{Level, Good, AllPlain, good-by, good-plain, level-reply, level-unset, plain-append, plain-tried, level-emptied, once-cancelled}
+use Rattle.session_model.specs.Replies.{refused, or_bad_state, respawn_moves, entry_respawn, id_respawn, respawned, depart, has_no_room, may_rejoin, register, called_off, want_cancel, answered, unless_dying, said, resigned, forgotten, forget_one, forget, may_wait, ordered, has_no_place, reply, status_text}
+use Rattle.session_model.specs.Rules.{settled, taken, opened, run}
+use Rattle.session_model.proofs.Sound.{AllFit}
+use Rattle.session_model.proofs.Level.{Good, AllPlain, good-by, good-plain, level-reply, level-unset, plain-append, plain-tried, level-emptied, once-cancelled}
 use Rattle.session_model.proofs.Ruled.{member-by, conns-rows, plain-issue, good-settle, good-finished}
 
 -- Plain answers
@@ -81,8 +81,8 @@ fit-cancelled (c ∷ conns) h = (tt, fit-cancelled conns (Gave c ShutdownCancell
 good-off : (conns : List ℕ) (h : History) → conns ≡ of.members h → Good h → Good (onto h (Cancelled ∷ gave_each ShutdownCancelled conns))
 good-off conns h e g = good-by (Cancelled ∷ gave_each ShutdownCancelled conns) h (tt, fit-cancelled conns (Cancelled ▷ h)) g.sound
     (level-emptied ShutdownCancelled once-cancelled conns (Cancelled ▷ h) refl
-      (λ c. member-by (is_in c conns) (of.phase_of c h) (cancelled_phase (of.phase_of c h)) (λ i. cancelled-no-member (of.phase_of c h))
-        (λ i. sym (g.level c) ∙ sym (ap (λ (cs : List ℕ). is_in c cs) e) ∙ i)))
+    (λ c. member-by (is_in c conns) (of.phase_of c h) (cancelled_phase (of.phase_of c h)) (λ i. cancelled-no-member (of.phase_of c h))
+    (λ i. sym (g.level c) ∙ sym (ap (λ (cs : List ℕ). is_in c cs) e) ∙ i)))
 
 -- the round as it was read before, where its members are still the same
 good-called_off : (o : Option of.Begun) (before h : History) → of.members before ≡ of.members h → Good h → Good (onto h (called_off (of.course o (of.rows (λ c. of.phase_of c before) (λ c. of.saved_of c before) (of.members before)))))
@@ -112,10 +112,10 @@ good-turned-away c error h e g = good-by (Blamed c error ∷ Unset c ∷ []) h (
 good-register : (r : Reading) (x : Arrival) (previous : List ℕ) (h : History) → of.phase_of x.conn h ≡ Some Unregistered → Good h → Good (onto h (register r x previous))
 good-register r x [] h e g =
     good-cond (has_no_room r) (Blamed x.conn (no_room x) ∷ Unset x.conn ∷ []) (Gave x.conn (RegisterClientReply (client_id r.store.book.epoch (r.run.given + 1))) ∷ []) h
-      (good-turned-away x.conn (no_room x) h e g) (good-reply-to x.conn (client_id r.store.book.epoch (r.run.given + 1)) h e g)
+    (good-turned-away x.conn (no_room x) h e g) (good-reply-to x.conn (client_id r.store.book.epoch (r.run.given + 1)) h e g)
 good-register r x (b ∷ id) h e g =
     good-cond (may_rejoin r (b ∷ id)) (Gave x.conn (RegisterClientReply (b ∷ id)) ∷ []) (Blamed x.conn (bad_id x) ∷ []) h
-      (good-reply-to x.conn (b ∷ id) h e g) (good-plain (Blamed x.conn (bad_id x) ∷ []) h (tt, tt) g)
+    (good-reply-to x.conn (b ∷ id) h e g) (good-plain (Blamed x.conn (bad_id x) ∷ []) h (tt, tt) g)
 
 unregistered-is : (p : Option Phase) → is_unregistered p ≡ true → p ≡ Some Unregistered
 unregistered-is (Some Unregistered) e = refl
@@ -151,18 +151,18 @@ good-answered : (c : ℕ) (m : XsmpMessage) (sequence : ℕ) (frame : List ℕ) 
     → Good (onto (Outside (Said c m sequence frame) ▷ h) (answered (reading h) (record { conn = c; message = m; sequence = sequence; frame = frame }) m p))
 good-answered c (RegisterClient previous) sequence frame h p e g =
     good-or-bad (is_unregistered p) (record { conn = c; message = RegisterClient previous; sequence = sequence; frame = frame }) (register (reading h) (record { conn = c; message = RegisterClient previous; sequence = sequence; frame = frame }) previous)
-      (Outside (Said c (RegisterClient previous) sequence frame) ▷ h) g
-      (λ u. good-register (reading h) (record { conn = c; message = RegisterClient previous; sequence = sequence; frame = frame }) previous (Outside (Said c (RegisterClient previous) sequence frame) ▷ h)
-        (cond-same (eqb c c) (of.phase_of c h) ∙ e ∙ unregistered-is p u) g)
+    (Outside (Said c (RegisterClient previous) sequence frame) ▷ h) g
+    (λ u. good-register (reading h) (record { conn = c; message = RegisterClient previous; sequence = sequence; frame = frame }) previous (Outside (Said c (RegisterClient previous) sequence frame) ▷ h)
+    (cond-same (eqb c c) (of.phase_of c h) ∙ e ∙ unregistered-is p u) g)
 good-answered c (InteractDone true) sequence frame h p e g =
     good-or-bad (is_owing p || is_interacting p) (record { conn = c; message = InteractDone true; sequence = sequence; frame = frame })
-      (cond (is_owing p) [] (want_cancel (reading h) (record { conn = c; message = InteractDone true; sequence = sequence; frame = frame }) (is_shutdown (wanted_in (of.round h)))))
-      (Outside (Said c (InteractDone true) sequence frame) ▷ h) g
-      (λ u. good-cond (is_owing p) [] (want_cancel (reading h) (record { conn = c; message = InteractDone true; sequence = sequence; frame = frame }) (is_shutdown (wanted_in (of.round h)))) (Outside (Said c (InteractDone true) sequence frame) ▷ h) g
-        (good-want_cancel (is_shutdown (wanted_in (of.round h))) (record { conn = c; message = InteractDone true; sequence = sequence; frame = frame }) h (Outside (Said c (InteractDone true) sequence frame) ▷ h) refl g))
+    (cond (is_owing p) [] (want_cancel (reading h) (record { conn = c; message = InteractDone true; sequence = sequence; frame = frame }) (is_shutdown (wanted_in (of.round h)))))
+    (Outside (Said c (InteractDone true) sequence frame) ▷ h) g
+    (λ u. good-cond (is_owing p) [] (want_cancel (reading h) (record { conn = c; message = InteractDone true; sequence = sequence; frame = frame }) (is_shutdown (wanted_in (of.round h)))) (Outside (Said c (InteractDone true) sequence frame) ▷ h) g
+    (good-want_cancel (is_shutdown (wanted_in (of.round h))) (record { conn = c; message = InteractDone true; sequence = sequence; frame = frame }) h (Outside (Said c (InteractDone true) sequence frame) ▷ h) refl g))
 good-answered c m sequence frame h p e g =
     good-plain (answered (reading h) (record { conn = c; message = m; sequence = sequence; frame = frame }) m p) (Outside (Said c m sequence frame) ▷ h)
-      (plain-answered (reading h) (record { conn = c; message = m; sequence = sequence; frame = frame }) m p refl) g
+    (plain-answered (reading h) (record { conn = c; message = m; sequence = sequence; frame = frame }) m p refl) g
 
 good-unless : (c : ℕ) (m : XsmpMessage) (sequence : ℕ) (frame : List ℕ) (h : History) (p : Option Phase) → of.phase_of c h ≡ p → Good (Outside (Said c m sequence frame) ▷ h)
     → Good (onto (Outside (Said c m sequence frame) ▷ h) (unless_dying (reading h) (record { conn = c; message = m; sequence = sequence; frame = frame }) p))
@@ -183,14 +183,14 @@ good-ordered Checkpoint h g = good-plain (may_wait (reading h)) (Outside (Operat
 good-ordered Shutdown h g = good-plain (may_wait (reading h)) (Outside (Operator Shutdown) ▷ h) (tt, tt) g
 good-ordered Cancel h g =
     good-cond (is_shutdown (wanted_in (of.round h))) (Printed (codes "ok") ∷ called_off (of.round h)) (Printed (codes "no shutdown") ∷ []) (Outside (Operator Cancel) ▷ h)
-      (good-called_off (of.running h) h (Printed (codes "ok") ▷ Outside (Operator Cancel) ▷ h) refl (good-plain (Printed (codes "ok") ∷ []) (Outside (Operator Cancel) ▷ h) (tt, tt) g))
-      (good-plain (Printed (codes "no shutdown") ∷ []) (Outside (Operator Cancel) ▷ h) (tt, tt) g)
+    (good-called_off (of.running h) h (Printed (codes "ok") ▷ Outside (Operator Cancel) ▷ h) refl (good-plain (Printed (codes "ok") ∷ []) (Outside (Operator Cancel) ▷ h) (tt, tt) g))
+    (good-plain (Printed (codes "no shutdown") ∷ []) (Outside (Operator Cancel) ▷ h) (tt, tt) g)
 good-ordered (DropConn c) h g =
     good-plain (ordered (reading h) (DropConn c)) (Outside (Operator (DropConn c)) ▷ h)
-      (plain-cond (is_in c (of.live h)) (Printed (codes "ok") ∷ depart (reading h) c) (Printed (codes "no connection") ∷ []) (tt, (tt, plain-respawned (reading h) c)) (tt, tt)) g
+    (plain-cond (is_in c (of.live h)) (Printed (codes "ok") ∷ depart (reading h) c) (Printed (codes "no connection") ∷ []) (tt, (tt, plain-respawned (reading h) c)) (tt, tt)) g
 good-ordered (Forget id) h g =
     good-plain (forget (reading h) id) (Outside (Operator (Forget id)) ▷ h)
-      (plain-cond (of.is_ending h || is_some (of.round h)) (Printed (codes "busy") ∷ []) (forget_one (reading h) id (entry_of id (of.book h))) (tt, tt) (plain-forget_one (reading h) id (entry_of id (of.book h)))) g
+    (plain-cond (of.is_ending h || is_some (of.round h)) (Printed (codes "busy") ∷ []) (forget_one (reading h) id (entry_of id (of.book h))) (tt, tt) (plain-forget_one (reading h) id (entry_of id (of.book h)))) g
 good-ordered Status h g = good-plain (Printed (status_text (reading h)) ∷ []) (Outside (Operator Status) ▷ h) (tt, tt) g
 
 -- Events
@@ -198,7 +198,7 @@ good-ordered Status h g = good-plain (Printed (status_text (reading h)) ∷ []) 
 good-outside : (event : SessionEvent) (h : History) → Good h → Good (Outside event ▷ h)
 good-outside event h g = good-plain (Outside event ∷ []) h (tt, tt) g
 
-good-reply : (event : SessionEvent) (h : History) → Good h → Good (onto (Outside event ▷ h) (reply (reading h) event))
+pub good-reply : (event : SessionEvent) (h : History) → Good h → Good (onto (Outside event ▷ h) (reply (reading h) event))
 good-reply (Joined c) h g = good-plain _ (Outside (Joined c) ▷ h) (plain-cond (has_no_place (reading h)) (Closed c ∷ []) [] (tt, tt) tt) (good-outside (Joined c) h g)
 good-reply (Ready c) h g = good-outside (Ready c) h g
 good-reply (Said c m sequence frame) h g = good-said c m sequence frame h (good-outside (Said c m sequence frame) h g)

@@ -1,7 +1,7 @@
 -- The rules keep what holds between events.
-use Rattle.std.proofs.Common.{◌≡◌, refl, ℕ, zero, suc, Bool, true, false, cond, not, ◌&&◌, ◌||◌, List, [], ◌∷◌, ◌++◌, map, filter, drop, eqb, sym, ap, subst, ◌∙◌, arith, rules}
-use Rattle.std.specs.Prelude.{Option, Some, None, is_some, is_none}
-use Rattle.std.specs.List.{list_any, list_all}
+use Rattle.std.proofs.Common.{◌≡◌, refl, ℕ, zero, suc, Bool, true, false, cond, not, ◌&&◌, ◌||◌, List, [], ◌∷◌, ◌++◌, map, filter, eqb, sym, ap, subst, ◌∙◌, arith}
+use Rattle.std.specs.Prelude.{Option, Some, None, is_some}
+use Rattle.std.specs.List.{list_any}
 use Rattle.std.proofs.lemmas.Bool.Decides.{nat_tests}
 use Rattle.sm_world.specs.declared.commands.Command.{Command}
 use Rattle.ice_values.specs.declared.property.Property.{Property}
@@ -11,20 +11,19 @@ use Rattle.round_agreement.specs.declared.round.Member.{Member}
 use Rattle.discard_ledger.specs.Discards.{issuable}
 use Rattle.std.specs.Prelude.{filter_map}
 use Rattle.round_agreement.specs.Agreement.{Agreement, is_done, all_done, two_ready, agreed, deserted, is_nil, conns_of}
-use Rattle.xsmp_messages.specs.declared.message.XsmpMessage.{XsmpMessage}
-use Rattle.xsmp_messages.specs.declared.message.XsmpMessage.TheVariants.{SaveYourself, Interact, SaveComplete, Die, SaveYourselfPhase2}
-use Rattle.interact_queue.specs.Queue.{is_in, without, next_holder}
+use Rattle.xsmp_messages.specs.declared.message.XsmpMessage.TheVariants.{Interact, SaveComplete, Die, SaveYourselfPhase2}
+use Rattle.interact_queue.specs.Queue.{is_in, next_holder}
 use Rattle.session_model.specs.declared.phase.Phase.{Phase}
-use Rattle.session_model.specs.declared.phase.Phase.TheVariants.{Unregistered, Idle, Saving, Asked, Interacting, WantsTwo, SavingTwo, AskedTwo, InteractingTwo, Done, Owing, Dying}
+use Rattle.session_model.specs.declared.phase.Phase.TheVariants.{Unregistered, Idle, Done}
 use Rattle.session_model.specs.declared.waits.Wait.{Wait}
 use Rattle.session_model.specs.Phases.{is_registered, is_member, is_interacting, is_dying, is_owing, is_shutdown, step_of, dying_phase, begun_phase, completed_phase}
-use Rattle.session_model.specs.Moves.{Move, Outside, Gave, Closed, Began, Over, Agreed, Tried, Committed, Finished, History, ◌▷◌, onto, gave_each, tried_each, Discard, End}
+use Rattle.session_model.specs.Moves.{Move, Gave, Closed, Began, Over, Agreed, Committed, Finished, History, ◌▷◌, onto, gave_each, tried_each, Discard, End}
 use Rattle.session_model.specs.Waits.{is_only}
 use Rattle.session_model.specs.Readings as of
-use Rattle.session_model.specs.Reading.{Reading, Clients, reading}
+use Rattle.session_model.specs.Reading.{Clients, reading}
 use Rattle.session_model.specs.Books.{next_book, issue, discarded, standing}
-use Rattle.session_model.specs.Rules.{last_command, ended, completed, agreement_with, wanting_two, over_rule, agreed_rule, running_rule, save_yourself, members_for, begin, begin_first, is_free, idle_rule, round_rule, token_rule, rule, go_on, settle, settled, finished}
-use Rattle.session_model.proofs.Sound.{Fits, AllFit, AreRegistered, Sound, sound-step, sound-onto, is_wanted_alone, or-true}
+use Rattle.session_model.specs.Rules.{last_command, ended, completed, agreement_with, wanting_two, over_rule, agreed_rule, running_rule, save_yourself, members_for, begin, begin_first, is_free, idle_rule, round_rule, token_rule, rule, go_on, settle, finished}
+use Rattle.session_model.proofs.Sound.{AllFit, AreRegistered, Sound, sound-step, is_wanted_alone, or-true}
 use Rattle.session_model.proofs.Level.{Level, Good, AllPlain, good-by, good-plain, good-append, level-token, plain-append, plain-tried, plain-gave, plain-closed, phase-each, members-each, once-begun, once-completed, once-dying, level-emptied}
 
 -- Tests
@@ -117,7 +116,7 @@ all-done-in : (c : ℕ) (cs : List ℕ) (phase : ℕ → Option Phase) (saved : 
 all-done-in c [] phase saved e i = absurd (grind arith)
 all-done-in c (d ∷ cs) phase saved e i =
     all-done-at c d cs phase saved (eqb d c) refl (all-done-in c cs phase saved (and-right (is_done (step_of (phase d) (is_some (saved d)))) (all_done (of.rows phase saved cs)) e)) i
-      (and-left (is_done (step_of (phase d) (is_some (saved d)))) (all_done (of.rows phase saved cs)) e)
+    (and-left (is_done (step_of (phase d) (is_some (saved d)))) (all_done (of.rows phase saved cs)) e)
 
 -- in one of two ways, by whether c is there
 pub member-by : (b : Bool) (p q : Option Phase) → (b ≡ true → is_member q ≡ false) → (b ≡ false → is_member p ≡ false) → is_member (cond b q p) ≡ false
@@ -137,7 +136,7 @@ fit-die [] h e = tt
 fit-die (c ∷ conns) h e = (e, fit-die conns (Gave c Die ▷ h) e)
 
 -- the history in which a round has just been agreed
-abbrev closing : Book → History → History
+abbrev pub closing : Book → History → History
 closing book h = Agreed ▷ Committed book ▷ h
 
 sound-closing : (book : Book) (h : History) → Sound h → Sound (closing book h)
@@ -159,10 +158,10 @@ unregistered-no-member p e = denied (is_member p) (λ m. differ (member-register
 good-die : (book : Book) (h : History) → of.is_ending (closing book h) ≡ true → Sound h → Good (onto (closing book h) (gave_each Die (of.registered h)))
 good-die book h e s = good-by (gave_each Die (of.registered h)) (closing book h) (fit-die (of.registered h) (closing book h) e) (sound-closing book h s)
     (level-emptied Die once-dying (of.registered h) (closing book h) refl
-      (λ c. member-by (is_in c (of.registered h)) (of.phase_of c h) (dying_phase (of.phase_of c h)) (λ i. dying-no-member (of.phase_of c h)) (λ i. unregistered-no-member (of.phase_of c h) (sym (s.registered_are c) ∙ i))))
+    (λ c. member-by (is_in c (of.registered h)) (of.phase_of c h) (dying_phase (of.phase_of c h)) (λ i. dying-no-member (of.phase_of c h)) (λ i. unregistered-no-member (of.phase_of c h) (sym (s.registered_are c) ∙ i))))
 
 -- the connections that are shut at the end
-abbrev others : Clients → List ℕ
+abbrev pub others : Clients → List ℕ
 others clients = filter (λ c. not (is_in c clients.registered)) clients.live
 
 good-ended : (book : Book) (h : History) → of.is_ending (closing book h) ≡ true → Sound h → Good (onto (closing book h) (ended (reading h).clients book))
@@ -171,9 +170,9 @@ good-ended book h e s =
     let last : List Command = filter_map (last_command (reading h).clients) book.entries in
     let shut : List ℕ = others (reading h).clients in
     let all_shut : Good (onto (closing book h) (gave_each Die (of.registered h) ++ map Closed shut)) =
-      good-append (closing book h) (gave_each Die (of.registered h)) (map Closed shut) (good-plain (map Closed shut) dead (plain-closed shut) (good-die book h e s)) in
+    good-append (closing book h) (gave_each Die (of.registered h)) (map Closed shut) (good-plain (map Closed shut) dead (plain-closed shut) (good-die book h e s)) in
     good-append (closing book h) (gave_each Die (of.registered h) ++ map Closed shut) (tried_each End last)
-      (good-plain (tried_each End last) (onto (closing book h) (gave_each Die (of.registered h) ++ map Closed shut)) (plain-tried End last) all_shut)
+    (good-plain (tried_each End last) (onto (closing book h) (gave_each Die (of.registered h) ++ map Closed shut)) (plain-tried End last) all_shut)
 
 -- The members are those that haven't left, and each is done.
 good-completed : (b : Bool) (book : Book) (h : History) (members : List Member) (began : Bool) (w : Wanted) → (b ≡ true → of.is_ending (closing book h) ≡ true) → conns_of members ≡ of.members h
@@ -182,16 +181,16 @@ good-completed : (b : Bool) (book : Book) (h : History) (members : List Member) 
 good-completed true book h members began w e k f g = good-ended book h (e refl) g.sound
 good-completed false book h members began w e k f g =
     subst (λ (cs : List ℕ). Good (onto (closing book h) (gave_each SaveComplete cs))) (sym k)
-      (good-complete (of.members h) book h f (λ c i. sym (g.level c) ∙ i) g.sound)
+    (good-complete (of.members h) book h f (λ c i. sym (g.level c) ∙ i) g.sound)
 
 good-agreement : (book : Book) (h : History) (members : List Member) (began : Bool) (w : Wanted) → (w.shutdown ≡ true → of.is_ending (closing book h) ≡ true) → conns_of members ≡ of.members h
     → ((c : ℕ) → is_in c (of.members h) ≡ true → is_member (completed_phase (of.phase_of c h)) ≡ false) → Good h
     → Good (onto h (agreement_with (reading h).clients (record { members = members; began_empty = began; wanted = w }) book))
 good-agreement book h members began w e k f g =
     good-append (closing book h) (completed w.shutdown (reading h).clients (record { members = members; began_empty = began; wanted = w }) book) (discarded (reading h).clients book)
-      (good-plain (discarded (reading h).clients book) (onto (closing book h) (completed w.shutdown (reading h).clients (record { members = members; began_empty = began; wanted = w }) book))
-        (plain-issue book (issuable (standing (reading h).clients) book.pending))
-        (good-completed w.shutdown book h members began w e k f g))
+    (good-plain (discarded (reading h).clients book) (onto (closing book h) (completed w.shutdown (reading h).clients (record { members = members; began_empty = began; wanted = w }) book))
+    (plain-issue book (issuable (standing (reading h).clients) book.pending))
+    (good-completed w.shutdown book h members began w e k f g))
 
 -- A round begins
 
@@ -207,8 +206,8 @@ level-begun : (conns : List ℕ) (w : Wanted) (h : History) → ((c : ℕ) → i
     → Level (onto (Began conns w ▷ h) (gave_each (save_yourself w) conns))
 level-begun conns w h f n c =
     ap (λ (xs : List ℕ). is_in c xs) (members-each (save_yourself w) conns (Began conns w ▷ h))
-      ∙ begun-level (is_in c conns) (of.phase_of c h) (f c) (n c)
-      ∙ sym (ap (λ (p : Option Phase). is_member p) (phase-each (save_yourself w) once-begun conns (Began conns w ▷ h) c))
+    ∙ begun-level (is_in c conns) (of.phase_of c h) (f c) (n c)
+    ∙ sym (ap (λ (p : Option Phase). is_member p) (phase-each (save_yourself w) once-begun conns (Began conns w ▷ h) c))
 
 good-begun : (conns : List ℕ) (w : Wanted) (h : History) → ((c : ℕ) → is_in c conns ≡ true → is_member (begun_phase (of.phase_of c h)) ≡ true) → ((c : ℕ) → is_member (of.phase_of c h) ≡ false) → Sound h
     → Good (onto h (begin conns w))
@@ -230,17 +229,17 @@ wanted-alone wait ws c e =
 begin-members : (h : History) → of.members h ≡ [] → is_free (reading h) ≡ true → Good h → (c : ℕ) → is_registered (of.phase_of c h) ≡ true → is_member (begun_phase (of.phase_of c h)) ≡ true
 begin-members h e f g c r =
     idle-begun (of.phase_of c h) r (nobody-level h e g.level c)
-      (none-in (λ d. is_owing (of.phase_of d h)) c (of.registered h) (not-true _ (and-right (not (of.is_ending h)) _ f)) (g.sound.registered_are c ∙ r))
-      (denied (is_dying (of.phase_of c h)) (λ d. differ (g.sound.die_at_end c d) (not-true (of.is_ending h) (and-left (not (of.is_ending h)) _ f))))
+    (none-in (λ d. is_owing (of.phase_of d h)) c (of.registered h) (not-true _ (and-right (not (of.is_ending h)) _ f)) (g.sound.registered_are c ∙ r))
+    (denied (is_dying (of.phase_of c h)) (λ d. differ (g.sound.die_at_end c d) (not-true (of.is_ending h) (and-left (not (of.is_ending h)) _ f))))
 
 good-begin : (ws : List Wait) (h : History) → of.waits h ≡ ws → of.members h ≡ [] → is_free (reading h) ≡ true → Good h → Good (onto h (begin_first (of.registered h) ws))
 good-begin [] h k e f g = g
 good-begin (wait ∷ ws) h k e f g =
     good-begun (members_for wait.wanted.only (of.registered h)) wait.wanted h
-      (λ c i. begin-members h e f g c
-        (members-registered wait.wanted.only h g.sound
-          (λ d o. g.sound.wait_for_registered d (ap (λ (vs : List Wait). is_wanted_alone d vs) k ∙ wanted-alone wait ws d o)) c i))
-      (nobody-level h e g.level) g.sound
+    (λ c i. begin-members h e f g c
+    (members-registered wait.wanted.only h g.sound
+    (λ d o. g.sound.wait_for_registered d (ap (λ (vs : List Wait). is_wanted_alone d vs) k ∙ wanted-alone wait ws d o)) c i))
+    (nobody-level h e g.level) g.sound
 
 good-idle : (b : Bool) (h : History) → is_free (reading h) ≡ b → of.members h ≡ [] → Good h → Good (onto h (idle_rule b (reading h)))
 good-idle true h f e g = good-begin (of.waits h) h refl e f g
@@ -249,10 +248,10 @@ good-idle false h f e g = g
 -- A round that runs
 
 -- the members of a round, as far as they are
-abbrev rows_now : History → List Member
+abbrev pub rows_now : History → List Member
 rows_now h = of.rows (λ c. of.phase_of c h) (λ c. of.saved_of c h) (of.members h)
 
-abbrev round_now : of.Begun → History → Agreement
+abbrev pub round_now : of.Begun → History → Agreement
 round_now r h = record { members = rows_now h; began_empty = is_nil r.members; wanted = r.wanted }
 
 ending-closing : (r : of.Begun) (book : Book) (h : History) → of.running h ≡ Some r → r.wanted.shutdown ≡ true → of.is_ending (closing book h) ≡ true
@@ -261,12 +260,12 @@ ending-closing r book h e s = ap (λ (o : Option of.Begun). of.is_ending h || is
 good-agreed : (b : Bool) (r : of.Begun) (h : History) → of.running h ≡ Some r → agreed (round_now r h) ≡ b → Good h → Good (onto h (agreed_rule b (reading h) (round_now r h)))
 good-agreed true r h e a g =
     good-agreement (next_book (reading h) (round_now r h)) h (rows_now h) (is_nil r.members) r.wanted
-      (ending-closing r (next_book (reading h) (round_now r h)) h e)
-      (conns-rows (λ c. of.phase_of c h) (λ c. of.saved_of c h) (of.members h))
-      (λ c. all-done-in c (of.members h) (λ d. of.phase_of d h) (λ d. of.saved_of d h) (and-left (all_done (rows_now h)) _ a)) g
+    (ending-closing r (next_book (reading h) (round_now r h)) h e)
+    (conns-rows (λ c. of.phase_of c h) (λ c. of.saved_of c h) (of.members h))
+    (λ c. all-done-in c (of.members h) (λ d. of.phase_of d h) (λ d. of.saved_of d h) (and-left (all_done (rows_now h)) _ a)) g
 good-agreed false r h e a g =
     good-over (deserted (round_now r h)) h
-      (λ d. nil-rows (λ c. of.phase_of c h) (λ c. of.saved_of c h) (of.members h) (and-right (not (is_nil r.members)) (is_nil (rows_now h)) d)) g
+    (λ d. nil-rows (λ c. of.phase_of c h) (λ c. of.saved_of c h) (of.members h) (and-right (not (is_nil r.members)) (is_nil (rows_now h)) d)) g
 
 good-going : (b : Bool) (r : of.Begun) (h : History) → of.running h ≡ Some r → Good h → Good (onto h (running_rule b (reading h) (round_now r h)))
 good-going true r h e g = good-plain (gave_each SaveYourselfPhase2 (wanting_two (rows_now h))) h (plain-gave SaveYourselfPhase2 (wanting_two (rows_now h)) refl) g

@@ -1,28 +1,27 @@
 -- What holds at every move of a run.
-use Rattle.std.proofs.Common.{◌≡◌, refl, ℕ, Bool, true, false, cond, not, ◌&&◌, ◌||◌, List, [], ◌∷◌, ◌++◌, map, filter, drop, eqb, sym, ap, subst, ◌∙◌, arith, rules}
-use Rattle.std.specs.Prelude.{Option, Some, None, is_some, is_none}
+use Rattle.std.proofs.Common.{◌≡◌, refl, ℕ, Bool, true, false, cond, not, ◌&&◌, ◌||◌, List, [], ◌∷◌, ◌++◌, map, filter, drop, eqb, sym, ap, subst, ◌∙◌, arith}
+use Rattle.std.specs.Prelude.{Option, Some, None, is_some}
 use Rattle.std.specs.List.{list_any}
 use Rattle.std.proofs.lemmas.Bool.Decides.{nat_tests}
-use Rattle.sm_world.specs.declared.events.Dialog.{Dialog}
 use Rattle.sm_world.specs.declared.events.Order.{Order}
-use Rattle.sm_world.specs.declared.events.Order.TheVariants.{Checkpoint, Shutdown, Cancel, Status, DropConn, Forget}
+use Rattle.sm_world.specs.declared.events.Order.TheVariants.{Checkpoint, Shutdown}
 use Rattle.xsmp_messages.specs.declared.message.XsmpMessage.{XsmpMessage}
-use Rattle.xsmp_messages.specs.declared.message.XsmpMessage.TheVariants.{Error, RegisterClient, RegisterClientReply, SaveYourself, SaveYourselfRequest, InteractRequest, Interact, InteractDone, SaveYourselfDone, Die, ShutdownCancelled, ConnectionClosed, SetProperties, DeleteProperties, GetProperties, GetPropertiesReply, SaveYourselfPhase2Request, SaveYourselfPhase2, SaveComplete}
+use Rattle.xsmp_messages.specs.declared.message.XsmpMessage.TheVariants.{RegisterClientReply, SaveYourselfRequest, Interact, Die}
 use Rattle.interact_queue.specs.Queue.{is_in, without}
 use Rattle.session_model.specs.declared.phase.Phase.{Phase}
-use Rattle.session_model.specs.declared.phase.Phase.TheVariants.{Unregistered, Idle, Saving, Asked, Interacting, WantsTwo, SavingTwo, AskedTwo, InteractingTwo, Done, Owing, Dying}
+use Rattle.session_model.specs.declared.phase.Phase.TheVariants.{Unregistered}
 use Rattle.sm_world.specs.declared.events.SaveKind.{SaveKind}
 use Rattle.sm_world.specs.declared.events.SaveStyle.{SaveStyle}
 use Rattle.session_model.specs.declared.waits.Wait.{Wait}
 use Rattle.session_model.specs.declared.events.SessionEvent.{SessionEvent}
 use Rattle.session_model.specs.declared.events.SessionEvent.TheVariants.{Joined, Ready, Said, Left, Operator}
-use Rattle.session_model.specs.Phases.{is_registered, is_member, is_interacting, is_dying, is_asked, is_bound, is_shutdown, may_interact, phase_said, phase_given, registered_phase, ready_phase, held_phase, dying_phase}
-use Rattle.session_model.specs.Moves.{Move, Outside, Gave, Blamed, Unset, Closed, Began, Over, Cancelled, Agreed, Tried, Committed, Printed, Finished, History, Opened, ◌▷◌, onto}
+use Rattle.session_model.specs.Phases.{is_registered, is_interacting, is_dying, is_bound, is_shutdown, may_interact, phase_said, phase_given, registered_phase, ready_phase, held_phase}
+use Rattle.session_model.specs.Moves.{Move, Outside, Gave, Unset, Closed, Began, Over, Cancelled, Agreed, History, ◌▷◌, onto}
 use Rattle.session_model.specs.Waits.{first_save, checkpoint_wait, shutdown_wait, lone_wait, global_wait, is_only, is_sender, is_busy, with_request, waits_said, waits_ordered, disowned, waits_left}
 use Rattle.session_model.specs.Tables.{is_recorded}
 use Rattle.session_model.specs.Readings as of
 use Rattle.session_model.proofs.Lists.{in-without, in-append, Once, once-push, once-without}
-use Rattle.session_model.proofs.PhaseSteps.{Quiet, quiet-said, quiet-ready, same-token, Given, given-phase}
+use Rattle.session_model.proofs.PhaseSteps.{quiet-said, quiet-ready, same-token, given-phase}
 
 -- what a move asks of the history before it
 abbrev pub Fits : Move → History → Type 0
@@ -282,13 +281,13 @@ lone-alone : (c d : ℕ) (kind : SaveKind) (style : SaveStyle) (fast : Bool) (ph
     → is_wanted_alone d (cond (is_bound (phase c)) (with_request c (lone_wait c kind style fast) ws) ws) ≡ true → is_registered (phase d) ≡ true
 lone-alone c d kind style fast phase ws k e =
     alone-cond (is_bound (phase c)) d (with_request c (lone_wait c kind style fast) ws) ws
-      (λ b. request-alone c d (lone_wait c kind style fast) phase ws (only-there c d phase (bound-registered (phase c) b)) k) k e
+    (λ b. request-alone c d (lone_wait c kind style fast) phase ws (only-there c d phase (bound-registered (phase c) b)) k) k e
 
 global-alone : (c d : ℕ) (kind : SaveKind) (shutdown : Bool) (style : SaveStyle) (fast : Bool) (phase : ℕ → Option Phase) (ws : List Wait) → (is_wanted_alone d ws ≡ true → is_registered (phase d) ≡ true)
     → is_wanted_alone d (cond (is_bound (phase c)) (with_request c (global_wait c kind shutdown style fast) ws) ws) ≡ true → is_registered (phase d) ≡ true
 global-alone c d kind shutdown style fast phase ws k e =
     alone-cond (is_bound (phase c)) d (with_request c (global_wait c kind shutdown style fast) ws) ws
-      (λ b. request-alone c d (global_wait c kind shutdown style fast) phase ws (λ n. absurd (grind arith)) k) k e
+    (λ b. request-alone c d (global_wait c kind shutdown style fast) phase ws (λ n. absurd (grind arith)) k) k e
 
 said-alone : (c d : ℕ) (m : XsmpMessage) (phase : ℕ → Option Phase) (ws : List Wait) → (is_wanted_alone d ws ≡ true → is_registered (phase d) ≡ true)
     → is_wanted_alone d (waits_said c m phase ws) ≡ true → is_registered (phase d) ≡ true
@@ -357,7 +356,7 @@ wait-heard (Joined c) h k d e = k d e
 wait-heard (Ready c) h k d e = at-one (λ p. is_registered p) (eqb c d) (of.phase_of d h) (ready_phase (of.phase_of d h)) (quiet-ready (of.phase_of d h)).registered ∙ k d e
 wait-heard (Said c m sequence frame) h k d e =
     at-one (λ p. is_registered p) (eqb c d) (of.phase_of d h) (phase_said (λ dialog. may_interact (of.wanted h) dialog) m (of.phase_of d h)) (quiet-said (λ dialog. may_interact (of.wanted h) dialog) m (of.phase_of d h)).registered
-      ∙ said-alone c d m (λ x. of.phase_of x h) (of.waits h) (k d) e
+    ∙ said-alone c d m (λ x. of.phase_of x h) (of.waits h) (k d) e
 wait-heard (Left c) h k d e = wait-left c d h k e
 wait-heard (Operator order) h k d e = ordered-alone d order (of.is_ending h) (of.waits h) (k d) e
 

@@ -1,7 +1,6 @@
--- A message of a client that arrived, the Errors that answer one (ICE, chapter 7: Error), and the IDs that are given.
-use Rattle.std.specs.Prelude.{List, [], codes, drop, length, replicate, take, ℕ, ◌++◌}
-use Rattle.hex.specs.Hex.{encode_lower}
-use Rattle.byteorder.specs.Endian.{big_bytes, little_bytes}
+-- A message of a client that arrived, and the Errors that answer one (ICE, chapter 7: Error).
+use Rattle.std.specs.Prelude.{List, [], drop, length, replicate, take, ℕ, ◌++◌}
+use Rattle.byteorder.specs.Endian.{little_bytes}
 use Rattle.ice_values.specs.Cells.{pad_len}
 use Rattle.ice_values.specs.Fields.{ErrorFields}
 use Rattle.ice_values.specs.declared.severity.Severity.{Severity}
@@ -43,11 +42,3 @@ full_table x = bad_value CanContinue x 8 (take 4 (drop 8 x.frame))
 -- a shutdown of one client alone: the byte that says so
 abbrev pub lone_shutdown : Arrival → ErrorFields
 lone_shutdown x = bad_value CanContinue x 12 (take 1 (drop 12 x.frame))
-
--- a number in eight lower-case hex digits
-abbrev pub hex8 : ℕ → List ℕ
-hex8 n = encode_lower (big_bytes 4 n)
-
--- the n-th new ID of the run of this epoch
-abbrev pub client_id : ℕ → ℕ → List ℕ
-client_id epoch n = codes "smd-" ++ hex8 epoch ++ codes "-" ++ hex8 n

@@ -18,7 +18,7 @@ use Rattle.session_model.specs.declared.events.SessionEvent.{SessionEvent}
 use Rattle.session_model.specs.declared.events.SessionEvent.TheVariants.{Joined, Left, Operator, Ready, Said}
 use Rattle.session_model.specs.declared.events.Act.{Act}
 use Rattle.session_model.specs.declared.events.Act.TheVariants.{Blame, Commit, Finish, Print, Say, Shut, Start}
-use Rattle.session_model.specs.Errors.{client_id}
+use Rattle.checkpoint_records.specs.Rules.{client_id}
 use Rattle.session_model.specs.Moves.{all_acts}
 use Rattle.session_model.specs.Rules.{opened, run}
 
@@ -107,23 +107,23 @@ ANewClientSaves = Brings [] (logs_in 1) (Say 1 (RegisterClientReply (codes "smd-
 abbrev pub AnUnknownIdIsRefused : Type 0
 AnUnknownIdIsRefused =
     Brings (Joined 1 ∷ Ready 1 ∷ []) (says 1 (RegisterClient (codes "x")) ∷ says 1 (RegisterClient []) ∷ [])
-      (Blame 1 (record { class = 32771; minor = 1; severity = CanContinue; sequence = 9; values = 8 ∷ 0 ∷ 0 ∷ 0 ∷ 8 ∷ 0 ∷ 0 ∷ 0 ∷ 1 ∷ 0 ∷ 0 ∷ 0 ∷ 120 ∷ 0 ∷ 0 ∷ 0 ∷ [] })
-        ∷ Say 1 (RegisterClientReply (codes "smd-00000001-00000001")) ∷ asks_for_save 1 ∷ [])
+    (Blame 1 (record { class = 32771; minor = 1; severity = CanContinue; sequence = 9; values = 8 ∷ 0 ∷ 0 ∷ 0 ∷ 8 ∷ 0 ∷ 0 ∷ 0 ∷ 1 ∷ 0 ∷ 0 ∷ 0 ∷ 120 ∷ 0 ∷ 0 ∷ 0 ∷ [] })
+    ∷ Say 1 (RegisterClientReply (codes "smd-00000001-00000001")) ∷ asks_for_save 1 ∷ [])
 
 -- a property that is set again keeps its place
 abbrev pub PropertiesAreKept : Type 0
 PropertiesAreKept =
     Brings (logs_in 1)
-      (says 1 (SetProperties (about (1 ∷ []) ∷ hints 2 ∷ about (3 ∷ []) ∷ [])) ∷ says 1 GetProperties ∷ [])
-      (Say 1 (GetPropertiesReply (about (3 ∷ []) ∷ hints 2 ∷ [])) ∷ [])
+    (says 1 (SetProperties (about (1 ∷ []) ∷ hints 2 ∷ about (3 ∷ []) ∷ [])) ∷ says 1 GetProperties ∷ [])
+    (Say 1 (GetPropertiesReply (about (3 ∷ []) ∷ hints 2 ∷ [])) ∷ [])
 
 -- a table of 16,384 bytes is taken; with one byte more it is refused, and the table is as before
 abbrev pub AFullTableIsRefused : Type 0
 AFullTableIsRefused =
     Brings (logs_in 1)
-      (sets 1 (about (replicate 16348 7)) ∷ sets 1 (about (replicate 16349 7)) ∷ says 1 GetProperties ∷ [])
-      (Blame 1 (record { class = 32771; minor = 12; severity = CanContinue; sequence = 9; values = 8 ∷ 0 ∷ 0 ∷ 0 ∷ 4 ∷ 0 ∷ 0 ∷ 0 ∷ 1 ∷ 0 ∷ 0 ∷ 0 ∷ 0 ∷ 0 ∷ 0 ∷ 0 ∷ [] })
-        ∷ Say 1 (GetPropertiesReply (about (replicate 16348 7) ∷ [])) ∷ [])
+    (sets 1 (about (replicate 16348 7)) ∷ sets 1 (about (replicate 16349 7)) ∷ says 1 GetProperties ∷ [])
+    (Blame 1 (record { class = 32771; minor = 12; severity = CanContinue; sequence = 9; values = 8 ∷ 0 ∷ 0 ∷ 0 ∷ 4 ∷ 0 ∷ 0 ∷ 0 ∷ 1 ∷ 0 ∷ 0 ∷ 0 ∷ 0 ∷ 0 ∷ 0 ∷ 0 ∷ [] })
+    ∷ Say 1 (GetPropertiesReply (about (replicate 16348 7) ∷ [])) ∷ [])
 
 -- the 65th connection is shut
 abbrev pub ThereIsRoomFor64 : Type 0
@@ -135,16 +135,16 @@ ThereIsRoomFor64 = Brings [] (map Joined (up_to 65)) (Shut 65 ∷ [])
 abbrev pub ACheckpointGoesOn : Type 0
 ACheckpointGoesOn =
     Brings (log_in_and_save (1 ∷ 2 ∷ 3 ∷ []))
-      (Operator Checkpoint ∷ saved 1 ∷ says 2 SaveYourselfPhase2Request ∷ says 3 (SaveYourselfDone false) ∷ Left 3 ∷ saved 2 ∷ [])
-      (prints (codes "ok") ∷ asks_for_save 1 ∷ asks_for_save 2 ∷ asks_for_save 3
-        ∷ Say 2 SaveYourselfPhase2 ∷ Commit no_entries ∷ Say 1 SaveComplete ∷ Say 2 SaveComplete ∷ [])
+    (Operator Checkpoint ∷ saved 1 ∷ says 2 SaveYourselfPhase2Request ∷ says 3 (SaveYourselfDone false) ∷ Left 3 ∷ saved 2 ∷ [])
+    (prints (codes "ok") ∷ asks_for_save 1 ∷ asks_for_save 2 ∷ asks_for_save 3
+    ∷ Say 2 SaveYourselfPhase2 ∷ Commit no_entries ∷ Say 1 SaveComplete ∷ Say 2 SaveComplete ∷ [])
 
 -- while one of them still saves, the second phase doesn't begin, and another checkpoint waits
 abbrev pub ACheckpointWaitsForAll : Type 0
 ACheckpointWaitsForAll =
     Brings (log_in_and_save (1 ∷ 2 ∷ 3 ∷ []))
-      (Operator Checkpoint ∷ says 2 SaveYourselfPhase2Request ∷ saved 1 ∷ Operator Checkpoint ∷ [])
-      (prints (codes "ok") ∷ asks_for_save 1 ∷ asks_for_save 2 ∷ asks_for_save 3 ∷ prints (codes "ok") ∷ [])
+    (Operator Checkpoint ∷ says 2 SaveYourselfPhase2Request ∷ saved 1 ∷ Operator Checkpoint ∷ [])
+    (prints (codes "ok") ∷ asks_for_save 1 ∷ asks_for_save 2 ∷ asks_for_save 3 ∷ prints (codes "ok") ∷ [])
 
 -- Interaction
 
@@ -156,29 +156,29 @@ asks_all = says 1 (SaveYourselfRequest Both false Any false true)
 abbrev pub TheTokenGoesOn : Type 0
 TheTokenGoesOn =
     Brings (log_in_and_save (1 ∷ 2 ∷ []))
-      (asks_all ∷ says 1 (InteractRequest Normal) ∷ says 2 (InteractRequest Normal) ∷ Left 1 ∷ [])
-      (Say 1 (SaveYourself Both false Any false) ∷ Say 2 (SaveYourself Both false Any false) ∷ Say 1 Interact ∷ Say 2 Interact ∷ [])
+    (asks_all ∷ says 1 (InteractRequest Normal) ∷ says 2 (InteractRequest Normal) ∷ Left 1 ∷ [])
+    (Say 1 (SaveYourself Both false Any false) ∷ Say 2 (SaveYourself Both false Any false) ∷ Say 1 Interact ∷ Say 2 Interact ∷ [])
 
 -- while one has the token, another who asks waits
 abbrev pub TheTokenIsHeldByOne : Type 0
 TheTokenIsHeldByOne =
     Brings (log_in_and_save (1 ∷ 2 ∷ []) ++ asks_all ∷ says 1 (InteractRequest Normal) ∷ [])
-      (says 2 (InteractRequest Normal) ∷ says 1 (InteractRequest Normal) ∷ says 1 (InteractDone false) ∷ [])
-      (Blame 1 (record { class = 32769; minor = 5; severity = CanContinue; sequence = 9; values = [] }) ∷ Say 2 Interact ∷ [])
+    (says 2 (InteractRequest Normal) ∷ says 1 (InteractRequest Normal) ∷ says 1 (InteractDone false) ∷ [])
+    (Blame 1 (record { class = 32769; minor = 5; severity = CanContinue; sequence = 9; values = [] }) ∷ Say 2 Interact ∷ [])
 
 -- who gives the token back may ask again; the other's turn comes when it is free
 abbrev pub TheTokenIsGivenBack : Type 0
 TheTokenIsGivenBack =
     Brings (log_in_and_save (1 ∷ 2 ∷ []) ++ asks_all ∷ [])
-      (says 1 (InteractRequest Normal) ∷ says 1 (InteractDone false) ∷ says 2 (InteractRequest Normal) ∷ [])
-      (Say 1 Interact ∷ Say 2 Interact ∷ [])
+    (says 1 (InteractRequest Normal) ∷ says 1 (InteractDone false) ∷ says 2 (InteractRequest Normal) ∷ [])
+    (Say 1 Interact ∷ Say 2 Interact ∷ [])
 
 -- a save for errors alone allows no other dialog
 abbrev pub OnlyErrorsAreAllowed : Type 0
 OnlyErrorsAreAllowed =
     Brings (log_in_and_save (1 ∷ []))
-      (says 1 (SaveYourselfRequest Both false Errors false true) ∷ says 1 (InteractRequest Normal) ∷ [])
-      (Say 1 (SaveYourself Both false Errors false) ∷ Blame 1 (record { class = 32769; minor = 5; severity = CanContinue; sequence = 9; values = [] }) ∷ [])
+    (says 1 (SaveYourselfRequest Both false Errors false true) ∷ says 1 (InteractRequest Normal) ∷ [])
+    (Say 1 (SaveYourself Both false Errors false) ∷ Blame 1 (record { class = 32769; minor = 5; severity = CanContinue; sequence = 9; values = [] }) ∷ [])
 
 -- Shutdowns
 
@@ -187,10 +187,10 @@ OnlyErrorsAreAllowed =
 abbrev pub AShutdownIsCancelled : Type 0
 AShutdownIsCancelled =
     Brings (log_in_and_save (1 ∷ 2 ∷ 3 ∷ []))
-      (Operator Shutdown ∷ says 1 (InteractRequest Normal) ∷ saved 2 ∷ says 1 (InteractDone true) ∷ Operator Checkpoint ∷ saved 3 ∷ saved 1 ∷ [])
-      (prints (codes "ok") ∷ asks_for_shutdown 1 ∷ asks_for_shutdown 2 ∷ asks_for_shutdown 3
-        ∷ Say 1 Interact ∷ Say 1 ShutdownCancelled ∷ Say 2 ShutdownCancelled ∷ Say 3 ShutdownCancelled
-        ∷ prints (codes "ok") ∷ asks_for_save 1 ∷ asks_for_save 2 ∷ asks_for_save 3 ∷ [])
+    (Operator Shutdown ∷ says 1 (InteractRequest Normal) ∷ saved 2 ∷ says 1 (InteractDone true) ∷ Operator Checkpoint ∷ saved 3 ∷ saved 1 ∷ [])
+    (prints (codes "ok") ∷ asks_for_shutdown 1 ∷ asks_for_shutdown 2 ∷ asks_for_shutdown 3
+    ∷ Say 1 Interact ∷ Say 1 ShutdownCancelled ∷ Say 2 ShutdownCancelled ∷ Say 3 ShutdownCancelled
+    ∷ prints (codes "ok") ∷ asks_for_save 1 ∷ asks_for_save 2 ∷ asks_for_save 3 ∷ [])
 
 -- with nobody there a shutdown is agreed at once, and the run ends
 abbrev pub AnEmptySessionEnds : Type 0
@@ -200,7 +200,7 @@ AnEmptySessionEnds = Brings [] (Operator Shutdown ∷ []) (prints (codes "ok") �
 abbrev pub OrdersAnswer : Type 0
 OrdersAnswer =
     Brings [] (Operator Status ∷ Operator Cancel ∷ Operator (DropConn 9) ∷ Operator (Forget (codes "x")) ∷ [])
-      (prints (codes "connections 0, records 0, pending 0, epoch 1, idle") ∷ prints (codes "no shutdown") ∷ prints (codes "no connection") ∷ prints (codes "unknown") ∷ [])
+    (prints (codes "connections 0, records 0, pending 0, epoch 1, idle") ∷ prints (codes "no shutdown") ∷ prints (codes "no connection") ∷ prints (codes "unknown") ∷ [])
 
 -- Discards
 
@@ -218,11 +218,11 @@ removes file = plain (codes "rm" ∷ file ∷ [])
 abbrev pub AnOldStateIsDiscarded : Type 0
 AnOldStateIsDiscarded =
     Brings (logs_in 1 ++ says 1 (SetProperties (keeping (codes "a"))) ∷ [])
-      (saved 1 ∷ Operator Checkpoint ∷ saved 1 ∷ Operator Checkpoint ∷ sets 1 (discards_by (codes "b")) ∷ saved 1 ∷ [])
-      (Commit (first_book (entry_1 (codes "a") ∷ []) []) ∷ Say 1 SaveComplete
-        ∷ prints (codes "ok") ∷ asks_for_save 1 ∷ Commit (first_book (entry_1 (codes "a") ∷ []) []) ∷ Say 1 SaveComplete
-        ∷ prints (codes "ok") ∷ asks_for_save 1 ∷ Commit (first_book (entry_1 (codes "b") ∷ []) (removes (codes "a") ∷ [])) ∷ Say 1 SaveComplete
-        ∷ Start (removes (codes "a")) ∷ Commit (first_book (entry_1 (codes "b") ∷ []) []) ∷ [])
+    (saved 1 ∷ Operator Checkpoint ∷ saved 1 ∷ Operator Checkpoint ∷ sets 1 (discards_by (codes "b")) ∷ saved 1 ∷ [])
+    (Commit (first_book (entry_1 (codes "a") ∷ []) []) ∷ Say 1 SaveComplete
+    ∷ prints (codes "ok") ∷ asks_for_save 1 ∷ Commit (first_book (entry_1 (codes "a") ∷ []) []) ∷ Say 1 SaveComplete
+    ∷ prints (codes "ok") ∷ asks_for_save 1 ∷ Commit (first_book (entry_1 (codes "b") ∷ []) (removes (codes "a") ∷ [])) ∷ Say 1 SaveComplete
+    ∷ Start (removes (codes "a")) ∷ Commit (first_book (entry_1 (codes "b") ∷ []) []) ∷ [])
 
 -- The next login
 
@@ -233,7 +233,7 @@ entry_of_run epoch n program = record { id = client_id epoch n; table = restarts
 abbrev pub last_entries : List Entry
 last_entries =
     map (λ n. entry_of_run 1 n (99 ∷ (48 + n) ∷ [])) (up_to 5)
-      ++ record { id = client_id 1 6; table = restarts (codes "c6") ∷ hints 1 ∷ runs (codes "ShutdownCommand") (codes "s6" ∷ []) ∷ [] } ∷ []
+    ++ record { id = client_id 1 6; table = restarts (codes "c6") ∷ hints 1 ∷ runs (codes "ShutdownCommand") (codes "s6" ∷ []) ∷ [] } ∷ []
 
 abbrev pub last_book : Book
 last_book = first_book last_entries []
@@ -254,12 +254,12 @@ entry_7 = entry_of_run 2 1 (codes "c7")
 abbrev pub ExpectedEntriesStay : Type 0
 ExpectedEntriesStay =
     all_acts (run (opened last_book) (logs_in 7 ++ sets 7 (restarts (codes "c7")) ∷ saved 7 ∷ []))
-      ≡ Commit (second_book last_entries)
-        ∷ map (λ n. Start (plain ((99 ∷ (48 + n) ∷ []) ∷ []))) (up_to 6)
-        ++ Say 7 (RegisterClientReply (codes "smd-00000002-00000001"))
-        ∷ asks_for_save 7
-        ∷ Commit (second_book (last_entries ++ entry_7 ∷ []))
-        ∷ Say 7 SaveComplete ∷ []
+    ≡ Commit (second_book last_entries)
+    ∷ map (λ n. Start (plain ((99 ∷ (48 + n) ∷ []) ∷ []))) (up_to 6)
+    ++ Say 7 (RegisterClientReply (codes "smd-00000002-00000001"))
+    ∷ asks_for_save 7
+    ∷ Commit (second_book (last_entries ++ entry_7 ∷ []))
+    ∷ Say 7 SaveComplete ∷ []
 
 -- Each client of the last run is started again. Those that come back get their IDs and aren't asked to save; a new one is, and gets an
 -- entry of its own. At the shutdown the entry of a client that isn't to be started again goes; that of one which never came
@@ -267,17 +267,17 @@ ExpectedEntriesStay =
 abbrev pub ASessionIsTakenUp : Type 0
 ASessionIsTakenUp =
     all_acts (run (opened last_book)
-      (come_back ++ sets 5 (hints 3) ∷ logs_in 7 ++ sets 7 (restarts (codes "c7")) ∷ saved 7 ∷ Operator Shutdown
-        ∷ map saved (1 ∷ 2 ∷ 3 ∷ 4 ∷ 5 ∷ 7 ∷ []) ++ map (λ c. says c (ConnectionClosed [])) (1 ∷ 2 ∷ 3 ∷ 4 ∷ 5 ∷ 7 ∷ [])))
-      ≡ Commit (second_book last_entries)
-        ∷ map (λ n. Start (plain ((99 ∷ (48 + n) ∷ []) ∷ []))) (up_to 6)
-        ++ map (λ n. Say n (RegisterClientReply (client_id 1 n))) (up_to 5)
-        ++ Say 7 (RegisterClientReply (codes "smd-00000002-00000001")) ∷ asks_for_save 7
-        ∷ Commit (second_book (last_entries ++ entry_7 ∷ [])) ∷ Say 7 SaveComplete
-        ∷ prints (codes "ok")
-        ∷ map asks_for_shutdown (1 ∷ 2 ∷ 3 ∷ 4 ∷ 5 ∷ 7 ∷ [])
-        ++ Commit (second_book (take 4 last_entries ++ drop 5 last_entries ++ entry_7 ∷ []))
-        ∷ map (λ c. Say c Die) (1 ∷ 2 ∷ 3 ∷ 4 ∷ 5 ∷ 7 ∷ [])
-        ++ Start (plain (codes "s6" ∷ []))
-        ∷ map Shut (1 ∷ 2 ∷ 3 ∷ 4 ∷ 5 ∷ 7 ∷ [])
-        ++ Finish ∷ []
+    (come_back ++ sets 5 (hints 3) ∷ logs_in 7 ++ sets 7 (restarts (codes "c7")) ∷ saved 7 ∷ Operator Shutdown
+    ∷ map saved (1 ∷ 2 ∷ 3 ∷ 4 ∷ 5 ∷ 7 ∷ []) ++ map (λ c. says c (ConnectionClosed [])) (1 ∷ 2 ∷ 3 ∷ 4 ∷ 5 ∷ 7 ∷ [])))
+    ≡ Commit (second_book last_entries)
+    ∷ map (λ n. Start (plain ((99 ∷ (48 + n) ∷ []) ∷ []))) (up_to 6)
+    ++ map (λ n. Say n (RegisterClientReply (client_id 1 n))) (up_to 5)
+    ++ Say 7 (RegisterClientReply (codes "smd-00000002-00000001")) ∷ asks_for_save 7
+    ∷ Commit (second_book (last_entries ++ entry_7 ∷ [])) ∷ Say 7 SaveComplete
+    ∷ prints (codes "ok")
+    ∷ map asks_for_shutdown (1 ∷ 2 ∷ 3 ∷ 4 ∷ 5 ∷ 7 ∷ [])
+    ++ Commit (second_book (take 4 last_entries ++ drop 5 last_entries ++ entry_7 ∷ []))
+    ∷ map (λ c. Say c Die) (1 ∷ 2 ∷ 3 ∷ 4 ∷ 5 ∷ 7 ∷ [])
+    ++ Start (plain (codes "s6" ∷ []))
+    ∷ map Shut (1 ∷ 2 ∷ 3 ∷ 4 ∷ 5 ∷ 7 ∷ [])
+    ++ Finish ∷ []

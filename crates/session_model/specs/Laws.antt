@@ -1,5 +1,5 @@
 -- Laws of the session, whatever comes from outside.
-use Rattle.std.specs.Prelude.{List, nat_eq, true, ℕ, ◌≡◌}
+use Rattle.std.specs.Prelude.{List, [], nat_eq, true, ℕ, ◌≡◌}
 use Rattle.std.specs.List.{IsDistinct, list_any}
 use Rattle.checkpoint_records.specs.declared.records.Book.{Book}
 use Rattle.session_model.specs.declared.events.SessionEvent.{SessionEvent}
@@ -7,7 +7,8 @@ use Rattle.interact_queue.specs.Queue.{is_in}
 use Rattle.session_model.specs.Phases.{is_asked, is_dying, is_interacting, is_member, is_registered}
 use Rattle.session_model.specs.Moves.{History}
 use Rattle.session_model.specs.Waits.{is_only}
-use Rattle.session_model.specs.Rules.{opened, run}
+use Rattle.session_model.specs.Reading.{reading}
+use Rattle.session_model.specs.Rules.{opened, rule, run}
 use Rattle.session_model.specs.Readings as of
 
 -- this holds at the start and between the events of every run
@@ -45,3 +46,7 @@ PhasesTellWhoWaits = (h : History) (c : ℕ) → is_in c (of.waiting h) ≡ is_a
 
 abbrev pub NobodyWaitsTwice : Type 0
 NobodyWaitsTwice = (h : History) → IsDistinct nat_eq (of.waiting h)
+
+-- between events no rule holds: settling went on until it was at rest
+abbrev pub SettlingComesToRest : Type 0
+SettlingComesToRest = Always (λ h. rule (reading h) ≡ [])

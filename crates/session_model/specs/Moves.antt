@@ -57,7 +57,6 @@ pub data History : Type 0 where
   ◌▷◌ : Move → History → History
 
 infixr 67 ◌▷◌
-
 -- the history after these moves, one after another
 abbrev pub onto : History → List Move → History
 onto h [] = h

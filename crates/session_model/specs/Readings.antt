@@ -17,10 +17,11 @@ use Rattle.session_model.specs.declared.marks.Marks.{Marks}
 use Rattle.session_model.specs.declared.events.SessionEvent.{SessionEvent}
 use Rattle.session_model.specs.declared.events.SessionEvent.TheVariants.{Joined, Left, Operator, Ready, Said}
 use Rattle.round_agreement.specs.declared.round.Member.{Member}
-use Rattle.round_agreement.specs.Agreement.{Agreement, agreed, is_nil}
+use Rattle.round_agreement.specs.Agreement.{Agreement, is_nil}
 use Rattle.discard_ledger.specs.Discards.{discard_of}
 use Rattle.session_model.specs.Phases.{is_asked, is_interacting, is_saving, is_shutdown, may_interact, phase_given, phase_said, ready_phase, step_of}
-use Rattle.session_model.specs.Tables.{first_table, ids_of, is_recorded, stopped_said, strays_with, table_said}
+use Rattle.checkpoint_records.specs.Rules.{ids_of}
+use Rattle.session_model.specs.Tables.{first_table, is_recorded, stopped_said, strays_with, table_said}
 use Rattle.session_model.specs.Moves.{Agreed, Began, Cancelled, Cause, Closed, Committed, Gave, History, Move, Opened, Outside, Over, Respawn, Tried, Unset, departing, ◌▷◌}
 use Rattle.session_model.specs.Waits.{first_save, is_global, waits_left, waits_ordered, waits_said}
 use Rattle.interact_queue.specs.Queue.{without}

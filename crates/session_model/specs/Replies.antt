@@ -18,7 +18,8 @@ use Rattle.interact_queue.specs.Queue.{is_in}
 use Rattle.restart_plan.specs.Restarts.{respawn}
 use Rattle.session_model.specs.Phases.{is_bound, is_dying, is_first_saving, is_interacting, is_owing, is_saving, is_shutdown, is_unregistered, may_interact}
 use Rattle.session_model.specs.Tables.{entry_of, is_full, is_recorded}
-use Rattle.session_model.specs.Errors.{Arrival, bad_id, bad_state, client_id, full_table, lone_shutdown, no_room}
+use Rattle.checkpoint_records.specs.Rules.{client_id}
+use Rattle.session_model.specs.Errors.{Arrival, bad_id, bad_state, full_table, lone_shutdown, no_room}
 use Rattle.session_model.specs.Moves.{Blamed, Cancelled, Closed, Committed, Gave, Move, Printed, Resign, Respawn, Tried, Unset, gave_each}
 use Rattle.session_model.specs.Waits.{is_busy}
 use Rattle.session_model.specs.Reading.{Reading, client_of, wanted_in}

@@ -52,9 +52,6 @@ strays_with book (Some command) strays = with_stray book book.pending strays com
 
 -- Entries of a book
 
-abbrev pub ids_of : List Entry → List (List ℕ)
-ids_of entries = map (λ entry. entry.id) entries
-
 abbrev pub has_id : List ℕ → List (List ℕ) → Bool
 has_id id ids = list_any (bytes_eq id) ids
 

@@ -1,4 +1,4 @@
-ghost use Rattle.session_model.specs.Laws.{NobodyRegistersTwice, PhasesTellWhoIsRegistered, OneHasTheToken, MembersAreAskedToSave, RoundsWaitForRegistered, DeathIsOfShutdown, PhasesTellWhoWaits, NobodyWaitsTwice};
+ghost use Rattle.session_model.specs.Laws.{NobodyRegistersTwice, PhasesTellWhoIsRegistered, OneHasTheToken, MembersAreAskedToSave, RoundsWaitForRegistered, DeathIsOfShutdown, PhasesTellWhoWaits, NobodyWaitsTwice, SettlingComesToRest};
 
 /// Does nothing: its contract is a law of every history. Nobody is registered twice.
 pub fn nobody_registers_twice()
@@ -38,4 +38,9 @@ pub fn phases_tell_who_waits()
 /// Does nothing: its contract is a law of every history. Nobody waits twice for the token.
 pub fn nobody_waits_twice()
     ensures { NobodyWaitsTwice }
+{}
+
+/// Does nothing: its contract is a law of every history. Between events no rule holds.
+pub fn settling_comes_to_rest()
+    ensures { SettlingComesToRest }
 {}

@@ -1,0 +1,44 @@
+-- Between events no rule holds.
+use Rattle.std.proofs.Common.{◌≡◌, ℕ, ◌≤◌, List, [], ◌∷◌, length, ap, arith}
+use Rattle.std.specs.Prelude.{Option}
+use Rattle.checkpoint_records.specs.declared.records.Book.{Book}
+use Rattle.interact_queue.specs.Queue.{next_holder}
+use Rattle.restart_plan.specs.Restarts.{opening_restarts}
+use Rattle.session_model.specs.declared.waits.Wait.{Wait}
+use Rattle.session_model.specs.declared.events.SessionEvent.{SessionEvent}
+use Rattle.session_model.specs.Moves.{Outside, Restart, History, Opened, ◌▷◌, onto, tried_each}
+use Rattle.session_model.specs.Readings as of
+use Rattle.session_model.specs.Reading.{reading}
+use Rattle.session_model.specs.Replies.{reply}
+use Rattle.session_model.specs.Books.{raised, issue, opening_moves}
+use Rattle.session_model.specs.Rules.{rule, settled, taken, opened, run}
+use Rattle.session_model.proofs.Level.{Good}
+use Rattle.session_model.proofs.Replied.{good-reply, good-taken, good-opened}
+use Rattle.session_model.proofs.Rest.{left_to_do, round_part, token_part, same-next}
+use Rattle.session_model.proofs.Falls.{Same, AllSilent, silent-all, silent-append, silent-tried, silent-issue, no-round, falls-rule, rests-zero, settled-rests, finished-rests}
+
+silent-opening : (book : Book) → AllSilent (opening_moves book)
+silent-opening book = (tt, silent-append (issue (raised book) book.pending) (tried_each Restart (opening_restarts book.entries)) (silent-issue (raised book) book.pending) (silent-tried Restart (opening_restarts book.entries)))
+
+nothing-left : (book : Book) (h : History) → Same (Opened book) h → left_to_do h ≤ 0
+nothing-left book h s =
+    let w : length (of.waits h) ≡ 0 = ap (λ (ws : List Wait). length ws) s.waits in
+    let r : round_part (of.round h) ≡ 0 = no-round h s.running in
+    let t : token_part (next_holder (of.is_held h) (of.waiting h)) ≡ 0 = ap (λ (o : Option ℕ). token_part o) (same-next (Opened book) h s.token) in
+    omega (arith, w, r, t)
+
+rests-opened : (book : Book) → rule (reading (opened book)) ≡ []
+rests-opened book =
+    rests-zero (opened book) (rule (reading (opened book))) (falls-rule (opened book) (good-opened book)) (nothing-left book (opened book) (silent-all (opening_moves book) (Opened book) (silent-opening book)))
+
+rests-taken : (event : SessionEvent) (h : History) → Good h → rule (reading (taken event h)) ≡ []
+rests-taken event h g =
+    let answered_to : History = onto (Outside event ▷ h) (reply (reading h) event) in
+    finished-rests (settled answered_to) (settled-rests answered_to (good-reply event h g))
+
+rests-run : (events : List SessionEvent) (h : History) → Good h → rule (reading h) ≡ [] → rule (reading (run h events)) ≡ []
+rests-run [] h g e = e
+rests-run (event ∷ events) h g e = rests-run events (taken event h) (good-taken event h g) (rests-taken event h g)
+
+pub rests-always : (book : Book) (events : List SessionEvent) → rule (reading (run (opened book) events)) ≡ []
+rests-always book events = rests-run events (opened book) (good-opened book) (rests-opened book)
