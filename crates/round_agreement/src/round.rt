@@ -2,8 +2,8 @@ ghost use Rattle.std.specs.Prelude.{◌≡◌, IsTrue, IfOk};
 ghost use Rattle.round_agreement.specs.Agreement.{is_saving, is_first_saving, is_saved, is_at, is_nil, conns_of, are_distinct, all_saving, with_step, without_member, with_second, owing, two_ready as second_ready, agreed as all_agreed, deserted as all_left};
 ghost use Rattle.round_agreement.specs.declared.round.Step.TheVariants.{WantsTwo, Done};
 
-use crate::members::{all_done, is_nil, nobody_saves, set_second, set_step, somebody_wants_two};
 use crate::Wanted;
+use crate::members::{all_done, is_nil, nobody_saves, set_second, set_step, somebody_wants_two};
 use sm_world::{Conn, ConnList, NoMemory};
 use std::alloc::Global;
 use std::marker::Model;
