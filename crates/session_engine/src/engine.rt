@@ -58,7 +58,7 @@ impl Engine {
             return Ok(());
         }
         if self.live.is_full() {
-            return self.acts.push(Act::Shut(conn));
+            return self.acts.close(conn, None);
         }
         self.live.join(alloc, self.cookie, conn)?;
         let order = Message::Ice(IceMessage::ByteOrder(Endian::Lsb));
