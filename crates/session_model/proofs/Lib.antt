@@ -12,3 +12,4 @@ pub mod Rests
 pub mod Kept
 pub mod Tidy
 pub mod Short
+pub mod Propers
