@@ -13,3 +13,4 @@ pub mod Kept
 pub mod Tidy
 pub mod Short
 pub mod Propers
+pub mod TidyRun

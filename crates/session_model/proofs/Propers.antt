@@ -42,7 +42,7 @@ proper-gave : (epoch : ℕ) (m : XsmpMessage) (conns : List ℕ) → ((c : ℕ) 
 proper-gave epoch m [] k = tt
 proper-gave epoch m (c ∷ conns) k = (k c, proper-gave epoch m conns k)
 
-proper-tried : (epoch : ℕ) (cause : Cause) (commands : List Command) → AllProper epoch (tried_each cause commands)
+pub proper-tried : (epoch : ℕ) (cause : Cause) (commands : List Command) → AllProper epoch (tried_each cause commands)
 proper-tried epoch cause [] = tt
 proper-tried epoch cause (c ∷ commands) = (tt, proper-tried epoch cause commands)
 
