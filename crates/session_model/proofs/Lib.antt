@@ -14,3 +14,4 @@ pub mod Tidy
 pub mod Short
 pub mod Propers
 pub mod TidyRun
+pub mod Commands
