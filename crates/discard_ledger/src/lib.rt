@@ -1,4 +1,10 @@
-//! x
+//! The commands that discard states which no client needs any more: which are yet to be run, and
+//! which may be run now.
 #![tactic(auto)]
 
-pub fn one() -> u32 { 1 }
+mod commands;
+mod ledger;
+#[cfg(test)]
+mod tests;
+
+pub use ledger::Ledger;

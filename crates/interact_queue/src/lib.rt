@@ -1,4 +1,8 @@
-//! x
+//! The token for talking with the user: who has it, and who waits for it.
 #![tactic(auto)]
 
-pub fn one() -> u32 { 1 }
+mod queue;
+#[cfg(test)]
+mod tests;
+
+pub use queue::InteractQueue;

@@ -1,4 +1,8 @@
-//! x
+//! Which clients are started again: when a book is opened, and when a client departs.
 #![tactic(auto)]
 
-pub fn one() -> u32 { 1 }
+mod restarts;
+#[cfg(test)]
+mod tests;
+
+pub use restarts::{plan, respawn};

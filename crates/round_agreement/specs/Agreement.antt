@@ -2,9 +2,9 @@
 -- whether it saved, or first that it wants to save in a second phase, when the others are done.
 use Rattle.std.specs.Prelude.{ℕ, ◌==◌, Bool, true, false, not, ◌&&◌, ◌||◌, if◌then◌else◌, List, [], ◌∷◌, map, filter}
 use Rattle.std.specs.List.{list_any, list_all}
-use Rattle.round_agreement.specs.declared.round.Member.{Member}
-use Rattle.round_agreement.specs.declared.round.Step.{Step}
-use Rattle.round_agreement.specs.declared.round.Step.TheVariants.{Saving, WantsTwo, SavingTwo, Done}
+use Rattle.round_agreement.specs.declared.members.Member.{Member}
+use Rattle.round_agreement.specs.declared.members.Step.{Step}
+use Rattle.round_agreement.specs.declared.members.Step.TheVariants.{Saving, WantsTwo, SavingTwo, Done}
 use Rattle.round_agreement.specs.declared.wanted.Wanted.{Wanted}
 
 -- the members that haven't left, in their order, whether the round began without any, and what it was begun for
@@ -64,12 +64,17 @@ is_nil (x ∷ xs) = false
 abbrev pub conns_of : List Member → List ℕ
 conns_of members = map (λ m. m.conn) members
 
+-- no connection stands twice
+abbrev pub are_distinct : List ℕ → Bool
+are_distinct [] = true
+are_distinct (conn ∷ conns) = not (list_any (λ other. other == conn) conns) && are_distinct conns
+
 -- everybody saves in the first phase
 abbrev pub all_saving : List ℕ → List Member
 all_saving conns = map (λ conn. record { conn = conn; step = Saving }) conns
 
 abbrev pub moved : ℕ → Step → Member → Member
-moved conn step m = if m.conn == conn then record { conn = m.conn; step = step } else m
+moved conn step m = record { conn = m.conn; step = if m.conn == conn then step else m.step }
 
 -- this member comes to a step, and the others stay where they are
 abbrev pub with_step : ℕ → Step → List Member → List Member

@@ -1,8 +1,12 @@
 //! A round of saves: who is in it, how far each member is, and whether all agree.
 #![tactic(auto)]
 
+mod members;
 mod round;
+#[cfg(test)]
+mod tests;
 mod wanted;
 
-pub use round::{Member, Step};
+pub use members::{Member, Step};
+pub use round::Round;
 pub use wanted::Wanted;

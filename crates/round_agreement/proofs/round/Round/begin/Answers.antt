@@ -1,0 +1,7 @@
+use Rattle.std.proofs.Common.{arith}
+use Rattle.std.proofs.lemmas.Grind.{common_steps}
+use Rattle.round_agreement.proofs.MemberLaws.{conns-saving}
+use Rattle.round_agreement.proofs.round.Round.begin.Goals as goal
+
+pub invariant_of-result : goal.invariant_of-result
+invariant_of-result c = grind (arith, common_steps, conns-saving)
