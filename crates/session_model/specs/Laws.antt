@@ -1,8 +1,9 @@
 -- Laws of the session, whatever comes from outside.
-use Rattle.std.specs.Prelude.{List, [], nat_eq, true, ℕ, ◌≡◌, ◌+◌}
-use Rattle.std.specs.List.{AllByRecursion, IsDistinct, list_any}
+use Rattle.std.specs.Prelude.{List, [], true, ℕ, ◌≡◌, ◌+◌}
+use Rattle.std.specs.List.{AllByRecursion, list_any}
 use Rattle.checkpoint_records.specs.declared.records.Book.{Book}
 use Rattle.session_model.specs.declared.events.SessionEvent.{SessionEvent}
+use Rattle.round_agreement.specs.Agreement.{are_distinct}
 use Rattle.interact_queue.specs.Queue.{is_in}
 use Rattle.session_model.specs.Phases.{is_asked, is_dying, is_interacting, is_member, is_registered}
 use Rattle.session_model.specs.Moves.{Move, Gave, Blamed, Committed, History, Opened, ◌▷◌}
@@ -21,7 +22,7 @@ Always Holds = (book : Book) (events : List SessionEvent) → Holds (run (opened
 
 -- nobody is registered twice
 abbrev pub NobodyRegistersTwice : Type 0
-NobodyRegistersTwice = Always (λ h. IsDistinct nat_eq (of.registered h))
+NobodyRegistersTwice = Always (λ h. are_distinct (of.registered h) ≡ true)
 
 -- the registered connections are those whose phase says so
 abbrev pub PhasesTellWhoIsRegistered : Type 0
@@ -49,7 +50,7 @@ abbrev pub PhasesTellWhoWaits : Type 0
 PhasesTellWhoWaits = (h : History) (c : ℕ) → is_in c (of.waiting h) ≡ is_asked (of.phase_of c h)
 
 abbrev pub NobodyWaitsTwice : Type 0
-NobodyWaitsTwice = (h : History) → IsDistinct nat_eq (of.waiting h)
+NobodyWaitsTwice = (h : History) → are_distinct (of.waiting h) ≡ true
 
 -- between events no rule holds: settling went on until it was at rest
 abbrev pub SettlingComesToRest : Type 0
