@@ -15,3 +15,4 @@ pub mod Short
 pub mod Propers
 pub mod TidyRun
 pub mod Commands
+pub mod Pending
