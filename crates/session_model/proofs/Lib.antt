@@ -16,3 +16,5 @@ pub mod Propers
 pub mod TidyRun
 pub mod Commands
 pub mod Pending
+pub mod Ids
+pub mod Names
