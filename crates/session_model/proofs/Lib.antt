@@ -18,3 +18,5 @@ pub mod Commands
 pub mod Pending
 pub mod Ids
 pub mod Names
+pub mod Known
+pub mod NextIds
