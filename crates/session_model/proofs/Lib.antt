@@ -20,3 +20,4 @@ pub mod Ids
 pub mod Names
 pub mod Known
 pub mod NextIds
+pub mod Room

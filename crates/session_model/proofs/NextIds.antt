@@ -66,7 +66,7 @@ find-none : (b : Bool) (entry : Entry) (o : Option Entry) → is_some (cond b (S
 find-none true entry o e = absurd (grind arith)
 find-none false entry o e = (refl, e)
 
-apart-unrecorded : (y : List ℕ) (entries : List Entry) → is_some (find (is_of y) entries) ≡ false → AllByRecursion (λ x. bytes_eq x y ≡ false) (ids_of entries)
+pub apart-unrecorded : (y : List ℕ) (entries : List Entry) → is_some (find (is_of y) entries) ≡ false → AllByRecursion (λ x. bytes_eq x y ≡ false) (ids_of entries)
 apart-unrecorded y [] e = tt
 apart-unrecorded y (entry ∷ entries) e =
     let p : (is_of y entry ≡ false) × (is_some (find (is_of y) entries) ≡ false) = find-none (is_of y entry) entry (find (is_of y) entries) e in
@@ -81,7 +81,7 @@ swap-cons : (y : List ℕ) (ys xs : List (List ℕ)) → AllByRecursion (λ x. b
 swap-cons y ys [] p q = tt
 swap-cons y ys (x ∷ xs) p q = ((p.0, q.0), swap-cons y ys xs p.1 q.1)
 
-swap-all : (xs ys : List (List ℕ)) → AllByRecursion (λ y. AllByRecursion (λ x. bytes_eq x y ≡ false) xs) ys → AllByRecursion (λ x. AllByRecursion (λ y. bytes_eq x y ≡ false) ys) xs
+pub swap-all : (xs ys : List (List ℕ)) → AllByRecursion (λ y. AllByRecursion (λ x. bytes_eq x y ≡ false) xs) ys → AllByRecursion (λ x. AllByRecursion (λ y. bytes_eq x y ≡ false) ys) xs
 swap-all xs [] a = swap-none xs
 swap-all xs (y ∷ ys) a = swap-cons y ys xs a.0 (swap-all xs ys a.1)
 
@@ -109,16 +109,16 @@ old_ids h round = filter_map (λ (entry : Entry). entry_id (next_entry (reading 
 abbrev pub new_ids : History → Agreement → List (List ℕ)
 new_ids h round = filter_map (λ c. entry_id (new_entry (reading h) c)) (conns_of round.members)
 
-next-ids : (h : History) (round : Agreement) → ids_of (next_entries (reading h) round) ≡ old_ids h round ++ new_ids h round
+pub next-ids : (h : History) (round : Agreement) → ids_of (next_entries (reading h) round) ≡ old_ids h round ++ new_ids h round
 next-ids h round =
     ids-append (filter_map (next_entry (reading h) round) (of.book h).entries) (filter_map (new_entry (reading h)) (conns_of round.members))
       ∙ ap (λ (xs : List (List ℕ)). xs ++ ids_of (filter_map (new_entry (reading h)) (conns_of round.members))) (ids-map (next_entry (reading h) round) (of.book h).entries)
       ∙ ap (λ (xs : List (List ℕ)). old_ids h round ++ xs) (ids-map (new_entry (reading h)) (conns_of round.members))
 
-old-id : (h : History) (round : Agreement) (entry : Entry) (x : List ℕ) → entry_id (next_entry (reading h) round entry) ≡ Some x → x ≡ entry.id
+pub old-id : (h : History) (round : Agreement) (entry : Entry) (x : List ℕ) → entry_id (next_entry (reading h) round entry) ≡ Some x → x ≡ entry.id
 old-id h round entry x e = id-for (reading h) round entry (client_of entry.id (reading h).clients) x e
 
-new-is : (h : History) (c : ℕ) (x : List ℕ) → entry_id (new_entry (reading h) c) ≡ Some x → IsNewId (of.book h) (of.id_of c h) x
+pub new-is : (h : History) (c : ℕ) (x : List ℕ) → entry_id (new_entry (reading h) c) ≡ Some x → IsNewId (of.book h) (of.id_of c h) x
 new-is h c x e = new-id (of.book h) (of.id_of c h) (of.saved_of c h) x e
 
 -- the old ones are of the entries, so none is a new one
