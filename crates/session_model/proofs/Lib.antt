@@ -21,3 +21,4 @@ pub mod Names
 pub mod Known
 pub mod NextIds
 pub mod Room
+pub mod Ruly

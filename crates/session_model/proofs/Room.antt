@@ -63,7 +63,7 @@ recorded-at : (b a : Bool) (entry : Entry) (o : Option Entry) → is_some o ≡ 
 recorded-at true a entry o e = refl
 recorded-at false a entry o e = e
 
-recorded-has : (q : List ℕ) (entries : List Entry) → is_some (find (is_of q) entries) ≡ has_id q (ids_of entries)
+pub recorded-has : (q : List ℕ) (entries : List Entry) → is_some (find (is_of q) entries) ≡ has_id q (ids_of entries)
 recorded-has q [] = refl
 recorded-has q (entry ∷ entries) = recorded-at (is_of q entry) (has_id q (ids_of entries)) entry (find (is_of q) entries) (recorded-has q entries)
 
@@ -107,11 +107,11 @@ known-in q entries held e =
   known-at true s e = ap (λ (c : Bool). c || has_id q (filter (λ id. not (is_some (find (is_of id) entries))) held)) s
   known-at false s e = ap (λ (c : Bool). has_id q (ids_of entries) || c) (has-filter q (λ id. not (is_some (find (is_of id) entries))) held (ap (λ (c : Bool). not c) (recorded-has q entries ∙ s)) e) ∙ or-true (has_id q (ids_of entries))
 
-or-cases : {P : Type 0} (x y : Bool) → (x ≡ true → P) → (y ≡ true → P) → (x || y) ≡ true → P
+pub or-cases : {P : Type 0} (x y : Bool) → (x ≡ true → P) → (y ≡ true → P) → (x || y) ≡ true → P
 or-cases true y f g e = f refl
 or-cases false y f g e = g e
 
-in-known : (q : List ℕ) (entries : List Entry) (held : List (List ℕ)) → has_id q (known_with entries held) ≡ true → (has_id q (ids_of entries) || has_id q held) ≡ true
+pub in-known : (q : List ℕ) (entries : List Entry) (held : List (List ℕ)) → has_id q (known_with entries held) ≡ true → (has_id q (ids_of entries) || has_id q held) ≡ true
 in-known q entries held e =
     or-cases (has_id q (ids_of entries)) (has_id q (filter (λ id. not (is_some (find (is_of id) entries))) held))
       (λ s. ap (λ (c : Bool). c || has_id q held) s)
@@ -129,7 +129,7 @@ unrecorded-apart : (entries : List Entry) (held : List (List ℕ)) → AllByRecu
 unrecorded-apart entries [] = tt
 unrecorded-apart entries (y ∷ held) = unrecorded-at entries y (is_some (find (is_of y) entries)) (filter (λ id. not (is_some (find (is_of id) entries))) held) refl (unrecorded-apart entries held)
 
-known-distinct : (entries : List Entry) (held : List (List ℕ)) → IsDistinct bytes_eq (ids_of entries) → IsDistinct bytes_eq held → IsDistinct bytes_eq (known_with entries held)
+pub known-distinct : (entries : List Entry) (held : List (List ℕ)) → IsDistinct bytes_eq (ids_of entries) → IsDistinct bytes_eq held → IsDistinct bytes_eq (known_with entries held)
 known-distinct entries held d e =
     distinct-append (ids_of entries) (filter (λ id. not (is_some (find (is_of id) entries))) held) d (distinct-filter bytes_eq (λ id. not (is_some (find (is_of id) entries))) held e)
       (swap-all (ids_of entries) (filter (λ id. not (is_some (find (is_of id) entries))) held) (unrecorded-apart entries held))
