@@ -68,7 +68,7 @@ some-same : (x y : List ℕ) → Some x ≡ Some y → x ≡ y
 some-same x y e = cc
 
 -- c has the ID after it was given to e: it is e, or it had it before
-own-case : (b : Bool) (given id : List ℕ) (o : Option (List ℕ)) → cond b (Some given) o ≡ Some id → ((b ≡ true) × (given ≡ id)) ⊎ (o ≡ Some id)
+pub own-case : (b : Bool) (given id : List ℕ) (o : Option (List ℕ)) → cond b (Some given) o ≡ Some id → ((b ≡ true) × (given ≡ id)) ⊎ (o ≡ Some id)
 own-case true given id o e = inl (refl, some-same given id e)
 own-case false given id o e = inr e
 
@@ -78,7 +78,7 @@ own-two e c d given id h f o (inl x) (inr y) = absurd (f d (y ∙ sym (ap (λ (i
 own-two e c d given id h f o (inr x) (inl y) = absurd (f c (x ∙ sym (ap (λ (i : List ℕ). Some i) y.1)))
 own-two e c d given id h f o (inr x) (inr y) = o c d id x y
 
-gone-had : (b : Bool) (id : List ℕ) (o : Option (List ℕ)) → cond b None o ≡ Some id → o ≡ Some id
+pub gone-had : (b : Bool) (id : List ℕ) (o : Option (List ℕ)) → cond b None o ≡ Some id → o ≡ Some id
 gone-had true id o e = absurd (grind arith)
 gone-had false id o e = e
 
