@@ -27,15 +27,15 @@ distinct-none : IsDistinct bytes_eq []
 unfolding IsDistinct
 distinct-none = tt
 
-distinct-head : (x : List ℕ) (xs : List (List ℕ)) → IsDistinct bytes_eq (x ∷ xs) → AllByRecursion (λ y. bytes_eq x y ≡ false) xs
+pub distinct-head : (x : List ℕ) (xs : List (List ℕ)) → IsDistinct bytes_eq (x ∷ xs) → AllByRecursion (λ y. bytes_eq x y ≡ false) xs
 unfolding IsDistinct
 distinct-head x xs d = d.0
 
-distinct-tail : (x : List ℕ) (xs : List (List ℕ)) → IsDistinct bytes_eq (x ∷ xs) → IsDistinct bytes_eq xs
+pub distinct-tail : (x : List ℕ) (xs : List (List ℕ)) → IsDistinct bytes_eq (x ∷ xs) → IsDistinct bytes_eq xs
 unfolding IsDistinct
 distinct-tail x xs d = d.1
 
-distinct-cons : (x : List ℕ) (xs : List (List ℕ)) → AllByRecursion (λ y. bytes_eq x y ≡ false) xs → IsDistinct bytes_eq xs → IsDistinct bytes_eq (x ∷ xs)
+pub distinct-cons : (x : List ℕ) (xs : List (List ℕ)) → AllByRecursion (λ y. bytes_eq x y ≡ false) xs → IsDistinct bytes_eq xs → IsDistinct bytes_eq (x ∷ xs)
 unfolding IsDistinct
 distinct-cons x xs a d = (a, d)
 

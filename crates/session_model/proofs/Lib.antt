@@ -22,3 +22,4 @@ pub mod Known
 pub mod NextIds
 pub mod Room
 pub mod Ruly
+pub mod Lawfuls

@@ -97,7 +97,7 @@ all-new : (epoch : ℕ) (h : History) (conns : List ℕ) → Tidy epoch h → Al
 all-new epoch h [] t = tt
 all-new epoch h (c ∷ conns) t = maybe-cons epoch (new_entry (reading h) c) (filter_map (new_entry (reading h)) conns) (maybe-new epoch (of.book h) (of.id_of c h) (of.saved_of c h) (t.ids c) (t.snapshots c)) (all-new epoch h conns t)
 
-is-next : (epoch : ℕ) (h : History) (round : Agreement) → (of.book h).epoch ≡ epoch → Tidy epoch h → IsOf epoch (next_book (reading h) round)
+pub is-next : (epoch : ℕ) (h : History) (round : Agreement) → (of.book h).epoch ≡ epoch → Tidy epoch h → IsOf epoch (next_book (reading h) round)
 is-next epoch h round e t =
     (e, all-append epoch (filter_map (next_entry (reading h) round) (of.book h).entries) (filter_map (new_entry (reading h)) (conns_of round.members)) (all-next epoch h round (of.book h).entries t t.entries) (all-new epoch h (conns_of round.members) t))
 
@@ -105,7 +105,7 @@ all-filter : (epoch : ℕ) (test : Entry → Bool) (entries : List Entry) → Al
 all-filter epoch test [] a = tt
 all-filter epoch test (entry ∷ entries) a = either (AllByRecursion (IsEntry epoch)) (test entry) (entry ∷ filter test entries) (filter test entries) (a.0, all-filter epoch test entries a.1) (all-filter epoch test entries a.1)
 
-is-forgetting : (epoch : ℕ) (h : History) (id : List ℕ) → (of.book h).epoch ≡ epoch → Tidy epoch h → IsOf epoch (book_forgetting (reading h).store id)
+pub is-forgetting : (epoch : ℕ) (h : History) (id : List ℕ) → (of.book h).epoch ≡ epoch → Tidy epoch h → IsOf epoch (book_forgetting (reading h).store id)
 is-forgetting epoch h id e t = (e, all-filter epoch (λ entry. not (is_of id entry)) (of.book h).entries t.entries)
 
 -- The rules

@@ -67,7 +67,7 @@ pub recorded-has : (q : List ℕ) (entries : List Entry) → is_some (find (is_o
 recorded-has q [] = refl
 recorded-has q (entry ∷ entries) = recorded-at (is_of q entry) (has_id q (ids_of entries)) entry (find (is_of q) entries) (recorded-has q entries)
 
-has-append : (q : List ℕ) (xs ys : List (List ℕ)) → has_id q (xs ++ ys) ≡ (has_id q xs || has_id q ys)
+pub has-append : (q : List ℕ) (xs ys : List (List ℕ)) → has_id q (xs ++ ys) ≡ (has_id q xs || has_id q ys)
 has-append q [] ys = refl
 has-append q (x ∷ xs) ys = ap (λ (b : Bool). bytes_eq q x || b) (has-append q xs ys) ∙ assoc (bytes_eq q x) (has_id q xs) (has_id q ys) where
   assoc : (x y z : Bool) → (x || (y || z)) ≡ ((x || y) || z)

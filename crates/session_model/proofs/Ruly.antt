@@ -49,11 +49,11 @@ Lawful epoch m h = Unit {0}
 -- What is held is known
 
 -- who is recorded or held
-abbrev IsKnown : List ℕ → History → Type 0
+abbrev pub IsKnown : List ℕ → History → Type 0
 IsKnown q h = (has_id q (ids_of (of.book h).entries) || has_id q (held_ids h)) ≡ true
 
 -- an ID that is made of connections is held by one of them
-held-by : (f : ℕ → Option (List ℕ)) (q : List ℕ) (cs : List ℕ) → has_id q (filter_map f cs) ≡ true → (c : ℕ) × (f c ≡ Some q)
+pub held-by : (f : ℕ → Option (List ℕ)) (q : List ℕ) (cs : List ℕ) → has_id q (filter_map f cs) ≡ true → (c : ℕ) × (f c ≡ Some q)
 held-by f q [] e = absurd (grind arith)
 held-by f q (c ∷ cs) e = held-at c (f c) refl e (held-by f q cs) where
   held-at : (c : ℕ) (o : Option (List ℕ)) → f c ≡ o → has_id q (cons_option o (filter_map f cs)) ≡ true → (has_id q (filter_map f cs) ≡ true → (d : ℕ) × (f d ≡ Some q)) → (d : ℕ) × (f d ≡ Some q)
@@ -278,7 +278,7 @@ room-more entries held more id d e k =
   one-of q (inl s) = ap (λ (b : Bool). b || has_id q (known_with entries held)) (ap (λ (x : List ℕ). bytes_eq q x) (sym s) ∙ own_text q)
   one-of q (inr s) = ap (λ (b : Bool). bytes_eq q id || b) (known-in q entries held (ap (λ (b : Bool). has_id q (ids_of entries) || b) s ∙ or-true (has_id q (ids_of entries)))) ∙ or-true (bytes_eq q id)
 
-held-distinct : (h : History) → AreOwn h → Once (of.registered h) → IsDistinct bytes_eq (held_ids h)
+pub held-distinct : (h : History) → AreOwn h → Once (of.registered h) → IsDistinct bytes_eq (held_ids h)
 held-distinct h o n = distinct-conns h (λ c. of.id_of c h) (of.registered h) (λ c id e. e) o n
 
 -- after c left
