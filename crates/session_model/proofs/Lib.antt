@@ -12,3 +12,14 @@ pub mod Rests
 pub mod Kept
 pub mod Tidy
 pub mod Short
+pub mod Propers
+pub mod TidyRun
+pub mod Commands
+pub mod Pending
+pub mod Ids
+pub mod Names
+pub mod Known
+pub mod NextIds
+pub mod Room
+pub mod Ruly
+pub mod Lawfuls

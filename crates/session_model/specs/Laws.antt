@@ -1,13 +1,18 @@
 -- Laws of the session, whatever comes from outside.
-use Rattle.std.specs.Prelude.{List, [], nat_eq, true, ℕ, ◌≡◌}
-use Rattle.std.specs.List.{IsDistinct, list_any}
+use Rattle.std.specs.Prelude.{List, [], true, ℕ, ◌≡◌, ◌+◌}
+use Rattle.std.specs.List.{AllByRecursion, list_any}
 use Rattle.checkpoint_records.specs.declared.records.Book.{Book}
 use Rattle.session_model.specs.declared.events.SessionEvent.{SessionEvent}
+use Rattle.round_agreement.specs.Agreement.{are_distinct}
 use Rattle.interact_queue.specs.Queue.{is_in}
 use Rattle.session_model.specs.Phases.{is_asked, is_dying, is_interacting, is_member, is_registered}
-use Rattle.session_model.specs.Moves.{History}
+use Rattle.session_model.specs.Moves.{Move, Gave, Blamed, Committed, History, Opened, ◌▷◌}
 use Rattle.session_model.specs.Waits.{is_only}
 use Rattle.session_model.specs.Reading.{reading}
+use Rattle.checkpoint_records.specs.Rules.{KeepsRules, IsEntry}
+use Rattle.ice_values.specs.declared.numbers.Endian.TheVariants.{Lsb}
+use Rattle.xsmp_messages.specs.Messages.{IsTooLong}
+use Rattle.xsmp_messages.specs.declared.message.XsmpMessage.TheVariants.{Error}
 use Rattle.session_model.specs.Rules.{opened, rule, run}
 use Rattle.session_model.specs.Readings as of
 
@@ -17,7 +22,7 @@ Always Holds = (book : Book) (events : List SessionEvent) → Holds (run (opened
 
 -- nobody is registered twice
 abbrev pub NobodyRegistersTwice : Type 0
-NobodyRegistersTwice = Always (λ h. IsDistinct nat_eq (of.registered h))
+NobodyRegistersTwice = Always (λ h. are_distinct (of.registered h) ≡ true)
 
 -- the registered connections are those whose phase says so
 abbrev pub PhasesTellWhoIsRegistered : Type 0
@@ -45,8 +50,32 @@ abbrev pub PhasesTellWhoWaits : Type 0
 PhasesTellWhoWaits = (h : History) (c : ℕ) → is_in c (of.waiting h) ≡ is_asked (of.phase_of c h)
 
 abbrev pub NobodyWaitsTwice : Type 0
-NobodyWaitsTwice = (h : History) → IsDistinct nat_eq (of.waiting h)
+NobodyWaitsTwice = (h : History) → are_distinct (of.waiting h) ≡ true
 
 -- between events no rule holds: settling went on until it was at rest
 abbrev pub SettlingComesToRest : Type 0
 SettlingComesToRest = Always (λ h. rule (reading h) ≡ [])
+
+-- this holds of each move of a history
+abbrev pub EachMove : (Move → Type 0) → History → Type 0
+EachMove Holds (Opened book) = Unit {0}
+EachMove Holds (m ▷ h) = Holds m × EachMove Holds h
+
+-- the body of a message that is sent has 65,536 bytes at most
+abbrev pub IsShort : Move → Type 0
+IsShort (Gave c m) = ¬ (IsTooLong Lsb m)
+IsShort (Blamed c error) = ¬ (IsTooLong Lsb (Error error))
+IsShort m = Unit {0}
+
+-- every message that is sent fits, where the opened book keeps the rules
+abbrev pub MessagesFit : Type 0
+MessagesFit = (book : Book) (events : List SessionEvent) → KeepsRules book → EachMove IsShort (run (opened book) events)
+
+-- the entries of a book that is written
+abbrev pub HasEntries : ℕ → Move → Type 0
+HasEntries epoch (Committed written) = (written.epoch ≡ epoch) × AllByRecursion (IsEntry epoch) written.entries
+HasEntries epoch m = Unit {0}
+
+-- Every book that is written is of the run's epoch, and each of its entries keeps the rules, where the opened book does.
+abbrev pub EntriesKeepRules : Type 0
+EntriesKeepRules = (book : Book) (events : List SessionEvent) → KeepsRules book → EachMove (HasEntries (book.epoch + 1)) (run (opened book) events)

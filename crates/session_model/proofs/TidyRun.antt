@@ -1,0 +1,114 @@
+-- Whatever is kept and sent in a run keeps the rules for it.
+use Rattle.std.proofs.Common.{◌≡◌, refl, ℕ, zero, suc, ◌+◌, ◌*◌, ◌<◌, ◌≤◌, Bool, true, false, cond, ◌&&◌, List, [], ◌∷◌, ◌++◌, length, ap, ◌∙◌, arith, rules}
+use Rattle.std.specs.List.{AllByRecursion}
+use Rattle.checkpoint_records.specs.declared.records.Book.{Book}
+use Rattle.checkpoint_records.specs.declared.records.Entry.{Entry}
+use Rattle.checkpoint_records.specs.Rules.{IsClientId, IsEntry, KeepsRules}
+use Rattle.restart_plan.specs.Restarts.{opening_restarts}
+use Rattle.round_agreement.specs.Agreement.{is_nil}
+use Rattle.xsmp_messages.specs.declared.message.XsmpMessage.{XsmpMessage}
+use Rattle.xsmp_messages.specs.declared.message.XsmpMessage.TheVariants.{RegisterClientReply, GetPropertiesReply}
+use Rattle.session_model.specs.declared.events.SessionEvent.{SessionEvent}
+use Rattle.session_model.specs.Moves.{Move, Outside, Gave, Blamed, Committed, Finished, Restart, History, Opened, ◌▷◌, onto, tried_each}
+use Rattle.session_model.specs.Readings as of
+use Rattle.session_model.specs.Reading.{reading}
+use Rattle.session_model.specs.Books.{raised, issue, opening_moves}
+use Rattle.session_model.specs.Replies.{reply}
+use Rattle.session_model.specs.Rules.{rule, go_on, settle, settled, finished, taken, opened, run}
+use Rattle.session_model.specs.Laws.{EachMove, IsShort, HasEntries}
+use Rattle.session_model.proofs.Kept.{empty-table}
+use Rattle.session_model.proofs.Tidy.{Tidy, Proper, AllProper, tidy-step, epoch-step, proper-append}
+use Rattle.session_model.proofs.Short.{short-id, short-table, short-small, short-error}
+use Rattle.session_model.proofs.Propers.{proper-tried, proper-issue, proper-rule, proper-reply}
+
+-- A run over a book, after its first commit
+
+pub record Orderly (epoch : ℕ) (h : History) : Type 0 where
+  pub is_of : (of.book h).epoch ≡ epoch
+  pub tidy : Tidy epoch h
+  pub each : EachMove (Proper epoch) h
+
+orderly-step : (epoch : ℕ) (m : Move) (h : History) → Proper epoch m → Orderly epoch h → Orderly epoch (m ▷ h)
+orderly-step epoch m h p o = record { is_of = epoch-step epoch m h p o.is_of; tidy = tidy-step epoch m h p o.tidy; each = (p, o.each) }
+
+orderly-onto : (epoch : ℕ) (moves : List Move) (h : History) → AllProper epoch moves → Orderly epoch h → Orderly epoch (onto h moves)
+orderly-onto epoch [] h p o = o
+orderly-onto epoch (m ∷ moves) h p o = orderly-onto epoch moves (m ▷ h) p.1 (orderly-step epoch m h p.0 o)
+
+orderly-on : (epoch n : ℕ) (h : History) (moves : List Move) → Orderly epoch h → Orderly epoch (onto h moves) → ((g : History) → Orderly epoch g → Orderly epoch (settle n g)) → Orderly epoch (go_on (λ g. settle n g) h moves)
+orderly-on epoch n h [] o k s = o
+orderly-on epoch n h (m ∷ moves) o k s = s (onto h (m ∷ moves)) k
+
+orderly-settle : (epoch n : ℕ) (h : History) → Orderly epoch h → Orderly epoch (settle n h)
+orderly-settle epoch zero h o = o
+orderly-settle epoch (suc n) h o = orderly-on epoch n h (rule (reading h)) o (orderly-onto epoch (rule (reading h)) h (proper-rule epoch h o.is_of o.tidy) o) (λ g k. orderly-settle epoch n g k)
+
+orderly-finish : (b : Bool) (epoch : ℕ) (h : History) → Orderly epoch h → Orderly epoch (cond b (Finished ▷ h) h)
+orderly-finish true epoch h o = orderly-step epoch Finished h tt o
+orderly-finish false epoch h o = o
+
+orderly-reply : (epoch : ℕ) (event : SessionEvent) (h : History) → 1 ≤ epoch → Orderly epoch h → Orderly epoch (onto (Outside event ▷ h) (reply (reading h) event))
+orderly-reply epoch event h one o = orderly-onto epoch (reply (reading h) event) (Outside event ▷ h) (proper-reply epoch h event one o.is_of o.tidy) (orderly-step epoch (Outside event) h tt o)
+
+orderly-taken : (epoch : ℕ) (event : SessionEvent) (h : History) → 1 ≤ epoch → Orderly epoch h → Orderly epoch (taken event h)
+orderly-taken epoch event h one o =
+    let answered_to : History = onto (Outside event ▷ h) (reply (reading h) event) in
+    let rested : History = settled answered_to in
+    orderly-finish (of.is_ending rested && is_nil (of.live rested)) epoch rested (orderly-settle epoch (4 * length (of.waits answered_to) + 4) answered_to (orderly-reply epoch event h one o))
+
+orderly-run : (epoch : ℕ) (events : List SessionEvent) (h : History) → 1 ≤ epoch → Orderly epoch h → Orderly epoch (run h events)
+orderly-run epoch [] h one o = o
+orderly-run epoch (event ∷ events) h one o = orderly-run epoch events (taken event h) one (orderly-taken epoch event h one o)
+
+-- The opening
+
+later-id : (epoch : ℕ) (id : List ℕ) → IsClientId epoch id → IsClientId (epoch + 1) id
+later-id epoch id i = record { epoch = i.epoch; number = i.number; first = i.first; last = omega (arith, i.last); fits = i.fits; is = i.is }
+
+later-entries : (epoch : ℕ) (entries : List Entry) → AllByRecursion (IsEntry epoch) entries → AllByRecursion (IsEntry (epoch + 1)) entries
+later-entries epoch [] a = tt
+later-entries epoch (entry ∷ entries) a = (record { id = later-id epoch entry.id a.0.id; table = a.0.table }, later-entries epoch entries a.1)
+
+tidy-start : (book : Book) → AllByRecursion (IsEntry book.epoch) book.entries → Tidy (book.epoch + 1) (Opened book)
+tidy-start book a = record { tables = λ c. empty-table; snapshots = λ c. tt; ids = λ c. tt; entries = later-entries book.epoch book.entries a }
+
+orderly-raised : (book : Book) → AllByRecursion (IsEntry book.epoch) book.entries → Orderly (book.epoch + 1) (Committed (raised book) ▷ Opened book)
+orderly-raised book a =
+    let p : Proper (book.epoch + 1) (Committed (raised book)) = (refl, later-entries book.epoch book.entries a) in
+    record { is_of = refl; tidy = tidy-step (book.epoch + 1) (Committed (raised book)) (Opened book) p (tidy-start book a); each = (p, tt) }
+
+orderly-opened : (book : Book) → AllByRecursion (IsEntry book.epoch) book.entries → Orderly (book.epoch + 1) (opened book)
+orderly-opened book a =
+    orderly-onto (book.epoch + 1) (issue (raised book) book.pending ++ tried_each Restart (opening_restarts book.entries)) (Committed (raised book) ▷ Opened book)
+      (proper-append (book.epoch + 1) (issue (raised book) book.pending) (tried_each Restart (opening_restarts book.entries))
+        (proper-issue (book.epoch + 1) (raised book) book.pending (refl, later-entries book.epoch book.entries a)) (proper-tried (book.epoch + 1) Restart (opening_restarts book.entries)))
+      (orderly-raised book a)
+
+pub orderly : (book : Book) (events : List SessionEvent) → KeepsRules book → Orderly (book.epoch + 1) (run (opened book) events)
+orderly book events k = orderly-run (book.epoch + 1) events (opened book) (omega arith) (orderly-opened book k.entries)
+
+-- The laws
+
+each-more : (P Q : Move → Type 0) → ((m : Move) → P m → Q m) → (h : History) → EachMove P h → EachMove Q h
+each-more P Q f (Opened book) e = tt
+each-more P Q f (m ▷ h) e = (f m e.0, each-more P Q f h e.1)
+
+short-given : (epoch c : ℕ) (m : XsmpMessage) → Proper epoch (Gave c m) → IsShort (Gave c m)
+short-given epoch c (RegisterClientReply id) p = short-id epoch id p
+short-given epoch c (GetPropertiesReply table) p = short-table table p
+short-given epoch c m p = short-small m p
+
+proper-short : (epoch : ℕ) (m : Move) → Proper epoch m → IsShort m
+proper-short epoch (Gave c m) p = short-given epoch c m p
+proper-short epoch (Blamed c error) p = short-error error p
+proper-short epoch m p = tt
+
+proper-entries : (epoch : ℕ) (m : Move) → Proper epoch m → HasEntries epoch m
+proper-entries epoch (Committed written) p = p
+proper-entries epoch m p = tt
+
+pub messages-fit : (book : Book) (events : List SessionEvent) → KeepsRules book → EachMove IsShort (run (opened book) events)
+messages-fit book events k = each-more (Proper (book.epoch + 1)) IsShort (proper-short (book.epoch + 1)) (run (opened book) events) (orderly book events k).each
+
+pub entries-keep : (book : Book) (events : List SessionEvent) → KeepsRules book → EachMove (HasEntries (book.epoch + 1)) (run (opened book) events)
+entries-keep book events k = each-more (Proper (book.epoch + 1)) (HasEntries (book.epoch + 1)) (proper-entries (book.epoch + 1)) (run (opened book) events) (orderly book events k).each
