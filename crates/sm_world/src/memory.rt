@@ -91,6 +91,7 @@ impl MemWorld {
         ensures err { OnErr result (self.new ≡ record self.old { calls = counted self.old.calls; faults = record self.old.faults { disk = one_more self.old.faults.disk } }) }
         ensures rose { OnErr result (Rose self.old.faults.disk self.new.faults.disk) }
         ensures counts { self.old.faults.disk ≤ self.new.faults.disk }
+        ensures tape { self.new.tape ≡ self.old.tape }
     {
         if self.calls.count() {
             self.faults.disk = self.faults.disk.saturating_add(1);
@@ -121,8 +122,11 @@ impl MemWorld {
     }
 
     /// Counts a call that can't be recorded.
+    #[tactic(auto, using(crate::proofs::Counting::rises))]
     fn miss(&mut self) -> Failed
-        ensures { self.new ≡ record self.old { unrecorded = one_more self.old.unrecorded; faults = record self.old.faults { disk = one_more self.old.faults.disk } } }
+        ensures rose { Rose self.old.faults.disk self.new.faults.disk }
+        ensures counts { self.old.faults.disk ≤ self.new.faults.disk }
+        ensures missed { self.new ≡ record self.old { unrecorded = one_more self.old.unrecorded; faults = record self.old.faults { disk = one_more self.old.faults.disk } } }
     {
         self.unrecorded = self.unrecorded.saturating_add(1);
         self.faults.disk = self.faults.disk.saturating_add(1);
