@@ -1,7 +1,7 @@
 -- One call after another: the effects that they add, and the counts of faults.
-use Rattle.std.proofs.Common.{◌≡◌, arith, List, [], ◌++◌, Option, Some, None, refl, ap, append_assoc}
+use Rattle.std.proofs.Common.{◌≡◌, arith, List, [], ◌++◌, Option, Some, None, refl, ap, sym, append_assoc}
 use Rattle.std.proofs.lemmas.List.{append-nil}
-use Rattle.sm_world.specs.Outside.{NotFallen, adds}
+use Rattle.sm_world.specs.Outside.{Added, NotFallen, adds}
 use Rattle.sm_world.specs.declared.effects.Effect.{Effect}
 use Rattle.sm_world.specs.declared.failures.Faults.{Faults}
 
@@ -13,6 +13,10 @@ adds-adds (Some told) es ds = ap Some (append_assoc told es ds)
 pub adds-none : (old : Option (List Effect)) → adds old [] ≡ old
 adds-none None = refl
 adds-none (Some told) = ap Some (append-nil told)
+
+-- a call that added nothing
+pub nothing_added : (old : Option (List Effect)) (P : List Effect → Type 0) → P [] → Added old old P
+nothing_added old P none = record { effects = []; added = sym (adds-none old); holds = none }
 
 -- counts that never fall
 pub never_fallen : (faults : Faults) → NotFallen faults faults

@@ -1,7 +1,5 @@
 -- The calls of a world by their numbers.
-use Rattle.std.specs.Prelude.{ℕ, ◌+◌, ◌-◌, ◌^◌, min, List, Result, Ok, Err}
-use Rattle.sm_world.specs.declared.failures.Failure.{Failure}
-use Rattle.sm_world.specs.declared.failures.Failure.TheVariants.{Failed, NoMemory}
+use Rattle.std.specs.Prelude.{ℕ, ◌+◌, ◌-◌, ◌^◌, min, Bool, if◌then◌else◌, List}
 
 pub record Numbered : Type 0 where
   -- the numbers of the calls that fail
@@ -17,8 +15,6 @@ one_more n = min (n + 1) (2 ^ 64 - 1)
 abbrev pub counted : Numbered → Numbered
 counted calls = record calls { last = one_more calls.last }
 
--- how often a device has failed, after a call with this answer
-abbrev pub count_after : {A : Type 0} → Result A Failure → ℕ → ℕ
-count_after (Ok x) count = count
-count_after (Err Failed) count = one_more count
-count_after (Err NoMemory) count = count
+-- how often a device has failed, after a call that failed or didn't
+abbrev pub counted_if : Bool → ℕ → ℕ
+counted_if failed count = if failed then one_more count else count

@@ -1,6 +1,9 @@
+pub mod Bytes
 pub mod Events
 pub mod Effects
 pub mod Outside
+pub mod Crash
+pub mod Disk
 pub mod Tape
 pub mod Worlds
 pub mod Calls

@@ -1,4 +1,5 @@
-ghost use Rattle.std.specs.Prelude.{◌≡◌, List, ℕ, [], ◌++◌, length, take, IfOk, OnOk, OnErr};
+ghost use Rattle.std.specs.Prelude.{◌≡◌, ◌≤◌, ◌+◌, List, ℕ, [], ◌++◌, length, take, IfOk, OnOk, OnErr};
+ghost use Rattle.sm_world.specs.Bytes.{overwritten};
 
 use crate::{Duplicate, NoMemory};
 use std::alloc::Global;
@@ -77,6 +78,14 @@ impl Octets {
     {
         self.bytes.extend_from_slice(bytes)?;
         Ok(())
+    }
+
+    /// Puts these bytes in place of as many that stand at a place.
+    pub fn overwrite(&mut self, at: usize, bytes: &[u8])
+        requires { at + length bytes.now ≤ length self.old }
+        ensures { self.new ≡ overwritten self.old at bytes.now }
+    {
+        self.bytes[at..at + bytes.len()].copy_from_slice(bytes);
     }
 }
 

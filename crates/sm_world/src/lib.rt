@@ -4,6 +4,7 @@
 mod bytes;
 mod calls;
 mod commands;
+mod disk;
 mod effects;
 mod events;
 mod failures;
@@ -15,6 +16,7 @@ mod tape;
 
 pub use bytes::Octets;
 pub use commands::Command;
+pub use disk::Disk;
 pub use effects::Effect;
 pub use events::{Conn, Dialog, Event, Order, PIECE_LIMIT, SaveKind, SaveStyle};
 pub use failures::{Failed, Failure, Faults, NoMemory};

@@ -1,20 +1,25 @@
-ghost use Rattle.std.specs.Prelude.{◌≡◌, ◌≤◌, [], ◌∷◌, length, Some, IfOk};
+ghost use Rattle.std.specs.Prelude.{◌≡◌, ◌≤◌, ◌+◌, [], ◌∷◌, length, take, drop, Some, is_err, IfOk, OnOk, OnErr};
 ghost use Rattle.std.specs.List.{AllByRecursion};
+ghost use Rattle.sm_world.specs.Calls.{one_more, counted_if};
 ghost use Rattle.sm_world.specs.Events.{HasPieceSize};
+ghost use Rattle.sm_world.specs.Outside.{Rose};
 
 use crate::tape::Tape;
-use crate::{Conn, Console, Effect, Event, EventList, Failure, Links, NoMemory, Octets, Told};
+use crate::{
+    Conn, Console, Disk, Effect, Event, EventList, Failed, Failure, Links, NoMemory, Octets, Told,
+};
 use std::alloc::Global;
 
 /// A world in memory none of whose calls fails but for want of memory. It tells all that it does.
 #[derive(Debug, Drop)]
 pub struct SteadyWorld {
     tape: Tape,
-    file: Octets,
+    /// How often a write or a sync found no memory to record it.
+    unrecorded: u64,
 }
 
 impl SteadyWorld {
-    ghost use Rattle.sm_world.specs.Worlds.{steady_outside, steady_file};
+    ghost use Rattle.sm_world.specs.Worlds.{steady_outside, steady_file, steady_unrecorded};
 
     /// A world whose links bring these events and then End, whose console has this input, and
     /// whose store begins with these bytes. A piece has at least one and at most 65,536 bytes.
@@ -29,10 +34,12 @@ impl SteadyWorld {
         ensures coming { IfOk result (λ world. (steady_outside world).coming ≡ Some events) }
         ensures input { IfOk result (λ world. (steady_outside world).input ≡ Some input) }
         ensures file { IfOk result (λ world. steady_file world ≡ file) }
+        ensures first { IfOk result (λ world. (steady_outside world).first ≡ Some file) }
+        ensures unrecorded { IfOk result (λ world. steady_unrecorded world ≡ 0) }
     {
         Ok(SteadyWorld {
-            tape: Tape::new(alloc, events, input),
-            file,
+            tape: Tape::new(alloc, events, input, file)?,
+            unrecorded: 0,
         })
     }
 
@@ -47,7 +54,26 @@ impl SteadyWorld {
     pub fn file(&self) -> &[u8]
         ensures { result.now ≡ steady_file self.now }
     {
-        self.file.as_slice()
+        self.tape.file()
+    }
+
+    /// How often a write or a sync found no memory to record it. A number that has reached the
+    /// largest `u64` stays there.
+    pub fn unrecorded(&self) -> u64
+        ensures { result ≡ steady_unrecorded self.now }
+    {
+        self.unrecorded
+    }
+
+    /// Counts a call that can't be recorded.
+    #[tactic(auto, using(crate::proofs::Counting::rises))]
+    fn miss(&mut self) -> Failed
+        ensures missed { self.new ≡ record self.old { unrecorded = one_more self.old.unrecorded } }
+        ensures rose { Rose self.old.unrecorded self.new.unrecorded }
+        ensures counts { self.old.unrecorded ≤ self.new.unrecorded }
+    {
+        self.unrecorded = self.unrecorded.saturating_add(1);
+        Failed
     }
 }
 
@@ -126,6 +152,94 @@ impl Console for SteadyWorld {
     {
         let bytes = self.tape.octets(bytes)?;
         self.tape.note(Effect::Printed(bytes))?;
+        Ok(())
+    }
+}
+
+impl Disk for SteadyWorld {
+    ghost use Rattle.sm_world.specs.Bytes.{overwritten};
+    ghost use Rattle.sm_world.specs.Disk.{has_failed, IsFailedWrite, IsFailedSync, MayRead, KeepsToldSize, UsesDisk};
+    ghost use Rattle.sm_world.specs.Outside.{Added, adds, on_ok};
+    ghost use Rattle.sm_world.specs.Worlds.{steady_outside, steady_file, steady_unrecorded, steady_sized};
+    ghost use Rattle.sm_world.specs.declared.effects.Effect.TheVariants.{Wrote, Synced, Published};
+
+    ghost sized = { steady_sized };
+
+    fn attach(&mut self, _path: &str) -> Result<(), Failure>
+        ensures effects { (steady_outside self.new).told ≡ (steady_outside self.old).told }
+        ensures size { KeepsToldSize (steady_outside self.old) (steady_outside self.new) }
+        ensures uses { UsesDisk (steady_outside self.old) (steady_outside self.new) (has_failed result) }
+        ensures file { steady_file self.new ≡ steady_file self.old }
+        ensures unrecorded { steady_unrecorded self.new ≡ steady_unrecorded self.old }
+    {
+        Ok(())
+    }
+
+    fn size(&mut self) -> Result<u64, Failure>
+        ensures effects { (steady_outside self.new).told ≡ (steady_outside self.old).told }
+        ensures size { KeepsToldSize (steady_outside self.old) (steady_outside self.new) }
+        ensures answer { IfOk result (λ n. n ≡ (steady_outside self.new).size) }
+        ensures uses { UsesDisk (steady_outside self.old) (steady_outside self.new) (has_failed result) }
+        ensures file { steady_file self.new ≡ steady_file self.old }
+        ensures unrecorded { steady_unrecorded self.new ≡ steady_unrecorded self.old }
+    {
+        Ok(self.tape.size())
+    }
+
+    fn read_at(&mut self, at: u64, into: &mut [u8]) -> Result<(), Failure>
+        requires { at + length into.old ≤ (steady_outside self.old).size }
+        ensures effects { (steady_outside self.new).told ≡ (steady_outside self.old).told }
+        ensures size { (steady_outside self.new).size ≡ (steady_outside self.old).size }
+        ensures bytes { OnOk result (MayRead (steady_outside self.old) at into.new) }
+        ensures held { OnOk result (into.new ≡ take (length into.old) (drop at (steady_file self.old))) }
+        ensures uses { UsesDisk (steady_outside self.old) (steady_outside self.new) (has_failed result) }
+        ensures file { steady_file self.new ≡ steady_file self.old }
+        ensures unrecorded { steady_unrecorded self.new ≡ steady_unrecorded self.old }
+    {
+        self.tape.read_at(at, into);
+        Ok(())
+    }
+
+    fn write_at(&mut self, at: u64, bytes: &[u8]) -> Result<(), Failed>
+        requires { at + length bytes.now ≤ (steady_outside self.old).size }
+        ensures ok { OnOk result ((steady_outside self.new).told ≡ adds (steady_outside self.old).told (Wrote at bytes.now ∷ [])) }
+        ensures err { OnErr result (Added (steady_outside self.old).told (steady_outside self.new).told (IsFailedWrite at (length bytes.now))) }
+        ensures size { (steady_outside self.new).size ≡ (steady_outside self.old).size }
+        ensures uses { UsesDisk (steady_outside self.old) (steady_outside self.new) (is_err result) }
+        ensures file { OnOk result (steady_file self.new ≡ overwritten (steady_file self.old) at bytes.now) }
+        ensures kept { OnErr result (steady_file self.new ≡ steady_file self.old) }
+        ensures unrecorded { steady_unrecorded self.new ≡ counted_if (is_err result) (steady_unrecorded self.old) }
+    {
+        match self.tape.write_at(at, bytes) {
+            Ok(()) => Ok(()),
+            Err(NoMemory) => Err(self.miss()),
+        }
+    }
+
+    fn sync(&mut self) -> Result<(), Failed>
+        ensures ok { OnOk result ((steady_outside self.new).told ≡ adds (steady_outside self.old).told (Synced ∷ [])) }
+        ensures err { OnErr result (Added (steady_outside self.old).told (steady_outside self.new).told IsFailedSync) }
+        ensures size { (steady_outside self.new).size ≡ (steady_outside self.old).size }
+        ensures uses { UsesDisk (steady_outside self.old) (steady_outside self.new) (is_err result) }
+        ensures file { steady_file self.new ≡ steady_file self.old }
+        ensures unrecorded { steady_unrecorded self.new ≡ counted_if (is_err result) (steady_unrecorded self.old) }
+    {
+        match self.tape.note(Effect::Synced) {
+            Ok(()) => Ok(()),
+            Err(NoMemory) => Err(self.miss()),
+        }
+    }
+
+    fn publish(&mut self, path: &str, bytes: &[u8]) -> Result<(), Failure>
+        ensures effects { (steady_outside self.new).told ≡ adds (steady_outside self.old).told (on_ok result (Published path.now bytes.now ∷ [])) }
+        ensures size { (steady_outside self.new).size ≡ (steady_outside self.old).size }
+        ensures uses { UsesDisk (steady_outside self.old) (steady_outside self.new) (has_failed result) }
+        ensures file { steady_file self.new ≡ steady_file self.old }
+        ensures unrecorded { steady_unrecorded self.new ≡ steady_unrecorded self.old }
+    {
+        let path = self.tape.octets(path.as_bytes())?;
+        let bytes = self.tape.octets(bytes)?;
+        self.tape.note(Effect::Published(path, bytes))?;
         Ok(())
     }
 }
