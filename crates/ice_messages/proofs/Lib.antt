@@ -2,4 +2,3 @@ pub mod Parts
 pub mod Setups
 pub mod MessageLaws
 pub mod Dispatch
-pub mod Puts

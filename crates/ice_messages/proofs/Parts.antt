@@ -1,12 +1,12 @@
 -- The bodies of messages are read exactly.
 use Rattle.std.proofs.Common.{ℕ, List, [], ◌++◌}
 use Rattle.ice_values.specs.Cells.{Cells, free}
-use Rattle.ice_values.specs.Fields.{text16, IsText16, version, IsVersion, texts, versions, IsCounted, proof_data, IsProofData}
-use Rattle.ice_values.specs.Reading.{text16_at, version_at, many_at, proof_data_at, nothing_at, after_at}
+use Rattle.ice_values.specs.Fields.{text16, IsText16, version, IsVersion, texts, versions, IsCounted}
+use Rattle.ice_values.specs.Reading.{text16_at, version_at, many_at, nothing_at, after_at}
 use Rattle.ice_values.specs.Frames.{body_at}
 use Rattle.ice_values.specs.declared.numbers.Endian.{Endian}
 use Rattle.ice_values.specs.declared.version.Version.{Version}
-use Rattle.ice_values.proofs.FieldLaws.{Exact, pair, after, text16_exact, version_exact, proof_data_exact, nothing_exact}
+use Rattle.ice_values.proofs.FieldLaws.{Exact, pair, after, text16_exact, version_exact, nothing_exact}
 use Rattle.ice_values.proofs.ListLaws.{many}
 use Rattle.ice_values.proofs.BodyLaws.{Whole, whole}
 use Rattle.ice_messages.specs.Reading.{makers_at, lists_at, offer_at, protocol_at}
@@ -44,7 +44,7 @@ protocol e x = text16 e x.0 ++ offer e x.1
 abbrev pub IsProtocolOf : ℕ → ℕ → List ℕ × (Makers × Lists) → Type 0
 IsProtocolOf names offered x = IsText16 x.0 × IsOfferOf names offered x.1
 
-makers_exact : (e : Endian) → Exact (makers e) IsMakers (makers_at e)
+pub makers_exact : (e : Endian) → Exact (makers e) IsMakers (makers_at e)
 unfolding makers_at
 makers_exact e = pair (text16 e) IsText16 (text16_at e) (text16 e) IsText16 (text16_at e) (text16_exact e) (text16_exact e)
 
@@ -64,12 +64,6 @@ protocol_exact e names offered = pair (text16 e) IsText16 (text16_at e) (offer e
 
 pub nothing_law : (e : Endian) (minor : ℕ) → Whole e 0 minor (λ x. free 2) (λ x. []) (λ x. Unit {0}) (body_at nothing_at)
 nothing_law e minor = whole (λ x. []) (λ x. Unit {0}) nothing_at e 0 minor nothing_exact
-
-pub proof_law : (e : Endian) (minor : ℕ) → Whole e 0 minor (λ x. free 2) (proof_data e) IsProofData (body_at (proof_data_at e))
-proof_law e minor = whole (proof_data e) IsProofData (proof_data_at e) e 0 minor (proof_data_exact e)
-
-pub makers_law : (e : Endian) (minor : ℕ) → Whole e 0 minor (λ x. free 2) (makers e) IsMakers (body_at (makers_at e))
-makers_law e minor = whole (makers e) IsMakers (makers_at e) e 0 minor (makers_exact e)
 
 pub offer_law : (e : Endian) (minor names offered : ℕ) → Whole e 0 minor (λ x. free 2) (λ x. free 8 ++ offer e x) (IsOfferOf names offered) (body_at (after_at 8 (offer_at e names offered)))
 offer_law e minor names offered =

@@ -47,30 +47,21 @@ layout mark e NoClose = (free 2, [])
 abbrev pub shape : (ℕ → Cells) → Endian → IceMessage → Cells
 shape mark e m = spelling e 0 (minor_of m) (layout mark e m).0 (layout mark e m).1
 
--- Where the enumerated bytes stand, and how many meanings each has: those from 0 on.
+-- Where the enumerated bytes stand, and how many meanings each has: those from 0 on. Other messages have none.
 abbrev pub enumerated : IceMessage → List (ℕ × ℕ)
 enumerated (Error error) = (9, 3) ∷ []
 enumerated (ByteOrder order) = (2, 2) ∷ []
 enumerated (ConnectionSetup must vendor release names offered) = (8, 2) ∷ []
-enumerated (AuthenticationRequired index proof) = []
-enumerated (AuthenticationReply proof) = []
-enumerated (AuthenticationNextPhase proof) = []
-enumerated (ConnectionReply index vendor release) = []
 enumerated (ProtocolSetup opcode must protocol vendor release names offered) = (3, 2) ∷ []
-enumerated (ProtocolReply index opcode vendor release) = []
-enumerated Ping = []
-enumerated PingReply = []
-enumerated WantToClose = []
-enumerated NoClose = []
+enumerated m = []
 
 -- what each party offers, whose counts are one byte each
 abbrev pub IsOffer : List (List ℕ) → List Version → Type 0
 IsOffer names offered = (length names < 256) × AllByRecursion IsText16 names × (length offered < 256) × AllByRecursion IsVersion offered
 
--- what has a spelling
+-- What has a spelling. Each other message has one.
 abbrev pub IsMessage : IceMessage → Type 0
 IsMessage (Error error) = IsError error
-IsMessage (ByteOrder order) = Unit {0}
 IsMessage (ConnectionSetup must vendor release names offered) = IsText16 vendor × IsText16 release × IsOffer names offered
 IsMessage (AuthenticationRequired index proof) = IsProofData proof
 IsMessage (AuthenticationReply proof) = IsProofData proof
@@ -78,10 +69,7 @@ IsMessage (AuthenticationNextPhase proof) = IsProofData proof
 IsMessage (ConnectionReply index vendor release) = IsText16 vendor × IsText16 release
 IsMessage (ProtocolSetup opcode must protocol vendor release names offered) = IsText16 protocol × IsText16 vendor × IsText16 release × IsOffer names offered
 IsMessage (ProtocolReply index opcode vendor release) = IsText16 vendor × IsText16 release
-IsMessage Ping = Unit {0}
-IsMessage PingReply = Unit {0}
-IsMessage WantToClose = Unit {0}
-IsMessage NoClose = Unit {0}
+IsMessage m = Unit {0}
 
 -- a frame of bytes under major opcode 0
 pub record IsIceFrame (e : Endian) (bytes : List ℕ) : Type 0 where
@@ -115,21 +103,14 @@ Refused e bytes BadLength = ((m : IceMessage) × (minor_of m ≡ slice_index byt
 Refused e bytes (BadValue at len) = (len ≡ 1) × ((m : IceMessage) × HasForm e m bytes × (first_wrong (enumerated m) bytes ≡ Some at))
 Refused e bytes NoMemory = Unit {0}
 
--- a list or some data is longer than its count can say
+-- A list or some data is longer than its count can say. Other messages have neither.
 abbrev pub HasLongPart : IceMessage → Type 0
-HasLongPart (Error error) = ⊥
-HasLongPart (ByteOrder order) = ⊥
 HasLongPart (ConnectionSetup must vendor release names offered) = (255 < length names) ⊎ (255 < length offered)
 HasLongPart (AuthenticationRequired index proof) = 65535 < length proof
 HasLongPart (AuthenticationReply proof) = 65535 < length proof
 HasLongPart (AuthenticationNextPhase proof) = 65535 < length proof
-HasLongPart (ConnectionReply index vendor release) = ⊥
 HasLongPart (ProtocolSetup opcode must protocol vendor release names offered) = (255 < length names) ⊎ (255 < length offered)
-HasLongPart (ProtocolReply index opcode vendor release) = ⊥
-HasLongPart Ping = ⊥
-HasLongPart PingReply = ⊥
-HasLongPart WantToClose = ⊥
-HasLongPart NoClose = ⊥
+HasLongPart m = ⊥
 
 -- a part is, or the body has more than 65,536 bytes
 abbrev pub IsTooLong : Endian → IceMessage → Type 0

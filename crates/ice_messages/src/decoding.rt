@@ -6,8 +6,8 @@ ghost use Rattle.ice_messages.specs.Reading.{Gives, makers_at, lists_at, offer_a
 
 use crate::IceMessage;
 use ice_values::{
-    DecodeRefusal, Endian, Text16, TextList, ValueRefusal, VersionList, bool_at, decode_error,
-    end_body, no_body, order_at, skip, take_proof_data, take_text16, take_texts, take_versions,
+    DecodeRefusal, Endian, Spelled, Text16, TextList, ValueRefusal, VersionList, decode_error,
+    end_body, no_body, skip, take_many, take_proof_data, value_at,
 };
 use sm_world::Octets;
 use std::alloc::Global;
@@ -22,8 +22,8 @@ type Lists = (TextList, VersionList);
 fn take_makers(alloc: Global, endian: Endian, bytes: &[u8]) -> Result<(Makers, &[u8]), ValueRefusal>
     ensures { Answers (λ x. (x.0, x.1.now)) result (makers_at endian bytes.now) }
 {
-    let (vendor, rest) = take_text16(alloc, endian, bytes)?;
-    let (release, rest) = take_text16(alloc, endian, rest)?;
+    let (vendor, rest) = Text16::take(alloc, endian, bytes)?;
+    let (release, rest) = Text16::take(alloc, endian, rest)?;
     Ok(((vendor, release), rest))
 }
 
@@ -37,8 +37,8 @@ fn take_lists(
 ) -> Result<(Lists, &[u8]), ValueRefusal>
     ensures { Answers (λ x. (x.0, x.1.now)) result (lists_at endian names versions bytes.now) }
 {
-    let (names, rest) = take_texts(alloc, endian, names, bytes)?;
-    let (versions, rest) = take_versions(alloc, endian, versions, rest)?;
+    let (names, rest) = take_many(alloc, endian, names.into(), bytes)?;
+    let (versions, rest) = take_many(alloc, endian, versions.into(), rest)?;
     Ok(((names, versions), rest))
 }
 
@@ -67,7 +67,7 @@ fn take_protocol(
 ) -> Result<((Text16, (Makers, Lists)), &[u8]), ValueRefusal>
     ensures { Answers (λ x. (x.0, x.1.now)) result (protocol_at endian names versions bytes.now) }
 {
-    let (protocol, rest) = take_text16(alloc, endian, bytes)?;
+    let (protocol, rest) = Text16::take(alloc, endian, bytes)?;
     let (offer, rest) = take_offer(alloc, endian, names, versions, rest)?;
     Ok(((protocol, offer), rest))
 }
@@ -141,16 +141,6 @@ fn empty(message: IceMessage, frame: &[u8]) -> Result<IceMessage, DecodeRefusal>
     Ok(message)
 }
 
-#[tactic(auto, unfolding(crate::specs::Reading::byte_order_at))]
-fn byte_order(frame: &[u8]) -> Result<IceMessage, DecodeRefusal>
-    requires { 8 ≤ length frame.now }
-    ensures { Gives result (byte_order_at frame.now) }
-{
-    no_body(frame)?;
-    let order = order_at(frame, 2)?;
-    Ok(IceMessage::ByteOrder(order))
-}
-
 #[tactic(auto, unfolding(crate::specs::Reading::connection_setup_at))]
 fn connection_setup(
     alloc: Global,
@@ -163,7 +153,7 @@ fn connection_setup(
     let ((vendor, release), (names, versions)) = offer_body(
         alloc, endian, frame[3], frame[2], frame,
     )?;
-    let must = bool_at(frame, 8)?;
+    let must = value_at(frame, 8)?;
     Ok(IceMessage::ConnectionSetup {
         must,
         vendor,
@@ -173,72 +163,13 @@ fn connection_setup(
     })
 }
 
-#[tactic(auto, unfolding(crate::specs::Reading::authentication_required_at))]
-fn authentication_required(
-    alloc: Global,
-    endian: Endian,
-    frame: &[u8],
-) -> Result<IceMessage, DecodeRefusal>
-    requires { 8 ≤ length frame.now }
-    ensures { Gives result (authentication_required_at endian frame.now) }
-{
-    let proof = proof_body(alloc, endian, frame)?;
-    Ok(IceMessage::AuthenticationRequired {
-        index: frame[2],
-        proof,
-    })
-}
-
-#[tactic(auto, unfolding(crate::specs::Reading::authentication_reply_at))]
-fn authentication_reply(
-    alloc: Global,
-    endian: Endian,
-    frame: &[u8],
-) -> Result<IceMessage, DecodeRefusal>
-    requires { 8 ≤ length frame.now }
-    ensures { Gives result (authentication_reply_at endian frame.now) }
-{
-    let proof = proof_body(alloc, endian, frame)?;
-    Ok(IceMessage::AuthenticationReply { proof })
-}
-
-#[tactic(auto, unfolding(crate::specs::Reading::authentication_next_phase_at))]
-fn authentication_next_phase(
-    alloc: Global,
-    endian: Endian,
-    frame: &[u8],
-) -> Result<IceMessage, DecodeRefusal>
-    requires { 8 ≤ length frame.now }
-    ensures { Gives result (authentication_next_phase_at endian frame.now) }
-{
-    let proof = proof_body(alloc, endian, frame)?;
-    Ok(IceMessage::AuthenticationNextPhase { proof })
-}
-
-#[tactic(auto, unfolding(crate::specs::Reading::connection_reply_at))]
-fn connection_reply(
-    alloc: Global,
-    endian: Endian,
-    frame: &[u8],
-) -> Result<IceMessage, DecodeRefusal>
-    requires { 8 ≤ length frame.now }
-    ensures { Gives result (connection_reply_at endian frame.now) }
-{
-    let (vendor, release) = makers_body(alloc, endian, frame)?;
-    Ok(IceMessage::ConnectionReply {
-        index: frame[2],
-        vendor,
-        release,
-    })
-}
-
 #[tactic(auto, unfolding(crate::specs::Reading::protocol_setup_at))]
 fn protocol_setup(alloc: Global, endian: Endian, frame: &[u8]) -> Result<IceMessage, DecodeRefusal>
     requires { 8 ≤ length frame.now }
     ensures { Gives result (protocol_setup_at endian frame.now) }
 {
     let (protocol, ((vendor, release), (names, versions))) = protocol_body(alloc, endian, frame)?;
-    let must = bool_at(frame, 3)?;
+    let must = value_at(frame, 3)?;
     Ok(IceMessage::ProtocolSetup {
         opcode: frame[2],
         must,
@@ -250,44 +181,47 @@ fn protocol_setup(alloc: Global, endian: Endian, frame: &[u8]) -> Result<IceMess
     })
 }
 
-#[tactic(auto, unfolding(crate::specs::Reading::protocol_reply_at))]
-fn protocol_reply(alloc: Global, endian: Endian, frame: &[u8]) -> Result<IceMessage, DecodeRefusal>
-    requires { 8 ≤ length frame.now }
-    ensures { Gives result (protocol_reply_at endian frame.now) }
-{
-    let (vendor, release) = makers_body(alloc, endian, frame)?;
-    Ok(IceMessage::ProtocolReply {
-        index: frame[2],
-        opcode: frame[3],
-        vendor,
-        release,
-    })
-}
-
-#[tactic(auto, unfolding(crate::specs::Reading::ice_error_at))]
-fn error(alloc: Global, endian: Endian, frame: &[u8]) -> Result<IceMessage, DecodeRefusal>
-    requires { IsFrame endian frame.now }
-    ensures { Gives result (ice_error_at endian frame.now) }
-{
-    let error = decode_error(alloc, endian, frame)?;
-    Ok(IceMessage::Error(error))
-}
-
-#[tactic(auto, unfolding(crate::specs::Reading::decode_at))]
+#[tactic(auto, unfolding(crate::specs::Reading::decode_at, crate::specs::Reading::byte_order_at, crate::specs::Reading::authentication_required_at, crate::specs::Reading::authentication_reply_at, crate::specs::Reading::authentication_next_phase_at, crate::specs::Reading::connection_reply_at, crate::specs::Reading::protocol_reply_at, crate::specs::Reading::ice_error_at))]
 fn by_minor(alloc: Global, endian: Endian, frame: &[u8]) -> Result<IceMessage, DecodeRefusal>
     requires { IsFrame endian frame.now }
     ensures { Gives result (decode_at endian frame.now) }
 {
     match frame[1] {
-        0 => error(alloc, endian, frame),
-        1 => byte_order(frame),
+        0 => Ok(IceMessage::Error(decode_error(alloc, endian, frame)?)),
+        1 => {
+            no_body(frame)?;
+            let order = value_at(frame, 2)?;
+            Ok(IceMessage::ByteOrder(order))
+        }
         2 => connection_setup(alloc, endian, frame),
-        3 => authentication_required(alloc, endian, frame),
-        4 => authentication_reply(alloc, endian, frame),
-        5 => authentication_next_phase(alloc, endian, frame),
-        6 => connection_reply(alloc, endian, frame),
+        3 => Ok(IceMessage::AuthenticationRequired {
+            index: frame[2],
+            proof: proof_body(alloc, endian, frame)?,
+        }),
+        4 => Ok(IceMessage::AuthenticationReply {
+            proof: proof_body(alloc, endian, frame)?,
+        }),
+        5 => Ok(IceMessage::AuthenticationNextPhase {
+            proof: proof_body(alloc, endian, frame)?,
+        }),
+        6 => {
+            let (vendor, release) = makers_body(alloc, endian, frame)?;
+            Ok(IceMessage::ConnectionReply {
+                index: frame[2],
+                vendor,
+                release,
+            })
+        }
         7 => protocol_setup(alloc, endian, frame),
-        8 => protocol_reply(alloc, endian, frame),
+        8 => {
+            let (vendor, release) = makers_body(alloc, endian, frame)?;
+            Ok(IceMessage::ProtocolReply {
+                index: frame[2],
+                opcode: frame[3],
+                vendor,
+                release,
+            })
+        }
         9 => empty(IceMessage::Ping, frame),
         10 => empty(IceMessage::PingReply, frame),
         11 => empty(IceMessage::WantToClose, frame),

@@ -1,16 +1,15 @@
 ghost use Rattle.std.specs.Prelude.{◌≡◌, ◌≢◌, ◌≤◌, ◌+◌, ◌/◌, ◌*◌, ◌++◌, [], ◌∷◌, length, slice_index, Err, OnOk, OnErr, IfSome, IfNone, ◌↔◌};
 ghost use Rattle.ice_values.specs.Cells.{zeros, byte};
-ghost use Rattle.ice_values.specs.Fields.{text16, texts, versions as version_cells, IsVersion};
+ghost use Rattle.ice_values.specs.Fields.{text16, texts, versions as version_cells, IsText16};
 ghost use Rattle.ice_values.specs.Writing.{Extends};
 ghost use Rattle.ice_values.specs.declared.numbers.Endian.{Endian as AnyEndian};
 ghost use Rattle.ice_messages.specs.Messages.{IsFrame, canon, minor_of, layout, IsMessage, IsOffer, HasLongPart, IsTooLong};
 
 use crate::IceMessage;
-use crate::lengths::body_len;
+use crate::lengths::body_size;
 use ice_values::{
-    BODY_LIMIT, EncodeRefusal, Endian, Text16, TextList, VersionList, bool_byte, pad, put_bytes,
-    put_card16, put_card32, put_error, put_proof_data, put_text16, put_texts, put_versions,
-    put_zeros, text_len, texts_len,
+    EncodeRefusal, Endian, Enumerated, Spelled, Text16, TextList, VersionList, pad, put_bytes,
+    put_card16, put_card32, put_error, put_many, put_proof_data, put_zeros,
 };
 use sm_world::{NoMemory, Octets};
 
@@ -56,7 +55,7 @@ fn put_own(endian: Endian, message: &IceMessage, out: &mut Octets) -> Result<(),
         IceMessage::AuthenticationRequired { index, .. } => put_bytes(&[*index, 0], out),
         IceMessage::ConnectionReply { index, .. } => put_bytes(&[*index, 0], out),
         IceMessage::ProtocolSetup { opcode, must, .. } => {
-            put_bytes(&[*opcode, bool_byte(*must)], out)
+            put_bytes(&[*opcode, must.number()], out)
         }
         IceMessage::ProtocolReply { index, opcode, .. } => put_bytes(&[*index, *opcode], out),
         IceMessage::AuthenticationReply { .. }
@@ -69,34 +68,23 @@ fn put_own(endian: Endian, message: &IceMessage, out: &mut Octets) -> Result<(),
 }
 
 /// Adds a vendor and a release.
+#[tactic(auto, using(ice_values::proofs::WriteLaws::adds_cells))]
 fn put_makers(
     endian: Endian,
     vendor: &Text16,
     release: &Text16,
     out: &mut Octets,
 ) -> Result<(), NoMemory>
+    requires { IsText16 vendor.now × IsText16 release.now }
     ensures ok { OnOk result (out.new ≡ out.old ++ zeros (text16 endian vendor.now ++ text16 endian release.now)) }
     ensures kept { Extends out.old out.new }
 {
-    put_text16(endian, vendor, out)?;
-    put_text16(endian, release, out)
-}
-
-/// Adds names and versions.
-fn put_lists(
-    endian: Endian,
-    names: &TextList,
-    versions: &VersionList,
-    out: &mut Octets,
-) -> Result<(), NoMemory>
-    ensures ok { OnOk result (out.new ≡ out.old ++ zeros (texts endian names.now ++ version_cells endian versions.now)) }
-    ensures kept { Extends out.old out.new }
-{
-    put_texts(endian, names.as_slice(), out)?;
-    put_versions(endian, versions.as_slice(), out)
+    vendor.put(endian, out)?;
+    release.put(endian, out)
 }
 
 /// Adds what a party offers: its vendor and release, names and versions.
+#[tactic(auto, using(ice_values::proofs::WriteLaws::adds_cells))]
 fn put_offer(
     endian: Endian,
     vendor: &Text16,
@@ -105,14 +93,18 @@ fn put_offer(
     versions: &VersionList,
     out: &mut Octets,
 ) -> Result<(), NoMemory>
+    requires { IsText16 vendor.now × IsText16 release.now × IsOffer names.now versions.now }
     ensures ok { OnOk result (out.new ≡ out.old ++ zeros (text16 endian vendor.now ++ text16 endian release.now ++ texts endian names.now ++ version_cells endian versions.now)) }
     ensures kept { Extends out.old out.new }
 {
-    put_makers(endian, vendor, release, out)?;
-    put_lists(endian, names, versions, out)
+    vendor.put(endian, out)?;
+    release.put(endian, out)?;
+    put_many(endian, names.as_slice(), out)?;
+    put_many(endian, versions.as_slice(), out)
 }
 
 /// Adds the name of a protocol, and what a party offers for it.
+#[tactic(auto, using(ice_values::proofs::WriteLaws::adds_cells))]
 fn put_protocol(
     endian: Endian,
     protocol: &Text16,
@@ -122,11 +114,15 @@ fn put_protocol(
     versions: &VersionList,
     out: &mut Octets,
 ) -> Result<(), NoMemory>
+    requires { IsText16 protocol.now × IsText16 vendor.now × IsText16 release.now × IsOffer names.now versions.now }
     ensures ok { OnOk result (out.new ≡ out.old ++ zeros (text16 endian protocol.now ++ text16 endian vendor.now ++ text16 endian release.now ++ texts endian names.now ++ version_cells endian versions.now)) }
     ensures kept { Extends out.old out.new }
 {
-    put_text16(endian, protocol, out)?;
-    put_offer(endian, vendor, release, names, versions, out)
+    protocol.put(endian, out)?;
+    vendor.put(endian, out)?;
+    release.put(endian, out)?;
+    put_many(endian, names.as_slice(), out)?;
+    put_many(endian, versions.as_slice(), out)
 }
 
 /// Adds the first 8 bytes of a ProtocolSetup's body, which begin with the counts of its lists.
@@ -155,7 +151,7 @@ fn put_body(endian: Endian, message: &IceMessage, out: &mut Octets) -> Result<()
             names,
             versions,
         } => {
-            put_bytes(&[bool_byte(*must), 0, 0, 0, 0, 0, 0, 0], out)?;
+            put_bytes(&[must.number(), 0, 0, 0, 0, 0, 0, 0], out)?;
             put_offer(endian, vendor, release, names, versions, out)
         }
         IceMessage::AuthenticationRequired { proof, .. }
@@ -231,9 +227,9 @@ pub fn encode_ice(
     // What is appended is a frame of major opcode 0.
     ensures frame { OnOk result (IsFrame endian (canon endian message.now) × (slice_index (canon endian message.now) 0 ≡ 0)) }
 {
-    let count = match body_len(message) {
-        Some(count) if count <= BODY_LIMIT => count,
-        _ => return Err(EncodeRefusal::TooLong),
+    let count = match body_size(message) {
+        Some(count) => count,
+        None => return Err(EncodeRefusal::TooLong),
     };
     let start = out.len();
     let written = put_message(endian, message, count, out);

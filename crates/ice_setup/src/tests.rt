@@ -6,7 +6,7 @@ use crate::{
 };
 use ice_cookie::Cookie;
 use ice_messages::{IceMessage, decode_ice, encode_ice, minor};
-use ice_values::{Endian, ErrorBody, Severity, Text16, read_card32};
+use ice_values::{Endian, Enumerated, ErrorBody, Severity, Text16, read_card32};
 use sm_world::Octets;
 use std::alloc::Global;
 use std::fmt::Write;

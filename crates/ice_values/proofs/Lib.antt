@@ -12,4 +12,5 @@ pub mod EnumLaws
 pub mod ErrorLaws
 pub mod ChoiceLaws
 pub mod DecodeLaws
+pub mod CodecLaws
 pub mod LengthLaws

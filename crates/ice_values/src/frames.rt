@@ -1,9 +1,9 @@
-ghost use Rattle.std.specs.Prelude.{◌≡◌, ◌≤◌, ◌<◌, ◌^◌, length};
+ghost use Rattle.std.specs.Prelude.{◌≡◌, ◌≤◌, length};
 ghost use Rattle.ice_values.specs.Reading.{nothing_at};
-ghost use Rattle.ice_values.specs.Frames.{IsFrame, Gives, body_at, ended, means_at, bool_meaning, order_meaning, severity_meaning, error_at};
+ghost use Rattle.ice_values.specs.Frames.{IsFrame, Gives, body_at, ended, error_at};
 
 use crate::numbers::{read_card16, read_card32};
-use crate::{DecodeRefusal, Endian, ErrorBody, Severity};
+use crate::{DecodeRefusal, Endian, ErrorBody, Spelled, value_at};
 use sm_world::Octets;
 use std::alloc::Global;
 
@@ -29,44 +29,16 @@ pub fn no_body(frame: &[u8]) -> Result<(), DecodeRefusal>
     end_body(body)
 }
 
-/// The BOOL at a place.
-#[tactic(auto, unfolding(crate::specs::Frames::means_at))]
-pub fn bool_at(frame: &[u8], at: u32) -> Result<bool, DecodeRefusal>
-    requires { at < length frame.now }
-    ensures { result ≡ means_at bool_meaning frame.now at }
+/// A body that is one value, and no more than padding behind it.
+#[tactic(auto, unfolding(crate::specs::Frames::body_at, crate::specs::Frames::cut))]
+pub fn body<T: Spelled>(alloc: Global, endian: Endian, frame: &[u8]) -> Result<T, DecodeRefusal>
+    requires { 8 ≤ length frame.now }
+    ensures { Gives result (body_at (T.front endian) frame.now) }
 {
-    match frame[at as usize] {
-        0 => Ok(false),
-        1 => Ok(true),
-        _ => Err(DecodeRefusal::BadValue { at, len: 1 }),
-    }
-}
-
-/// The byte order at a place.
-#[tactic(auto, unfolding(crate::specs::Frames::means_at))]
-pub fn order_at(frame: &[u8], at: u32) -> Result<Endian, DecodeRefusal>
-    requires { at < length frame.now }
-    ensures { result ≡ means_at order_meaning frame.now at }
-{
-    match frame[at as usize] {
-        0 => Ok(Endian::Lsb),
-        1 => Ok(Endian::Msb),
-        _ => Err(DecodeRefusal::BadValue { at, len: 1 }),
-    }
-}
-
-/// The severity at a place.
-#[tactic(auto, unfolding(crate::specs::Frames::means_at))]
-pub fn severity_at(frame: &[u8], at: u32) -> Result<Severity, DecodeRefusal>
-    requires { at < length frame.now }
-    ensures { result ≡ means_at severity_meaning frame.now at }
-{
-    match frame[at as usize] {
-        0 => Ok(Severity::CanContinue),
-        1 => Ok(Severity::FatalToProtocol),
-        2 => Ok(Severity::FatalToConnection),
-        _ => Err(DecodeRefusal::BadValue { at, len: 1 }),
-    }
+    let (_, body) = frame.split_at(8);
+    let (value, rest) = T::take(alloc, endian, body)?;
+    end_body(rest)?;
+    Ok(value)
 }
 
 /// What an Error says, of ICE or of a protocol over it, in a frame whose minor opcode is 0.
@@ -78,7 +50,7 @@ pub fn decode_error(alloc: Global, endian: Endian, frame: &[u8]) -> Result<Error
     if frame.len() < 16 {
         return Err(DecodeRefusal::BadLength);
     }
-    let severity = severity_at(frame, 9)?;
+    let severity = value_at(frame, 9)?;
     let values = Octets::from_slice(alloc, &frame[16..])?;
     Ok(ErrorBody {
         class: read_card16(endian, &frame[2..]),

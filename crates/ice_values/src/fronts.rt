@@ -1,8 +1,8 @@
 ghost use Rattle.std.specs.Prelude.{◌≡◌, ◌≢◌, ◌≤◌, length, OnOk, Err};
-ghost use Rattle.ice_values.specs.Reading.{Answers, card_at, bytes_at, skip_at, text16_at, version_at, many_at, proof_data_at};
+ghost use Rattle.ice_values.specs.Reading.{Answers, card_at, bytes_at, skip_at, proof_data_at};
 
-use crate::numbers::{pad, read_card16, read_card32};
-use crate::{Endian, Text16, TextList, ValueRefusal, Version, VersionList};
+use crate::numbers::{read_card16, read_card32};
+use crate::{Endian, ValueRefusal};
 use sm_world::Octets;
 use std::alloc::Global;
 
@@ -49,70 +49,6 @@ pub fn skip(count: usize, bytes: &[u8]) -> Result<&[u8], ValueRefusal>
     }
     let (_, rest) = bytes.split_at(count);
     Ok(rest)
-}
-
-/// The text at the front, and what follows it and its padding.
-#[tactic(auto, unfolding(crate::specs::Reading::text16_at))]
-pub fn take_text16(
-    alloc: Global,
-    endian: Endian,
-    bytes: &[u8],
-) -> Result<(Text16, &[u8]), ValueRefusal>
-    ensures { Answers (λ x. (x.0, x.1.now)) result (text16_at endian bytes.now) }
-{
-    let (count, rest) = take_card16(endian, bytes)?;
-    let (text, rest) = take_bytes(count as usize, rest)?;
-    let rest = skip(pad(2 + count as usize, 4), rest)?;
-    Ok((Text16::from_slice(alloc, text)?, rest))
-}
-
-/// The version at the front, and what follows it.
-#[tactic(auto, unfolding(crate::specs::Reading::version_at))]
-pub fn take_version(endian: Endian, bytes: &[u8]) -> Result<(Version, &[u8]), ValueRefusal>
-    ensures exact { Answers (λ x. (x.0, x.1.now)) result (version_at endian bytes.now) }
-    ensures memory { result ≢ Err ValueRefusal.NoMemory }
-{
-    let (major, rest) = take_card16(endian, bytes)?;
-    let (minor, rest) = take_card16(endian, rest)?;
-    Ok((Version { major, minor }, rest))
-}
-
-/// So many texts at the front, and what follows them.
-pub fn take_texts(
-    alloc: Global,
-    endian: Endian,
-    count: u8,
-    bytes: &[u8],
-) -> Result<(TextList, &[u8]), ValueRefusal>
-    ensures { Answers (λ x. (x.0, x.1.now)) result (many_at (text16_at endian) count bytes.now) }
-{
-    let mut texts = TextList::new(alloc);
-    let mut rest = bytes;
-    for _i in 0..count {
-        let (text, after) = take_text16(alloc, endian, rest)?;
-        texts.push(text)?;
-        rest = after;
-    }
-    Ok((texts, rest))
-}
-
-/// So many versions at the front, and what follows them.
-pub fn take_versions(
-    alloc: Global,
-    endian: Endian,
-    count: u8,
-    bytes: &[u8],
-) -> Result<(VersionList, &[u8]), ValueRefusal>
-    ensures { Answers (λ x. (x.0, x.1.now)) result (many_at (version_at endian) count bytes.now) }
-{
-    let mut versions = VersionList::new(alloc);
-    let mut rest = bytes;
-    for _i in 0..count {
-        let (version, after) = take_version(endian, rest)?;
-        versions.push(version)?;
-        rest = after;
-    }
-    Ok((versions, rest))
 }
 
 /// The data of an authentication at the front, and what follows it.

@@ -1,11 +1,9 @@
-ghost use Rattle.std.specs.Prelude.{◌≡◌, ◌+◌, ◌*◌, ◌^◌, ◌<◌, ◌≤◌, length, IfSome, OnSome, IfNone};
-ghost use Rattle.ice_values.specs.Cells.{pad_len, byte};
-ghost use Rattle.std.specs.List.{AllByRecursion};
-ghost use Rattle.ice_values.specs.Fields.{text16, texts, version, versions, IsText16, IsVersion, proof_data, IsProofData, error_body, IsError};
+ghost use Rattle.std.specs.Prelude.{◌≡◌, ◌<◌, ◌≤◌, length, IfSome, OnSome, IfNone};
+ghost use Rattle.ice_values.specs.Cells.{byte};
+ghost use Rattle.ice_values.specs.Fields.{proof_data, IsProofData, error_body, IsError};
 ghost use Rattle.ice_values.specs.declared.numbers.Endian.{Endian as AnyEndian};
 
-use crate::numbers::pad;
-use crate::{ErrorBody, Text16, Version};
+use crate::ErrorBody;
 use sm_world::Octets;
 
 /// No body of a message is longer than this many bytes.
@@ -24,61 +22,6 @@ pub fn within_limit(count: usize) -> Option<usize>
     } else {
         None
     }
-}
-
-fn counted_len(count: usize) -> usize
-    requires { count < 2 ^ 16 }
-    ensures is { result ≡ 2 + count + pad_len (2 + count) 4 }
-    ensures bound { result ≤ 65540 }
-{
-    2 + count + pad(2 + count, 4)
-}
-
-/// How many bytes spell a text.
-pub fn text_len(text: &Text16) -> usize
-    ensures is { (e : AnyEndian) → result ≡ length (text16 e text.now) }
-    ensures bound { result ≤ 65540 }
-    ensures fits { IsText16 text.now }
-{
-    counted_len(text.as_slice().len())
-}
-
-/// How many bytes spell texts, one after the other.
-pub fn texts_len(items: &[Text16]) -> usize
-    requires { length items.now ≤ 255 }
-    ensures is { (e : AnyEndian) → result ≡ length (texts e items.now) }
-    ensures bound { result ≤ 255 * 65540 }
-    ensures fits { AllByRecursion IsText16 items.now }
-{
-    let mut total = 0;
-    for item in items {
-        total += text_len(item);
-    }
-    total
-}
-
-/// How many bytes spell a version.
-pub fn version_len(value: &Version) -> usize
-    ensures is { (e : AnyEndian) → result ≡ length (version e value.now) }
-    ensures four { result ≡ 4 }
-    ensures fits { IsVersion value.now }
-{
-    let numbers = [value.major, value.minor];
-    2 * numbers.len()
-}
-
-/// How many bytes spell versions, one after the other.
-pub fn versions_len(items: &[Version]) -> usize
-    requires { length items.now ≤ 255 }
-    ensures is { (e : AnyEndian) → result ≡ length (versions e items.now) }
-    ensures bound { result ≤ 4 * 255 }
-    ensures fits { AllByRecursion IsVersion items.now }
-{
-    let mut total = 0;
-    for item in items {
-        total += version_len(item);
-    }
-    total
 }
 
 /// How many bytes spell the data of an authentication. None where there are more than 65,535 bytes.

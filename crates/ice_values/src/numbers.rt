@@ -1,6 +1,5 @@
 ghost use Rattle.std.specs.Prelude.{◌≡◌, ◌≤◌, ◌<◌, ◌+◌, ◌^◌, length};
 ghost use Rattle.ice_values.specs.Cells.{pad_len};
-ghost use Rattle.ice_values.specs.Fields.{bool_number, order_number};
 ghost use Rattle.ice_values.specs.Numbers.{number};
 
 use byteorder::{BigEndian, ByteOrder, LittleEndian};
@@ -12,25 +11,6 @@ pub enum Endian {
     Lsb,
     /// Most significant byte first.
     Msb,
-}
-
-impl Endian {
-    /// The byte that stands for it in a ByteOrder message.
-    pub fn number(self) -> u8
-        ensures { result ≡ order_number self }
-    {
-        match self {
-            Endian::Lsb => 0,
-            Endian::Msb => 1,
-        }
-    }
-}
-
-/// The byte that stands for a BOOL.
-pub fn bool_byte(value: bool) -> u8
-    ensures { result ≡ bool_number value }
-{
-    if value { 1 } else { 0 }
 }
 
 /// The CARD16 at the front.

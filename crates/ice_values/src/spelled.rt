@@ -13,7 +13,7 @@ use crate::{Endian, ValueRefusal};
 use sm_world::{ListOf, NoMemory, Octets};
 use std::alloc::Global;
 
-/// A value that XSMP spells: how it is read, written and measured.
+/// A value that ICE or XSMP spells: how it is read, written and measured.
 pub trait Spelled: Sized + Drop {
     ghost cells: { AnyEndian → Self → Cells };
 
@@ -35,12 +35,13 @@ pub trait Spelled: Sized + Drop {
     fn size(&self) -> Option<usize>
         ensures none { IfNone result ((e : AnyEndian) → 65536 < length (cells e self.now)) }
         ensures is { IfSome result (λ n. (e : AnyEndian) → n ≡ length (cells e self.now)) }
-        ensures least { IfSome result (λ n. 8 ≤ n) }
+        ensures least { IfSome result (λ n. 1 ≤ n) }
         ensures bound { IfSome result (λ n. n ≤ 65536) }
         ensures fits { OnSome result (is_spelled self.now) };
 }
 
-fn take_many<T: Spelled>(
+/// So many values at the front, and what follows them.
+pub fn take_many<T: Spelled>(
     alloc: Global,
     endian: Endian,
     count: u32,
@@ -58,7 +59,8 @@ fn take_many<T: Spelled>(
     Ok((items, rest))
 }
 
-fn put_many<T: Spelled>(endian: Endian, items: &[T], out: &mut Octets) -> Result<(), NoMemory>
+/// Adds values, one after the other.
+pub fn put_many<T: Spelled>(endian: Endian, items: &[T], out: &mut Octets) -> Result<(), NoMemory>
     requires { AllByRecursion T.is_spelled items.now }
     ensures ok { OnOk result (out.new ≡ out.old ++ zeros (flat_map (T.cells endian) items.now)) }
     ensures kept { Extends out.old out.new }
@@ -69,14 +71,15 @@ fn put_many<T: Spelled>(endian: Endian, items: &[T], out: &mut Octets) -> Result
     Ok(())
 }
 
-fn listed_size<T: Spelled>(items: &[T]) -> Option<usize>
-    ensures none { IfNone result ((e : AnyEndian) → 65536 < length (listed (T.cells e) e items.now)) }
-    ensures is { IfSome result (λ n. (e : AnyEndian) → n ≡ length (listed (T.cells e) e items.now)) }
-    ensures least { IfSome result (λ n. 8 ≤ n) }
+/// How many bytes spell values, one after the other. None where there are more than 65,536.
+pub fn many_size<T: Spelled>(items: &[T]) -> Option<usize>
+    ensures none { IfNone result ((e : AnyEndian) → 65536 < length (flat_map (T.cells e) items.now)) }
+    ensures is { IfSome result (λ n. (e : AnyEndian) → n ≡ length (flat_map (T.cells e) items.now)) }
+    ensures count { IfSome result (λ n. length items.now ≤ n) }
     ensures bound { IfSome result (λ n. n ≤ 65536) }
-    ensures fits { OnSome result (IsListed T.is_spelled items.now) }
+    ensures fits { OnSome result (AllByRecursion T.is_spelled items.now) }
 {
-    let mut total = 8;
+    let mut total = 0;
     for value in items {
         total = within_limit(total + value.size()?)?;
     }
@@ -110,7 +113,7 @@ impl<T: Spelled> Spelled for ListOf<T> {
     }
 
     fn size(&self) -> Option<usize> {
-        listed_size(self.as_slice())
+        within_limit(8 + many_size(self.as_slice())?)
     }
 }
 

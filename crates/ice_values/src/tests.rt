@@ -2,11 +2,10 @@
 //! written down by hand.
 
 use crate::{
-    Array8, DecodeRefusal, Endian, ErrorClass, Text16, ValueRefusal, Version, array8_len,
-    array8_list_len, dialog_at, dialog_byte, kind_at, kind_byte, property_len, property_list_len,
+    Array8, DecodeRefusal, Endian, Enumerated, ErrorClass, Spelled, Text16, ValueRefusal, Version,
     read_array8, read_array8_list, read_property, read_property_list, read_text16, read_version,
-    style_at, style_byte, write_array8, write_array8_list, write_property, write_property_list,
-    write_text16, write_version,
+    value_at, write_array8, write_array8_list, write_property, write_property_list, write_text16,
+    write_version,
 };
 use sm_world::{Dialog, Octets, SaveKind, SaveStyle};
 use std::alloc::Global;
@@ -118,7 +117,7 @@ fn check_array(rt: &impl Abort, alloc: Global, endian: Endian, bytes: &[u8]) -> 
     let (value, used) = read_array8(alloc, endian, bytes)?;
     assert_eq!(rt; value.as_slice(), b"hello".as_slice());
     assert_eq!(rt; used, 16);
-    assert_eq!(rt; array8_len(&value), Some(16));
+    assert_eq!(rt; value.size(), Some(16));
     let mut out = Octets::new(alloc);
     write_array8(endian, &value, &mut out)?;
     assert_eq!(rt; out.as_slice(), bytes);
@@ -140,7 +139,7 @@ fn an_array8_has_its_count_in_front_and_padding_to_8(rt: HostRuntime) -> Result<
 fn check_arrays(rt: &impl Abort, alloc: Global, endian: Endian, bytes: &[u8]) -> Result<(), Fail> {
     let (items, used) = read_array8_list(alloc, endian, bytes)?;
     assert_eq!(rt; used, 24);
-    assert_eq!(rt; array8_list_len(&items), Some(24));
+    assert_eq!(rt; items.size(), Some(24));
     let mut out = Octets::new(alloc);
     write_array8_list(endian, &items, &mut out)?;
     assert_eq!(rt; out.as_slice(), bytes);
@@ -172,7 +171,7 @@ fn check_property(
 ) -> Result<(), Fail> {
     let (property, used) = read_property(alloc, endian, bytes)?;
     assert_eq!(rt; used, 48);
-    assert_eq!(rt; property_len(&property), Some(48));
+    assert_eq!(rt; property.size(), Some(48));
     let mut out = Octets::new(alloc);
     write_property(endian, &property, &mut out)?;
     assert_eq!(rt; out.as_slice(), bytes);
@@ -202,7 +201,7 @@ fn check_properties(
 ) -> Result<(), Fail> {
     let (items, used) = read_property_list(alloc, endian, bytes)?;
     assert_eq!(rt; used, 40);
-    assert_eq!(rt; property_list_len(&items), Some(40));
+    assert_eq!(rt; items.size(), Some(40));
     let mut out = Octets::new(alloc);
     write_property_list(endian, &items, &mut out)?;
     assert_eq!(rt; out.as_slice(), bytes);
@@ -233,7 +232,7 @@ fn a_spelling_is_measured_up_to_65536_bytes(rt: HostRuntime) -> Result<(), Fail>
         (65_533, None),
     ] {
         let value = Array8::from_vec(vec![in alloc; b'x'; count]?);
-        assert_eq!(rt; array8_len(&value), size);
+        assert_eq!(rt; value.size(), size);
     }
     Ok(())
 }
@@ -245,15 +244,15 @@ fn wrong<T>(at: u32) -> Result<T, DecodeRefusal> {
 #[test]
 fn enumerated_bytes_have_their_meanings_alone(rt: HostRuntime) -> Result<(), Fail> {
     let bytes = [0, 1, 2, 3];
-    assert_eq!(rt; kind_at(&bytes, 1), Ok(SaveKind::Local));
-    assert_eq!(rt; kind_at(&bytes, 3), wrong(3));
-    assert_eq!(rt; kind_byte(SaveKind::Both), 2);
-    assert_eq!(rt; style_at(&bytes, 2), Ok(SaveStyle::Any));
-    assert_eq!(rt; style_at(&bytes, 3), wrong(3));
-    assert_eq!(rt; style_byte(SaveStyle::Errors), 1);
-    assert_eq!(rt; dialog_at(&bytes, 1), Ok(Dialog::Normal));
-    assert_eq!(rt; dialog_at(&bytes, 2), wrong(2));
-    assert_eq!(rt; dialog_byte(Dialog::Error), 0);
+    assert_eq!(rt; value_at::<SaveKind>(&bytes, 1), Ok(SaveKind::Local));
+    assert_eq!(rt; value_at::<SaveKind>(&bytes, 3), wrong(3));
+    assert_eq!(rt; SaveKind::Both.number(), 2);
+    assert_eq!(rt; value_at::<SaveStyle>(&bytes, 2), Ok(SaveStyle::Any));
+    assert_eq!(rt; value_at::<SaveStyle>(&bytes, 3), wrong(3));
+    assert_eq!(rt; SaveStyle::Errors.number(), 1);
+    assert_eq!(rt; value_at::<Dialog>(&bytes, 1), Ok(Dialog::Normal));
+    assert_eq!(rt; value_at::<Dialog>(&bytes, 2), wrong(2));
+    assert_eq!(rt; Dialog::Error.number(), 0);
     Ok(())
 }
 

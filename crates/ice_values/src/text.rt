@@ -1,7 +1,16 @@
-ghost use Rattle.std.specs.Prelude.{◌≡◌, ◌≢◌, ◌<◌, ◌≤◌, ◌^◌, ◌↔◌, length, vec_len, IfOk, Err};
+ghost use Rattle.std.specs.Prelude.{◌≡◌, ◌≢◌, ◌<◌, ◌≤◌, ◌^◌, ◌↔◌, ◌++◌, length, vec_len, IfOk, OnOk, OnErr, Err};
+ghost use Rattle.ice_values.specs.Cells.{zeros};
+ghost use Rattle.ice_values.specs.Fields.{text16, IsText16};
+ghost use Rattle.ice_values.specs.Reading.{Answers, ReadsFront, text16_at};
+ghost use Rattle.ice_values.specs.Writing.{Extends};
 
-use crate::ValueRefusal;
-use sm_world::{Duplicate, ListOf, NoMemory};
+use crate::fronts::{skip, take_bytes, take_card16};
+use crate::lengths::BODY_LIMIT;
+use crate::numbers::pad;
+use crate::spelled::{Spelled, read_front, write_whole};
+use crate::writing::{put_bytes, put_card16, put_zeros};
+use crate::{Endian, ValueRefusal};
+use sm_world::{Duplicate, ListOf, NoMemory, Octets};
 use std::alloc::Global;
 use std::marker::Model;
 
@@ -69,4 +78,71 @@ impl Duplicate for Text16 {
             bytes: Vec::from_slice(*self.bytes.allocator(), self.bytes.as_slice())?,
         })
     }
+}
+
+fn put_text(endian: Endian, text: &[u8], out: &mut Octets) -> Result<(), NoMemory>
+    requires { length text.now < 2 ^ 16 }
+    ensures ok { OnOk result (out.new ≡ out.old ++ zeros (text16 endian text.now)) }
+    ensures kept { Extends out.old out.new }
+{
+    put_card16(endian, text.len() as u16, out)?;
+    put_bytes(text, out)?;
+    put_zeros(pad(2 + text.len(), 4), out)
+}
+
+/// A text is spelled by its count, its bytes, and padding to a multiple of 4.
+impl Spelled for Text16 {
+    ghost cells = { text16 };
+
+    ghost is_spelled = { IsText16 };
+
+    ghost front = { text16_at };
+
+    #[tactic(auto, unfolding(crate::specs::Reading::text16_at))]
+    fn take(alloc: Global, endian: Endian, bytes: &[u8]) -> Result<(Text16, &[u8]), ValueRefusal> {
+        let (count, rest) = take_card16(endian, bytes)?;
+        let (text, rest) = take_bytes(count as usize, rest)?;
+        let rest = skip(pad(2 + count as usize, 4), rest)?;
+        Ok((Text16::from_slice(alloc, text)?, rest))
+    }
+
+    fn put(&self, endian: Endian, out: &mut Octets) -> Result<(), NoMemory> {
+        put_text16(endian, self, out)
+    }
+
+    fn size(&self) -> Option<usize> {
+        let count = self.as_slice().len();
+        if count > BODY_LIMIT - 2 {
+            return None;
+        }
+        Some(2 + count + pad(2 + count, 4))
+    }
+}
+
+/// Adds a text and its padding.
+pub fn put_text16(endian: Endian, text: &Text16, out: &mut Octets) -> Result<(), NoMemory>
+    ensures ok { OnOk result (out.new ≡ out.old ++ zeros (text16 endian text.now)) }
+    ensures kept { Extends out.old out.new }
+{
+    put_text(endian, text.as_slice(), out)
+}
+
+/// The text that is spelled at the front, and how many bytes it took.
+pub fn read_text16(
+    alloc: Global,
+    endian: Endian,
+    bytes: &[u8],
+) -> Result<(Text16, usize), ValueRefusal>
+    ensures { ReadsFront (text16 endian) IsText16 bytes.now result }
+{
+    read_front(alloc, endian, bytes)
+}
+
+/// Adds the spelling of a text with zeros for padding.
+pub fn write_text16(endian: Endian, text: &Text16, out: &mut Octets) -> Result<(), NoMemory>
+    ensures ok { OnOk result (out.new ≡ out.old ++ zeros (text16 endian text.now)) }
+    ensures err { OnErr result (out.new ≡ out.old) }
+{
+    let _value = text.as_slice();
+    write_whole(endian, text, out)
 }

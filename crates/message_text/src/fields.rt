@@ -7,10 +7,7 @@ ghost use Rattle.ice_values.specs.Saves.{kind_number, style_number, dialog_numbe
 ghost use Rattle.message_text.specs.Fields.{field, version_text, list_text, property_text, error_text};
 
 use control_lines::put_hex;
-use ice_values::{
-    Endian, ErrorBody, Property, Severity, Text16, Version, bool_byte, dialog_byte, kind_byte,
-    style_byte,
-};
+use ice_values::{Endian, Enumerated, ErrorBody, Property, Severity, Text16, Version};
 use sm_world::{Dialog, ListOf, NoMemory, Octets, SaveKind, SaveStyle};
 use std::alloc::Global;
 
@@ -59,7 +56,7 @@ impl Shown for bool {
     ghost text = { λ value. decimal (bool_number value) };
 
     fn put(&self, alloc: Global, out: &mut Octets) -> Result<(), NoMemory> {
-        bool_byte(*self).put(alloc, out)
+        self.number().put(alloc, out)
     }
 }
 
@@ -83,7 +80,7 @@ impl Shown for SaveKind {
     ghost text = { λ kind. decimal (kind_number kind) };
 
     fn put(&self, alloc: Global, out: &mut Octets) -> Result<(), NoMemory> {
-        kind_byte(*self).put(alloc, out)
+        self.number().put(alloc, out)
     }
 }
 
@@ -91,7 +88,7 @@ impl Shown for SaveStyle {
     ghost text = { λ style. decimal (style_number style) };
 
     fn put(&self, alloc: Global, out: &mut Octets) -> Result<(), NoMemory> {
-        style_byte(*self).put(alloc, out)
+        self.number().put(alloc, out)
     }
 }
 
@@ -99,7 +96,7 @@ impl Shown for Dialog {
     ghost text = { λ dialog. decimal (dialog_number dialog) };
 
     fn put(&self, alloc: Global, out: &mut Octets) -> Result<(), NoMemory> {
-        dialog_byte(*self).put(alloc, out)
+        self.number().put(alloc, out)
     }
 }
 

@@ -59,49 +59,26 @@ layout mark e SaveComplete = (free 2, [])
 abbrev pub shape : (ℕ → Cells) → Endian → ℕ → XsmpMessage → Cells
 shape mark e opcode m = spelling e opcode (minor_of m) (layout mark e m).0 (layout mark e m).1
 
--- Where the enumerated bytes stand, and how many meanings each has: those from 0 on.
+-- Where the enumerated bytes stand, and how many meanings each has: those from 0 on. Other messages have none.
 abbrev pub enumerated : XsmpMessage → List (ℕ × ℕ)
 enumerated (Error error) = (9, 3) ∷ []
-enumerated (RegisterClient previous) = []
-enumerated (RegisterClientReply id) = []
 enumerated (SaveYourself kind shutdown style fast) = (8, 3) ∷ (9, 2) ∷ (10, 3) ∷ (11, 2) ∷ []
 enumerated (SaveYourselfRequest kind shutdown style fast global) = (8, 3) ∷ (9, 2) ∷ (10, 3) ∷ (11, 2) ∷ (12, 2) ∷ []
 enumerated (InteractRequest dialog) = (2, 2) ∷ []
-enumerated Interact = []
 enumerated (InteractDone cancel) = (2, 2) ∷ []
 enumerated (SaveYourselfDone success) = (2, 2) ∷ []
-enumerated Die = []
-enumerated ShutdownCancelled = []
-enumerated (ConnectionClosed reasons) = []
-enumerated (SetProperties properties) = []
-enumerated (DeleteProperties names) = []
-enumerated GetProperties = []
-enumerated (GetPropertiesReply properties) = []
-enumerated SaveYourselfPhase2Request = []
-enumerated SaveYourselfPhase2 = []
-enumerated SaveComplete = []
+enumerated m = []
 
--- what has a spelling
+-- What has a spelling. Each other message has one.
 abbrev pub IsMessage : XsmpMessage → Type 0
 IsMessage (Error error) = IsError error
 IsMessage (RegisterClient previous) = IsArray8 previous
 IsMessage (RegisterClientReply id) = IsArray8 id
-IsMessage (SaveYourself kind shutdown style fast) = Unit {0}
-IsMessage (SaveYourselfRequest kind shutdown style fast global) = Unit {0}
-IsMessage (InteractRequest dialog) = Unit {0}
-IsMessage Interact = Unit {0}
-IsMessage (InteractDone cancel) = Unit {0}
-IsMessage (SaveYourselfDone success) = Unit {0}
-IsMessage Die = Unit {0}
-IsMessage ShutdownCancelled = Unit {0}
 IsMessage (ConnectionClosed reasons) = IsListed IsArray8 reasons
 IsMessage (SetProperties properties) = IsListed IsProperty properties
 IsMessage (DeleteProperties names) = IsListed IsArray8 names
-IsMessage GetProperties = Unit {0}
 IsMessage (GetPropertiesReply properties) = IsListed IsProperty properties
-IsMessage SaveYourselfPhase2Request = Unit {0}
-IsMessage SaveYourselfPhase2 = Unit {0}
-IsMessage SaveComplete = Unit {0}
+IsMessage m = Unit {0}
 
 -- a frame of bytes, under any major opcode
 pub record IsXsmpFrame (e : Endian) (bytes : List ℕ) : Type 0 where

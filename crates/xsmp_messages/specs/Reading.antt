@@ -2,13 +2,11 @@
 use Rattle.std.specs.Prelude.{ℕ, List, slice_index, Bool, Option, Result, Ok, Err, ◌==◌, if◌then◌else◌}
 use Rattle.ice_values.specs.Reading.{nothing_at, after_at}
 use Rattle.ice_values.specs.Properties.{array8_at, array8_list_at, property_list_at}
-use Rattle.ice_values.specs.Frames.{◌>>=◌, body_at, means_at, both_at, bool_meaning, error_at}
+use Rattle.ice_values.specs.Frames.{◌>>=◌, body_at, means_at, bool_meaning, error_at}
 use Rattle.ice_values.specs.Saves.{kind_meaning, style_meaning, dialog_meaning}
 use Rattle.ice_values.specs.declared.numbers.Endian.{Endian}
 use Rattle.ice_values.specs.declared.refusals.DecodeRefusal.{DecodeRefusal}
 use Rattle.ice_values.specs.declared.refusals.DecodeRefusal.TheVariants.{BadMinor}
-use Rattle.sm_world.specs.declared.events.SaveKind.{SaveKind}
-use Rattle.sm_world.specs.declared.events.SaveStyle.{SaveStyle}
 use Rattle.xsmp_messages.specs.declared.message.XsmpMessage.{XsmpMessage}
 use Rattle.xsmp_messages.specs.declared.message.XsmpMessage.TheVariants.{Error, RegisterClient, RegisterClientReply, SaveYourself, SaveYourselfRequest, InteractRequest, Interact, InteractDone, SaveYourselfDone, Die, ShutdownCancelled, ConnectionClosed, SetProperties, DeleteProperties, GetProperties, GetPropertiesReply, SaveYourselfPhase2Request, SaveYourselfPhase2, SaveComplete}
 pub use Rattle.ice_values.specs.Frames.{Gives}
@@ -30,25 +28,25 @@ flagged_at meaning make bytes = do
   x ← means_at meaning bytes 2
   Ok (make x)
 
--- the type of a save, whether it is for a shutdown, its style, and whether it is to be fast
-unfoldable pub asked_at : List ℕ → Result ((SaveKind × Bool) × (SaveStyle × Bool)) DecodeRefusal
-asked_at bytes = both_at (both_at (λ bytes. means_at kind_meaning bytes 8) (λ bytes. means_at bool_meaning bytes 9)) (both_at (λ bytes. means_at style_meaning bytes 10) (λ bytes. means_at bool_meaning bytes 11)) bytes
-
--- the same, and whether it is for all
-unfoldable pub asked_of_all_at : List ℕ → Result (((SaveKind × Bool) × (SaveStyle × Bool)) × Bool) DecodeRefusal
-asked_of_all_at bytes = both_at asked_at (λ bytes. means_at bool_meaning bytes 12) bytes
-
+-- the two messages that ask for a save, whose bytes are read by their places
 unfoldable pub save_yourself_at : List ℕ → Result XsmpMessage DecodeRefusal
 save_yourself_at bytes = do
   end ← body_at (after_at 8 nothing_at) bytes
-  asked ← asked_at bytes
-  Ok (SaveYourself asked.0.0 asked.0.1 asked.1.0 asked.1.1)
+  kind ← means_at kind_meaning bytes 8
+  shutdown ← means_at bool_meaning bytes 9
+  style ← means_at style_meaning bytes 10
+  fast ← means_at bool_meaning bytes 11
+  Ok (SaveYourself kind shutdown style fast)
 
 unfoldable pub save_yourself_request_at : List ℕ → Result XsmpMessage DecodeRefusal
 save_yourself_request_at bytes = do
   end ← body_at (after_at 8 nothing_at) bytes
-  asked ← asked_of_all_at bytes
-  Ok (SaveYourselfRequest asked.0.0.0 asked.0.0.1 asked.0.1.0 asked.0.1.1 asked.1)
+  kind ← means_at kind_meaning bytes 8
+  shutdown ← means_at bool_meaning bytes 9
+  style ← means_at style_meaning bytes 10
+  fast ← means_at bool_meaning bytes 11
+  global ← means_at bool_meaning bytes 12
+  Ok (SaveYourselfRequest kind shutdown style fast global)
 
 unfoldable pub xsmp_error_at : Endian → List ℕ → Result XsmpMessage DecodeRefusal
 xsmp_error_at e bytes = do

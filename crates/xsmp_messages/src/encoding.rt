@@ -4,10 +4,10 @@ ghost use Rattle.ice_values.specs.Writing.{Extends};
 ghost use Rattle.xsmp_messages.specs.Messages.{IsFrame, canon, minor_of, layout, IsMessage, IsTooLong};
 
 use crate::XsmpMessage;
-use crate::lengths::body_len;
+use crate::lengths::body_size;
 use ice_values::{
-    EncodeRefusal, Endian, bool_byte, dialog_byte, kind_byte, pad, put_array8, put_array8_list,
-    put_bytes, put_card16, put_card32, put_error, put_property_list, put_zeros, style_byte,
+    EncodeRefusal, Endian, Enumerated, Spelled, pad, put_bytes, put_card16, put_card32, put_error,
+    put_zeros,
 };
 use sm_world::{NoMemory, Octets};
 
@@ -44,9 +44,9 @@ fn put_own(endian: Endian, message: &XsmpMessage, out: &mut Octets) -> Result<()
 {
     match message {
         XsmpMessage::Error(error) => put_card16(endian, error.class, out),
-        XsmpMessage::InteractRequest { dialog } => put_bytes(&[dialog_byte(*dialog), 0], out),
-        XsmpMessage::InteractDone { cancel } => put_bytes(&[bool_byte(*cancel), 0], out),
-        XsmpMessage::SaveYourselfDone { success } => put_bytes(&[bool_byte(*success), 0], out),
+        XsmpMessage::InteractRequest { dialog } => put_bytes(&[dialog.number(), 0], out),
+        XsmpMessage::InteractDone { cancel } => put_bytes(&[cancel.number(), 0], out),
+        XsmpMessage::SaveYourselfDone { success } => put_bytes(&[success.number(), 0], out),
         XsmpMessage::RegisterClient { .. }
         | XsmpMessage::RegisterClientReply { .. }
         | XsmpMessage::SaveYourself { .. }
@@ -73,16 +73,16 @@ fn put_body(endian: Endian, message: &XsmpMessage, out: &mut Octets) -> Result<(
 {
     match message {
         XsmpMessage::Error(error) => put_error(endian, error, out),
-        XsmpMessage::RegisterClient { previous } => put_array8(endian, previous, out),
-        XsmpMessage::RegisterClientReply { id } => put_array8(endian, id, out),
+        XsmpMessage::RegisterClient { previous } => previous.put(endian, out),
+        XsmpMessage::RegisterClientReply { id } => id.put(endian, out),
         XsmpMessage::SaveYourself {
             kind,
             shutdown,
             style,
             fast,
         } => {
-            let (kind, shutdown) = (kind_byte(*kind), bool_byte(*shutdown));
-            let (style, fast) = (style_byte(*style), bool_byte(*fast));
+            let (kind, shutdown) = (kind.number(), shutdown.number());
+            let (style, fast) = (style.number(), fast.number());
             put_bytes(&[kind, shutdown, style, fast, 0, 0, 0, 0], out)
         }
         XsmpMessage::SaveYourselfRequest {
@@ -92,19 +92,17 @@ fn put_body(endian: Endian, message: &XsmpMessage, out: &mut Octets) -> Result<(
             fast,
             global,
         } => {
-            let (kind, shutdown) = (kind_byte(*kind), bool_byte(*shutdown));
-            let (style, fast) = (style_byte(*style), bool_byte(*fast));
+            let (kind, shutdown) = (kind.number(), shutdown.number());
+            let (style, fast) = (style.number(), fast.number());
             put_bytes(
-                &[kind, shutdown, style, fast, bool_byte(*global), 0, 0, 0],
+                &[kind, shutdown, style, fast, global.number(), 0, 0, 0],
                 out,
             )
         }
-        XsmpMessage::ConnectionClosed { reasons } => put_array8_list(endian, reasons, out),
-        XsmpMessage::SetProperties { properties } => put_property_list(endian, properties, out),
-        XsmpMessage::DeleteProperties { names } => put_array8_list(endian, names, out),
-        XsmpMessage::GetPropertiesReply { properties } => {
-            put_property_list(endian, properties, out)
-        }
+        XsmpMessage::ConnectionClosed { reasons } => reasons.put(endian, out),
+        XsmpMessage::SetProperties { properties } => properties.put(endian, out),
+        XsmpMessage::DeleteProperties { names } => names.put(endian, out),
+        XsmpMessage::GetPropertiesReply { properties } => { properties.put(endian, out) }
         XsmpMessage::InteractRequest { .. }
         | XsmpMessage::Interact
         | XsmpMessage::InteractDone { .. }
@@ -157,7 +155,7 @@ pub fn encode_xsmp(
     // What is appended is a frame.
     ensures frame { OnOk result (IsFrame endian (canon endian opcode message.now)) }
 {
-    let count = match body_len(message) {
+    let count = match body_size(message) {
         Some(count) => count,
         None => return Err(EncodeRefusal::TooLong),
     };

@@ -4,10 +4,10 @@ ghost use Rattle.ice_values.specs.declared.numbers.Endian.{Endian as AnyEndian};
 ghost use Rattle.xsmp_messages.specs.Messages.{layout, IsMessage, IsTooLong};
 
 use crate::XsmpMessage;
-use ice_values::{array8_len, array8_list_len, error_len, property_list_len};
+use ice_values::{Spelled, error_len};
 
 /// How many bytes the body of a message has, without its padding. None where it is too long.
-pub fn body_len(message: &XsmpMessage) -> Option<usize>
+pub fn body_size(message: &XsmpMessage) -> Option<usize>
     ensures none { IfNone result ((e : AnyEndian) → IsTooLong e message.now) }
     ensures is { IfSome result (λ n. (e : AnyEndian) → n ≡ length (layout byte e message.now).1) }
     ensures bound { IfSome result (λ n. n ≤ 65536) }
@@ -15,13 +15,13 @@ pub fn body_len(message: &XsmpMessage) -> Option<usize>
 {
     match message {
         XsmpMessage::Error(error) => error_len(error),
-        XsmpMessage::RegisterClient { previous } => array8_len(previous),
-        XsmpMessage::RegisterClientReply { id } => array8_len(id),
+        XsmpMessage::RegisterClient { previous } => previous.size(),
+        XsmpMessage::RegisterClientReply { id } => id.size(),
         XsmpMessage::SaveYourself { .. } | XsmpMessage::SaveYourselfRequest { .. } => Some(8),
-        XsmpMessage::ConnectionClosed { reasons } => array8_list_len(reasons),
-        XsmpMessage::DeleteProperties { names } => array8_list_len(names),
-        XsmpMessage::SetProperties { properties } => property_list_len(properties),
-        XsmpMessage::GetPropertiesReply { properties } => property_list_len(properties),
+        XsmpMessage::ConnectionClosed { reasons } => reasons.size(),
+        XsmpMessage::DeleteProperties { names } => names.size(),
+        XsmpMessage::SetProperties { properties } => properties.size(),
+        XsmpMessage::GetPropertiesReply { properties } => properties.size(),
         XsmpMessage::InteractRequest { .. }
         | XsmpMessage::Interact
         | XsmpMessage::InteractDone { .. }

@@ -12,4 +12,4 @@ mod tests;
 pub use decoding::decode_xsmp;
 pub use encoding::encode_xsmp;
 pub use laws::{an_encoded_message_is_decoded, cut_bytes_are_refused, decoding_is_exact};
-pub use message::{XsmpMessage, LAST_XSMP_MINOR};
+pub use message::{LAST_XSMP_MINOR, XsmpMessage};

@@ -1,7 +1,7 @@
 ghost use Rattle.std.specs.Prelude.{◌≡◌, [], ◌∷◌, IfOk, OnOk, IsTrue, ◌↔◌, option_copied};
 ghost use Rattle.xsmp_properties.specs.Tables.{set_one, set_all, without_names, find_property, IsTableFull, AreNamesDistinct};
 
-use ice_values::{Array8, Property, PropertyList, property_len};
+use ice_values::{Array8, Property, PropertyList, Spelled};
 use indexmap::IndexMap;
 use sm_world::{Duplicate, NoMemory};
 use std::alloc::Global;
@@ -103,7 +103,7 @@ impl NamedProperties {
         }
         let mut total = 0;
         for (_, property) in self.held.iter() {
-            let Some(len) = property_len(property) else {
+            let Some(len) = property.size() else {
                 return true;
             };
             total += len;
