@@ -4,6 +4,7 @@ use Rattle.ice_values.specs.Cells.{Cells, byte, free, pad_len}
 use Rattle.ice_values.specs.Fields.{ErrorFields, text16, texts, versions}
 use Rattle.ice_values.specs.declared.numbers.Endian.{Endian}
 use Rattle.ice_values.specs.declared.numbers.Endian.TheVariants.{Lsb}
+use Rattle.ice_values.specs.declared.class.ErrorClass.{ErrorClass}
 use Rattle.ice_values.specs.declared.severity.Severity.{Severity}
 use Rattle.ice_values.specs.declared.version.Version.{Version}
 use Rattle.ice_values.specs.Numbers.{number_bytes}
@@ -20,7 +21,7 @@ use Rattle.ice_setup.specs.Setup.{HasFittingBody}
 use Rattle.ice_setup.specs.declared.errors.Offending.{Offending}
 
 -- an Error with few values
-pub error_said : (severity : Severity) (class : ℕ) (offending : Offending) (values : List ℕ) → length values ≤ 65528 → ¬ (IsTooLong Lsb (Error (blame severity class offending values)))
+pub error_said : (severity : Severity) (class : ErrorClass) (offending : Offending) (values : List ℕ) → length values ≤ 65528 → ¬ (IsTooLong Lsb (Error (blame severity class offending values)))
 error_said severity class offending values few = λ too_long.
     let error : ErrorFields = blame severity class offending values in
     elim too_long [ inl long_part ↦ long_part | inr long ↦ omega (arith, length-error_body Lsb error, few) ]

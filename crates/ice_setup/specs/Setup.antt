@@ -9,7 +9,9 @@ use Rattle.ice_values.specs.declared.severity.Severity.TheVariants.{CanContinue,
 use Rattle.ice_messages.specs.Messages.{minor_of, layout, IsTooLong}
 use Rattle.ice_messages.specs.declared.message.IceMessage.{IceMessage}
 use Rattle.ice_messages.specs.declared.message.IceMessage.TheVariants.{Error, ByteOrder, ConnectionSetup, AuthenticationRequired, AuthenticationReply, ConnectionReply, ProtocolSetup, ProtocolReply, Ping, PingReply, WantToClose}
-use Rattle.ice_setup.specs.Errors.{bad_state, no_authentication, no_version, authentication_rejected, protocol_duplicate, major_opcode_duplicate, unknown_protocol, blame, opcode_values, text_values}
+use Rattle.ice_values.specs.declared.class.ErrorClass.{ErrorClass}
+use Rattle.ice_values.specs.declared.class.ErrorClass.TheVariants.{BadState, NoAuthentication, NoVersion, AuthenticationRejected, ProtocolDuplicate, MajorOpcodeDuplicate, UnknownProtocol}
+use Rattle.ice_setup.specs.Errors.{blame, opcode_values, text_values}
 use Rattle.ice_setup.specs.Offers.{is_xsmp, first_version, first_cookie_name}
 use Rattle.ice_setup.specs.declared.errors.Offending.{Offending}
 use Rattle.ice_setup.specs.declared.states.AwaitOrder.{AwaitOrder}
@@ -77,29 +79,29 @@ asks_cookie name = AuthenticationRequired name []
 
 -- a wrong cookie, which always ends the connection
 abbrev pub rejection : Offending → IceMessage
-rejection offending = Error (blame FatalToProtocol authentication_rejected offending (text_values (codes "cookie refused")))
+rejection offending = Error (blame FatalToProtocol AuthenticationRejected offending (text_values (codes "cookie refused")))
 
 -- a ConnectionSetup that is refused, which ends the connection
-abbrev pub refuses_connection : ℕ → Offending → Moved
+abbrev pub refuses_connection : ErrorClass → Offending → Moved
 refuses_connection class offending = Ends (Some (Error (blame FatalToConnection class offending [])))
 
 -- a ProtocolSetup that is refused, after which the state is the same
-abbrev pub refuses_protocol : AnySetup → ℕ → List ℕ → Offending → Moved
+abbrev pub refuses_protocol : AnySetup → ErrorClass → List ℕ → Offending → Moved
 refuses_protocol state class values offending = Goes state (Some (Error (blame FatalToProtocol class offending values)))
 
 -- the Error of what is refused in a state: before ConnectionReply was sent it is fatal to the connection
-abbrev pub refusal : AnySetup → ℕ → Offending → List ℕ → ErrorFields
+abbrev pub refusal : AnySetup → ErrorClass → Offending → List ℕ → ErrorFields
 refusal state class offending values = blame (if connected state then CanContinue else FatalToConnection) class offending values
 
 -- What is refused: before ConnectionReply was sent that ends the connection, and later the state is the same.
-abbrev pub refuses : AnySetup → ℕ → Offending → List ℕ → Moved
+abbrev pub refuses : AnySetup → ErrorClass → Offending → List ℕ → Moved
 refuses state class offending values =
     if connected state then Goes state (Some (Error (refusal state class offending values)))
     else Ends (Some (Error (refusal state class offending values)))
 
 -- a message without a place in the state
 abbrev pub out_of_place : AnySetup → Offending → Moved
-out_of_place state offending = refuses state bad_state offending []
+out_of_place state offending = refuses state BadState offending []
 
 -- the client wants to close, which the session decides while it speaks XSMP
 abbrev pub wants_to_close : AnySetup → Moved
@@ -121,8 +123,8 @@ order_cell s message offending = out_of_place (AtOrder s) offending
 
 -- a ConnectionSetup, by the indices of the version and of the name that it offers
 abbrev pub connection_offer : AwaitSetup → Option ℕ → Option ℕ → Offending → Moved
-connection_offer s None name offending = refuses_connection no_version offending
-connection_offer s (Some version) None offending = refuses_connection no_authentication offending
+connection_offer s None name offending = refuses_connection NoVersion offending
+connection_offer s (Some version) None offending = refuses_connection NoAuthentication offending
 connection_offer s (Some version) (Some name) offending = Goes (AtCookie (record { cookie = s.cookie; endian = s.endian; version = version })) (Some (asks_cookie name))
 
 abbrev pub setup_cell : AwaitSetup → IceMessage → Offending → Moved
@@ -137,18 +139,18 @@ cookie_cell s message offending = other_cell (AtCookie s) message offending
 
 -- a ProtocolSetup for XSMP, by the indices of the version and of the name that it offers
 abbrev pub protocol_offer : AwaitProtocol → ℕ → Bool → Option ℕ → Option ℕ → Offending → Moved
-protocol_offer s opcode must None name offending = refuses_protocol (AtProtocol s) no_version [] offending
+protocol_offer s opcode must None name offending = refuses_protocol (AtProtocol s) NoVersion [] offending
 protocol_offer s opcode must (Some version) (Some name) offending =
     Goes (AtProtocolCookie (record { cookie = s.cookie; endian = s.endian; opcode = opcode; version = version })) (Some (asks_cookie name))
 protocol_offer s opcode must (Some version) None offending =
-    if must then refuses_protocol (AtProtocol s) no_authentication [] offending
+    if must then refuses_protocol (AtProtocol s) NoAuthentication [] offending
     else Goes (AtReady (record { cookie = s.cookie; endian = s.endian; opcode = opcode })) (Some (protocol_reply version))
 
 -- a ProtocolSetup, tested in this order
 abbrev pub protocol_setup : AwaitProtocol → ℕ → List ℕ → Bool → Option ℕ → Option ℕ → Offending → Moved
 protocol_setup s opcode protocol must version name offending =
-    if opcode == 0 then refuses_protocol (AtProtocol s) major_opcode_duplicate (opcode_values opcode) offending
-    else if not (is_xsmp protocol) then refuses_protocol (AtProtocol s) unknown_protocol (text_values protocol) offending
+    if opcode == 0 then refuses_protocol (AtProtocol s) MajorOpcodeDuplicate (opcode_values opcode) offending
+    else if not (is_xsmp protocol) then refuses_protocol (AtProtocol s) UnknownProtocol (text_values protocol) offending
     else protocol_offer s opcode must version name offending
 
 abbrev pub protocol_cell : AwaitProtocol → IceMessage → Offending → Moved
@@ -164,9 +166,9 @@ protocol_cookie_cell s message offending = other_cell (AtProtocolCookie s) messa
 -- one more ProtocolSetup, tested in this order
 abbrev pub ready_setup : Ready → ℕ → List ℕ → Offending → Moved
 ready_setup s opcode protocol offending =
-    if (opcode == 0) || (opcode == s.opcode) then refuses_protocol (AtReady s) major_opcode_duplicate (opcode_values opcode) offending
-    else if not (is_xsmp protocol) then refuses_protocol (AtReady s) unknown_protocol (text_values protocol) offending
-    else refuses_protocol (AtReady s) protocol_duplicate (text_values protocol) offending
+    if (opcode == 0) || (opcode == s.opcode) then refuses_protocol (AtReady s) MajorOpcodeDuplicate (opcode_values opcode) offending
+    else if not (is_xsmp protocol) then refuses_protocol (AtReady s) UnknownProtocol (text_values protocol) offending
+    else refuses_protocol (AtReady s) ProtocolDuplicate (text_values protocol) offending
 
 abbrev pub ready_cell : Ready → IceMessage → Offending → Moved
 ready_cell s (ProtocolSetup opcode must protocol vendor release names offered) offending = ready_setup s opcode protocol offending

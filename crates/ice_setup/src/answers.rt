@@ -1,16 +1,13 @@
 ghost use Rattle.std.specs.Prelude.{◌≡◌, ◌≤◌, [], length, IfOk};
-ghost use Rattle.ice_setup.specs.Errors.{blame, major_opcode_duplicate, opcode_values as opcode_values_spec, text_values as text_values_spec};
+ghost use Rattle.ice_setup.specs.Errors.{blame, opcode_values as opcode_values_spec, text_values as text_values_spec};
 ghost use Rattle.ice_setup.specs.Setup.{connection_reply as connection_reply_spec, protocol_reply as protocol_reply_spec, rejection as rejection_spec, asks_cookie as asks_cookie_spec};
 ghost use Rattle.ice_values.specs.declared.numbers.Endian.TheVariants.{Lsb};
 ghost use Rattle.ice_messages.specs.Messages.{IsTooLong};
 ghost use Rattle.ice_messages.specs.declared.message.IceMessage.TheVariants.{Error as AnError};
 
-use crate::errors::{
-    AUTHENTICATION_REJECTED, MAJOR_OPCODE_DUPLICATE, Offending, error_of, opcode_values,
-    text_values,
-};
+use crate::errors::{Offending, error_of, opcode_values, text_values};
 use ice_messages::IceMessage;
-use ice_values::{Severity, Text16};
+use ice_values::{ErrorClass, Severity, Text16};
 use sm_world::{NoMemory, Octets};
 use std::alloc::Global;
 
@@ -69,14 +66,19 @@ pub fn rejection(alloc: Global, offending: Offending) -> Result<IceMessage, NoMe
     let values = text_values(alloc, &text)?;
     Ok(IceMessage::Error(error_of(
         Severity::FatalToProtocol,
-        AUTHENTICATION_REJECTED,
+        ErrorClass::AuthenticationRejected,
         offending,
         values,
     )))
 }
 
 /// An Error without values.
-pub fn bare_error(alloc: Global, severity: Severity, class: u16, offending: Offending) -> IceMessage
+pub fn bare_error(
+    alloc: Global,
+    severity: Severity,
+    class: ErrorClass,
+    offending: Offending,
+) -> IceMessage
     ensures { result ≡ AnError (blame severity class offending []) }
 {
     IceMessage::Error(error_of(severity, class, offending, Octets::new(alloc)))
@@ -84,13 +86,13 @@ pub fn bare_error(alloc: Global, severity: Severity, class: u16, offending: Offe
 
 /// A ProtocolSetup is refused, since its opcode is taken.
 pub fn opcode_error(alloc: Global, opcode: u8, offending: Offending) -> Result<IceMessage, NoMemory>
-    ensures answer { IfOk result (λ error. error ≡ AnError (blame Severity.FatalToProtocol major_opcode_duplicate offending (opcode_values_spec opcode))) }
+    ensures answer { IfOk result (λ error. error ≡ AnError (blame Severity.FatalToProtocol ErrorClass.MajorOpcodeDuplicate offending (opcode_values_spec opcode))) }
     ensures said { IfOk result (λ error. ¬ (IsTooLong Lsb error)) }
 {
     let values = opcode_values(alloc, opcode)?;
     Ok(IceMessage::Error(error_of(
         Severity::FatalToProtocol,
-        MAJOR_OPCODE_DUPLICATE,
+        ErrorClass::MajorOpcodeDuplicate,
         offending,
         values,
     )))
@@ -99,7 +101,7 @@ pub fn opcode_error(alloc: Global, opcode: u8, offending: Offending) -> Result<I
 /// A ProtocolSetup is refused by an Error that names its protocol.
 pub fn protocol_error(
     alloc: Global,
-    class: u16,
+    class: ErrorClass,
     protocol: &Text16,
     offending: Offending,
 ) -> Result<IceMessage, NoMemory>

@@ -2,43 +2,11 @@ ghost use Rattle.std.specs.Prelude.{◌≡◌, ◌%◌, ◌<◌, ◌^◌, length
 ghost use Rattle.ice_setup.specs.Errors.{blame, opcode_values as opcode_spelling, text_values as text_spelling, wrong_byte};
 
 use ice_values::{
-    Endian, ErrorBody, Severity, Text16, pad, put_bytes, put_card32, put_text16, put_zeros,
+    Endian, ErrorBody, ErrorClass, Severity, Text16, pad, put_bytes, put_card32, put_text16,
+    put_zeros,
 };
 use sm_world::{NoMemory, Octets};
 use std::alloc::Global;
-
-/// No message of the protocol has this minor opcode (ICE, chapter 7: Error; so for all classes).
-pub const BAD_MINOR: u16 = 0x8000;
-
-/// The message has no place in this state.
-pub const BAD_STATE: u16 = 0x8001;
-
-/// The bytes can't be cut into the message's parts.
-pub const BAD_LENGTH: u16 = 0x8002;
-
-/// Some bytes of the message have no meaning.
-pub const BAD_VALUE: u16 = 0x8003;
-
-/// No protocol has this major opcode.
-pub const BAD_MAJOR: u16 = 0;
-
-/// None of the names of authentication protocols is known.
-pub const NO_AUTHENTICATION: u16 = 1;
-
-/// None of the versions is known.
-pub const NO_VERSION: u16 = 2;
-
-/// The authentication failed.
-pub const AUTHENTICATION_REJECTED: u16 = 4;
-
-/// The protocol is set up already.
-pub const PROTOCOL_DUPLICATE: u16 = 6;
-
-/// The major opcode is taken already.
-pub const MAJOR_OPCODE_DUPLICATE: u16 = 7;
-
-/// No protocol has this name.
-pub const UNKNOWN_PROTOCOL: u16 = 8;
 
 /// The message that an Error refuses.
 #[derive(Clone, Copy, Debug, PartialEq, Eq)]
@@ -50,12 +18,17 @@ pub struct Offending {
 }
 
 /// An Error with values that fill units of 8 bytes.
-pub fn error_of(severity: Severity, class: u16, offending: Offending, values: Octets) -> ErrorBody
+pub fn error_of(
+    severity: Severity,
+    class: ErrorClass,
+    offending: Offending,
+    values: Octets,
+) -> ErrorBody
     requires { length values % 8 ≡ 0 }
     ensures { result ≡ blame severity class offending values }
 {
     ErrorBody {
-        class,
+        class: class.number(),
         minor: offending.minor,
         severity,
         sequence: offending.sequence,

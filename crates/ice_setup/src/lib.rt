@@ -13,11 +13,7 @@ mod taking;
 mod tests;
 
 pub use answers::MANAGER_OPCODE;
-pub use errors::{
-    AUTHENTICATION_REJECTED, BAD_LENGTH, BAD_MAJOR, BAD_MINOR, BAD_STATE, BAD_VALUE,
-    MAJOR_OPCODE_DUPLICATE, NO_AUTHENTICATION, NO_VERSION, Offending, PROTOCOL_DUPLICATE,
-    UNKNOWN_PROTOCOL, error_of, opcode_values, text_values, wrong_byte_values,
-};
+pub use errors::{Offending, error_of, opcode_values, text_values, wrong_byte_values};
 pub use laws::spelled_messages_fit;
 pub use others::refusal;
 pub use states::{

@@ -4,10 +4,10 @@ ghost use Rattle.ice_messages.specs.Messages.{IsTooLong};
 ghost use Rattle.ice_messages.specs.declared.message.IceMessage.TheVariants.{Error as AnError};
 ghost use Rattle.ice_setup.specs.Setup.{refusal as refusal_of, refuses, CanBeSaid, other_cell, out_of_place as out_of_place_spec, wants_to_close as wants_to_close_spec, named as named_spec};
 
-use crate::errors::{BAD_STATE, Offending, error_of};
+use crate::errors::{Offending, error_of};
 use crate::states::{AnySetup, Moved};
 use ice_messages::{IceMessage, minor};
-use ice_values::{ErrorBody, Severity};
+use ice_values::{ErrorBody, ErrorClass, Severity};
 use sm_world::Octets;
 use std::alloc::Global;
 
@@ -23,7 +23,12 @@ pub fn named(message: &IceMessage, sequence: u32) -> Offending
 
 /// The Error of what is refused in a state, with values that fill units of 8 bytes. It is fatal to
 /// the connection before ConnectionReply was sent, and can continue later.
-pub fn refusal(state: &AnySetup, class: u16, offending: Offending, values: Octets) -> ErrorBody
+pub fn refusal(
+    state: &AnySetup,
+    class: ErrorClass,
+    offending: Offending,
+    values: Octets,
+) -> ErrorBody
     requires units { length values % 8 ≡ 0 }
     requires few { length values ≤ 65528 }
     ensures error { result ≡ refusal_of state.now class offending values }
@@ -39,7 +44,7 @@ pub fn refusal(state: &AnySetup, class: u16, offending: Offending, values: Octet
 
 /// What is refused in a state, with values that fill units of 8 bytes. Before ConnectionReply was
 /// sent that ends the connection, and later the state is the same.
-fn refuse(state: AnySetup, class: u16, offending: Offending, values: Octets) -> Moved
+fn refuse(state: AnySetup, class: ErrorClass, offending: Offending, values: Octets) -> Moved
     requires units { length values % 8 ≡ 0 }
     requires few { length values ≤ 65528 }
     ensures moved { result ≡ refuses state class offending values }
@@ -56,7 +61,7 @@ fn refuse(state: AnySetup, class: u16, offending: Offending, values: Octets) -> 
 pub fn out_of_place(alloc: Global, state: AnySetup, offending: Offending) -> Moved
     ensures { result ≡ out_of_place_spec state offending }
 {
-    refuse(state, BAD_STATE, offending, Octets::new(alloc))
+    refuse(state, ErrorClass::BadState, offending, Octets::new(alloc))
 }
 
 fn wants_to_close(state: AnySetup) -> Moved

@@ -9,16 +9,14 @@ use crate::answers::{
     asks_cookie, bare_error, connection_reply, opcode_error, protocol_error, protocol_reply,
     rejection,
 };
-use crate::errors::{
-    NO_AUTHENTICATION, NO_VERSION, Offending, PROTOCOL_DUPLICATE, UNKNOWN_PROTOCOL,
-};
+use crate::errors::Offending;
 use crate::offers::{Offer, first_cookie_name, first_version, is_xsmp, read_offer};
 use crate::others::{named, out_of_place, take_other};
 use crate::states::{
     AnySetup, AwaitCookie, AwaitOrder, AwaitProtocol, AwaitProtocolCookie, AwaitSetup, Moved, Ready,
 };
 use ice_messages::IceMessage;
-use ice_values::{Severity, Text16, Version};
+use ice_values::{ErrorClass, Severity, Text16, Version};
 use sm_world::NoMemory;
 use std::alloc::Global;
 
@@ -61,10 +59,15 @@ impl AwaitSetup {
     {
         let fatal = Severity::FatalToConnection;
         let Some(version) = first_version(versions) else {
-            return Moved::Ends(Some(bare_error(alloc, fatal, NO_VERSION, offending)));
+            return Moved::Ends(Some(bare_error(alloc, fatal, ErrorClass::NoVersion, offending)));
         };
         let Some(name) = first_cookie_name(names) else {
-            return Moved::Ends(Some(bare_error(alloc, fatal, NO_AUTHENTICATION, offending)));
+            return Moved::Ends(Some(bare_error(
+                alloc,
+                fatal,
+                ErrorClass::NoAuthentication,
+                offending,
+            )));
         };
         let next = AwaitCookie {
             cookie: self.cookie,
@@ -158,7 +161,7 @@ impl AwaitProtocol {
     {
         let severity = Severity::FatalToProtocol;
         let Some(version) = offer.version else {
-            let error = bare_error(alloc, severity, NO_VERSION, offending);
+            let error = bare_error(alloc, severity, ErrorClass::NoVersion, offending);
             return Ok(Moved::Goes(AnySetup::AwaitProtocol(self), Some(error)));
         };
         let cookie = self.cookie;
@@ -174,7 +177,7 @@ impl AwaitProtocol {
             return Ok(Moved::Goes(AnySetup::AwaitProtocolCookie(next), Some(asks)));
         }
         if offer.must {
-            let error = bare_error(alloc, severity, NO_AUTHENTICATION, offending);
+            let error = bare_error(alloc, severity, ErrorClass::NoAuthentication, offending);
             return Ok(Moved::Goes(AnySetup::AwaitProtocol(self), Some(error)));
         }
         match protocol_reply(alloc, version) {
@@ -208,7 +211,7 @@ impl AwaitProtocol {
             };
         }
         if !is_xsmp(protocol) {
-            return match protocol_error(alloc, UNKNOWN_PROTOCOL, protocol, offending) {
+            return match protocol_error(alloc, ErrorClass::UnknownProtocol, protocol, offending) {
                 Ok(error) => Ok(Moved::Goes(AnySetup::AwaitProtocol(self), Some(error))),
                 Err(error) => Err((self, error)),
             };
@@ -316,9 +319,9 @@ impl Ready {
             };
         }
         let class = if is_xsmp(protocol) {
-            PROTOCOL_DUPLICATE
+            ErrorClass::ProtocolDuplicate
         } else {
-            UNKNOWN_PROTOCOL
+            ErrorClass::UnknownProtocol
         };
         match protocol_error(alloc, class, protocol, offending) {
             Ok(error) => Ok(Moved::Goes(AnySetup::Ready(self), Some(error))),

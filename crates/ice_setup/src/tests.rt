@@ -1,12 +1,12 @@
 //! The table of the set-up: every state against every message, and whole set-ups to the byte.
 
 use crate::{
-    AnySetup, AwaitOrder, BAD_LENGTH, BAD_MAJOR, Moved, Offending, error_of, opcode_values,
-    refusal, spelled_messages_fit, text_values, wrong_byte_values,
+    AnySetup, AwaitOrder, Moved, Offending, error_of, opcode_values, refusal, spelled_messages_fit,
+    text_values, wrong_byte_values,
 };
 use ice_cookie::Cookie;
 use ice_messages::{IceMessage, decode_ice, encode_ice, minor};
-use ice_values::{Endian, Enumerated, ErrorBody, Severity, Text16, read_card32};
+use ice_values::{Endian, Enumerated, ErrorBody, ErrorClass, Severity, Text16, read_card32};
 use sm_world::Octets;
 use std::alloc::Global;
 use std::fmt::Write;
@@ -607,7 +607,7 @@ fn errors_name_the_message_and_their_values(rt: HostRuntime) -> Result<(), Fail>
         sequence: 4,
     };
     let joined = reached(alloc, JOINED)?;
-    let error = refusal(&joined, BAD_LENGTH, ping, Octets::new(alloc));
+    let error = refusal(&joined, ErrorClass::BadLength, ping, Octets::new(alloc));
     expect_error(
         &rt,
         error,
@@ -615,7 +615,7 @@ fn errors_name_the_message_and_their_values(rt: HostRuntime) -> Result<(), Fail>
     )?;
     let error = error_of(
         Severity::CanContinue,
-        BAD_MAJOR,
+        ErrorClass::BadMajor,
         ping,
         opcode_values(alloc, 5)?,
     );

@@ -12,7 +12,9 @@ use Rattle.ice_framing.specs.declared.cutting.WholeFrame.{WholeFrame}
 use Rattle.ice_messages.specs.Reading.{decode_at}
 use Rattle.ice_messages.specs.declared.message.IceMessage.{IceMessage}
 use Rattle.ice_messages.specs.declared.message.IceMessage.TheVariants.{Error, ByteOrder}
-use Rattle.ice_setup.specs.Errors.{bad_minor, bad_state, bad_length, bad_value, bad_major, blame, opcode_values, wrong_byte}
+use Rattle.ice_values.specs.declared.class.ErrorClass.{ErrorClass}
+use Rattle.ice_values.specs.declared.class.ErrorClass.TheVariants.{BadState, BadMajor, BadMinor as NoMinor, BadLength as NoLength, BadValue as NoValue}
+use Rattle.ice_setup.specs.Errors.{blame, opcode_values, wrong_byte}
 use Rattle.ice_setup.specs.Setup.{moved, refusal, connected, endian_of, opcode_of}
 use Rattle.ice_setup.specs.declared.errors.Offending.{Offending}
 use Rattle.ice_setup.specs.declared.states.AwaitOrder.{AwaitOrder}
@@ -45,7 +47,7 @@ abbrev pub closing : AnySetup → Option Message → Outcome
 closing setup message = record { setup = setup; answer = Closes message }
 
 -- A frame is refused: before ConnectionReply was sent that closes the connection.
-abbrev pub refused : AnySetup → ℕ → Offending → List ℕ → Outcome
+abbrev pub refused : AnySetup → ErrorClass → Offending → List ℕ → Outcome
 refused setup class offending values =
     if connected setup then staying setup (Some (Ice (Error (refusal setup class offending values))))
     else closing setup (Some (Ice (Error (refusal setup class offending values))))
@@ -64,17 +66,17 @@ message_outcome setup message sequence = outcome_of setup (moved setup message s
 -- The first frame is looked at byte by byte: it is ByteOrder, without a body, of an order with a meaning.
 abbrev pub first_outcome : AwaitOrder → ℕ → List ℕ → Outcome
 first_outcome s sequence bytes =
-    if not (slice_index bytes 0 == 0 && slice_index bytes 1 == 1) then refused (AtOrder s) bad_state (named_in bytes sequence) []
-    else if not (number Lsb 4 (drop 4 bytes) == 0) then refused (AtOrder s) bad_length (named_in bytes sequence) []
-    else if nat_lt 1 (slice_index bytes 2) then refused (AtOrder s) bad_value (named_in bytes sequence) (wrong_byte 2 bytes)
+    if not (slice_index bytes 0 == 0 && slice_index bytes 1 == 1) then refused (AtOrder s) BadState (named_in bytes sequence) []
+    else if not (number Lsb 4 (drop 4 bytes) == 0) then refused (AtOrder s) NoLength (named_in bytes sequence) []
+    else if nat_lt 1 (slice_index bytes 2) then refused (AtOrder s) NoValue (named_in bytes sequence) (wrong_byte 2 bytes)
     else message_outcome (AtOrder s) (ByteOrder (stated_order bytes)) sequence
 
 -- what reading a frame gave; reading as such wants no memory
 abbrev pub read_outcome : AnySetup → ℕ → List ℕ → Result IceMessage DecodeRefusal → Outcome
 read_outcome setup sequence bytes (Ok message) = message_outcome setup message sequence
-read_outcome setup sequence bytes (Err BadMinor) = refused setup bad_minor (named_in bytes sequence) []
-read_outcome setup sequence bytes (Err BadLength) = refused setup bad_length (named_in bytes sequence) []
-read_outcome setup sequence bytes (Err (BadValue at len)) = refused setup bad_value (named_in bytes sequence) (wrong_byte at bytes)
+read_outcome setup sequence bytes (Err BadMinor) = refused setup NoMinor (named_in bytes sequence) []
+read_outcome setup sequence bytes (Err BadLength) = refused setup NoLength (named_in bytes sequence) []
+read_outcome setup sequence bytes (Err (BadValue at len)) = refused setup NoValue (named_in bytes sequence) (wrong_byte at bytes)
 read_outcome setup sequence bytes (Err NoMemory) = closing setup None
 
 -- the client's messages of XSMP have this major opcode
@@ -89,7 +91,7 @@ later_outcome setup sequence e bytes =
     if slice_index bytes 1 == 0 then staying setup None
     else if slice_index bytes 0 == 0 then read_outcome setup sequence bytes (decode_at e bytes)
     else if is_opcode (opcode_of setup) (slice_index bytes 0) then closing setup None
-    else refused setup bad_major (named_in bytes sequence) (opcode_values (slice_index bytes 0))
+    else refused setup BadMajor (named_in bytes sequence) (opcode_values (slice_index bytes 0))
 
 abbrev pub frame_outcome : AnySetup → ℕ → WholeFrame → Outcome
 frame_outcome (AtOrder s) sequence frame = first_outcome s sequence frame.bytes
@@ -104,7 +106,7 @@ error_about false error = Ice (Error error)
 abbrev pub oversize_answer : AnySetup → ℕ → List ℕ → Answer
 oversize_answer setup sequence header =
     if slice_index header 1 == 0 then Closes None
-    else Closes (Some (error_about (is_opcode (opcode_of setup) (slice_index header 0)) (blame FatalToConnection bad_length (named_in header sequence) [])))
+    else Closes (Some (error_about (is_opcode (opcode_of setup) (slice_index header 0)) (blame FatalToConnection NoLength (named_in header sequence) [])))
 
 -- what a part brings
 abbrev pub outcome : AnySetup → ℕ → Part → Outcome

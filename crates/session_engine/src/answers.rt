@@ -11,10 +11,10 @@ use crate::messages::Message;
 use ice_framing::{Frame, Splitter};
 use ice_messages::{IceMessage, decode_ice};
 use ice_setup::{
-    AnySetup, AwaitOrder, BAD_LENGTH, BAD_MAJOR, BAD_MINOR, BAD_STATE, BAD_VALUE, Moved, Offending,
+    AnySetup, AwaitOrder, Moved, Offending,
     error_of, opcode_values, refusal, wrong_byte_values,
 };
-use ice_values::{DecodeRefusal, Endian, ErrorBody, Severity, read_card32};
+use ice_values::{DecodeRefusal, Endian, ErrorBody, ErrorClass, Severity, read_card32};
 use sm_world::{NoMemory, Octets};
 use std::alloc::Global;
 use xsmp_messages::XsmpMessage;
@@ -96,7 +96,7 @@ fn take_message(
 
 /// Refuses a frame, with values that fill units of 8 bytes. Before ConnectionReply was sent that
 /// closes the connection.
-fn refuse(setup: AnySetup, class: u16, offending: Offending, values: Octets) -> Outcome
+fn refuse(setup: AnySetup, class: ErrorClass, offending: Offending, values: Octets) -> Outcome
     requires units { length values % 8 ≡ 0 }
     requires few { length values ≤ 65528 }
     ensures outcome { result ≡ refused setup class offending values }
@@ -123,14 +123,14 @@ fn take_first(
     let offending = named(sequence, frame);
     let setup = AnySetup::AwaitOrder(state);
     if !(frame[0] == 0 && frame[1] == 1) {
-        return Ok(refuse(setup, BAD_STATE, offending, Octets::new(alloc)));
+        return Ok(refuse(setup, ErrorClass::BadState, offending, Octets::new(alloc)));
     }
     if read_card32(Endian::Lsb, &frame[4..]) != 0 {
-        return Ok(refuse(setup, BAD_LENGTH, offending, Octets::new(alloc)));
+        return Ok(refuse(setup, ErrorClass::BadLength, offending, Octets::new(alloc)));
     }
     if frame[2] > 1 {
         let values = wrong_byte_values(alloc, 2, frame)?;
-        return Ok(refuse(setup, BAD_VALUE, offending, values));
+        return Ok(refuse(setup, ErrorClass::BadValue, offending, values));
     }
     let order = if frame[2] == 1 {
         Endian::Msb
@@ -158,14 +158,14 @@ fn take_ice(
     match decode_ice(alloc, endian, frame) {
         Ok(message) => take_message(alloc, setup, sequence, message),
         Err(DecodeRefusal::BadMinor) => {
-            Ok(refuse(setup, BAD_MINOR, offending, Octets::new(alloc)))
+            Ok(refuse(setup, ErrorClass::BadMinor, offending, Octets::new(alloc)))
         }
         Err(DecodeRefusal::BadLength) => {
-            Ok(refuse(setup, BAD_LENGTH, offending, Octets::new(alloc)))
+            Ok(refuse(setup, ErrorClass::BadLength, offending, Octets::new(alloc)))
         }
         Err(DecodeRefusal::BadValue { at, .. }) => {
             let values = wrong_byte_values(alloc, at, frame)?;
-            Ok(refuse(setup, BAD_VALUE, offending, values))
+            Ok(refuse(setup, ErrorClass::BadValue, offending, values))
         }
         Err(DecodeRefusal::NoMemory) => Err(NoMemory),
     }
@@ -205,7 +205,7 @@ fn take_later(
         return Ok(Outcome::closes(setup, None));
     }
     let values = opcode_values(alloc, opcode)?;
-    Ok(refuse(setup, BAD_MAJOR, named(sequence, frame), values))
+    Ok(refuse(setup, ErrorClass::BadMajor, named(sequence, frame), values))
 }
 
 /// Takes a whole frame.
@@ -247,7 +247,7 @@ fn answer_oversize(alloc: Global, setup: &AnySetup, sequence: u32, header: &[u8;
         return Answer::Closes(None);
     }
     let none = Octets::new(alloc);
-    let error = error_of(Severity::FatalToConnection, BAD_LENGTH, offending, none);
+    let error = error_of(Severity::FatalToConnection, ErrorClass::BadLength, offending, none);
     let opcode = header[0];
     Answer::Closes(Some(error_about(is_opcode(setup.client_opcode(), opcode), error)))
 }
