@@ -56,7 +56,7 @@ impl Shown for bool {
     ghost text = { λ value. decimal (bool_number value) };
 
     fn put(&self, alloc: Global, out: &mut Octets) -> Result<(), NoMemory> {
-        self.number().put(alloc, out)
+        (*self).number().put(alloc, out)
     }
 }
 
