@@ -1,35 +1,31 @@
 -- What decoding answers, over all messages.
-use Rattle.std.proofs.Common.{◌≡◌, ℕ, zero, suc, ◌+◌, ◌*◌, ◌<◌, ◌≤◌, false, List, [], ◌∷◌, Result, Ok, Err, IfOk, IfErr, refl, sym, ap, ◌∙◌, subst, arith, length, length-append, drop, slice_index, inl, inr}
-use Rattle.std.specs.Prelude.{eqb, ◌⊎◌, ◌↔◌}
-use Rattle.std.proofs.lemmas.Bool.{ne_eqb, le-leb, lt-leb}
-use Rattle.std.proofs.lemmas.List.{append-nil}
-use Rattle.ice_values.specs.Cells.{Cells, byte, free, pad_len, Begins}
+use Rattle.std.proofs.Common.{◌≡◌, ℕ, ◌+◌, ◌*◌, ◌<◌, ◌≤◌, false, List, [], ◌∷◌, Ok, Err, refl, ◌∙◌, arith, length, length-append, drop, slice_index}
+use Rattle.std.specs.Prelude.{eqb, ◌↔◌}
+use Rattle.std.proofs.lemmas.Bool.{ne_eqb}
+use Rattle.ice_values.specs.Cells.{Cells, byte, free}
 use Rattle.ice_values.specs.Numbers.{number, number_bytes}
 use Rattle.ice_values.specs.Fields.{bool_number}
 use Rattle.ice_values.specs.Reading.{nothing_at}
 use Rattle.ice_values.specs.Properties.{array8, IsArray8, array8_at, array8_list, array8_list_at, property_list, property_list_at, IsListed, IsProperty}
-use Rattle.ice_values.specs.Frames.{IsFrame, cut_refusal, Gives, bool_meaning}
+use Rattle.ice_values.specs.Frames.{IsFrame, cut_refusal, bool_meaning}
 use Rattle.ice_values.specs.Saves.{dialog_number, dialog_meaning}
 use Rattle.ice_values.specs.declared.numbers.Endian.{Endian}
 use Rattle.ice_values.specs.declared.numbers.Endian.TheVariants.{Lsb, Msb}
 use Rattle.ice_values.specs.declared.severity.Severity.TheVariants.{CanContinue}
-use Rattle.ice_values.specs.declared.refusals.DecodeRefusal.{DecodeRefusal}
-use Rattle.ice_values.specs.declared.refusals.DecodeRefusal.TheVariants.{BadMinor, BadLength, NoMemory}
+use Rattle.ice_values.specs.declared.refusals.DecodeRefusal.TheVariants.{BadMinor}
 use Rattle.sm_world.specs.declared.events.SaveKind.TheVariants.{Global}
 use Rattle.sm_world.specs.declared.events.SaveStyle.TheVariants.{Nothing}
 use Rattle.sm_world.specs.declared.events.Dialog.TheVariants.{Normal}
-use Rattle.ice_values.proofs.CellLaws.{IsBytes, Begins-zeros, length-zeros, length-known}
+use Rattle.ice_values.proofs.CellLaws.{IsBytes, length-known}
 use Rattle.ice_values.proofs.NumberLaws.{length-number_bytes}
 use Rattle.ice_values.proofs.FieldLaws.{nothing_exact}
 use Rattle.ice_values.proofs.PropertyLaws.{array8_exact, array8_list_exact, property_list_exact}
-use Rattle.ice_values.proofs.HeaderLaws.{Header, minor_is, is_frame, is_cut, length-spelling}
-use Rattle.ice_values.proofs.BodyLaws.{ok_not_err}
 use Rattle.ice_values.proofs.EnumLaws.{bool_enum, dialog_enum}
 use Rattle.ice_values.proofs.ChoiceLaws.{opens_none}
 use Rattle.ice_values.proofs.DecodeLaws.{Caused}
 use Rattle.ice_values.proofs.CodecLaws.{Codec, form_is_choice as choice_is_form, decode_again as again, decode_caused as is_caused, canon_spells as spells, canon_is_frame as frame, minors as all_minors, cut_is_refused as cut}
 use Rattle.xsmp_messages.specs.Messages.{minor_of, layout, shape, enumerated, IsXsmpFrame, IsMessage, Spells, HasForm, HasChoice, canon, Refused}
-use Rattle.xsmp_messages.specs.Reading.{valued_at, empty_at, flagged_at, save_yourself_at, save_yourself_request_at, xsmp_error_at, decode_at}
+use Rattle.xsmp_messages.specs.Reading.{decode_at}
 use Rattle.xsmp_messages.specs.declared.message.XsmpMessage.{XsmpMessage}
 use Rattle.xsmp_messages.specs.declared.message.XsmpMessage.TheVariants.{Error, RegisterClient, RegisterClientReply, SaveYourself, SaveYourselfRequest, InteractRequest, Interact, InteractDone, SaveYourselfDone, Die, ShutdownCancelled, ConnectionClosed, SetProperties, DeleteProperties, GetProperties, GetPropertiesReply, SaveYourselfPhase2Request, SaveYourselfPhase2, SaveComplete}
 use Rattle.xsmp_messages.proofs.MessageLaws.{RowOf, valued, flagged, save_row, request_row, error_row, numbers_of, HasOpenForm, save_opens, request_opens}

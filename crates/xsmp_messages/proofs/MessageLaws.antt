@@ -1,5 +1,5 @@
 -- Every message is decoded where it is spelled, and every refusal has its cause.
-use Rattle.std.proofs.Common.{◌≡◌, ℕ, Bool, false, List, [], ◌∷◌, ◌++◌, Option, Result, Ok, Err, ◌∙◌, refl, slice_index}
+use Rattle.std.proofs.Common.{◌≡◌, ℕ, Bool, List, [], ◌∷◌, ◌++◌, Option, Result, Ok, Err, ◌∙◌, refl, slice_index}
 use Rattle.ice_values.specs.Cells.{Cells, byte, free, Begins}
 use Rattle.ice_values.specs.Fields.{ErrorFields, spelling, bool_number, severity_number}
 use Rattle.ice_values.specs.Reading.{nothing_at, after_at, Exact}
@@ -8,11 +8,8 @@ use Rattle.ice_values.specs.Saves.{kind_number, kind_meaning, style_number, styl
 use Rattle.ice_values.specs.declared.numbers.Endian.{Endian}
 use Rattle.ice_values.specs.declared.numbers.Endian.TheVariants.{Lsb, Msb}
 use Rattle.ice_values.specs.declared.refusals.DecodeRefusal.{DecodeRefusal}
-use Rattle.ice_values.specs.declared.refusals.DecodeRefusal.TheVariants.{BadLength}
 use Rattle.sm_world.specs.declared.events.SaveKind.{SaveKind}
-use Rattle.sm_world.specs.declared.events.SaveKind.TheVariants.{Global}
 use Rattle.sm_world.specs.declared.events.SaveStyle.{SaveStyle}
-use Rattle.sm_world.specs.declared.events.SaveStyle.TheVariants.{Nothing}
 use Rattle.ice_values.proofs.FieldLaws.{after, nothing_exact}
 use Rattle.ice_values.proofs.HeaderLaws.{Header, own_first, first_own}
 use Rattle.ice_values.proofs.BodyLaws.{Whole, whole, bind_length}

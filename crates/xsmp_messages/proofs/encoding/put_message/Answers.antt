@@ -1,4 +1,4 @@
-use Rattle.std.proofs.Common.{refl, subst, arith, length, ◌≤◌}
+use Rattle.std.proofs.Common.{subst, ◌≤◌}
 use Rattle.std.proofs.lemmas.Result.{on_ok_weaker}
 use Rattle.ice_values.specs.Cells.{byte}
 use Rattle.xsmp_messages.specs.Messages.{minor_of, layout}
