@@ -23,3 +23,4 @@ pub mod NextIds
 pub mod Room
 pub mod Ruly
 pub mod Lawfuls
+pub mod Left
