@@ -24,3 +24,4 @@ pub mod Room
 pub mod Ruly
 pub mod Lawfuls
 pub mod Left
+pub mod Whole

@@ -38,7 +38,7 @@ use Rattle.session_model.proofs.Short.{error-state, error-id, error-room, error-
 
 -- Lists of moves
 
-proper-gave : (epoch : ℕ) (m : XsmpMessage) (conns : List ℕ) → ((c : ℕ) → Proper epoch (Gave c m)) → AllProper epoch (gave_each m conns)
+pub proper-gave : (epoch : ℕ) (m : XsmpMessage) (conns : List ℕ) → ((c : ℕ) → Proper epoch (Gave c m)) → AllProper epoch (gave_each m conns)
 proper-gave epoch m [] k = tt
 proper-gave epoch m (c ∷ conns) k = (k c, proper-gave epoch m conns k)
 
@@ -46,7 +46,7 @@ pub proper-tried : (epoch : ℕ) (cause : Cause) (commands : List Command) → A
 proper-tried epoch cause [] = tt
 proper-tried epoch cause (c ∷ commands) = (tt, proper-tried epoch cause commands)
 
-proper-closed : (epoch : ℕ) (conns : List ℕ) → AllProper epoch (map Closed conns)
+pub proper-closed : (epoch : ℕ) (conns : List ℕ) → AllProper epoch (map Closed conns)
 proper-closed epoch [] = tt
 proper-closed epoch (c ∷ conns) = (tt, proper-closed epoch conns)
 
@@ -110,13 +110,13 @@ is-forgetting epoch h id e t = (e, all-filter epoch (λ entry. not (is_of id ent
 
 -- The rules
 
-proper-ended : (epoch : ℕ) (h : History) (book : Book) → AllProper epoch (ended (reading h).clients book)
+pub proper-ended : (epoch : ℕ) (h : History) (book : Book) → AllProper epoch (ended (reading h).clients book)
 proper-ended epoch h book =
     proper-append epoch (gave_each Die (of.registered h) ++ map Closed (filter (λ c. not (is_in c (of.registered h))) (of.live h))) (tried_each End (filter_map (last_command (reading h).clients) book.entries))
       (proper-append epoch (gave_each Die (of.registered h)) (map Closed (filter (λ c. not (is_in c (of.registered h))) (of.live h))) (proper-gave epoch Die (of.registered h) (λ c. refl)) (proper-closed epoch (filter (λ c. not (is_in c (of.registered h))) (of.live h))))
       (proper-tried epoch End (filter_map (last_command (reading h).clients) book.entries))
 
-proper-completed : (b : Bool) (epoch : ℕ) (h : History) (round : Agreement) (book : Book) → AllProper epoch (completed b (reading h).clients round book)
+pub proper-completed : (b : Bool) (epoch : ℕ) (h : History) (round : Agreement) (book : Book) → AllProper epoch (completed b (reading h).clients round book)
 proper-completed true epoch h round book = proper-ended epoch h book
 proper-completed false epoch h round book = proper-gave epoch SaveComplete (conns_of round.members) (λ c. refl)
 

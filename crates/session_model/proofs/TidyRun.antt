@@ -28,10 +28,10 @@ pub record Orderly (epoch : ℕ) (h : History) : Type 0 where
   pub tidy : Tidy epoch h
   pub each : EachMove (Proper epoch) h
 
-orderly-step : (epoch : ℕ) (m : Move) (h : History) → Proper epoch m → Orderly epoch h → Orderly epoch (m ▷ h)
+pub orderly-step : (epoch : ℕ) (m : Move) (h : History) → Proper epoch m → Orderly epoch h → Orderly epoch (m ▷ h)
 orderly-step epoch m h p o = record { is_of = epoch-step epoch m h p o.is_of; tidy = tidy-step epoch m h p o.tidy; each = (p, o.each) }
 
-orderly-onto : (epoch : ℕ) (moves : List Move) (h : History) → AllProper epoch moves → Orderly epoch h → Orderly epoch (onto h moves)
+pub orderly-onto : (epoch : ℕ) (moves : List Move) (h : History) → AllProper epoch moves → Orderly epoch h → Orderly epoch (onto h moves)
 orderly-onto epoch [] h p o = o
 orderly-onto epoch (m ∷ moves) h p o = orderly-onto epoch moves (m ▷ h) p.1 (orderly-step epoch m h p.0 o)
 

@@ -1,0 +1,217 @@
+-- Every book that is written keeps the rules.
+use Rattle.std.proofs.Common.{◌≡◌, refl, ℕ, zero, suc, ◌+◌, ◌*◌, ◌<◌, ◌≤◌, Bool, true, false, cond, not, ◌&&◌, ◌||◌, List, [], ◌∷◌, ◌++◌, map, filter, length, eqb, sym, ap, subst, ◌∙◌, arith, rules, inl, inr, length-append}
+use Rattle.std.specs.Prelude.{Option, Some, None, is_some, is_none, find, filter_map, codes, nat_le, ◌⊎◌}
+use Rattle.std.specs.List.{AllByRecursion, IsDistinct, list_any}
+use Rattle.std.specs.Str.{bytes_eq}
+use Rattle.std.proofs.lemmas.Bool.Decides.{nat_tests}
+use Rattle.sm_world.specs.declared.commands.Command.{Command}
+use Rattle.sm_world.specs.declared.events.Order.{Order}
+use Rattle.sm_world.specs.declared.events.Order.TheVariants.{Checkpoint, Shutdown, Cancel, Status, DropConn, Forget}
+use Rattle.xsmp_properties.specs.Tables.{set_all}
+use Rattle.checkpoint_records.specs.declared.records.Book.{Book}
+use Rattle.checkpoint_records.specs.declared.records.Entry.{Entry}
+use Rattle.checkpoint_records.specs.Rules.{client_id, ids_of, KeepsRules}
+use Rattle.round_agreement.specs.declared.wanted.Wanted.{Wanted}
+use Rattle.round_agreement.specs.Agreement.{Agreement, two_ready, agreed, deserted, is_nil, conns_of}
+use Rattle.interact_queue.specs.Queue.{is_in, without, next_holder}
+use Rattle.restart_plan.specs.Restarts.{respawn, opening_restarts}
+use Rattle.discard_ledger.specs.Discards.{issuable, without_commands}
+use Rattle.xsmp_messages.specs.declared.message.XsmpMessage.{XsmpMessage}
+use Rattle.xsmp_messages.specs.declared.message.XsmpMessage.TheVariants.{Error, RegisterClient, RegisterClientReply, SaveYourself, SaveYourselfRequest, InteractRequest, Interact, InteractDone, SaveYourselfDone, Die, ShutdownCancelled, ConnectionClosed, SetProperties, DeleteProperties, GetProperties, GetPropertiesReply, SaveYourselfPhase2Request, SaveYourselfPhase2, SaveComplete}
+use Rattle.session_model.specs.declared.phase.Phase.{Phase}
+use Rattle.session_model.specs.declared.phase.Phase.TheVariants.{Unregistered, Dying}
+use Rattle.session_model.specs.declared.waits.Wait.{Wait}
+use Rattle.session_model.specs.declared.events.SessionEvent.{SessionEvent}
+use Rattle.session_model.specs.declared.events.SessionEvent.TheVariants.{Joined, Ready, Said, Left, Operator}
+use Rattle.session_model.specs.Phases.{is_bound, is_registered, is_unregistered, is_dying, is_owing, is_saving, is_first_saving, is_interacting, is_shutdown, may_interact}
+use Rattle.session_model.specs.Tables.{is_full, entry_of, is_recorded, has_id}
+use Rattle.session_model.specs.Errors.{Arrival, no_room, bad_id, full_table, lone_shutdown}
+use Rattle.session_model.specs.Moves.{Move, Cause, Outside, Gave, Blamed, Unset, Closed, Began, Over, Cancelled, Agreed, Tried, Committed, Printed, Finished, Discard, End, Restart, History, Opened, ◌▷◌, onto, gave_each, tried_each}
+use Rattle.session_model.specs.Readings as of
+use Rattle.session_model.specs.Reading.{Clients, Reading, reading, wanted_in, client_of, has_that_id}
+use Rattle.session_model.specs.Books.{next_book, next_entries, book_forgetting, issue, discarded, standing, command_anyway, opening_moves, raised}
+use Rattle.session_model.specs.Replies.{refused, or_bad_state, respawn_moves, entry_respawn, id_respawn, respawned, depart, has_no_room, known_ids, enter, may_rejoin, rejoin, register, called_off, want_cancel, answered, unless_dying, said, resigned, forgotten, forget_one, forget, may_wait, ordered, has_no_place, reply, status_text}
+use Rattle.session_model.specs.Rules.{last_command, ended, completed, agreement, agreement_with, wanting_two, over_rule, agreed_rule, running_rule, save_yourself, members_for, begin, begin_first, is_free, idle_rule, round_rule, token_rule, rule, go_on, settle, settled, finished, taken, Takes, opened, run}
+use Rattle.session_model.specs.Laws.{EachMove, IsWritten, AllTake}
+use Rattle.session_model.proofs.Lists.{Once, once-push, once-without}
+use Rattle.session_model.proofs.PhaseSteps.{is_reply}
+use Rattle.session_model.proofs.Level.{Good, onto-append}
+use Rattle.session_model.proofs.Ruled.{rows_now, round_now, closing, good-rule, conns-rows, differ}
+use Rattle.session_model.proofs.Replied.{good-reply, good-taken, good-opened, unregistered-is, cond-same}
+use Rattle.session_model.proofs.Tidy.{Tidy, Proper, AllProper, tidy-step}
+use Rattle.session_model.proofs.Propers.{proper-rule, proper-reply, proper-issue, proper-tried, proper-gave, proper-closed, proper-ended, proper-completed, IsOf, is-next, is-forgetting}
+use Rattle.session_model.proofs.TidyRun.{Orderly, orderly-onto, orderly-step}
+use Rattle.session_model.proofs.Pending.{filter-len, rules-without}
+use Rattle.session_model.proofs.Names.{have-ids}
+use Rattle.session_model.proofs.Room.{held_ids, known_with}
+use Rattle.session_model.proofs.Ruly.{Lawful, Ruly, ruly-step, IsKnown, own_text}
+use Rattle.session_model.proofs.Lawfuls.{next-known, rules-next_book, rules-forgetting, forgetting-known}
+use Rattle.session_model.proofs.Left.{left-few, without-none, fewer-conns, few-standing}
+
+-- Moves that write no book, begin no round and give no ID
+
+abbrev pub IsMild : Move → Type 0
+IsMild (Outside event) = ⊥
+IsMild (Gave c m) = is_reply m ≡ false
+IsMild (Began conns wanted) = ⊥
+IsMild (Committed book) = ⊥
+IsMild m = Unit {0}
+
+abbrev pub AllMild : List Move → Type 0
+AllMild [] = Unit {0}
+AllMild (m ∷ moves) = IsMild m × AllMild moves
+
+mild-append : (xs ys : List Move) → AllMild xs → AllMild ys → AllMild (xs ++ ys)
+mild-append [] ys p q = q
+mild-append (x ∷ xs) ys p q = (p.0, mild-append xs ys p.1 q)
+
+mild-gave : (m : XsmpMessage) (conns : List ℕ) → is_reply m ≡ false → AllMild (gave_each m conns)
+mild-gave m [] e = tt
+mild-gave m (c ∷ conns) e = (e, mild-gave m conns e)
+
+mild-tried : (cause : Cause) (commands : List Command) → AllMild (tried_each cause commands)
+mild-tried cause [] = tt
+mild-tried cause (c ∷ commands) = (tt, mild-tried cause commands)
+
+mild-closed : (conns : List ℕ) → AllMild (map Closed conns)
+mild-closed [] = tt
+mild-closed (c ∷ conns) = (tt, mild-closed conns)
+
+-- What is carried from move to move
+
+pub record Carried (epoch : ℕ) (h : History) : Type 0 where
+  pub tidy : Tidy epoch h
+  pub once : Once (of.registered h)
+  pub ruly : Ruly epoch h
+  pub written : EachMove IsWritten h
+
+lawful-written : (epoch : ℕ) (m : Move) (h : History) → Lawful epoch m h → IsWritten m
+lawful-written epoch (Committed book) h l = l.0
+lawful-written epoch m h l = tt
+
+carried-step : (epoch : ℕ) (m : Move) (h : History) → Lawful epoch m h → Proper epoch m → Once (of.registered (m ▷ h)) → Carried epoch h → Carried epoch (m ▷ h)
+carried-step epoch m h l p o c = record { tidy = tidy-step epoch m h p c.tidy; once = o; ruly = ruly-step epoch m h l c.tidy o c.ruly; written = (lawful-written epoch m h l, c.written) }
+
+mild-given : (epoch c : ℕ) (m : XsmpMessage) (h : History) → is_reply m ≡ false → Lawful epoch (Gave c m) h
+mild-given epoch c (RegisterClientReply id) h e = absurd (grind arith)
+mild-given epoch c m h e = tt
+
+mild-lawful : (epoch : ℕ) (m : Move) (h : History) → IsMild m → Lawful epoch m h
+mild-lawful epoch (Outside event) h e = absurd e
+mild-lawful epoch (Gave c m) h e = mild-given epoch c m h e
+mild-lawful epoch (Began conns wanted) h e = absurd e
+mild-lawful epoch (Committed book) h e = absurd e
+mild-lawful epoch m h e = tt
+
+once-given : (c : ℕ) (m : XsmpMessage) (h : History) → is_reply m ≡ false → Once (of.registered h) → Once (of.registered (Gave c m ▷ h))
+once-given c (RegisterClientReply id) h e o = absurd (grind arith)
+once-given c m h e o = o
+
+mild-once : (m : Move) (h : History) → IsMild m → Once (of.registered h) → Once (of.registered (m ▷ h))
+mild-once (Outside event) h e o = absurd e
+mild-once (Gave c m) h e o = once-given c m h e o
+mild-once (Closed c) h e o = once-without c (of.registered h) o
+mild-once m h e o = o
+
+mild-live : (m : Move) (h : History) → IsMild m → length (of.live (m ▷ h)) ≤ length (of.live h)
+mild-live (Outside event) h e = absurd e
+mild-live (Closed c) h e = filter-len (λ other. not (eqb other c)) (of.live h)
+mild-live m h e = omega arith
+
+mild-book : (m : Move) (h : History) → IsMild m → of.book (m ▷ h) ≡ of.book h
+mild-book (Committed book) h e = absurd e
+mild-book m h e = refl
+
+carried-mild : (epoch : ℕ) (moves : List Move) (h : History) → AllMild moves → AllProper epoch moves → Carried epoch h → Carried epoch (onto h moves)
+carried-mild epoch [] h e p c = c
+carried-mild epoch (m ∷ moves) h e p c =
+    carried-mild epoch moves (m ▷ h) e.1 p.1 (carried-step epoch m h (mild-lawful epoch m h e.0) p.0 (mild-once m h e.0 c.once) c)
+
+live-mild : (moves : List Move) (h : History) → AllMild moves → length (of.live (onto h moves)) ≤ length (of.live h)
+live-mild [] h e = omega arith
+live-mild (m ∷ moves) h e = omega (arith, live-mild moves (m ▷ h) e.1, mild-live m h e.0)
+
+book-mild : (moves : List Move) (h : History) → AllMild moves → of.book (onto h moves) ≡ of.book h
+book-mild [] h e = refl
+book-mild (m ∷ moves) h e = book-mild moves (m ▷ h) e.1 ∙ mild-book m h e.0
+
+-- A book that is written
+
+committed : (epoch : ℕ) (book : Book) (h : History) → KeepsRules book → IsOf epoch book → ((q : List ℕ) → has_id q (ids_of book.entries) ≡ true → IsKnown q h) → Carried epoch h → Carried epoch (Committed book ▷ h)
+committed epoch book h k i n c = carried-step epoch (Committed book) h (k, n) i c.once c
+
+known-same : (book : Book) (h : History) → of.book h ≡ book → (q : List ℕ) → has_id q (ids_of book.entries) ≡ true → IsKnown q h
+known-same book h e q s = ap (λ (b : Bool). b || has_id q (held_ids h)) (ap (λ (x : Book). has_id q (ids_of x.entries)) e ∙ s)
+
+-- The discards after a book
+
+carried-issue : (epoch : ℕ) (book : Book) (commands : List Command) (h : History) → KeepsRules book → IsOf epoch book → of.book h ≡ book → Carried epoch h → Carried epoch (onto h (issue book commands))
+carried-issue epoch book [] h k i e c = c
+carried-issue epoch book (command ∷ commands) h k i e c =
+    let tried : List Move = tried_each Discard (command ∷ commands) in
+    let left : Book = record book { pending = without_commands (command ∷ commands) book.pending } in
+    let g : History = onto h tried in
+    let same : of.book g ≡ book = book-mild tried h (mild-tried Discard (command ∷ commands)) ∙ e in
+    subst (λ (x : History). Carried epoch x) (sym (onto-append h tried (Committed left ∷ [])))
+      (committed epoch left g (rules-without book (command ∷ commands) k) i (λ q s. known-same book g same q s) (carried-mild epoch tried h (mild-tried Discard (command ∷ commands)) (proper-tried epoch Discard (command ∷ commands)) c))
+
+pending-issue : (book : Book) (commands : List Command) (h : History) → of.book h ≡ book → (of.book (onto h (issue book commands))).pending ≡ without_commands commands book.pending
+pending-issue book [] h e = ap (λ (x : Book). x.pending) e ∙ sym (without-none book.pending)
+pending-issue book (command ∷ commands) h e =
+    ap (λ (x : History). (of.book x).pending) (onto-append h (tried_each Discard (command ∷ commands)) (Committed (record book { pending = without_commands (command ∷ commands) book.pending }) ∷ []))
+
+live-issue : (book : Book) (commands : List Command) (h : History) → length (of.live (onto h (issue book commands))) ≤ length (of.live h)
+live-issue book [] h = omega arith
+live-issue book (command ∷ commands) h =
+    let e : length (of.live (onto h (issue book (command ∷ commands)))) ≡ length (of.live (onto h (tried_each Discard (command ∷ commands)))) =
+      ap (λ (x : History). length (of.live x)) (onto-append h (tried_each Discard (command ∷ commands)) (Committed (record book { pending = without_commands (command ∷ commands) book.pending }) ∷ [])) in
+    omega (arith, e, live-mild (tried_each Discard (command ∷ commands)) h (mild-tried Discard (command ∷ commands)))
+
+-- What holds between events
+
+pub record Whole (epoch : ℕ) (h : History) : Type 0 where
+  pub good : Good h
+  pub orderly : Orderly epoch h
+  pub carried : Carried epoch h
+  pub few_live : length (of.live h) ≤ 64
+  pub few_pending : length (of.book h).pending ≤ 64
+
+-- as far as it isn't known already
+pub record Part (epoch : ℕ) (h : History) : Type 0 where
+  pub carried : Carried epoch h
+  pub few_live : length (of.live h) ≤ 64
+  pub few_pending : length (of.book h).pending ≤ 64
+
+part-of : (epoch : ℕ) (h : History) → Whole epoch h → Part epoch h
+part-of epoch h w = record { carried = w.carried; few_live = w.few_live; few_pending = w.few_pending }
+
+part-mild : (epoch : ℕ) (moves : List Move) (h : History) → AllMild moves → AllProper epoch moves → Part epoch h → Part epoch (onto h moves)
+part-mild epoch moves h e p w = record {
+  carried = carried-mild epoch moves h e p w.carried;
+  few_live = omega (arith, live-mild moves h e, w.few_live);
+  few_pending = let b : length (of.book (onto h moves)).pending ≡ length (of.book h).pending = ap (λ (x : Book). length x.pending) (book-mild moves h e) in omega (arith, b, w.few_pending);
+}
+
+registered-some : (p : Option Phase) → is_registered p ≡ true → is_some p ≡ true
+registered-some None e = e
+registered-some (Some p) e = refl
+
+-- no more clients are registered than connections are live
+few-registered : (epoch : ℕ) (h : History) → Good h → Carried epoch h → length (of.registered h) ≤ length (of.live h)
+few-registered epoch h g c = fewer-conns (of.registered h) (of.live h) c.once (λ d i. (c.ruly).there d (registered-some (of.phase_of d h) (sym (g.sound.registered_are d) ∙ i)))
+
+-- a book is written, moves that are mild follow, and then the discards
+part-written : (epoch : ℕ) (book : Book) (moves : List Move) (h g : History) → g ≡ onto (Committed book ▷ h) (moves ++ discarded (reading h).clients book) → KeepsRules book → IsOf epoch book → ((q : List ℕ) → has_id q (ids_of book.entries) ≡ true → IsKnown q h)
+    → AllMild moves → AllProper epoch moves → Whole epoch h → Part epoch g
+part-written epoch book moves h g is k i n e p w =
+    let after : History = onto (Committed book ▷ h) moves in
+    let commands : List Command = issuable (standing (reading h).clients) book.pending in
+    let same : of.book after ≡ book = book-mild moves (Committed book ▷ h) e in
+    let split : g ≡ onto after (issue book commands) = is ∙ onto-append (Committed book ▷ h) moves (issue book commands) in
+    let c : Carried epoch after = carried-mild epoch moves (Committed book ▷ h) e p (committed epoch book h k i n w.carried) in
+    let pending : length (of.book (onto after (issue book commands))).pending ≡ length (without_commands commands book.pending) = ap (λ (xs : List Command). length xs) (pending-issue book commands after same) in
+    subst (λ (x : History). Part epoch x) (sym split) (record {
+      carried = carried-issue epoch book commands after k i same c;
+      few_live = omega (arith, live-issue book commands after, live-mild moves (Committed book ▷ h) e, w.few_live);
+      few_pending = omega (arith, pending, left-few (standing (reading h).clients) book.pending k.commands_differ, few-standing (reading h).clients, few-registered epoch h w.good w.carried, w.few_live);
+    })
