@@ -43,8 +43,9 @@ use Rattle.session_model.proofs.Propers.{proper-rule, proper-reply, proper-issue
 use Rattle.session_model.proofs.TidyRun.{Orderly, orderly-onto, orderly-step}
 use Rattle.session_model.proofs.Pending.{filter-len, rules-without}
 use Rattle.session_model.proofs.Names.{have-ids}
-use Rattle.session_model.proofs.Room.{held_ids, known_with}
-use Rattle.session_model.proofs.Ruly.{Lawful, Ruly, ruly-step, IsKnown, own_text}
+use Rattle.session_model.proofs.NextIds.{next-distinct}
+use Rattle.session_model.proofs.Room.{held_ids, known_with, room-kept}
+use Rattle.session_model.proofs.Ruly.{Lawful, Ruly, ruly-step, IsKnown, own_text, held-distinct}
 use Rattle.session_model.proofs.Lawfuls.{next-known, rules-next_book, rules-forgetting, forgetting-known}
 use Rattle.session_model.proofs.Left.{left-few, without-none, fewer-conns, few-standing}
 
@@ -215,3 +216,83 @@ part-written epoch book moves h g is k i n e p w =
       few_live = omega (arith, live-issue book commands after, live-mild moves (Committed book ▷ h) e, w.few_live);
       few_pending = omega (arith, pending, left-few (standing (reading h).clients) book.pending k.commands_differ, few-standing (reading h).clients, few-registered epoch h w.good w.carried, w.few_live);
     })
+
+-- The rules
+
+mild-ended : (clients : Clients) (book : Book) → AllMild (ended clients book)
+mild-ended clients book =
+    mild-append (gave_each Die clients.registered ++ map Closed (filter (λ c. not (is_in c clients.registered)) clients.live)) (tried_each End (filter_map (last_command clients) book.entries))
+      (mild-append (gave_each Die clients.registered) (map Closed (filter (λ c. not (is_in c clients.registered)) clients.live)) (mild-gave Die clients.registered refl) (mild-closed (filter (λ c. not (is_in c clients.registered)) clients.live)))
+      (mild-tried End (filter_map (last_command clients) book.entries))
+
+mild-completed : (b : Bool) (clients : Clients) (round : Agreement) (book : Book) → AllMild (completed b clients round book)
+mild-completed true clients round book = mild-ended clients book
+mild-completed false clients round book = mild-gave SaveComplete (conns_of round.members) refl
+
+room-next : (epoch : ℕ) (h : History) (round : Agreement) → Carried epoch h → Once (conns_of round.members) → length (known_with (next_entries (reading h) round) (held_ids h)) ≤ 128
+room-next epoch h round c o =
+    let d : IsDistinct bytes_eq (ids_of (next_entries (reading h) round)) = next-distinct h round (c.ruly).own o (c.ruly).ids_differ in
+    omega (arith, room-kept (of.book h).entries (next_entries (reading h) round) (held_ids h) d (held-distinct h (c.ruly).own c.once) (next-known h round), (c.ruly).room)
+
+part-agreement : (epoch : ℕ) (h : History) (round : Agreement) → Once (conns_of round.members) → Whole epoch h → Part epoch (onto h (agreement (reading h) round))
+part-agreement epoch h round o w =
+    part-written epoch (next_book (reading h) round) (Agreed ∷ completed round.wanted.shutdown (reading h).clients round (next_book (reading h) round)) h (onto h (agreement (reading h) round)) refl
+      (rules-next_book epoch h round w.orderly.is_of w.carried.tidy w.carried.ruly w.few_pending o (room-next epoch h round w.carried o))
+      (is-next epoch h round w.orderly.is_of w.carried.tidy) (next-known h round)
+      (tt, mild-completed round.wanted.shutdown (reading h).clients round (next_book (reading h) round)) (tt, proper-completed round.wanted.shutdown epoch h round (next_book (reading h) round)) w
+
+once-now : (epoch : ℕ) (r : of.Begun) (h : History) → Carried epoch h → Once (conns_of (rows_now h))
+once-now epoch r h c = subst (λ (cs : List ℕ). Once cs) (sym (conns-rows (λ d. of.phase_of d h) (λ d. of.saved_of d h) (of.members h))) (c.ruly).once_members
+
+part-over : (b : Bool) (epoch : ℕ) (h : History) → Part epoch h → Part epoch (onto h (over_rule b))
+part-over true epoch h w = part-mild epoch (Over ∷ []) h (tt, tt) (tt, tt) w
+part-over false epoch h w = w
+
+part-agreed : (b : Bool) (epoch : ℕ) (r : of.Begun) (h : History) → Whole epoch h → Part epoch (onto h (agreed_rule b (reading h) (round_now r h)))
+part-agreed true epoch r h w = part-agreement epoch h (round_now r h) (once-now epoch r h w.carried) w
+part-agreed false epoch r h w = part-over (deserted (round_now r h)) epoch h (part-of epoch h w)
+
+part-going : (b : Bool) (epoch : ℕ) (r : of.Begun) (h : History) → Whole epoch h → Part epoch (onto h (running_rule b (reading h) (round_now r h)))
+part-going true epoch r h w =
+    part-mild epoch (gave_each SaveYourselfPhase2 (wanting_two (rows_now h))) h (mild-gave SaveYourselfPhase2 (wanting_two (rows_now h)) refl) (proper-gave epoch SaveYourselfPhase2 (wanting_two (rows_now h)) (λ c. refl)) (part-of epoch h w)
+part-going false epoch r h w = part-agreed (agreed (round_now r h)) epoch r h w
+
+once-for : (o : Option ℕ) (cs : List ℕ) → Once cs → Once (members_for o cs)
+once-for None cs o = o
+once-for (Some c) cs o = (refl, tt)
+
+part-began : (epoch : ℕ) (conns : List ℕ) (wanted : Wanted) (h : History) → Once conns → Part epoch h → Part epoch (onto h (begin conns wanted))
+part-began epoch conns wanted h o w =
+    part-mild epoch (gave_each (save_yourself wanted) conns) (Began conns wanted ▷ h) (mild-gave (save_yourself wanted) conns refl) (proper-gave epoch (save_yourself wanted) conns (λ c. refl))
+      (record { carried = carried-step epoch (Began conns wanted) h o tt w.carried.once w.carried; few_live = w.few_live; few_pending = w.few_pending })
+
+part-first : (ws : List Wait) (epoch : ℕ) (h : History) → Part epoch h → Part epoch (onto h (begin_first (of.registered h) ws))
+part-first [] epoch h w = w
+part-first (wait ∷ ws) epoch h w = part-began epoch (members_for wait.wanted.only (of.registered h)) wait.wanted h (once-for wait.wanted.only (of.registered h) w.carried.once) w
+
+part-idle : (b : Bool) (epoch : ℕ) (h : History) → Part epoch h → Part epoch (onto h (idle_rule b (reading h)))
+part-idle true epoch h w = part-first (of.waits h) epoch h w
+part-idle false epoch h w = w
+
+part-round : (o : Option of.Begun) (epoch : ℕ) (h : History) → Whole epoch h → Part epoch (onto h (round_rule (reading h) (of.course o (rows_now h))))
+part-round None epoch h w = part-idle (is_free (reading h)) epoch h (part-of epoch h w)
+part-round (Some r) epoch h w = part-going (two_ready (rows_now h)) epoch r h w
+
+part-token : (o : Option ℕ) (epoch : ℕ) (h : History) → Whole epoch h → Part epoch (onto h (token_rule o (reading h)))
+part-token (Some c) epoch h w = part-mild epoch (Gave c Interact ∷ []) h (refl, tt) (refl, tt) (part-of epoch h w)
+part-token None epoch h w = part-round (of.running h) epoch h w
+
+whole-with : (epoch : ℕ) (h : History) → Good h → Orderly epoch h → Part epoch h → Whole epoch h
+whole-with epoch h g o p = record { good = g; orderly = o; carried = p.carried; few_live = p.few_live; few_pending = p.few_pending }
+
+whole-rule : (epoch : ℕ) (h : History) → Whole epoch h → Whole epoch (onto h (rule (reading h)))
+whole-rule epoch h w =
+    whole-with epoch (onto h (rule (reading h))) (good-rule h w.good) (orderly-onto epoch (rule (reading h)) h (proper-rule epoch h w.orderly.is_of w.orderly.tidy) w.orderly) (part-token (next_holder (of.is_held h) (of.waiting h)) epoch h w)
+
+whole-on : (epoch n : ℕ) (h : History) (moves : List Move) → Whole epoch h → Whole epoch (onto h moves) → ((g : History) → Whole epoch g → Whole epoch (settle n g)) → Whole epoch (go_on (λ g. settle n g) h moves)
+whole-on epoch n h [] w k s = w
+whole-on epoch n h (m ∷ moves) w k s = s (onto h (m ∷ moves)) k
+
+whole-settle : (epoch n : ℕ) (h : History) → Whole epoch h → Whole epoch (settle n h)
+whole-settle epoch zero h w = w
+whole-settle epoch (suc n) h w = whole-on epoch n h (rule (reading h)) w (whole-rule epoch h w) (λ g k. whole-settle epoch n g k)
