@@ -25,3 +25,4 @@ pub mod Ruly
 pub mod Lawfuls
 pub mod Left
 pub mod Whole
+pub mod WholeReply

@@ -62,15 +62,15 @@ abbrev pub AllMild : List Move → Type 0
 AllMild [] = Unit {0}
 AllMild (m ∷ moves) = IsMild m × AllMild moves
 
-mild-append : (xs ys : List Move) → AllMild xs → AllMild ys → AllMild (xs ++ ys)
+pub mild-append : (xs ys : List Move) → AllMild xs → AllMild ys → AllMild (xs ++ ys)
 mild-append [] ys p q = q
 mild-append (x ∷ xs) ys p q = (p.0, mild-append xs ys p.1 q)
 
-mild-gave : (m : XsmpMessage) (conns : List ℕ) → is_reply m ≡ false → AllMild (gave_each m conns)
+pub mild-gave : (m : XsmpMessage) (conns : List ℕ) → is_reply m ≡ false → AllMild (gave_each m conns)
 mild-gave m [] e = tt
 mild-gave m (c ∷ conns) e = (e, mild-gave m conns e)
 
-mild-tried : (cause : Cause) (commands : List Command) → AllMild (tried_each cause commands)
+pub mild-tried : (cause : Cause) (commands : List Command) → AllMild (tried_each cause commands)
 mild-tried cause [] = tt
 mild-tried cause (c ∷ commands) = (tt, mild-tried cause commands)
 
@@ -90,7 +90,7 @@ lawful-written : (epoch : ℕ) (m : Move) (h : History) → Lawful epoch m h →
 lawful-written epoch (Committed book) h l = l.0
 lawful-written epoch m h l = tt
 
-carried-step : (epoch : ℕ) (m : Move) (h : History) → Lawful epoch m h → Proper epoch m → Once (of.registered (m ▷ h)) → Carried epoch h → Carried epoch (m ▷ h)
+pub carried-step : (epoch : ℕ) (m : Move) (h : History) → Lawful epoch m h → Proper epoch m → Once (of.registered (m ▷ h)) → Carried epoch h → Carried epoch (m ▷ h)
 carried-step epoch m h l p o c = record { tidy = tidy-step epoch m h p c.tidy; once = o; ruly = ruly-step epoch m h l c.tidy o c.ruly; written = (lawful-written epoch m h l, c.written) }
 
 mild-given : (epoch c : ℕ) (m : XsmpMessage) (h : History) → is_reply m ≡ false → Lawful epoch (Gave c m) h
@@ -146,7 +146,7 @@ known-same book h e q s = ap (λ (b : Bool). b || has_id q (held_ids h)) (ap (λ
 
 -- The discards after a book
 
-carried-issue : (epoch : ℕ) (book : Book) (commands : List Command) (h : History) → KeepsRules book → IsOf epoch book → of.book h ≡ book → Carried epoch h → Carried epoch (onto h (issue book commands))
+pub carried-issue : (epoch : ℕ) (book : Book) (commands : List Command) (h : History) → KeepsRules book → IsOf epoch book → of.book h ≡ book → Carried epoch h → Carried epoch (onto h (issue book commands))
 carried-issue epoch book [] h k i e c = c
 carried-issue epoch book (command ∷ commands) h k i e c =
     let tried : List Move = tried_each Discard (command ∷ commands) in
@@ -156,12 +156,12 @@ carried-issue epoch book (command ∷ commands) h k i e c =
     subst (λ (x : History). Carried epoch x) (sym (onto-append h tried (Committed left ∷ [])))
       (committed epoch left g (rules-without book (command ∷ commands) k) i (λ q s. known-same book g same q s) (carried-mild epoch tried h (mild-tried Discard (command ∷ commands)) (proper-tried epoch Discard (command ∷ commands)) c))
 
-pending-issue : (book : Book) (commands : List Command) (h : History) → of.book h ≡ book → (of.book (onto h (issue book commands))).pending ≡ without_commands commands book.pending
+pub pending-issue : (book : Book) (commands : List Command) (h : History) → of.book h ≡ book → (of.book (onto h (issue book commands))).pending ≡ without_commands commands book.pending
 pending-issue book [] h e = ap (λ (x : Book). x.pending) e ∙ sym (without-none book.pending)
 pending-issue book (command ∷ commands) h e =
     ap (λ (x : History). (of.book x).pending) (onto-append h (tried_each Discard (command ∷ commands)) (Committed (record book { pending = without_commands (command ∷ commands) book.pending }) ∷ []))
 
-live-issue : (book : Book) (commands : List Command) (h : History) → length (of.live (onto h (issue book commands))) ≤ length (of.live h)
+pub live-issue : (book : Book) (commands : List Command) (h : History) → length (of.live (onto h (issue book commands))) ≤ length (of.live h)
 live-issue book [] h = omega arith
 live-issue book (command ∷ commands) h =
     let e : length (of.live (onto h (issue book (command ∷ commands)))) ≡ length (of.live (onto h (tried_each Discard (command ∷ commands)))) =
@@ -183,10 +183,10 @@ pub record Part (epoch : ℕ) (h : History) : Type 0 where
   pub few_live : length (of.live h) ≤ 64
   pub few_pending : length (of.book h).pending ≤ 64
 
-part-of : (epoch : ℕ) (h : History) → Whole epoch h → Part epoch h
+pub part-of : (epoch : ℕ) (h : History) → Whole epoch h → Part epoch h
 part-of epoch h w = record { carried = w.carried; few_live = w.few_live; few_pending = w.few_pending }
 
-part-mild : (epoch : ℕ) (moves : List Move) (h : History) → AllMild moves → AllProper epoch moves → Part epoch h → Part epoch (onto h moves)
+pub part-mild : (epoch : ℕ) (moves : List Move) (h : History) → AllMild moves → AllProper epoch moves → Part epoch h → Part epoch (onto h moves)
 part-mild epoch moves h e p w = record {
   carried = carried-mild epoch moves h e p w.carried;
   few_live = omega (arith, live-mild moves h e, w.few_live);
@@ -202,7 +202,7 @@ few-registered : (epoch : ℕ) (h : History) → Good h → Carried epoch h → 
 few-registered epoch h g c = fewer-conns (of.registered h) (of.live h) c.once (λ d i. (c.ruly).there d (registered-some (of.phase_of d h) (sym (g.sound.registered_are d) ∙ i)))
 
 -- a book is written, moves that are mild follow, and then the discards
-part-written : (epoch : ℕ) (book : Book) (moves : List Move) (h g : History) → g ≡ onto (Committed book ▷ h) (moves ++ discarded (reading h).clients book) → KeepsRules book → IsOf epoch book → ((q : List ℕ) → has_id q (ids_of book.entries) ≡ true → IsKnown q h)
+pub part-written : (epoch : ℕ) (book : Book) (moves : List Move) (h g : History) → g ≡ onto (Committed book ▷ h) (moves ++ discarded (reading h).clients book) → KeepsRules book → IsOf epoch book → ((q : List ℕ) → has_id q (ids_of book.entries) ≡ true → IsKnown q h)
     → AllMild moves → AllProper epoch moves → Whole epoch h → Part epoch g
 part-written epoch book moves h g is k i n e p w =
     let after : History = onto (Committed book ▷ h) moves in
@@ -282,7 +282,7 @@ part-token : (o : Option ℕ) (epoch : ℕ) (h : History) → Whole epoch h → 
 part-token (Some c) epoch h w = part-mild epoch (Gave c Interact ∷ []) h (refl, tt) (refl, tt) (part-of epoch h w)
 part-token None epoch h w = part-round (of.running h) epoch h w
 
-whole-with : (epoch : ℕ) (h : History) → Good h → Orderly epoch h → Part epoch h → Whole epoch h
+pub whole-with : (epoch : ℕ) (h : History) → Good h → Orderly epoch h → Part epoch h → Whole epoch h
 whole-with epoch h g o p = record { good = g; orderly = o; carried = p.carried; few_live = p.few_live; few_pending = p.few_pending }
 
 whole-rule : (epoch : ℕ) (h : History) → Whole epoch h → Whole epoch (onto h (rule (reading h)))
@@ -293,6 +293,6 @@ whole-on : (epoch n : ℕ) (h : History) (moves : List Move) → Whole epoch h �
 whole-on epoch n h [] w k s = w
 whole-on epoch n h (m ∷ moves) w k s = s (onto h (m ∷ moves)) k
 
-whole-settle : (epoch n : ℕ) (h : History) → Whole epoch h → Whole epoch (settle n h)
+pub whole-settle : (epoch n : ℕ) (h : History) → Whole epoch h → Whole epoch (settle n h)
 whole-settle epoch zero h w = w
 whole-settle epoch (suc n) h w = whole-on epoch n h (rule (reading h)) w (whole-rule epoch h w) (λ g k. whole-settle epoch n g k)

@@ -1,0 +1,162 @@
+-- The answers write books that keep the rules, and so does every run.
+use Rattle.std.proofs.Common.{◌≡◌, refl, ℕ, zero, suc, ◌+◌, ◌*◌, ◌<◌, ◌≤◌, Bool, true, false, cond, not, ◌&&◌, ◌||◌, List, [], ◌∷◌, ◌++◌, map, filter, length, eqb, sym, ap, subst, ◌∙◌, arith, rules, inl, inr, length-append}
+use Rattle.std.specs.Prelude.{Option, Some, None, is_some, is_none, find, filter_map, codes, nat_le, ◌⊎◌}
+use Rattle.std.specs.List.{AllByRecursion, IsDistinct, list_any}
+use Rattle.std.specs.Str.{bytes_eq}
+use Rattle.std.proofs.lemmas.Bool.Decides.{nat_tests}
+use Rattle.sm_world.specs.declared.commands.Command.{Command}
+use Rattle.sm_world.specs.declared.events.Order.{Order}
+use Rattle.sm_world.specs.declared.events.Order.TheVariants.{Checkpoint, Shutdown, Cancel, Status, DropConn, Forget}
+use Rattle.xsmp_properties.specs.Tables.{set_all}
+use Rattle.checkpoint_records.specs.declared.records.Book.{Book}
+use Rattle.checkpoint_records.specs.declared.records.Entry.{Entry}
+use Rattle.checkpoint_records.specs.Rules.{client_id, ids_of, KeepsRules}
+use Rattle.round_agreement.specs.declared.wanted.Wanted.{Wanted}
+use Rattle.round_agreement.specs.Agreement.{Agreement, two_ready, agreed, deserted, is_nil, conns_of}
+use Rattle.interact_queue.specs.Queue.{is_in, without, next_holder}
+use Rattle.restart_plan.specs.Restarts.{respawn, opening_restarts}
+use Rattle.discard_ledger.specs.Discards.{issuable, without_commands}
+use Rattle.xsmp_messages.specs.declared.message.XsmpMessage.{XsmpMessage}
+use Rattle.xsmp_messages.specs.declared.message.XsmpMessage.TheVariants.{Error, RegisterClient, RegisterClientReply, SaveYourself, SaveYourselfRequest, InteractRequest, Interact, InteractDone, SaveYourselfDone, Die, ShutdownCancelled, ConnectionClosed, SetProperties, DeleteProperties, GetProperties, GetPropertiesReply, SaveYourselfPhase2Request, SaveYourselfPhase2, SaveComplete}
+use Rattle.session_model.specs.declared.phase.Phase.{Phase}
+use Rattle.session_model.specs.declared.phase.Phase.TheVariants.{Unregistered, Dying}
+use Rattle.session_model.specs.declared.waits.Wait.{Wait}
+use Rattle.session_model.specs.declared.events.SessionEvent.{SessionEvent}
+use Rattle.session_model.specs.declared.events.SessionEvent.TheVariants.{Joined, Ready, Said, Left, Operator}
+use Rattle.session_model.specs.Phases.{is_bound, is_registered, is_unregistered, is_dying, is_owing, is_saving, is_first_saving, is_interacting, is_shutdown, may_interact}
+use Rattle.session_model.specs.Tables.{is_full, entry_of, is_recorded, has_id}
+use Rattle.session_model.specs.Errors.{Arrival, no_room, bad_id, full_table, lone_shutdown}
+use Rattle.session_model.specs.Moves.{Move, Cause, Outside, Gave, Blamed, Unset, Closed, Began, Over, Cancelled, Agreed, Tried, Committed, Printed, Finished, Discard, End, Restart, History, Opened, ◌▷◌, onto, gave_each, tried_each}
+use Rattle.session_model.specs.Readings as of
+use Rattle.session_model.specs.Reading.{Clients, Reading, reading, wanted_in, client_of, has_that_id}
+use Rattle.session_model.specs.Books.{next_book, next_entries, book_forgetting, issue, discarded, standing, command_anyway, opening_moves, raised}
+use Rattle.session_model.specs.Replies.{refused, or_bad_state, respawn_moves, entry_respawn, id_respawn, respawned, depart, has_no_room, known_ids, enter, may_rejoin, rejoin, register, called_off, want_cancel, answered, unless_dying, said, resigned, forgotten, forget_one, forget, may_wait, ordered, has_no_place, reply, status_text}
+use Rattle.session_model.specs.Rules.{last_command, ended, completed, agreement, agreement_with, wanting_two, over_rule, agreed_rule, running_rule, save_yourself, members_for, begin, begin_first, is_free, idle_rule, round_rule, token_rule, rule, go_on, settle, settled, finished, taken, Takes, opened, run}
+use Rattle.session_model.specs.Laws.{EachMove, IsWritten, AllTake}
+use Rattle.session_model.proofs.Lists.{Once, once-push, once-without}
+use Rattle.session_model.proofs.PhaseSteps.{is_reply}
+use Rattle.session_model.proofs.Level.{Good, onto-append}
+use Rattle.session_model.proofs.Ruled.{rows_now, round_now, closing, good-rule, conns-rows, differ}
+use Rattle.session_model.proofs.Replied.{good-reply, good-taken, good-opened, unregistered-is, cond-same}
+use Rattle.session_model.proofs.Tidy.{Tidy, Proper, AllProper, tidy-step}
+use Rattle.session_model.proofs.Propers.{proper-rule, proper-reply, proper-issue, proper-tried, proper-gave, proper-closed, proper-ended, proper-completed, IsOf, is-next, is-forgetting}
+use Rattle.session_model.proofs.TidyRun.{Orderly, orderly-onto, orderly-step}
+use Rattle.session_model.proofs.Pending.{filter-len, rules-without}
+use Rattle.session_model.proofs.Names.{have-ids}
+use Rattle.session_model.proofs.NextIds.{next-distinct}
+use Rattle.session_model.proofs.Room.{held_ids, known_with, room-kept}
+use Rattle.session_model.proofs.Ruly.{Lawful, Ruly, ruly-step, IsKnown, own_text, held-distinct}
+use Rattle.session_model.proofs.Lawfuls.{next-known, rules-next_book, rules-forgetting, forgetting-known}
+use Rattle.session_model.proofs.Left.{left-few, without-none, fewer-conns, few-standing}
+use Rattle.session_model.proofs.Ruled.{any-in}
+use Rattle.session_model.proofs.Names.{IsFree}
+use Rattle.session_model.proofs.Whole.{IsMild, AllMild, mild-append, mild-gave, mild-tried, Carried, carried-step, carried-issue, Whole, Part, part-of, part-mild, part-written, whole-with, whole-settle, pending-issue, live-issue}
+
+-- Mild answers
+
+mild-cond : (b : Bool) (xs ys : List Move) → AllMild xs → AllMild ys → AllMild (cond b xs ys)
+mild-cond true xs ys p q = p
+mild-cond false xs ys p q = q
+
+mild-or-bad : (b : Bool) (x : Arrival) (moves : List Move) → AllMild moves → AllMild (or_bad_state b x moves)
+mild-or-bad true x moves p = p
+mild-or-bad false x moves p = (tt, tt)
+
+mild-respawn : (id : List ℕ) (command : Option Command) → AllMild (respawn_moves id command)
+mild-respawn id None = tt
+mild-respawn id (Some command) = (tt, tt)
+
+mild-entry : (r : Reading) (id : List ℕ) (entry : Option Entry) → AllMild (entry_respawn r id entry)
+mild-entry r id None = tt
+mild-entry r id (Some entry) = mild-respawn id (respawn entry (r.run.respawns id))
+
+mild-id : (r : Reading) (id : Option (List ℕ)) → AllMild (id_respawn r id)
+mild-id r None = tt
+mild-id r (Some id) = mild-entry r id (entry_of id r.store.book)
+
+mild-respawned : (r : Reading) (c : ℕ) → AllMild (respawned r c)
+mild-respawned r c = mild-cond (is_dying (r.clients.phase c)) [] (id_respawn r (r.clients.id c)) tt (mild-id r (r.clients.id c))
+
+mild-resigned : (command : Option Command) → AllMild (resigned command)
+mild-resigned None = tt
+mild-resigned (Some command) = (tt, tt)
+
+mild-off : (o : Option Agreement) → AllMild (called_off o)
+mild-off None = tt
+mild-off (Some round) = (tt, mild-gave ShutdownCancelled (conns_of round.members) refl)
+
+mild-want_cancel : (b : Bool) (r : Reading) (x : Arrival) → AllMild (want_cancel r x b)
+mild-want_cancel true r x = mild-off r.rounds.running
+mild-want_cancel false r x = (tt, tt)
+
+-- the message that registers
+abbrev registers : XsmpMessage → Bool
+registers (RegisterClient previous) = true
+registers m = false
+
+mild-answered : (r : Reading) (x : Arrival) (m : XsmpMessage) (p : Option Phase) → registers m ≡ false → AllMild (answered r x m p)
+mild-answered r x (RegisterClient previous) p e = absurd (grind arith)
+mild-answered r x (InteractDone true) p e = mild-or-bad (is_owing p || is_interacting p) x _ (mild-cond (is_owing p) [] (want_cancel r x (is_shutdown (wanted_in r.rounds.running))) tt (mild-want_cancel (is_shutdown (wanted_in r.rounds.running)) r x))
+mild-answered r x (InteractDone false) p e = mild-or-bad (is_owing p || is_interacting p) x [] tt
+mild-answered r x (SetProperties list) p e = mild-or-bad (is_bound p) x _ (mild-cond (is_full (set_all (r.clients.table x.conn) list)) (Blamed x.conn (full_table x) ∷ []) [] (tt, tt) tt)
+mild-answered r x (DeleteProperties names) p e = mild-or-bad (is_bound p) x [] tt
+mild-answered r x GetProperties p e = mild-or-bad (is_bound p) x _ (refl, tt)
+mild-answered r x (SaveYourselfRequest kind shutdown style fast global) p e = mild-or-bad (is_bound p) x _ (mild-cond (shutdown && not global) (Blamed x.conn (lone_shutdown x) ∷ []) [] (tt, tt) tt)
+mild-answered r x (InteractRequest dialog) p e = mild-or-bad (is_owing p || is_saving p && may_interact (wanted_in r.rounds.running) dialog) x [] tt
+mild-answered r x (SaveYourselfDone success) p e = mild-or-bad (is_owing p || is_saving p) x [] tt
+mild-answered r x SaveYourselfPhase2Request p e = mild-or-bad (is_owing p || is_first_saving p) x [] tt
+mild-answered r x m p e = (tt, tt)
+
+-- Registration
+
+part-cond : (epoch : ℕ) (b : Bool) (xs ys : List Move) (h : History) → (b ≡ true → Part epoch (onto h xs)) → (b ≡ false → Part epoch (onto h ys)) → Part epoch (onto h (cond b xs ys))
+part-cond epoch true xs ys h f g = f refl
+part-cond epoch false xs ys h f g = g refl
+
+part-replied : (epoch c : ℕ) (id : List ℕ) (h : History) → Lawful epoch (Gave c (RegisterClientReply id)) h → Proper epoch (Gave c (RegisterClientReply id)) → Good h → Part epoch h → Part epoch (Gave c (RegisterClientReply id) ▷ h)
+part-replied epoch c id h l p g w =
+    let free : is_in c (of.registered h) ≡ false = g.sound.registered_are c ∙ ap (λ (q : Option Phase). is_registered q) l.0 in
+    record { carried = carried-step epoch (Gave c (RegisterClientReply id)) h l p (once-push c (of.registered h) w.carried.once free) w.carried; few_live = w.few_live; few_pending = w.few_pending }
+
+length-ids : (entries : List Entry) → length (ids_of entries) ≡ length entries
+length-ids [] = refl
+length-ids (entry ∷ entries) = ap suc (length-ids entries)
+
+known-len : (h : History) → length (known_with (of.book h).entries (held_ids h)) ≡ known_ids (reading h)
+known-len h = omega (arith, length-append (ids_of (of.book h).entries) (filter (λ id. not (is_recorded id (of.book h))) (held_ids h)), length-ids (of.book h).entries)
+
+no-room : (h : History) (k n : ℕ) → (nat_le 128 k || nat_le 4294967295 n) ≡ false → (k < 128) × (n + 1 < 4294967296)
+no-room h k n e = room-at (nat_le 128 k) refl e where
+  room-at : (b : Bool) → nat_le 128 k ≡ b → (b || nat_le 4294967295 n) ≡ false → (k < 128) × (n + 1 < 4294967296)
+  room-at true s e = absurd (grind arith)
+  room-at false s e = (grind (arith, nat_tests), grind (arith, nat_tests))
+
+-- the next new ID is nobody's
+new-free : (epoch : ℕ) (h : History) → (of.book h).epoch ≡ epoch → Ruly epoch h → of.given h + 1 < 4294967296 → IsFree (client_id (of.book h).epoch (of.given h + 1)) h
+new-free epoch h e r l c s = r.numbered.held c (client_id (of.book h).epoch (of.given h + 1)) s (of.given h + 1) (omega arith) l (ap (λ (n : ℕ). client_id n (of.given h + 1)) e)
+
+some-any : (test : ℕ → Bool) (cs : List ℕ) → is_some (find test cs) ≡ list_any test cs
+some-any test [] = refl
+some-any test (c ∷ cs) = some-at (test c) (find test cs) (list_any test cs) (some-any test cs) where
+  some-at : (b : Bool) (o : Option ℕ) (a : Bool) → is_some o ≡ a → is_some (cond b (Some c) o) ≡ (b || a)
+  some-at true o a e = refl
+  some-at false o a e = e
+
+-- who has an ID is found by it
+found-free : (h : History) (id : List ℕ) → is_none (client_of id (reading h).clients) ≡ true → IsFree id h
+found-free h id n c e =
+    let there : is_in c (of.registered h) ≡ true = sym (have-ids h c) ∙ ap (λ (o : Option (List ℕ)). is_some o) e in
+    let test : has_that_id id (of.id_of c h) ≡ true = ap (λ (o : Option (List ℕ)). has_that_id id o) e ∙ own_text id in
+    let found : is_some (client_of id (reading h).clients) ≡ true = some-any (λ d. has_that_id id (of.id_of d h)) (of.registered h) ∙ any-in (λ d. has_that_id id (of.id_of d h)) c (of.registered h) there test in
+    not-both (is_some (client_of id (reading h).clients)) found n where
+  not-both : (b : Bool) → b ≡ true → not b ≡ true → ⊥
+  not-both true e f = grind arith
+  not-both false e f = grind arith
+
+and-first : (x y : Bool) → (x && y) ≡ true → x ≡ true
+and-first true y e = refl
+and-first false y e = e
+
+and-second : (x y : Bool) → (x && y) ≡ true → y ≡ true
+and-second true y e = e
+and-second false y e = absurd (grind arith)
