@@ -160,3 +160,73 @@ and-first false y e = e
 and-second : (x y : Bool) → (x && y) ≡ true → y ≡ true
 and-second true y e = e
 and-second false y e = absurd (grind arith)
+
+-- a message that is heard is carried
+
+part-heard : (epoch c : ℕ) (m : XsmpMessage) (sequence : ℕ) (frame : List ℕ) (h : History) → Part epoch h → Part epoch (Outside (Said c m sequence frame) ▷ h)
+part-heard epoch c m sequence frame h w = record { carried = carried-step epoch (Outside (Said c m sequence frame)) h tt tt w.carried.once w.carried; few_live = w.few_live; few_pending = w.few_pending }
+
+part-enter : (epoch c : ℕ) (previous : List ℕ) (sequence : ℕ) (frame : List ℕ) (h : History) (x : Arrival) → x.conn ≡ c → of.phase_of c (Outside (Said c (RegisterClient previous) sequence frame) ▷ h) ≡ Some Unregistered → AllProper epoch (enter (reading h) x) → Good (Outside (Said c (RegisterClient previous) sequence frame) ▷ h)
+    → Whole epoch h → Part epoch (onto (Outside (Said c (RegisterClient previous) sequence frame) ▷ h) (enter (reading h) x))
+part-enter epoch c previous sequence frame h x is u p g w = enter-at (has_no_room (reading h)) refl p where
+  enter-at : (b : Bool) → has_no_room (reading h) ≡ b → AllProper epoch (cond b (Blamed x.conn (no_room x) ∷ Unset x.conn ∷ []) (Gave x.conn (RegisterClientReply (client_id (of.book h).epoch (of.given h + 1))) ∷ []))
+      → Part epoch (onto (Outside (Said c (RegisterClient previous) sequence frame) ▷ h) (cond b (Blamed x.conn (no_room x) ∷ Unset x.conn ∷ []) (Gave x.conn (RegisterClientReply (client_id (of.book h).epoch (of.given h + 1))) ∷ [])))
+  enter-at true e p = part-mild epoch (Blamed x.conn (no_room x) ∷ Unset x.conn ∷ []) (Outside (Said c (RegisterClient previous) sequence frame) ▷ h) (tt, (tt, tt)) p (part-heard epoch c (RegisterClient previous) sequence frame h (part-of epoch h w))
+  enter-at false e p =
+      let room : (known_ids (reading h) < 128) × (of.given h + 1 < 4294967296) = no-room h (known_ids (reading h)) (of.given h) e in
+      part-replied epoch x.conn (client_id (of.book h).epoch (of.given h + 1)) (Outside (Said c (RegisterClient previous) sequence frame) ▷ h)
+        (subst (λ (d : ℕ). of.phase_of d (Outside (Said c (RegisterClient previous) sequence frame) ▷ h) ≡ Some Unregistered) (sym is) u, new-free epoch h w.orderly.is_of w.carried.ruly room.1,
+          (λ n. (ap (λ (k : ℕ). client_id k (of.given h + 1)) w.orderly.is_of, room.1, omega (arith, known-len h, room.0))))
+        p.0 g (part-heard epoch c (RegisterClient previous) sequence frame h (part-of epoch h w))
+
+part-rejoin : (epoch c : ℕ) (previous : List ℕ) (sequence : ℕ) (frame : List ℕ) (h : History) (x : Arrival) (id : List ℕ) → x.conn ≡ c → of.phase_of c (Outside (Said c (RegisterClient previous) sequence frame) ▷ h) ≡ Some Unregistered → AllProper epoch (rejoin (reading h) x id) → Good (Outside (Said c (RegisterClient previous) sequence frame) ▷ h)
+    → Whole epoch h → Part epoch (onto (Outside (Said c (RegisterClient previous) sequence frame) ▷ h) (rejoin (reading h) x id))
+part-rejoin epoch c previous sequence frame h x id is u p g w = rejoin-at (may_rejoin (reading h) id) refl p where
+  rejoin-at : (b : Bool) → may_rejoin (reading h) id ≡ b → AllProper epoch (cond b (Gave x.conn (RegisterClientReply id) ∷ []) (Blamed x.conn (bad_id x) ∷ []))
+      → Part epoch (onto (Outside (Said c (RegisterClient previous) sequence frame) ▷ h) (cond b (Gave x.conn (RegisterClientReply id) ∷ []) (Blamed x.conn (bad_id x) ∷ [])))
+  rejoin-at false e p = part-mild epoch (Blamed x.conn (bad_id x) ∷ []) (Outside (Said c (RegisterClient previous) sequence frame) ▷ h) (tt, tt) p (part-heard epoch c (RegisterClient previous) sequence frame h (part-of epoch h w))
+  rejoin-at true e p =
+      part-replied epoch x.conn id (Outside (Said c (RegisterClient previous) sequence frame) ▷ h)
+        (subst (λ (d : ℕ). of.phase_of d (Outside (Said c (RegisterClient previous) sequence frame) ▷ h) ≡ Some Unregistered) (sym is) u,
+          found-free h id (and-second (is_recorded id (of.book h)) (is_none (client_of id (reading h).clients)) e),
+          (λ n. absurd (differ (and-first (is_recorded id (of.book h)) (is_none (client_of id (reading h).clients)) e) n)))
+        p.0 g (part-heard epoch c (RegisterClient previous) sequence frame h (part-of epoch h w))
+
+part-register : (epoch c : ℕ) (previous : List ℕ) (sequence : ℕ) (frame : List ℕ) (h : History) (x : Arrival) (id : List ℕ) → x.conn ≡ c → of.phase_of c (Outside (Said c (RegisterClient previous) sequence frame) ▷ h) ≡ Some Unregistered → AllProper epoch (register (reading h) x id) → Good (Outside (Said c (RegisterClient previous) sequence frame) ▷ h)
+    → Whole epoch h → Part epoch (onto (Outside (Said c (RegisterClient previous) sequence frame) ▷ h) (register (reading h) x id))
+part-register epoch c previous sequence frame h x [] is u p g w = part-enter epoch c previous sequence frame h x is u p g w
+part-register epoch c previous sequence frame h x (b ∷ id) is u p g w = part-rejoin epoch c previous sequence frame h x (b ∷ id) is u p g w
+
+-- Messages
+
+part-registers : (b : Bool) (epoch c : ℕ) (previous : List ℕ) (sequence : ℕ) (frame : List ℕ) (h : History) (x : Arrival) → x.conn ≡ c → (b ≡ true → of.phase_of c (Outside (Said c (RegisterClient previous) sequence frame) ▷ h) ≡ Some Unregistered)
+    → AllProper epoch (or_bad_state b x (register (reading h) x previous)) → Good (Outside (Said c (RegisterClient previous) sequence frame) ▷ h) → Whole epoch h
+    → Part epoch (onto (Outside (Said c (RegisterClient previous) sequence frame) ▷ h) (or_bad_state b x (register (reading h) x previous)))
+part-registers true epoch c previous sequence frame h x is u p g w = part-register epoch c previous sequence frame h x previous is (u refl) p g w
+part-registers false epoch c previous sequence frame h x is u p g w = part-mild epoch (refused x) (Outside (Said c (RegisterClient previous) sequence frame) ▷ h) (tt, tt) p (part-heard epoch c (RegisterClient previous) sequence frame h (part-of epoch h w))
+
+part-answered : (epoch c : ℕ) (m : XsmpMessage) (sequence : ℕ) (frame : List ℕ) (h : History) (p : Option Phase) → of.phase_of c h ≡ p → AllProper epoch (answered (reading h) (record { conn = c; message = m; sequence = sequence; frame = frame }) m p) → Good (Outside (Said c m sequence frame) ▷ h) → Whole epoch h
+    → Part epoch (onto (Outside (Said c m sequence frame) ▷ h) (answered (reading h) (record { conn = c; message = m; sequence = sequence; frame = frame }) m p))
+part-answered epoch c (RegisterClient previous) sequence frame h p e a g w =
+    part-registers (is_unregistered p) epoch c previous sequence frame h (record { conn = c; message = RegisterClient previous; sequence = sequence; frame = frame }) refl (λ u. cond-same (eqb c c) (of.phase_of c h) ∙ e ∙ unregistered-is p u) a g w
+part-answered epoch c m sequence frame h p e a g w =
+    part-mild epoch (answered (reading h) (record { conn = c; message = m; sequence = sequence; frame = frame }) m p) (Outside (Said c m sequence frame) ▷ h)
+      (mild-answered (reading h) (record { conn = c; message = m; sequence = sequence; frame = frame }) m p refl) a (part-heard epoch c m sequence frame h (part-of epoch h w))
+
+part-unless : (epoch c : ℕ) (m : XsmpMessage) (sequence : ℕ) (frame : List ℕ) (h : History) (p : Option Phase) → of.phase_of c h ≡ p → AllProper epoch (unless_dying (reading h) (record { conn = c; message = m; sequence = sequence; frame = frame }) p) → Good (Outside (Said c m sequence frame) ▷ h) → Whole epoch h
+    → Part epoch (onto (Outside (Said c m sequence frame) ▷ h) (unless_dying (reading h) (record { conn = c; message = m; sequence = sequence; frame = frame }) p))
+part-unless epoch c m sequence frame h (Some Dying) e a g w = part-heard epoch c m sequence frame h (part-of epoch h w)
+part-unless epoch c m sequence frame h None e a g w = part-answered epoch c m sequence frame h None e a g w
+part-unless epoch c m sequence frame h (Some p) e a g w = part-answered epoch c m sequence frame h (Some p) e a g w
+
+part-said : (epoch c : ℕ) (m : XsmpMessage) (sequence : ℕ) (frame : List ℕ) (h : History) → AllProper epoch (said (reading h) (record { conn = c; message = m; sequence = sequence; frame = frame }) m) → Good (Outside (Said c m sequence frame) ▷ h) → Whole epoch h
+    → Part epoch (onto (Outside (Said c m sequence frame) ▷ h) (said (reading h) (record { conn = c; message = m; sequence = sequence; frame = frame }) m))
+part-said epoch c (ConnectionClosed reasons) sequence frame h a g w =
+    part-mild epoch (depart (reading h) c) (Outside (Said c (ConnectionClosed reasons) sequence frame) ▷ h) (tt, mild-respawned (reading h) c) a (part-heard epoch c (ConnectionClosed reasons) sequence frame h (part-of epoch h w))
+part-said epoch c (Error error) sequence frame h a g w = part-heard epoch c (Error error) sequence frame h (part-of epoch h w)
+part-said epoch c m sequence frame h a g w = part-unless epoch c m sequence frame h (of.phase_of c h) refl a g w
+
+-- Orders
+
+part-order : (epoch : ℕ) (order : Order) (h : History) → Part epoch h → Part epoch (Outside (Operator order) ▷ h)
+part-order epoch order h w = record { carried = carried-step epoch (Outside (Operator order)) h tt tt w.carried.once w.carried; few_live = w.few_live; few_pending = w.few_pending }
