@@ -65,11 +65,11 @@ orderly-run epoch (event ∷ events) h one o = orderly-run epoch events (taken e
 later-id : (epoch : ℕ) (id : List ℕ) → IsClientId epoch id → IsClientId (epoch + 1) id
 later-id epoch id i = record { epoch = i.epoch; number = i.number; first = i.first; last = omega (arith, i.last); fits = i.fits; is = i.is }
 
-later-entries : (epoch : ℕ) (entries : List Entry) → AllByRecursion (IsEntry epoch) entries → AllByRecursion (IsEntry (epoch + 1)) entries
+pub later-entries : (epoch : ℕ) (entries : List Entry) → AllByRecursion (IsEntry epoch) entries → AllByRecursion (IsEntry (epoch + 1)) entries
 later-entries epoch [] a = tt
 later-entries epoch (entry ∷ entries) a = (record { id = later-id epoch entry.id a.0.id; table = a.0.table }, later-entries epoch entries a.1)
 
-tidy-start : (book : Book) → AllByRecursion (IsEntry book.epoch) book.entries → Tidy (book.epoch + 1) (Opened book)
+pub tidy-start : (book : Book) → AllByRecursion (IsEntry book.epoch) book.entries → Tidy (book.epoch + 1) (Opened book)
 tidy-start book a = record { tables = λ c. empty-table; snapshots = λ c. tt; ids = λ c. tt; entries = later-entries book.epoch book.entries a }
 
 orderly-raised : (book : Book) → AllByRecursion (IsEntry book.epoch) book.entries → Orderly (book.epoch + 1) (Committed (raised book) ▷ Opened book)
@@ -77,7 +77,7 @@ orderly-raised book a =
     let p : Proper (book.epoch + 1) (Committed (raised book)) = (refl, later-entries book.epoch book.entries a) in
     record { is_of = refl; tidy = tidy-step (book.epoch + 1) (Committed (raised book)) (Opened book) p (tidy-start book a); each = (p, tt) }
 
-orderly-opened : (book : Book) → AllByRecursion (IsEntry book.epoch) book.entries → Orderly (book.epoch + 1) (opened book)
+pub orderly-opened : (book : Book) → AllByRecursion (IsEntry book.epoch) book.entries → Orderly (book.epoch + 1) (opened book)
 orderly-opened book a =
     orderly-onto (book.epoch + 1) (issue (raised book) book.pending ++ tried_each Restart (opening_restarts book.entries)) (Committed (raised book) ▷ Opened book)
       (proper-append (book.epoch + 1) (issue (raised book) book.pending) (tried_each Restart (opening_restarts book.entries))

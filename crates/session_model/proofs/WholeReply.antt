@@ -10,7 +10,8 @@ use Rattle.sm_world.specs.declared.events.Order.TheVariants.{Checkpoint, Shutdow
 use Rattle.xsmp_properties.specs.Tables.{set_all}
 use Rattle.checkpoint_records.specs.declared.records.Book.{Book}
 use Rattle.checkpoint_records.specs.declared.records.Entry.{Entry}
-use Rattle.checkpoint_records.specs.Rules.{client_id, ids_of, KeepsRules}
+use Rattle.checkpoint_records.specs.Books.{same_command}
+use Rattle.checkpoint_records.specs.Rules.{client_id, ids_of, IsEntry, KeepsRules}
 use Rattle.round_agreement.specs.declared.wanted.Wanted.{Wanted}
 use Rattle.round_agreement.specs.Agreement.{Agreement, two_ready, agreed, deserted, is_nil, conns_of}
 use Rattle.interact_queue.specs.Queue.{is_in, without, next_holder}
@@ -35,12 +36,12 @@ use Rattle.session_model.specs.Rules.{last_command, ended, completed, agreement,
 use Rattle.session_model.specs.Laws.{EachMove, IsWritten, AllTake}
 use Rattle.session_model.proofs.Lists.{Once, once-push, once-without}
 use Rattle.session_model.proofs.PhaseSteps.{is_reply}
-use Rattle.session_model.proofs.Level.{Good, onto-append}
+use Rattle.session_model.proofs.Level.{Good, good-plain, onto-append}
 use Rattle.session_model.proofs.Ruled.{rows_now, round_now, closing, good-rule, conns-rows, differ}
 use Rattle.session_model.proofs.Replied.{good-reply, good-taken, good-opened, unregistered-is, cond-same}
 use Rattle.session_model.proofs.Tidy.{Tidy, Proper, AllProper, tidy-step}
 use Rattle.session_model.proofs.Propers.{proper-rule, proper-reply, proper-issue, proper-tried, proper-gave, proper-closed, proper-ended, proper-completed, IsOf, is-next, is-forgetting}
-use Rattle.session_model.proofs.TidyRun.{Orderly, orderly-onto, orderly-step}
+use Rattle.session_model.proofs.TidyRun.{Orderly, orderly-onto, orderly-step, orderly-opened, later-entries, tidy-start}
 use Rattle.session_model.proofs.Pending.{filter-len, rules-without}
 use Rattle.session_model.proofs.Names.{have-ids}
 use Rattle.session_model.proofs.NextIds.{next-distinct}
@@ -49,7 +50,7 @@ use Rattle.session_model.proofs.Ruly.{Lawful, Ruly, ruly-step, IsKnown, own_text
 use Rattle.session_model.proofs.Lawfuls.{next-known, rules-next_book, rules-forgetting, forgetting-known}
 use Rattle.session_model.proofs.Left.{left-few, without-none, fewer-conns, few-standing}
 use Rattle.session_model.proofs.Ruled.{any-in}
-use Rattle.session_model.proofs.Names.{IsFree}
+use Rattle.session_model.proofs.Names.{IsFree, IsBefore, before-earlier}
 use Rattle.session_model.proofs.Whole.{IsMild, AllMild, mild-append, mild-gave, mild-tried, Carried, carried-step, carried-issue, Whole, Part, part-of, part-mild, part-written, whole-with, whole-settle, pending-issue, live-issue}
 
 -- Mild answers
@@ -230,3 +231,166 @@ part-said epoch c m sequence frame h a g w = part-unless epoch c m sequence fram
 
 part-order : (epoch : ℕ) (order : Order) (h : History) → Part epoch h → Part epoch (Outside (Operator order) ▷ h)
 part-order epoch order h w = record { carried = carried-step epoch (Outside (Operator order)) h tt tt w.carried.once w.carried; few_live = w.few_live; few_pending = w.few_pending }
+
+-- the history in which a client is about to be forgotten
+abbrev asked_to_forget : List ℕ → History → History
+asked_to_forget id h = Printed (codes "ok") ▷ Outside (Operator (Forget id)) ▷ h
+
+whole-asked : (epoch : ℕ) (id : List ℕ) (h : History) → Whole epoch h → Whole epoch (asked_to_forget id h)
+whole-asked epoch id h w =
+    whole-with epoch (asked_to_forget id h) (good-plain (Outside (Operator (Forget id)) ∷ Printed (codes "ok") ∷ []) h (tt, (tt, tt)) w.good)
+      (orderly-onto epoch (Outside (Operator (Forget id)) ∷ Printed (codes "ok") ∷ []) h (tt, (tt, tt)) w.orderly)
+      (part-mild epoch (Printed (codes "ok") ∷ []) (Outside (Operator (Forget id)) ▷ h) (tt, tt) (tt, tt) (part-order epoch (Forget id) h (part-of epoch h w)))
+
+proper-resigned : (epoch : ℕ) (command : Option Command) → AllProper epoch (resigned command)
+proper-resigned epoch None = tt
+proper-resigned epoch (Some command) = (tt, tt)
+
+part-forgotten : (epoch : ℕ) (id : List ℕ) (entry : Entry) (h : History) → Whole epoch h → Part epoch (onto (Outside (Operator (Forget id)) ▷ h) (forgotten (reading h) entry (book_forgetting (reading h).store id)))
+part-forgotten epoch id entry h w =
+    let g : History = asked_to_forget id h in
+    let v : Whole epoch g = whole-asked epoch id h w in
+    let book : Book = book_forgetting (reading h).store id in
+    part-written epoch book (resigned (command_anyway (codes "ResignCommand") entry)) g (onto (Outside (Operator (Forget id)) ▷ h) (forgotten (reading h) entry book)) refl
+      (rules-forgetting epoch g id v.orderly.is_of v.carried.tidy v.carried.ruly v.few_pending) (is-forgetting epoch g id v.orderly.is_of v.carried.tidy) (forgetting-known g id)
+      (mild-resigned (command_anyway (codes "ResignCommand") entry)) (proper-resigned epoch (command_anyway (codes "ResignCommand") entry)) v
+
+part-forget_one : (epoch : ℕ) (id : List ℕ) (entry : Option Entry) (h : History) → Whole epoch h → Part epoch (onto (Outside (Operator (Forget id)) ▷ h) (forget_one (reading h) id entry))
+part-forget_one epoch id None h w = part-mild epoch (Printed (codes "unknown") ∷ []) (Outside (Operator (Forget id)) ▷ h) (tt, tt) (tt, tt) (part-order epoch (Forget id) h (part-of epoch h w))
+part-forget_one epoch id (Some entry) h w =
+    part-cond epoch (is_some (client_of id (reading h).clients)) (Printed (codes "live") ∷ []) (forgotten (reading h) entry (book_forgetting (reading h).store id)) (Outside (Operator (Forget id)) ▷ h)
+      (λ e. part-mild epoch (Printed (codes "live") ∷ []) (Outside (Operator (Forget id)) ▷ h) (tt, tt) (tt, tt) (part-order epoch (Forget id) h (part-of epoch h w))) (λ e. part-forgotten epoch id entry h w)
+
+part-ordered : (epoch : ℕ) (order : Order) (h : History) → AllProper epoch (ordered (reading h) order) → Whole epoch h → Part epoch (onto (Outside (Operator order) ▷ h) (ordered (reading h) order))
+part-ordered epoch Checkpoint h p w = part-mild epoch (may_wait (reading h)) (Outside (Operator Checkpoint) ▷ h) (tt, tt) p (part-order epoch Checkpoint h (part-of epoch h w))
+part-ordered epoch Shutdown h p w = part-mild epoch (may_wait (reading h)) (Outside (Operator Shutdown) ▷ h) (tt, tt) p (part-order epoch Shutdown h (part-of epoch h w))
+part-ordered epoch Cancel h p w =
+    part-mild epoch (ordered (reading h) Cancel) (Outside (Operator Cancel) ▷ h)
+      (mild-cond (is_shutdown (wanted_in (of.round h))) (Printed (codes "ok") ∷ called_off (of.round h)) (Printed (codes "no shutdown") ∷ []) (tt, mild-off (of.round h)) (tt, tt)) p (part-order epoch Cancel h (part-of epoch h w))
+part-ordered epoch (DropConn c) h p w =
+    part-mild epoch (ordered (reading h) (DropConn c)) (Outside (Operator (DropConn c)) ▷ h)
+      (mild-cond (is_in c (of.live h)) (Printed (codes "ok") ∷ depart (reading h) c) (Printed (codes "no connection") ∷ []) (tt, (tt, mild-respawned (reading h) c)) (tt, tt)) p (part-order epoch (DropConn c) h (part-of epoch h w))
+part-ordered epoch Status h p w = part-mild epoch (Printed (status_text (reading h)) ∷ []) (Outside (Operator Status) ▷ h) (tt, tt) p (part-order epoch Status h (part-of epoch h w))
+part-ordered epoch (Forget id) h p w =
+    part-cond epoch (of.is_ending h || is_some (of.round h)) (Printed (codes "busy") ∷ []) (forget_one (reading h) id (entry_of id (of.book h))) (Outside (Operator (Forget id)) ▷ h)
+      (λ e. part-mild epoch (Printed (codes "busy") ∷ []) (Outside (Operator (Forget id)) ▷ h) (tt, tt) (tt, tt) (part-order epoch (Forget id) h (part-of epoch h w))) (λ e. part-forget_one epoch id (entry_of id (of.book h)) h w)
+
+-- Events
+
+-- c alone is taken away again
+without-last : (c : ℕ) (cs : List ℕ) → length (without c (cs ++ c ∷ [])) ≤ length cs
+without-last c [] = last-at (eqb c c) (grind (arith, nat_tests)) where
+  last-at : (b : Bool) → b ≡ true → length (cond (not b) (c ∷ []) []) ≤ 0
+  last-at true e = omega arith
+  last-at false e = absurd (grind arith)
+without-last c (d ∷ cs) = rest-at (not (eqb d c)) (without-last c cs) where
+  rest-at : (b : Bool) → length (without c (cs ++ c ∷ [])) ≤ length cs → length (cond b (d ∷ without c (cs ++ c ∷ [])) (without c (cs ++ c ∷ []))) ≤ suc (length cs)
+  rest-at true k = omega (arith, k)
+  rest-at false k = omega (arith, k)
+
+carried-joined : (epoch c : ℕ) (h : History) → Carried epoch h → Carried epoch (Outside (Joined c) ▷ h)
+carried-joined epoch c h k = carried-step epoch (Outside (Joined c)) h tt tt k.once k
+
+part-joined : (b : Bool) (epoch c : ℕ) (h : History) → has_no_place (reading h) ≡ b → Part epoch h → Part epoch (onto (Outside (Joined c) ▷ h) (cond b (Closed c ∷ []) []))
+part-joined true epoch c h e w = record {
+  carried = carried-step epoch (Closed c) (Outside (Joined c) ▷ h) tt tt (once-without c (of.registered h) w.carried.once) (carried-joined epoch c h w.carried);
+  few_live = omega (arith, without-last c (of.live h), w.few_live);
+  few_pending = w.few_pending;
+}
+part-joined false epoch c h e w = record {
+  carried = carried-joined epoch c h w.carried;
+  few_live = omega (arith, length-append (of.live h) (c ∷ []), place (of.is_ending h) (length (of.live h)) e);
+  few_pending = w.few_pending;
+} where
+  place : (b : Bool) (n : ℕ) → (b || nat_le 64 n) ≡ false → n < 64
+  place true n e = absurd (grind arith)
+  place false n e = grind (arith, nat_tests)
+
+part-reply : (epoch : ℕ) (event : SessionEvent) (h : History) → Takes event (reading h) → AllProper epoch (reply (reading h) event) → Good (Outside event ▷ h) → Whole epoch h → Part epoch (onto (Outside event ▷ h) (reply (reading h) event))
+part-reply epoch (Joined c) h t p g w = part-joined (has_no_place (reading h)) epoch c h refl (part-of epoch h w)
+part-reply epoch (Ready c) h t p g w = record { carried = carried-step epoch (Outside (Ready c)) h t.0 tt w.carried.once w.carried; few_live = w.few_live; few_pending = w.few_pending }
+part-reply epoch (Said c m sequence frame) h t p g w = part-said epoch c m sequence frame h p g w
+part-reply epoch (Left c) h t p g w =
+    part-mild epoch (respawned (reading h) c) (Outside (Left c) ▷ h) (mild-respawned (reading h) c) p
+      (record { carried = carried-step epoch (Outside (Left c)) h tt tt (once-without c (of.registered h) w.carried.once) w.carried; few_live = omega (arith, filter-len (λ other. not (eqb other c)) (of.live h), w.few_live); few_pending = w.few_pending })
+part-reply epoch (Operator order) h t p g w = part-ordered epoch order h p w
+
+whole-finish : (b : Bool) (epoch : ℕ) (h : History) → Whole epoch h → Whole epoch (cond b (Finished ▷ h) h)
+whole-finish true epoch h w = whole-with epoch (Finished ▷ h) (good-plain (Finished ∷ []) h (tt, tt) w.good) (orderly-step epoch Finished h tt w.orderly) (part-mild epoch (Finished ∷ []) h (tt, tt) (tt, tt) (part-of epoch h w))
+whole-finish false epoch h w = w
+
+whole-taken : (epoch : ℕ) (event : SessionEvent) (h : History) → 1 ≤ epoch → Takes event (reading h) → Whole epoch h → Whole epoch (taken event h)
+whole-taken epoch event h one t w =
+    let p : AllProper epoch (reply (reading h) event) = proper-reply epoch h event one w.orderly.is_of w.orderly.tidy in
+    let heard : Good (Outside event ▷ h) = good-plain (Outside event ∷ []) h (tt, tt) w.good in
+    let answered_to : History = onto (Outside event ▷ h) (reply (reading h) event) in
+    let answer : Whole epoch answered_to =
+      whole-with epoch answered_to (good-reply event h w.good) (orderly-onto epoch (reply (reading h) event) (Outside event ▷ h) p (orderly-step epoch (Outside event) h tt w.orderly)) (part-reply epoch event h t p heard w) in
+    let rested : History = settled answered_to in
+    whole-finish (of.is_ending rested && is_nil (of.live rested)) epoch rested (whole-settle epoch (4 * length (of.waits answered_to) + 4) answered_to answer)
+
+whole-run : (epoch : ℕ) (events : List SessionEvent) (h : History) → 1 ≤ epoch → AllTake h events → Whole epoch h → Whole epoch (run h events)
+whole-run epoch [] h one a w = w
+whole-run epoch (event ∷ events) h one a w = whole-run epoch events (taken event h) one a.1 (whole-taken epoch event h one a.0 w)
+
+-- The opening
+
+rules-raised : (book : Book) → KeepsRules book → KeepsRules (raised book)
+rules-raised book k = record {
+  few_entries = k.few_entries;
+  few_pending = k.few_pending;
+  entries = later-entries book.epoch book.entries k.entries;
+  commands = k.commands;
+  ids_differ = k.ids_differ;
+  commands_differ = k.commands_differ;
+  none_named = k.none_named;
+}
+
+all-earlier : (epoch : ℕ) (entries : List Entry) → epoch + 1 < 4294967296 → AllByRecursion (IsEntry epoch) entries → AllByRecursion (λ (entry : Entry). IsBefore (epoch + 1) 0 entry.id) entries
+all-earlier epoch [] l a = tt
+all-earlier epoch (entry ∷ entries) l a = (before-earlier epoch entry.id l a.0.id, all-earlier epoch entries l a.1)
+
+carried-start : (book : Book) → KeepsRules book → book.epoch < 4294967295 → Carried (book.epoch + 1) (Opened book)
+carried-start book k l = record {
+  tidy = tidy-start book k.entries;
+  once = tt;
+  ruly = record {
+    own = λ c d id e f. absurd (grind arith);
+    numbered = record { held = λ c id e. absurd (grind arith); entries = all-earlier book.epoch book.entries (omega arith) k.entries };
+    once_members = tt;
+    ids_differ = k.ids_differ;
+    room = omega (arith, length-append (ids_of book.entries) [], length-ids book.entries, k.few_entries);
+    commands = k.commands;
+    commands_differ = k.commands_differ;
+    strays = tt;
+    few_strays = omega arith;
+    there = λ c e. absurd (grind arith);
+  };
+  written = tt;
+}
+
+carried-raised : (book : Book) → KeepsRules book → book.epoch < 4294967295 → Carried (book.epoch + 1) (Committed (raised book) ▷ Opened book)
+carried-raised book k l =
+    carried-step (book.epoch + 1) (Committed (raised book)) (Opened book) (rules-raised book k, λ q e. ap (λ (b : Bool). b || false) e) (refl, later-entries book.epoch book.entries k.entries) tt (carried-start book k l)
+
+none-left : (pending : List Command) → IsDistinct same_command pending → length (without_commands pending pending) ≤ 0
+none-left pending d = subst (λ (xs : List Command). length (without_commands xs pending) ≤ 0) (without-none pending) (left-few [] pending d)
+
+part-opened : (book : Book) → KeepsRules book → book.epoch < 4294967295 → Part (book.epoch + 1) (opened book)
+part-opened book k l =
+    let epoch : ℕ = book.epoch + 1 in
+    let start : History = Committed (raised book) ▷ Opened book in
+    let i : IsOf epoch (raised book) = (refl, later-entries book.epoch book.entries k.entries) in
+    let issued : History = onto start (issue (raised book) book.pending) in
+    let n : length (of.book issued).pending ≡ length (without_commands book.pending book.pending) = ap (λ (xs : List Command). length xs) (pending-issue (raised book) book.pending start refl) in
+    let p : Part epoch issued = record {
+      carried = carried-issue epoch (raised book) book.pending start (rules-raised book k) i refl (carried-raised book k l);
+      few_live = omega (arith, live-issue (raised book) book.pending start);
+      few_pending = omega (arith, n, none-left book.pending k.commands_differ);
+    } in
+    subst (λ (x : History). Part epoch x) (sym (onto-append start (issue (raised book) book.pending) (tried_each Restart (opening_restarts book.entries))))
+      (part-mild epoch (tried_each Restart (opening_restarts book.entries)) issued (mild-tried Restart (opening_restarts book.entries)) (proper-tried epoch Restart (opening_restarts book.entries)) p)
+
+pub books-keep : (book : Book) (events : List SessionEvent) → KeepsRules book → book.epoch < 4294967295 → AllTake (opened book) events → EachMove IsWritten (run (opened book) events)
+books-keep book events k l a =
+    (whole-run (book.epoch + 1) events (opened book) (omega arith) a (whole-with (book.epoch + 1) (opened book) (good-opened book) (orderly-opened book k.entries) (part-opened book k l))).carried.written

@@ -20,6 +20,7 @@ pub use laws::{
     phases_tell_who_waits,
     nobody_waits_twice,
     settling_comes_to_rest,
+    books_keep_rules,
     messages_fit,
     entries_keep_rules,
 };
