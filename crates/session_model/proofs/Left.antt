@@ -1,6 +1,6 @@
 -- After the discards no more commands are pending than clients are registered, and no more than 64 are.
-use Rattle.std.proofs.Common.{◌≡◌, refl, ℕ, zero, suc, ◌+◌, ◌<◌, ◌≤◌, Bool, true, false, cond, not, ◌&&◌, ◌||◌, List, [], ◌∷◌, ◌++◌, map, filter, length, eqb, sym, ap, subst, ◌∙◌, arith, rules, inl, inr, length-append}
-use Rattle.std.specs.Prelude.{Option, Some, None, is_some, filter_map, IsSome, nat_eq}
+use Rattle.std.proofs.Common.{◌≡◌, refl, ℕ, suc, ◌≤◌, Bool, true, false, cond, not, ◌||◌, List, [], ◌∷◌, length, sym, ap, ◌∙◌, arith}
+use Rattle.std.specs.Prelude.{Option, Some, IsSome, nat_eq}
 use Rattle.std.specs.List.{AllByRecursion, IsDistinct, list_any}
 use Rattle.std.specs.Map.{lookup}
 use Rattle.std.specs.Cmp.{IsEquivalence, nat_eq_equiv}
@@ -10,13 +10,11 @@ use Rattle.sm_world.specs.declared.commands.Command.{Command}
 use Rattle.checkpoint_records.specs.Books.{same_command}
 use Rattle.interact_queue.specs.Queue.{is_in}
 use Rattle.discard_ledger.specs.Discards.{is_among, discard_of, without_commands, issuable}
-use Rattle.session_model.specs.Moves.{History}
-use Rattle.session_model.specs.Readings as of
-use Rattle.session_model.specs.Reading.{Clients, reading}
+use Rattle.session_model.specs.Reading.{Clients}
 use Rattle.session_model.specs.Books.{standing}
 use Rattle.session_model.proofs.Lists.{Once}
 use Rattle.session_model.proofs.Sound.{or-true}
-use Rattle.session_model.proofs.Ruled.{denied, differ}
+use Rattle.session_model.proofs.Ruled.{differ}
 use Rattle.session_model.proofs.Pending.{command_equiv, distinct-filter, map-len}
 
 -- A list without twins whose items are all in another is no longer
@@ -52,7 +50,7 @@ among-filter : (q : Command) (gone list : List Command) → is_among q gone ≡ 
 among-filter q gone [] n e = e
 among-filter q gone (c ∷ list) n e = filter-at (same_command q c) (is_among c gone) refl refl e (among-filter q gone list n) where
   filter-at : (b a : Bool) → same_command q c ≡ b → is_among c gone ≡ a → (b || is_among q list) ≡ true → (is_among q list ≡ true → is_among q (without_commands gone list) ≡ true)
-    → is_among q (cond (not a) (c ∷ without_commands gone list) (without_commands gone list)) ≡ true
+      → is_among q (cond (not a) (c ∷ without_commands gone list) (without_commands gone list)) ≡ true
   filter-at true true s t e g = absurd (differ (among-same q c gone s ∙ t) n)
   filter-at true false s t e g = ap (λ (b : Bool). b || is_among q (without_commands gone list)) s
   filter-at false true s t e g = g e
@@ -67,7 +65,7 @@ filter-among : (q : Command) (gone list : List Command) → is_among q (without_
 filter-among q gone [] e = absurd (grind arith)
 filter-among q gone (c ∷ list) e = kept-at (is_among c gone) refl e (filter-among q gone list) where
   kept-at : (a : Bool) → is_among c gone ≡ a → is_among q (cond (not a) (c ∷ without_commands gone list) (without_commands gone list)) ≡ true → (is_among q (without_commands gone list) ≡ true → (is_among q list ≡ true) × (is_among q gone ≡ false))
-    → ((same_command q c || is_among q list) ≡ true) × (is_among q gone ≡ false)
+      → ((same_command q c || is_among q list) ≡ true) × (is_among q gone ≡ false)
   kept-at true t e g = let k : (is_among q list ≡ true) × (is_among q gone ≡ false) = g e in (ap (λ (b : Bool). same_command q c || b) k.0 ∙ or-true (same_command q c), k.1)
   kept-at false t e g = or-parts (same_command q c) (is_among q (without_commands gone list)) (λ s. (ap (λ (b : Bool). b || is_among q list) s, among-same q c gone s ∙ t))
       (λ s. let k : (is_among q list ≡ true) × (is_among q gone ≡ false) = g s in (ap (λ (b : Bool). same_command q c || b) k.0 ∙ or-true (same_command q c), k.1)) e

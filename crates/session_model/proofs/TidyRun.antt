@@ -1,5 +1,5 @@
 -- Whatever is kept and sent in a run keeps the rules for it.
-use Rattle.std.proofs.Common.{◌≡◌, refl, ℕ, zero, suc, ◌+◌, ◌*◌, ◌<◌, ◌≤◌, Bool, true, false, cond, ◌&&◌, List, [], ◌∷◌, ◌++◌, length, ap, ◌∙◌, arith, rules}
+use Rattle.std.proofs.Common.{◌≡◌, refl, ℕ, zero, suc, ◌+◌, ◌*◌, ◌≤◌, Bool, true, false, cond, ◌&&◌, List, [], ◌∷◌, ◌++◌, length, arith}
 use Rattle.std.specs.List.{AllByRecursion}
 use Rattle.checkpoint_records.specs.declared.records.Book.{Book}
 use Rattle.checkpoint_records.specs.declared.records.Entry.{Entry}
@@ -12,9 +12,9 @@ use Rattle.session_model.specs.declared.events.SessionEvent.{SessionEvent}
 use Rattle.session_model.specs.Moves.{Move, Outside, Gave, Blamed, Committed, Finished, Restart, History, Opened, ◌▷◌, onto, tried_each}
 use Rattle.session_model.specs.Readings as of
 use Rattle.session_model.specs.Reading.{reading}
-use Rattle.session_model.specs.Books.{raised, issue, opening_moves}
+use Rattle.session_model.specs.Books.{raised, issue}
 use Rattle.session_model.specs.Replies.{reply}
-use Rattle.session_model.specs.Rules.{rule, go_on, settle, settled, finished, taken, opened, run}
+use Rattle.session_model.specs.Rules.{rule, go_on, settle, settled, taken, opened, run}
 use Rattle.session_model.specs.Laws.{EachMove, IsShort, HasEntries}
 use Rattle.session_model.proofs.Kept.{empty-table}
 use Rattle.session_model.proofs.Tidy.{Tidy, Proper, AllProper, tidy-step, epoch-step, proper-append}
@@ -80,9 +80,9 @@ orderly-raised book a =
 pub orderly-opened : (book : Book) → AllByRecursion (IsEntry book.epoch) book.entries → Orderly (book.epoch + 1) (opened book)
 orderly-opened book a =
     orderly-onto (book.epoch + 1) (issue (raised book) book.pending ++ tried_each Restart (opening_restarts book.entries)) (Committed (raised book) ▷ Opened book)
-      (proper-append (book.epoch + 1) (issue (raised book) book.pending) (tried_each Restart (opening_restarts book.entries))
-        (proper-issue (book.epoch + 1) (raised book) book.pending (refl, later-entries book.epoch book.entries a)) (proper-tried (book.epoch + 1) Restart (opening_restarts book.entries)))
-      (orderly-raised book a)
+    (proper-append (book.epoch + 1) (issue (raised book) book.pending) (tried_each Restart (opening_restarts book.entries))
+    (proper-issue (book.epoch + 1) (raised book) book.pending (refl, later-entries book.epoch book.entries a)) (proper-tried (book.epoch + 1) Restart (opening_restarts book.entries)))
+    (orderly-raised book a)
 
 pub orderly : (book : Book) (events : List SessionEvent) → KeepsRules book → Orderly (book.epoch + 1) (run (opened book) events)
 orderly book events k = orderly-run (book.epoch + 1) events (opened book) (omega arith) (orderly-opened book k.entries)

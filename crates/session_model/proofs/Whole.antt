@@ -1,52 +1,39 @@
 -- Every book that is written keeps the rules.
-use Rattle.std.proofs.Common.{◌≡◌, refl, ℕ, zero, suc, ◌+◌, ◌*◌, ◌<◌, ◌≤◌, Bool, true, false, cond, not, ◌&&◌, ◌||◌, List, [], ◌∷◌, ◌++◌, map, filter, length, eqb, sym, ap, subst, ◌∙◌, arith, rules, inl, inr, length-append}
-use Rattle.std.specs.Prelude.{Option, Some, None, is_some, is_none, find, filter_map, codes, nat_le, ◌⊎◌}
-use Rattle.std.specs.List.{AllByRecursion, IsDistinct, list_any}
+use Rattle.std.proofs.Common.{◌≡◌, refl, ℕ, zero, suc, ◌≤◌, Bool, true, false, not, ◌||◌, List, [], ◌∷◌, ◌++◌, map, filter, length, eqb, sym, ap, subst, ◌∙◌, arith}
+use Rattle.std.specs.Prelude.{Option, Some, None, is_some, filter_map}
+use Rattle.std.specs.List.{IsDistinct}
 use Rattle.std.specs.Str.{bytes_eq}
-use Rattle.std.proofs.lemmas.Bool.Decides.{nat_tests}
 use Rattle.sm_world.specs.declared.commands.Command.{Command}
-use Rattle.sm_world.specs.declared.events.Order.{Order}
-use Rattle.sm_world.specs.declared.events.Order.TheVariants.{Checkpoint, Shutdown, Cancel, Status, DropConn, Forget}
-use Rattle.xsmp_properties.specs.Tables.{set_all}
 use Rattle.checkpoint_records.specs.declared.records.Book.{Book}
-use Rattle.checkpoint_records.specs.declared.records.Entry.{Entry}
-use Rattle.checkpoint_records.specs.Rules.{client_id, ids_of, KeepsRules}
+use Rattle.checkpoint_records.specs.Rules.{ids_of, KeepsRules}
 use Rattle.round_agreement.specs.declared.wanted.Wanted.{Wanted}
-use Rattle.round_agreement.specs.Agreement.{Agreement, two_ready, agreed, deserted, is_nil, conns_of}
-use Rattle.interact_queue.specs.Queue.{is_in, without, next_holder}
-use Rattle.restart_plan.specs.Restarts.{respawn, opening_restarts}
+use Rattle.round_agreement.specs.Agreement.{Agreement, two_ready, agreed, deserted, conns_of}
+use Rattle.interact_queue.specs.Queue.{is_in, next_holder}
 use Rattle.discard_ledger.specs.Discards.{issuable, without_commands}
 use Rattle.xsmp_messages.specs.declared.message.XsmpMessage.{XsmpMessage}
-use Rattle.xsmp_messages.specs.declared.message.XsmpMessage.TheVariants.{Error, RegisterClient, RegisterClientReply, SaveYourself, SaveYourselfRequest, InteractRequest, Interact, InteractDone, SaveYourselfDone, Die, ShutdownCancelled, ConnectionClosed, SetProperties, DeleteProperties, GetProperties, GetPropertiesReply, SaveYourselfPhase2Request, SaveYourselfPhase2, SaveComplete}
+use Rattle.xsmp_messages.specs.declared.message.XsmpMessage.TheVariants.{RegisterClientReply, Interact, Die, SaveYourselfPhase2, SaveComplete}
 use Rattle.session_model.specs.declared.phase.Phase.{Phase}
-use Rattle.session_model.specs.declared.phase.Phase.TheVariants.{Unregistered, Dying}
 use Rattle.session_model.specs.declared.waits.Wait.{Wait}
-use Rattle.session_model.specs.declared.events.SessionEvent.{SessionEvent}
-use Rattle.session_model.specs.declared.events.SessionEvent.TheVariants.{Joined, Ready, Said, Left, Operator}
-use Rattle.session_model.specs.Phases.{is_bound, is_registered, is_unregistered, is_dying, is_owing, is_saving, is_first_saving, is_interacting, is_shutdown, may_interact}
-use Rattle.session_model.specs.Tables.{is_full, entry_of, is_recorded, has_id}
-use Rattle.session_model.specs.Errors.{Arrival, no_room, bad_id, full_table, lone_shutdown}
-use Rattle.session_model.specs.Moves.{Move, Cause, Outside, Gave, Blamed, Unset, Closed, Began, Over, Cancelled, Agreed, Tried, Committed, Printed, Finished, Discard, End, Restart, History, Opened, ◌▷◌, onto, gave_each, tried_each}
+use Rattle.session_model.specs.Phases.{is_registered}
+use Rattle.session_model.specs.Tables.{has_id}
+use Rattle.session_model.specs.Moves.{Move, Cause, Outside, Gave, Closed, Began, Over, Agreed, Committed, Discard, End, History, ◌▷◌, onto, gave_each, tried_each}
 use Rattle.session_model.specs.Readings as of
-use Rattle.session_model.specs.Reading.{Clients, Reading, reading, wanted_in, client_of, has_that_id}
-use Rattle.session_model.specs.Books.{next_book, next_entries, book_forgetting, issue, discarded, standing, command_anyway, opening_moves, raised}
-use Rattle.session_model.specs.Replies.{refused, or_bad_state, respawn_moves, entry_respawn, id_respawn, respawned, depart, has_no_room, known_ids, enter, may_rejoin, rejoin, register, called_off, want_cancel, answered, unless_dying, said, resigned, forgotten, forget_one, forget, may_wait, ordered, has_no_place, reply, status_text}
-use Rattle.session_model.specs.Rules.{last_command, ended, completed, agreement, agreement_with, wanting_two, over_rule, agreed_rule, running_rule, save_yourself, members_for, begin, begin_first, is_free, idle_rule, round_rule, token_rule, rule, go_on, settle, settled, finished, taken, Takes, opened, run}
-use Rattle.session_model.specs.Laws.{EachMove, IsWritten, AllTake}
-use Rattle.session_model.proofs.Lists.{Once, once-push, once-without}
+use Rattle.session_model.specs.Reading.{Clients, reading}
+use Rattle.session_model.specs.Books.{next_book, next_entries, issue, discarded, standing}
+use Rattle.session_model.specs.Rules.{last_command, ended, completed, agreement, wanting_two, over_rule, agreed_rule, running_rule, save_yourself, members_for, begin, begin_first, is_free, idle_rule, round_rule, token_rule, rule, go_on, settle}
+use Rattle.session_model.specs.Laws.{EachMove, IsWritten}
+use Rattle.session_model.proofs.Lists.{Once, once-without}
 use Rattle.session_model.proofs.PhaseSteps.{is_reply}
 use Rattle.session_model.proofs.Level.{Good, onto-append}
-use Rattle.session_model.proofs.Ruled.{rows_now, round_now, closing, good-rule, conns-rows, differ}
-use Rattle.session_model.proofs.Replied.{good-reply, good-taken, good-opened, unregistered-is, cond-same}
+use Rattle.session_model.proofs.Ruled.{rows_now, round_now, good-rule, conns-rows}
 use Rattle.session_model.proofs.Tidy.{Tidy, Proper, AllProper, tidy-step}
-use Rattle.session_model.proofs.Propers.{proper-rule, proper-reply, proper-issue, proper-tried, proper-gave, proper-closed, proper-ended, proper-completed, IsOf, is-next, is-forgetting}
-use Rattle.session_model.proofs.TidyRun.{Orderly, orderly-onto, orderly-step}
+use Rattle.session_model.proofs.Propers.{proper-rule, proper-tried, proper-gave, proper-completed, IsOf, is-next}
+use Rattle.session_model.proofs.TidyRun.{Orderly, orderly-onto}
 use Rattle.session_model.proofs.Pending.{filter-len, rules-without}
-use Rattle.session_model.proofs.Names.{have-ids}
 use Rattle.session_model.proofs.NextIds.{next-distinct}
 use Rattle.session_model.proofs.Room.{held_ids, known_with, room-kept}
-use Rattle.session_model.proofs.Ruly.{Lawful, Ruly, ruly-step, IsKnown, own_text, held-distinct}
-use Rattle.session_model.proofs.Lawfuls.{next-known, rules-next_book, rules-forgetting, forgetting-known}
+use Rattle.session_model.proofs.Ruly.{Lawful, Ruly, ruly-step, IsKnown, held-distinct}
+use Rattle.session_model.proofs.Lawfuls.{next-known, rules-next_book}
 use Rattle.session_model.proofs.Left.{left-few, without-none, fewer-conns, few-standing}
 
 -- Moves that write no book, begin no round and give no ID
@@ -154,7 +141,7 @@ carried-issue epoch book (command ∷ commands) h k i e c =
     let g : History = onto h tried in
     let same : of.book g ≡ book = book-mild tried h (mild-tried Discard (command ∷ commands)) ∙ e in
     subst (λ (x : History). Carried epoch x) (sym (onto-append h tried (Committed left ∷ [])))
-      (committed epoch left g (rules-without book (command ∷ commands) k) i (λ q s. known-same book g same q s) (carried-mild epoch tried h (mild-tried Discard (command ∷ commands)) (proper-tried epoch Discard (command ∷ commands)) c))
+    (committed epoch left g (rules-without book (command ∷ commands) k) i (λ q s. known-same book g same q s) (carried-mild epoch tried h (mild-tried Discard (command ∷ commands)) (proper-tried epoch Discard (command ∷ commands)) c))
 
 pub pending-issue : (book : Book) (commands : List Command) (h : History) → of.book h ≡ book → (of.book (onto h (issue book commands))).pending ≡ without_commands commands book.pending
 pending-issue book [] h e = ap (λ (x : Book). x.pending) e ∙ sym (without-none book.pending)
@@ -165,7 +152,7 @@ pub live-issue : (book : Book) (commands : List Command) (h : History) → lengt
 live-issue book [] h = omega arith
 live-issue book (command ∷ commands) h =
     let e : length (of.live (onto h (issue book (command ∷ commands)))) ≡ length (of.live (onto h (tried_each Discard (command ∷ commands)))) =
-      ap (λ (x : History). length (of.live x)) (onto-append h (tried_each Discard (command ∷ commands)) (Committed (record book { pending = without_commands (command ∷ commands) book.pending }) ∷ [])) in
+    ap (λ (x : History). length (of.live x)) (onto-append h (tried_each Discard (command ∷ commands)) (Committed (record book { pending = without_commands (command ∷ commands) book.pending }) ∷ [])) in
     omega (arith, e, live-mild (tried_each Discard (command ∷ commands)) h (mild-tried Discard (command ∷ commands)))
 
 -- What holds between events
@@ -222,8 +209,8 @@ part-written epoch book moves h g is k i n e p w =
 mild-ended : (clients : Clients) (book : Book) → AllMild (ended clients book)
 mild-ended clients book =
     mild-append (gave_each Die clients.registered ++ map Closed (filter (λ c. not (is_in c clients.registered)) clients.live)) (tried_each End (filter_map (last_command clients) book.entries))
-      (mild-append (gave_each Die clients.registered) (map Closed (filter (λ c. not (is_in c clients.registered)) clients.live)) (mild-gave Die clients.registered refl) (mild-closed (filter (λ c. not (is_in c clients.registered)) clients.live)))
-      (mild-tried End (filter_map (last_command clients) book.entries))
+    (mild-append (gave_each Die clients.registered) (map Closed (filter (λ c. not (is_in c clients.registered)) clients.live)) (mild-gave Die clients.registered refl) (mild-closed (filter (λ c. not (is_in c clients.registered)) clients.live)))
+    (mild-tried End (filter_map (last_command clients) book.entries))
 
 mild-completed : (b : Bool) (clients : Clients) (round : Agreement) (book : Book) → AllMild (completed b clients round book)
 mild-completed true clients round book = mild-ended clients book
@@ -237,9 +224,9 @@ room-next epoch h round c o =
 part-agreement : (epoch : ℕ) (h : History) (round : Agreement) → Once (conns_of round.members) → Whole epoch h → Part epoch (onto h (agreement (reading h) round))
 part-agreement epoch h round o w =
     part-written epoch (next_book (reading h) round) (Agreed ∷ completed round.wanted.shutdown (reading h).clients round (next_book (reading h) round)) h (onto h (agreement (reading h) round)) refl
-      (rules-next_book epoch h round w.orderly.is_of w.carried.tidy w.carried.ruly w.few_pending o (room-next epoch h round w.carried o))
-      (is-next epoch h round w.orderly.is_of w.carried.tidy) (next-known h round)
-      (tt, mild-completed round.wanted.shutdown (reading h).clients round (next_book (reading h) round)) (tt, proper-completed round.wanted.shutdown epoch h round (next_book (reading h) round)) w
+    (rules-next_book epoch h round w.orderly.is_of w.carried.tidy w.carried.ruly w.few_pending o (room-next epoch h round w.carried o))
+    (is-next epoch h round w.orderly.is_of w.carried.tidy) (next-known h round)
+    (tt, mild-completed round.wanted.shutdown (reading h).clients round (next_book (reading h) round)) (tt, proper-completed round.wanted.shutdown epoch h round (next_book (reading h) round)) w
 
 once-now : (epoch : ℕ) (r : of.Begun) (h : History) → Carried epoch h → Once (conns_of (rows_now h))
 once-now epoch r h c = subst (λ (cs : List ℕ). Once cs) (sym (conns-rows (λ d. of.phase_of d h) (λ d. of.saved_of d h) (of.members h))) (c.ruly).once_members
@@ -264,7 +251,7 @@ once-for (Some c) cs o = (refl, tt)
 part-began : (epoch : ℕ) (conns : List ℕ) (wanted : Wanted) (h : History) → Once conns → Part epoch h → Part epoch (onto h (begin conns wanted))
 part-began epoch conns wanted h o w =
     part-mild epoch (gave_each (save_yourself wanted) conns) (Began conns wanted ▷ h) (mild-gave (save_yourself wanted) conns refl) (proper-gave epoch (save_yourself wanted) conns (λ c. refl))
-      (record { carried = carried-step epoch (Began conns wanted) h o tt w.carried.once w.carried; few_live = w.few_live; few_pending = w.few_pending })
+    (record { carried = carried-step epoch (Began conns wanted) h o tt w.carried.once w.carried; few_live = w.few_live; few_pending = w.few_pending })
 
 part-first : (ws : List Wait) (epoch : ℕ) (h : History) → Part epoch h → Part epoch (onto h (begin_first (of.registered h) ws))
 part-first [] epoch h w = w

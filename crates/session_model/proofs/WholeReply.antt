@@ -1,8 +1,7 @@
 -- The answers write books that keep the rules, and so does every run.
-use Rattle.std.proofs.Common.{◌≡◌, refl, ℕ, zero, suc, ◌+◌, ◌*◌, ◌<◌, ◌≤◌, Bool, true, false, cond, not, ◌&&◌, ◌||◌, List, [], ◌∷◌, ◌++◌, map, filter, length, eqb, sym, ap, subst, ◌∙◌, arith, rules, inl, inr, length-append}
-use Rattle.std.specs.Prelude.{Option, Some, None, is_some, is_none, find, filter_map, codes, nat_le, ◌⊎◌}
+use Rattle.std.proofs.Common.{◌≡◌, refl, ℕ, suc, ◌+◌, ◌*◌, ◌<◌, ◌≤◌, Bool, true, false, cond, not, ◌&&◌, ◌||◌, List, [], ◌∷◌, ◌++◌, filter, length, eqb, sym, ap, subst, ◌∙◌, arith, length-append}
+use Rattle.std.specs.Prelude.{Option, Some, None, is_some, is_none, find, codes, nat_le}
 use Rattle.std.specs.List.{AllByRecursion, IsDistinct, list_any}
-use Rattle.std.specs.Str.{bytes_eq}
 use Rattle.std.proofs.lemmas.Bool.Decides.{nat_tests}
 use Rattle.sm_world.specs.declared.commands.Command.{Command}
 use Rattle.sm_world.specs.declared.events.Order.{Order}
@@ -12,46 +11,42 @@ use Rattle.checkpoint_records.specs.declared.records.Book.{Book}
 use Rattle.checkpoint_records.specs.declared.records.Entry.{Entry}
 use Rattle.checkpoint_records.specs.Books.{same_command}
 use Rattle.checkpoint_records.specs.Rules.{client_id, ids_of, IsEntry, KeepsRules}
-use Rattle.round_agreement.specs.declared.wanted.Wanted.{Wanted}
-use Rattle.round_agreement.specs.Agreement.{Agreement, two_ready, agreed, deserted, is_nil, conns_of}
-use Rattle.interact_queue.specs.Queue.{is_in, without, next_holder}
+use Rattle.round_agreement.specs.Agreement.{Agreement, is_nil, conns_of}
+use Rattle.interact_queue.specs.Queue.{is_in, without}
 use Rattle.restart_plan.specs.Restarts.{respawn, opening_restarts}
-use Rattle.discard_ledger.specs.Discards.{issuable, without_commands}
+use Rattle.discard_ledger.specs.Discards.{without_commands}
 use Rattle.xsmp_messages.specs.declared.message.XsmpMessage.{XsmpMessage}
-use Rattle.xsmp_messages.specs.declared.message.XsmpMessage.TheVariants.{Error, RegisterClient, RegisterClientReply, SaveYourself, SaveYourselfRequest, InteractRequest, Interact, InteractDone, SaveYourselfDone, Die, ShutdownCancelled, ConnectionClosed, SetProperties, DeleteProperties, GetProperties, GetPropertiesReply, SaveYourselfPhase2Request, SaveYourselfPhase2, SaveComplete}
+use Rattle.xsmp_messages.specs.declared.message.XsmpMessage.TheVariants.{Error, RegisterClient, RegisterClientReply, SaveYourselfRequest, InteractRequest, InteractDone, SaveYourselfDone, ShutdownCancelled, ConnectionClosed, SetProperties, DeleteProperties, GetProperties, SaveYourselfPhase2Request}
 use Rattle.session_model.specs.declared.phase.Phase.{Phase}
 use Rattle.session_model.specs.declared.phase.Phase.TheVariants.{Unregistered, Dying}
-use Rattle.session_model.specs.declared.waits.Wait.{Wait}
 use Rattle.session_model.specs.declared.events.SessionEvent.{SessionEvent}
 use Rattle.session_model.specs.declared.events.SessionEvent.TheVariants.{Joined, Ready, Said, Left, Operator}
 use Rattle.session_model.specs.Phases.{is_bound, is_registered, is_unregistered, is_dying, is_owing, is_saving, is_first_saving, is_interacting, is_shutdown, may_interact}
-use Rattle.session_model.specs.Tables.{is_full, entry_of, is_recorded, has_id}
+use Rattle.session_model.specs.Tables.{is_full, entry_of, is_recorded}
 use Rattle.session_model.specs.Errors.{Arrival, no_room, bad_id, full_table, lone_shutdown}
-use Rattle.session_model.specs.Moves.{Move, Cause, Outside, Gave, Blamed, Unset, Closed, Began, Over, Cancelled, Agreed, Tried, Committed, Printed, Finished, Discard, End, Restart, History, Opened, ◌▷◌, onto, gave_each, tried_each}
+use Rattle.session_model.specs.Moves.{Move, Outside, Gave, Blamed, Unset, Closed, Committed, Printed, Finished, Restart, History, Opened, ◌▷◌, onto, tried_each}
 use Rattle.session_model.specs.Readings as of
-use Rattle.session_model.specs.Reading.{Clients, Reading, reading, wanted_in, client_of, has_that_id}
-use Rattle.session_model.specs.Books.{next_book, next_entries, book_forgetting, issue, discarded, standing, command_anyway, opening_moves, raised}
-use Rattle.session_model.specs.Replies.{refused, or_bad_state, respawn_moves, entry_respawn, id_respawn, respawned, depart, has_no_room, known_ids, enter, may_rejoin, rejoin, register, called_off, want_cancel, answered, unless_dying, said, resigned, forgotten, forget_one, forget, may_wait, ordered, has_no_place, reply, status_text}
-use Rattle.session_model.specs.Rules.{last_command, ended, completed, agreement, agreement_with, wanting_two, over_rule, agreed_rule, running_rule, save_yourself, members_for, begin, begin_first, is_free, idle_rule, round_rule, token_rule, rule, go_on, settle, settled, finished, taken, Takes, opened, run}
+use Rattle.session_model.specs.Reading.{Reading, reading, wanted_in, client_of, has_that_id}
+use Rattle.session_model.specs.Books.{book_forgetting, issue, command_anyway, raised}
+use Rattle.session_model.specs.Replies.{refused, or_bad_state, respawn_moves, entry_respawn, id_respawn, respawned, depart, has_no_room, known_ids, enter, may_rejoin, rejoin, register, called_off, want_cancel, answered, unless_dying, said, resigned, forgotten, forget_one, may_wait, ordered, has_no_place, reply, status_text}
+use Rattle.session_model.specs.Rules.{settled, taken, Takes, opened, run}
 use Rattle.session_model.specs.Laws.{EachMove, IsWritten, AllTake}
-use Rattle.session_model.proofs.Lists.{Once, once-push, once-without}
-use Rattle.session_model.proofs.PhaseSteps.{is_reply}
+use Rattle.session_model.proofs.Lists.{once-push, once-without}
 use Rattle.session_model.proofs.Level.{Good, good-plain, onto-append}
-use Rattle.session_model.proofs.Ruled.{rows_now, round_now, closing, good-rule, conns-rows, differ}
-use Rattle.session_model.proofs.Replied.{good-reply, good-taken, good-opened, unregistered-is, cond-same}
-use Rattle.session_model.proofs.Tidy.{Tidy, Proper, AllProper, tidy-step}
-use Rattle.session_model.proofs.Propers.{proper-rule, proper-reply, proper-issue, proper-tried, proper-gave, proper-closed, proper-ended, proper-completed, IsOf, is-next, is-forgetting}
-use Rattle.session_model.proofs.TidyRun.{Orderly, orderly-onto, orderly-step, orderly-opened, later-entries, tidy-start}
-use Rattle.session_model.proofs.Pending.{filter-len, rules-without}
+use Rattle.session_model.proofs.Ruled.{differ}
+use Rattle.session_model.proofs.Replied.{good-reply, good-opened, unregistered-is, cond-same}
+use Rattle.session_model.proofs.Tidy.{Proper, AllProper}
+use Rattle.session_model.proofs.Propers.{proper-reply, proper-tried, IsOf, is-forgetting}
+use Rattle.session_model.proofs.TidyRun.{orderly-onto, orderly-step, orderly-opened, later-entries, tidy-start}
+use Rattle.session_model.proofs.Pending.{filter-len}
 use Rattle.session_model.proofs.Names.{have-ids}
-use Rattle.session_model.proofs.NextIds.{next-distinct}
-use Rattle.session_model.proofs.Room.{held_ids, known_with, room-kept}
-use Rattle.session_model.proofs.Ruly.{Lawful, Ruly, ruly-step, IsKnown, own_text, held-distinct}
-use Rattle.session_model.proofs.Lawfuls.{next-known, rules-next_book, rules-forgetting, forgetting-known}
-use Rattle.session_model.proofs.Left.{left-few, without-none, fewer-conns, few-standing}
+use Rattle.session_model.proofs.Room.{held_ids, known_with}
+use Rattle.session_model.proofs.Ruly.{Lawful, Ruly, own_text}
+use Rattle.session_model.proofs.Lawfuls.{rules-forgetting, forgetting-known}
+use Rattle.session_model.proofs.Left.{left-few, without-none}
 use Rattle.session_model.proofs.Ruled.{any-in}
 use Rattle.session_model.proofs.Names.{IsFree, IsBefore, before-earlier}
-use Rattle.session_model.proofs.Whole.{IsMild, AllMild, mild-append, mild-gave, mild-tried, Carried, carried-step, carried-issue, Whole, Part, part-of, part-mild, part-written, whole-with, whole-settle, pending-issue, live-issue}
+use Rattle.session_model.proofs.Whole.{AllMild, mild-gave, mild-tried, Carried, carried-step, carried-issue, Whole, Part, part-of, part-mild, part-written, whole-with, whole-settle, pending-issue, live-issue}
 
 -- Mild answers
 
@@ -150,9 +145,9 @@ found-free h id n c e =
     let test : has_that_id id (of.id_of c h) ≡ true = ap (λ (o : Option (List ℕ)). has_that_id id o) e ∙ own_text id in
     let found : is_some (client_of id (reading h).clients) ≡ true = some-any (λ d. has_that_id id (of.id_of d h)) (of.registered h) ∙ any-in (λ d. has_that_id id (of.id_of d h)) c (of.registered h) there test in
     not-both (is_some (client_of id (reading h).clients)) found n where
-  not-both : (b : Bool) → b ≡ true → not b ≡ true → ⊥
-  not-both true e f = grind arith
-  not-both false e f = grind arith
+      not-both : (b : Bool) → b ≡ true → not b ≡ true → ⊥
+      not-both true e f = grind arith
+      not-both false e f = grind arith
 
 and-first : (x y : Bool) → (x && y) ≡ true → x ≡ true
 and-first true y e = refl
@@ -175,10 +170,12 @@ part-enter epoch c previous sequence frame h x is u p g w = enter-at (has_no_roo
   enter-at true e p = part-mild epoch (Blamed x.conn (no_room x) ∷ Unset x.conn ∷ []) (Outside (Said c (RegisterClient previous) sequence frame) ▷ h) (tt, (tt, tt)) p (part-heard epoch c (RegisterClient previous) sequence frame h (part-of epoch h w))
   enter-at false e p =
       let room : (known_ids (reading h) < 128) × (of.given h + 1 < 4294967296) = no-room h (known_ids (reading h)) (of.given h) e in
-      part-replied epoch x.conn (client_id (of.book h).epoch (of.given h + 1)) (Outside (Said c (RegisterClient previous) sequence frame) ▷ h)
-        (subst (λ (d : ℕ). of.phase_of d (Outside (Said c (RegisterClient previous) sequence frame) ▷ h) ≡ Some Unregistered) (sym is) u, new-free epoch h w.orderly.is_of w.carried.ruly room.1,
-          (λ n. (ap (λ (k : ℕ). client_id k (of.given h + 1)) w.orderly.is_of, room.1, omega (arith, known-len h, room.0))))
-        p.0 g (part-heard epoch c (RegisterClient previous) sequence frame h (part-of epoch h w))
+      part-replied epoch x.conn (client_id (of.book h).epoch (of.given h + 1)) (Outside (Said c (RegisterClient previous) sequence frame) ▷ h) (
+        subst (λ (d : ℕ). of.phase_of d (Outside (Said c (RegisterClient previous) sequence frame) ▷ h) ≡ Some Unregistered) (sym is) u,
+        new-free epoch h w.orderly.is_of w.carried.ruly room.1,
+        (λ n. (ap (λ (k : ℕ). client_id k (of.given h + 1)) w.orderly.is_of, room.1, omega (arith, known-len h, room.0))),
+      )
+      p.0 g (part-heard epoch c (RegisterClient previous) sequence frame h (part-of epoch h w))
 
 part-rejoin : (epoch c : ℕ) (previous : List ℕ) (sequence : ℕ) (frame : List ℕ) (h : History) (x : Arrival) (id : List ℕ) → x.conn ≡ c → of.phase_of c (Outside (Said c (RegisterClient previous) sequence frame) ▷ h) ≡ Some Unregistered → AllProper epoch (rejoin (reading h) x id) → Good (Outside (Said c (RegisterClient previous) sequence frame) ▷ h)
     → Whole epoch h → Part epoch (onto (Outside (Said c (RegisterClient previous) sequence frame) ▷ h) (rejoin (reading h) x id))
@@ -187,11 +184,12 @@ part-rejoin epoch c previous sequence frame h x id is u p g w = rejoin-at (may_r
       → Part epoch (onto (Outside (Said c (RegisterClient previous) sequence frame) ▷ h) (cond b (Gave x.conn (RegisterClientReply id) ∷ []) (Blamed x.conn (bad_id x) ∷ [])))
   rejoin-at false e p = part-mild epoch (Blamed x.conn (bad_id x) ∷ []) (Outside (Said c (RegisterClient previous) sequence frame) ▷ h) (tt, tt) p (part-heard epoch c (RegisterClient previous) sequence frame h (part-of epoch h w))
   rejoin-at true e p =
-      part-replied epoch x.conn id (Outside (Said c (RegisterClient previous) sequence frame) ▷ h)
-        (subst (λ (d : ℕ). of.phase_of d (Outside (Said c (RegisterClient previous) sequence frame) ▷ h) ≡ Some Unregistered) (sym is) u,
-          found-free h id (and-second (is_recorded id (of.book h)) (is_none (client_of id (reading h).clients)) e),
-          (λ n. absurd (differ (and-first (is_recorded id (of.book h)) (is_none (client_of id (reading h).clients)) e) n)))
-        p.0 g (part-heard epoch c (RegisterClient previous) sequence frame h (part-of epoch h w))
+      part-replied epoch x.conn id (Outside (Said c (RegisterClient previous) sequence frame) ▷ h) (
+        subst (λ (d : ℕ). of.phase_of d (Outside (Said c (RegisterClient previous) sequence frame) ▷ h) ≡ Some Unregistered) (sym is) u,
+        found-free h id (and-second (is_recorded id (of.book h)) (is_none (client_of id (reading h).clients)) e),
+        (λ n. absurd (differ (and-first (is_recorded id (of.book h)) (is_none (client_of id (reading h).clients)) e) n)),
+      )
+      p.0 g (part-heard epoch c (RegisterClient previous) sequence frame h (part-of epoch h w))
 
 part-register : (epoch c : ℕ) (previous : List ℕ) (sequence : ℕ) (frame : List ℕ) (h : History) (x : Arrival) (id : List ℕ) → x.conn ≡ c → of.phase_of c (Outside (Said c (RegisterClient previous) sequence frame) ▷ h) ≡ Some Unregistered → AllProper epoch (register (reading h) x id) → Good (Outside (Said c (RegisterClient previous) sequence frame) ▷ h)
     → Whole epoch h → Part epoch (onto (Outside (Said c (RegisterClient previous) sequence frame) ▷ h) (register (reading h) x id))
@@ -212,7 +210,7 @@ part-answered epoch c (RegisterClient previous) sequence frame h p e a g w =
     part-registers (is_unregistered p) epoch c previous sequence frame h (record { conn = c; message = RegisterClient previous; sequence = sequence; frame = frame }) refl (λ u. cond-same (eqb c c) (of.phase_of c h) ∙ e ∙ unregistered-is p u) a g w
 part-answered epoch c m sequence frame h p e a g w =
     part-mild epoch (answered (reading h) (record { conn = c; message = m; sequence = sequence; frame = frame }) m p) (Outside (Said c m sequence frame) ▷ h)
-      (mild-answered (reading h) (record { conn = c; message = m; sequence = sequence; frame = frame }) m p refl) a (part-heard epoch c m sequence frame h (part-of epoch h w))
+    (mild-answered (reading h) (record { conn = c; message = m; sequence = sequence; frame = frame }) m p refl) a (part-heard epoch c m sequence frame h (part-of epoch h w))
 
 part-unless : (epoch c : ℕ) (m : XsmpMessage) (sequence : ℕ) (frame : List ℕ) (h : History) (p : Option Phase) → of.phase_of c h ≡ p → AllProper epoch (unless_dying (reading h) (record { conn = c; message = m; sequence = sequence; frame = frame }) p) → Good (Outside (Said c m sequence frame) ▷ h) → Whole epoch h
     → Part epoch (onto (Outside (Said c m sequence frame) ▷ h) (unless_dying (reading h) (record { conn = c; message = m; sequence = sequence; frame = frame }) p))
@@ -239,8 +237,8 @@ asked_to_forget id h = Printed (codes "ok") ▷ Outside (Operator (Forget id)) �
 whole-asked : (epoch : ℕ) (id : List ℕ) (h : History) → Whole epoch h → Whole epoch (asked_to_forget id h)
 whole-asked epoch id h w =
     whole-with epoch (asked_to_forget id h) (good-plain (Outside (Operator (Forget id)) ∷ Printed (codes "ok") ∷ []) h (tt, (tt, tt)) w.good)
-      (orderly-onto epoch (Outside (Operator (Forget id)) ∷ Printed (codes "ok") ∷ []) h (tt, (tt, tt)) w.orderly)
-      (part-mild epoch (Printed (codes "ok") ∷ []) (Outside (Operator (Forget id)) ▷ h) (tt, tt) (tt, tt) (part-order epoch (Forget id) h (part-of epoch h w)))
+    (orderly-onto epoch (Outside (Operator (Forget id)) ∷ Printed (codes "ok") ∷ []) h (tt, (tt, tt)) w.orderly)
+    (part-mild epoch (Printed (codes "ok") ∷ []) (Outside (Operator (Forget id)) ▷ h) (tt, tt) (tt, tt) (part-order epoch (Forget id) h (part-of epoch h w)))
 
 proper-resigned : (epoch : ℕ) (command : Option Command) → AllProper epoch (resigned command)
 proper-resigned epoch None = tt
@@ -252,28 +250,28 @@ part-forgotten epoch id entry h w =
     let v : Whole epoch g = whole-asked epoch id h w in
     let book : Book = book_forgetting (reading h).store id in
     part-written epoch book (resigned (command_anyway (codes "ResignCommand") entry)) g (onto (Outside (Operator (Forget id)) ▷ h) (forgotten (reading h) entry book)) refl
-      (rules-forgetting epoch g id v.orderly.is_of v.carried.tidy v.carried.ruly v.few_pending) (is-forgetting epoch g id v.orderly.is_of v.carried.tidy) (forgetting-known g id)
-      (mild-resigned (command_anyway (codes "ResignCommand") entry)) (proper-resigned epoch (command_anyway (codes "ResignCommand") entry)) v
+    (rules-forgetting epoch g id v.orderly.is_of v.carried.tidy v.carried.ruly v.few_pending) (is-forgetting epoch g id v.orderly.is_of v.carried.tidy) (forgetting-known g id)
+    (mild-resigned (command_anyway (codes "ResignCommand") entry)) (proper-resigned epoch (command_anyway (codes "ResignCommand") entry)) v
 
 part-forget_one : (epoch : ℕ) (id : List ℕ) (entry : Option Entry) (h : History) → Whole epoch h → Part epoch (onto (Outside (Operator (Forget id)) ▷ h) (forget_one (reading h) id entry))
 part-forget_one epoch id None h w = part-mild epoch (Printed (codes "unknown") ∷ []) (Outside (Operator (Forget id)) ▷ h) (tt, tt) (tt, tt) (part-order epoch (Forget id) h (part-of epoch h w))
 part-forget_one epoch id (Some entry) h w =
     part-cond epoch (is_some (client_of id (reading h).clients)) (Printed (codes "live") ∷ []) (forgotten (reading h) entry (book_forgetting (reading h).store id)) (Outside (Operator (Forget id)) ▷ h)
-      (λ e. part-mild epoch (Printed (codes "live") ∷ []) (Outside (Operator (Forget id)) ▷ h) (tt, tt) (tt, tt) (part-order epoch (Forget id) h (part-of epoch h w))) (λ e. part-forgotten epoch id entry h w)
+    (λ e. part-mild epoch (Printed (codes "live") ∷ []) (Outside (Operator (Forget id)) ▷ h) (tt, tt) (tt, tt) (part-order epoch (Forget id) h (part-of epoch h w))) (λ e. part-forgotten epoch id entry h w)
 
 part-ordered : (epoch : ℕ) (order : Order) (h : History) → AllProper epoch (ordered (reading h) order) → Whole epoch h → Part epoch (onto (Outside (Operator order) ▷ h) (ordered (reading h) order))
 part-ordered epoch Checkpoint h p w = part-mild epoch (may_wait (reading h)) (Outside (Operator Checkpoint) ▷ h) (tt, tt) p (part-order epoch Checkpoint h (part-of epoch h w))
 part-ordered epoch Shutdown h p w = part-mild epoch (may_wait (reading h)) (Outside (Operator Shutdown) ▷ h) (tt, tt) p (part-order epoch Shutdown h (part-of epoch h w))
 part-ordered epoch Cancel h p w =
     part-mild epoch (ordered (reading h) Cancel) (Outside (Operator Cancel) ▷ h)
-      (mild-cond (is_shutdown (wanted_in (of.round h))) (Printed (codes "ok") ∷ called_off (of.round h)) (Printed (codes "no shutdown") ∷ []) (tt, mild-off (of.round h)) (tt, tt)) p (part-order epoch Cancel h (part-of epoch h w))
+    (mild-cond (is_shutdown (wanted_in (of.round h))) (Printed (codes "ok") ∷ called_off (of.round h)) (Printed (codes "no shutdown") ∷ []) (tt, mild-off (of.round h)) (tt, tt)) p (part-order epoch Cancel h (part-of epoch h w))
 part-ordered epoch (DropConn c) h p w =
     part-mild epoch (ordered (reading h) (DropConn c)) (Outside (Operator (DropConn c)) ▷ h)
-      (mild-cond (is_in c (of.live h)) (Printed (codes "ok") ∷ depart (reading h) c) (Printed (codes "no connection") ∷ []) (tt, (tt, mild-respawned (reading h) c)) (tt, tt)) p (part-order epoch (DropConn c) h (part-of epoch h w))
+    (mild-cond (is_in c (of.live h)) (Printed (codes "ok") ∷ depart (reading h) c) (Printed (codes "no connection") ∷ []) (tt, (tt, mild-respawned (reading h) c)) (tt, tt)) p (part-order epoch (DropConn c) h (part-of epoch h w))
 part-ordered epoch Status h p w = part-mild epoch (Printed (status_text (reading h)) ∷ []) (Outside (Operator Status) ▷ h) (tt, tt) p (part-order epoch Status h (part-of epoch h w))
 part-ordered epoch (Forget id) h p w =
     part-cond epoch (of.is_ending h || is_some (of.round h)) (Printed (codes "busy") ∷ []) (forget_one (reading h) id (entry_of id (of.book h))) (Outside (Operator (Forget id)) ▷ h)
-      (λ e. part-mild epoch (Printed (codes "busy") ∷ []) (Outside (Operator (Forget id)) ▷ h) (tt, tt) (tt, tt) (part-order epoch (Forget id) h (part-of epoch h w))) (λ e. part-forget_one epoch id (entry_of id (of.book h)) h w)
+    (λ e. part-mild epoch (Printed (codes "busy") ∷ []) (Outside (Operator (Forget id)) ▷ h) (tt, tt) (tt, tt) (part-order epoch (Forget id) h (part-of epoch h w))) (λ e. part-forget_one epoch id (entry_of id (of.book h)) h w)
 
 -- Events
 
@@ -312,7 +310,7 @@ part-reply epoch (Ready c) h t p g w = record { carried = carried-step epoch (Ou
 part-reply epoch (Said c m sequence frame) h t p g w = part-said epoch c m sequence frame h p g w
 part-reply epoch (Left c) h t p g w =
     part-mild epoch (respawned (reading h) c) (Outside (Left c) ▷ h) (mild-respawned (reading h) c) p
-      (record { carried = carried-step epoch (Outside (Left c)) h tt tt (once-without c (of.registered h) w.carried.once) w.carried; few_live = omega (arith, filter-len (λ other. not (eqb other c)) (of.live h), w.few_live); few_pending = w.few_pending })
+    (record { carried = carried-step epoch (Outside (Left c)) h tt tt (once-without c (of.registered h) w.carried.once) w.carried; few_live = omega (arith, filter-len (λ other. not (eqb other c)) (of.live h), w.few_live); few_pending = w.few_pending })
 part-reply epoch (Operator order) h t p g w = part-ordered epoch order h p w
 
 whole-finish : (b : Bool) (epoch : ℕ) (h : History) → Whole epoch h → Whole epoch (cond b (Finished ▷ h) h)
@@ -325,7 +323,7 @@ whole-taken epoch event h one t w =
     let heard : Good (Outside event ▷ h) = good-plain (Outside event ∷ []) h (tt, tt) w.good in
     let answered_to : History = onto (Outside event ▷ h) (reply (reading h) event) in
     let answer : Whole epoch answered_to =
-      whole-with epoch answered_to (good-reply event h w.good) (orderly-onto epoch (reply (reading h) event) (Outside event ▷ h) p (orderly-step epoch (Outside event) h tt w.orderly)) (part-reply epoch event h t p heard w) in
+    whole-with epoch answered_to (good-reply event h w.good) (orderly-onto epoch (reply (reading h) event) (Outside event ▷ h) p (orderly-step epoch (Outside event) h tt w.orderly)) (part-reply epoch event h t p heard w) in
     let rested : History = settled answered_to in
     whole-finish (of.is_ending rested && is_nil (of.live rested)) epoch rested (whole-settle epoch (4 * length (of.waits answered_to) + 4) answered_to answer)
 
@@ -389,7 +387,7 @@ part-opened book k l =
       few_pending = omega (arith, n, none-left book.pending k.commands_differ);
     } in
     subst (λ (x : History). Part epoch x) (sym (onto-append start (issue (raised book) book.pending) (tried_each Restart (opening_restarts book.entries))))
-      (part-mild epoch (tried_each Restart (opening_restarts book.entries)) issued (mild-tried Restart (opening_restarts book.entries)) (proper-tried epoch Restart (opening_restarts book.entries)) p)
+    (part-mild epoch (tried_each Restart (opening_restarts book.entries)) issued (mild-tried Restart (opening_restarts book.entries)) (proper-tried epoch Restart (opening_restarts book.entries)) p)
 
 pub books-keep : (book : Book) (events : List SessionEvent) → KeepsRules book → book.epoch < 4294967295 → AllTake (opened book) events → EachMove IsWritten (run (opened book) events)
 books-keep book events k l a =
