@@ -1,18 +1,17 @@
 -- A command that a table gives keeps the rules for pending commands.
-use Rattle.std.proofs.Common.{◌≡◌, refl, ℕ, zero, suc, ◌+◌, ◌<◌, ◌≤◌, Bool, true, false, cond, not, ◌&&◌, List, [], ◌∷◌, ◌++◌, length, sym, ap, subst, ◌∙◌, arith, rules, inl, inr, length-append}
-use Rattle.std.specs.Prelude.{Option, Some, None, is_some, find, codes, flat_map, option_and_then, if◌then◌else◌, ◌⊎◌}
+use Rattle.std.proofs.Common.{◌≡◌, refl, ℕ, ◌+◌, ◌<◌, ◌≤◌, Bool, true, false, cond, ◌&&◌, List, [], ◌∷◌, ◌++◌, length, sym, ap, subst, ◌∙◌, arith, inl, inr, length-append}
+use Rattle.std.specs.Prelude.{Option, Some, None, codes, option_and_then, if◌then◌else◌, ◌⊎◌}
 use Rattle.std.specs.Option.{option_map_or}
 use Rattle.std.specs.Str.{bytes_eq, is_utf8, chars}
 use Rattle.std.specs.Cmp.Lexicographic.{same_text, other_text}
 use Rattle.std.proofs.lemmas.Bool.{cases_lt}
-use Rattle.std.proofs.lemmas.Bool.Decides.{nat_tests}
 use Rattle.sm_world.specs.declared.commands.Command.{Command}
 use Rattle.ice_values.specs.Properties.{array8, array8_list, property}
 use Rattle.ice_values.specs.declared.numbers.Endian.TheVariants.{Lsb}
 use Rattle.ice_values.specs.declared.property.Property.{Property}
 use Rattle.ice_values.proofs.LengthLaws.{length-array8, length-listed}
-use Rattle.xsmp_properties.specs.Tables.{is_named, find_property, encoded_len, IsTableFull}
-use Rattle.xsmp_properties.specs.Readers.{values_of_kind, values_of, is_text, directory_in, directory_of, is_variable, is_environment, in_pairs, environment_in, environment_of, are_words, command_with, command_of}
+use Rattle.xsmp_properties.specs.Tables.{is_named, find_property, encoded_len}
+use Rattle.xsmp_properties.specs.Readers.{values_of_kind, values_of, is_text, directory_in, directory_of, is_variable, is_environment, in_pairs, environment_in, environment_of, are_words, command_with}
 use Rattle.xsmp_properties.proofs.TableLaws.{encoded_len-cons}
 use Rattle.checkpoint_records.specs.Rules.{IsTable, in_turn, command_cells, IsCommand}
 use Rattle.discard_ledger.specs.Discards.{discard_of}
@@ -49,7 +48,7 @@ three a b c [] ab ac bc = omega arith
 three a b c (p ∷ items) ab ac bc =
     let k : named_len a items + named_len b items + named_len c items ≤ encoded_len items = three a b c items ab ac bc in
     let all : cond (is_named a p) (length (property Lsb p)) (named_len a items) + cond (is_named b p) (length (property Lsb p)) (named_len b items) + cond (is_named c p) (length (property Lsb p)) (named_len c items) ≤ length (property Lsb p) + encoded_len items =
-      three-at (is_named a p) (is_named b p) (is_named c p) (length (property Lsb p)) (named_len a items) (named_len b items) (named_len c items) (encoded_len items) (one-name a b p ab) (one-name a c p ac) (one-name b c p bc) k in
+    three-at (is_named a p) (is_named b p) (is_named c p) (length (property Lsb p)) (named_len a items) (named_len b items) (named_len c items) (encoded_len items) (one-name a b p ab) (one-name a c p ac) (one-name b c p bc) k in
     omega (arith, all, encoded_len-cons p items, len-cond (is_named a p) p (find_property a items), len-cond (is_named b p) p (find_property b items), len-cond (is_named c p) p (find_property c items))
 
 length-property : (p : Property) → length (property Lsb p) ≡ length (array8 Lsb p.name) + length (array8 Lsb p.kind) + length (array8_list Lsb p.values)
@@ -92,7 +91,7 @@ directory-bytes (path ∷ value ∷ values) = omega (arith, length-no-array)
 directory-len : (items : List Property) → length (array8 Lsb (directory_of items)) ≤ 8 + named_len (codes "CurrentDirectory") items
 directory-len items =
     let e : length (array8 Lsb (directory_of items)) ≡ option_map_or (λ values. length (array8 Lsb (directory_in values))) (values_of (codes "CurrentDirectory") (codes "ARRAY8") items) 8 =
-      map-or directory_in (λ text. length (array8 Lsb text)) (values_of (codes "CurrentDirectory") (codes "ARRAY8") items) 8 [] length-no-array in
+    map-or directory_in (λ text. length (array8 Lsb text)) (values_of (codes "CurrentDirectory") (codes "ARRAY8") items) 8 [] length-no-array in
     omega (arith, e, part (λ values. length (array8 Lsb (directory_in values))) (codes "CurrentDirectory") (codes "ARRAY8") items (omega (arith, length-no-array)) directory-bytes)
 
 and-left : (x y : Bool) → (x && y) ≡ true → x ≡ true
@@ -116,7 +115,7 @@ environment-len : (items : List Property) → length (array8_list Lsb (in_turn (
 environment-len items =
     let none : length (array8_list Lsb []) ≡ 8 = length-listed (array8 Lsb) Lsb [] in
     let e : length (array8_list Lsb (in_turn (environment_of items))) ≡ option_map_or (λ values. length (array8_list Lsb (in_turn (environment_in values)))) (values_of (codes "Environment") (codes "LISTofARRAY8") items) 8 =
-      map-or environment_in (λ pairs. length (array8_list Lsb (in_turn pairs))) (values_of (codes "Environment") (codes "LISTofARRAY8") items) 8 [] none in
+    map-or environment_in (λ pairs. length (array8_list Lsb (in_turn pairs))) (values_of (codes "Environment") (codes "LISTofARRAY8") items) 8 [] none in
     omega (arith, e, part (λ values. length (array8_list Lsb (in_turn (environment_in values)))) (codes "Environment") (codes "LISTofARRAY8") items (omega (arith, none)) (λ values. turn-at (is_environment values) values refl))
 
 environment-at : (b : Bool) (values : List (List ℕ)) → is_environment values ≡ b → is_environment (in_turn (if b then in_pairs values else [])) ≡ true
@@ -182,8 +181,16 @@ command-size : (table : List Property) (p : Property) → IsTable table → find
     → length (command_cells Lsb (record { words = p.values; directory = directory_of table; environment = environment_of table })) ≤ 16384
 command-size table p t f k =
     let n : named_len (codes "DiscardCommand") table ≡ length (property Lsb p) = ap (λ (o : Option Property). len_of o) f in
-    omega (arith, n, length-command (record { words = p.values; directory = directory_of table; environment = environment_of table }), words-len p (found-name (codes "DiscardCommand") table p f) k, directory-len table, environment-len table,
-      three (codes "DiscardCommand") (codes "CurrentDirectory") (codes "Environment") table refl refl refl, within table t)
+    omega (
+      arith,
+      n,
+      length-command (record { words = p.values; directory = directory_of table; environment = environment_of table }),
+      words-len p (found-name (codes "DiscardCommand") table p f) k,
+      directory-len table,
+      environment-len table,
+      three (codes "DiscardCommand") (codes "CurrentDirectory") (codes "Environment") table refl refl refl,
+      within table t,
+    )
 
 command-words : (b : Bool) (table : List Property) (p : Property) → IsTable table → find_property (codes "DiscardCommand") table ≡ Some p → bytes_eq (codes "LISTofARRAY8") p.kind ≡ true → are_words p.values ≡ b
     → IsMaybeCommand (if b then Some (record { words = p.values; directory = directory_of table; environment = environment_of table }) else None)

@@ -1,11 +1,9 @@
 -- IDs of different numbers differ.
-use Rattle.std.proofs.Common.{◌≡◌, refl, ℕ, zero, suc, ◌+◌, ◌*◌, ◌^◌, ◌<◌, ◌≤◌, List, [], ◌∷◌, ◌++◌, sym, ap, ◌∙◌, arith, Result, Ok, Err}
-use Rattle.std.specs.Prelude.{slice_index}
-use Rattle.std.specs.Int.{byte_at}
+use Rattle.std.proofs.Common.{◌≡◌, ℕ, zero, suc, ◌^◌, ◌<◌, List, [], sym, ap, ◌∙◌, arith, Result, Ok}
 use Rattle.std.proofs.lemmas.List.{append-nil}
 use Rattle.byteorder.specs.Endian.{big_bytes, big_number}
 use Rattle.byteorder.specs.Numbers.{big_number-reads_back}
-use Rattle.hex.specs.Hex.{IsBytes, decode_of, encode_with, encode_lower}
+use Rattle.hex.specs.Hex.{IsBytes, decode_of, encode_with}
 use Rattle.hex.specs.declared.error.FromHexError.{FromHexError}
 use Rattle.hex.proofs.HexLemmas.{decode_of-encode_lower}
 use Rattle.checkpoint_records.specs.Rules.{hex8, client_id}

@@ -1,13 +1,12 @@
 -- What a client says of itself and what is kept of it stays within its limits.
-use Rattle.std.proofs.Common.{◌≡◌, refl, ℕ, zero, suc, ◌+◌, ◌<◌, ◌≤◌, Bool, true, false, cond, not, ◌&&◌, ◌||◌, List, [], ◌∷◌, ◌++◌, map, filter, length, eqb, sym, ap, subst, ◌∙◌, arith, rules, inl, inr}
-use Rattle.std.specs.Prelude.{Option, Some, None, is_some, is_none, find, filter_map, nat_lt, ◌⊎◌}
+use Rattle.std.proofs.Common.{◌≡◌, refl, ℕ, Bool, true, false, cond, not, List, [], ◌∷◌, map, filter, sym, subst, arith, inl, inr}
 use Rattle.std.specs.List.{AllByRecursion, IsDistinct, list_any}
 use Rattle.std.specs.Str.{bytes_eq}
 use Rattle.std.proofs.lemmas.Bool.Decides.{nat_tests}
 use Rattle.ice_values.specs.declared.property.Property.{Property}
-use Rattle.xsmp_properties.specs.Tables.{is_named, set_one, set_all, without_names, encoded_len, IsTableFull, AreNamesDistinct}
+use Rattle.xsmp_properties.specs.Tables.{is_named, set_one, set_all, without_names, IsTableFull, AreNamesDistinct}
 use Rattle.xsmp_properties.proofs.TableLaws.{differs, kept-fits}
-use Rattle.std.specs.Cmp.Lexicographic.{same_text, other_text}
+use Rattle.std.specs.Cmp.Lexicographic.{same_text}
 use Rattle.checkpoint_records.specs.Rules.{IsTable}
 use Rattle.session_model.specs.Tables.{is_full, set_table}
 

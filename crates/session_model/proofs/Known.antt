@@ -1,22 +1,15 @@
 -- The IDs that are known: those of the book, and of registered clients those that the book doesn't have.
-use Rattle.std.proofs.Common.{◌≡◌, refl, ℕ, zero, suc, ◌+◌, ◌<◌, ◌≤◌, Bool, true, false, cond, not, ◌&&◌, ◌||◌, List, [], ◌∷◌, ◌++◌, map, filter, length, eqb, sym, ap, subst, ◌∙◌, arith, rules, inl, inr, length-append}
-use Rattle.std.specs.Prelude.{Option, Some, None, is_some, is_none, find, filter_map, ◌⊎◌}
-use Rattle.std.specs.List.{AllByRecursion, IsDistinct, list_any, cons_option}
+use Rattle.std.proofs.Common.{◌≡◌, refl, ℕ, Bool, true, false, ◌||◌, List, [], ◌∷◌, ◌++◌, eqb, sym, ap, subst, ◌∙◌, arith}
+use Rattle.std.specs.Prelude.{Option, Some, None, filter_map}
+use Rattle.std.specs.List.{AllByRecursion, IsDistinct, cons_option}
 use Rattle.std.specs.Str.{bytes_eq}
-use Rattle.std.specs.Cmp.Lexicographic.{same_text, other_text}
+use Rattle.std.specs.Cmp.Lexicographic.{same_text}
 use Rattle.std.proofs.lemmas.Bool.Decides.{nat_tests}
-use Rattle.xsmp_properties.proofs.TableLaws.{differs}
-use Rattle.ice_values.specs.declared.property.Property.{Property}
-use Rattle.checkpoint_records.specs.declared.records.Book.{Book}
 use Rattle.checkpoint_records.specs.declared.records.Entry.{Entry}
 use Rattle.checkpoint_records.specs.Rules.{ids_of}
-use Rattle.round_agreement.specs.Agreement.{Agreement, conns_of}
-use Rattle.interact_queue.specs.Queue.{is_in, without}
-use Rattle.session_model.specs.Tables.{has_id, is_of, is_recorded}
+use Rattle.interact_queue.specs.Queue.{is_in}
 use Rattle.session_model.specs.Moves.{History}
 use Rattle.session_model.specs.Readings as of
-use Rattle.session_model.specs.Reading.{Reading, reading, client_of}
-use Rattle.session_model.specs.Books.{is_eligible, recorded, is_kept, snapshot, entry_saved, entry_for, next_entry, new_saved, new_entry, next_entries}
 use Rattle.session_model.proofs.Lists.{Once}
 use Rattle.session_model.proofs.Names.{AreOwn}
 use Rattle.session_model.proofs.Pending.{all-append}
@@ -77,10 +70,10 @@ apart-conns h f c x [] i o e n = tt
 apart-conns h f c x (d ∷ cs) i o e n =
     let p : (eqb d c ≡ false) × (is_in c cs ≡ false) = or-parts (eqb d c) (is_in c cs) n in
     apart-cons x (f d) (filter_map f cs)
-      (λ id k. denied (bytes_eq x id) (λ s. other_conn d c (o d c id (i d id k) (e ∙ ap (λ (t : List ℕ). Some t) (same_text x id (sym s)))) p.0))
-      (apart-conns h f c x cs i o e p.1) where
-  other_conn : (d c : ℕ) → d ≡ c → eqb d c ≡ false → ⊥
-  other_conn d c s n = grind (arith, nat_tests)
+    (λ id k. denied (bytes_eq x id) (λ s. other_conn d c (o d c id (i d id k) (e ∙ ap (λ (t : List ℕ). Some t) (same_text x id (sym s)))) p.0))
+    (apart-conns h f c x cs i o e p.1) where
+      other_conn : (d c : ℕ) → d ≡ c → eqb d c ≡ false → ⊥
+      other_conn d c s n = grind (arith, nat_tests)
 
 pub distinct-conns : (h : History) (f : ℕ → Option (List ℕ)) (cs : List ℕ) → IsIdOf h f → AreOwn h → Once cs → IsDistinct bytes_eq (filter_map f cs)
 distinct-conns h f [] i o n = distinct-none
@@ -112,5 +105,5 @@ pub distinct-entries : (f : Entry → Option (List ℕ)) (entries : List Entry) 
 distinct-entries f [] k d = distinct-none
 distinct-entries f (entry ∷ entries) k d =
     distinct-option (f entry) (filter_map f entries)
-      (λ id e. subst (λ (t : List ℕ). AllByRecursion (λ y. bytes_eq t y ≡ false) (filter_map f entries)) (sym (k entry id e)) (apart-entries f entry.id entries k (distinct-head entry.id (ids_of entries) d)))
-      (distinct-entries f entries k (distinct-tail entry.id (ids_of entries) d))
+    (λ id e. subst (λ (t : List ℕ). AllByRecursion (λ y. bytes_eq t y ≡ false) (filter_map f entries)) (sym (k entry id e)) (apart-entries f entry.id entries k (distinct-head entry.id (ids_of entries) d)))
+    (distinct-entries f entries k (distinct-tail entry.id (ids_of entries) d))

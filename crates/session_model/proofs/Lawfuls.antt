@@ -1,19 +1,11 @@
 -- Books that are made keep the rules.
-use Rattle.std.proofs.Common.{◌≡◌, refl, ℕ, zero, suc, ◌+◌, ◌<◌, ◌≤◌, Bool, true, false, cond, not, ◌&&◌, ◌||◌, List, [], ◌∷◌, ◌++◌, map, filter, length, eqb, sym, ap, subst, ◌∙◌, arith, rules, inl, inr, length-append}
-use Rattle.std.specs.Prelude.{Option, Some, None, is_some, is_none, find, filter_map, ◌⊎◌, IsSome}
-use Rattle.std.specs.List.{AllByRecursion, IsDistinct, list_any, cons_option}
-use Rattle.std.specs.Map.{lookup}
+use Rattle.std.proofs.Common.{◌≡◌, refl, ℕ, suc, ◌≤◌, Bool, true, false, cond, not, ◌||◌, List, [], ◌∷◌, filter, length, sym, ap, subst, ◌∙◌, arith, length-append}
+use Rattle.std.specs.Prelude.{Option, Some, None, is_some, find, filter_map}
+use Rattle.std.specs.List.{AllByRecursion, IsDistinct, cons_option}
 use Rattle.std.specs.Str.{bytes_eq}
-use Rattle.std.specs.Cmp.Lexicographic.{same_text}
-use Rattle.std.proofs.lemmas.Bool.Decides.{nat_tests}
-use Rattle.std.proofs.lemmas.Map.Steps.{length-le_from_keys}
-use Rattle.sm_world.specs.declared.commands.Command.{Command}
-use Rattle.checkpoint_records.specs.declared.records.Book.{Book}
 use Rattle.checkpoint_records.specs.declared.records.Entry.{Entry}
-use Rattle.checkpoint_records.specs.Books.{same_command}
-use Rattle.checkpoint_records.specs.Rules.{ids_of, IsEntry, IsCommand, KeepsRules}
+use Rattle.checkpoint_records.specs.Rules.{ids_of, IsEntry, KeepsRules}
 use Rattle.round_agreement.specs.Agreement.{Agreement, conns_of}
-use Rattle.discard_ledger.specs.Discards.{is_among, without_commands, issuable}
 use Rattle.session_model.specs.Tables.{has_id, is_of}
 use Rattle.session_model.specs.Moves.{History}
 use Rattle.session_model.specs.Readings as of
@@ -21,9 +13,9 @@ use Rattle.session_model.specs.Reading.{reading}
 use Rattle.session_model.specs.Books.{next_entry, new_entry, next_entries, next_book, book_forgetting}
 use Rattle.session_model.proofs.Lists.{Once}
 use Rattle.session_model.proofs.Sound.{or-true}
-use Rattle.session_model.proofs.Propers.{IsOf, is-next, is-forgetting}
+use Rattle.session_model.proofs.Propers.{is-next, is-forgetting}
 use Rattle.session_model.proofs.Tidy.{Tidy}
-use Rattle.session_model.proofs.Pending.{command_equiv, filter-len, distinct-filter, Sources, rules-next}
+use Rattle.session_model.proofs.Pending.{filter-len, Sources, rules-next}
 use Rattle.session_model.proofs.Known.{entry_id, distinct-head, distinct-tail, distinct-cons}
 use Rattle.session_model.proofs.NextIds.{old_ids, new_ids, next-ids, old-id, new-is, next-distinct}
 use Rattle.session_model.proofs.Room.{held_ids, known_with, or-cases, has-append}
@@ -38,15 +30,15 @@ old-has f q (entry ∷ entries) k e = old-at (f entry) refl e (old-has f q entri
   old-at None s e g = ap (λ (b : Bool). bytes_eq q entry.id || b) (g e) ∙ or-true (bytes_eq q entry.id)
   old-at (Some id) s e g =
       or-cases (bytes_eq q id) (has_id q (filter_map f entries)) (λ t. ap (λ (b : Bool). b || has_id q (ids_of entries)) (sym (ap (λ (x : List ℕ). bytes_eq q x) (k entry id s)) ∙ t))
-        (λ t. ap (λ (b : Bool). bytes_eq q entry.id || b) (g t) ∙ or-true (bytes_eq q entry.id)) e
+      (λ t. ap (λ (b : Bool). bytes_eq q entry.id || b) (g t) ∙ or-true (bytes_eq q entry.id)) e
 
 pub next-known : (h : History) (round : Agreement) (q : List ℕ) → has_id q (ids_of (next_entries (reading h) round)) ≡ true → IsKnown q h
 next-known h round q e =
     or-cases (has_id q (old_ids h round)) (has_id q (new_ids h round))
-      (λ s. ap (λ (b : Bool). b || has_id q (held_ids h)) (old-has (λ (entry : Entry). entry_id (next_entry (reading h) round entry)) q (of.book h).entries (old-id h round) s))
-      (λ s. let c : (c : ℕ) × (entry_id (new_entry (reading h) c) ≡ Some q) = held-by (λ x. entry_id (new_entry (reading h) x)) q (conns_of round.members) s in
-        ap (λ (b : Bool). has_id q (ids_of (of.book h).entries) || b) (held-in c.0 q h (new-is h c.0 q c.1).held_is) ∙ or-true (has_id q (ids_of (of.book h).entries)))
-      (sym (has-append q (old_ids h round) (new_ids h round)) ∙ sym (ap (λ (xs : List (List ℕ)). has_id q xs) (next-ids h round)) ∙ e)
+    (λ s. ap (λ (b : Bool). b || has_id q (held_ids h)) (old-has (λ (entry : Entry). entry_id (next_entry (reading h) round entry)) q (of.book h).entries (old-id h round) s))
+    (λ s. let c : (c : ℕ) × (entry_id (new_entry (reading h) c) ≡ Some q) = held-by (λ x. entry_id (new_entry (reading h) x)) q (conns_of round.members) s in
+    ap (λ (b : Bool). has_id q (ids_of (of.book h).entries) || b) (held-in c.0 q h (new-is h c.0 q c.1).held_is) ∙ or-true (has_id q (ids_of (of.book h).entries)))
+    (sym (has-append q (old_ids h round) (new_ids h round)) ∙ sym (ap (λ (xs : List (List ℕ)). has_id q xs) (next-ids h round)) ∙ e)
 
 -- The entries that stay when one is forgotten
 
@@ -97,15 +89,15 @@ pub rules-next_book : (epoch : ℕ) (h : History) (round : Agreement) → (of.bo
     → KeepsRules (next_book (reading h) round)
 rules-next_book epoch h round e t r p o k =
     rules-next (of.book h).epoch (of.book h).pending (of.book h).entries (of.strays h) (next_entries (reading h) round) (sources epoch h e t r p)
-      (subst (λ (n : ℕ). AllByRecursion (IsEntry n) (next_entries (reading h) round)) (sym e) (is-next epoch h round e t).1)
-      (next-distinct h round r.own o r.ids_differ) (few-next epoch h (next_entries (reading h) round) (held_ids h) k)
+    (subst (λ (n : ℕ). AllByRecursion (IsEntry n) (next_entries (reading h) round)) (sym e) (is-next epoch h round e t).1)
+    (next-distinct h round r.own o r.ids_differ) (few-next epoch h (next_entries (reading h) round) (held_ids h) k)
 
 pub rules-forgetting : (epoch : ℕ) (h : History) (id : List ℕ) → (of.book h).epoch ≡ epoch → Tidy epoch h → Ruly epoch h → length (of.book h).pending ≤ 64 → KeepsRules (book_forgetting (reading h).store id)
 rules-forgetting epoch h id e t r p =
     rules-next (of.book h).epoch (of.book h).pending (of.book h).entries (of.strays h) (filter (λ entry. not (is_of id entry)) (of.book h).entries) (sources epoch h e t r p)
-      (subst (λ (n : ℕ). AllByRecursion (IsEntry n) (filter (λ entry. not (is_of id entry)) (of.book h).entries)) (sym e) (is-forgetting epoch h id e t).1)
-      (kept-distinct (λ entry. not (is_of id entry)) (of.book h).entries r.ids_differ)
-      (omega (arith, filter-len (λ (entry : Entry). not (is_of id entry)) (of.book h).entries, r.room, entries-known (of.book h).entries (held_ids h)))
+    (subst (λ (n : ℕ). AllByRecursion (IsEntry n) (filter (λ entry. not (is_of id entry)) (of.book h).entries)) (sym e) (is-forgetting epoch h id e t).1)
+    (kept-distinct (λ entry. not (is_of id entry)) (of.book h).entries r.ids_differ)
+    (omega (arith, filter-len (λ (entry : Entry). not (is_of id entry)) (of.book h).entries, r.room, entries-known (of.book h).entries (held_ids h)))
 
 pub forgetting-known : (h : History) (id q : List ℕ) → has_id q (ids_of (book_forgetting (reading h).store id).entries) ≡ true → IsKnown q h
 forgetting-known h id q e = ap (λ (b : Bool). b || has_id q (held_ids h)) (kept-has (λ entry. not (is_of id entry)) q (of.book h).entries e)

@@ -23,3 +23,6 @@ pub mod NextIds
 pub mod Room
 pub mod Ruly
 pub mod Lawfuls
+pub mod Left
+pub mod Whole
+pub mod WholeReply

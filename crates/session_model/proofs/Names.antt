@@ -1,20 +1,17 @@
 -- Nobody has another's ID, and no new ID was given before.
-use Rattle.std.proofs.Common.{◌≡◌, refl, ℕ, zero, suc, ◌+◌, ◌^◌, ◌<◌, ◌≤◌, Bool, true, false, cond, not, ◌&&◌, ◌||◌, List, [], ◌∷◌, ◌++◌, map, filter, eqb, sym, ap, subst, ◌∙◌, arith, rules, inl, inr}
-use Rattle.std.specs.Prelude.{Option, Some, None, is_some, is_none, find, ◌⊎◌}
-use Rattle.std.specs.List.{AllByRecursion, IsDistinct, list_any}
-use Rattle.std.specs.Str.{bytes_eq}
-use Rattle.std.specs.Cmp.Lexicographic.{same_text, other_text}
+use Rattle.std.proofs.Common.{◌≡◌, refl, ℕ, ◌+◌, ◌<◌, ◌≤◌, Bool, true, false, cond, not, ◌&&◌, ◌||◌, List, [], ◌∷◌, eqb, sym, ap, subst, ◌∙◌, arith, inl, inr}
+use Rattle.std.specs.Prelude.{Option, Some, None, is_some, ◌⊎◌}
+use Rattle.std.specs.List.{AllByRecursion}
 use Rattle.std.proofs.lemmas.Bool.Decides.{nat_tests}
 use Rattle.xsmp_messages.specs.declared.message.XsmpMessage.{XsmpMessage}
 use Rattle.xsmp_messages.specs.declared.message.XsmpMessage.TheVariants.{RegisterClientReply}
-use Rattle.checkpoint_records.specs.declared.records.Book.{Book}
 use Rattle.checkpoint_records.specs.declared.records.Entry.{Entry}
-use Rattle.checkpoint_records.specs.Rules.{client_id, IsClientId, ids_of}
+use Rattle.checkpoint_records.specs.Rules.{client_id, IsClientId}
 use Rattle.interact_queue.specs.Queue.{is_in, without}
 use Rattle.session_model.specs.declared.events.SessionEvent.{SessionEvent}
-use Rattle.session_model.specs.declared.events.SessionEvent.TheVariants.{Joined, Ready, Said, Left, Operator}
-use Rattle.session_model.specs.Tables.{has_id, is_of, entry_of, is_recorded}
-use Rattle.session_model.specs.Moves.{Move, Outside, Gave, Unset, Closed, Committed, History, Opened, ◌▷◌, onto}
+use Rattle.session_model.specs.declared.events.SessionEvent.TheVariants.{Left}
+use Rattle.session_model.specs.Tables.{is_recorded}
+use Rattle.session_model.specs.Moves.{Move, Outside, Gave, Closed, Committed, History, Opened, ◌▷◌}
 use Rattle.session_model.specs.Readings as of
 use Rattle.session_model.proofs.Lists.{in-without, in-append}
 use Rattle.session_model.proofs.Ids.{same-epoch, same-place}
@@ -144,7 +141,7 @@ all-before epoch n m (entry ∷ entries) l a = (before-more epoch n m entry.id l
 numbered-given : (epoch d : ℕ) (m : XsmpMessage) (h : History) → IsNumbered epoch (Gave d m) h → Numbered epoch h → Numbered epoch (Gave d m ▷ h)
 numbered-given epoch d (RegisterClientReply given) h p n = record {
   held = λ c id e. held-case epoch (of.given (Gave d (RegisterClientReply given) ▷ h)) given id p (eqb d c) (of.id_of c h)
-    (λ x. before-more epoch (of.given h) (of.given (Gave d (RegisterClientReply given) ▷ h)) id (given-more (is_recorded given (of.book h)) (of.given h)) (n.held c id x)) e;
+      (λ x. before-more epoch (of.given h) (of.given (Gave d (RegisterClientReply given) ▷ h)) id (given-more (is_recorded given (of.book h)) (of.given h)) (n.held c id x)) e;
   entries = all-before epoch (of.given h) (of.given (Gave d (RegisterClientReply given) ▷ h)) (of.book h).entries (given-more (is_recorded given (of.book h)) (of.given h)) n.entries;
 }
 numbered-given epoch d m h p n = record { held = n.held; entries = n.entries }

@@ -1,28 +1,21 @@
 -- The entries of the next book have IDs of their own, and no more IDs are known then than before.
-use Rattle.std.proofs.Common.{◌≡◌, refl, ℕ, zero, suc, ◌+◌, ◌<◌, ◌≤◌, Bool, true, false, cond, not, ◌&&◌, ◌||◌, List, [], ◌∷◌, ◌++◌, map, filter, length, eqb, sym, ap, subst, ◌∙◌, arith, rules, inl, inr, length-append}
-use Rattle.std.specs.Prelude.{Option, Some, None, is_some, is_none, find, filter_map, ◌⊎◌, IsSome}
-use Rattle.std.specs.List.{AllByRecursion, IsDistinct, list_any, cons_option}
-use Rattle.std.specs.Map.{lookup}
+use Rattle.std.proofs.Common.{◌≡◌, refl, ℕ, Bool, true, false, cond, List, [], ◌∷◌, ◌++◌, sym, ap, subst, ◌∙◌, arith}
+use Rattle.std.specs.Prelude.{Option, Some, None, is_some, find, filter_map}
+use Rattle.std.specs.List.{AllByRecursion, IsDistinct, cons_option}
 use Rattle.std.specs.Str.{bytes_eq}
-use Rattle.std.specs.Cmp.{nat_eq_equiv}
-use Rattle.std.specs.Cmp.Lexicographic.{same_text, lists_equiv}
-use Rattle.std.proofs.lemmas.Map.Steps.{length-le_from_keys}
-use Rattle.std.proofs.lemmas.Bool.Decides.{nat_tests}
 use Rattle.xsmp_properties.proofs.TableLaws.{differs}
 use Rattle.ice_values.specs.declared.property.Property.{Property}
 use Rattle.checkpoint_records.specs.declared.records.Book.{Book}
 use Rattle.checkpoint_records.specs.declared.records.Entry.{Entry}
 use Rattle.checkpoint_records.specs.Rules.{ids_of}
 use Rattle.round_agreement.specs.Agreement.{Agreement, conns_of}
-use Rattle.interact_queue.specs.Queue.{is_in, without}
-use Rattle.session_model.specs.Tables.{has_id, is_of, is_recorded}
+use Rattle.session_model.specs.Tables.{is_of, is_recorded}
 use Rattle.session_model.specs.Moves.{History}
 use Rattle.session_model.specs.Readings as of
 use Rattle.session_model.specs.Reading.{Reading, reading, client_of}
 use Rattle.session_model.specs.Books.{is_eligible, recorded, is_kept, snapshot, entry_saved, entry_for, next_entry, new_saved, new_entry, next_entries}
 use Rattle.session_model.proofs.Lists.{Once}
-use Rattle.session_model.proofs.Names.{AreOwn, have-ids}
-use Rattle.session_model.proofs.Pending.{all-filter, distinct-filter}
+use Rattle.session_model.proofs.Names.{AreOwn}
 use Rattle.session_model.proofs.Known.{entry_id, ids-map, distinct-conns, distinct-entries, distinct-append}
 
 -- What an entry becomes keeps its ID
@@ -112,8 +105,8 @@ new_ids h round = filter_map (λ c. entry_id (new_entry (reading h) c)) (conns_o
 pub next-ids : (h : History) (round : Agreement) → ids_of (next_entries (reading h) round) ≡ old_ids h round ++ new_ids h round
 next-ids h round =
     ids-append (filter_map (next_entry (reading h) round) (of.book h).entries) (filter_map (new_entry (reading h)) (conns_of round.members))
-      ∙ ap (λ (xs : List (List ℕ)). xs ++ ids_of (filter_map (new_entry (reading h)) (conns_of round.members))) (ids-map (next_entry (reading h) round) (of.book h).entries)
-      ∙ ap (λ (xs : List (List ℕ)). old_ids h round ++ xs) (ids-map (new_entry (reading h)) (conns_of round.members))
+    ∙ ap (λ (xs : List (List ℕ)). xs ++ ids_of (filter_map (new_entry (reading h)) (conns_of round.members))) (ids-map (next_entry (reading h) round) (of.book h).entries)
+    ∙ ap (λ (xs : List (List ℕ)). old_ids h round ++ xs) (ids-map (new_entry (reading h)) (conns_of round.members))
 
 pub old-id : (h : History) (round : Agreement) (entry : Entry) (x : List ℕ) → entry_id (next_entry (reading h) round entry) ≡ Some x → x ≡ entry.id
 old-id h round entry x e = id-for (reading h) round entry (client_of entry.id (reading h).clients) x e
@@ -126,14 +119,14 @@ apart-old : (h : History) (round : Agreement) (y : List ℕ) (entries : List Ent
 apart-old h round y [] a = tt
 apart-old h round y (entry ∷ entries) a =
     cons-all (λ x. bytes_eq x y ≡ false) (entry_id (next_entry (reading h) round entry)) (filter_map (λ (e : Entry). entry_id (next_entry (reading h) round e)) entries)
-      (λ x e. ap (λ (t : List ℕ). bytes_eq t y) (old-id h round entry x e) ∙ a.0) (apart-old h round y entries a.1)
+    (λ x e. ap (λ (t : List ℕ). bytes_eq t y) (old-id h round entry x e) ∙ a.0) (apart-old h round y entries a.1)
 
 pub next-distinct : (h : History) (round : Agreement) → AreOwn h → Once (conns_of round.members) → IsDistinct bytes_eq (ids_of (of.book h).entries) → IsDistinct bytes_eq (ids_of (next_entries (reading h) round))
 next-distinct h round o n d =
     subst (λ (xs : List (List ℕ)). IsDistinct bytes_eq xs) (sym (next-ids h round))
-      (distinct-append (old_ids h round) (new_ids h round)
-        (distinct-entries (λ (entry : Entry). entry_id (next_entry (reading h) round entry)) (of.book h).entries (old-id h round) d)
-        (distinct-conns h (λ c. entry_id (new_entry (reading h) c)) (conns_of round.members) (λ c x e. (new-is h c x e).held_is) o n)
-        (swap-all (old_ids h round) (new_ids h round)
-          (all-made (λ y. AllByRecursion (λ x. bytes_eq x y ≡ false) (old_ids h round)) (λ c. entry_id (new_entry (reading h) c)) (conns_of round.members)
-            (λ c y e. apart-old h round y (of.book h).entries (apart-unrecorded y (of.book h).entries (new-is h c y e).unrecorded)))))
+    (distinct-append (old_ids h round) (new_ids h round)
+    (distinct-entries (λ (entry : Entry). entry_id (next_entry (reading h) round entry)) (of.book h).entries (old-id h round) d)
+    (distinct-conns h (λ c. entry_id (new_entry (reading h) c)) (conns_of round.members) (λ c x e. (new-is h c x e).held_is) o n)
+    (swap-all (old_ids h round) (new_ids h round)
+    (all-made (λ y. AllByRecursion (λ x. bytes_eq x y ≡ false) (old_ids h round)) (λ c. entry_id (new_entry (reading h) c)) (conns_of round.members)
+    (λ c y e. apart-old h round y (of.book h).entries (apart-unrecorded y (of.book h).entries (new-is h c y e).unrecorded)))))

@@ -1,18 +1,17 @@
 -- The pending commands of a book that is made keep the rules.
-use Rattle.std.proofs.Common.{◌≡◌, refl, ℕ, zero, suc, ◌+◌, ◌<◌, ◌≤◌, Bool, true, false, cond, not, ◌&&◌, ◌||◌, List, [], ◌∷◌, ◌++◌, map, filter, length, sym, ap, subst, ◌∙◌, arith, rules, inl, inr, length-append}
-use Rattle.std.specs.Prelude.{Option, Some, None, filter_map, codes, nat_eq, if◌then◌else◌}
-use Rattle.std.specs.List.{AllByRecursion, IsDistinct, list_any, cons_option}
+use Rattle.std.proofs.Common.{◌≡◌, refl, ℕ, suc, ◌+◌, ◌≤◌, Bool, true, false, cond, not, List, [], ◌∷◌, ◌++◌, map, filter, length, sym, arith, length-append}
+use Rattle.std.specs.Prelude.{Option, Some, None, filter_map, if◌then◌else◌}
+use Rattle.std.specs.List.{AllByRecursion, IsDistinct, cons_option}
 use Rattle.std.specs.Str.{bytes_eq}
 use Rattle.std.specs.Cmp.{IsEquivalence, nat_eq_equiv}
 use Rattle.std.specs.Cmp.Lexicographic.{pointwise, lists_equiv}
-use Rattle.std.proofs.lemmas.Bool.Decides.{nat_tests}
 use Rattle.std.proofs.lemmas.Map.Keys.{IsDistinct-push}
 use Rattle.sm_world.specs.declared.commands.Command.{Command}
 use Rattle.checkpoint_records.specs.declared.records.Book.{Book}
 use Rattle.checkpoint_records.specs.declared.records.Entry.{Entry}
 use Rattle.checkpoint_records.specs.Books.{same_command, discards, names}
-use Rattle.checkpoint_records.specs.Rules.{IsTable, IsEntry, IsCommand, KeepsRules}
-use Rattle.discard_ledger.specs.Discards.{is_among, discard_of, without_commands, with_command, with_commands, each_once, next_pending}
+use Rattle.checkpoint_records.specs.Rules.{IsEntry, IsCommand, KeepsRules}
+use Rattle.discard_ledger.specs.Discards.{is_among, discard_of, without_commands, with_command, with_commands, next_pending}
 use Rattle.session_model.proofs.Commands.{IsMaybeCommand, discard-command}
 
 -- Commands are the same by their words
@@ -137,19 +136,26 @@ pub record Sources (epoch : ℕ) (pending : List Command) (old : List Entry) (st
 next-commands : (epoch : ℕ) (pending : List Command) (old : List Entry) (strays : List Command) (new : List Entry) → Sources epoch pending old strays → AllByRecursion IsCommand (next_pending pending old strays new)
 next-commands epoch pending old strays new s =
     all-with IsCommand (without_commands (discards new) (pending ++ discards old ++ strays)) [] tt
-      (all-filter IsCommand (λ c. not (is_among c (discards new))) (pending ++ discards old ++ strays)
-        (all-append IsCommand (pending ++ discards old) strays (all-append IsCommand pending (discards old) s.of_pending (all-discards epoch old s.of_old)) s.of_strays))
+    (all-filter IsCommand (λ c. not (is_among c (discards new))) (pending ++ discards old ++ strays)
+    (all-append IsCommand (pending ++ discards old) strays (all-append IsCommand pending (discards old) s.of_pending (all-discards epoch old s.of_old)) s.of_strays))
 
 next-none_named : (pending : List Command) (old : List Entry) (strays : List Command) (new : List Entry) → AllByRecursion (λ c. is_among c (discards new) ≡ false) (next_pending pending old strays new)
 next-none_named pending old strays new =
     all-with (λ c. is_among c (discards new) ≡ false) (without_commands (discards new) (pending ++ discards old ++ strays)) [] tt
-      (all-more (λ c. not (is_among c (discards new)) ≡ true) (λ c. is_among c (discards new) ≡ false) (λ c e. not-false (is_among c (discards new)) e) (without_commands (discards new) (pending ++ discards old ++ strays))
-        (all-passed (λ c. not (is_among c (discards new))) (pending ++ discards old ++ strays)))
+    (all-more (λ c. not (is_among c (discards new)) ≡ true) (λ c. is_among c (discards new) ≡ false) (λ c e. not-false (is_among c (discards new)) e) (without_commands (discards new) (pending ++ discards old ++ strays))
+    (all-passed (λ c. not (is_among c (discards new))) (pending ++ discards old ++ strays)))
 
 next-few : (epoch : ℕ) (pending : List Command) (old : List Entry) (strays : List Command) (new : List Entry) → Sources epoch pending old strays → length (next_pending pending old strays new) ≤ 320
 next-few epoch pending old strays new s =
-    omega (arith, with-len (without_commands (discards new) (pending ++ discards old ++ strays)) [], filter-len (λ c. not (is_among c (discards new))) (pending ++ discards old ++ strays),
-      length-append (pending ++ discards old) strays, length-append pending (discards old), map-len (λ (entry : Entry). discard_of entry.table) old, s.few)
+    omega (
+      arith,
+      with-len (without_commands (discards new) (pending ++ discards old ++ strays)) [],
+      filter-len (λ c. not (is_among c (discards new))) (pending ++ discards old ++ strays),
+      length-append (pending ++ discards old) strays,
+      length-append pending (discards old),
+      map-len (λ (entry : Entry). discard_of entry.table) old,
+      s.few,
+    )
 
 -- a book of these entries, whose pending commands come from a book of the same epoch
 pub rules-next : (epoch : ℕ) (pending : List Command) (old : List Entry) (strays : List Command) (new : List Entry) → Sources epoch pending old strays → AllByRecursion (IsEntry epoch) new → IsDistinct bytes_eq (map (λ (entry : Entry). entry.id) new) → length new ≤ 128

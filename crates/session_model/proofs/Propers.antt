@@ -1,8 +1,7 @@
 -- Rules and answers move as the kept tables and IDs ask.
-use Rattle.std.proofs.Common.{◌≡◌, refl, ℕ, zero, suc, ◌+◌, ◌*◌, ◌<◌, ◌≤◌, Bool, true, false, cond, not, ◌&&◌, ◌||◌, List, [], ◌∷◌, ◌++◌, map, filter, length, eqb, sym, ap, subst, ◌∙◌, arith, rules, inl, inr}
-use Rattle.std.specs.Prelude.{Option, Some, None, is_some, is_none, find, filter_map, nat_lt, nat_le, codes}
-use Rattle.std.specs.List.{AllByRecursion, list_any, cons_option}
-use Rattle.std.specs.Str.{bytes_eq}
+use Rattle.std.proofs.Common.{◌≡◌, refl, ℕ, ◌+◌, ◌<◌, ◌≤◌, Bool, true, false, cond, not, ◌&&◌, ◌||◌, List, [], ◌∷◌, ◌++◌, map, filter, sym, subst, arith}
+use Rattle.std.specs.Prelude.{Option, Some, None, is_some, is_none, find, filter_map, nat_le, codes}
+use Rattle.std.specs.List.{AllByRecursion, cons_option}
 use Rattle.std.specs.Cmp.Lexicographic.{same_text}
 use Rattle.std.proofs.lemmas.Bool.Decides.{nat_tests}
 use Rattle.sm_world.specs.declared.commands.Command.{Command}
@@ -14,11 +13,11 @@ use Rattle.checkpoint_records.specs.declared.records.Entry.{Entry}
 use Rattle.checkpoint_records.specs.Rules.{client_id, IsClientId, IsTable, IsEntry}
 use Rattle.round_agreement.specs.Agreement.{Agreement, two_ready, agreed, deserted, conns_of}
 use Rattle.interact_queue.specs.Queue.{is_in, next_holder}
-use Rattle.restart_plan.specs.Restarts.{respawn, opening_restarts}
+use Rattle.restart_plan.specs.Restarts.{respawn}
 use Rattle.discard_ledger.specs.Discards.{issuable}
 use Rattle.xsmp_properties.specs.Tables.{set_all}
 use Rattle.xsmp_messages.specs.declared.message.XsmpMessage.{XsmpMessage}
-use Rattle.xsmp_messages.specs.declared.message.XsmpMessage.TheVariants.{Error, RegisterClient, RegisterClientReply, SaveYourself, SaveYourselfRequest, InteractRequest, Interact, InteractDone, SaveYourselfDone, Die, ShutdownCancelled, ConnectionClosed, SetProperties, DeleteProperties, GetProperties, GetPropertiesReply, SaveYourselfPhase2Request, SaveYourselfPhase2, SaveComplete}
+use Rattle.xsmp_messages.specs.declared.message.XsmpMessage.TheVariants.{Error, RegisterClient, RegisterClientReply, SaveYourselfRequest, InteractRequest, InteractDone, SaveYourselfDone, Die, ShutdownCancelled, ConnectionClosed, SetProperties, DeleteProperties, GetProperties, GetPropertiesReply, SaveYourselfPhase2Request, SaveYourselfPhase2, SaveComplete}
 use Rattle.session_model.specs.declared.phase.Phase.{Phase}
 use Rattle.session_model.specs.declared.phase.Phase.TheVariants.{Dying}
 use Rattle.session_model.specs.declared.waits.Wait.{Wait}
@@ -27,18 +26,18 @@ use Rattle.session_model.specs.declared.events.SessionEvent.TheVariants.{Joined,
 use Rattle.session_model.specs.Phases.{is_bound, is_unregistered, is_dying, is_owing, is_saving, is_first_saving, is_interacting, is_shutdown, may_interact}
 use Rattle.session_model.specs.Tables.{is_full, is_of, entry_of, is_recorded}
 use Rattle.session_model.specs.Errors.{Arrival, no_room, bad_id, full_table, lone_shutdown}
-use Rattle.session_model.specs.Moves.{Move, Cause, Outside, Gave, Blamed, Unset, Closed, Began, Over, Cancelled, Agreed, Tried, Committed, Printed, Finished, Respawn, Resign, Restart, Discard, End, History, ◌▷◌, onto, gave_each, tried_each}
+use Rattle.session_model.specs.Moves.{Move, Cause, Gave, Blamed, Unset, Closed, Printed, Discard, End, History, gave_each, tried_each}
 use Rattle.session_model.specs.Readings as of
 use Rattle.session_model.specs.Reading.{Reading, reading, wanted_in, client_of}
-use Rattle.session_model.specs.Books.{is_eligible, recorded, is_kept, snapshot, entry_saved, entry_for, next_entry, new_saved, new_entry, next_entries, with_entries, next_book, book_forgetting, standing, issue, discarded, command_anyway}
-use Rattle.session_model.specs.Replies.{refused, or_bad_state, respawn_moves, entry_respawn, id_respawn, respawned, depart, has_no_room, known_ids, enter, may_rejoin, rejoin, register, called_off, want_cancel, answered, unless_dying, said, resigned, forgotten, forget_one, forget, may_wait, ordered, has_no_place, reply, status_text}
-use Rattle.session_model.specs.Rules.{last_command, ended, completed, agreement, agreement_with, wanting_two, over_rule, agreed_rule, running_rule, save_yourself, members_for, begin, begin_first, is_free, idle_rule, round_rule, token_rule, rule}
-use Rattle.session_model.proofs.Tidy.{either, IsSnapshot, HasId, Tidy, is_small, Proper, AllProper, proper-append}
+use Rattle.session_model.specs.Books.{is_eligible, recorded, is_kept, snapshot, entry_saved, entry_for, next_entry, new_saved, new_entry, next_book, book_forgetting, standing, issue, discarded, command_anyway}
+use Rattle.session_model.specs.Replies.{refused, or_bad_state, respawn_moves, entry_respawn, id_respawn, respawned, depart, has_no_room, known_ids, may_rejoin, register, called_off, want_cancel, answered, unless_dying, said, resigned, forgotten, forget_one, ordered, has_no_place, reply}
+use Rattle.session_model.specs.Rules.{last_command, ended, completed, agreement_with, wanting_two, over_rule, agreed_rule, running_rule, save_yourself, members_for, begin_first, is_free, idle_rule, round_rule, token_rule, rule}
+use Rattle.session_model.proofs.Tidy.{either, IsSnapshot, HasId, Tidy, Proper, AllProper, proper-append}
 use Rattle.session_model.proofs.Short.{error-state, error-id, error-room, error-full, error-lone}
 
 -- Lists of moves
 
-proper-gave : (epoch : ℕ) (m : XsmpMessage) (conns : List ℕ) → ((c : ℕ) → Proper epoch (Gave c m)) → AllProper epoch (gave_each m conns)
+pub proper-gave : (epoch : ℕ) (m : XsmpMessage) (conns : List ℕ) → ((c : ℕ) → Proper epoch (Gave c m)) → AllProper epoch (gave_each m conns)
 proper-gave epoch m [] k = tt
 proper-gave epoch m (c ∷ conns) k = (k c, proper-gave epoch m conns k)
 
@@ -46,7 +45,7 @@ pub proper-tried : (epoch : ℕ) (cause : Cause) (commands : List Command) → A
 proper-tried epoch cause [] = tt
 proper-tried epoch cause (c ∷ commands) = (tt, proper-tried epoch cause commands)
 
-proper-closed : (epoch : ℕ) (conns : List ℕ) → AllProper epoch (map Closed conns)
+pub proper-closed : (epoch : ℕ) (conns : List ℕ) → AllProper epoch (map Closed conns)
 proper-closed epoch [] = tt
 proper-closed epoch (c ∷ conns) = (tt, proper-closed epoch conns)
 
@@ -110,20 +109,25 @@ is-forgetting epoch h id e t = (e, all-filter epoch (λ entry. not (is_of id ent
 
 -- The rules
 
-proper-ended : (epoch : ℕ) (h : History) (book : Book) → AllProper epoch (ended (reading h).clients book)
+pub proper-ended : (epoch : ℕ) (h : History) (book : Book) → AllProper epoch (ended (reading h).clients book)
 proper-ended epoch h book =
     proper-append epoch (gave_each Die (of.registered h) ++ map Closed (filter (λ c. not (is_in c (of.registered h))) (of.live h))) (tried_each End (filter_map (last_command (reading h).clients) book.entries))
-      (proper-append epoch (gave_each Die (of.registered h)) (map Closed (filter (λ c. not (is_in c (of.registered h))) (of.live h))) (proper-gave epoch Die (of.registered h) (λ c. refl)) (proper-closed epoch (filter (λ c. not (is_in c (of.registered h))) (of.live h))))
-      (proper-tried epoch End (filter_map (last_command (reading h).clients) book.entries))
+    (proper-append epoch (gave_each Die (of.registered h)) (map Closed (filter (λ c. not (is_in c (of.registered h))) (of.live h))) (proper-gave epoch Die (of.registered h) (λ c. refl)) (proper-closed epoch (filter (λ c. not (is_in c (of.registered h))) (of.live h))))
+    (proper-tried epoch End (filter_map (last_command (reading h).clients) book.entries))
 
-proper-completed : (b : Bool) (epoch : ℕ) (h : History) (round : Agreement) (book : Book) → AllProper epoch (completed b (reading h).clients round book)
+pub proper-completed : (b : Bool) (epoch : ℕ) (h : History) (round : Agreement) (book : Book) → AllProper epoch (completed b (reading h).clients round book)
 proper-completed true epoch h round book = proper-ended epoch h book
 proper-completed false epoch h round book = proper-gave epoch SaveComplete (conns_of round.members) (λ c. refl)
 
 proper-agreement : (epoch : ℕ) (h : History) (round : Agreement) (book : Book) → IsOf epoch book → AllProper epoch (agreement_with (reading h).clients round book)
-proper-agreement epoch h round book b =
-    (b, (tt, proper-append epoch (completed round.wanted.shutdown (reading h).clients round book) (discarded (reading h).clients book) (proper-completed round.wanted.shutdown epoch h round book)
-      (proper-issue epoch book (issuable (standing (reading h).clients) book.pending) b)))
+proper-agreement epoch h round book b = (
+  b,
+  (
+    tt,
+    proper-append epoch (completed round.wanted.shutdown (reading h).clients round book) (discarded (reading h).clients book) (proper-completed round.wanted.shutdown epoch h round book)
+        (proper-issue epoch book (issuable (standing (reading h).clients) book.pending) b),
+  ),
+)
 
 proper-over : (b : Bool) (epoch : ℕ) → AllProper epoch (over_rule b)
 proper-over true epoch = (tt, tt)
@@ -192,9 +196,14 @@ proper-forget_one epoch h id None e t = (tt, tt)
 proper-forget_one epoch h id (Some entry) e t =
     let book : Book = book_forgetting (reading h).store id in
     let b : IsOf epoch book = is-forgetting epoch h id e t in
-    proper-cond epoch (is_some (client_of id (reading h).clients)) (Printed (codes "live") ∷ []) (forgotten (reading h) entry book) (tt, tt)
-      (tt, (b, proper-append epoch (resigned (command_anyway (codes "ResignCommand") entry)) (discarded (reading h).clients book) (proper-resigned epoch (command_anyway (codes "ResignCommand") entry))
-        (proper-issue epoch book (issuable (standing (reading h).clients) book.pending) b)))
+    proper-cond epoch (is_some (client_of id (reading h).clients)) (Printed (codes "live") ∷ []) (forgotten (reading h) entry book) (tt, tt) (
+      tt,
+      (
+        b,
+        proper-append epoch (resigned (command_anyway (codes "ResignCommand") entry)) (discarded (reading h).clients book) (proper-resigned epoch (command_anyway (codes "ResignCommand") entry))
+            (proper-issue epoch book (issuable (standing (reading h).clients) book.pending) b),
+      ),
+    )
 
 proper-off : (epoch : ℕ) (o : Option Agreement) → AllProper epoch (called_off o)
 proper-off epoch None = tt
@@ -242,11 +251,11 @@ proper-answered : (epoch : ℕ) (h : History) (x : Arrival) (m : XsmpMessage) (p
 proper-answered epoch h x (RegisterClient previous) p one e t = proper-or-bad epoch (is_unregistered p) x (register (reading h) x previous) (proper-register epoch h x previous one e t)
 proper-answered epoch h x (InteractDone true) p one e t =
     proper-or-bad epoch (is_owing p || is_interacting p) x (cond (is_owing p) [] (want_cancel (reading h) x (is_shutdown (wanted_in (of.round h)))))
-      (proper-cond epoch (is_owing p) [] (want_cancel (reading h) x (is_shutdown (wanted_in (of.round h)))) tt (proper-want_cancel epoch (is_shutdown (wanted_in (of.round h))) (reading h) x))
+    (proper-cond epoch (is_owing p) [] (want_cancel (reading h) x (is_shutdown (wanted_in (of.round h)))) tt (proper-want_cancel epoch (is_shutdown (wanted_in (of.round h))) (reading h) x))
 proper-answered epoch h x (InteractDone false) p one e t = proper-or-bad epoch (is_owing p || is_interacting p) x [] tt
 proper-answered epoch h x (SetProperties list) p one e t =
     proper-or-bad epoch (is_bound p) x (cond (is_full (set_all (of.table_of x.conn h) list)) (Blamed x.conn (full_table x) ∷ []) [])
-      (proper-cond epoch (is_full (set_all (of.table_of x.conn h) list)) (Blamed x.conn (full_table x) ∷ []) [] (error-full x, tt) tt)
+    (proper-cond epoch (is_full (set_all (of.table_of x.conn h) list)) (Blamed x.conn (full_table x) ∷ []) [] (error-full x, tt) tt)
 proper-answered epoch h x (DeleteProperties names) p one e t = proper-or-bad epoch (is_bound p) x [] tt
 proper-answered epoch h x GetProperties p one e t = proper-or-bad epoch (is_bound p) x (Gave x.conn (GetPropertiesReply (of.table_of x.conn h)) ∷ []) (t.tables x.conn, tt)
 proper-answered epoch h x (SaveYourselfRequest kind shutdown style fast global) p one e t =

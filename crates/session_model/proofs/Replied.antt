@@ -117,11 +117,11 @@ good-register r x (b ∷ id) h e g =
     good-cond (may_rejoin r (b ∷ id)) (Gave x.conn (RegisterClientReply (b ∷ id)) ∷ []) (Blamed x.conn (bad_id x) ∷ []) h
     (good-reply-to x.conn (b ∷ id) h e g) (good-plain (Blamed x.conn (bad_id x) ∷ []) h (tt, tt) g)
 
-unregistered-is : (p : Option Phase) → is_unregistered p ≡ true → p ≡ Some Unregistered
+pub unregistered-is : (p : Option Phase) → is_unregistered p ≡ true → p ≡ Some Unregistered
 unregistered-is (Some Unregistered) e = refl
 unregistered-is p e = absurd (grind arith)
 
-cond-same : {A : Type 0} (b : Bool) (x : A) → cond b x x ≡ x
+pub cond-same : {A : Type 0} (b : Bool) (x : A) → cond b x x ≡ x
 cond-same true x = refl
 cond-same false x = refl
 

@@ -1,30 +1,21 @@
 -- No more IDs are known after a book was written than before.
-use Rattle.std.proofs.Common.{◌≡◌, refl, ℕ, zero, suc, ◌+◌, ◌<◌, ◌≤◌, Bool, true, false, cond, not, ◌&&◌, ◌||◌, List, [], ◌∷◌, ◌++◌, map, filter, length, eqb, sym, ap, subst, ◌∙◌, arith, rules, inl, inr, length-append}
-use Rattle.std.specs.Prelude.{Option, Some, None, is_some, is_none, find, filter_map, ◌⊎◌, IsSome}
-use Rattle.std.specs.List.{AllByRecursion, IsDistinct, list_any, cons_option}
+use Rattle.std.proofs.Common.{◌≡◌, refl, ℕ, suc, ◌≤◌, Bool, true, false, cond, not, ◌||◌, List, [], ◌∷◌, ◌++◌, filter, length, sym, ap, subst, ◌∙◌, arith}
+use Rattle.std.specs.Prelude.{Option, Some, is_some, find, filter_map, IsSome}
+use Rattle.std.specs.List.{AllByRecursion, IsDistinct, list_any}
 use Rattle.std.specs.Map.{lookup}
 use Rattle.std.specs.Str.{bytes_eq}
 use Rattle.std.specs.Cmp.{IsEquivalence, nat_eq_equiv}
 use Rattle.std.specs.Cmp.Lexicographic.{same_text, lists_equiv}
 use Rattle.std.proofs.lemmas.Map.Steps.{length-le_from_keys}
-use Rattle.std.proofs.lemmas.Bool.Decides.{nat_tests}
-use Rattle.ice_values.specs.declared.property.Property.{Property}
-use Rattle.checkpoint_records.specs.declared.records.Book.{Book}
 use Rattle.checkpoint_records.specs.declared.records.Entry.{Entry}
 use Rattle.checkpoint_records.specs.Rules.{ids_of}
-use Rattle.round_agreement.specs.Agreement.{Agreement, conns_of}
-use Rattle.interact_queue.specs.Queue.{is_in, without}
-use Rattle.session_model.specs.Tables.{has_id, is_of, is_recorded}
+use Rattle.session_model.specs.Tables.{has_id, is_of}
 use Rattle.session_model.specs.Moves.{History}
 use Rattle.session_model.specs.Readings as of
-use Rattle.session_model.specs.Reading.{reading}
-use Rattle.session_model.specs.Books.{next_entry, new_entry, next_entries}
-use Rattle.session_model.proofs.Lists.{Once}
 use Rattle.session_model.proofs.Sound.{or-true}
-use Rattle.session_model.proofs.Names.{AreOwn, have-ids}
-use Rattle.session_model.proofs.Pending.{all-filter, distinct-filter, filter-len}
-use Rattle.session_model.proofs.Known.{entry_id, distinct-conns, distinct-append}
-use Rattle.session_model.proofs.NextIds.{old_ids, new_ids, next-ids, old-id, new-is, apart-unrecorded, swap-all}
+use Rattle.session_model.proofs.Pending.{distinct-filter}
+use Rattle.session_model.proofs.Known.{distinct-append}
+use Rattle.session_model.proofs.NextIds.{apart-unrecorded, swap-all}
 
 -- A list without twins whose items are all in another is no longer than that one
 
@@ -103,9 +94,9 @@ filter-has q test (x ∷ xs) e = had-at q x (test x) (filter test xs) xs (filter
 pub known-in : (q : List ℕ) (entries : List Entry) (held : List (List ℕ)) → (has_id q (ids_of entries) || has_id q held) ≡ true → has_id q (known_with entries held) ≡ true
 known-in q entries held e =
     has-append q (ids_of entries) (filter (λ id. not (is_some (find (is_of id) entries))) held) ∙ known-at (has_id q (ids_of entries)) refl e where
-  known-at : (b : Bool) → has_id q (ids_of entries) ≡ b → (b || has_id q held) ≡ true → (has_id q (ids_of entries) || has_id q (filter (λ id. not (is_some (find (is_of id) entries))) held)) ≡ true
-  known-at true s e = ap (λ (c : Bool). c || has_id q (filter (λ id. not (is_some (find (is_of id) entries))) held)) s
-  known-at false s e = ap (λ (c : Bool). has_id q (ids_of entries) || c) (has-filter q (λ id. not (is_some (find (is_of id) entries))) held (ap (λ (c : Bool). not c) (recorded-has q entries ∙ s)) e) ∙ or-true (has_id q (ids_of entries))
+      known-at : (b : Bool) → has_id q (ids_of entries) ≡ b → (b || has_id q held) ≡ true → (has_id q (ids_of entries) || has_id q (filter (λ id. not (is_some (find (is_of id) entries))) held)) ≡ true
+      known-at true s e = ap (λ (c : Bool). c || has_id q (filter (λ id. not (is_some (find (is_of id) entries))) held)) s
+      known-at false s e = ap (λ (c : Bool). has_id q (ids_of entries) || c) (has-filter q (λ id. not (is_some (find (is_of id) entries))) held (ap (λ (c : Bool). not c) (recorded-has q entries ∙ s)) e) ∙ or-true (has_id q (ids_of entries))
 
 pub or-cases : {P : Type 0} (x y : Bool) → (x ≡ true → P) → (y ≡ true → P) → (x || y) ≡ true → P
 or-cases true y f g e = f refl
@@ -114,9 +105,9 @@ or-cases false y f g e = g e
 pub in-known : (q : List ℕ) (entries : List Entry) (held : List (List ℕ)) → has_id q (known_with entries held) ≡ true → (has_id q (ids_of entries) || has_id q held) ≡ true
 in-known q entries held e =
     or-cases (has_id q (ids_of entries)) (has_id q (filter (λ id. not (is_some (find (is_of id) entries))) held))
-      (λ s. ap (λ (c : Bool). c || has_id q held) s)
-      (λ s. ap (λ (c : Bool). has_id q (ids_of entries) || c) (filter-has q (λ id. not (is_some (find (is_of id) entries))) held s) ∙ or-true (has_id q (ids_of entries)))
-      (sym (has-append q (ids_of entries) (filter (λ id. not (is_some (find (is_of id) entries))) held)) ∙ e)
+    (λ s. ap (λ (c : Bool). c || has_id q held) s)
+    (λ s. ap (λ (c : Bool). has_id q (ids_of entries) || c) (filter-has q (λ id. not (is_some (find (is_of id) entries))) held s) ∙ or-true (has_id q (ids_of entries)))
+    (sym (has-append q (ids_of entries) (filter (λ id. not (is_some (find (is_of id) entries))) held)) ∙ e)
 
 -- nothing is known twice
 
@@ -132,11 +123,11 @@ unrecorded-apart entries (y ∷ held) = unrecorded-at entries y (is_some (find (
 pub known-distinct : (entries : List Entry) (held : List (List ℕ)) → IsDistinct bytes_eq (ids_of entries) → IsDistinct bytes_eq held → IsDistinct bytes_eq (known_with entries held)
 known-distinct entries held d e =
     distinct-append (ids_of entries) (filter (λ id. not (is_some (find (is_of id) entries))) held) d (distinct-filter bytes_eq (λ id. not (is_some (find (is_of id) entries))) held e)
-      (swap-all (ids_of entries) (filter (λ id. not (is_some (find (is_of id) entries))) held) (unrecorded-apart entries held))
+    (swap-all (ids_of entries) (filter (λ id. not (is_some (find (is_of id) entries))) held) (unrecorded-apart entries held))
 
 -- Entries that come from what is known are no more than what is known
 pub room-kept : (old new : List Entry) (held : List (List ℕ)) → IsDistinct bytes_eq (ids_of new) → IsDistinct bytes_eq held → ((q : List ℕ) → has_id q (ids_of new) ≡ true → (has_id q (ids_of old) || has_id q held) ≡ true)
     → length (known_with new held) ≤ length (known_with old held)
 room-kept old new held d e k =
     within (known_with new held) (known_with old held) (known-distinct new held d e)
-      (λ q i. known-in q old held (or-cases (has_id q (ids_of new)) (has_id q held) (k q) (λ s. ap (λ (c : Bool). has_id q (ids_of old) || c) s ∙ or-true (has_id q (ids_of old))) (in-known q new held i)))
+    (λ q i. known-in q old held (or-cases (has_id q (ids_of new)) (has_id q held) (k q) (λ s. ap (λ (c : Bool). has_id q (ids_of old) || c) s ∙ or-true (has_id q (ids_of old))) (in-known q new held i)))

@@ -1,7 +1,7 @@
 -- What holds at every move of a run over a book that keeps the rules.
-use Rattle.std.proofs.Common.{◌≡◌, refl, ℕ, zero, suc, ◌+◌, ◌<◌, ◌≤◌, Bool, true, false, cond, not, ◌&&◌, ◌||◌, List, [], ◌∷◌, ◌++◌, map, filter, length, eqb, sym, ap, subst, ◌∙◌, arith, rules, inl, inr, length-append}
-use Rattle.std.specs.Prelude.{Option, Some, None, is_some, is_none, find, filter_map, nat_lt, ◌⊎◌, if◌then◌else◌}
-use Rattle.std.specs.List.{AllByRecursion, IsDistinct, list_any, cons_option}
+use Rattle.std.proofs.Common.{◌≡◌, refl, ℕ, ◌+◌, ◌<◌, ◌≤◌, Bool, true, false, cond, not, ◌&&◌, ◌||◌, List, [], ◌∷◌, ◌++◌, length, eqb, sym, ap, subst, ◌∙◌, arith, inl, inr, length-append}
+use Rattle.std.specs.Prelude.{Option, Some, None, is_some, find, filter_map, nat_lt, ◌⊎◌, if◌then◌else◌}
+use Rattle.std.specs.List.{AllByRecursion, IsDistinct, cons_option}
 use Rattle.std.specs.Str.{bytes_eq}
 use Rattle.std.specs.Cmp.Lexicographic.{same_text}
 use Rattle.std.proofs.lemmas.Bool.Decides.{nat_tests}
@@ -14,7 +14,7 @@ use Rattle.checkpoint_records.specs.declared.records.Entry.{Entry}
 use Rattle.checkpoint_records.specs.Books.{same_command}
 use Rattle.checkpoint_records.specs.Rules.{client_id, ids_of, IsCommand, KeepsRules}
 use Rattle.interact_queue.specs.Queue.{is_in, without}
-use Rattle.discard_ledger.specs.Discards.{discard_of, is_stray, with_stray}
+use Rattle.discard_ledger.specs.Discards.{discard_of, is_stray}
 use Rattle.session_model.specs.declared.phase.Phase.{Phase}
 use Rattle.session_model.specs.declared.phase.Phase.TheVariants.{Unregistered}
 use Rattle.session_model.specs.declared.events.SessionEvent.{SessionEvent}
@@ -22,11 +22,10 @@ use Rattle.session_model.specs.declared.events.SessionEvent.TheVariants.{Joined,
 use Rattle.sm_world.specs.declared.events.Dialog.{Dialog}
 use Rattle.session_model.specs.Phases.{may_interact, phase_said, phase_given, ready_phase}
 use Rattle.session_model.specs.Tables.{is_same, stopped, stopped_said, strays_with, table_said, has_id, is_of, is_recorded}
-use Rattle.session_model.specs.Moves.{Move, Outside, Gave, Unset, Closed, Began, Over, Agreed, Cancelled, Committed, History, Opened, ◌▷◌}
+use Rattle.session_model.specs.Moves.{Move, Outside, Gave, Unset, Closed, Began, Over, Agreed, Cancelled, Committed, History, ◌▷◌}
 use Rattle.session_model.specs.Readings as of
 use Rattle.session_model.proofs.Lists.{Once, once-without, in-without, in-append}
-use Rattle.session_model.proofs.Sound.{AreRegistered, Sound, or-true}
-use Rattle.session_model.proofs.Ruled.{denied, differ}
+use Rattle.session_model.proofs.Sound.{or-true}
 use Rattle.session_model.proofs.Tidy.{Tidy}
 use Rattle.session_model.proofs.Commands.{IsMaybeCommand, discard-command}
 use Rattle.session_model.proofs.Pending.{all-append}
@@ -39,7 +38,7 @@ use Rattle.session_model.proofs.Room.{within, held_ids, known_with, known-in, in
 abbrev pub Lawful : ℕ → Move → History → Type 0
 Lawful epoch (Gave c (RegisterClientReply id)) h =
     (of.phase_of c h ≡ Some Unregistered) × IsFree id h
-      × (is_recorded id (of.book h) ≡ false → (id ≡ client_id epoch (of.given h + 1)) × (of.given h + 1 < 4294967296) × (length (known_with (of.book h).entries (held_ids h)) < 128))
+    × (is_recorded id (of.book h) ≡ false → (id ≡ client_id epoch (of.given h + 1)) × (of.given h + 1 < 4294967296) × (length (known_with (of.book h).entries (held_ids h)) < 128))
 Lawful epoch (Committed written) h =
     KeepsRules written × ((q : List ℕ) → has_id q (ids_of written.entries) ≡ true → (has_id q (ids_of (of.book h).entries) || has_id q (held_ids h)) ≡ true)
 Lawful epoch (Began conns wanted) h = Once conns
@@ -77,8 +76,8 @@ holds f q c (d ∷ cs) i e = holds-at (eqb d c) (f d) refl refl i (λ j. holds f
   holds-at true (Some id) s k j g = let same : d ≡ c = grind (arith, nat_tests) in
       let own : q ≡ id = some-own id (sym k ∙ ap (λ (x : ℕ). f x) same ∙ e) in
       ap (λ (b : Bool). b || has_id q (filter_map f cs)) (ap (λ (x : List ℕ). bytes_eq q x) (sym own) ∙ own_text q) where
-    some-own : (id : List ℕ) → Some id ≡ Some q → q ≡ id
-    some-own id e = cc
+        some-own : (id : List ℕ) → Some id ≡ Some q → q ≡ id
+        some-own id e = cc
   holds-at false None s k j g = g j
   holds-at false (Some id) s k j g = ap (λ (b : Bool). bytes_eq q id || b) (g j) ∙ or-true (bytes_eq q id)
 
@@ -128,7 +127,7 @@ all-by-has P (entry ∷ entries) k =
 known-before : (epoch : ℕ) (q : List ℕ) (h : History) → Numbered epoch h → IsKnown q h → IsBefore epoch (of.given h) q
 known-before epoch q h n e =
     or-cases (has_id q (ids_of (of.book h).entries)) (has_id q (held_ids h)) (λ s. find-before epoch (of.given h) q (of.book h).entries n.entries (recorded-has q (of.book h).entries ∙ s))
-      (λ s. let c : (c : ℕ) × (of.id_of c h ≡ Some q) = held-by (λ x. of.id_of x h) q (of.registered h) s in n.held c.0 q c.1) e
+    (λ s. let c : (c : ℕ) × (of.id_of c h ≡ Some q) = held-by (λ x. of.id_of x h) q (of.registered h) s in n.held c.0 q c.1) e
 
 lawful-given-numbered : (epoch c : ℕ) (m : XsmpMessage) (h : History) → Lawful epoch (Gave c m) h → Numbered epoch h → IsNumbered epoch (Gave c m) h
 lawful-given-numbered epoch c (RegisterClientReply id) h l n =
@@ -262,21 +261,21 @@ room-less : (entries : List Entry) (held less : List (List ℕ)) → IsDistinct 
     → length (known_with entries less) ≤ length (known_with entries held)
 room-less entries held less d e k =
     within (known_with entries less) (known_with entries held) (known-distinct entries less d e)
-      (λ q i. known-in q entries held (or-cases (has_id q (ids_of entries)) (has_id q less) (λ s. ap (λ (b : Bool). b || has_id q held) s) (k q) (in-known q entries less i)))
+    (λ q i. known-in q entries held (or-cases (has_id q (ids_of entries)) (has_id q less) (λ s. ap (λ (b : Bool). b || has_id q held) s) (k q) (in-known q entries less i)))
 
 -- one more at most
 room-more : (entries : List Entry) (held more : List (List ℕ)) (id : List ℕ) → IsDistinct bytes_eq (ids_of entries) → IsDistinct bytes_eq more → ((q : List ℕ) → has_id q more ≡ true → (q ≡ id) ⊎ (has_id q held ≡ true))
     → length (known_with entries more) ≤ length (known_with entries held) + 1
 room-more entries held more id d e k =
     let w : length (known_with entries more) ≤ length (id ∷ known_with entries held) =
-      within (known_with entries more) (id ∷ known_with entries held) (known-distinct entries more d e)
-        (λ q i. or-cases (has_id q (ids_of entries)) (has_id q more)
-          (λ s. ap (λ (b : Bool). bytes_eq q id || b) (known-in q entries held (ap (λ (b : Bool). b || has_id q held) s)) ∙ or-true (bytes_eq q id))
-          (λ s. one-of q (k q s)) (in-known q entries more i)) in
+    within (known_with entries more) (id ∷ known_with entries held) (known-distinct entries more d e)
+    (λ q i. or-cases (has_id q (ids_of entries)) (has_id q more)
+    (λ s. ap (λ (b : Bool). bytes_eq q id || b) (known-in q entries held (ap (λ (b : Bool). b || has_id q held) s)) ∙ or-true (bytes_eq q id))
+    (λ s. one-of q (k q s)) (in-known q entries more i)) in
     omega (arith, w) where
-  one-of : (q : List ℕ) → (q ≡ id) ⊎ (has_id q held ≡ true) → (bytes_eq q id || has_id q (known_with entries held)) ≡ true
-  one-of q (inl s) = ap (λ (b : Bool). b || has_id q (known_with entries held)) (ap (λ (x : List ℕ). bytes_eq q x) (sym s) ∙ own_text q)
-  one-of q (inr s) = ap (λ (b : Bool). bytes_eq q id || b) (known-in q entries held (ap (λ (b : Bool). has_id q (ids_of entries) || b) s ∙ or-true (has_id q (ids_of entries)))) ∙ or-true (bytes_eq q id)
+      one-of : (q : List ℕ) → (q ≡ id) ⊎ (has_id q held ≡ true) → (bytes_eq q id || has_id q (known_with entries held)) ≡ true
+      one-of q (inl s) = ap (λ (b : Bool). b || has_id q (known_with entries held)) (ap (λ (x : List ℕ). bytes_eq q x) (sym s) ∙ own_text q)
+      one-of q (inr s) = ap (λ (b : Bool). bytes_eq q id || b) (known-in q entries held (ap (λ (b : Bool). has_id q (ids_of entries) || b) s ∙ or-true (has_id q (ids_of entries)))) ∙ or-true (bytes_eq q id)
 
 pub held-distinct : (h : History) → AreOwn h → Once (of.registered h) → IsDistinct bytes_eq (held_ids h)
 held-distinct h o n = distinct-conns h (λ c. of.id_of c h) (of.registered h) (λ c id e. e) o n
@@ -286,26 +285,26 @@ room-left : (m : Move) (d : ℕ) (h : History) → ((c : ℕ) → of.id_of c (m 
     → length (known_with (of.book h).entries (held_ids (m ▷ h))) ≤ length (known_with (of.book h).entries (held_ids h))
 room-left m d h f b i e =
     room-less (of.book h).entries (held_ids h) (held_ids (m ▷ h)) i e
-      (λ q s. let c : (c : ℕ) × (of.id_of c (m ▷ h) ≡ Some q) = held-by (λ x. of.id_of x (m ▷ h)) q (of.registered (m ▷ h)) s in
-        ap (λ (b : Bool). has_id q (ids_of (of.book h).entries) || b) (held-in c.0 q h (gone-had (eqb d c.0) q (of.id_of c.0 h) (sym (f c.0) ∙ c.1))) ∙ or-true (has_id q (ids_of (of.book h).entries)))
+    (λ q s. let c : (c : ℕ) × (of.id_of c (m ▷ h) ≡ Some q) = held-by (λ x. of.id_of x (m ▷ h)) q (of.registered (m ▷ h)) s in
+    ap (λ (b : Bool). has_id q (ids_of (of.book h).entries) || b) (held-in c.0 q h (gone-had (eqb d c.0) q (of.id_of c.0 h) (sym (f c.0) ∙ c.1))) ∙ or-true (has_id q (ids_of (of.book h).entries)))
 
 given-case : (d : ℕ) (id q : List ℕ) (h : History) → has_id q (held_ids (Gave d (RegisterClientReply id) ▷ h)) ≡ true → (q ≡ id) ⊎ (has_id q (held_ids h) ≡ true)
 given-case d id q h s =
     let c : (c : ℕ) × (cond (eqb d c) (Some id) (of.id_of c h) ≡ Some q) = held-by (λ x. of.id_of x (Gave d (RegisterClientReply id) ▷ h)) q (of.registered (Gave d (RegisterClientReply id) ▷ h)) s in
     of-case c.0 (own-case (eqb d c.0) id q (of.id_of c.0 h) c.1) where
-  of-case : (c : ℕ) → ((eqb d c ≡ true) × (id ≡ q)) ⊎ (of.id_of c h ≡ Some q) → (q ≡ id) ⊎ (has_id q (held_ids h) ≡ true)
-  of-case c (inl x) = inl (sym x.1)
-  of-case c (inr x) = inr (held-in c q h x)
+      of-case : (c : ℕ) → ((eqb d c ≡ true) × (id ≡ q)) ⊎ (of.id_of c h ≡ Some q) → (q ≡ id) ⊎ (has_id q (held_ids h) ≡ true)
+      of-case c (inl x) = inl (sym x.1)
+      of-case c (inr x) = inr (held-in c q h x)
 
 room-reply : (b : Bool) (d : ℕ) (id : List ℕ) (h : History) → is_recorded id (of.book h) ≡ b → (b ≡ false → length (known_with (of.book h).entries (held_ids h)) < 128) → IsDistinct bytes_eq (ids_of (of.book h).entries)
     → IsDistinct bytes_eq (held_ids (Gave d (RegisterClientReply id) ▷ h)) → length (known_with (of.book h).entries (held_ids h)) ≤ 128 → length (known_with (of.book h).entries (held_ids (Gave d (RegisterClientReply id) ▷ h))) ≤ 128
 room-reply true d id h r l i e k =
     let w : length (known_with (of.book h).entries (held_ids (Gave d (RegisterClientReply id) ▷ h))) ≤ length (known_with (of.book h).entries (held_ids h)) =
-      room-less (of.book h).entries (held_ids h) (held_ids (Gave d (RegisterClientReply id) ▷ h)) i e (λ q s. known-case q (given-case d id q h s)) in
+    room-less (of.book h).entries (held_ids h) (held_ids (Gave d (RegisterClientReply id) ▷ h)) i e (λ q s. known-case q (given-case d id q h s)) in
     omega (arith, w, k) where
-  known-case : (q : List ℕ) → (q ≡ id) ⊎ (has_id q (held_ids h) ≡ true) → (has_id q (ids_of (of.book h).entries) || has_id q (held_ids h)) ≡ true
-  known-case q (inl s) = ap (λ (b : Bool). b || has_id q (held_ids h)) (ap (λ (x : List ℕ). has_id x (ids_of (of.book h).entries)) s ∙ sym (recorded-has id (of.book h).entries) ∙ r)
-  known-case q (inr s) = ap (λ (b : Bool). has_id q (ids_of (of.book h).entries) || b) s ∙ or-true (has_id q (ids_of (of.book h).entries))
+      known-case : (q : List ℕ) → (q ≡ id) ⊎ (has_id q (held_ids h) ≡ true) → (has_id q (ids_of (of.book h).entries) || has_id q (held_ids h)) ≡ true
+      known-case q (inl s) = ap (λ (b : Bool). b || has_id q (held_ids h)) (ap (λ (x : List ℕ). has_id x (ids_of (of.book h).entries)) s ∙ sym (recorded-has id (of.book h).entries) ∙ r)
+      known-case q (inr s) = ap (λ (b : Bool). has_id q (ids_of (of.book h).entries) || b) s ∙ or-true (has_id q (ids_of (of.book h).entries))
 room-reply false d id h r l i e k =
     omega (arith, room-more (of.book h).entries (held_ids h) (held_ids (Gave d (RegisterClientReply id) ▷ h)) id i e (λ q s. given-case d id q h s), l refl)
 

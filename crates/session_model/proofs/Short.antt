@@ -1,18 +1,17 @@
 -- What is sent fits into a message.
-use Rattle.std.proofs.Common.{◌≡◌, refl, ℕ, zero, suc, ◌+◌, ◌-◌, ◌*◌, ◌%◌, ◌<◌, ◌≤◌, Bool, true, false, List, [], ◌∷◌, ◌++◌, length, take, drop, sym, ap, subst, ◌∙◌, arith, rules, inl, inr, length-append}
+use Rattle.std.proofs.Common.{◌≡◌, ℕ, ◌+◌, ◌*◌, ◌≤◌, true, List, ◌++◌, length, take, drop, ap, ◌∙◌, arith, inr, length-append}
 use Rattle.std.specs.Prelude.{codes, replicate}
 use Rattle.std.proofs.lemmas.List.{length-replicate, length-take}
 use Rattle.byteorder.specs.Endian.{big_bytes, little_bytes}
 use Rattle.byteorder.specs.Numbers.{length-bytes_high_first, length-bytes_low_first}
-use Rattle.hex.specs.Hex.{encode_lower, lower_digits}
+use Rattle.hex.specs.Hex.{lower_digits}
 use Rattle.hex.proofs.HexLemmas.{length-encode_with}
-use Rattle.ice_values.specs.Cells.{pad_len, byte}
+use Rattle.ice_values.specs.Cells.{pad_len}
 use Rattle.ice_values.specs.Fields.{ErrorFields}
-use Rattle.ice_values.specs.Properties.{array8, property, listed}
+use Rattle.ice_values.specs.Properties.{array8, property}
 use Rattle.ice_values.specs.declared.numbers.Endian.TheVariants.{Lsb}
 use Rattle.ice_values.specs.declared.property.Property.{Property}
 use Rattle.ice_values.proofs.LengthLaws.{length-array8, length-listed, length-error_body}
-use Rattle.xsmp_properties.specs.Tables.{encoded_len, IsTableFull}
 use Rattle.checkpoint_records.specs.Rules.{hex8, client_id, IsClientId, IsTable}
 use Rattle.xsmp_messages.specs.Messages.{IsTooLong}
 use Rattle.xsmp_messages.specs.declared.message.XsmpMessage.{XsmpMessage}

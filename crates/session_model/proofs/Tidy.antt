@@ -1,32 +1,20 @@
 -- At every move of a run, whatever is kept of clients keeps the rules for it, and whatever is sent fits into a message.
-use Rattle.std.proofs.Common.{◌≡◌, refl, ℕ, zero, suc, ◌+◌, ◌*◌, ◌^◌, ◌<◌, ◌≤◌, Bool, true, false, cond, not, ◌&&◌, ◌||◌, List, [], ◌∷◌, ◌++◌, map, filter, length, take, drop, eqb, sym, ap, subst, ◌∙◌, arith, rules, inl, inr, length-append}
-use Rattle.std.specs.Prelude.{Option, Some, None, is_some, is_none, find, filter_map, nat_lt, nat_le, codes, replicate, ◌⊎◌}
-use Rattle.std.specs.List.{AllByRecursion, list_any}
-use Rattle.std.specs.Str.{bytes_eq}
-use Rattle.std.specs.Cmp.Lexicographic.{same_text}
-use Rattle.std.proofs.lemmas.Bool.Decides.{nat_tests}
-use Rattle.sm_world.specs.declared.commands.Command.{Command}
-use Rattle.sm_world.specs.declared.events.Order.{Order}
-use Rattle.sm_world.specs.declared.events.Order.TheVariants.{Checkpoint, Shutdown, Cancel, Status, DropConn, Forget}
+use Rattle.std.proofs.Common.{◌≡◌, ℕ, ◌≤◌, Bool, true, false, cond, List, [], ◌∷◌, ◌++◌, length, eqb}
+use Rattle.std.specs.Prelude.{Option, Some, None, find}
+use Rattle.std.specs.List.{AllByRecursion}
 use Rattle.ice_values.specs.declared.property.Property.{Property}
-use Rattle.ice_values.specs.Fields.{ErrorFields}
-use Rattle.checkpoint_records.specs.declared.records.Book.{Book}
 use Rattle.checkpoint_records.specs.declared.records.Entry.{Entry}
-use Rattle.checkpoint_records.specs.Rules.{client_id, IsClientId, IsTable, IsEntry}
-use Rattle.round_agreement.specs.Agreement.{Agreement, two_ready, agreed, deserted, conns_of}
-use Rattle.interact_queue.specs.Queue.{is_in, next_holder}
-use Rattle.xsmp_properties.specs.Tables.{set_all, without_names}
+use Rattle.checkpoint_records.specs.Rules.{IsClientId, IsTable, IsEntry}
+use Rattle.xsmp_properties.specs.Tables.{without_names}
 use Rattle.xsmp_messages.specs.declared.message.XsmpMessage.{XsmpMessage}
-use Rattle.xsmp_messages.specs.declared.message.XsmpMessage.TheVariants.{Error, RegisterClient, RegisterClientReply, SaveYourself, SaveYourselfRequest, InteractRequest, Interact, InteractDone, SaveYourselfDone, Die, ShutdownCancelled, ConnectionClosed, SetProperties, DeleteProperties, GetProperties, GetPropertiesReply, SaveYourselfPhase2Request, SaveYourselfPhase2, SaveComplete}
+use Rattle.xsmp_messages.specs.declared.message.XsmpMessage.TheVariants.{RegisterClientReply, SaveYourself, Interact, SaveYourselfDone, Die, ShutdownCancelled, SetProperties, DeleteProperties, GetPropertiesReply, SaveYourselfPhase2, SaveComplete}
 use Rattle.session_model.specs.declared.phase.Phase.{Phase}
-use Rattle.session_model.specs.declared.waits.Wait.{Wait}
 use Rattle.session_model.specs.declared.events.SessionEvent.{SessionEvent}
 use Rattle.session_model.specs.declared.events.SessionEvent.TheVariants.{Joined, Ready, Said, Left, Operator}
 use Rattle.session_model.specs.Phases.{is_bound, is_saving}
-use Rattle.session_model.specs.Tables.{set_table, table_said, is_of, entry_of, is_recorded, table_in, first_table}
-use Rattle.session_model.specs.Moves.{Move, Cause, Outside, Gave, Blamed, Unset, Closed, Began, Over, Cancelled, Agreed, Tried, Committed, Printed, Finished, History, Opened, ◌▷◌, onto, gave_each, tried_each}
+use Rattle.session_model.specs.Tables.{set_table, table_said, is_of, table_in, first_table}
+use Rattle.session_model.specs.Moves.{Move, Outside, Gave, Blamed, Closed, Committed, History, ◌▷◌}
 use Rattle.session_model.specs.Readings as of
-use Rattle.session_model.specs.Reading.{Reading, reading}
 use Rattle.session_model.proofs.Kept.{empty-table, table-set, table-without}
 
 pub either : {A : Type 0} (P : A → Type 0) (b : Bool) (x y : A) → P x → P y → P (cond b x y)
@@ -115,7 +103,7 @@ snapshot-given m saved s = s
 snapshots-heard : (epoch : ℕ) (event : SessionEvent) (h : History) → Tidy epoch h → (c : ℕ) → IsSnapshot (of.saved_of c (Outside event ▷ h))
 snapshots-heard epoch (Said d m sequence frame) h t c =
     either IsSnapshot (eqb d c) (of.saved_said c m (λ x. of.phase_of x h) (λ x. of.table_of x h) (of.saved_of c h)) (of.saved_of c h)
-      (snapshot-of-said c m (λ x. of.phase_of x h) (λ x. of.table_of x h) (of.saved_of c h) (t.tables c) (t.snapshots c)) (t.snapshots c)
+    (snapshot-of-said c m (λ x. of.phase_of x h) (λ x. of.table_of x h) (of.saved_of c h) (t.tables c) (t.snapshots c)) (t.snapshots c)
 snapshots-heard epoch (Left d) h t c = snapshot-gone c (Some d) (of.saved_of c h) (t.snapshots c)
 snapshots-heard epoch event h t c = t.snapshots c
 

@@ -1,5 +1,5 @@
 -- Whatever is kept and sent in a run keeps the rules for it.
-use Rattle.std.proofs.Common.{◌≡◌, refl, ℕ, zero, suc, ◌+◌, ◌*◌, ◌<◌, ◌≤◌, Bool, true, false, cond, ◌&&◌, List, [], ◌∷◌, ◌++◌, length, ap, ◌∙◌, arith, rules}
+use Rattle.std.proofs.Common.{◌≡◌, refl, ℕ, zero, suc, ◌+◌, ◌*◌, ◌≤◌, Bool, true, false, cond, ◌&&◌, List, [], ◌∷◌, ◌++◌, length, arith}
 use Rattle.std.specs.List.{AllByRecursion}
 use Rattle.checkpoint_records.specs.declared.records.Book.{Book}
 use Rattle.checkpoint_records.specs.declared.records.Entry.{Entry}
@@ -12,9 +12,9 @@ use Rattle.session_model.specs.declared.events.SessionEvent.{SessionEvent}
 use Rattle.session_model.specs.Moves.{Move, Outside, Gave, Blamed, Committed, Finished, Restart, History, Opened, ◌▷◌, onto, tried_each}
 use Rattle.session_model.specs.Readings as of
 use Rattle.session_model.specs.Reading.{reading}
-use Rattle.session_model.specs.Books.{raised, issue, opening_moves}
+use Rattle.session_model.specs.Books.{raised, issue}
 use Rattle.session_model.specs.Replies.{reply}
-use Rattle.session_model.specs.Rules.{rule, go_on, settle, settled, finished, taken, opened, run}
+use Rattle.session_model.specs.Rules.{rule, go_on, settle, settled, taken, opened, run}
 use Rattle.session_model.specs.Laws.{EachMove, IsShort, HasEntries}
 use Rattle.session_model.proofs.Kept.{empty-table}
 use Rattle.session_model.proofs.Tidy.{Tidy, Proper, AllProper, tidy-step, epoch-step, proper-append}
@@ -28,10 +28,10 @@ pub record Orderly (epoch : ℕ) (h : History) : Type 0 where
   pub tidy : Tidy epoch h
   pub each : EachMove (Proper epoch) h
 
-orderly-step : (epoch : ℕ) (m : Move) (h : History) → Proper epoch m → Orderly epoch h → Orderly epoch (m ▷ h)
+pub orderly-step : (epoch : ℕ) (m : Move) (h : History) → Proper epoch m → Orderly epoch h → Orderly epoch (m ▷ h)
 orderly-step epoch m h p o = record { is_of = epoch-step epoch m h p o.is_of; tidy = tidy-step epoch m h p o.tidy; each = (p, o.each) }
 
-orderly-onto : (epoch : ℕ) (moves : List Move) (h : History) → AllProper epoch moves → Orderly epoch h → Orderly epoch (onto h moves)
+pub orderly-onto : (epoch : ℕ) (moves : List Move) (h : History) → AllProper epoch moves → Orderly epoch h → Orderly epoch (onto h moves)
 orderly-onto epoch [] h p o = o
 orderly-onto epoch (m ∷ moves) h p o = orderly-onto epoch moves (m ▷ h) p.1 (orderly-step epoch m h p.0 o)
 
@@ -65,11 +65,11 @@ orderly-run epoch (event ∷ events) h one o = orderly-run epoch events (taken e
 later-id : (epoch : ℕ) (id : List ℕ) → IsClientId epoch id → IsClientId (epoch + 1) id
 later-id epoch id i = record { epoch = i.epoch; number = i.number; first = i.first; last = omega (arith, i.last); fits = i.fits; is = i.is }
 
-later-entries : (epoch : ℕ) (entries : List Entry) → AllByRecursion (IsEntry epoch) entries → AllByRecursion (IsEntry (epoch + 1)) entries
+pub later-entries : (epoch : ℕ) (entries : List Entry) → AllByRecursion (IsEntry epoch) entries → AllByRecursion (IsEntry (epoch + 1)) entries
 later-entries epoch [] a = tt
 later-entries epoch (entry ∷ entries) a = (record { id = later-id epoch entry.id a.0.id; table = a.0.table }, later-entries epoch entries a.1)
 
-tidy-start : (book : Book) → AllByRecursion (IsEntry book.epoch) book.entries → Tidy (book.epoch + 1) (Opened book)
+pub tidy-start : (book : Book) → AllByRecursion (IsEntry book.epoch) book.entries → Tidy (book.epoch + 1) (Opened book)
 tidy-start book a = record { tables = λ c. empty-table; snapshots = λ c. tt; ids = λ c. tt; entries = later-entries book.epoch book.entries a }
 
 orderly-raised : (book : Book) → AllByRecursion (IsEntry book.epoch) book.entries → Orderly (book.epoch + 1) (Committed (raised book) ▷ Opened book)
@@ -77,12 +77,12 @@ orderly-raised book a =
     let p : Proper (book.epoch + 1) (Committed (raised book)) = (refl, later-entries book.epoch book.entries a) in
     record { is_of = refl; tidy = tidy-step (book.epoch + 1) (Committed (raised book)) (Opened book) p (tidy-start book a); each = (p, tt) }
 
-orderly-opened : (book : Book) → AllByRecursion (IsEntry book.epoch) book.entries → Orderly (book.epoch + 1) (opened book)
+pub orderly-opened : (book : Book) → AllByRecursion (IsEntry book.epoch) book.entries → Orderly (book.epoch + 1) (opened book)
 orderly-opened book a =
     orderly-onto (book.epoch + 1) (issue (raised book) book.pending ++ tried_each Restart (opening_restarts book.entries)) (Committed (raised book) ▷ Opened book)
-      (proper-append (book.epoch + 1) (issue (raised book) book.pending) (tried_each Restart (opening_restarts book.entries))
-        (proper-issue (book.epoch + 1) (raised book) book.pending (refl, later-entries book.epoch book.entries a)) (proper-tried (book.epoch + 1) Restart (opening_restarts book.entries)))
-      (orderly-raised book a)
+    (proper-append (book.epoch + 1) (issue (raised book) book.pending) (tried_each Restart (opening_restarts book.entries))
+    (proper-issue (book.epoch + 1) (raised book) book.pending (refl, later-entries book.epoch book.entries a)) (proper-tried (book.epoch + 1) Restart (opening_restarts book.entries)))
+    (orderly-raised book a)
 
 pub orderly : (book : Book) (events : List SessionEvent) → KeepsRules book → Orderly (book.epoch + 1) (run (opened book) events)
 orderly book events k = orderly-run (book.epoch + 1) events (opened book) (omega arith) (orderly-opened book k.entries)

@@ -1,5 +1,5 @@
 -- Laws of the session, whatever comes from outside.
-use Rattle.std.specs.Prelude.{List, [], true, ℕ, ◌≡◌, ◌+◌}
+use Rattle.std.specs.Prelude.{List, [], ◌∷◌, true, ℕ, ◌≡◌, ◌+◌, ◌<◌}
 use Rattle.std.specs.List.{AllByRecursion, list_any}
 use Rattle.checkpoint_records.specs.declared.records.Book.{Book}
 use Rattle.session_model.specs.declared.events.SessionEvent.{SessionEvent}
@@ -13,7 +13,7 @@ use Rattle.checkpoint_records.specs.Rules.{KeepsRules, IsEntry}
 use Rattle.ice_values.specs.declared.numbers.Endian.TheVariants.{Lsb}
 use Rattle.xsmp_messages.specs.Messages.{IsTooLong}
 use Rattle.xsmp_messages.specs.declared.message.XsmpMessage.TheVariants.{Error}
-use Rattle.session_model.specs.Rules.{opened, rule, run}
+use Rattle.session_model.specs.Rules.{opened, rule, run, taken, Takes}
 use Rattle.session_model.specs.Readings as of
 
 -- this holds at the start and between the events of every run
@@ -79,3 +79,17 @@ HasEntries epoch m = Unit {0}
 -- Every book that is written is of the run's epoch, and each of its entries keeps the rules, where the opened book does.
 abbrev pub EntriesKeepRules : Type 0
 EntriesKeepRules = (book : Book) (events : List SessionEvent) → KeepsRules book → EachMove (HasEntries (book.epoch + 1)) (run (opened book) events)
+
+-- a book that is written keeps the rules
+abbrev pub IsWritten : Move → Type 0
+IsWritten (Committed written) = KeepsRules written
+IsWritten m = Unit {0}
+
+-- each event is one that the history allows
+abbrev pub AllTake : History → List SessionEvent → Type 0
+AllTake h [] = Unit {0}
+AllTake h (event ∷ events) = Takes event (reading h) × AllTake (taken event h) events
+
+-- Every book that is written keeps the rules of the store, where the opened book does and has an epoch below the largest.
+abbrev pub BooksKeepRules : Type 0
+BooksKeepRules = (book : Book) (events : List SessionEvent) → KeepsRules book → book.epoch < 4294967295 → AllTake (opened book) events → EachMove IsWritten (run (opened book) events)

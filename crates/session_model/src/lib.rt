@@ -11,17 +11,10 @@ mod waits;
 
 pub use events::{Act, SessionEvent};
 pub use laws::{
-    nobody_registers_twice,
-    phases_tell_who_is_registered,
-    one_has_the_token,
-    members_are_asked_to_save,
-    rounds_wait_for_registered,
-    death_is_of_shutdown,
-    phases_tell_who_waits,
-    nobody_waits_twice,
+    books_keep_rules, death_is_of_shutdown, entries_keep_rules, members_are_asked_to_save,
+    messages_fit, nobody_registers_twice, nobody_waits_twice, one_has_the_token,
+    phases_tell_who_is_registered, phases_tell_who_waits, rounds_wait_for_registered,
     settling_comes_to_rest,
-    messages_fit,
-    entries_keep_rules,
 };
 pub use marks::Marks;
 pub use phase::Phase;
