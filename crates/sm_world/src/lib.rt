@@ -4,6 +4,7 @@
 mod bytes;
 mod calls;
 mod commands;
+mod crash;
 mod disk;
 mod effects;
 mod events;
@@ -16,6 +17,7 @@ mod tape;
 
 pub use bytes::Octets;
 pub use commands::Command;
+pub use crash::Choice;
 pub use disk::Disk;
 pub use effects::Effect;
 pub use events::{Conn, Dialog, Event, Order, PIECE_LIMIT, SaveKind, SaveStyle};
