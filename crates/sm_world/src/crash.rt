@@ -146,12 +146,18 @@ impl Choice {
 }
 
 /// The file that a crash after these effects leaves by a choice, if it began with `first`.
-pub fn crash_file(alloc: Global, first: &[u8], effects: &[Effect], choice: Choice) -> Result<Octets, NoMemory>
+pub fn crash_file(
+    alloc: Global,
+    first: &[u8],
+    effects: &[Effect],
+    choice: Choice,
+) -> Result<Octets, NoMemory>
     ensures { IfOk result (IsCrashFile first.now effects.now choice) }
 {
     let mut file = Vec::with_capacity(alloc, first.len())?;
-    for (place, byte) in first.iter().enumerate() {
-        file.push(choice.pick(*byte, effects, place as u64))?;
+    for byte in first {
+        let place = file.len() as u64;
+        file.push(choice.pick(*byte, effects, place))?;
     }
     Ok(Octets::from_vec(file))
 }

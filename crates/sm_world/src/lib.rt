@@ -9,6 +9,7 @@ mod disk;
 mod effects;
 mod events;
 mod failures;
+mod laws;
 mod lists;
 mod memory;
 mod outside;
@@ -22,6 +23,7 @@ pub use disk::Disk;
 pub use effects::Effect;
 pub use events::{Conn, Dialog, Event, Order, PIECE_LIMIT, SaveKind, SaveStyle};
 pub use failures::{Failed, Failure, Faults, NoMemory};
+pub use laws::{others_keep_cells, same_cells_have_same_images};
 pub use lists::{
     CommandList, ConnList, Duplicate, EventList, ListOf, NumberList, OctetsList, PairList,
 };
