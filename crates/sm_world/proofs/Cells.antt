@@ -51,7 +51,7 @@ quiet_cells first effects effect leaves =
     record { size = refl; reads = λ i within. ap (λ (cell : Cell). cell.reads) (same i); left = λ i byte within. ap (λ (cell : Cell). cell.left byte) (same i) }
 
 left_by : {first other : List ℕ} {effects others : List Effect} → SameCells first effects other others → (file : List ℕ) → Image first effects file → Image other others file
-left_by same file image = record {
+left_by {first = first} same file image = record {
   size = image.size ∙ same.size;
   bytes = λ i within.
       let inside : i < length first = rw same.size within in
