@@ -1,6 +1,6 @@
 -- How the cells of a byte go from effect to effect.
 use Rattle.std.proofs.Common.{◌≡◌, ℕ, ◌+◌, ◌-◌, ◌<◌, ◌≤◌, ◌⊎◌, Bool, true, false, IsTrue, nat_le, nat_lt, List, [], ◌∷◌, ◌++◌, length, slice_index, refl, ap, sym, ◌∙◌, arith, inl, inr}
-use Rattle.sm_world.specs.Crash.{Cell, covers, written, torn, cell_after, cell_from, cell_of, LeavesStore}
+use Rattle.sm_world.specs.Crash.{Cell, Image, LeavesStore, OthersKeepCells, SameCells, SameCellsSameImages, covers, written, torn, cell_after, cell_from, cell_of}
 use Rattle.sm_world.specs.declared.effects.Effect.{Effect}
 use Rattle.sm_world.specs.declared.effects.Effect.TheVariants.{Heard, Sent, Shut, Started, Wrote, Torn, Synced, SyncFailed, Published, Printed}
 
@@ -44,3 +44,22 @@ others_keep Synced i cell leaves = absurd leaves
 others_keep SyncFailed i cell leaves = refl
 others_keep (Published path bytes) i cell leaves = refl
 others_keep (Printed text) i cell leaves = refl
+
+pub quiet_cells : OthersKeepCells
+quiet_cells first effects effect leaves =
+    let same : (i : ℕ) → cell_of first (effects ++ effect ∷ []) i ≡ cell_of first effects i = λ i. cell_of-more first effects effect i ∙ others_keep effect i (cell_of first effects i) leaves in
+    record { size = refl; reads = λ i within. ap (λ (cell : Cell). cell.reads) (same i); left = λ i byte within. ap (λ (cell : Cell). cell.left byte) (same i) }
+
+left_by : {first other : List ℕ} {effects others : List Effect} → SameCells first effects other others → (file : List ℕ) → Image first effects file → Image other others file
+left_by {first = first} same file image = record {
+  size = image.size ∙ same.size;
+  bytes = λ i within.
+      let inside : i < length first = rw same.size within in
+      sym (same.left i (slice_index file i) inside) ∙ image.bytes i inside;
+}
+
+pub same_images : SameCellsSameImages
+same_images first effects other others same file = (
+  left_by same file,
+  left_by (record { size = sym same.size; reads = λ i within. sym (same.reads i (rw same.size within)); left = λ i byte within. sym (same.left i byte (rw same.size within)) }) file,
+)

@@ -7,3 +7,4 @@ pub mod Disk
 pub mod Tape
 pub mod Worlds
 pub mod Calls
+pub mod Choices

@@ -4,10 +4,12 @@
 mod bytes;
 mod calls;
 mod commands;
+mod crash;
 mod disk;
 mod effects;
 mod events;
 mod failures;
+mod laws;
 mod lists;
 mod memory;
 mod outside;
@@ -16,10 +18,12 @@ mod tape;
 
 pub use bytes::Octets;
 pub use commands::Command;
+pub use crash::Choice;
 pub use disk::Disk;
 pub use effects::Effect;
 pub use events::{Conn, Dialog, Event, Order, PIECE_LIMIT, SaveKind, SaveStyle};
 pub use failures::{Failed, Failure, Faults, NoMemory};
+pub use laws::{others_keep_cells, same_cells_have_same_images};
 pub use lists::{
     CommandList, ConnList, Duplicate, EventList, ListOf, NumberList, OctetsList, PairList,
 };

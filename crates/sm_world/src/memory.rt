@@ -1,5 +1,7 @@
 ghost use Rattle.std.specs.Prelude.{◌≡◌, ◌≤◌, ◌+◌, ◌↔◌, ℕ, [], ◌∷◌, length, take, drop, Some, Contains, IsErr, IfOk, OnOk, OnErr};
 ghost use Rattle.std.specs.List.{AllByRecursion};
+ghost use Rattle.sm_world.specs.Choices.{IsCrashFile};
+ghost use Rattle.sm_world.specs.Crash.{Image};
 ghost use Rattle.sm_world.specs.Events.{HasPieceSize};
 ghost use Rattle.sm_world.specs.Outside.{Rose};
 ghost use Rattle.sm_world.specs.Calls.{counted, one_more};
@@ -7,7 +9,7 @@ ghost use Rattle.sm_world.specs.Calls.{counted, one_more};
 use crate::calls::Calls;
 use crate::tape::Tape;
 use crate::{
-    Conn, Console, Disk, Effect, Event, EventList, Failed, Failure, Faults, Links, NoMemory, NumberList,
+    Choice, Conn, Console, Disk, Effect, Event, EventList, Failed, Failure, Faults, Links, NoMemory, NumberList,
     Octets, Told,
 };
 use std::alloc::Global;
@@ -73,6 +75,16 @@ impl MemWorld {
         ensures { result.now ≡ mem_file self.now }
     {
         self.tape.file()
+    }
+
+    /// The file that a crash after the first effects leaves by a choice. A crash within a write is
+    /// one after that write.
+    pub fn crash_file(&self, first: usize, choice: Choice) -> Result<Octets, NoMemory>
+        requires { first ≤ length self.now.tape.effects }
+        ensures file { IfOk result (IsCrashFile self.now.tape.first (take first self.now.tape.effects) choice) }
+        ensures image { IfOk result (Image self.now.tape.first (take first self.now.tape.effects)) }
+    {
+        self.tape.crash_file(first, choice)
     }
 
     /// How often a write or a sync found no memory to record it. A number that has reached the

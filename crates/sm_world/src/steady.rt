@@ -1,12 +1,14 @@
 ghost use Rattle.std.specs.Prelude.{◌≡◌, ◌≤◌, ◌+◌, [], ◌∷◌, length, take, drop, Some, is_err, IfOk, OnOk, OnErr};
 ghost use Rattle.std.specs.List.{AllByRecursion};
 ghost use Rattle.sm_world.specs.Calls.{one_more, counted_if};
+ghost use Rattle.sm_world.specs.Choices.{IsCrashFile};
+ghost use Rattle.sm_world.specs.Crash.{Image};
 ghost use Rattle.sm_world.specs.Events.{HasPieceSize};
 ghost use Rattle.sm_world.specs.Outside.{Rose};
 
 use crate::tape::Tape;
 use crate::{
-    Conn, Console, Disk, Effect, Event, EventList, Failed, Failure, Links, NoMemory, Octets, Told,
+    Choice, Conn, Console, Disk, Effect, Event, EventList, Failed, Failure, Links, NoMemory, Octets, Told,
 };
 use std::alloc::Global;
 
@@ -55,6 +57,16 @@ impl SteadyWorld {
         ensures { result.now ≡ steady_file self.now }
     {
         self.tape.file()
+    }
+
+    /// The file that a crash after the first effects leaves by a choice. A crash within a write is
+    /// one after that write.
+    pub fn crash_file(&self, first: usize, choice: Choice) -> Result<Octets, NoMemory>
+        requires { first ≤ length self.now.tape.effects }
+        ensures file { IfOk result (IsCrashFile self.now.tape.first (take first self.now.tape.effects) choice) }
+        ensures image { IfOk result (Image self.now.tape.first (take first self.now.tape.effects)) }
+    {
+        self.tape.crash_file(first, choice)
     }
 
     /// How often a write or a sync found no memory to record it. A number that has reached the

@@ -1,13 +1,15 @@
 ghost use Rattle.std.specs.Prelude.{◌≡◌, ◌≤◌, ◌+◌, [], ◌∷◌, ◌++◌, length, take, drop, IfOk, OnOk, OnErr};
 ghost use Rattle.std.specs.List.{AllByRecursion};
-ghost use Rattle.sm_world.specs.Crash.{MayBeRead};
+ghost use Rattle.sm_world.specs.Crash.{Image, MayBeRead};
+ghost use Rattle.sm_world.specs.Choices.{IsCrashFile};
 ghost use Rattle.sm_world.specs.Bytes.{overwritten};
 ghost use Rattle.sm_world.specs.Events.{HasPieceSize, next_of};
 ghost use Rattle.sm_world.specs.Outside.{Fills};
 ghost use Rattle.sm_world.specs.Tape.{KeepsBytes};
 ghost use Rattle.sm_world.specs.declared.effects.Effect.TheVariants.{Heard, Wrote};
 
-use crate::{Duplicate, Effect, Event, EventList, NoMemory, Octets};
+use crate::crash::crash_file;
+use crate::{Choice, Duplicate, Effect, Event, EventList, NoMemory, Octets};
 use std::alloc::Global;
 use std::collections::VecDeque;
 use std::marker::Model;
@@ -152,5 +154,15 @@ impl Tape {
         self.effects.push(Effect::Wrote(at, written))?;
         self.file.overwrite(at as usize, bytes);
         Ok(())
+    }
+
+    /// The file that a crash after the first effects leaves by a choice.
+    pub fn crash_file(&self, first: usize, choice: Choice) -> Result<Octets, NoMemory>
+        requires { first ≤ length self.now.effects }
+        ensures file { IfOk result (IsCrashFile self.now.first (take first self.now.effects) choice) }
+        ensures image { IfOk result (Image self.now.first (take first self.now.effects)) }
+    {
+        let effects = &self.effects.as_slice()[..first];
+        crash_file(*self.effects.allocator(), self.first.as_slice(), effects, choice)
     }
 }
