@@ -1,5 +1,5 @@
 -- Which answers have a spelling that is not too long.
-use Rattle.std.proofs.Common.{refl, lit≤, ◌≡◌, ℕ, ◌+◌, ◌<◌, ◌≤◌, List, ◌++◌, Option, Bool, length, ap, ◌∙◌, arith, inl, inr, length-append, length-drop, drop}
+use Rattle.std.proofs.Common.{refl, lit≤, ◌≡◌, ℕ, ◌+◌, ◌≤◌, List, ◌++◌, Option, Bool, length, ap, ◌∙◌, arith, inl, inr, length-append, length-drop, drop}
 use Rattle.ice_values.specs.Cells.{Cells, byte, free, pad_len}
 use Rattle.ice_values.specs.Fields.{ErrorFields, text16, texts, versions}
 use Rattle.ice_values.specs.declared.numbers.Endian.{Endian}

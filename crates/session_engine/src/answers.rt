@@ -11,8 +11,7 @@ use crate::messages::Message;
 use ice_framing::{Frame, Splitter};
 use ice_messages::{IceMessage, decode_ice};
 use ice_setup::{
-    AnySetup, AwaitOrder, Moved, Offending,
-    error_of, opcode_values, refusal, wrong_byte_values,
+    AnySetup, AwaitOrder, Moved, Offending, error_of, opcode_values, refusal, wrong_byte_values,
 };
 use ice_values::{DecodeRefusal, Endian, ErrorBody, ErrorClass, Severity, read_card32};
 use sm_world::{NoMemory, Octets};
@@ -247,7 +246,12 @@ fn answer_oversize(alloc: Global, setup: &AnySetup, sequence: u32, header: &[u8;
         return Answer::Closes(None);
     }
     let none = Octets::new(alloc);
-    let error = error_of(Severity::FatalToConnection, ErrorClass::BadLength, offending, none);
+    let error = error_of(
+        Severity::FatalToConnection,
+        ErrorClass::BadLength,
+        offending,
+        none,
+    );
     let opcode = header[0];
     Answer::Closes(Some(error_about(is_opcode(setup.client_opcode(), opcode), error)))
 }
