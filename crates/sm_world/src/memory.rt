@@ -9,8 +9,8 @@ ghost use Rattle.sm_world.specs.Calls.{counted, one_more};
 use crate::calls::Calls;
 use crate::tape::Tape;
 use crate::{
-    Choice, Conn, Console, Disk, Effect, Event, EventList, Failed, Failure, Faults, Links, NoMemory, NumberList,
-    Octets, Told,
+    Choice, Conn, Console, Disk, Effect, Event, EventList, Failed, Failure, Faults, Links,
+    NoMemory, NumberList, Octets, Told,
 };
 use std::alloc::Global;
 

@@ -8,7 +8,8 @@ ghost use Rattle.sm_world.specs.Outside.{Rose};
 
 use crate::tape::Tape;
 use crate::{
-    Choice, Conn, Console, Disk, Effect, Event, EventList, Failed, Failure, Links, NoMemory, Octets, Told,
+    Choice, Conn, Console, Disk, Effect, Event, EventList, Failed, Failure, Links, NoMemory,
+    Octets, Told,
 };
 use std::alloc::Global;
 

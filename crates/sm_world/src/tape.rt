@@ -44,7 +44,12 @@ impl Model for Tape {
 
 impl Tape {
     #[tactic(auto, using(crate::proofs::Holding::held_first))]
-    pub fn new(alloc: Global, events: EventList, input: Octets, file: Octets) -> Result<Tape, NoMemory>
+    pub fn new(
+        alloc: Global,
+        events: EventList,
+        input: Octets,
+        file: Octets,
+    ) -> Result<Tape, NoMemory>
         requires { AllByRecursion HasPieceSize events }
         ensures { IfOk result (λ tape. tape ≡ record { effects = []; coming = events; input = input; first = file; file = file }) }
     {
@@ -163,6 +168,11 @@ impl Tape {
         ensures image { IfOk result (Image self.now.first (take first self.now.effects)) }
     {
         let effects = &self.effects.as_slice()[..first];
-        crash_file(*self.effects.allocator(), self.first.as_slice(), effects, choice)
+        crash_file(
+            *self.effects.allocator(),
+            self.first.as_slice(),
+            effects,
+            choice,
+        )
     }
 }
