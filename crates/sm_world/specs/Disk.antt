@@ -1,6 +1,7 @@
 -- What the calls of the disk do.
-use Rattle.std.specs.Prelude.{◌≡◌, ◌⊎◌, ℕ, ◌≤◌, Bool, true, false, IsTrue, List, [], ◌∷◌, length, Option, None, Some, Result, Ok, Err}
+use Rattle.std.specs.Prelude.{◌≡◌, ◌⊎◌, ℕ, ◌≤◌, Bool, true, false, IsTrue, List, [], ◌∷◌, length, Option, None, Some, is_some, Result, Ok, Err}
 use Rattle.std.proofs.Common.{ap, sym, ◌∙◌}
+use Rattle.std.proofs.lemmas.Bool.{false≢true}
 use Rattle.sm_world.specs.Crash.{MayBeRead}
 use Rattle.sm_world.specs.Outside.{Outside, Rose}
 use Rattle.sm_world.specs.declared.effects.Effect.{Effect}
@@ -52,3 +53,7 @@ told_size (Some first) = length first
 -- a world that tells its file with its size
 pub sized_by : (outside : Outside) → outside.size ≡ told_size outside.first → HasToldSize outside
 sized_by outside size first told = sym (size ∙ ap told_size told)
+
+-- a world that doesn't tell its file
+pub untold_by : (outside : Outside) → outside.first ≡ None → HasToldSize outside
+untold_by outside untold first told = absurd (false≢true (ap is_some (sym untold ∙ told)))

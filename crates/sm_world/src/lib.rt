@@ -32,4 +32,6 @@ pub use outside::{Console, Links, Told};
 pub use steady::SteadyWorld;
 
 #[cfg(test)]
+mod disk_tests;
+#[cfg(test)]
 mod tests;

@@ -12,7 +12,7 @@ use std::process::Abort;
 use std::test::Fail;
 
 /// Ends the test where the value shows otherwise.
-fn expect_shown<T: Debug>(
+pub fn expect_shown<T: Debug>(
     rt: &(impl Abort + Alloc<A = Global>),
     value: &T,
     want: &str,
