@@ -1,4 +1,5 @@
-ghost use Rattle.std.specs.Prelude.{◌≡◌, ◌≤◌, length, None, OnErr};
+ghost use Rattle.std.specs.Prelude.{◌≡◌, ◌≤◌, length, None, IfOk, OnErr};
+ghost use Rattle.sm_world.specs.Worlds.{mem_outside, steady_outside};
 ghost use Rattle.sm_world.specs.Outside.{Rose};
 
 use crate::{
@@ -96,12 +97,16 @@ fn keeps<D: Disk>(disk: &mut D) -> Result<bool, Failure> {
     Ok(held == [7, 8])
 }
 
-fn steady_disk(alloc: Global, file: &[u8]) -> Result<SteadyWorld, NoMemory> {
+fn steady_disk(alloc: Global, file: &[u8]) -> Result<SteadyWorld, NoMemory>
+    ensures { IfOk result (λ world. (steady_outside world).size ≡ length file.now) }
+{
     let file = Octets::from_slice(alloc, file)?;
     SteadyWorld::new(alloc, EventList::new(alloc), Octets::new(alloc), file)
 }
 
-fn failing_disk(alloc: Global, file: &[u8], number: u64) -> Result<MemWorld, NoMemory> {
+fn failing_disk(alloc: Global, file: &[u8], number: u64) -> Result<MemWorld, NoMemory>
+    ensures { IfOk result (λ world. (mem_outside world).size ≡ length file.now) }
+{
     let file = Octets::from_slice(alloc, file)?;
     let mut failing = NumberList::new(alloc);
     failing.push(number)?;
