@@ -1,6 +1,6 @@
 -- The commands that discard a state which no client needs any more. A client tells how its state is
 -- discarded by its property DiscardCommand. While a book names that command, the state is needed.
-use Rattle.std.specs.Prelude.{ℕ, Bool, not, ◌&&◌, ◌||◌, if◌then◌else◌, nat_lt, List, [], ◌∷◌, ◌++◌, length, filter, Option, codes}
+use Rattle.std.specs.Prelude.{Bool, not, ◌&&◌, ◌||◌, if◌then◌else◌, nat_lt, List, [], ◌∷◌, ◌++◌, length, filter, Option, codes}
 use Rattle.std.specs.List.{list_any}
 use Rattle.sm_world.specs.declared.commands.Command.{Command}
 use Rattle.ice_values.specs.declared.property.Property.{Property}

@@ -75,7 +75,8 @@ impl Ledger {
     pub fn issuable(&self, live: &CommandList) -> Result<CommandList, NoMemory>
         ensures { IfOk result (λ commands. commands ≡ may_run live.now self.now.pending) }
     {
-        copy_without(*self.strays.allocator(), self.pending.as_slice(), live.as_slice())
+        let alloc = *self.strays.allocator();
+        copy_without(alloc, self.pending.as_slice(), live.as_slice())
     }
 
     /// Takes the commands that were tried out of the pending ones. This takes no memory.
@@ -109,7 +110,8 @@ impl Ledger {
         let alloc = *self.strays.allocator();
         let discards = discards_of(alloc, old.entries.as_slice())?;
         let named = discards_of(alloc, new.entries.as_slice())?;
-        let gone = named.as_slice();
-        each_once(alloc, self.pending.as_slice(), discards.as_slice(), &self.strays, gone)
+        let kept = self.pending.as_slice();
+        let told = discards.as_slice();
+        each_once(alloc, kept, told, &self.strays, named.as_slice())
     }
 }

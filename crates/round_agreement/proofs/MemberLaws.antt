@@ -1,8 +1,8 @@
 -- The connections of members, as their steps change and as one leaves.
-use Rattle.std.proofs.Common.{◌≡◌, ℕ, ◌==◌, Bool, true, false, not, cond, List, [], ◌∷◌, length, refl, ap, ◌∙◌, arith}
+use Rattle.std.proofs.Common.{◌≡◌, ℕ, ◌==◌, true, false, not, cond, List, [], ◌∷◌, length, refl, ap, ◌∙◌, arith}
 use Rattle.std.specs.Prelude.{filter}
-use Rattle.round_agreement.specs.declared.members.Member.{Member}
-use Rattle.round_agreement.specs.declared.members.Step.{Step}
+use Rattle.round_agreement.specs.declared.round.Member.{Member}
+use Rattle.round_agreement.specs.declared.round.Step.{Step}
 use Rattle.round_agreement.specs.Agreement.{is_nil, conns_of, all_saving, with_step, without_member, with_second}
 
 pub is_nil_law : {A : Type 0} (xs : List A) → (length xs == 0) ≡ is_nil xs
@@ -25,4 +25,4 @@ pub conns-without : (conn : ℕ) (ms : List Member) → filter (λ other. not (o
 conns-without conn [] = refl
 conns-without conn (m ∷ ms) =
     ap (λ cs. cond (not (m.conn == conn)) (m.conn ∷ cs) cs) (conns-without conn ms)
-      ∙ (elim (not (m.conn == conn)) as (λ b. cond b (m.conn ∷ conns_of (without_member conn ms)) (conns_of (without_member conn ms)) ≡ conns_of (cond b (m ∷ without_member conn ms) (without_member conn ms))) [ true ↦ refl | false ↦ refl ])
+    ∙ (elim (not (m.conn == conn)) as (λ b. cond b (m.conn ∷ conns_of (without_member conn ms)) (conns_of (without_member conn ms)) ≡ conns_of (cond b (m ∷ without_member conn ms) (without_member conn ms))) [ true ↦ refl | false ↦ refl ])

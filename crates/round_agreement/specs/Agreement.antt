@@ -2,9 +2,9 @@
 -- whether it saved, or first that it wants to save in a second phase, when the others are done.
 use Rattle.std.specs.Prelude.{ℕ, ◌==◌, Bool, true, false, not, ◌&&◌, ◌||◌, if◌then◌else◌, List, [], ◌∷◌, map, filter}
 use Rattle.std.specs.List.{list_any, list_all}
-use Rattle.round_agreement.specs.declared.members.Member.{Member}
-use Rattle.round_agreement.specs.declared.members.Step.{Step}
-use Rattle.round_agreement.specs.declared.members.Step.TheVariants.{Saving, WantsTwo, SavingTwo, Done}
+use Rattle.round_agreement.specs.declared.round.Member.{Member}
+use Rattle.round_agreement.specs.declared.round.Step.{Step}
+use Rattle.round_agreement.specs.declared.round.Step.TheVariants.{Saving, WantsTwo, SavingTwo, Done}
 use Rattle.round_agreement.specs.declared.wanted.Wanted.{Wanted}
 
 -- the members that haven't left, in their order, whether the round began without any, and what it was begun for

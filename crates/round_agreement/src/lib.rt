@@ -7,6 +7,5 @@ mod round;
 mod tests;
 mod wanted;
 
-pub use members::{Member, Step};
-pub use round::Round;
+pub use round::{Member, Round, Step};
 pub use wanted::Wanted;

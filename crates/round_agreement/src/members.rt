@@ -1,29 +1,9 @@
 ghost use Rattle.std.specs.Prelude.{◌≡◌, ◌||◌};
 ghost use Rattle.std.specs.List.{list_all, list_any};
-ghost use Rattle.round_agreement.specs.Agreement.{is_nil as is_nil_list, all_done as all_done_members, is_done as is_done_step, wants_two as wants_second, is_saved as is_saved_step, owes as owes_save, moved as moved_member, with_step as stepped, second_step, second_saving as second_member, with_second as all_second};
+ghost use Rattle.round_agreement.specs.Agreement.{is_nil as is_nil_list, all_done as all_done_members, is_done as is_done_step, wants_two as wants_second, is_saved as is_saved_step, moved as moved_member, with_step as stepped, second_step, second_saving as second_member, with_second as all_second};
 
+use crate::{Member, Step};
 use sm_world::Conn;
-
-/// How far a member of a round is with its save (XSMP, chapter 7: SaveYourself to
-/// SaveYourselfPhase2).
-#[derive(Clone, Copy, Debug, PartialEq, Eq)]
-pub enum Step {
-    /// It saves in the first phase.
-    Saving,
-    /// It waits for the second phase, which begins when the others are done.
-    WantsTwo,
-    /// It saves in the second phase.
-    SavingTwo,
-    /// It has saved, with success or without.
-    Done(bool),
-}
-
-/// A member of a round.
-#[derive(Clone, Copy, Debug, PartialEq, Eq)]
-pub struct Member {
-    pub conn: Conn,
-    pub step: Step,
-}
 
 impl Step {
     /// Whether it has saved, with success or without.
@@ -115,7 +95,9 @@ pub(crate) fn all_done(members: &[Member]) -> bool
 pub(crate) fn nobody_saves(members: &[Member]) -> bool
     ensures { result ≡ list_all (λ m. is_done_step m.step || wants_second m.step) members.now }
 {
-    members.iter().all(|m| m.step.is_done() || m.step.wants_two())
+    members
+        .iter()
+        .all(|m| m.step.is_done() || m.step.wants_two())
 }
 
 /// Whether a member waits for the second phase.

@@ -1,12 +1,33 @@
 ghost use Rattle.std.specs.Prelude.{◌≡◌, IsTrue, IfOk};
 ghost use Rattle.round_agreement.specs.Agreement.{is_saving, is_first_saving, is_saved, is_at, is_nil, conns_of, are_distinct, all_saving, with_step, without_member, with_second, owing, two_ready as second_ready, agreed as all_agreed, deserted as all_left};
-ghost use Rattle.round_agreement.specs.declared.members.Step.TheVariants.{WantsTwo, Done};
+ghost use Rattle.round_agreement.specs.declared.round.Step.TheVariants.{WantsTwo, Done};
 
+use crate::Wanted;
 use crate::members::{all_done, is_nil, nobody_saves, set_second, set_step, somebody_wants_two};
-use crate::{Member, Step, Wanted};
 use sm_world::{Conn, ConnList, NoMemory};
 use std::alloc::Global;
 use std::marker::Model;
+
+/// How far a member of a round is with its save (XSMP, chapter 7: SaveYourself to
+/// SaveYourselfPhase2).
+#[derive(Clone, Copy, Debug, PartialEq, Eq)]
+pub enum Step {
+    /// It saves in the first phase.
+    Saving,
+    /// It waits for the second phase, which begins when the others are done.
+    WantsTwo,
+    /// It saves in the second phase.
+    SavingTwo,
+    /// It has saved, with success or without.
+    Done(bool),
+}
+
+/// A member of a round.
+#[derive(Clone, Copy, Debug, PartialEq, Eq)]
+pub struct Member {
+    pub conn: Conn,
+    pub step: Step,
+}
 
 /// A round of saves (XSMP, chapter 7: SaveYourself). It goes on until every member has said
 /// SaveYourselfDone; those that said SaveYourselfPhase2Request save when the others are done.

@@ -1,7 +1,7 @@
 //! Rounds of a few connections, by cases written down by hand.
 ghost use Rattle.std.specs.Prelude.{◌≡◌, [], ◌∷◌, true, false, IfOk};
 ghost use Rattle.round_agreement.specs.Agreement.{all_saving};
-ghost use Rattle.round_agreement.specs.declared.members.Step.TheVariants.{WantsTwo, SavingTwo, Done};
+ghost use Rattle.round_agreement.specs.declared.round.Step.TheVariants.{WantsTwo, SavingTwo, Done};
 
 use crate::{Round, Wanted};
 use sm_world::{Conn, ConnList, NoMemory, SaveKind, SaveStyle};

@@ -1,4 +1,4 @@
-use Rattle.std.proofs.Common.{rules, ◌≡◌, ◌∙◌, not, sym}
+use Rattle.std.proofs.Common.{rules, ◌≡◌, ◌∙◌, not}
 use Rattle.std.proofs.lemmas.Fn.{filter_same}
 use Rattle.sm_world.specs.declared.commands.Command.{Command}
 use Rattle.discard_ledger.specs.Discards.{is_among, without_commands}

@@ -1,6 +1,5 @@
 use Rattle.std.proofs.Common.{arith}
 use Rattle.std.proofs.lemmas.Grind.{common_steps}
-use Rattle.round_agreement.specs.declared.members.Step.TheVariants.{Done}
 use Rattle.round_agreement.proofs.MemberLaws.{conns-moved}
 use Rattle.round_agreement.proofs.round.Round.done.Goals as goal
 

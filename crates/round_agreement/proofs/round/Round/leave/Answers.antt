@@ -1,7 +1,7 @@
 use Rattle.std.proofs.Common.{rules, ◌≡◌, ◌∙◌, not, ◌==◌, ap, sym}
 use Rattle.std.specs.Prelude.{filter}
 use Rattle.std.proofs.lemmas.Fn.{filter_same}
-use Rattle.round_agreement.specs.declared.members.Member.{Member}
+use Rattle.round_agreement.specs.declared.round.Member.{Member}
 use Rattle.round_agreement.specs.Agreement.{conns_of, without_member}
 use Rattle.round_agreement.proofs.MemberLaws.{conns-without}
 use Rattle.round_agreement.proofs.round.Round.leave.Goals as goal
