@@ -35,7 +35,7 @@ length-paired : {K : Type 0} (ys : List K) → length (pairs ys) ≡ length ys
 length-paired [] = refl
 length-paired (y ∷ ys) = ap suc (length-paired ys)
 
-within-by : {K : Type 0} (eq : K → K → Bool) → IsEquivalence eq → (xs ys : List K) → IsDistinct eq xs → ((q : K) → list_any (eq q) xs ≡ true → list_any (eq q) ys ≡ true) → length xs ≤ length ys
+pub within-by : {K : Type 0} (eq : K → K → Bool) → IsEquivalence eq → (xs ys : List K) → IsDistinct eq xs → ((q : K) → list_any (eq q) xs ≡ true → list_any (eq q) ys ≡ true) → length xs ≤ length ys
 within-by eq laws xs ys d k = omega (arith, length-le_from_keys laws xs (pairs ys) d (λ q e. paired (eq q) ys (k q e)), length-paired ys)
 
 -- The commands that stay pending

@@ -12,6 +12,7 @@ use Rattle.checkpoint_records.specs.Rules.{ids_of}
 use Rattle.session_model.specs.Tables.{has_id, is_of}
 use Rattle.session_model.specs.Moves.{History}
 use Rattle.session_model.specs.Readings as of
+use Rattle.session_model.proofs.Left.{within-by}
 use Rattle.session_model.proofs.Sound.{or-true}
 use Rattle.session_model.proofs.Pending.{distinct-filter}
 use Rattle.session_model.proofs.Known.{distinct-append}
@@ -22,24 +23,8 @@ use Rattle.session_model.proofs.NextIds.{apart-unrecorded, swap-all}
 bytes_equiv : IsEquivalence bytes_eq
 bytes_equiv = lists_equiv nat_eq_equiv
 
-abbrev pairs : List (List ℕ) → List (List ℕ × ℕ)
-pairs [] = []
-pairs (y ∷ ys) = (y, 0) ∷ pairs ys
-
-paired-at : (b a : Bool) (o : Option ℕ) → (a ≡ true → IsSome o) → (b || a) ≡ true → IsSome (cond b (Some 0) o)
-paired-at true a o k e = refl
-paired-at false a o k e = k e
-
-paired : (test : List ℕ → Bool) (ys : List (List ℕ)) → list_any test ys ≡ true → IsSome (lookup test (pairs ys))
-paired test [] e = absurd (grind arith)
-paired test (y ∷ ys) e = paired-at (test y) (list_any test ys) (lookup test (pairs ys)) (paired test ys) e
-
-length-paired : (ys : List (List ℕ)) → length (pairs ys) ≡ length ys
-length-paired [] = refl
-length-paired (y ∷ ys) = ap suc (length-paired ys)
-
 pub within : (xs ys : List (List ℕ)) → IsDistinct bytes_eq xs → ((q : List ℕ) → has_id q xs ≡ true → has_id q ys ≡ true) → length xs ≤ length ys
-within xs ys d k = omega (arith, length-le_from_keys bytes_equiv xs (pairs ys) d (λ q e. paired (bytes_eq q) ys (k q e)), length-paired ys)
+within xs ys d k = within-by bytes_eq bytes_equiv xs ys d k
 
 -- The known IDs
 

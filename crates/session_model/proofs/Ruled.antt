@@ -7,7 +7,7 @@ use Rattle.sm_world.specs.declared.commands.Command.{Command}
 use Rattle.ice_values.specs.declared.property.Property.{Property}
 use Rattle.checkpoint_records.specs.declared.records.Book.{Book}
 use Rattle.round_agreement.specs.declared.wanted.Wanted.{Wanted}
-use Rattle.round_agreement.specs.declared.members.Member.{Member}
+use Rattle.round_agreement.specs.declared.round.Member.{Member}
 use Rattle.discard_ledger.specs.Discards.{issuable}
 use Rattle.std.specs.Prelude.{filter_map}
 use Rattle.round_agreement.specs.Agreement.{Agreement, is_done, all_done, two_ready, agreed, deserted, is_nil, conns_of}
