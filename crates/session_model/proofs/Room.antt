@@ -13,7 +13,7 @@ use Rattle.session_model.specs.Tables.{has_id, is_of}
 use Rattle.session_model.specs.Moves.{History}
 use Rattle.session_model.specs.Readings as of
 use Rattle.session_model.proofs.Left.{within-by}
-use Rattle.session_model.proofs.Sound.{or-true}
+use Rattle.session_model.proofs.Sound.{or-true, or-either}
 use Rattle.session_model.proofs.Pending.{distinct-filter}
 use Rattle.session_model.proofs.Known.{distinct-append}
 use Rattle.session_model.proofs.NextIds.{apart-unrecorded, swap-all}
@@ -83,13 +83,9 @@ known-in q entries held e =
       known-at true s e = ap (λ (c : Bool). c || has_id q (filter (λ id. not (is_some (find (is_of id) entries))) held)) s
       known-at false s e = ap (λ (c : Bool). has_id q (ids_of entries) || c) (has-filter q (λ id. not (is_some (find (is_of id) entries))) held (ap (λ (c : Bool). not c) (recorded-has q entries ∙ s)) e) ∙ or-true (has_id q (ids_of entries))
 
-pub or-cases : {P : Type 0} (x y : Bool) → (x ≡ true → P) → (y ≡ true → P) → (x || y) ≡ true → P
-or-cases true y f g e = f refl
-or-cases false y f g e = g e
-
 pub in-known : (q : List ℕ) (entries : List Entry) (held : List (List ℕ)) → has_id q (known_with entries held) ≡ true → (has_id q (ids_of entries) || has_id q held) ≡ true
 in-known q entries held e =
-    or-cases (has_id q (ids_of entries)) (has_id q (filter (λ id. not (is_some (find (is_of id) entries))) held))
+    or-either (has_id q (ids_of entries)) (has_id q (filter (λ id. not (is_some (find (is_of id) entries))) held))
     (λ s. ap (λ (c : Bool). c || has_id q held) s)
     (λ s. ap (λ (c : Bool). has_id q (ids_of entries) || c) (filter-has q (λ id. not (is_some (find (is_of id) entries))) held s) ∙ or-true (has_id q (ids_of entries)))
     (sym (has-append q (ids_of entries) (filter (λ id. not (is_some (find (is_of id) entries))) held)) ∙ e)
@@ -115,4 +111,4 @@ pub room-kept : (old new : List Entry) (held : List (List ℕ)) → IsDistinct b
     → length (known_with new held) ≤ length (known_with old held)
 room-kept old new held d e k =
     within (known_with new held) (known_with old held) (known-distinct new held d e)
-    (λ q i. known-in q old held (or-cases (has_id q (ids_of new)) (has_id q held) (k q) (λ s. ap (λ (c : Bool). has_id q (ids_of old) || c) s ∙ or-true (has_id q (ids_of old))) (in-known q new held i)))
+    (λ q i. known-in q old held (or-either (has_id q (ids_of new)) (has_id q held) (k q) (λ s. ap (λ (c : Bool). has_id q (ids_of old) || c) s ∙ or-true (has_id q (ids_of old))) (in-known q new held i)))

@@ -35,11 +35,11 @@ denied false n = refl
 pub differ : {b : Bool} → b ≡ true → b ≡ false → ⊥
 differ e f = grind arith
 
-and-left : (x y : Bool) → (x && y) ≡ true → x ≡ true
+pub and-left : (x y : Bool) → (x && y) ≡ true → x ≡ true
 and-left true y e = refl
 and-left false y e = e
 
-and-right : (x y : Bool) → (x && y) ≡ true → y ≡ true
+pub and-right : (x y : Bool) → (x && y) ≡ true → y ≡ true
 and-right true y e = e
 and-right false y e = absurd (grind arith)
 
