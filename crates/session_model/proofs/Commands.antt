@@ -15,6 +15,7 @@ use Rattle.xsmp_properties.specs.Readers.{values_of_kind, values_of, is_text, di
 use Rattle.xsmp_properties.proofs.TableLaws.{encoded_len-cons}
 use Rattle.checkpoint_records.specs.Rules.{IsTable, in_turn, command_cells, IsCommand}
 use Rattle.discard_ledger.specs.Discards.{discard_of}
+use Rattle.session_model.proofs.Ruled.{and-right}
 
 -- How many bytes are under a name
 
@@ -93,14 +94,6 @@ directory-len items =
     let e : length (array8 Lsb (directory_of items)) ≡ option_map_or (λ values. length (array8 Lsb (directory_in values))) (values_of (codes "CurrentDirectory") (codes "ARRAY8") items) 8 =
     map-or directory_in (λ text. length (array8 Lsb text)) (values_of (codes "CurrentDirectory") (codes "ARRAY8") items) 8 [] length-no-array in
     omega (arith, e, part (λ values. length (array8 Lsb (directory_in values))) (codes "CurrentDirectory") (codes "ARRAY8") items (omega (arith, length-no-array)) directory-bytes)
-
-and-left : (x y : Bool) → (x && y) ≡ true → x ≡ true
-and-left true y e = refl
-and-left false y e = e
-
-and-right : (x y : Bool) → (x && y) ≡ true → y ≡ true
-and-right true y e = e
-and-right false y e = absurd (grind arith)
 
 turn-pairs : (values : List (List ℕ)) → is_environment values ≡ true → in_turn (in_pairs values) ≡ values
 turn-pairs [] e = refl

@@ -13,6 +13,7 @@ use Rattle.session_model.specs.Readings as of
 use Rattle.session_model.proofs.Lists.{Once}
 use Rattle.session_model.proofs.Names.{AreOwn}
 use Rattle.session_model.proofs.Pending.{all-append}
+use Rattle.session_model.proofs.Ruled.{denied}
 
 -- Lists without twins
 
@@ -47,10 +48,6 @@ apart-cons x (Some id) ys f a = (f id refl, a)
 distinct-option : (o : Option (List ℕ)) (ys : List (List ℕ)) → ((id : List ℕ) → o ≡ Some id → AllByRecursion (λ y. bytes_eq id y ≡ false) ys) → IsDistinct bytes_eq ys → IsDistinct bytes_eq (cons_option o ys)
 distinct-option None ys f d = d
 distinct-option (Some id) ys f d = distinct-cons id ys (f id refl) d
-
-denied : (b : Bool) → (b ≡ true → ⊥) → b ≡ false
-denied true n = absurd (n refl)
-denied false n = refl
 
 -- IDs of connections
 

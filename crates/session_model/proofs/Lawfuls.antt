@@ -12,13 +12,13 @@ use Rattle.session_model.specs.Readings as of
 use Rattle.session_model.specs.Reading.{reading}
 use Rattle.session_model.specs.Books.{next_entry, new_entry, next_entries, next_book, book_forgetting}
 use Rattle.session_model.proofs.Lists.{Once}
-use Rattle.session_model.proofs.Sound.{or-true}
+use Rattle.session_model.proofs.Sound.{or-true, or-either}
 use Rattle.session_model.proofs.Propers.{is-next, is-forgetting}
 use Rattle.session_model.proofs.Tidy.{Tidy}
 use Rattle.session_model.proofs.Pending.{filter-len, Sources, rules-next}
 use Rattle.session_model.proofs.Known.{entry_id, distinct-head, distinct-tail, distinct-cons}
 use Rattle.session_model.proofs.NextIds.{old_ids, new_ids, next-ids, old-id, new-is, next-distinct}
-use Rattle.session_model.proofs.Room.{held_ids, known_with, or-cases, has-append}
+use Rattle.session_model.proofs.Room.{held_ids, known_with, has-append}
 use Rattle.session_model.proofs.Ruly.{Ruly, IsKnown, held-by, held-in}
 
 -- What is known of the entries of the next book
@@ -29,12 +29,12 @@ old-has f q (entry ∷ entries) k e = old-at (f entry) refl e (old-has f q entri
   old-at : (o : Option (List ℕ)) → f entry ≡ o → has_id q (cons_option o (filter_map f entries)) ≡ true → (has_id q (filter_map f entries) ≡ true → has_id q (ids_of entries) ≡ true) → (bytes_eq q entry.id || has_id q (ids_of entries)) ≡ true
   old-at None s e g = ap (λ (b : Bool). bytes_eq q entry.id || b) (g e) ∙ or-true (bytes_eq q entry.id)
   old-at (Some id) s e g =
-      or-cases (bytes_eq q id) (has_id q (filter_map f entries)) (λ t. ap (λ (b : Bool). b || has_id q (ids_of entries)) (sym (ap (λ (x : List ℕ). bytes_eq q x) (k entry id s)) ∙ t))
+      or-either (bytes_eq q id) (has_id q (filter_map f entries)) (λ t. ap (λ (b : Bool). b || has_id q (ids_of entries)) (sym (ap (λ (x : List ℕ). bytes_eq q x) (k entry id s)) ∙ t))
       (λ t. ap (λ (b : Bool). bytes_eq q entry.id || b) (g t) ∙ or-true (bytes_eq q entry.id)) e
 
 pub next-known : (h : History) (round : Agreement) (q : List ℕ) → has_id q (ids_of (next_entries (reading h) round)) ≡ true → IsKnown q h
 next-known h round q e =
-    or-cases (has_id q (old_ids h round)) (has_id q (new_ids h round))
+    or-either (has_id q (old_ids h round)) (has_id q (new_ids h round))
     (λ s. ap (λ (b : Bool). b || has_id q (held_ids h)) (old-has (λ (entry : Entry). entry_id (next_entry (reading h) round entry)) q (of.book h).entries (old-id h round) s))
     (λ s. let c : (c : ℕ) × (entry_id (new_entry (reading h) c) ≡ Some q) = held-by (λ x. entry_id (new_entry (reading h) x)) q (conns_of round.members) s in
     ap (λ (b : Bool). has_id q (ids_of (of.book h).entries) || b) (held-in c.0 q h (new-is h c.0 q c.1).held_is) ∙ or-true (has_id q (ids_of (of.book h).entries)))
@@ -46,7 +46,7 @@ kept-has : (test : Entry → Bool) (q : List ℕ) (entries : List Entry) → has
 kept-has test q [] e = e
 kept-has test q (entry ∷ entries) e = kept-at (test entry) e (kept-has test q entries) where
   kept-at : (b : Bool) → has_id q (ids_of (cond b (entry ∷ filter test entries) (filter test entries))) ≡ true → (has_id q (ids_of (filter test entries)) ≡ true → has_id q (ids_of entries) ≡ true) → (bytes_eq q entry.id || has_id q (ids_of entries)) ≡ true
-  kept-at true e g = or-cases (bytes_eq q entry.id) (has_id q (ids_of (filter test entries))) (λ t. ap (λ (b : Bool). b || has_id q (ids_of entries)) t) (λ t. ap (λ (b : Bool). bytes_eq q entry.id || b) (g t) ∙ or-true (bytes_eq q entry.id)) e
+  kept-at true e g = or-either (bytes_eq q entry.id) (has_id q (ids_of (filter test entries))) (λ t. ap (λ (b : Bool). b || has_id q (ids_of entries)) t) (λ t. ap (λ (b : Bool). bytes_eq q entry.id || b) (g t) ∙ or-true (bytes_eq q entry.id)) e
   kept-at false e g = ap (λ (b : Bool). bytes_eq q entry.id || b) (g e) ∙ or-true (bytes_eq q entry.id)
 
 kept-apart : (test : Entry → Bool) (x : List ℕ) (entries : List Entry) → AllByRecursion (λ y. bytes_eq x y ≡ false) (ids_of entries) → AllByRecursion (λ y. bytes_eq x y ≡ false) (ids_of (filter test entries))
@@ -65,7 +65,7 @@ kept-distinct test (entry ∷ entries) d = distinct-at (test entry) (kept-distin
 
 -- How many entries
 
-length-ids : (entries : List Entry) → length (ids_of entries) ≡ length entries
+pub length-ids : (entries : List Entry) → length (ids_of entries) ≡ length entries
 length-ids [] = refl
 length-ids (entry ∷ entries) = ap suc (length-ids entries)
 

@@ -13,7 +13,7 @@ use Rattle.discard_ledger.specs.Discards.{is_among, discard_of, without_commands
 use Rattle.session_model.specs.Reading.{Clients}
 use Rattle.session_model.specs.Books.{standing}
 use Rattle.session_model.proofs.Lists.{Once}
-use Rattle.session_model.proofs.Sound.{or-true}
+use Rattle.session_model.proofs.Sound.{or-true, or-either}
 use Rattle.session_model.proofs.Ruled.{differ}
 use Rattle.session_model.proofs.Pending.{command_equiv, distinct-filter, map-len}
 
@@ -35,7 +35,7 @@ length-paired : {K : Type 0} (ys : List K) → length (pairs ys) ≡ length ys
 length-paired [] = refl
 length-paired (y ∷ ys) = ap suc (length-paired ys)
 
-within-by : {K : Type 0} (eq : K → K → Bool) → IsEquivalence eq → (xs ys : List K) → IsDistinct eq xs → ((q : K) → list_any (eq q) xs ≡ true → list_any (eq q) ys ≡ true) → length xs ≤ length ys
+pub within-by : {K : Type 0} (eq : K → K → Bool) → IsEquivalence eq → (xs ys : List K) → IsDistinct eq xs → ((q : K) → list_any (eq q) xs ≡ true → list_any (eq q) ys ≡ true) → length xs ≤ length ys
 within-by eq laws xs ys d k = omega (arith, length-le_from_keys laws xs (pairs ys) d (λ q e. paired (eq q) ys (k q e)), length-paired ys)
 
 -- The commands that stay pending
@@ -56,10 +56,6 @@ among-filter q gone (c ∷ list) n e = filter-at (same_command q c) (is_among c 
   filter-at false true s t e g = g e
   filter-at false false s t e g = ap (λ (b : Bool). same_command q c || b) (g e) ∙ or-true (same_command q c)
 
-or-parts : {P : Type 0} (x y : Bool) → (x ≡ true → P) → (y ≡ true → P) → (x || y) ≡ true → P
-or-parts true y f g e = f refl
-or-parts false y f g e = g e
-
 -- a command that is kept was there, and none of those that are gone is the same
 filter-among : (q : Command) (gone list : List Command) → is_among q (without_commands gone list) ≡ true → (is_among q list ≡ true) × (is_among q gone ≡ false)
 filter-among q gone [] e = absurd (grind arith)
@@ -67,7 +63,7 @@ filter-among q gone (c ∷ list) e = kept-at (is_among c gone) refl e (filter-am
   kept-at : (a : Bool) → is_among c gone ≡ a → is_among q (cond (not a) (c ∷ without_commands gone list) (without_commands gone list)) ≡ true → (is_among q (without_commands gone list) ≡ true → (is_among q list ≡ true) × (is_among q gone ≡ false))
       → ((same_command q c || is_among q list) ≡ true) × (is_among q gone ≡ false)
   kept-at true t e g = let k : (is_among q list ≡ true) × (is_among q gone ≡ false) = g e in (ap (λ (b : Bool). same_command q c || b) k.0 ∙ or-true (same_command q c), k.1)
-  kept-at false t e g = or-parts (same_command q c) (is_among q (without_commands gone list)) (λ s. (ap (λ (b : Bool). b || is_among q list) s, among-same q c gone s ∙ t))
+  kept-at false t e g = or-either (same_command q c) (is_among q (without_commands gone list)) (λ s. (ap (λ (b : Bool). b || is_among q list) s, among-same q c gone s ∙ t))
       (λ s. let k : (is_among q list ≡ true) × (is_among q gone ≡ false) = g s in (ap (λ (b : Bool). same_command q c || b) k.0 ∙ or-true (same_command q c), k.1)) e
 
 -- what is left after the issuable ones are gone stands in a table

@@ -34,6 +34,8 @@ use Rattle.session_model.specs.Replies.{refused, or_bad_state, respawn_moves, en
 use Rattle.session_model.specs.Rules.{last_command, ended, completed, agreement_with, wanting_two, over_rule, agreed_rule, running_rule, save_yourself, members_for, begin_first, is_free, idle_rule, round_rule, token_rule, rule}
 use Rattle.session_model.proofs.Tidy.{either, IsSnapshot, HasId, Tidy, Proper, AllProper, proper-append}
 use Rattle.session_model.proofs.Short.{error-state, error-id, error-room, error-full, error-lone}
+use Rattle.session_model.proofs.Ruled.{and-left}
+use Rattle.session_model.proofs.Pending.{all-append, all-filter}
 
 -- Lists of moves
 
@@ -62,10 +64,6 @@ proper-issue epoch book (c ∷ commands) b = (tt, proper-append epoch (tried_eac
 abbrev IsMaybe : ℕ → Option Entry → Type 0
 IsMaybe epoch None = Unit {0}
 IsMaybe epoch (Some entry) = IsEntry epoch entry
-
-all-append : (epoch : ℕ) (xs ys : List Entry) → AllByRecursion (IsEntry epoch) xs → AllByRecursion (IsEntry epoch) ys → AllByRecursion (IsEntry epoch) (xs ++ ys)
-all-append epoch [] ys p q = q
-all-append epoch (x ∷ xs) ys p q = (p.0, all-append epoch xs ys p.1 q)
 
 maybe-cons : (epoch : ℕ) (o : Option Entry) (xs : List Entry) → IsMaybe epoch o → AllByRecursion (IsEntry epoch) xs → AllByRecursion (IsEntry epoch) (cons_option o xs)
 maybe-cons epoch None xs p q = q
@@ -98,14 +96,10 @@ all-new epoch h (c ∷ conns) t = maybe-cons epoch (new_entry (reading h) c) (fi
 
 pub is-next : (epoch : ℕ) (h : History) (round : Agreement) → (of.book h).epoch ≡ epoch → Tidy epoch h → IsOf epoch (next_book (reading h) round)
 is-next epoch h round e t =
-    (e, all-append epoch (filter_map (next_entry (reading h) round) (of.book h).entries) (filter_map (new_entry (reading h)) (conns_of round.members)) (all-next epoch h round (of.book h).entries t t.entries) (all-new epoch h (conns_of round.members) t))
-
-all-filter : (epoch : ℕ) (test : Entry → Bool) (entries : List Entry) → AllByRecursion (IsEntry epoch) entries → AllByRecursion (IsEntry epoch) (filter test entries)
-all-filter epoch test [] a = tt
-all-filter epoch test (entry ∷ entries) a = either (AllByRecursion (IsEntry epoch)) (test entry) (entry ∷ filter test entries) (filter test entries) (a.0, all-filter epoch test entries a.1) (all-filter epoch test entries a.1)
+    (e, all-append (IsEntry epoch) (filter_map (next_entry (reading h) round) (of.book h).entries) (filter_map (new_entry (reading h)) (conns_of round.members)) (all-next epoch h round (of.book h).entries t t.entries) (all-new epoch h (conns_of round.members) t))
 
 pub is-forgetting : (epoch : ℕ) (h : History) (id : List ℕ) → (of.book h).epoch ≡ epoch → Tidy epoch h → IsOf epoch (book_forgetting (reading h).store id)
-is-forgetting epoch h id e t = (e, all-filter epoch (λ entry. not (is_of id entry)) (of.book h).entries t.entries)
+is-forgetting epoch h id e t = (e, all-filter (IsEntry epoch) (λ entry. not (is_of id entry)) (of.book h).entries t.entries)
 
 -- The rules
 
@@ -235,12 +229,8 @@ found-id : (epoch : ℕ) (id : List ℕ) (entries : List Entry) → AllByRecursi
 found-id epoch id [] a s = absurd (grind arith)
 found-id epoch id (entry ∷ entries) a s = found-at (is_of id entry) epoch id entry (find (is_of id) entries) refl a.0 (found-id epoch id entries a.1) s
 
-and-first : (x y : Bool) → (x && y) ≡ true → x ≡ true
-and-first true y e = refl
-and-first false y e = e
-
 proper-rejoin-at : (b : Bool) (epoch : ℕ) (h : History) (x : Arrival) (id : List ℕ) → may_rejoin (reading h) id ≡ b → Tidy epoch h → AllProper epoch (cond b (Gave x.conn (RegisterClientReply id) ∷ []) (Blamed x.conn (bad_id x) ∷ []))
-proper-rejoin-at true epoch h x id m t = (found-id epoch id (of.book h).entries t.entries (and-first (is_recorded id (of.book h)) (is_none (client_of id (reading h).clients)) m), tt)
+proper-rejoin-at true epoch h x id m t = (found-id epoch id (of.book h).entries t.entries (and-left (is_recorded id (of.book h)) (is_none (client_of id (reading h).clients)) m), tt)
 proper-rejoin-at false epoch h x id m t = (error-id x, tt)
 
 proper-register : (epoch : ℕ) (h : History) (x : Arrival) (previous : List ℕ) → 1 ≤ epoch → (of.book h).epoch ≡ epoch → Tidy epoch h → AllProper epoch (register (reading h) x previous)

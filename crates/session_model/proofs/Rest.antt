@@ -4,7 +4,7 @@ use Rattle.std.specs.Prelude.{Option, Some, None, is_some}
 use Rattle.std.specs.List.{list_any, list_all}
 use Rattle.std.proofs.lemmas.Bool.Decides.{nat_tests}
 use Rattle.ice_values.specs.declared.property.Property.{Property}
-use Rattle.round_agreement.specs.declared.members.Member.{Member}
+use Rattle.round_agreement.specs.declared.round.Member.{Member}
 use Rattle.round_agreement.specs.Agreement.{Agreement, is_done, wants_two, two_ready, conns_of}
 use Rattle.xsmp_messages.specs.declared.message.XsmpMessage.{XsmpMessage}
 use Rattle.xsmp_messages.specs.declared.message.XsmpMessage.TheVariants.{RegisterClientReply, Interact, SaveYourselfPhase2}

@@ -1,18 +1,17 @@
 -- No more IDs are known after a book was written than before.
-use Rattle.std.proofs.Common.{◌≡◌, refl, ℕ, suc, ◌≤◌, Bool, true, false, cond, not, ◌||◌, List, [], ◌∷◌, ◌++◌, filter, length, sym, ap, subst, ◌∙◌, arith}
-use Rattle.std.specs.Prelude.{Option, Some, is_some, find, filter_map, IsSome}
-use Rattle.std.specs.List.{AllByRecursion, IsDistinct, list_any}
-use Rattle.std.specs.Map.{lookup}
+use Rattle.std.proofs.Common.{◌≡◌, refl, ℕ, ◌≤◌, Bool, true, false, cond, not, ◌||◌, List, [], ◌∷◌, ◌++◌, filter, length, sym, ap, subst, ◌∙◌, arith}
+use Rattle.std.specs.Prelude.{Option, Some, is_some, find, filter_map}
+use Rattle.std.specs.List.{AllByRecursion, IsDistinct}
 use Rattle.std.specs.Str.{bytes_eq}
 use Rattle.std.specs.Cmp.{IsEquivalence, nat_eq_equiv}
 use Rattle.std.specs.Cmp.Lexicographic.{same_text, lists_equiv}
-use Rattle.std.proofs.lemmas.Map.Steps.{length-le_from_keys}
 use Rattle.checkpoint_records.specs.declared.records.Entry.{Entry}
 use Rattle.checkpoint_records.specs.Rules.{ids_of}
 use Rattle.session_model.specs.Tables.{has_id, is_of}
 use Rattle.session_model.specs.Moves.{History}
 use Rattle.session_model.specs.Readings as of
-use Rattle.session_model.proofs.Sound.{or-true}
+use Rattle.session_model.proofs.Left.{within-by}
+use Rattle.session_model.proofs.Sound.{or-true, or-either}
 use Rattle.session_model.proofs.Pending.{distinct-filter}
 use Rattle.session_model.proofs.Known.{distinct-append}
 use Rattle.session_model.proofs.NextIds.{apart-unrecorded, swap-all}
@@ -22,24 +21,8 @@ use Rattle.session_model.proofs.NextIds.{apart-unrecorded, swap-all}
 bytes_equiv : IsEquivalence bytes_eq
 bytes_equiv = lists_equiv nat_eq_equiv
 
-abbrev pairs : List (List ℕ) → List (List ℕ × ℕ)
-pairs [] = []
-pairs (y ∷ ys) = (y, 0) ∷ pairs ys
-
-paired-at : (b a : Bool) (o : Option ℕ) → (a ≡ true → IsSome o) → (b || a) ≡ true → IsSome (cond b (Some 0) o)
-paired-at true a o k e = refl
-paired-at false a o k e = k e
-
-paired : (test : List ℕ → Bool) (ys : List (List ℕ)) → list_any test ys ≡ true → IsSome (lookup test (pairs ys))
-paired test [] e = absurd (grind arith)
-paired test (y ∷ ys) e = paired-at (test y) (list_any test ys) (lookup test (pairs ys)) (paired test ys) e
-
-length-paired : (ys : List (List ℕ)) → length (pairs ys) ≡ length ys
-length-paired [] = refl
-length-paired (y ∷ ys) = ap suc (length-paired ys)
-
 pub within : (xs ys : List (List ℕ)) → IsDistinct bytes_eq xs → ((q : List ℕ) → has_id q xs ≡ true → has_id q ys ≡ true) → length xs ≤ length ys
-within xs ys d k = omega (arith, length-le_from_keys bytes_equiv xs (pairs ys) d (λ q e. paired (bytes_eq q) ys (k q e)), length-paired ys)
+within xs ys d k = within-by bytes_eq bytes_equiv xs ys d k
 
 -- The known IDs
 
@@ -98,13 +81,9 @@ known-in q entries held e =
       known-at true s e = ap (λ (c : Bool). c || has_id q (filter (λ id. not (is_some (find (is_of id) entries))) held)) s
       known-at false s e = ap (λ (c : Bool). has_id q (ids_of entries) || c) (has-filter q (λ id. not (is_some (find (is_of id) entries))) held (ap (λ (c : Bool). not c) (recorded-has q entries ∙ s)) e) ∙ or-true (has_id q (ids_of entries))
 
-pub or-cases : {P : Type 0} (x y : Bool) → (x ≡ true → P) → (y ≡ true → P) → (x || y) ≡ true → P
-or-cases true y f g e = f refl
-or-cases false y f g e = g e
-
 pub in-known : (q : List ℕ) (entries : List Entry) (held : List (List ℕ)) → has_id q (known_with entries held) ≡ true → (has_id q (ids_of entries) || has_id q held) ≡ true
 in-known q entries held e =
-    or-cases (has_id q (ids_of entries)) (has_id q (filter (λ id. not (is_some (find (is_of id) entries))) held))
+    or-either (has_id q (ids_of entries)) (has_id q (filter (λ id. not (is_some (find (is_of id) entries))) held))
     (λ s. ap (λ (c : Bool). c || has_id q held) s)
     (λ s. ap (λ (c : Bool). has_id q (ids_of entries) || c) (filter-has q (λ id. not (is_some (find (is_of id) entries))) held s) ∙ or-true (has_id q (ids_of entries)))
     (sym (has-append q (ids_of entries) (filter (λ id. not (is_some (find (is_of id) entries))) held)) ∙ e)
@@ -130,4 +109,4 @@ pub room-kept : (old new : List Entry) (held : List (List ℕ)) → IsDistinct b
     → length (known_with new held) ≤ length (known_with old held)
 room-kept old new held d e k =
     within (known_with new held) (known_with old held) (known-distinct new held d e)
-    (λ q i. known-in q old held (or-cases (has_id q (ids_of new)) (has_id q held) (k q) (λ s. ap (λ (c : Bool). has_id q (ids_of old) || c) s ∙ or-true (has_id q (ids_of old))) (in-known q new held i)))
+    (λ q i. known-in q old held (or-either (has_id q (ids_of new)) (has_id q held) (k q) (λ s. ap (λ (c : Bool). has_id q (ids_of old) || c) s ∙ or-true (has_id q (ids_of old))) (in-known q new held i)))

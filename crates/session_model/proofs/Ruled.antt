@@ -7,7 +7,7 @@ use Rattle.sm_world.specs.declared.commands.Command.{Command}
 use Rattle.ice_values.specs.declared.property.Property.{Property}
 use Rattle.checkpoint_records.specs.declared.records.Book.{Book}
 use Rattle.round_agreement.specs.declared.wanted.Wanted.{Wanted}
-use Rattle.round_agreement.specs.declared.members.Member.{Member}
+use Rattle.round_agreement.specs.declared.round.Member.{Member}
 use Rattle.discard_ledger.specs.Discards.{issuable}
 use Rattle.std.specs.Prelude.{filter_map}
 use Rattle.round_agreement.specs.Agreement.{Agreement, is_done, all_done, two_ready, agreed, deserted, is_nil, conns_of}
@@ -35,11 +35,11 @@ denied false n = refl
 pub differ : {b : Bool} → b ≡ true → b ≡ false → ⊥
 differ e f = grind arith
 
-and-left : (x y : Bool) → (x && y) ≡ true → x ≡ true
+pub and-left : (x y : Bool) → (x && y) ≡ true → x ≡ true
 and-left true y e = refl
 and-left false y e = e
 
-and-right : (x y : Bool) → (x && y) ≡ true → y ≡ true
+pub and-right : (x y : Bool) → (x && y) ≡ true → y ≡ true
 and-right true y e = e
 and-right false y e = absurd (grind arith)
 

@@ -25,13 +25,13 @@ use Rattle.session_model.specs.Tables.{is_same, stopped, stopped_said, strays_wi
 use Rattle.session_model.specs.Moves.{Move, Outside, Gave, Unset, Closed, Began, Over, Agreed, Cancelled, Committed, History, ◌▷◌}
 use Rattle.session_model.specs.Readings as of
 use Rattle.session_model.proofs.Lists.{Once, once-without, in-without, in-append}
-use Rattle.session_model.proofs.Sound.{or-true}
+use Rattle.session_model.proofs.Sound.{or-true, or-either}
 use Rattle.session_model.proofs.Tidy.{Tidy}
 use Rattle.session_model.proofs.Commands.{IsMaybeCommand, discard-command}
 use Rattle.session_model.proofs.Pending.{all-append}
 use Rattle.session_model.proofs.Names.{AreOwn, IsFree, IsNew, IsBefore, IsNumbered, Numbered, have-ids, own-step, own-case, gone-had, numbered-step, before-own}
 use Rattle.session_model.proofs.Known.{distinct-conns}
-use Rattle.session_model.proofs.Room.{within, held_ids, known_with, known-in, in-known, known-distinct, recorded-has, or-cases, room-kept}
+use Rattle.session_model.proofs.Room.{within, held_ids, known_with, known-in, in-known, known-distinct, recorded-has, room-kept}
 
 -- What a move asks
 
@@ -57,7 +57,7 @@ held-by f q [] e = absurd (grind arith)
 held-by f q (c ∷ cs) e = held-at c (f c) refl e (held-by f q cs) where
   held-at : (c : ℕ) (o : Option (List ℕ)) → f c ≡ o → has_id q (cons_option o (filter_map f cs)) ≡ true → (has_id q (filter_map f cs) ≡ true → (d : ℕ) × (f d ≡ Some q)) → (d : ℕ) × (f d ≡ Some q)
   held-at c None k e g = g e
-  held-at c (Some id) k e g = or-cases (bytes_eq q id) (has_id q (filter_map f cs)) (λ s. (c, k ∙ ap (λ (x : List ℕ). Some x) (sym (same_text q id (sym s))))) g e
+  held-at c (Some id) k e g = or-either (bytes_eq q id) (has_id q (filter_map f cs)) (λ s. (c, k ∙ ap (λ (x : List ℕ). Some x) (sym (same_text q id (sym s))))) g e
 
 pub own_text : (q : List ℕ) → bytes_eq q q ≡ true
 own_text [] = refl
@@ -126,7 +126,7 @@ all-by-has P (entry ∷ entries) k =
 
 known-before : (epoch : ℕ) (q : List ℕ) (h : History) → Numbered epoch h → IsKnown q h → IsBefore epoch (of.given h) q
 known-before epoch q h n e =
-    or-cases (has_id q (ids_of (of.book h).entries)) (has_id q (held_ids h)) (λ s. find-before epoch (of.given h) q (of.book h).entries n.entries (recorded-has q (of.book h).entries ∙ s))
+    or-either (has_id q (ids_of (of.book h).entries)) (has_id q (held_ids h)) (λ s. find-before epoch (of.given h) q (of.book h).entries n.entries (recorded-has q (of.book h).entries ∙ s))
     (λ s. let c : (c : ℕ) × (of.id_of c h ≡ Some q) = held-by (λ x. of.id_of x h) q (of.registered h) s in n.held c.0 q c.1) e
 
 lawful-given-numbered : (epoch c : ℕ) (m : XsmpMessage) (h : History) → Lawful epoch (Gave c m) h → Numbered epoch h → IsNumbered epoch (Gave c m) h
@@ -261,7 +261,7 @@ room-less : (entries : List Entry) (held less : List (List ℕ)) → IsDistinct 
     → length (known_with entries less) ≤ length (known_with entries held)
 room-less entries held less d e k =
     within (known_with entries less) (known_with entries held) (known-distinct entries less d e)
-    (λ q i. known-in q entries held (or-cases (has_id q (ids_of entries)) (has_id q less) (λ s. ap (λ (b : Bool). b || has_id q held) s) (k q) (in-known q entries less i)))
+    (λ q i. known-in q entries held (or-either (has_id q (ids_of entries)) (has_id q less) (λ s. ap (λ (b : Bool). b || has_id q held) s) (k q) (in-known q entries less i)))
 
 -- one more at most
 room-more : (entries : List Entry) (held more : List (List ℕ)) (id : List ℕ) → IsDistinct bytes_eq (ids_of entries) → IsDistinct bytes_eq more → ((q : List ℕ) → has_id q more ≡ true → (q ≡ id) ⊎ (has_id q held ≡ true))
@@ -269,7 +269,7 @@ room-more : (entries : List Entry) (held more : List (List ℕ)) (id : List ℕ)
 room-more entries held more id d e k =
     let w : length (known_with entries more) ≤ length (id ∷ known_with entries held) =
     within (known_with entries more) (id ∷ known_with entries held) (known-distinct entries more d e)
-    (λ q i. or-cases (has_id q (ids_of entries)) (has_id q more)
+    (λ q i. or-either (has_id q (ids_of entries)) (has_id q more)
     (λ s. ap (λ (b : Bool). bytes_eq q id || b) (known-in q entries held (ap (λ (b : Bool). b || has_id q held) s)) ∙ or-true (bytes_eq q id))
     (λ s. one-of q (k q s)) (in-known q entries more i)) in
     omega (arith, w) where

@@ -245,7 +245,7 @@ or-later true y z v k e = refl
 or-later false true z v k e = refl
 or-later false false z v k e = k e
 
-or-either : {P : Type 0} (x y : Bool) → (x ≡ true → P) → (y ≡ true → P) → (x || y) ≡ true → P
+pub or-either : {P : Type 0} (x y : Bool) → (x ≡ true → P) → (y ≡ true → P) → (x || y) ≡ true → P
 or-either true y f g e = f refl
 or-either false y f g e = g e
 

@@ -33,7 +33,7 @@ use Rattle.session_model.specs.Rules.{settled, taken, Takes, opened, run}
 use Rattle.session_model.specs.Laws.{EachMove, IsWritten, AllTake}
 use Rattle.session_model.proofs.Lists.{once-push, once-without}
 use Rattle.session_model.proofs.Level.{Good, good-plain, onto-append}
-use Rattle.session_model.proofs.Ruled.{differ}
+use Rattle.session_model.proofs.Ruled.{differ, and-left, and-right}
 use Rattle.session_model.proofs.Replied.{good-reply, good-opened, unregistered-is, cond-same}
 use Rattle.session_model.proofs.Tidy.{Proper, AllProper}
 use Rattle.session_model.proofs.Propers.{proper-reply, proper-tried, IsOf, is-forgetting}
@@ -42,7 +42,7 @@ use Rattle.session_model.proofs.Pending.{filter-len}
 use Rattle.session_model.proofs.Names.{have-ids}
 use Rattle.session_model.proofs.Room.{held_ids, known_with}
 use Rattle.session_model.proofs.Ruly.{Lawful, Ruly, own_text}
-use Rattle.session_model.proofs.Lawfuls.{rules-forgetting, forgetting-known}
+use Rattle.session_model.proofs.Lawfuls.{rules-forgetting, forgetting-known, length-ids}
 use Rattle.session_model.proofs.Left.{left-few, without-none}
 use Rattle.session_model.proofs.Ruled.{any-in}
 use Rattle.session_model.proofs.Names.{IsFree, IsBefore, before-earlier}
@@ -114,10 +114,6 @@ part-replied epoch c id h l p g w =
     let free : is_in c (of.registered h) ≡ false = g.sound.registered_are c ∙ ap (λ (q : Option Phase). is_registered q) l.0 in
     record { carried = carried-step epoch (Gave c (RegisterClientReply id)) h l p (once-push c (of.registered h) w.carried.once free) w.carried; few_live = w.few_live; few_pending = w.few_pending }
 
-length-ids : (entries : List Entry) → length (ids_of entries) ≡ length entries
-length-ids [] = refl
-length-ids (entry ∷ entries) = ap suc (length-ids entries)
-
 known-len : (h : History) → length (known_with (of.book h).entries (held_ids h)) ≡ known_ids (reading h)
 known-len h = omega (arith, length-append (ids_of (of.book h).entries) (filter (λ id. not (is_recorded id (of.book h))) (held_ids h)), length-ids (of.book h).entries)
 
@@ -149,14 +145,6 @@ found-free h id n c e =
       not-both true e f = grind arith
       not-both false e f = grind arith
 
-and-first : (x y : Bool) → (x && y) ≡ true → x ≡ true
-and-first true y e = refl
-and-first false y e = e
-
-and-second : (x y : Bool) → (x && y) ≡ true → y ≡ true
-and-second true y e = e
-and-second false y e = absurd (grind arith)
-
 -- a message that is heard is carried
 
 part-heard : (epoch c : ℕ) (m : XsmpMessage) (sequence : ℕ) (frame : List ℕ) (h : History) → Part epoch h → Part epoch (Outside (Said c m sequence frame) ▷ h)
@@ -186,8 +174,8 @@ part-rejoin epoch c previous sequence frame h x id is u p g w = rejoin-at (may_r
   rejoin-at true e p =
       part-replied epoch x.conn id (Outside (Said c (RegisterClient previous) sequence frame) ▷ h) (
         subst (λ (d : ℕ). of.phase_of d (Outside (Said c (RegisterClient previous) sequence frame) ▷ h) ≡ Some Unregistered) (sym is) u,
-        found-free h id (and-second (is_recorded id (of.book h)) (is_none (client_of id (reading h).clients)) e),
-        (λ n. absurd (differ (and-first (is_recorded id (of.book h)) (is_none (client_of id (reading h).clients)) e) n)),
+        found-free h id (and-right (is_recorded id (of.book h)) (is_none (client_of id (reading h).clients)) e),
+        (λ n. absurd (differ (and-left (is_recorded id (of.book h)) (is_none (client_of id (reading h).clients)) e) n)),
       )
       p.0 g (part-heard epoch c (RegisterClient previous) sequence frame h (part-of epoch h w))
 

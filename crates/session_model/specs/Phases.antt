@@ -10,8 +10,8 @@ use Rattle.xsmp_messages.specs.declared.message.XsmpMessage.TheVariants.{Die, In
 use Rattle.round_agreement.specs.declared.wanted.Wanted.{Wanted}
 use Rattle.session_model.specs.declared.phase.Phase.{Phase}
 use Rattle.session_model.specs.declared.phase.Phase.TheVariants.{Asked, AskedTwo, Done, Dying, Idle, Interacting, InteractingTwo, Owing, Saving, SavingTwo, Unregistered, WantsTwo}
-use Rattle.round_agreement.specs.declared.members.Step.{Step}
-use Rattle.round_agreement.specs.declared.members.Step.TheVariants.{Done as AllDone, Saving as ToSave, SavingTwo as ToSaveTwo, WantsTwo as ToWantTwo}
+use Rattle.round_agreement.specs.declared.round.Step.{Step}
+use Rattle.round_agreement.specs.declared.round.Step.TheVariants.{Done as AllDone, Saving as ToSave, SavingTwo as ToSaveTwo, WantsTwo as ToWantTwo}
 
 -- What a phase tells
 

@@ -16,7 +16,7 @@ use Rattle.session_model.specs.declared.waits.Wait.{Wait}
 use Rattle.session_model.specs.declared.marks.Marks.{Marks}
 use Rattle.session_model.specs.declared.events.SessionEvent.{SessionEvent}
 use Rattle.session_model.specs.declared.events.SessionEvent.TheVariants.{Joined, Left, Operator, Ready, Said}
-use Rattle.round_agreement.specs.declared.members.Member.{Member}
+use Rattle.round_agreement.specs.declared.round.Member.{Member}
 use Rattle.round_agreement.specs.Agreement.{Agreement, is_nil}
 use Rattle.discard_ledger.specs.Discards.{discard_of}
 use Rattle.session_model.specs.Phases.{is_asked, is_interacting, is_saving, is_shutdown, may_interact, phase_given, phase_said, ready_phase, step_of}

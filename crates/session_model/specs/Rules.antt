@@ -12,7 +12,7 @@ use Rattle.round_agreement.specs.declared.wanted.Wanted.{Wanted}
 use Rattle.session_model.specs.declared.waits.Wait.{Wait}
 use Rattle.session_model.specs.declared.events.SessionEvent.{SessionEvent}
 use Rattle.session_model.specs.declared.events.SessionEvent.TheVariants.{Joined, Left, Operator, Ready, Said}
-use Rattle.round_agreement.specs.declared.members.Member.{Member}
+use Rattle.round_agreement.specs.declared.round.Member.{Member}
 use Rattle.round_agreement.specs.Agreement.{Agreement, agreed, conns_of, deserted, is_nil, two_ready, wants_two}
 use Rattle.interact_queue.specs.Queue.{is_in, next_holder}
 use Rattle.session_model.specs.Phases.{is_owing}
