@@ -1,5 +1,5 @@
 -- One act after the other: what their effects do, and the cause of a halt.
-use Rattle.std.proofs.Common.{◌≡◌, inl, inr, arith, Bool, true, false, List, [], ◌∷◌, ◌++◌, drop, map, Option, Result, Ok, Err, is_ok, refl, sym, subst, ◌∙◌, ap, append_assoc}
+use Rattle.std.proofs.Common.{◌≡◌, inl, inr, arith, Bool, true, false, List, [], ◌∷◌, ◌++◌, map, Option, Result, Ok, Err, is_ok, refl, sym, ◌∙◌, ap, append_assoc}
 use Rattle.std.proofs.lemmas.List.{append-nil, map-append}
 use Rattle.std.proofs.lemmas.Bool.{false≢true}
 use Rattle.std.proofs.lemmas.Grind.{flat_map-append}

@@ -1,5 +1,5 @@
 -- What cutting does at a connection that is live, and the parts that it takes.
-use Rattle.std.proofs.Common.{◌≡◌, ℕ, ◌+◌, ◌*◌, ◌<◌, ◌≤◌, Bool, true, false, ◌==◌, slice_index, List, [], ◌∷◌, length, take, drop, Option, Some, None, refl, sym, ◌∙◌, ap, arith, if◌then◌else◌}
+use Rattle.std.proofs.Common.{◌≡◌, ℕ, ◌≤◌, Bool, true, false, ◌==◌, slice_index, List, [], ◌∷◌, length, take, drop, Option, Some, None, refl, sym, ◌∙◌, ap, arith, if◌then◌else◌}
 use Rattle.std.proofs.lemmas.List.{take_all}
 use Rattle.ice_values.specs.declared.numbers.Endian.{Endian}
 use Rattle.ice_framing.specs.Frames.{Standing, Cut, fed, cut, behind, units, IsPartial, unit_limit}

@@ -5,7 +5,7 @@ use Rattle.sm_world.specs.declared.events.Event.{Event}
 use Rattle.sm_world.specs.declared.events.Event.TheVariants.{Joined, Piece, Gone, Operator, Tick, End}
 use Rattle.ice_cookie.specs.declared.cookies.Cookie.{Cookie}
 use Rattle.session_engine.specs.Answers.{outcome, sequence_after}
-use Rattle.session_engine.specs.Machine.{Connection, Machine, Step, start, connection_of, changed, without, joined, fed_with, counted, live_limit, noted, fed_on, parted, answered, brought, part_for, part_taken, parts_taken, piece_for, join_for, step, after_all}
+use Rattle.session_engine.specs.Machine.{Connection, Machine, Step, start, connection_of, changed, without, joined, fed_with, counted, live_limit, noted, fed_on, answered, part_for, part_taken, parts_taken, piece_for, join_for, step, after_all}
 use Rattle.session_engine.specs.Streams.{Part, new_parts}
 use Rattle.session_engine.specs.declared.answers.Answer.{Answer}
 use Rattle.session_engine.specs.declared.answers.Outcome.{Outcome}

@@ -1,14 +1,14 @@
 -- The rest of a piece: the acts that were done, and the parts that the machine still has to take.
-use Rattle.std.proofs.Common.{◌≡◌, ℕ, ◌+◌, ◌-◌, ◌≤◌, zero, suc, true, false, List, [], ◌∷◌, ◌++◌, length, take, drop, Option, Some, None, refl, sym, ◌∙◌, ap, arith, if◌then◌else◌}
+use Rattle.std.proofs.Common.{◌≡◌, ℕ, ◌+◌, ◌-◌, zero, suc, true, false, List, [], ◌∷◌, ◌++◌, length, take, drop, Option, Some, None, refl, sym, ◌∙◌, ap, arith}
 use Rattle.std.proofs.lemmas.List.{length-drop, take_all}
 use Rattle.std.proofs.lemmas.Grind.{flat_map-append}
-use Rattle.sm_world.specs.Outside.{adds, Added}
+use Rattle.sm_world.specs.Outside.{Added}
 use Rattle.sm_world.specs.declared.effects.Effect.{Effect}
 use Rattle.sm_world.specs.declared.events.Event.TheVariants.{Piece}
 use Rattle.session_engine.specs.Acts.{has_finish}
 use Rattle.session_engine.specs.Answers.{outcome, sequence_after}
 use Rattle.session_engine.specs.Carries.{Going, CarriesOut}
-use Rattle.session_engine.specs.Machine.{Connection, Machine, Step, Entry, act_in, acts_of, behind, connection_of, changed, without, counted, noted, parted, fed_on, stays, answered, brought, part_taken, parts_taken, step}
+use Rattle.session_engine.specs.Machine.{Connection, Machine, Step, Entry, act_in, acts_of, behind, connection_of, counted, noted, parted, fed_on, stays, answered, part_taken, parts_taken, step}
 use Rattle.session_engine.specs.Shown.{Shows, Carried, TakesPart, TakesNone, parts_on, parts_left, all_cut, to_cut}
 use Rattle.session_engine.specs.Streams.{Part, parts_of}
 use Rattle.session_engine.specs.Turns.{is_end, either}
@@ -18,7 +18,7 @@ use Rattle.session_engine.specs.declared.answers.Outcome.{Outcome}
 use Rattle.session_engine.specs.declared.engine.Engine.{Engine}
 use Rattle.session_engine.specs.declared.serving.Turn.{Turn}
 use Rattle.session_engine.specs.declared.serving.Turn.TheVariants.{GoesOn}
-use Rattle.session_engine.proofs.Adding.{all_left, done_too, halted, all_done, stopped}
+use Rattle.session_engine.proofs.Adding.{all_left, done_too, halted, all_done}
 use Rattle.session_engine.proofs.Connections.{same, connection_of-changed, connection_of-without}
 use Rattle.session_engine.proofs.Running.{has_finish-append}
 use Rattle.session_engine.proofs.Showing.{piece_brings, piece_comes}

@@ -4,13 +4,13 @@ use Rattle.std.proofs.Math.Seq.{take-append-add, drop-append-add}
 use Rattle.std.proofs.lemmas.List.{append-nil, length-drop, take-append-le, drop-append-le, take-append-drop}
 use Rattle.std.proofs.lemmas.Bool.{cases_lt, false≢true}
 use Rattle.std.proofs.lemmas.Grind.{flat_map-append}
-use Rattle.sm_world.specs.Effects.{heard, deeds, published, event_of, deed_of, file_of}
+use Rattle.sm_world.specs.Effects.{heard, deeds, event_of, deed_of, file_of}
 use Rattle.sm_world.specs.Events.{next_of}
 use Rattle.sm_world.specs.Outside.{adds, TakesNext}
 use Rattle.sm_world.specs.declared.effects.Effect.{Effect}
 use Rattle.sm_world.specs.declared.effects.Effect.TheVariants.{Heard}
 use Rattle.sm_world.specs.declared.events.Event.{Event}
-use Rattle.session_engine.specs.Acts.{deeds_in, deed_in, is_finish, has_finish}
+use Rattle.session_engine.specs.Acts.{deeds_in, deed_in, has_finish}
 use Rattle.session_engine.specs.Machine.{Machine, Item, Came, Did, acts_of, start as start_with, step, after_all, script_from, run_from}
 use Rattle.session_engine.specs.declared.acts.Act.{Act}
 use Rattle.session_engine.specs.declared.acts.Act.TheVariants.{Say, Shut, Finish}

@@ -1,5 +1,5 @@
 -- The session in memory against the machine: it shows the machine after each of its calls.
-use Rattle.std.proofs.Common.{◌≡◌, ◌≢◌, inl, inr, ℕ, ◌≤◌, ◌+◌, ◌*◌, ◌/◌, ◌%◌, ◌^◌, true, false, nat_eq, nat_lt, List, [], ◌∷◌, ◌++◌, length, drop, map, Option, Some, None, Result, Ok, Err, OnOk, refl, sym, ◌∙◌, ap, subst, arith, append_assoc, length-append, if◌then◌else◌}
+use Rattle.std.proofs.Common.{◌≡◌, ◌≢◌, inl, inr, ℕ, ◌≤◌, ◌+◌, ◌*◌, ◌/◌, ◌%◌, ◌^◌, true, false, nat_lt, List, [], ◌∷◌, ◌++◌, length, drop, map, Option, Some, None, Result, Ok, Err, OnOk, refl, sym, ◌∙◌, ap, subst, arith, append_assoc, length-append}
 use Rattle.std.specs.Option.{option_map, is_some}
 use Rattle.std.specs.List.{flat_map}
 use Rattle.std.proofs.Math.Nat.{div-add-mod, add-mul-mod_self_left}
@@ -12,16 +12,15 @@ use Rattle.ice_framing.specs.Frames.{fed, cut, standing_of, units, unit_limit}
 use Rattle.ice_framing.proofs.Cuts.{fed-nil, cut-partial}
 use Rattle.ice_framing.proofs.Streams.{standing_of-append}
 use Rattle.ice_messages.specs.declared.message.IceMessage.TheVariants.{ByteOrder}
-use Rattle.ice_setup.specs.declared.states.AnySetup.{AnySetup}
 use Rattle.ice_values.specs.declared.numbers.Endian.TheVariants.{Lsb}
 use Rattle.session_engine.specs.Acts.{answer_acts}
 use Rattle.session_engine.specs.Answers.{outcome, sequence_after, KeepsLive}
 use Rattle.session_engine.specs.Cutting.{IsNew, TakesFirst, HoldsAll}
-use Rattle.session_engine.specs.Machine.{Connection, Machine, Step, Entry, Does, act_in, acts_of, connection_of, changed, without, joined, fed_with, counted, stays, parted, noted, fed_on, answered, part_for, part_taken, parts_taken, step, live_limit}
+use Rattle.session_engine.specs.Machine.{Connection, Machine, Does, act_in, connection_of, changed, without, joined, fed_with, counted, stays, parted, noted, fed_on, answered, part_for, part_taken, parts_taken, step, live_limit}
 use Rattle.session_engine.specs.Shown.{kept_at, kept_count, ChangesAt, CutsAt, Leaves, LeavesWhereClosed, IsKeptOf, Matches, AreDistinct, ShowsLive, Shows, Gives, TakesPart, TakesNone, parts_on, parts_left, all_cut, to_cut}
-use Rattle.session_engine.specs.Streams.{Part, parts_at, parts_of, new_parts}
+use Rattle.session_engine.specs.Streams.{Part, parts_at, parts_of}
 use Rattle.session_engine.specs.declared.acts.Act.{Act}
-use Rattle.session_engine.specs.declared.acts.Act.TheVariants.{Say, Shut}
+use Rattle.session_engine.specs.declared.acts.Act.TheVariants.{Say}
 use Rattle.session_engine.specs.declared.answers.Answer.{Answer}
 use Rattle.session_engine.specs.declared.answers.Answer.TheVariants.{Stays, Closes}
 use Rattle.session_engine.specs.declared.answers.Outcome.{Outcome}

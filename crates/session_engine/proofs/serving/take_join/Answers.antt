@@ -1,4 +1,3 @@
-use Rattle.session_engine.specs.Machine.{acts_of}
 use Rattle.session_engine.proofs.Adding.{given_up}
 use Rattle.session_engine.proofs.serving.take_join.Goals as goal
 

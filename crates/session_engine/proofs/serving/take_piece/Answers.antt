@@ -1,4 +1,4 @@
-use Rattle.std.proofs.Common.{rules, ◌≡◌, ℕ, List, length, refl, sym, ◌∙◌, ap, subst, drop}
+use Rattle.std.proofs.Common.{rules, ◌≡◌, ℕ, List, length, refl, sym, ◌∙◌, ap, subst}
 use Rattle.sm_world.specs.declared.events.Event.TheVariants.{Piece}
 use Rattle.sm_world.proofs.Adding.{never_fallen, fallen_never}
 use Rattle.session_engine.specs.Acts.{has_finish}

@@ -1,7 +1,7 @@
-use Rattle.std.proofs.Common.{rules, ◌≡◌, ◌∷◌, [], refl, sym, ◌∙◌, ap, take, length, drop}
+use Rattle.std.proofs.Common.{rules, ◌≡◌, ◌∷◌, [], refl, sym, ◌∙◌, ap, take, drop}
 use Rattle.ice_framing.specs.Frames.{fed, cut, behind, IsOversize}
 use Rattle.ice_framing.specs.declared.cutting.WholeFrame.{WholeFrame}
-use Rattle.session_engine.specs.Answers.{outcome, oversize_answer, sequence_after, KeepsLive}
+use Rattle.session_engine.specs.Answers.{outcome, oversize_answer, sequence_after}
 use Rattle.session_engine.specs.Streams.{Whole, TooMuch}
 use Rattle.session_engine.specs.declared.answers.Outcome.{Outcome}
 use Rattle.session_engine.proofs.CutLemmas.{behind_standing, held_all, none_whole, forgotten, oversize_ends}

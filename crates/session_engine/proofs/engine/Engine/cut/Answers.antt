@@ -1,5 +1,5 @@
 use Rattle.std.proofs.Common.{refl}
-use Rattle.session_engine.proofs.Showing.{CutsOne, takes_part, takes_none}
+use Rattle.session_engine.proofs.Showing.{takes_part, takes_none}
 use Rattle.session_engine.proofs.engine.Engine.cut.Goals as goal
 
 pub returns-in_ok-answer-in-Some-clause-takes : goal.returns-in_ok-answer-in-Some-clause-takes

@@ -1,11 +1,6 @@
 use Rattle.std.proofs.Common.{◌≡◌, ◌+◌, [], ◌∷◌, ◌∙◌, sym, ap, drop}
 use Rattle.std.proofs.lemmas.List.{drop_more}
-use Rattle.std.specs.List.{AllByRecursion}
-use Rattle.sm_world.specs.Outside.{Added}
 use Rattle.sm_world.proofs.Adding.{fallen_never}
-use Rattle.session_engine.specs.Acts.{CanBeDone}
-use Rattle.session_engine.specs.Carries.{Going}
-use Rattle.session_engine.specs.declared.acts.Act.{Act}
 use Rattle.session_engine.proofs.Adding.{done_too, halted}
 use Rattle.session_engine.proofs.shell.Shell.perform.Goals as goal
 
