@@ -3,6 +3,8 @@ use Rattle.std.specs.Prelude.{List, [], drop, length, replicate, take, ℕ, ◌+
 use Rattle.byteorder.specs.Endian.{little_bytes}
 use Rattle.ice_values.specs.Cells.{pad_len}
 use Rattle.ice_values.specs.Fields.{ErrorFields}
+use Rattle.ice_values.specs.Classes.{class_number}
+use Rattle.ice_values.specs.declared.class.ErrorClass.TheVariants.{BadState, BadValue}
 use Rattle.ice_values.specs.declared.severity.Severity.{Severity}
 use Rattle.ice_values.specs.declared.severity.Severity.TheVariants.{CanContinue, FatalToProtocol}
 use Rattle.xsmp_messages.specs.Messages.{minor_of}
@@ -21,11 +23,11 @@ value_at at bytes = little_bytes 4 at ++ little_bytes 4 (length bytes) ++ bytes 
 
 -- a message that has no place here
 abbrev pub bad_state : Arrival → ErrorFields
-bad_state x = record { class = 32769; minor = minor_of x.message; severity = CanContinue; sequence = x.sequence; values = [] }
+bad_state x = record { class = class_number BadState; minor = minor_of x.message; severity = CanContinue; sequence = x.sequence; values = [] }
 
 -- a value that isn't acceptable: these bytes, at a place of the message
 abbrev pub bad_value : Severity → Arrival → ℕ → List ℕ → ErrorFields
-bad_value severity x at bytes = record { class = 32771; minor = minor_of x.message; severity = severity; sequence = x.sequence; values = value_at at bytes }
+bad_value severity x at bytes = record { class = class_number BadValue; minor = minor_of x.message; severity = severity; sequence = x.sequence; values = value_at at bytes }
 
 -- an ID that the sender can't have: the string as it came, but at most 65,520 bytes of it
 abbrev pub bad_id : Arrival → ErrorFields
