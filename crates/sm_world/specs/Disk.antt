@@ -54,6 +54,6 @@ told_size (Some first) = length first
 pub sized_by : (outside : Outside) → outside.size ≡ told_size outside.first → HasToldSize outside
 sized_by outside size first told = sym (size ∙ ap told_size told)
 
--- a world that doesn't tell its file
-pub untold_by : (outside : Outside) → outside.first ≡ None → HasToldSize outside
-untold_by outside untold first told = absurd (false≢true (ap is_some (sym untold ∙ told)))
+-- a world that doesn't tell its file, whatever its size
+pub untold_size : (size : ℕ) (first : List ℕ) (untold : Option (List ℕ)) → untold ≡ None → untold ≡ Some first → length first ≡ size
+untold_size size first untold none told = absurd (false≢true (ap is_some (sym none ∙ told)))

@@ -46,9 +46,9 @@ impl Told for SilentDisk {
 
 impl Disk for SilentDisk {
     ghost use Rattle.std.proofs.Common.{refl};
-    ghost use Rattle.sm_world.specs.Disk.{untold_by};
+    ghost use Rattle.sm_world.specs.Disk.{untold_size};
 
-    ghost sized = { λ disk. untold_by _ refl };
+    ghost sized = { λ disk first told. untold_size (length disk.file) first None refl told };
 
     fn attach(&mut self, _path: &str) -> Result<(), Failure> {
         self.call()?;
@@ -200,23 +200,30 @@ const UNSYNCED: [[[u8; 6]; 5]; 2] = [
     [DONE, BEHIND, BEHIND, DONE, BEHIND],
 ];
 
+/// Ends the test where a crash after the first effects leaves others than these, one for each choice.
+fn expect_each(
+    rt: &impl Abort,
+    world: &SteadyWorld,
+    first: usize,
+    wants: &[[u8; 6]],
+) -> Result<(), Fail> {
+    for (choice, want) in CHOICES.iter().zip(wants.iter()) {
+        expect_left(rt, world, first, *choice, want)?;
+    }
+    Ok(())
+}
+
 #[test]
 fn a_crash_leaves_what_it_may(rt: HostRuntime) -> Result<(), Fail> {
     let mut world = steady_disk(rt.alloc(), &BEGUN)?;
     assert!(rt; commit(&mut world).is_ok());
-    for (choice, wants) in CHOICES
-        .iter()
-        .zip(UNSYNCED[0].iter().zip(UNSYNCED[1].iter()))
-    {
-        for first in 0..3 {
-            expect_left(&rt, &world, first, *choice, &BEGUN)?;
-        }
-        expect_left(&rt, &world, 3, *choice, wants.0)?;
-        expect_left(&rt, &world, 4, *choice, &BEHIND)?;
-        expect_left(&rt, &world, 5, *choice, wants.1)?;
-        expect_left(&rt, &world, 6, *choice, &DONE)?;
+    for first in 0..3 {
+        expect_each(&rt, &world, first, &[BEGUN; 5])?;
     }
-    Ok(())
+    expect_each(&rt, &world, 3, &UNSYNCED[0])?;
+    expect_each(&rt, &world, 4, &[BEHIND; 5])?;
+    expect_each(&rt, &world, 5, &UNSYNCED[1])?;
+    expect_each(&rt, &world, 6, &[DONE; 5])
 }
 
 /// Ends the test unless a failed first write of these bytes shows these effects and leaves, where a
