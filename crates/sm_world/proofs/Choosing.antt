@@ -1,5 +1,5 @@
 -- What a choice leaves is what a crash may leave.
-use Rattle.std.proofs.Common.{◌≡◌, ◌-◌, ◌<◌, ◌⊎◌, if◌then◌else◌, ℕ, Bool, true, false, ◌||◌, IsTrue, nat_le, ◌==◌, List, [], ◌∷◌, length, slice_index, Some, Result, Ok, Err, IfOk, refl, inl, inr, arith}
+use Rattle.std.proofs.Common.{◌≡◌, ◌-◌, if◌then◌else◌, ℕ, Bool, true, false, ◌||◌, IsTrue, nat_le, ◌==◌, List, [], ◌∷◌, length, slice_index, Result, Ok, Err, IfOk, refl, inl, inr, arith}
 use Rattle.std.proofs.lemmas.Bool.{false≢true}
 use Rattle.sm_world.proofs.Cells.{place}
 use Rattle.sm_world.specs.Crash.{Cell, Image, readable, settled, cell_after, cell_from}

@@ -1,14 +1,13 @@
 -- What the store holds may be read, whatever is done.
-use Rattle.std.proofs.Common.{◌≡◌, ℕ, ◌+◌, ◌-◌, ◌<◌, ◌≤◌, ◌⊎◌, Some, true, false, IsTrue, List, [], ◌∷◌, ◌++◌, length, take, drop, slice_index, refl, ap, sym, subst, ◌∙◌, arith, inl, inr, rules}
+use Rattle.std.proofs.Common.{◌≡◌, ℕ, ◌+◌, ◌-◌, ◌≤◌, Some, IsTrue, List, [], ◌∷◌, ◌++◌, length, take, drop, slice_index, refl, sym, subst, ◌∙◌, arith, inl, inr}
 use Rattle.std.proofs.lemmas.List.{length-drop, length-take-le, get_or-take, get_or-drop}
-use Rattle.sm_world.proofs.Cells.{cell_of-more, place, wrote_inside, wrote_outside, torn_inside, torn_outside, others_keep}
+use Rattle.sm_world.proofs.Cells.{cell_of-more, place, wrote_inside, wrote_outside}
 use Rattle.sm_world.proofs.Overwriting.{length-overwritten, inside_overwritten, outside_overwritten}
 use Rattle.sm_world.specs.Bytes.{overwritten}
-use Rattle.sm_world.specs.Crash.{Cell, MayBeRead, cell_after, cell_of, covers, readable}
+use Rattle.sm_world.specs.Crash.{Cell, MayBeRead, cell_after, cell_of, readable}
 use Rattle.sm_world.specs.Tape.{IsHeld, KeepsBytes}
 use Rattle.sm_world.specs.declared.effects.Effect.{Effect}
 use Rattle.sm_world.specs.declared.effects.Effect.TheVariants.{Heard, Sent, Shut, Started, Wrote, Torn, Synced, SyncFailed, Published, Printed}
-use Rattle.sm_world.specs.declared.events.Event.{Event}
 
 same_byte : (b : ℕ) → IsTrue (readable (Some b) b)
 same_byte b = grind arith

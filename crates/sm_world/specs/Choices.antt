@@ -1,5 +1,5 @@
 -- One file that a crash may leave, by a choice of what stands where no sync has been.
-use Rattle.std.specs.Prelude.{◌≡◌, ℕ, ◌-◌, ◌<◌, ◌==◌, if◌then◌else◌, List, [], ◌∷◌, length, slice_index, Some, None}
+use Rattle.std.specs.Prelude.{◌≡◌, ℕ, ◌-◌, ◌<◌, if◌then◌else◌, List, [], ◌∷◌, length, slice_index, Some, None}
 use Rattle.sm_world.specs.Crash.{Cell, covers, cell_of}
 use Rattle.sm_world.specs.declared.crash.Choice.{Choice}
 use Rattle.sm_world.specs.declared.crash.Choice.TheVariants.{AsWritten, AsSynced, Filled}

@@ -1,4 +1,4 @@
-use Rattle.std.proofs.Common.{◌≡◌, ◌∙◌, ap, length, sym, true, false}
+use Rattle.std.proofs.Common.{◌≡◌, ◌∙◌, length, sym, true, false}
 use Rattle.sm_world.proofs.Tracking.{wrote_elsewhere, wrote_here, torn_elsewhere, torn_here, synced_here, others_shown}
 use Rattle.sm_world.specs.Crash.{covers}
 use Rattle.sm_world.proofs.crash.Track.after.Goals as goal
