@@ -4,7 +4,7 @@ use Rattle.std.specs.Str.{is_utf8, chars}
 use Rattle.std.specs.Fmt.{digits}
 use Rattle.hex.specs.Hex.{encode_with}
 use lib.Utf8.{encode}
-use Rattle.session_model.specs.Examples.{ANewClientSaves, AnUnknownIdIsRefused, PropertiesAreKept, AFullTableIsRefused, ThereIsRoomFor64, ACheckpointGoesOn, ACheckpointWaitsForAll, TheTokenGoesOn, TheTokenIsHeldByOne, TheTokenIsGivenBack, OnlyErrorsAreAllowed, AShutdownIsCancelled, AnEmptySessionEnds, OrdersAnswer, AnOldStateIsDiscarded, ExpectedEntriesStay, ASessionIsTakenUp}
+use Rattle.session_model.specs.Examples.{ANewClientSaves, AnUnknownIdIsRefused, ALongIdIsShownInPart, PropertiesAreKept, AFullTableIsRefused, ThereIsRoomFor64, ACheckpointGoesOn, ACheckpointWaitsForAll, TheTokenGoesOn, TheTokenIsHeldByOne, TheTokenIsGivenBack, OnlyErrorsAreAllowed, AShutdownIsCancelled, AnEmptySessionEnds, OrdersAnswer, AnOldStateIsDiscarded, ExpectedEntriesStay, ASessionIsTakenUp}
 
 pub a_new_client_saves : ANewClientSaves
 unfolding encode_with is_utf8 chars encode digits
@@ -13,6 +13,10 @@ a_new_client_saves = refl
 pub an_unknown_id_is_refused : AnUnknownIdIsRefused
 unfolding encode_with is_utf8 chars encode digits
 an_unknown_id_is_refused = refl
+
+pub a_long_id_is_shown_in_part : ALongIdIsShownInPart
+unfolding encode_with is_utf8 chars encode digits
+a_long_id_is_shown_in_part = refl
 
 pub properties_are_kept : PropertiesAreKept
 unfolding encode_with is_utf8 chars encode digits

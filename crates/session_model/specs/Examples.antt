@@ -110,6 +110,12 @@ AnUnknownIdIsRefused =
     (Blame 1 (record { class = 32771; minor = 1; severity = CanContinue; sequence = 9; values = 8 ∷ 0 ∷ 0 ∷ 0 ∷ 8 ∷ 0 ∷ 0 ∷ 0 ∷ 1 ∷ 0 ∷ 0 ∷ 0 ∷ 120 ∷ 0 ∷ 0 ∷ 0 ∷ [] })
     ∷ Say 1 (RegisterClientReply (codes "smd-00000001-00000001")) ∷ asks_for_save 1 ∷ [])
 
+-- of an ID of 65,532 bytes the first 65,520 bytes of its string are shown, which is as much as an Error has room for
+abbrev pub ALongIdIsShownInPart : Type 0
+ALongIdIsShownInPart =
+    Brings (Joined 1 ∷ Ready 1 ∷ []) (says 1 (RegisterClient (replicate 65532 120)) ∷ [])
+    (Blame 1 (record { class = 32771; minor = 1; severity = CanContinue; sequence = 9; values = 8 ∷ 0 ∷ 0 ∷ 0 ∷ 240 ∷ 255 ∷ 0 ∷ 0 ∷ 252 ∷ 255 ∷ 0 ∷ 0 ∷ replicate 65516 120 }) ∷ [])
+
 -- a property that is set again keeps its place
 abbrev pub PropertiesAreKept : Type 0
 PropertiesAreKept =

@@ -1,9 +1,10 @@
-ghost use Rattle.session_model.specs.Examples.{ANewClientSaves, AnUnknownIdIsRefused, PropertiesAreKept, AFullTableIsRefused, ThereIsRoomFor64, ACheckpointGoesOn, ACheckpointWaitsForAll, TheTokenGoesOn, TheTokenIsHeldByOne, TheTokenIsGivenBack, OnlyErrorsAreAllowed, AShutdownIsCancelled, AnEmptySessionEnds, OrdersAnswer, AnOldStateIsDiscarded, ExpectedEntriesStay, ASessionIsTakenUp};
+ghost use Rattle.session_model.specs.Examples.{ANewClientSaves, AnUnknownIdIsRefused, ALongIdIsShownInPart, PropertiesAreKept, AFullTableIsRefused, ThereIsRoomFor64, ACheckpointGoesOn, ACheckpointWaitsForAll, TheTokenGoesOn, TheTokenIsHeldByOne, TheTokenIsGivenBack, OnlyErrorsAreAllowed, AShutdownIsCancelled, AnEmptySessionEnds, OrdersAnswer, AnOldStateIsDiscarded, ExpectedEntriesStay, ASessionIsTakenUp};
 
 /// Does nothing: its contract is a list of worked sessions, each of which the definitions compute.
 pub fn sessions_compute()
     ensures a_new_client_saves { ANewClientSaves }
     ensures an_unknown_id_is_refused { AnUnknownIdIsRefused }
+    ensures a_long_id_is_shown_in_part { ALongIdIsShownInPart }
     ensures properties_are_kept { PropertiesAreKept }
     ensures a_full_table_is_refused { AFullTableIsRefused }
     ensures there_is_room_for64 { ThereIsRoomFor64 }
