@@ -1,2 +1,4 @@
 pub mod Books
 pub mod Rules
+pub mod Spelling
+pub mod Damage
