@@ -1,13 +1,18 @@
 //! What is kept of a session between its logins.
 #![tactic(auto)]
 
+mod head;
+mod ids;
 mod reading;
 mod records;
 mod refusals;
 mod sameness;
 mod spelling;
+mod stops;
 #[cfg(test)]
 mod tests;
+mod texts;
+mod zeroed;
 
 pub use reading::read_book;
 pub use records::{Book, Entry, EntryList, copy_book};
