@@ -4,7 +4,8 @@ use Rattle.std.specs.List.{AllByRecursion, IsDistinct, list_any}
 use Rattle.std.specs.Str.{bytes_eq}
 use Rattle.sm_world.specs.declared.commands.Command.{Command}
 use Rattle.checkpoint_records.specs.Books.{same_command, discards}
-use Rattle.checkpoint_records.specs.Rules.{ids_of, IsEntry, IsCommand}
+use Rattle.ice_values.specs.Properties.{IsArray8, IsListed, IsProperty}
+use Rattle.checkpoint_records.specs.Rules.{ids_of, in_turn, IsEntry, IsCommand}
 use Rattle.checkpoint_records.specs.declared.records.Entry.{Entry}
 use Rattle.checkpoint_records.specs.declared.head.Head.{Head}
 
@@ -24,3 +25,13 @@ pub record ArePending (entries : List Entry) (pending : List Command) : Type 0 w
   pub each : AllByRecursion IsCommand pending
   pub commands_differ : IsDistinct same_command pending
   pub none_named : AllByRecursion (λ command. list_any (same_command command) (discards entries) ≡ false) pending
+
+-- what has a spelling
+pub record HasEntrySpelling (entry : Entry) : Type 0 where
+  pub id : IsArray8 entry.id
+  pub table : IsListed IsProperty entry.table
+
+pub record HasCommandSpelling (command : Command) : Type 0 where
+  pub words : IsListed IsArray8 command.words
+  pub directory : IsArray8 command.directory
+  pub environment : IsListed IsArray8 (in_turn command.environment)

@@ -1,6 +1,7 @@
 //! What is kept of a session between its logins.
 #![tactic(auto)]
 
+mod entries;
 mod head;
 mod ids;
 mod reading;
@@ -9,6 +10,7 @@ mod refusals;
 mod sameness;
 mod spelling;
 mod stops;
+mod tables;
 #[cfg(test)]
 mod tests;
 mod texts;
