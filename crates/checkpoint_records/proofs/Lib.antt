@@ -6,3 +6,6 @@ pub mod DistinctLaws
 pub mod TableOfLaws
 pub mod FrontLaws
 pub mod EntryLaws
+pub mod PendingLaws
+pub mod OrderLaws
+pub mod BookLaws

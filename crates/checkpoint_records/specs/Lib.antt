@@ -4,3 +4,4 @@ pub mod Spelling
 pub mod Damage
 pub mod Finding
 pub mod Parts
+pub mod Fields

@@ -3,7 +3,7 @@ use Rattle.std.specs.Prelude.{◌≡◌, ℕ, ◌≤◌, ◌<◌, ◌^◌, false
 use Rattle.std.specs.List.{AllByRecursion, IsDistinct, list_any}
 use Rattle.std.specs.Str.{bytes_eq}
 use Rattle.sm_world.specs.declared.commands.Command.{Command}
-use Rattle.checkpoint_records.specs.Books.{same_command, discards}
+use Rattle.checkpoint_records.specs.Books.{same_command}
 use Rattle.ice_values.specs.Properties.{IsArray8, IsListed, IsProperty}
 use Rattle.checkpoint_records.specs.Rules.{ids_of, in_turn, IsEntry, IsCommand}
 use Rattle.checkpoint_records.specs.declared.records.Entry.{Entry}
@@ -20,11 +20,11 @@ pub record AreEntries (epoch : ℕ) (entries : List Entry) : Type 0 where
   pub each : AllByRecursion (IsEntry epoch) entries
   pub ids_differ : IsDistinct bytes_eq (ids_of entries)
 
--- pending commands that keep the rules beside these entries
-pub record ArePending (entries : List Entry) (pending : List Command) : Type 0 where
+-- pending commands that keep the rules beside the commands that the entries name
+pub record ArePending (named : List Command) (pending : List Command) : Type 0 where
   pub each : AllByRecursion IsCommand pending
   pub commands_differ : IsDistinct same_command pending
-  pub none_named : AllByRecursion (λ command. list_any (same_command command) (discards entries) ≡ false) pending
+  pub none_named : AllByRecursion (λ command. list_any (same_command command) named ≡ false) pending
 
 -- what has a spelling
 pub record HasEntrySpelling (entry : Entry) : Type 0 where

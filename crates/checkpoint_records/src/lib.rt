@@ -4,6 +4,7 @@
 mod entries;
 mod head;
 mod ids;
+mod pending;
 mod reading;
 mod records;
 mod refusals;
