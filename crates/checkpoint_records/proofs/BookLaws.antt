@@ -26,7 +26,7 @@ use Rattle.checkpoint_records.specs.declared.records.Book.{Book}
 use Rattle.checkpoint_records.proofs.EntryLaws.{entries_less}
 use Rattle.checkpoint_records.proofs.FindLaws.{none_found}
 use Rattle.checkpoint_records.proofs.OrderLaws.{AreOnce, exact_once, same_number, leaves_more, at_most}
-use Rattle.checkpoint_records.proofs.PendingLaws.{pairs-again, pending_less}
+use Rattle.checkpoint_records.proofs.PendingLaws.{pairs-again, no_pending, pending_less}
 use Rattle.checkpoint_records.proofs.SpellLaws.{entries_fit, commands_fit}
 
 -- ---- each part has one spelling
@@ -139,6 +139,7 @@ begun_head n m book = record { epoch = book.epoch; entries = n; pending = m }
 
 -- where there is no head there is no front
 pub no_head : (bytes : List ℕ) → Finds head_bytes IsHead bytes None → IsDamaged bytes 0
+unfolding begun_head
 no_head bytes none = record {
   no_book = λ book s. front (length book.entries) (length book.pending) book [] (spelled_begins bytes book s);
   place = inl refl;
@@ -146,6 +147,199 @@ no_head bytes none = record {
 }
   where
     front : (n m : ℕ) (book : Book) (rest : List ℕ) → BeginsBook bytes n m book rest → ⊥
-    unfolding begun_head
     front n m book rest b =
         none_found head_bytes IsHead bytes (begun_head n m book) _ none (record { epoch = b.epoch; entries = b.few_entries; pending = b.few_pending }) (b.is ∙ whole_bytes book.epoch n m book.entries book.pending rest)
+
+-- ---- behind a head
+
+entry_list_fits : (epoch : ℕ) (entries : List Entry) → AreEntries epoch entries → AllByRecursion HasEntrySpelling entries
+entry_list_fits epoch entries are = entries_fit epoch entries are.each
+
+pending_list_fits : (named pending : List Command) → ArePending named pending → AllByRecursion HasCommandSpelling pending
+pending_list_fits named pending are = commands_fit pending are.each
+
+module _ (bytes : List ℕ) (head : Head) (after : List ℕ) (is_head : IsHead head) (starts : bytes ≡ head_bytes head ++ after) where
+  length-after : length after ≤ length bytes
+  length-after = omega (arith, ap length starts, length-append (head_bytes head) after)
+
+  -- each front of the bytes has this head
+  same_head : (n m : ℕ) (book : Book) (rest : List ℕ) → BeginsBook bytes n m book rest → (head ≡ begun_head n m book) × (after ≡ entries_bytes book.entries ++ (pending_bytes book.pending ++ rest))
+  unfolding begun_head
+  same_head n m book rest b =
+      head_once head (begun_head n m book) after (entries_bytes book.entries ++ (pending_bytes book.pending ++ rest)) is_head (record { epoch = b.epoch; entries = b.few_entries; pending = b.few_pending })
+      (sym starts ∙ b.is ∙ whole_bytes book.epoch n m book.entries book.pending rest)
+
+  -- and entries of its epoch
+  same_entries : (n m : ℕ) (book : Book) (rest : List ℕ) → BeginsBook bytes n m book rest → (head.entries ≡ n) × (head.pending ≡ m) × AreEntries head.epoch book.entries
+  unfolding begun_head
+  same_entries n m book rest b =
+      let e = (same_head n m book rest b).0 in
+      let epoch : head.epoch ≡ book.epoch = ap (λ (h : Head). h.epoch) e in
+      (ap (λ (h : Head). h.entries) e, ap (λ (h : Head). h.pending) e, subst (λ (k : ℕ). AreEntries k book.entries) (sym epoch) (entries_of book b.rules))
+
+  -- no bytes of the entries that are found are left
+  module _ (items : List Entry) (rest : List ℕ) (front : AreInFront entry_cells (AreEntries head.epoch) after items rest) where
+    length-rest : length rest ≤ length bytes
+    length-rest = omega (arith, length-after, ap length front.is, length-append (entries_bytes items) rest)
+
+    entries_at_most : IsStuck entry_cells (AreEntries head.epoch) items rest → (others : List Entry) (tail : List ℕ) → AreEntries head.epoch others → after ≡ entries_bytes others ++ tail → length others ≤ length items
+    entries_at_most stuck others tail are is =
+        at_most entry_cells HasEntrySpelling entry_once (AreEntries head.epoch) (entries_less head.epoch) (entry_list_fits head.epoch) items others rest tail front.keep are stuck (sym front.is ∙ is)
+
+    entries_leave_more : (others : List Entry) (tail : List ℕ) → AreEntries head.epoch others → after ≡ entries_bytes others ++ tail → length others ≤ length items → length rest ≤ length tail
+    entries_leave_more others tail are is le =
+        leaves_more entry_cells HasEntrySpelling entry_once others items tail rest (entry_list_fits head.epoch others are) (entry_list_fits head.epoch items front.keep) (sym is ∙ front.is) le
+
+    -- the next entry is damaged
+    pub ends_in_entries : IsStuck entry_cells (AreEntries head.epoch) items rest → length items < head.entries → IsDamaged bytes (length bytes - length rest)
+    ends_in_entries stuck fewer = record {
+      no_book = λ book s.
+          let b = spelled_begins bytes book s in
+          let h = same_head (length book.entries) (length book.pending) book [] b in
+          let same = same_entries (length book.entries) (length book.pending) book [] b in
+          omega (arith, fewer, same.0, entries_at_most stuck book.entries (pending_bytes book.pending ++ []) same.2 h.1);
+      place = inr (
+        head.entries,
+        head.pending,
+        book_of head.epoch items [],
+        rest,
+        record {
+          few_entries = is_head.entries;
+          few_pending = is_head.pending;
+          epoch = is_head.epoch;
+          first = inr (fewer, refl);
+          rules = keeps head.epoch items [] (omega (arith, fewer, is_head.entries)) (omega arith) front.keep (no_pending (discards items));
+          is = starts ∙ ap (λ (l : List ℕ). head_bytes head ++ l) front.is ∙ sym (whole_bytes head.epoch head.entries head.pending items [] rest);
+        },
+        omega (arith, length-rest),
+      );
+      longest = λ n f. shorter_front n f.0 f.1 f.2 f.3 f.4 f.5;
+    }
+      where
+        shorter_front : (n k m : ℕ) (book : Book) (tail : List ℕ) → BeginsBook bytes k m book tail → length bytes ≡ n + length tail → n ≤ length bytes - length rest
+        shorter_front n k m book tail b len =
+            let h = same_head k m book tail b in
+            let same = same_entries k m book tail b in
+            let few = entries_at_most stuck book.entries (pending_bytes book.pending ++ tail) same.2 h.1 in
+            elim b.first [
+              | inl p ↦ absurd (omega (arith, fewer, same.0, few, p.0))
+              | inr p ↦
+                let is : after ≡ entries_bytes book.entries ++ tail = h.1 ∙ ap (λ (l : List Command). entries_bytes book.entries ++ (pending_bytes l ++ tail)) p.1 in
+                omega (arith, len, entries_leave_more book.entries tail same.2 is few)
+            ]
+
+    module _ (all : length items ≡ head.entries) (pending : List Command) (last : List ℕ) (front_pending : AreInFront (command_cells Lsb) (ArePending (discards items)) rest pending last) where
+      length-last : length last ≤ length rest
+      length-last = omega (arith, ap length front_pending.is, length-append (pending_bytes pending) last)
+
+      -- a front with as many entries has these entries
+      these_entries : (n m : ℕ) (book : Book) (tail : List ℕ) → BeginsBook bytes n m book tail → length book.entries ≡ n → (pending_bytes pending ++ last ≡ pending_bytes book.pending ++ tail) × ArePending (discards items) book.pending
+      these_entries n m book tail b len =
+          let h = same_head n m book tail b in
+          let same = same_entries n m book tail b in
+          let e = same_number entry_cells HasEntrySpelling entry_once items book.entries rest (pending_bytes book.pending ++ tail) (entry_list_fits head.epoch items front.keep) (entry_list_fits head.epoch book.entries same.2) (sym front.is ∙ h.1) (omega (arith, all, same.0, len)) in
+          (sym front_pending.is ∙ e.1, subst (λ (l : List Entry). ArePending (discards l) book.pending) (sym e.0) (pending_of book b.rules))
+
+      -- the bytes behind these are damaged, where no longer list of pending commands stands there and they end no book
+      ends_in_pending : length pending ≤ head.pending
+          → ((others : List Command) (tail : List ℕ) → ArePending (discards items) others → length others ≤ head.pending → pending_bytes pending ++ last ≡ pending_bytes others ++ tail → length others ≤ length pending)
+          → ((others : List Command) → ArePending (discards items) others → length others ≡ head.pending → pending_bytes pending ++ last ≡ pending_bytes others ++ [] → ⊥)
+          → IsDamaged bytes (length bytes - length last)
+      ends_in_pending few most no_end = record {
+        no_book = λ book s.
+            let b = spelled_begins bytes book s in
+            let t = these_entries (length book.entries) (length book.pending) book [] b refl in
+            no_end book.pending t.1 (sym (same_entries (length book.entries) (length book.pending) book [] b).1) t.0;
+        place = inr (
+          head.entries,
+          head.pending,
+          book_of head.epoch items pending,
+          last,
+          record {
+            few_entries = is_head.entries;
+            few_pending = is_head.pending;
+            epoch = is_head.epoch;
+            first = inl (all, few);
+            rules = keeps head.epoch items pending (omega (arith, all, is_head.entries)) (omega (arith, few, is_head.pending)) front.keep front_pending.keep;
+            is = starts ∙ ap (λ (l : List ℕ). head_bytes head ++ l) (front.is ∙ ap (λ (l : List ℕ). entries_bytes items ++ l) front_pending.is) ∙ sym (whole_bytes head.epoch head.entries head.pending items pending last);
+          },
+          omega (arith, length-rest, length-last),
+        );
+        longest = λ n f. shorter_front n f.0 f.1 f.2 f.3 f.4 f.5;
+      }
+        where
+          shorter_front : (n k m : ℕ) (book : Book) (tail : List ℕ) → BeginsBook bytes k m book tail → length bytes ≡ n + length tail → n ≤ length bytes - length last
+          shorter_front n k m book tail b len =
+              let h = same_head k m book tail b in
+              let same = same_entries k m book tail b in
+              elim b.first [
+                | inl p ↦
+                  let t = these_entries k m book tail b p.0 in
+                  let le = most book.pending tail t.1 (omega (arith, p.1, same.1)) t.0 in
+                  omega (arith, len, leaves_more (command_cells Lsb) HasCommandSpelling command_once book.pending pending tail last (pending_list_fits (discards items) book.pending t.1) (pending_list_fits (discards items) pending front_pending.keep) (sym t.0) le)
+                | inr p ↦
+                  let is : after ≡ entries_bytes book.entries ++ tail = h.1 ∙ ap (λ (l : List Command). entries_bytes book.entries ++ (pending_bytes l ++ tail)) p.1 in
+                  omega (arith, len, length-last, entries_leave_more book.entries tail same.2 is (omega (arith, p.0, same.0, all)))
+              ]
+
+      -- the next pending command is damaged
+      pub ends_early : IsStuck (command_cells Lsb) (ArePending (discards items)) pending last → length pending < head.pending → IsDamaged bytes (length bytes - length last)
+      ends_early stuck fewer =
+          let most : (others : List Command) (tail : List ℕ) → ArePending (discards items) others → pending_bytes pending ++ last ≡ pending_bytes others ++ tail → length others ≤ length pending =
+          λ others tail are is. at_most (command_cells Lsb) HasCommandSpelling command_once (ArePending (discards items)) (pending_less (discards items)) (pending_list_fits (discards items)) pending others last tail front_pending.keep are stuck is in
+          ends_in_pending (omega (arith, fewer)) (λ others tail are few is. most others tail are is) (λ others are len is. omega (arith, fewer, len, most others [] are is))
+
+      -- bytes are left behind the last part
+      pub ends_late : length pending ≡ head.pending → 0 < length last → IsDamaged bytes (length bytes - length last)
+      ends_late every left =
+          ends_in_pending (omega (arith, every)) (λ others tail are few is. omega (arith, few, every)) (λ others are len is.
+              let e = same_number (command_cells Lsb) HasCommandSpelling command_once pending others last [] (pending_list_fits (discards items) pending front_pending.keep) (pending_list_fits (discards items) others are) is (omega (arith, len, every)) in
+              omega (arith, left, ap length e.1))
+
+      -- nothing is left
+      pub is_whole : length pending ≡ head.pending → length last ≤ 0 → Spells bytes (book_of head.epoch items pending)
+      is_whole every none = record {
+        rules = keeps head.epoch items pending (omega (arith, all, is_head.entries)) (omega (arith, every, is_head.pending)) front.keep front_pending.keep;
+        epoch = is_head.epoch;
+        is =
+          let e : bytes ≡ zeros (head_cells head.epoch head.entries head.pending ++ parts_cells items pending) ++ last =
+          starts ∙ ap (λ (l : List ℕ). head_bytes head ++ l) (front.is ∙ ap (λ (l : List ℕ). entries_bytes items ++ l) front_pending.is) ∙ sym (whole_bytes head.epoch head.entries head.pending items pending last) in
+          e ∙ ap (λ (l : List ℕ). zeros (head_cells head.epoch head.entries head.pending ++ parts_cells items pending) ++ l) (empty last none) ∙ append-nil (zeros (head_cells head.epoch head.entries head.pending ++ parts_cells items pending))
+          ∙ ap₂ (λ (n m : ℕ). zeros (head_cells head.epoch n m ++ parts_cells items pending)) (sym all) (sym every);
+      }
+        where
+          empty : (l : List ℕ) → length l ≤ 0 → l ≡ []
+          empty [] le = refl
+          empty (x ∷ l) le = absurd (omega arith)
+
+-- ---- what bytes stand for
+
+one_book : (bytes : List ℕ) (first second : Book) → Spells bytes first → Spells bytes second → first ≡ second
+unfolding begun_head
+one_book bytes first second s t =
+    let head : Head = begun_head (length first.entries) (length first.pending) first in
+    let after : List ℕ = entries_bytes first.entries ++ (pending_bytes first.pending ++ []) in
+    let is_head : IsHead head = record { epoch = s.epoch; entries = s.rules.few_entries; pending = s.rules.few_pending } in
+    let starts : bytes ≡ head_bytes head ++ after = (spelled_begins bytes first s).is ∙ whole_bytes first.epoch (length first.entries) (length first.pending) first.entries first.pending [] in
+    let b = spelled_begins bytes second t in
+    let h = same_head bytes head after is_head starts (length second.entries) (length second.pending) second [] b in
+    let entries = same_number entry_cells HasEntrySpelling entry_once first.entries second.entries (pending_bytes first.pending ++ []) (pending_bytes second.pending ++ [])
+    (entries_fit first.epoch first.entries s.rules.entries) (entries_fit second.epoch second.entries t.rules.entries) h.1 (ap (λ (x : Head). x.entries) h.0) in
+    let pending = same_number (command_cells Lsb) HasCommandSpelling command_once first.pending second.pending [] [] (commands_fit first.pending s.rules.commands) (commands_fit second.pending t.rules.commands) entries.1 (ap (λ (x : Head). x.pending) h.0) in
+    let epoch : first.epoch ≡ second.epoch = ap (λ (x : Head). x.epoch) h.0 in
+    ap₂ (λ (es : List Entry) (k : ℕ). book_of k es first.pending) entries.0 epoch ∙ ap (λ (ps : List Command). book_of second.epoch second.entries ps) pending.0
+
+no_further : (bytes : List ℕ) (a b : ℕ) → IsDamaged bytes a → IsDamaged bytes b → a ≤ b
+no_further bytes a b d e = elim d.place [
+  | inl start ↦ omega (arith, start)
+  | inr front ↦ e.longest a front
+]
+
+pub stands_for_one : (bytes : List ℕ) (first second : Result Book ℕ) → StandFor bytes first → StandFor bytes second → first ≡ second
+stands_for_one bytes (Ok first) (Ok second) s t = ap (λ (b : Book). Ok b) (one_book bytes first second s t)
+stands_for_one bytes (Ok first) (Err at) s d = absurd (d.no_book first s)
+stands_for_one bytes (Err at) (Ok second) d s = absurd (d.no_book second s)
+stands_for_one bytes (Err a) (Err b) d e =
+    let up = no_further bytes a b d e in
+    let down = no_further bytes b a e d in
+    ap (λ (n : ℕ). Err n) (omega (arith, up, down))

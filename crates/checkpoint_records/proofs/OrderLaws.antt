@@ -1,7 +1,8 @@
 -- Lists of items whose spellings begin the same bytes: the shorter is the front of the longer.
-use Rattle.std.proofs.Common.{◌≡◌, ℕ, ◌+◌, ◌<◌, ◌≤◌, inl, inr, List, [], ◌∷◌, ◌++◌, length, Option, Some, refl, sym, ap, ◌∙◌, subst, append_assoc, arith, length-append}
-use Rattle.std.specs.Prelude.{flat_map, ◌⊎◌}
+use Rattle.std.proofs.Common.{◌≡◌, ℕ, ◌+◌, ◌<◌, ◌≤◌, inl, inr, List, [], ◌∷◌, ◌++◌, length, Option, Some, refl, sym, ap, ap₂, ◌∙◌, subst, append_assoc, arith, length-append}
+use Rattle.std.specs.Prelude.{flat_map}
 use Rattle.std.specs.List.{AllByRecursion}
+use Rattle.std.proofs.lemmas.Bool.{cases_lt}
 use Rattle.std.proofs.lemmas.List.{append-nil}
 use Rattle.ice_values.specs.Cells.{Cells, zeros}
 use Rattle.ice_values.specs.Reading.{Exact}
@@ -20,9 +21,6 @@ exact_once {A} cells Fits read exact x y xs ys fit_x fit_y is =
     let e : ◌≡◌ {A = A × List ℕ} (x, xs) (y, ys) = some_is (x, xs) (y, ys) (sym a ∙ ap read is ∙ b) in
     (ap (λ (p : A × List ℕ). p.0) e, ap (λ (p : A × List ℕ). p.1) e)
 
-le_or_lt : (a b : ℕ) → (a ≤ b) ⊎ (b < a)
-le_or_lt a b = omega arith
-
 module _ {A : Type 0} (cells : A → Cells) (Fits : A → Type 0) (once : AreOnce cells Fits) where
   cons-zeros : (x : A) (xs : List A) (r : List ℕ) → zeros (flat_map cells (x ∷ xs)) ++ r ≡ zeros (cells x) ++ (zeros (flat_map cells xs) ++ r)
   cons-zeros x xs r = ap (λ (l : List ℕ). l ++ r) (zeros-append (cells x) (flat_map cells xs)) ∙ append_assoc (zeros (cells x)) (zeros (flat_map cells xs)) r
@@ -34,7 +32,7 @@ module _ {A : Type 0} (cells : A → Cells) (Fits : A → Type 0) (once : AreOnc
   shorter (x ∷ xs) (y ∷ ys) r s fit_xs fit_ys is le =
       let h = once x y (zeros (flat_map cells xs) ++ r) (zeros (flat_map cells ys) ++ s) fit_xs.0 fit_ys.0 (sym (cons-zeros x xs r) ∙ is ∙ cons-zeros y ys s) in
       let k = shorter xs ys r s fit_xs.1 fit_ys.1 h.1 (omega arith) in
-      (k.0, rw (h.0, k.1) refl, k.2)
+      (k.0, ap₂ (λ (z : A) (l : List A). z ∷ l) (sym h.0) k.1, k.2)
 
   -- of the same number they are the same
   pub same_number : (xs ys : List A) (r s : List ℕ) → AllByRecursion Fits xs → AllByRecursion Fits ys → zeros (flat_map cells xs) ++ r ≡ zeros (flat_map cells ys) ++ s → length xs ≡ length ys → (xs ≡ ys) × (r ≡ s)
@@ -55,9 +53,9 @@ module _ {A : Type 0} (cells : A → Cells) (Fits : A → Type 0) (once : AreOnc
   module _ (Keep : List A → Type 0) (less : (xs more : List A) → Keep (xs ++ more) → Keep xs) (fit : (xs : List A) → Keep xs → AllByRecursion Fits xs) where
     -- no longer list stands behind one that is stuck
     pub at_most : (xs ys : List A) (r s : List ℕ) → Keep xs → Keep ys → IsStuck cells Keep xs r → zeros (flat_map cells xs) ++ r ≡ zeros (flat_map cells ys) ++ s → length ys ≤ length xs
-    at_most xs ys r s keep_xs keep_ys stuck is = elim (le_or_lt (length ys) (length xs)) [
-        | inl le ↦ le
-        | inr lt ↦ let k = shorter xs ys r s (fit xs keep_xs) (fit ys keep_ys) is (omega (arith, lt)) in absurd (by k.0 k.1 k.2 lt)
+    at_most xs ys r s keep_xs keep_ys stuck is = elim (cases_lt (length xs) (length ys)) [
+        | inr le ↦ le
+        | inl lt ↦ let k = shorter xs ys r s (fit xs keep_xs) (fit ys keep_ys) is (omega (arith, lt)) in absurd (by k.0 k.1 k.2 lt)
       ]
       where
         by : (more : List A) → ys ≡ xs ++ more → r ≡ zeros (flat_map cells more) ++ s → length xs < length ys → ⊥

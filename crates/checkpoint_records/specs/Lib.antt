@@ -5,3 +5,4 @@ pub mod Damage
 pub mod Finding
 pub mod Parts
 pub mod Fields
+pub mod Laws

@@ -4,6 +4,7 @@
 mod entries;
 mod head;
 mod ids;
+mod laws;
 mod pending;
 mod reading;
 mod records;
@@ -17,6 +18,7 @@ mod tests;
 mod texts;
 mod zeroed;
 
+pub use laws::{books_read_back, bytes_stand_for_one};
 pub use reading::read_book;
 pub use records::{Book, Entry, EntryList, copy_book};
 pub use refusals::BookRefusal;
