@@ -16,11 +16,13 @@ use Rattle.ice_values.proofs.PropertyLaws.{array8_exact, array8_list_exact, prop
 use Rattle.xsmp_properties.specs.Readers.{in_pairs}
 use Rattle.checkpoint_records.specs.Books.{discards}
 use Rattle.checkpoint_records.specs.Damage.{AreFirst, BeginsBook, IsFront, IsDamaged, StandFor}
-use Rattle.checkpoint_records.specs.Finding.{Finds, AreInFront, IsStuck, EndsEarly}
+use Rattle.checkpoint_records.specs.Finding.{Finds, AreInFront, IsStuck, EndsEarly, IsStop}
 use Rattle.checkpoint_records.specs.Parts.{IsHead, AreEntries, ArePending, HasEntrySpelling, HasCommandSpelling}
 use Rattle.checkpoint_records.specs.Rules.{in_turn, command_cells, IsEntry, IsCommand, KeepsRules}
 use Rattle.checkpoint_records.specs.Spelling.{head_cells, entry_cells, parts_cells, book_bytes, Spells}
 use Rattle.checkpoint_records.specs.declared.head.Head.{Head}
+use Rattle.checkpoint_records.specs.declared.stops.Stop.{Stop}
+use Rattle.checkpoint_records.specs.declared.stops.Stop.TheVariants.{Broken, NoMemory}
 use Rattle.checkpoint_records.specs.declared.records.Entry.{Entry}
 use Rattle.checkpoint_records.specs.declared.records.Book.{Book}
 use Rattle.checkpoint_records.proofs.EntryLaws.{entries_less}
@@ -343,3 +345,36 @@ stands_for_one bytes (Err a) (Err b) d e =
     let up = no_further bytes a b d e in
     let down = no_further bytes b a e d in
     ap (λ (n : ℕ). Err n) (omega (arith, up, down))
+
+-- ---- where reading stops
+
+abbrev IsDamagedBefore : List ℕ → ℕ → Type 0
+IsDamagedBefore bytes left = IsDamaged bytes (length bytes - left)
+
+pub stops_at_head : (bytes : List ℕ) → Finds head_bytes IsHead bytes None → (length bytes ≤ length bytes) × IsDamagedBefore bytes (length bytes)
+stops_at_head bytes none =
+    let start : 0 ≡ length bytes - length bytes = omega arith in
+    (omega arith, subst (λ (n : ℕ). IsDamaged bytes n) start (no_head bytes none))
+
+module _ (bytes : List ℕ) (head : Head) (after : List ℕ) (is_head : IsHead head) (starts : bytes ≡ head_bytes head ++ after) where
+  pub stops_in_entries : (stop : Stop) → IsStop after (EndsEarly entry_cells (AreEntries head.epoch) after head.entries) stop → IsStop bytes (IsDamagedBefore bytes) stop
+  stops_in_entries (Broken left) e = (
+    omega (arith, e.0, length-after bytes head after is_head starts),
+    subst (IsDamagedBefore bytes) (sym e.1.left_is) (ends_in_entries bytes head after is_head starts e.1.items e.1.rest e.1.front e.1.stuck e.1.fewer),
+  )
+  stops_in_entries NoMemory e = tt
+
+  module _ (items : List Entry) (rest : List ℕ) (front : AreInFront entry_cells (AreEntries head.epoch) after items rest) (all : length items ≡ head.entries) where
+    pub stops_in_pending : (stop : Stop) → IsStop rest (EndsEarly (command_cells Lsb) (ArePending (discards items)) rest head.pending) stop → IsStop bytes (IsDamagedBefore bytes) stop
+    stops_in_pending (Broken left) e = (
+      omega (arith, e.0, length-rest bytes head after is_head starts items rest front),
+      subst (IsDamagedBefore bytes) (sym e.1.left_is) (ends_early bytes head after is_head starts items rest front all e.1.items e.1.rest e.1.front e.1.stuck e.1.fewer),
+    )
+    stops_in_pending NoMemory e = tt
+
+    pub stops_behind : (pending : List Command) (last : List ℕ) → AreInFront (command_cells Lsb) (ArePending (discards items)) rest pending last → length pending ≡ head.pending → 0 < length last
+        → (length last ≤ length bytes) × IsDamagedBefore bytes (length last)
+    stops_behind pending last front_pending every left = (
+      omega (arith, length-rest bytes head after is_head starts items rest front, length-last bytes head after is_head starts items rest front all pending last front_pending),
+      ends_late bytes head after is_head starts items rest front all pending last front_pending every left,
+    )
