@@ -1,12 +1,12 @@
 -- Where a book's bytes end, and where they are damaged.
-use Rattle.std.proofs.Common.{◌≡◌, ℕ, ◌+◌, ◌-◌, ◌^◌, ◌<◌, ◌≤◌, inl, inr, List, [], ◌∷◌, ◌++◌, length, Option, Some, None, Result, Ok, Err, refl, sym, ap, ap₂, ◌∙◌, subst, append_assoc, arith, length-append}
-use Rattle.std.specs.Prelude.{flat_map, ◌⊎◌}
+use Rattle.std.proofs.Common.{◌≡◌, ℕ, ◌+◌, ◌-◌, ◌^◌, ◌<◌, ◌≤◌, inl, inr, List, [], ◌∷◌, ◌++◌, length, None, Result, Ok, Err, refl, sym, ap, ap₂, ◌∙◌, subst, append_assoc, arith, length-append}
+use Rattle.std.specs.Prelude.{flat_map}
 use Rattle.std.specs.List.{AllByRecursion}
 use Rattle.std.proofs.lemmas.List.{append-nil}
 use Rattle.sm_world.specs.declared.commands.Command.{Command}
-use Rattle.ice_values.specs.Cells.{Cells, zeros}
+use Rattle.ice_values.specs.Cells.{zeros}
 use Rattle.ice_values.specs.Numbers.{card32}
-use Rattle.ice_values.specs.Reading.{Exact, pair_at, card_at}
+use Rattle.ice_values.specs.Reading.{pair_at, card_at}
 use Rattle.ice_values.specs.Properties.{array8, IsArray8, array8_at, array8_list, IsListed, array8_list_at, property_list, IsProperty, property_list_at}
 use Rattle.ice_values.specs.declared.numbers.Endian.TheVariants.{Lsb}
 use Rattle.ice_values.specs.declared.property.Property.{Property}
@@ -15,10 +15,10 @@ use Rattle.ice_values.proofs.FieldLaws.{pair, card4}
 use Rattle.ice_values.proofs.PropertyLaws.{array8_exact, array8_list_exact, property_list_exact}
 use Rattle.xsmp_properties.specs.Readers.{in_pairs}
 use Rattle.checkpoint_records.specs.Books.{discards}
-use Rattle.checkpoint_records.specs.Damage.{AreFirst, BeginsBook, IsFront, IsDamaged, StandFor}
+use Rattle.checkpoint_records.specs.Damage.{BeginsBook, IsDamaged, StandFor}
 use Rattle.checkpoint_records.specs.Finding.{Finds, AreInFront, IsStuck, EndsEarly, IsStop}
 use Rattle.checkpoint_records.specs.Parts.{IsHead, AreEntries, ArePending, HasEntrySpelling, HasCommandSpelling}
-use Rattle.checkpoint_records.specs.Rules.{in_turn, command_cells, IsEntry, IsCommand, KeepsRules}
+use Rattle.checkpoint_records.specs.Rules.{in_turn, command_cells, KeepsRules}
 use Rattle.checkpoint_records.specs.Spelling.{head_cells, entry_cells, parts_cells, book_bytes, Spells}
 use Rattle.checkpoint_records.specs.declared.head.Head.{Head}
 use Rattle.checkpoint_records.specs.declared.stops.Stop.{Stop}

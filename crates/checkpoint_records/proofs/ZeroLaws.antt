@@ -1,6 +1,6 @@
 -- Values that are read, spelled again and compared.
 use Rattle.std.proofs.Common.{◌≡◌, ◌≢◌, ℕ, zero, suc, ◌≤◌, List, [], ◌∷◌, ◌++◌, length, take, Option, Some, None, refl, sym, ap, ◌∙◌, subst, arith}
-use Rattle.std.proofs.lemmas.List.{append_cancel_left, length-take-le}
+use Rattle.std.proofs.lemmas.List.{append_cancel_left}
 use Rattle.ice_values.specs.Cells.{Cells, zeros, Begins}
 use Rattle.ice_values.specs.Reading.{IsBytes, Exact}
 use Rattle.ice_values.proofs.CellLaws.{Begins-zeros, Begins-length, length-zeros}

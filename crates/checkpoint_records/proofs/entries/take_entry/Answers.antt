@@ -1,4 +1,4 @@
-use Rattle.std.proofs.Common.{◌≡◌, ℕ, List, false, refl, sym, subst}
+use Rattle.std.proofs.Common.{ℕ, List, false, refl, sym, subst}
 use Rattle.std.specs.Prelude.{IsTrue}
 use Rattle.checkpoint_records.specs.Rules.{IsClientId}
 use Rattle.checkpoint_records.proofs.EntryLaws.{no_id, bad_id, no_table, bad_table, entry_found}
