@@ -1,7 +1,7 @@
 //! Books against bytes written down by hand.
 
-use crate::{BookRefusal, read_book, spell_book};
-use sm_world::{NoMemory, Octets};
+use crate::{Book, BookRefusal, Entry, read_book, spell_book};
+use sm_world::{Command, NoMemory, Octets};
 use std::alloc::{Alloc, Global};
 use std::process::Abort;
 use std::test::Fail;
@@ -13,6 +13,8 @@ const EMPTY: &[u8] = b"\x01\0\0\0\0\0\0\0\0\0\0\0\0\0\0\0";
 const HEAD: &[u8] = b"\x01\0\0\0\x02\0\0\0\x01\0\0\0\x01\0\0\0";
 
 const ID: &[u8] = b"\x15\0\0\0smd-00000001-0000000a\0\0\0\0\0\0\0";
+
+const LATER_ID: &[u8] = b"\x15\0\0\0smd-00001234-deadbeef\0\0\0\0\0\0\0";
 
 /// One property, with two values.
 const TABLE: &[u8] = b"\x01\0\0\0\0\0\0\0\
@@ -81,10 +83,59 @@ fn marked_place(mark: u8) -> Option<u64> {
     }
 }
 
-/// The book of the bytes spelled again.
-fn spelled_again(alloc: Global, bytes: &[u8]) -> Result<Octets, BookRefusal> {
-    let book = read_book(alloc, bytes)?;
-    Ok(spell_book(alloc, &book)?)
+/// The names of an entry's properties behind its ID, each with a bar behind it.
+fn put_entry(entry: &Entry, text: &mut Octets) -> Result<(), NoMemory> {
+    text.append(entry.id.as_slice())?;
+    text.append(b"|")?;
+    for property in entry.table.list()?.as_slice() {
+        text.append(property.name.as_slice())?;
+        text.append(b"|")?;
+    }
+    Ok(())
+}
+
+/// The words, the directory and the names and values of a command, each with a bar behind it.
+fn put_command(command: &Command, text: &mut Octets) -> Result<(), NoMemory> {
+    for word in command.words.as_slice() {
+        text.append(word.as_slice())?;
+        text.append(b"|")?;
+    }
+    text.append(command.directory.as_slice())?;
+    text.append(b"|")?;
+    for (name, value) in command.environment.as_slice() {
+        text.append(name.as_slice())?;
+        text.append(b"=")?;
+        text.append(value.as_slice())?;
+        text.append(b"|")?;
+    }
+    Ok(())
+}
+
+fn text_of(alloc: Global, book: &Book) -> Result<Octets, NoMemory> {
+    let mut text = Octets::new(alloc);
+    for entry in book.entries.as_slice() {
+        put_entry(entry, &mut text)?;
+    }
+    for command in book.pending.as_slice() {
+        put_command(command, &mut text)?;
+    }
+    Ok(text)
+}
+
+/// The bytes are a book of this epoch that is told by this text, and it is spelled so.
+fn is_book(
+    rt: &(impl Abort + Alloc<A = Global>),
+    parts: &[&[u8]],
+    epoch: u32,
+    text: &[u8],
+) -> Result<(), Fail> {
+    let alloc = rt.alloc();
+    let bytes = joined(alloc, parts)?;
+    let book = read_book(alloc, bytes.as_slice())?;
+    assert_eq!(rt; book.epoch, epoch);
+    assert!(rt; text_of(alloc, &book)?.as_slice() == text);
+    assert!(rt; spell_book(alloc, &book)?.as_slice() == bytes.as_slice());
+    Ok(())
 }
 
 fn is_damaged_at(
@@ -112,23 +163,36 @@ fn changes_as_marked(
 }
 
 #[test]
-fn the_example_is_read_and_spelled_again(rt: HostRuntime) -> Result<(), Fail> {
-    let alloc = rt.alloc();
-    let bytes = example(alloc)?;
-    let book = read_book(alloc, bytes.as_slice())?;
-    assert_eq!(rt; book.epoch, 2);
-    assert_eq!(rt; book.entries.as_slice().len(), 1);
-    assert_eq!(rt; book.pending.as_slice().len(), 1);
-    let again = spelled_again(alloc, bytes.as_slice())?;
-    assert!(rt; again.as_slice() == bytes.as_slice());
-    Ok(())
+fn books_without_a_client(rt: HostRuntime) -> Result<(), Fail> {
+    is_book(&rt, &[EMPTY], 0, b"")?;
+    is_book(
+        &rt,
+        &[b"\x01\0\0\0\0\0\0\0\0\0\0\0\x01\0\0\0", COMMAND],
+        0,
+        b"rm|b|/|A=|",
+    )
 }
 
 #[test]
-fn an_empty_book_has_sixteen_bytes(rt: HostRuntime) -> Result<(), Fail> {
-    let again = spelled_again(rt.alloc(), EMPTY)?;
-    assert!(rt; again.as_slice() == EMPTY);
-    Ok(())
+fn books_of_clients(rt: HostRuntime) -> Result<(), Fail> {
+    is_book(
+        &rt,
+        &[HEAD, ID, TABLE, COMMAND],
+        2,
+        b"smd-00000001-0000000a|DiscardCommand|rm|b|/|A=|",
+    )?;
+    is_book(
+        &rt,
+        &[
+            b"\x01\0\0\0\x34\x12\0\0\x02\0\0\0\0\0\0\0",
+            LATER_ID,
+            b"\0\0\0\0\0\0\0\0",
+            ID,
+            TABLE,
+        ],
+        0x1234,
+        b"smd-00001234-deadbeef|smd-00000001-0000000a|DiscardCommand|",
+    )
 }
 
 #[test]
