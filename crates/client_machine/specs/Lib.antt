@@ -1,0 +1,4 @@
+pub mod Phases
+pub mod Saves
+pub mod Taking
+pub mod Asking

@@ -1,0 +1,16 @@
+//! A client of a session: how far it is, what it may send, and what each message asks of it.
+#![tactic(auto)]
+
+mod acts;
+mod client;
+mod phase;
+mod requests;
+mod saves;
+#[cfg(test)]
+mod tests;
+
+pub use acts::ClientAct;
+pub use client::Client;
+pub use phase::ClientPhase;
+pub use requests::{AskRefusal, Request};
+pub use saves::{SaveAnswer, SaveAsk, Stage, Step};
