@@ -7,6 +7,8 @@ use Rattle.sm_world.specs.declared.events.SaveStyle.TheVariants.{Any, Errors, No
 use Rattle.sm_world.specs.declared.events.Dialog.{Dialog}
 use Rattle.sm_world.specs.declared.events.Dialog.TheVariants.{Error as AboutError, Normal}
 use Rattle.xsmp_properties.specs.Tables.{IsTableFull}
+use Rattle.client_machine.specs.declared.requests.Request.{Request}
+use Rattle.client_machine.specs.declared.requests.Request.TheVariants.{Done as AskDone, Interact as AskDialog, InteractDone as AskTalked, PhaseTwo as AskTwo}
 use Rattle.client_machine.specs.declared.saves.SaveAnswer.{SaveAnswer}
 use Rattle.client_machine.specs.declared.saves.SaveAsk.{SaveAsk}
 use Rattle.client_machine.specs.declared.saves.Stage.{Stage}
@@ -61,3 +63,10 @@ is_lawful_step TalkingTwo asked step = talking_step asked step
 pub record IsLawful (asked : SaveAsk) (answer : SaveAnswer) : Type 0 where
   pub step : IsTrue (is_lawful_step asked.stage asked answer.step)
   pub few : ¬ (IsTableFull answer.set)
+
+-- the request that says a step
+abbrev pub step_request : Step → Request
+step_request (Done success) = AskDone success
+step_request PhaseTwo = AskTwo
+step_request (Interact dialog) = AskDialog dialog
+step_request (Talked cancel) = AskTalked cancel

@@ -114,8 +114,8 @@ impl Client {
         if !self.registers_again(error) {
             return ClientAct::Nothing;
         }
-        self.id = Array8::new(self.alloc);
         let previous = Array8::new(self.alloc);
+        self.id = Array8::new(self.alloc);
         ClientAct::Again(XsmpMessage::RegisterClient { previous })
     }
 
@@ -229,11 +229,11 @@ impl Client {
         ensures act { result ≡ act_taken Die self.old }
         ensures client { self.new ≡ taken Die self.old }
     {
-        if !self.phase.is_resting() {
-            return ClientAct::Unexpected;
+        if self.phase.is_resting() {
+            self.phase = ClientPhase::Dead;
+            return ClientAct::Die;
         }
-        self.phase = ClientPhase::Dead;
-        ClientAct::Die
+        ClientAct::Unexpected
     }
 
     /// The client's properties, for which it had asked.

@@ -3,6 +3,7 @@
 
 mod acts;
 mod client;
+mod laws;
 mod phase;
 mod requests;
 mod saves;
@@ -11,6 +12,7 @@ mod tests;
 
 pub use acts::ClientAct;
 pub use client::Client;
+pub use laws::lawful_steps_have_their_place;
 pub use phase::ClientPhase;
 pub use requests::{AskRefusal, Request};
 pub use saves::{SaveAnswer, SaveAsk, Stage, Step};

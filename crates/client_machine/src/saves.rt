@@ -1,6 +1,7 @@
 ghost use Rattle.std.specs.Prelude.{◌≡◌};
-ghost use Rattle.client_machine.specs.Saves.{allows, at_stage};
+ghost use Rattle.client_machine.specs.Saves.{allows, at_stage, step_request};
 
+use crate::Request;
 use ice_values::PropertyList;
 use sm_world::{Dialog, SaveKind, SaveStyle};
 
@@ -69,6 +70,20 @@ impl SaveAsk {
             SaveStyle::Any => true,
             SaveStyle::Errors => dialog == Dialog::Error,
             SaveStyle::Nothing => false,
+        }
+    }
+}
+
+impl Step {
+    /// The request that says it.
+    pub fn request(self) -> Request
+        ensures { result ≡ step_request self }
+    {
+        match self {
+            Step::Done(success) => Request::Done(success),
+            Step::PhaseTwo => Request::PhaseTwo,
+            Step::Interact(dialog) => Request::Interact(dialog),
+            Step::Talked(cancel) => Request::InteractDone(cancel),
         }
     }
 }
