@@ -7,12 +7,12 @@ mod errors;
 mod laws;
 mod offers;
 mod opener;
+#[cfg(test)]
+mod opener_tests;
 mod opening;
 mod others;
 mod states;
 mod taking;
-#[cfg(test)]
-mod opener_tests;
 #[cfg(test)]
 mod tests;
 

@@ -96,13 +96,13 @@ fn take_demand(
     alloc: Global,
     state: AnyOpener,
     cookie: Cookie,
-    index: u8,
+    name: u8,
     offending: Offending,
 ) -> Result<OpenMoved, NoMemory>
-    ensures answer { IfOk result (λ m. m ≡ demand_cell state cookie index offending) }
+    ensures answer { IfOk result (λ m. m ≡ demand_cell state cookie name offending) }
     ensures said { IfOk result CanBeSaid }
 {
-    if index != 0 {
+    if name != 0 {
         return Ok(stops(alloc, offending));
     }
     Ok(OpenMoved::Goes(state, Some(shows_cookie(alloc, cookie)?)))
@@ -154,18 +154,21 @@ impl OpenSetup {
     fn take_reply(
         self,
         alloc: Global,
-        index: u8,
+        version: u8,
         offending: Offending,
     ) -> Result<OpenMoved, NoMemory>
-        ensures answer { IfOk result (λ m. m ≡ connection_cell self index offending) }
+        ensures answer { IfOk result (λ m. m ≡ connection_cell self version offending) }
         ensures said { IfOk result CanBeSaid }
     {
-        if index != 0 {
+        if version != 0 {
             return Ok(stops(alloc, offending));
         }
         let setup = protocol_setup(alloc)?;
         let cookie = self.cookie;
-        Ok(OpenMoved::Goes(AnyOpener::OpenProtocol(OpenProtocol { cookie }), Some(setup)))
+        Ok(OpenMoved::Goes(
+            AnyOpener::OpenProtocol(OpenProtocol { cookie }),
+            Some(setup),
+        ))
     }
 
     /// Takes the message with this number of its sender. The cookie is shown as often as it is asked
@@ -201,14 +204,14 @@ impl OpenSetup {
 
 impl OpenProtocol {
     /// XSMP begins, with this version of those that the client offered.
-    fn take_reply(self, alloc: Global, index: u8, opcode: u8, offending: Offending) -> OpenMoved
-        ensures answer { result ≡ protocol_cell index opcode offending }
+    fn take_reply(self, alloc: Global, version: u8, opcode: u8, offending: Offending) -> OpenMoved
+        ensures answer { result ≡ protocol_cell version opcode offending }
         ensures said { CanBeSaid result }
     {
-        if index != 0 {
-            return stops(alloc, offending);
+        if version == 0 {
+            return OpenMoved::Goes(AnyOpener::Joined(Joined { opcode }), None);
         }
-        OpenMoved::Goes(AnyOpener::Joined(Joined { opcode }), None)
+        stops(alloc, offending)
     }
 
     /// Takes the message with this number of its sender. The cookie is shown as often as it is asked

@@ -1,4 +1,4 @@
-ghost use Rattle.std.specs.Prelude.{◌≡◌, ◌∷◌, [], IfOk};
+ghost use Rattle.std.specs.Prelude.{◌≡◌, ◌∷◌, [], length, IfOk};
 ghost use Rattle.ice_setup.specs.Offers.{cookie_name};
 ghost use Rattle.ice_setup.specs.Opener.{offered_version, connection_setup as connection_setup_spec, protocol_setup as protocol_setup_spec, shows_cookie as shows_cookie_spec};
 ghost use Rattle.ice_values.specs.declared.numbers.Endian.TheVariants.{Lsb};
@@ -14,6 +14,9 @@ use std::alloc::Global;
 
 /// The client's major opcode for the messages of XSMP.
 const CLIENT_OPCODE: u8 = 1;
+
+/// Whether the client wants to be shown authentication itself.
+const MUST_AUTHENTICATE: bool = false;
 
 /// The one name of an authentication protocol that the client offers.
 fn names(alloc: Global) -> Result<TextList, NoMemory>
@@ -39,7 +42,7 @@ pub fn connection_setup(alloc: Global) -> Result<IceMessage, NoMemory>
     ensures said { IfOk result (λ setup. ¬ (IsTooLong Lsb setup)) }
 {
     Ok(IceMessage::ConnectionSetup {
-        must: false,
+        must: MUST_AUTHENTICATE,
         vendor: own_text(alloc, b"smclient")?,
         release: own_text(alloc, b"1.0")?,
         names: names(alloc)?,
@@ -54,7 +57,7 @@ pub fn protocol_setup(alloc: Global) -> Result<IceMessage, NoMemory>
 {
     Ok(IceMessage::ProtocolSetup {
         opcode: CLIENT_OPCODE,
-        must: false,
+        must: MUST_AUTHENTICATE,
         protocol: own_text(alloc, &PROTOCOL_NAME)?,
         vendor: own_text(alloc, b"smclient")?,
         release: own_text(alloc, b"1.0")?,
@@ -63,12 +66,19 @@ pub fn protocol_setup(alloc: Global) -> Result<IceMessage, NoMemory>
     })
 }
 
+/// A copy of a cookie's bytes.
+fn copy_of(alloc: Global, bytes: &[u8; 16]) -> Result<Octets, NoMemory>
+    ensures same { IfOk result (λ copy. copy ≡ bytes.now) }
+    ensures count { IfOk result (λ copy. length copy ≡ 16) }
+{
+    Octets::from_slice(alloc, bytes)
+}
+
 /// The client shows the cookie.
 pub fn shows_cookie(alloc: Global, cookie: Cookie) -> Result<IceMessage, NoMemory>
     ensures answer { IfOk result (λ reply. reply ≡ shows_cookie_spec cookie) }
     ensures said { IfOk result (λ reply. ¬ (IsTooLong Lsb reply)) }
 {
-    Ok(IceMessage::AuthenticationReply {
-        proof: Octets::from_slice(alloc, &cookie.0)?,
-    })
+    let proof = copy_of(alloc, &cookie.0)?;
+    Ok(IceMessage::AuthenticationReply { proof })
 }
