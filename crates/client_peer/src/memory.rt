@@ -9,8 +9,8 @@ use crate::calls::Calls;
 use crate::peer::FILE_LIMIT;
 use crate::pieces::Pieces;
 use sm_world::{
-    Console, Duplicate, Effect, Event, Failed, Failure, Faults, ListOf, NoMemory, NumberList, Octets,
-    OctetsList, PairList, Told,
+    Console, Duplicate, Effect, Event, Failed, Failure, Faults, ListOf, NoMemory, NumberList,
+    Octets, OctetsList, PairList, Told,
 };
 use std::alloc::Global;
 
