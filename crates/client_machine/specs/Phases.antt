@@ -1,6 +1,6 @@
 -- How far a client is, and how that changes by what it says and by what it is given (XSMP, chapter 8: the
 -- state diagrams).
-use Rattle.std.specs.Prelude.{Bool, List, cond, false, true, ℕ}
+use Rattle.std.specs.Prelude.{Bool, List, false, true, ℕ}
 use Rattle.ice_values.specs.declared.severity.Severity.{Severity}
 use Rattle.ice_values.specs.declared.severity.Severity.TheVariants.{CanContinue}
 use Rattle.xsmp_messages.specs.declared.message.XsmpMessage.{XsmpMessage}
@@ -59,7 +59,7 @@ abbrev pub is_first_saving : ClientPhase → Bool
 is_first_saving Saving = true
 is_first_saving phase = false
 
--- it may talk to the user
+-- it has the token
 abbrev pub is_interacting : ClientPhase → Bool
 is_interacting Interacting = true
 is_interacting InteractingTwo = true
@@ -75,7 +75,7 @@ is_member phase = true
 
 -- What a client says
 
--- it asks for leave to talk to the user
+-- it asks for the token
 abbrev pub asked_phase : ClientPhase → ClientPhase
 asked_phase Saving = Asked
 asked_phase SavingTwo = AskedTwo
@@ -125,7 +125,7 @@ begun_phase Idle = Saving
 begun_phase Done = Saving
 begun_phase phase = phase
 
--- it may talk to the user
+-- it has the token
 abbrev pub held_phase : ClientPhase → ClientPhase
 held_phase Asked = Interacting
 held_phase AskedTwo = InteractingTwo

@@ -31,7 +31,7 @@ abbrev pub blamed_act : Severity → ErrorFields → ClientState → ClientAct
 blamed_act CanContinue error s = cond (registers_again error s) (Again (RegisterClient [])) Nothing
 blamed_act severity error s = Refused error.class
 
--- leave to talk to the user
+-- the token: the client may talk to the user
 abbrev pub talk_act : ClientPhase → SaveAsk → ClientAct
 talk_act Asked asked = Save (at_stage Talking asked)
 talk_act AskedTwo asked = Save (at_stage TalkingTwo asked)

@@ -166,8 +166,8 @@ impl Client {
         self.save(ClientPhase::Saving, ask)
     }
 
-    /// Leave to talk to the user.
-    fn take_leave(&mut self) -> ClientAct
+    /// The token: the client may talk to the user.
+    fn take_token(&mut self) -> ClientAct
         ensures act { result ≡ act_taken Interact self.old }
         ensures client { self.new ≡ taken Interact self.old }
     {
@@ -271,7 +271,7 @@ impl Client {
                     fast,
                 }))
             }
-            XsmpMessage::Interact => Ok(self.take_leave()),
+            XsmpMessage::Interact => Ok(self.take_token()),
             XsmpMessage::SaveYourselfPhase2 => Ok(self.take_second()),
             XsmpMessage::SaveComplete => Ok(self.take_complete()),
             XsmpMessage::ShutdownCancelled => Ok(self.take_cancel()),

@@ -11,17 +11,17 @@ pub enum ClientPhase {
     Idle,
     /// Asked to save, and saving in the first phase.
     Saving,
-    /// Waits for leave to talk to the user while it saves.
+    /// Waits for the token while it saves.
     Asked,
-    /// May talk to the user.
+    /// Has the token: it may talk to the user.
     Interacting,
     /// Waits until the others are done, to save behind them.
     WantsTwo,
     /// Saving in the second phase.
     SavingTwo,
-    /// Waits for leave to talk to the user while it saves in the second phase.
+    /// Waits for the token while it saves in the second phase.
     AskedTwo,
-    /// May talk to the user in the second phase.
+    /// Has the token in the second phase.
     InteractingTwo,
     /// Has saved, with or without success, and hasn't heard yet whether the others have.
     Done,
@@ -104,7 +104,7 @@ impl ClientPhase {
         }
     }
 
-    /// After it asked for leave to talk to the user.
+    /// After it asked for the token.
     pub(crate) fn asked(self) -> ClientPhase
         ensures { result ≡ asked_phase self }
     {

@@ -240,11 +240,11 @@ fn second_phase(rt: &(impl Abort + Alloc<A = Global>), client: &mut Client) -> R
     may_not_say(rt, client, Request::PhaseTwo, ClientPhase::SavingTwo)?;
     let dialog = Request::Interact(Dialog::Normal);
     says(rt, client, dialog, ASKS, ClientPhase::AskedTwo)?;
-    let leave = XsmpMessage::Interact;
+    let token = XsmpMessage::Interact;
     hears(
         rt,
         client,
-        leave,
+        token,
         "talking two",
         ClientPhase::InteractingTwo,
     )?;

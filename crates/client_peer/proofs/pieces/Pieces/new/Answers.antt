@@ -1,7 +1,7 @@
 use Rattle.std.proofs.Common.{rules, ◌≡◌, ◌∙◌, ℕ, List, subst, sym, ap}
 use Rattle.std.specs.Prelude.{filter}
 use Rattle.std.proofs.lemmas.Fn.{filter_same}
-use Rattle.client_peer.specs.Pieces.{IsLeft, is_solid, left_of}
+use Rattle.client_peer.specs.Pieces.{IsLeft, is_solid}
 use Rattle.client_peer.proofs.PieceLaws.{solid_left, whole_left}
 use Rattle.client_peer.proofs.pieces.Pieces.new.Goals as goal
 
