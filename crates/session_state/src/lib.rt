@@ -1,0 +1,3 @@
+//! What the manager holds of a session, how each move changes it, and that it stands for the
+//! session's history. Definitions and laws alone; no code.
+#![tactic(auto)]
