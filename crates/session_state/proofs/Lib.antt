@@ -1,0 +1,10 @@
+mod Suits
+mod Unsaved
+mod Rows
+mod Members
+mod Turns
+mod Counts
+mod Steps
+mod Ruling
+mod Replying
+mod Taking
