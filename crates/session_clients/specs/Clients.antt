@@ -1,8 +1,10 @@
 -- The rows of the live connections, and how each move changes them. A row takes the very steps that the readings of a
 -- history take, by its own parts alone.
-use Rattle.std.specs.Prelude.{Bool, List, None, Option, [], cond, false, filter, map, not, ℕ, ◌++◌, ◌==◌, ◌∷◌}
+use Rattle.std.specs.Prelude.{Bool, List, None, Option, [], cond, false, filter, map, not, true, ℕ, ◌++◌, ◌==◌, ◌∷◌}
 use Rattle.sm_world.specs.declared.events.Dialog.{Dialog}
 use Rattle.ice_values.specs.declared.property.Property.{Property}
+use Rattle.xsmp_messages.specs.declared.message.XsmpMessage.{XsmpMessage}
+use Rattle.xsmp_messages.specs.declared.message.XsmpMessage.TheVariants.{RegisterClientReply}
 use Rattle.session_model.specs.declared.phase.Phase.{Phase}
 use Rattle.session_model.specs.declared.events.SessionEvent.TheVariants.{Joined, Left}
 use Rattle.session_clients.specs.declared.client.Client.{Client}
@@ -83,3 +85,8 @@ held_after m first allowed held = record {
 -- a move for which no first table and no dialog counts
 abbrev pub held_by : Move → Held → Held
 held_by m held = held_after m (λ id. []) (λ dialog. false) held
+
+-- a message that gives a connection its ID
+abbrev pub is_reply : XsmpMessage → Bool
+is_reply (RegisterClientReply id) = true
+is_reply m = false

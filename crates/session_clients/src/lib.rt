@@ -2,5 +2,14 @@
 #![tactic(auto)]
 
 mod client;
+mod entries;
+mod phases;
+mod rows;
+mod tables;
 
-pub use client::Client;
+pub use client::{Client, is_reply};
+pub use entries::{entry_of, first_table, is_recorded};
+pub use phases::{
+    given, is_bound, is_dying, is_first_saving, is_interacting, is_owing, is_saving,
+    is_unregistered, may_interact, readied, said,
+};
