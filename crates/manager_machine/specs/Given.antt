@@ -1,0 +1,13 @@
+-- Messages by what they change.
+use Rattle.std.specs.Prelude.{Bool, false, true}
+use Rattle.xsmp_messages.specs.declared.message.XsmpMessage.{XsmpMessage}
+use Rattle.xsmp_messages.specs.declared.message.XsmpMessage.TheVariants.{Die, Interact, RegisterClientReply, SaveYourselfPhase2, ShutdownCancelled}
+
+-- a message that changes nothing but the row of its receiver
+abbrev pub is_of_rows : XsmpMessage → Bool
+is_of_rows (RegisterClientReply id) = false
+is_of_rows Interact = false
+is_of_rows SaveYourselfPhase2 = false
+is_of_rows ShutdownCancelled = false
+is_of_rows Die = false
+is_of_rows m = true

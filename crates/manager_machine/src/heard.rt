@@ -1,0 +1,40 @@
+ghost use Rattle.std.specs.Prelude.{◌≡◌, ℕ, List, OnOk};
+ghost use Rattle.session_model.specs.Moves.{Outside};
+ghost use Rattle.session_model.specs.declared.events.SessionEvent.TheVariants.{Joined as HasJoined, Ready as IsReady, Said as HasSaid, Operator as HasOrdered};
+ghost use Rattle.session_state.specs.Session.{moved};
+ghost use Rattle.manager_machine.specs.Order.{InOrder};
+
+use crate::core::Core;
+use sm_world::{Conn, NoMemory, Order};
+use xsmp_messages::XsmpMessage;
+
+impl Core {
+    /// A connection was opened.
+    pub(crate) fn join(&mut self, conn: Conn) -> Result<(), NoMemory>
+        ensures { OnOk result (self.new ≡ moved (Outside (HasJoined conn)) self.old) }
+    {
+        Err(NoMemory)
+    }
+
+    /// XSMP has begun on a connection.
+    pub(crate) fn ready(&mut self, conn: Conn) -> Result<(), NoMemory>
+        ensures { OnOk result (self.new ≡ moved (Outside (IsReady conn)) self.old) }
+    {
+        Err(NoMemory)
+    }
+
+    /// A client said this.
+    pub(crate) fn hear(&mut self, conn: Conn, message: &XsmpMessage) -> Result<(), NoMemory>
+        requires { InOrder self.old }
+        ensures { OnOk result ((sequence : ℕ) (frame : List ℕ) → self.new ≡ moved (Outside (HasSaid conn message.now sequence frame)) self.old) }
+    {
+        Err(NoMemory)
+    }
+
+    /// The operator asked for this.
+    pub(crate) fn order(&mut self, order: &Order) -> Result<(), NoMemory>
+        ensures { OnOk result (self.new ≡ moved (Outside (HasOrdered order.now)) self.old) }
+    {
+        Err(NoMemory)
+    }
+}
