@@ -3,7 +3,7 @@ ghost use Rattle.session_model.specs.Moves.{Closed, Outside};
 ghost use Rattle.session_model.specs.declared.events.SessionEvent.TheVariants.{Left as HasLeft};
 ghost use Rattle.session_state.specs.Session.{moved, moved_all};
 
-use crate::core::Core;
+use crate::inner::Core;
 use sm_world::{Conn, NoMemory};
 
 impl Core {

@@ -1,6 +1,6 @@
 ghost use Rattle.std.specs.Prelude.{◌≡◌, true, false, Some, OnOk, IfOk, IsTrue, is_some};
 ghost use Rattle.interact_queue.specs.Queue.{next_holder};
-ghost use Rattle.round_agreement.specs.Agreement.{two_ready};
+ghost use Rattle.round_agreement.specs.Agreement.{Agreement, two_ready};
 ghost use Rattle.session_model.specs.Moves.{Blamed, Gave, Unset, gave_each};
 ghost use Rattle.session_model.specs.Rules.{wanting_two};
 ghost use Rattle.session_state.specs.Session.{moved, moved_all};
@@ -8,7 +8,7 @@ ghost use Rattle.manager_machine.specs.Given.{is_of_rows};
 ghost use Rattle.manager_machine.specs.Order.{InOrder, MatchNext};
 ghost use Rattle.xsmp_messages.specs.declared.message.XsmpMessage.TheVariants.{Die as DieSaid, Interact as InteractSaid, RegisterClientReply as ReplySaid, SaveYourselfPhase2 as SecondSaid, ShutdownCancelled as CancelledSaid};
 
-use crate::core::Core;
+use crate::inner::Core;
 use ice_values::{Array8, ErrorBody};
 use sm_world::{Conn, NoMemory};
 use xsmp_messages::XsmpMessage;

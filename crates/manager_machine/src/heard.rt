@@ -4,7 +4,7 @@ ghost use Rattle.session_model.specs.declared.events.SessionEvent.TheVariants.{J
 ghost use Rattle.session_state.specs.Session.{moved};
 ghost use Rattle.manager_machine.specs.Order.{InOrder};
 
-use crate::core::Core;
+use crate::inner::Core;
 use sm_world::{Conn, NoMemory, Order};
 use xsmp_messages::XsmpMessage;
 

@@ -1,10 +1,10 @@
-ghost use Rattle.std.specs.Prelude.{◌≡◌, OnOk};
+ghost use Rattle.std.specs.Prelude.{◌≡◌, false, OnOk};
 ghost use Rattle.session_model.specs.Books.{issue as issue_moves, with_entries};
 ghost use Rattle.session_model.specs.Moves.{Cause as AnyCause, Committed as HasCommitted, Discard as AsDiscard, Finished as HasFinished, Printed as HasPrinted, Respawn as AsRespawn, Tried as HasTried, tried_each};
 ghost use Rattle.session_state.specs.Session.{moved, moved_all, reading_in};
 ghost use Rattle.manager_machine.specs.Kept.{is_respawn};
 
-use crate::core::Core;
+use crate::inner::Core;
 use checkpoint_records::{Book, EntryList};
 use ice_values::Array8;
 use sm_world::{Command, CommandList, NoMemory, Octets};

@@ -1,9 +1,9 @@
 //! The manager of a session: what it hears, and what it does about that, one event after another.
 #![tactic(auto)]
 
-mod core;
 mod departures;
 mod given;
 mod heard;
+mod inner;
 mod kept;
 mod rounds;

@@ -3,7 +3,7 @@ ghost use Rattle.round_agreement.specs.Agreement.{are_distinct};
 ghost use Rattle.session_model.specs.Moves.{Agreed as IsAgreed, Began as HasBegun, Cancelled as IsCancelled, Over as IsOver};
 ghost use Rattle.session_state.specs.Session.{moved};
 
-use crate::core::Core;
+use crate::inner::Core;
 use round_agreement::Wanted;
 use sm_world::{ConnList, NoMemory};
 
