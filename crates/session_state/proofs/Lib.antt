@@ -1,3 +1,4 @@
+mod Known
 mod Suits
 mod Unsaved
 mod Rows
@@ -8,3 +9,4 @@ mod Steps
 mod Ruling
 mod Replying
 mod Taking
+mod Computed

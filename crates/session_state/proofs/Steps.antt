@@ -1,10 +1,8 @@
 -- What is held stands for the history after each move that suits it, and reads as it does.
-use Rattle.std.proofs.Common.{◌≡◌, refl, ℕ, Bool, true, false, ◌||◌, List, [], ◌∷◌, ◌++◌, sym, ap, subst, ◌∙◌, arith, append_assoc}
-use Rattle.std.specs.Prelude.{Option, Some, None, is_some, ◌==◌}
+use Rattle.std.proofs.Common.{◌≡◌, refl, ℕ, Bool, true, false, ◌||◌, List, [], ◌∷◌, ◌++◌, sym, ap, subst, ◌∙◌, append_assoc}
+use Rattle.std.specs.Prelude.{Option, Some, None, is_some}
 use Rattle.std.specs.List.{list_any}
-use Rattle.std.proofs.lemmas.Bool.Decides.{nat_tests}
 use Rattle.round_agreement.specs.declared.round.Member.{Member}
-use Rattle.round_agreement.specs.declared.wanted.Wanted.{Wanted}
 use Rattle.round_agreement.specs.Agreement.{Agreement}
 use Rattle.interact_queue.specs.Queue.{is_holder}
 use Rattle.session_model.specs.declared.events.Act.{Act}
@@ -19,6 +17,7 @@ use Rattle.session_clients.specs.declared.client.Client.{Client}
 use Rattle.session_clients.specs.Clients.{phase_in, rows_after}
 use Rattle.session_state.specs.Session.{Session, Turns, moved, moved_all, reading_in, round_after, turns_after}
 use Rattle.session_state.specs.Stands.{Stands}
+use Rattle.session_state.proofs.Known.{own}
 use Rattle.session_state.proofs.Suits.{AllSuit, Suits}
 use Rattle.session_state.proofs.Rows.{Told, told-step}
 use Rattle.session_state.proofs.Members.{round-step}
@@ -102,9 +101,6 @@ follows-all before (m ∷ moves) s h a f = follows-all before moves (moved m s) 
 none-any : (test : ℕ → Bool) (cs : List ℕ) → ((c : ℕ) → test c ≡ false) → list_any test cs ≡ false
 none-any test [] k = refl
 none-any test (c ∷ cs) k = ap (λ (b : Bool). b || list_any test cs) (k c) ∙ none-any test cs k
-
-own : (c : ℕ) → (c == c) ≡ true
-own c = grind (arith, nat_tests)
 
 held-by : (holder : Option ℕ) (h : History) → ((c : ℕ) → is_holder c holder ≡ is_interacting (of.phase_of c h)) → AreRegistered h → is_some holder ≡ of.is_held h
 held-by None h k r = sym (none-any (λ c. is_interacting (of.phase_of c h)) (of.registered h) (λ c. sym (k c)))
