@@ -4,7 +4,7 @@ use Rattle.std.specs.Str.{is_utf8, chars}
 use Rattle.std.specs.Fmt.{digits}
 use Rattle.hex.specs.Hex.{encode_with}
 use lib.Utf8.{encode}
-use Rattle.session_state.specs.Examples.{ASnapshotIsHeld, TheOthersAreHeld, MembersGoOn, TheSecondPhaseIsNoted, AnAgreedRoundIsGone, ACheckpointWaits, TheTokenIsPassedOn, ACancelledQueueIsEmpty, AStrayIsHeld, ABookTakesStraysUp, ARespawnIsCounted, ActsAreInOrder}
+use Rattle.session_state.specs.Examples.{ASnapshotIsHeld, TheOthersAreHeld, MembersGoOn, TheSecondPhaseIsNoted, AnAgreedRoundIsGone, ACheckpointWaits, TheTokenIsPassedOn, TheTokenIsGivenBack, ACancelledQueueIsEmpty, AStrayIsHeld, ABookTakesStraysUp, ARespawnIsCounted, ActsAreInOrder}
 
 pub a_snapshot_is_held : ASnapshotIsHeld
 unfolding encode_with is_utf8 chars encode digits
@@ -33,6 +33,10 @@ a_checkpoint_waits = refl
 pub the_token_is_passed_on : TheTokenIsPassedOn
 unfolding encode_with is_utf8 chars encode digits
 the_token_is_passed_on = refl
+
+pub the_token_is_given_back : TheTokenIsGivenBack
+unfolding encode_with is_utf8 chars encode digits
+the_token_is_given_back = refl
 
 pub a_cancelled_queue_is_empty : ACancelledQueueIsEmpty
 unfolding encode_with is_utf8 chars encode digits

@@ -74,12 +74,16 @@ moved-by m s h w told queued round st = record {
   marks_are = λ i. of.marks_after m (w i) (st.marks_are i);
 }
 
-stands-moved : (m : Move) (s : Session) (h : History) → Suits m h → Stands s h → Stands (moved m s) (m ▷ h)
+pub stands-moved : (m : Move) (s : Session) (h : History) → Suits m h → Stands s h → Stands (moved m s) (m ▷ h)
 stands-moved m s h suits st =
     let w : wanted_in s.round ≡ of.wanted h = wanted-is s h st in
     moved-by m s h w (told-moved m s h w suits st) (queued-moved m s h w suits st) (round-moved m s h suits st) st
 
--- Many, with the acts along
+pub stands-all : (moves : List Move) (s : Session) (h : History) → AllSuit moves h → Stands s h → Stands (moved_all moves s) (onto h moves)
+stands-all [] s h a st = st
+stands-all (m ∷ moves) s h a st = stands-all moves (moved m s) (m ▷ h) a.1 (stands-moved m s h a.0 st)
+
+-- With the acts along
 
 -- what is held stands for the history, whose acts are these and then those that are held
 pub record Follows (before : List Act) (s : Session) (h : History) : Type 0 where

@@ -19,6 +19,7 @@ use Rattle.session_state.specs.Session.{Session, finished_in, go_on_in, moved, m
 use Rattle.session_state.specs.Stands.{IsMade, OpeningStands, Stands, TakingStands}
 use Rattle.session_state.proofs.Suits.{AllSuit, Suits, suit-light}
 use Rattle.session_state.proofs.Steps.{Follows, follows-all, follows-moved, same-reading}
+use Rattle.session_state.proofs.Made.{good-made}
 use Rattle.session_state.proofs.Ruling.{suit-rule}
 use Rattle.session_state.proofs.Replying.{light-opening, suit-reply}
 
@@ -54,7 +55,7 @@ follows-finished before s h f =
 
 -- An event
 
-suits-event : (event : SessionEvent) (h : History) → Takes event (reading h) → Suits (Outside event) h
+pub suits-event : (event : SessionEvent) (h : History) → Takes event (reading h) → Suits (Outside event) h
 suits-event (Joined c) h t = tt
 suits-event (Ready c) h t = t.0
 suits-event (Said c m sequence frame) h t = tt
@@ -97,9 +98,6 @@ follows-taken event s h g t st =
     follows-settled before (moved_all (Outside event ∷ answer) here) (onto h (Outside event ∷ answer)) (good-reply event h g) heard in
     subst (λ (r : Reading). Follows before (finished_in (settled_in (moved_all (Outside event ∷ reply r event) here))) (taken event h)) (sym same)
     (follows-finished before (settled_in (moved_all (Outside event ∷ answer) here)) (settled (onto h (Outside event ∷ answer))) rested)
-
-good-made : (h : History) → IsMade h → Good h
-good-made h m = subst (λ (g : History). Good g) (sym m.is) (good-run m.events (opened m.book) (good-opened m.book))
 
 pub takings-stand : TakingStands
 takings-stand event s h m t st =

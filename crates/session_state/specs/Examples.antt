@@ -4,7 +4,7 @@ use Rattle.sm_world.specs.declared.events.Order.TheVariants.{Checkpoint, Shutdow
 use Rattle.sm_world.specs.declared.events.Dialog.TheVariants.{Normal}
 use Rattle.ice_values.specs.declared.property.Property.{Property}
 use Rattle.checkpoint_records.specs.Books.{empty_book}
-use Rattle.xsmp_messages.specs.declared.message.XsmpMessage.TheVariants.{InteractDone, InteractRequest, SaveYourselfPhase2Request, SetProperties}
+use Rattle.xsmp_messages.specs.declared.message.XsmpMessage.TheVariants.{InteractDone, InteractRequest, SaveYourselfDone, SaveYourselfPhase2Request, SetProperties}
 use Rattle.round_agreement.specs.declared.round.Member.{Member}
 use Rattle.round_agreement.specs.declared.round.Step.{Step}
 use Rattle.round_agreement.specs.declared.round.Step.TheVariants.{Done, Saving, SavingTwo, WantsTwo}
@@ -13,7 +13,7 @@ use Rattle.session_model.specs.declared.phase.Phase.TheVariants.{Idle}
 use Rattle.session_model.specs.declared.events.SessionEvent.{SessionEvent}
 use Rattle.session_model.specs.declared.events.SessionEvent.TheVariants.{Left, Operator}
 use Rattle.session_model.specs.Waits.{checkpoint_wait}
-use Rattle.session_model.specs.Examples.{asks_all, asks_for_save, discards_by, hints, log_in_and_save, logs_in, prints, removes, restarts, saved, says, sets}
+use Rattle.session_model.specs.Examples.{asks_all, asks_for_save, discards_by, hints, log_in_and_save, logs_in, prints, removes, restarts, saved, says, sets, up_to}
 use Rattle.session_state.specs.Session.{Session, opened_in, taken_in}
 
 -- after these events more
@@ -54,11 +54,11 @@ TheOthersAreHeld = (held_after_all (log_in_and_save (1 ∷ 2 ∷ 3 ∷ []) ++ Le
 
 -- Rounds
 
--- a member that saved is done, one that didn't want to yet waits for the second phase, and one that left is no member
+-- A member that saved is done, with success or without; one that wants the second phase waits for it; one that left is no member.
 abbrev pub MembersGoOn : Type 0
 MembersGoOn =
-    (held_after_all (log_in_and_save (1 ∷ 2 ∷ 3 ∷ 4 ∷ []) ++ Operator Checkpoint ∷ saved 1 ∷ says 2 SaveYourselfPhase2Request ∷ Left 3 ∷ [])).round
-    ≡ checkpoint_of (member 1 (Done true) ∷ member 2 WantsTwo ∷ member 4 Saving ∷ [])
+    (held_after_all (log_in_and_save (up_to 5) ++ Operator Checkpoint ∷ saved 1 ∷ says 2 SaveYourselfPhase2Request ∷ Left 3 ∷ says 4 (SaveYourselfDone false) ∷ [])).round
+    ≡ checkpoint_of (member 1 (Done true) ∷ member 2 WantsTwo ∷ member 4 (Done false) ∷ member 5 Saving ∷ [])
 
 -- when the last one is done, who waited for the second phase saves in it
 abbrev pub TheSecondPhaseIsNoted : Type 0
@@ -81,6 +81,12 @@ abbrev pub TheTokenIsPassedOn : Type 0
 TheTokenIsPassedOn =
     (held_after_all (log_in_and_save (1 ∷ 2 ∷ 3 ∷ []) ++ asks_all ∷ says 1 (InteractRequest Normal) ∷ says 3 (InteractRequest Normal) ∷ says 2 (InteractRequest Normal) ∷ Left 1 ∷ [])).turns
     ≡ record { waiting = 2 ∷ []; holder = Some 3 }
+
+-- who gives it back has it no more
+abbrev pub TheTokenIsGivenBack : Type 0
+TheTokenIsGivenBack =
+    (held_after_all (log_in_and_save (1 ∷ []) ++ asks_all ∷ says 1 (InteractRequest Normal) ∷ says 1 (InteractDone false) ∷ [])).turns
+    ≡ record { waiting = []; holder = None }
 
 -- after a shutdown was cancelled nobody waits for the token, and nobody has it
 abbrev pub ACancelledQueueIsEmpty : Type 0
