@@ -10,6 +10,9 @@ use Rattle.session_model.specs.Readings as of
 pub own : (c : ℕ) → (c == c) ≡ true
 own c = grind (arith, nat_tests)
 
+pub flips : (c d : ℕ) → (c == d) ≡ (d == c)
+flips c d = grind (arith, nat_tests)
+
 pub head-in : (c : ℕ) (cs : List ℕ) → is_in c (c ∷ cs) ≡ true
 head-in c cs = grind (arith, nat_tests)
 

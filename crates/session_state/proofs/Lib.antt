@@ -12,3 +12,4 @@ pub mod Made
 pub mod Taking
 pub mod Computed
 pub mod Reached
+pub mod Seconds

@@ -1,9 +1,9 @@
 -- A made history goes on, and what is held reads as it does.
-use Rattle.std.proofs.Common.{◌≡◌, refl, ℕ, ◌<◌, List, [], ◌∷◌, ◌++◌, sym, ap, subst, ◌∙◌}
+use Rattle.std.proofs.Common.{◌≡◌, refl, ◌<◌, List, [], ◌∷◌, ◌++◌, sym, ap, subst, ◌∙◌}
 use Rattle.checkpoint_records.specs.declared.records.Book.{Book}
 use Rattle.checkpoint_records.specs.Rules.{KeepsRules}
 use Rattle.session_model.specs.declared.events.SessionEvent.{SessionEvent}
-use Rattle.session_model.specs.Moves.{History, Move}
+use Rattle.session_model.specs.Moves.{History}
 use Rattle.session_model.specs.Reading.{Reading, reading}
 use Rattle.session_model.specs.Rules.{Takes, opened, rule, run, taken}
 use Rattle.session_model.specs.Laws.{AllTake}

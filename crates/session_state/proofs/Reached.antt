@@ -1,6 +1,6 @@
 -- What is known of a session that is held, wherever it stands for a history that answers and rules reach: all that the queue
 -- for the token and the round ask of their callers.
-use Rattle.std.proofs.Common.{◌≡◌, refl, ℕ, Bool, true, false, cond, not, ◌&&◌, ◌||◌, List, [], ◌∷◌, filter, map, sym, ap, subst, ◌∙◌, arith}
+use Rattle.std.proofs.Common.{◌≡◌, refl, ℕ, Bool, true, false, cond, not, ◌&&◌, ◌||◌, List, [], ◌∷◌, sym, ap, subst, ◌∙◌, arith}
 use Rattle.std.specs.Prelude.{Option, Some, None, is_some, ◌==◌}
 use Rattle.std.proofs.lemmas.Bool.Decides.{nat_tests}
 use Rattle.ice_values.specs.declared.property.Property.{Property}
@@ -24,7 +24,7 @@ use Rattle.session_model.proofs.Ruled.{denied, differ, good-rule, nobody-level, 
 use Rattle.session_model.proofs.Replied.{good-reply}
 use Rattle.session_model.proofs.Asked.{once-waiting, phases-tell}
 use Rattle.session_clients.specs.Clients.{phase_in}
-use Rattle.session_state.specs.Session.{Session, Turns, moved_all, reading_in}
+use Rattle.session_state.specs.Session.{Session, moved_all, reading_in}
 use Rattle.session_state.specs.Stands.{IsMade, Stands}
 use Rattle.session_state.proofs.Known.{head-in, own}
 use Rattle.session_state.proofs.Steps.{same-reading, stands-all}
@@ -81,12 +81,12 @@ saving-not_holding c s h st e = st.holder_is c ∙ saving-silent (of.phase_of c 
 pub waiting-distinct : (s : Session) (h : History) → Stands s h → are_distinct s.turns.waiting ≡ true
 waiting-distinct s h st = ap (λ (cs : List ℕ). are_distinct cs) st.waiting_is ∙ distinct-from_once (of.waiting h) (once-waiting h)
 
-kept-at : (b : Bool) (c d : ℕ) (cs ds : List ℕ) → (d == c) ≡ false → cs ≡ ds → cond (not (d == c)) (d ∷ cs) cs ≡ d ∷ ds
-kept-at b c d cs ds e k = ap (λ (x : Bool). cond (not x) (d ∷ cs) cs) e ∙ ap (λ (xs : List ℕ). d ∷ xs) k
+kept-at : (c d : ℕ) (cs ds : List ℕ) → (d == c) ≡ false → cs ≡ ds → cond (not (d == c)) (d ∷ cs) cs ≡ d ∷ ds
+kept-at c d cs ds e k = ap (λ (x : Bool). cond (not x) (d ∷ cs) cs) e ∙ ap (λ (xs : List ℕ). d ∷ xs) k
 
 without-none : (c : ℕ) (cs : List ℕ) → is_in c cs ≡ false → without c cs ≡ cs
 without-none c [] e = refl
-without-none c (d ∷ cs) e = kept-at false c d (without c cs) cs (grind (arith, nat_tests)) (without-none c cs (grind (arith, nat_tests)))
+without-none c (d ∷ cs) e = kept-at c d (without c cs) cs (grind (arith, nat_tests)) (without-none c cs (grind (arith, nat_tests)))
 
 -- when the first that waits is taken out, the others are left
 pub waiting-rest : (c : ℕ) (rest : List ℕ) (s : Session) (h : History) → Stands s h → s.turns.waiting ≡ c ∷ rest → without c s.turns.waiting ≡ rest

@@ -14,9 +14,9 @@ use Rattle.session_model.specs.Replies.{reply}
 use Rattle.session_model.specs.Rules.{Takes, finished, go_on, opened, rule, settle, settled, taken}
 use Rattle.session_model.proofs.Level.{Good}
 use Rattle.session_model.proofs.Ruled.{good-rule}
-use Rattle.session_model.proofs.Replied.{good-opened, good-reply, good-run}
+use Rattle.session_model.proofs.Replied.{good-reply}
 use Rattle.session_state.specs.Session.{Session, finished_in, go_on_in, moved, moved_all, opened_in, reading_in, session_of, settle_in, settled_in, taken_in}
-use Rattle.session_state.specs.Stands.{IsMade, OpeningStands, Stands, TakingStands}
+use Rattle.session_state.specs.Stands.{OpeningStands, Stands, TakingStands}
 use Rattle.session_state.proofs.Suits.{AllSuit, Suits, suit-light}
 use Rattle.session_state.proofs.Steps.{Follows, follows-all, follows-moved, same-reading}
 use Rattle.session_state.proofs.Made.{good-made}

@@ -15,7 +15,7 @@ use Rattle.session_model.specs.Moves.{Closed, Gave, History, Move, Outside, Unse
 use Rattle.session_model.specs.Readings as of
 use Rattle.session_model.proofs.Sound.{phase-there}
 use Rattle.session_state.specs.Session.{Turns, turns_after, turns_said, turns_without}
-use Rattle.session_state.proofs.Known.{own, test-there}
+use Rattle.session_state.proofs.Known.{flips, own, test-there}
 use Rattle.session_state.proofs.Suits.{Suits, SuitsGiven}
 
 pub record Queued (turns : Turns) (h : History) : Type 0 where
@@ -37,9 +37,6 @@ without-at false false d c cs ds e k = k
 filter-without : (test : ℕ → Bool) (d : ℕ) (cs : List ℕ) → without d (filter test cs) ≡ filter (λ c. not (c == d) && test c) cs
 filter-without test d [] = refl
 filter-without test d (c ∷ cs) = without-at (c == d) (test c) d c (filter test cs) (filter (λ x. not (x == d) && test x) cs) refl (filter-without test d cs)
-
-flips : (c d : ℕ) → (c == d) ≡ (d == c)
-flips c d = grind (arith, nat_tests)
 
 -- Steps that leave the token
 
