@@ -1,10 +1,15 @@
-mod Suits
-mod Unsaved
-mod Rows
-mod Members
-mod Turns
-mod Counts
-mod Steps
-mod Ruling
-mod Replying
-mod Taking
+pub mod Known
+pub mod Suits
+pub mod Unsaved
+pub mod Rows
+pub mod Members
+pub mod Turns
+pub mod Counts
+pub mod Steps
+pub mod Ruling
+pub mod Replying
+pub mod Made
+pub mod Taking
+pub mod Computed
+pub mod Reached
+pub mod Seconds

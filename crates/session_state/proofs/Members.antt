@@ -1,25 +1,25 @@
 -- The round that is held takes the steps that the history says.
-use Rattle.std.proofs.Common.{◌≡◌, refl, ℕ, Bool, true, false, cond, not, ◌||◌, List, [], ◌∷◌, map, filter, eqb, sym, ap, subst, ◌∙◌, arith}
+use Rattle.std.proofs.Common.{◌≡◌, refl, ℕ, Bool, true, false, cond, not, List, [], ◌∷◌, map, eqb, sym, ap, subst, ◌∙◌, arith}
 use Rattle.std.specs.Prelude.{Option, Some, None, is_some, if◌then◌else◌, ◌==◌}
 use Rattle.std.proofs.lemmas.Bool.Decides.{nat_tests}
-use Rattle.sm_world.specs.declared.events.Dialog.{Dialog}
 use Rattle.ice_values.specs.declared.property.Property.{Property}
 use Rattle.xsmp_messages.specs.declared.message.XsmpMessage.{XsmpMessage}
 use Rattle.xsmp_messages.specs.declared.message.XsmpMessage.TheVariants.{Die, Interact, InteractDone, InteractRequest, RegisterClientReply, SaveComplete, SaveYourself, SaveYourselfDone, SaveYourselfPhase2, SaveYourselfPhase2Request, ShutdownCancelled}
 use Rattle.round_agreement.specs.declared.round.Member.{Member}
 use Rattle.round_agreement.specs.declared.round.Step.{Step}
 use Rattle.round_agreement.specs.declared.round.Step.TheVariants.{Done as AllDone, Saving as ToSave, WantsTwo as ToWantTwo}
-use Rattle.round_agreement.specs.Agreement.{Agreement, all_saving, is_nil, second_saving, second_step, with_step, without_member}
+use Rattle.round_agreement.specs.Agreement.{all_saving, is_nil, second_saving, second_step, with_step, without_member}
 use Rattle.interact_queue.specs.Queue.{is_in, without}
 use Rattle.session_model.specs.declared.phase.Phase.{Phase}
 use Rattle.session_model.specs.declared.phase.Phase.TheVariants.{Asked, AskedTwo, Done, Idle, Interacting, InteractingTwo, Owing, Saving, SavingTwo, Unregistered, WantsTwo}
 use Rattle.session_model.specs.declared.events.SessionEvent.{SessionEvent}
 use Rattle.session_model.specs.declared.events.SessionEvent.TheVariants.{Joined, Left, Operator, Ready, Said}
 use Rattle.session_model.specs.Phases.{asked_phase, begun_phase, held_phase, is_first_saving, is_saving, may_interact, phase_given, phase_said, ready_phase, registered_phase, saved_phase, second_begun_phase, second_phase, step_of, talked_phase}
-use Rattle.session_model.specs.Moves.{Agreed, Began, Cancelled, Closed, Gave, History, Move, Outside, Over, Unset, ◌▷◌}
+use Rattle.session_model.specs.Moves.{Began, Closed, Gave, History, Move, Outside, Unset, ◌▷◌}
 use Rattle.session_model.specs.Readings as of
 use Rattle.session_model.proofs.Sound.{phase-there}
 use Rattle.session_state.specs.Session.{in_round, round_after, round_said, with_second_at}
+use Rattle.session_state.proofs.Known.{head-in, or-later, test-there}
 use Rattle.session_state.proofs.Suits.{Suits, SuitsGiven, is_done}
 use Rattle.session_state.proofs.Unsaved.{is_underway, unsaved}
 
@@ -28,13 +28,6 @@ use Rattle.session_state.proofs.Unsaved.{is_underway, unsaved}
 -- how far c is, where it is a member
 abbrev at_step : (ℕ → Option Phase) → (ℕ → Option (List Property)) → ℕ → Member
 at_step phase saved c = record { conn = c; step = step_of (phase c) (is_some (saved c)) }
-
-head-in : (c : ℕ) (cs : List ℕ) → is_in c (c ∷ cs) ≡ true
-head-in c cs = grind (arith, nat_tests)
-
-or-later : (b i : Bool) → i ≡ true → (b || i) ≡ true
-or-later true i e = refl
-or-later false i e = e
 
 rows-same : (p q : ℕ → Option Phase) (s t : ℕ → Option (List Property)) (cs : List ℕ) → ((c : ℕ) → is_in c cs ≡ true → step_of (p c) (is_some (s c)) ≡ step_of (q c) (is_some (t c))) → of.rows p s cs ≡ of.rows q t cs
 rows-same p q s t [] k = refl
@@ -186,10 +179,6 @@ second-wanted p x e = absurd (grind arith)
 second-unwanted : (p : Option Phase) (x : Bool) → is_first_saving p ≡ false → step_of p x ≡ step_of (second_phase p) x
 second-unwanted (Some Saving) x e = absurd (grind arith)
 second-unwanted p x e = refl
-
--- what is known of this one is known of that one
-test-there : (test : Option Phase → Bool) (b : Bool) (d : ℕ) (h : History) → test (of.phase_of d h) ≡ b → (c : ℕ) → eqb d c ≡ true → test (of.phase_of c h) ≡ b
-test-there test b d h e c f = let k : d ≡ c = grind (arith, nat_tests) in subst (λ (x : ℕ). test (of.phase_of x h) ≡ b) k e
 
 -- Messages of clients
 

@@ -1,5 +1,5 @@
 -- The moves of each answer suit the history in which the event has come.
-use Rattle.std.proofs.Common.{◌≡◌, refl, ℕ, Bool, true, false, cond, not, ◌&&◌, ◌||◌, List, [], ◌∷◌, ◌+◌, eqb, sym, ap, ◌∙◌, arith}
+use Rattle.std.proofs.Common.{◌≡◌, refl, ℕ, Bool, true, false, cond, not, ◌&&◌, ◌||◌, List, [], ◌∷◌, ◌+◌, eqb, ap, ◌∙◌}
 use Rattle.std.specs.Prelude.{Option, Some, None, codes, is_some}
 use Rattle.sm_world.specs.declared.commands.Command.{Command}
 use Rattle.sm_world.specs.declared.events.Order.{Order}
@@ -20,11 +20,11 @@ use Rattle.session_model.specs.declared.events.SessionEvent.TheVariants.{Joined,
 use Rattle.session_model.specs.Phases.{is_bound, is_dying, is_first_saving, is_interacting, is_owing, is_saving, is_shutdown, is_unregistered, may_interact}
 use Rattle.session_model.specs.Tables.{entry_of, is_full}
 use Rattle.session_model.specs.Errors.{Arrival, bad_id, full_table, lone_shutdown, no_room}
-use Rattle.session_model.specs.Moves.{Blamed, Cancelled, Closed, Gave, History, Move, Outside, Printed, Restart, Unset, gave_each, onto, tried_each, ◌▷◌}
+use Rattle.session_model.specs.Moves.{Blamed, Cancelled, Closed, Gave, History, Move, Outside, Printed, Restart, Unset, gave_each, tried_each, ◌▷◌}
 use Rattle.session_model.specs.Readings as of
 use Rattle.session_model.specs.Reading.{Reading, client_of, reading, wanted_in}
 use Rattle.session_model.specs.Books.{book_forgetting, command_anyway, discarded, issue, opening_moves, raised}
-use Rattle.session_model.specs.Replies.{answered, called_off, depart, entry_respawn, forget, forget_one, forgotten, has_no_place, has_no_room, id_respawn, may_rejoin, may_wait, or_bad_state, ordered, refused, register, reply, resigned, respawn_moves, respawned, said, unless_dying, want_cancel}
+use Rattle.session_model.specs.Replies.{answered, called_off, depart, entry_respawn, forget, forget_one, forgotten, has_no_place, has_no_room, id_respawn, may_rejoin, or_bad_state, ordered, register, reply, resigned, respawn_moves, respawned, said, unless_dying, want_cancel}
 use Rattle.session_model.proofs.Replied.{cond-same, unregistered-is}
 use Rattle.session_state.proofs.Suits.{AllLight, AllSuit, light-append, light-tried, suit-light}
 use Rattle.session_state.proofs.Ruling.{light-discarded, light-issue}

@@ -1,7 +1,6 @@
 -- The moves of each rule suit the history that it is told from.
-use Rattle.std.proofs.Common.{◌≡◌, refl, ℕ, Bool, true, false, cond, not, ◌&&◌, ◌||◌, List, [], ◌∷◌, ◌++◌, map, filter, eqb, sym, ap, subst, ◌∙◌, arith}
+use Rattle.std.proofs.Common.{◌≡◌, refl, ℕ, Bool, true, false, cond, not, ◌||◌, List, [], ◌∷◌, ◌++◌, map, filter, eqb, sym, ap, subst, ◌∙◌, arith}
 use Rattle.std.specs.Prelude.{Option, Some, None, filter_map, is_some}
-use Rattle.std.specs.List.{list_any}
 use Rattle.std.proofs.lemmas.Bool.Decides.{nat_tests}
 use Rattle.sm_world.specs.declared.commands.Command.{Command}
 use Rattle.checkpoint_records.specs.declared.records.Book.{Book}
@@ -9,13 +8,12 @@ use Rattle.round_agreement.specs.declared.wanted.Wanted.{Wanted}
 use Rattle.round_agreement.specs.Agreement.{Agreement, agreed, conns_of, deserted, two_ready}
 use Rattle.discard_ledger.specs.Discards.{issuable}
 use Rattle.interact_queue.specs.Queue.{is_in, next_holder}
-use Rattle.xsmp_messages.specs.declared.message.XsmpMessage.{XsmpMessage}
-use Rattle.xsmp_messages.specs.declared.message.XsmpMessage.TheVariants.{Die, Interact, SaveComplete, SaveYourselfPhase2}
+use Rattle.xsmp_messages.specs.declared.message.XsmpMessage.TheVariants.{Die, SaveComplete, SaveYourselfPhase2}
 use Rattle.session_model.specs.declared.phase.Phase.{Phase}
-use Rattle.session_model.specs.declared.phase.Phase.TheVariants.{Done, Idle}
+use Rattle.session_model.specs.declared.phase.Phase.TheVariants.{Idle}
 use Rattle.session_model.specs.declared.waits.Wait.{Wait}
 use Rattle.session_model.specs.Phases.{begun_phase, is_asked, is_dying, is_interacting, is_member, is_owing, is_registered}
-use Rattle.session_model.specs.Moves.{Agreed, Began, Closed, Committed, Discard, End, Gave, History, Move, Over, gave_each, onto, tried_each, ◌▷◌}
+use Rattle.session_model.specs.Moves.{Agreed, Began, Closed, Committed, Discard, End, Gave, History, Move, gave_each, onto, tried_each, ◌▷◌}
 use Rattle.session_model.specs.Waits.{is_only}
 use Rattle.session_model.specs.Readings as of
 use Rattle.session_model.specs.Reading.{Clients, Reading, reading}
@@ -25,7 +23,8 @@ use Rattle.session_model.proofs.Sound.{AreRegistered, Sound, is_wanted_alone}
 use Rattle.session_model.proofs.Level.{Good}
 use Rattle.session_model.proofs.Ruled.{and-left, and-right, any-in, denied, differ, interacting-registered, nobody-level, none-in, round_now, rows_now}
 use Rattle.session_model.proofs.Asked.{phases-tell}
-use Rattle.session_state.proofs.Suits.{AllLight, AllSuit, Suits, is_done, light-append, light-closed, light-gave, light-tried, suit-append, suit-light}
+use Rattle.session_state.proofs.Known.{head-in, or-later}
+use Rattle.session_state.proofs.Suits.{AllLight, AllSuit, is_done, light-append, light-closed, light-gave, light-tried, suit-append, suit-light}
 
 not-true : (x : Bool) → not x ≡ true → x ≡ false
 not-true true e = sym e
@@ -35,9 +34,6 @@ not-true false e = refl
 
 nobody-holds : (h : History) → AreRegistered h → of.is_held h ≡ false → (d : ℕ) → is_interacting (of.phase_of d h) ≡ false
 nobody-holds h r n d = denied (is_interacting (of.phase_of d h)) (λ e. differ (any-in (λ c. is_interacting (of.phase_of c h)) d (of.registered h) (r d ∙ interacting-registered (of.phase_of d h) e) e) n)
-
-head-in : (c : ℕ) (cs : List ℕ) → is_in c (c ∷ cs) ≡ true
-head-in c cs = grind (arith, nat_tests)
 
 -- the first that waits waits
 first-asked : (c : ℕ) (cs : List ℕ) (h : History) → of.waiting h ≡ c ∷ cs → is_asked (of.phase_of c h) ≡ true
@@ -76,9 +72,14 @@ suit-completed false clients round book h e = suit-complete (conns_of round.memb
 
 suit-agreement : (clients : Clients) (round : Agreement) (book : Book) (h : History) → AllSuit (agreement_with clients round book) h
 suit-agreement clients round book h =
-    let told : List Move = completed round.wanted.shutdown clients round book in
-    (tt, (tt, suit-append told (discarded clients book) (Agreed ▷ Committed book ▷ h) (suit-completed round.wanted.shutdown clients round book (Agreed ▷ Committed book ▷ h) refl)
-    (suit-light (discarded clients book) (onto (Agreed ▷ Committed book ▷ h) told) (light-discarded clients book))))
+    let told : List Move = completed round.wanted.shutdown clients round book in (
+      tt,
+      (
+        tt,
+        suit-append told (discarded clients book) (Agreed ▷ Committed book ▷ h) (suit-completed round.wanted.shutdown clients round book (Agreed ▷ Committed book ▷ h) refl)
+            (suit-light (discarded clients book) (onto (Agreed ▷ Committed book ▷ h) told) (light-discarded clients book)),
+      ),
+    )
 
 -- A round begins
 
@@ -113,10 +114,6 @@ done-begun p = refl
 done-at : (b : Bool) (p : Option Phase) → is_done p ≡ false → is_done (cond b (begun_phase p) p) ≡ false
 done-at true p e = done-begun p ∙ e
 done-at false p e = e
-
-or-later : (b i : Bool) → i ≡ true → (b || i) ≡ true
-or-later true i e = refl
-or-later false i e = e
 
 suit-save : (w : Wanted) (conns : List ℕ) (h : History) → ((c : ℕ) → is_in c conns ≡ true → is_done (of.phase_of c h) ≡ false) → AllSuit (gave_each (save_yourself w) conns) h
 suit-save w [] h k = tt

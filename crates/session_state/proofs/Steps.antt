@@ -1,10 +1,8 @@
 -- What is held stands for the history after each move that suits it, and reads as it does.
-use Rattle.std.proofs.Common.{◌≡◌, refl, ℕ, Bool, true, false, ◌||◌, List, [], ◌∷◌, ◌++◌, sym, ap, subst, ◌∙◌, arith, append_assoc}
-use Rattle.std.specs.Prelude.{Option, Some, None, is_some, ◌==◌}
+use Rattle.std.proofs.Common.{◌≡◌, refl, ℕ, Bool, true, false, ◌||◌, List, [], ◌∷◌, ◌++◌, sym, ap, subst, ◌∙◌, append_assoc}
+use Rattle.std.specs.Prelude.{Option, Some, None, is_some}
 use Rattle.std.specs.List.{list_any}
-use Rattle.std.proofs.lemmas.Bool.Decides.{nat_tests}
 use Rattle.round_agreement.specs.declared.round.Member.{Member}
-use Rattle.round_agreement.specs.declared.wanted.Wanted.{Wanted}
 use Rattle.round_agreement.specs.Agreement.{Agreement}
 use Rattle.interact_queue.specs.Queue.{is_holder}
 use Rattle.session_model.specs.declared.events.Act.{Act}
@@ -19,6 +17,7 @@ use Rattle.session_clients.specs.declared.client.Client.{Client}
 use Rattle.session_clients.specs.Clients.{phase_in, rows_after}
 use Rattle.session_state.specs.Session.{Session, Turns, moved, moved_all, reading_in, round_after, turns_after}
 use Rattle.session_state.specs.Stands.{Stands}
+use Rattle.session_state.proofs.Known.{own}
 use Rattle.session_state.proofs.Suits.{AllSuit, Suits}
 use Rattle.session_state.proofs.Rows.{Told, told-step}
 use Rattle.session_state.proofs.Members.{round-step}
@@ -75,12 +74,16 @@ moved-by m s h w told queued round st = record {
   marks_are = λ i. of.marks_after m (w i) (st.marks_are i);
 }
 
-stands-moved : (m : Move) (s : Session) (h : History) → Suits m h → Stands s h → Stands (moved m s) (m ▷ h)
+pub stands-moved : (m : Move) (s : Session) (h : History) → Suits m h → Stands s h → Stands (moved m s) (m ▷ h)
 stands-moved m s h suits st =
     let w : wanted_in s.round ≡ of.wanted h = wanted-is s h st in
     moved-by m s h w (told-moved m s h w suits st) (queued-moved m s h w suits st) (round-moved m s h suits st) st
 
--- Many, with the acts along
+pub stands-all : (moves : List Move) (s : Session) (h : History) → AllSuit moves h → Stands s h → Stands (moved_all moves s) (onto h moves)
+stands-all [] s h a st = st
+stands-all (m ∷ moves) s h a st = stands-all moves (moved m s) (m ▷ h) a.1 (stands-moved m s h a.0 st)
+
+-- With the acts along
 
 -- what is held stands for the history, whose acts are these and then those that are held
 pub record Follows (before : List Act) (s : Session) (h : History) : Type 0 where
@@ -102,9 +105,6 @@ follows-all before (m ∷ moves) s h a f = follows-all before moves (moved m s) 
 none-any : (test : ℕ → Bool) (cs : List ℕ) → ((c : ℕ) → test c ≡ false) → list_any test cs ≡ false
 none-any test [] k = refl
 none-any test (c ∷ cs) k = ap (λ (b : Bool). b || list_any test cs) (k c) ∙ none-any test cs k
-
-own : (c : ℕ) → (c == c) ≡ true
-own c = grind (arith, nat_tests)
 
 held-by : (holder : Option ℕ) (h : History) → ((c : ℕ) → is_holder c holder ≡ is_interacting (of.phase_of c h)) → AreRegistered h → is_some holder ≡ of.is_held h
 held-by None h k r = sym (none-any (λ c. is_interacting (of.phase_of c h)) (of.registered h) (λ c. sym (k c)))

@@ -1,5 +1,5 @@
 -- What is held stands for the history after an opening and after each event.
-use Rattle.std.proofs.Common.{◌≡◌, refl, ℕ, zero, suc, ◌+◌, ◌*◌, Bool, true, false, cond, ◌&&◌, List, [], ◌∷◌, ◌++◌, length, sym, ap, subst, ◌∙◌, append-nil}
+use Rattle.std.proofs.Common.{◌≡◌, refl, ℕ, zero, suc, ◌+◌, ◌*◌, Bool, true, false, cond, ◌&&◌, List, [], ◌∷◌, ◌++◌, length, sym, subst, ◌∙◌, append-nil}
 use Rattle.checkpoint_records.specs.declared.records.Book.{Book}
 use Rattle.round_agreement.specs.Agreement.{is_nil}
 use Rattle.session_model.specs.declared.waits.Wait.{Wait}
@@ -14,11 +14,12 @@ use Rattle.session_model.specs.Replies.{reply}
 use Rattle.session_model.specs.Rules.{Takes, finished, go_on, opened, rule, settle, settled, taken}
 use Rattle.session_model.proofs.Level.{Good}
 use Rattle.session_model.proofs.Ruled.{good-rule}
-use Rattle.session_model.proofs.Replied.{good-opened, good-reply, good-run}
+use Rattle.session_model.proofs.Replied.{good-reply}
 use Rattle.session_state.specs.Session.{Session, finished_in, go_on_in, moved, moved_all, opened_in, reading_in, session_of, settle_in, settled_in, taken_in}
-use Rattle.session_state.specs.Stands.{IsMade, OpeningStands, Stands, TakingStands}
+use Rattle.session_state.specs.Stands.{OpeningStands, Stands, TakingStands}
 use Rattle.session_state.proofs.Suits.{AllSuit, Suits, suit-light}
 use Rattle.session_state.proofs.Steps.{Follows, follows-all, follows-moved, same-reading}
+use Rattle.session_state.proofs.Made.{good-made}
 use Rattle.session_state.proofs.Ruling.{suit-rule}
 use Rattle.session_state.proofs.Replying.{light-opening, suit-reply}
 
@@ -54,7 +55,7 @@ follows-finished before s h f =
 
 -- An event
 
-suits-event : (event : SessionEvent) (h : History) → Takes event (reading h) → Suits (Outside event) h
+pub suits-event : (event : SessionEvent) (h : History) → Takes event (reading h) → Suits (Outside event) h
 suits-event (Joined c) h t = tt
 suits-event (Ready c) h t = t.0
 suits-event (Said c m sequence frame) h t = tt
@@ -97,9 +98,6 @@ follows-taken event s h g t st =
     follows-settled before (moved_all (Outside event ∷ answer) here) (onto h (Outside event ∷ answer)) (good-reply event h g) heard in
     subst (λ (r : Reading). Follows before (finished_in (settled_in (moved_all (Outside event ∷ reply r event) here))) (taken event h)) (sym same)
     (follows-finished before (settled_in (moved_all (Outside event ∷ answer) here)) (settled (onto h (Outside event ∷ answer))) rested)
-
-good-made : (h : History) → IsMade h → Good h
-good-made h m = subst (λ (g : History). Good g) (sym m.is) (good-run m.events (opened m.book) (good-opened m.book))
 
 pub takings-stand : TakingStands
 takings-stand event s h m t st =

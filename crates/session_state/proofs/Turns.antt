@@ -5,17 +5,17 @@ use Rattle.std.proofs.lemmas.Bool.Decides.{nat_tests}
 use Rattle.sm_world.specs.declared.events.Dialog.{Dialog}
 use Rattle.xsmp_messages.specs.declared.message.XsmpMessage.{XsmpMessage}
 use Rattle.xsmp_messages.specs.declared.message.XsmpMessage.TheVariants.{Die, Interact, InteractDone, InteractRequest, RegisterClientReply, SaveComplete, SaveYourself, SaveYourselfDone, SaveYourselfPhase2, SaveYourselfPhase2Request, ShutdownCancelled}
-use Rattle.interact_queue.specs.Queue.{holder_without, is_holder, is_in, without}
+use Rattle.interact_queue.specs.Queue.{holder_without, is_holder, without}
 use Rattle.session_model.specs.declared.phase.Phase.{Phase}
 use Rattle.session_model.specs.declared.phase.Phase.TheVariants.{Asked, AskedTwo, Done, Idle, Interacting, InteractingTwo, Owing, Saving, SavingTwo, Unregistered, WantsTwo}
 use Rattle.session_model.specs.declared.events.SessionEvent.{SessionEvent}
 use Rattle.session_model.specs.declared.events.SessionEvent.TheVariants.{Joined, Left, Operator, Ready, Said}
-use Rattle.session_model.specs.Phases.{asked_phase, begun_phase, cancelled_phase, completed_phase, dying_phase, held_phase, is_asked, is_interacting, is_saving, may_interact, phase_given, phase_said, ready_phase, registered_phase, saved_phase, second_begun_phase, second_phase, talked_phase}
+use Rattle.session_model.specs.Phases.{asked_phase, begun_phase, cancelled_phase, completed_phase, dying_phase, held_phase, is_asked, is_interacting, is_saving, may_interact, ready_phase, registered_phase, saved_phase, second_begun_phase, second_phase, talked_phase}
 use Rattle.session_model.specs.Moves.{Closed, Gave, History, Move, Outside, Unset, ◌▷◌}
 use Rattle.session_model.specs.Readings as of
 use Rattle.session_model.proofs.Sound.{phase-there}
-use Rattle.session_model.proofs.PhaseSteps.{same-token}
 use Rattle.session_state.specs.Session.{Turns, turns_after, turns_said, turns_without}
+use Rattle.session_state.proofs.Known.{flips, own, test-there}
 use Rattle.session_state.proofs.Suits.{Suits, SuitsGiven}
 
 pub record Queued (turns : Turns) (h : History) : Type 0 where
@@ -37,9 +37,6 @@ without-at false false d c cs ds e k = k
 filter-without : (test : ℕ → Bool) (d : ℕ) (cs : List ℕ) → without d (filter test cs) ≡ filter (λ c. not (c == d) && test c) cs
 filter-without test d [] = refl
 filter-without test d (c ∷ cs) = without-at (c == d) (test c) d c (filter test cs) (filter (λ x. not (x == d) && test x) cs) refl (filter-without test d cs)
-
-flips : (c d : ℕ) → (c == d) ≡ (d == c)
-flips c d = grind (arith, nat_tests)
 
 -- Steps that leave the token
 
@@ -115,10 +112,6 @@ test-at : (test : Option Phase → Bool) (b : Bool) (p q : Option Phase) → con
 test-at test true p q = refl
 test-at test false p q = refl
 
-holder-at : (b : Bool) (c e : ℕ) → (c == e) ≡ b → (x : Bool) → (e == c) ≡ x → is_holder e (cond b None (Some c)) ≡ (not b && x)
-holder-at true c e k x f = refl
-holder-at false c e k x f = grind (arith, nat_tests)
-
 holder-out : (d c : ℕ) (holder : Option ℕ) → is_holder c (holder_without d holder) ≡ (not (d == c) && is_holder c holder)
 holder-out d c None = grind arith
 holder-out d c (Some e) = grind (arith, nat_tests)
@@ -175,9 +168,6 @@ token-at : (b : Bool) (p : Option Phase) → (b ≡ true → is_asked p ≡ true
 token-at true p a n = sym (held-interacting p (a refl))
 token-at false p a n = sym n
 
-asked-there : (c d : ℕ) (h : History) → is_asked (of.phase_of d h) ≡ true → eqb d c ≡ true → is_asked (of.phase_of c h) ≡ true
-asked-there c d h e f = let k : d ≡ c = grind (arith, nat_tests) in subst (λ (x : ℕ). is_asked (of.phase_of x h) ≡ true) k e
-
 queued-token : (d : ℕ) (turns : Turns) (h : History) → SuitsGiven d Interact h → Queued turns h → Queued (record { waiting = without d turns.waiting; holder = Some d }) (Gave d Interact ▷ h)
 queued-token d turns h s queued = record {
   waiting_is =
@@ -186,7 +176,7 @@ queued-token d turns h s queued = record {
       ∙ filter-same (λ c. not (c == d) && is_asked (of.phase_of c h)) (λ c. is_asked (of.phase_of c (Gave d Interact ▷ h))) (of.askers h)
       (λ c. ap (λ (x : Bool). not x && is_asked (of.phase_of c h)) (flips c d) ∙ out-at (d == c) (is_asked (of.phase_of c h)) (is_asked (held_phase (of.phase_of c h))) (held-asked (of.phase_of c h))
       ∙ test-at (λ p. is_asked p) (d == c) (of.phase_of c h) (held_phase (of.phase_of c h)));
-  holder_is = λ c. token-at (d == c) (of.phase_of c h) (asked-there c d h s.0) (s.1 c);
+  holder_is = λ c. token-at (d == c) (of.phase_of c h) (test-there (λ p. is_asked p) true d h s.0 c) (s.1 c);
 }
 
 -- One asks for it
@@ -238,18 +228,12 @@ own-at false p q e k = absurd (grind arith)
 abbrev asked_phases : ℕ → History → ℕ → Option Phase
 asked_phases d h c = cond (eqb d c) (asked_phase (of.phase_of c h)) (of.phase_of c h)
 
-own : (d : ℕ) → (d == d) ≡ true
-own d = grind (arith, nat_tests)
-
 waiting-asked : (d : ℕ) (waiting : List ℕ) (h : History) → is_saving (of.phase_of d h) ≡ true → waiting ≡ of.waiting h
     → waiting ++ d ∷ [] ≡ filter (λ c. is_asked (asked_phases d h c)) (without d (of.askers h) ++ d ∷ [])
 waiting-asked d waiting h e w =
     ap (λ (cs : List ℕ). cs ++ d ∷ []) (w
     ∙ filter-others (λ c. is_asked (of.phase_of c h)) (λ c. is_asked (asked_phases d h c)) d (of.askers h) (λ c f. ask-at (eqb d c) (of.phase_of c h) (flips d c ∙ f)) (saving-idle (of.phase_of d h) e))
     ∙ sym (filter-append (λ c. is_asked (asked_phases d h c)) (without d (of.askers h)) d (own-at (eqb d d) (of.phase_of d h) (asked_phase (of.phase_of d h)) (own d) (asked-saving (of.phase_of d h) e)))
-
-saving-there : (c d : ℕ) (h : History) → is_saving (of.phase_of d h) ≡ false → eqb d c ≡ true → is_saving (of.phase_of c h) ≡ false
-saving-there c d h e f = let k : d ≡ c = grind (arith, nat_tests) in subst (λ (x : ℕ). is_saving (of.phase_of x h) ≡ false) k e
 
 -- the queue and its holder, where d steps to this phase
 abbrev QueuedAt : ℕ → (ℕ → Option Phase) → Turns → History → Type 0
@@ -269,7 +253,7 @@ queued-ask : (s a : Bool) (d : ℕ) (turns : Turns) (h : History) → is_saving 
     × ((c : ℕ) → is_holder c turns.holder ≡ is_interacting (cond (eqb d c) (cond a (asked_phase (of.phase_of c h)) (of.phase_of c h)) (of.phase_of c h)))
 queued-ask true true d turns h e queued = (waiting-asked d turns.waiting h e queued.waiting_is, λ c. queued.holder_is c ∙ ask-interacting (eqb d c) (of.phase_of c h))
 queued-ask true false d turns h e queued = queued-at d (λ c. of.phase_of c h) turns h (λ c f. still-same (of.phase_of c h)) queued
-queued-ask false true d turns h e queued = queued-at d (λ c. asked_phase (of.phase_of c h)) turns h (λ c f. still-idle_asked (of.phase_of c h) (saving-there c d h e f)) queued
+queued-ask false true d turns h e queued = queued-at d (λ c. asked_phase (of.phase_of c h)) turns h (λ c f. still-idle_asked (of.phase_of c h) (test-there (λ p. is_saving p) false d h e c f)) queued
 queued-ask false false d turns h e queued = queued-at d (λ c. of.phase_of c h) turns h (λ c f. still-same (of.phase_of c h)) queued
 
 turns-cond : (b : Bool) (turns : Turns) (waiting : List ℕ) (h : History) → cond b waiting turns.waiting ≡ of.waiting h → ((c : ℕ) → is_holder c turns.holder ≡ is_interacting (of.phase_of c h))
@@ -320,9 +304,7 @@ queued-talked true d sequence frame turns h e queued = record {
 }
 queued-talked false d sequence frame turns h e queued =
     queued-still turns (Outside (Said d (InteractDone false) sequence frame)) h
-    (λ c. still-at (eqb d c) (of.phase_of c h) (talked_phase (of.phase_of c h)) (λ f. still-idle_talked (of.phase_of c h) (interacting-there c d h e f))) refl queued where
-      interacting-there : (c d : ℕ) (h : History) → is_interacting (of.phase_of d h) ≡ false → eqb d c ≡ true → is_interacting (of.phase_of c h) ≡ false
-      interacting-there c d h e f = let k : d ≡ c = grind (arith, nat_tests) in subst (λ (x : ℕ). is_interacting (of.phase_of x h) ≡ false) k e
+    (λ c. still-at (eqb d c) (of.phase_of c h) (talked_phase (of.phase_of c h)) (λ f. still-idle_talked (of.phase_of c h) (test-there (λ p. is_interacting p) false d h e c f))) refl queued
 
 -- Moves
 

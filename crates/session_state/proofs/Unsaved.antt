@@ -1,15 +1,15 @@
 -- Who is still to save has no snapshot.
-use Rattle.std.proofs.Common.{◌≡◌, refl, ℕ, Bool, true, false, cond, List, eqb, sym, ap, ◌∙◌, arith}
+use Rattle.std.proofs.Common.{◌≡◌, refl, ℕ, Bool, true, false, cond, List, eqb, arith}
 use Rattle.std.specs.Prelude.{Option, Some, None}
 use Rattle.sm_world.specs.declared.events.Dialog.{Dialog}
 use Rattle.ice_values.specs.declared.property.Property.{Property}
 use Rattle.xsmp_messages.specs.declared.message.XsmpMessage.{XsmpMessage}
 use Rattle.xsmp_messages.specs.declared.message.XsmpMessage.TheVariants.{Die, Interact, InteractDone, InteractRequest, RegisterClientReply, SaveComplete, SaveYourself, SaveYourselfDone, SaveYourselfPhase2, SaveYourselfPhase2Request, ShutdownCancelled}
 use Rattle.session_model.specs.declared.phase.Phase.{Phase}
-use Rattle.session_model.specs.declared.phase.Phase.TheVariants.{Asked, AskedTwo, Done, Idle, Interacting, InteractingTwo, Saving, SavingTwo, Unregistered, WantsTwo}
+use Rattle.session_model.specs.declared.phase.Phase.TheVariants.{Asked, AskedTwo, Done, Interacting, InteractingTwo, Saving, SavingTwo, Unregistered, WantsTwo}
 use Rattle.session_model.specs.declared.events.SessionEvent.{SessionEvent}
 use Rattle.session_model.specs.declared.events.SessionEvent.TheVariants.{Joined, Left, Operator, Ready, Said}
-use Rattle.session_model.specs.Phases.{asked_phase, cancelled_phase, completed_phase, dying_phase, held_phase, is_saving, may_interact, phase_given, phase_said, ready_phase, registered_phase, saved_phase, second_begun_phase, second_phase, talked_phase}
+use Rattle.session_model.specs.Phases.{asked_phase, completed_phase, dying_phase, held_phase, is_saving, may_interact, phase_given, phase_said, ready_phase, registered_phase, saved_phase, second_begun_phase, second_phase, talked_phase}
 use Rattle.session_model.specs.Moves.{Closed, Gave, History, Move, Opened, Outside, Unset, ◌▷◌}
 use Rattle.session_model.specs.Readings as of
 

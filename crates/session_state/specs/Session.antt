@@ -20,7 +20,7 @@ use Rattle.session_model.specs.declared.events.SessionEvent.TheVariants.{Left, S
 use Rattle.session_clients.specs.Clients.{Held, clients_in, held_after, phase_in, table_in}
 use Rattle.session_model.specs.Phases.{is_first_saving, is_interacting, is_saving, may_interact}
 use Rattle.session_model.specs.Tables.{first_table, is_recorded, strays_with}
-use Rattle.session_model.specs.Moves.{Agreed, Began, Cancelled, Cause, Closed, Finished, Gave, Move, Outside, Over, Respawn, Tried, acts_of}
+use Rattle.session_model.specs.Moves.{Agreed, Began, Cancelled, Closed, Finished, Gave, Move, Outside, Over, Respawn, Tried, acts_of}
 use Rattle.session_model.specs.Reading.{Reading, wanted_in}
 use Rattle.session_model.specs.Books.{opening_moves}
 use Rattle.session_model.specs.Replies.{reply}

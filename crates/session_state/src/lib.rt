@@ -3,5 +3,7 @@
 #![tactic(auto)]
 
 mod laws;
+mod sessions;
 
 pub use laws::{openings_stand, takings_stand};
+pub use sessions::sessions_are_held;
