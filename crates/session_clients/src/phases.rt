@@ -73,6 +73,14 @@ pub fn may_interact(wanted: Option<Wanted>, dialog: Dialog) -> bool
     wanted.is_some_and(|wanted| allows(wanted.style, dialog))
 }
 
+/// Whether the running round, where there is one, is a shutdown.
+pub fn is_shutdown(wanted: Option<Wanted>) -> bool
+    ensures { result ≡ of.is_shutdown wanted }
+{
+    wanted.is_some_and(|wanted| wanted.shutdown)
+}
+
+/// It asks for the token.
 fn asked(phase: Option<Phase>) -> Option<Phase>
     ensures { result ≡ of.asked_phase phase }
 {
@@ -83,6 +91,7 @@ fn asked(phase: Option<Phase>) -> Option<Phase>
     }
 }
 
+/// It gives the token back.
 fn talked(phase: Option<Phase>) -> Option<Phase>
     ensures { result ≡ of.talked_phase phase }
 {
@@ -93,6 +102,7 @@ fn talked(phase: Option<Phase>) -> Option<Phase>
     }
 }
 
+/// It has saved.
 fn saved(phase: Option<Phase>) -> Option<Phase>
     ensures { result ≡ of.saved_phase phase }
 {
@@ -103,6 +113,7 @@ fn saved(phase: Option<Phase>) -> Option<Phase>
     }
 }
 
+/// It wants to save in the second phase.
 fn second(phase: Option<Phase>) -> Option<Phase>
     ensures { result ≡ of.second_phase phase }
 {
@@ -126,6 +137,7 @@ pub fn said(phase: Option<Phase>, message: &XsmpMessage, wanted: Option<Wanted>)
     }
 }
 
+/// It gets an ID.
 pub(crate) fn registered(phase: Option<Phase>) -> Option<Phase>
     ensures { result ≡ of.registered_phase phase }
 {
@@ -135,6 +147,7 @@ pub(crate) fn registered(phase: Option<Phase>) -> Option<Phase>
     }
 }
 
+/// It is asked to save.
 fn begun(phase: Option<Phase>) -> Option<Phase>
     ensures { result ≡ of.begun_phase phase }
 {
@@ -144,6 +157,7 @@ fn begun(phase: Option<Phase>) -> Option<Phase>
     }
 }
 
+/// It gets the token.
 fn held(phase: Option<Phase>) -> Option<Phase>
     ensures { result ≡ of.held_phase phase }
 {
@@ -154,6 +168,7 @@ fn held(phase: Option<Phase>) -> Option<Phase>
     }
 }
 
+/// It is asked to save in the second phase.
 fn second_begun(phase: Option<Phase>) -> Option<Phase>
     ensures { result ≡ of.second_begun_phase phase }
 {
@@ -163,6 +178,7 @@ fn second_begun(phase: Option<Phase>) -> Option<Phase>
     }
 }
 
+/// Its round was agreed.
 fn completed(phase: Option<Phase>) -> Option<Phase>
     ensures { result ≡ of.completed_phase phase }
 {
@@ -172,6 +188,7 @@ fn completed(phase: Option<Phase>) -> Option<Phase>
     }
 }
 
+/// Its round was cancelled.
 fn cancelled(phase: Option<Phase>) -> Option<Phase>
     ensures { result ≡ of.cancelled_phase phase }
 {
@@ -183,6 +200,7 @@ fn cancelled(phase: Option<Phase>) -> Option<Phase>
     }
 }
 
+/// It is told to die.
 fn dying(phase: Option<Phase>) -> Option<Phase>
     ensures { result ≡ of.dying_phase phase }
 {

@@ -1,4 +1,4 @@
-ghost use Rattle.std.specs.Prelude.{◌≡◌, false, is_some, map, option_copied, IfSome, OnOk};
+ghost use Rattle.std.specs.Prelude.{◌≡◌, [], false, is_some, map, option_copied, unwrap_or, OnOk};
 ghost use Rattle.session_model.specs.declared.events.SessionEvent.TheVariants.{Ready};
 ghost use Rattle.interact_queue.specs.Queue.{is_in};
 ghost use Rattle.session_model.specs.Moves.{Gave, Outside, Unset};
@@ -43,7 +43,7 @@ pub(crate) fn id_in(rows: &[Client], conn: Conn) -> Option<&Array8>
 
 pub(crate) fn table_in(rows: &[Client], conn: Conn) -> Option<&PropertyTable>
     ensures known { is_some result ≡ is_in conn (conns_in rows.now) }
-    ensures table { IfSome result (λ table. table.now ≡ table_in conn rows.now) }
+    ensures table { unwrap_or (option_copied result) [] ≡ table_in conn rows.now }
 {
     Some(&row_in(rows, conn)?.table)
 }

@@ -1,5 +1,5 @@
 use Rattle.std.proofs.Common.{arith}
-use Rattle.std.specs.Prelude.{None, []}
+use Rattle.std.specs.Prelude.{None}
 use Rattle.std.proofs.lemmas.Grind.{common_steps}
 use Rattle.session_clients.specs.declared.client.Client.{Client}
 use Rattle.session_clients.proofs.RowLaws.{part-row}
