@@ -16,10 +16,12 @@ ghost use Rattle.session_clients.specs.Clients.{clients_in, conns_in, held_after
 
 use crate::Client;
 use crate::rows::{
-    give_each, has_id, has_row, hear_each, id_in, phase_in, ready_each, register_each, saved_in,
-    table_in, unset_each,
+    give_each, has_row, hear_each, id_in, phase_in, ready_each, register_each, saved_in, table_in,
+    unset_each,
 };
-use crate::summaries::{conns_beside, count_new_ids, discard_in, discards_in, is_any_owing};
+use crate::summaries::{
+    client_in, conns_beside, count_new_ids, discard_in, discards_in, is_any_owing,
+};
 use crate::tables::would_be_full;
 use checkpoint_records::Book;
 use ice_values::{Array8, PropertyList};
@@ -121,10 +123,7 @@ impl Clients {
     pub fn client_of(&self, id: &[u8]) -> Option<Conn>
         ensures { result ≡ client_of id.now (clients_in self.now) }
     {
-        self.registered
-            .iter()
-            .copied()
-            .find(|conn| has_id(&self.rows, *conn, id))
+        client_in(&self.rows, &self.registered, id)
     }
 
     /// Whether a registered client owes an answer to a SaveYourself.

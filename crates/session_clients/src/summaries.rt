@@ -1,19 +1,27 @@
-ghost use Rattle.std.specs.Prelude.{◌≡◌, ◌≤◌, filter, filter_map, length, not, IfOk};
+ghost use Rattle.std.specs.Prelude.{◌≡◌, ◌≤◌, filter, filter_map, find, length, not, IfOk};
 ghost use Rattle.std.specs.List.{list_any};
 ghost use Rattle.interact_queue.specs.Queue.{is_in};
 ghost use Rattle.discard_ledger.specs.Discards.{discard_of};
 ghost use Rattle.session_model.specs.Phases.{is_owing};
 ghost use Rattle.session_model.specs.Tables.{is_recorded};
+ghost use Rattle.session_model.specs.Reading.{has_that_id};
 ghost use Rattle.session_clients.specs.Clients.{conns_in, id_in, phase_in, table_in};
 
 use crate::Client;
 use crate::entries::is_recorded;
 use crate::phases::is_owing;
-use crate::rows::{id_in, phase_in, table_in};
+use crate::rows::{has_id, id_in, phase_in, table_in};
 use checkpoint_records::Book;
 use sm_world::{Command, CommandList, Conn, ConnList, NoMemory};
 use std::alloc::Global;
 use xsmp_properties::command_of;
+
+/// The first of these connections that registered under this ID.
+pub(crate) fn client_in(rows: &[Client], conns: &[Conn], id: &[u8]) -> Option<Conn>
+    ensures { result ≡ find (λ c. has_that_id id.now (id_in c rows.now)) conns.now }
+{
+    conns.iter().copied().find(|conn| has_id(rows, *conn, id))
+}
 
 /// The DiscardCommand of a connection.
 pub(crate) fn discard_in(
