@@ -10,6 +10,7 @@ ghost use Rattle.xsmp_messages.specs.declared.message.XsmpMessage.TheVariants.{D
 
 use crate::inner::Core;
 use ice_values::{Array8, ErrorBody};
+use session_model::Act;
 use sm_world::{Conn, NoMemory};
 use xsmp_messages::XsmpMessage;
 
@@ -19,7 +20,9 @@ impl Core {
         requires { is_of_rows message ≡ true }
         ensures { OnOk result (self.new ≡ moved (Gave conn message) self.old) }
     {
-        Err(NoMemory)
+        self.clients.give(conn, &message);
+        self.act(Act::Say(conn, message))?;
+        Ok(())
     }
 
     /// Sends the same message, which changes rows alone, to each of these.
@@ -71,13 +74,16 @@ impl Core {
     pub(crate) fn blame(&mut self, conn: Conn, error: ErrorBody) -> Result<(), NoMemory>
         ensures { OnOk result (self.new ≡ moved (Blamed conn error) self.old) }
     {
-        Err(NoMemory)
+        self.act(Act::Blame(conn, error))?;
+        Ok(())
     }
 
     /// Ends XSMP on a connection, which stays.
     pub(crate) fn unset(&mut self, conn: Conn) -> Result<(), NoMemory>
         ensures { OnOk result (self.new ≡ moved (Unset conn) self.old) }
     {
-        Err(NoMemory)
+        self.clients.unset(conn);
+        self.act(Act::Unset(conn))?;
+        Ok(())
     }
 }

@@ -7,21 +7,26 @@ ghost use Rattle.manager_machine.specs.Kept.{is_respawn};
 use crate::inner::Core;
 use checkpoint_records::{Book, EntryList};
 use ice_values::Array8;
-use sm_world::{Command, CommandList, NoMemory, Octets};
+use session_model::Act;
+use sm_world::{Command, CommandList, Duplicate, NoMemory, Octets};
 
 impl Core {
     /// Starts a command, for any cause but that a client departed.
     pub(crate) fn start(&mut self, command: Command) -> Result<(), NoMemory>
         ensures { OnOk result ((cause : AnyCause) → is_respawn cause ≡ false → self.new ≡ moved (HasTried cause command) self.old) }
     {
-        Err(NoMemory)
+        self.act(Act::Start(command))?;
+        Ok(())
     }
 
     /// Starts copies of these commands, for any cause but that a client departed.
     pub(crate) fn start_each(&mut self, commands: &CommandList) -> Result<(), NoMemory>
         ensures { OnOk result ((cause : AnyCause) → is_respawn cause ≡ false → self.new ≡ moved_all (tried_each cause commands.now) self.old) }
     {
-        Err(NoMemory)
+        for command in commands.as_slice() {
+            self.start(command.copy()?)?;
+        }
+        Ok(())
     }
 
     /// Starts a command because the client of this ID departed, and counts it.
@@ -58,13 +63,15 @@ impl Core {
     pub(crate) fn print(&mut self, text: Octets) -> Result<(), NoMemory>
         ensures { OnOk result (self.new ≡ moved (HasPrinted text) self.old) }
     {
-        Err(NoMemory)
+        self.act(Act::Print(text))?;
+        Ok(())
     }
 
     /// Ends the run.
     pub(crate) fn finish(&mut self) -> Result<(), NoMemory>
         ensures { OnOk result (self.new ≡ moved HasFinished self.old) }
     {
-        Err(NoMemory)
+        self.act(Act::Finish)?;
+        Ok(())
     }
 }
