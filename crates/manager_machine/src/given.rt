@@ -9,6 +9,7 @@ ghost use Rattle.manager_machine.specs.Order.{InOrder, MatchNext};
 ghost use Rattle.xsmp_messages.specs.declared.message.XsmpMessage.TheVariants.{Die as DieSaid, Interact as InteractSaid, RegisterClientReply as ReplySaid, SaveYourselfPhase2 as SecondSaid, ShutdownCancelled as CancelledSaid};
 
 use crate::inner::Core;
+use crate::messages::copy_message;
 use ice_values::{Array8, ErrorBody};
 use session_model::Act;
 use sm_world::{Conn, NoMemory};
@@ -30,7 +31,10 @@ impl Core {
         requires { is_of_rows message.now ≡ true }
         ensures { OnOk result (self.new ≡ moved_all (gave_each message.now conns.now) self.old) }
     {
-        Err(NoMemory)
+        for conn in conns {
+            self.say(*conn, copy_message(message)?)?;
+        }
+        Ok(())
     }
 
     /// Gives a connection its ID, by a RegisterClientReply.

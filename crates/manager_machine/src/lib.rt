@@ -6,4 +6,6 @@ mod given;
 mod heard;
 mod inner;
 mod kept;
+mod messages;
 mod rounds;
+mod waits;
