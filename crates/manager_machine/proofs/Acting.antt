@@ -5,7 +5,7 @@ use Rattle.sm_world.specs.declared.commands.Command.{Command}
 use Rattle.session_model.specs.declared.events.Act.TheVariants.{Blame, Finish, Print, Start}
 use Rattle.session_model.specs.Moves.{Blamed, Cause, Discard, End, Finished, Move, Printed, Resign, Respawn, Restart, Tried}
 use Rattle.session_clients.specs.declared.client.Client.{Client}
-use Rattle.session_state.specs.Session.{Session, moved}
+use Rattle.session_state.specs.Session.{Session, moved, one_more_of}
 use Rattle.manager_machine.specs.Kept.{is_respawn}
 
 pub blamed : (c : ℕ) (error : ErrorFields) (s : Session) → moved (Blamed c error) s ≡ record s { acts = s.acts ++ Blame c error ∷ [] }
@@ -23,3 +23,6 @@ started-for cause command s e = refl
 
 pub started : (cause : Cause) (command : Command) (s : Session) → is_respawn cause ≡ false → moved (Tried cause command) s ≡ record s { acts = s.acts ++ Start command ∷ [] }
 started cause command s e = started-for cause command s e ∙ (λ i. record s { clients = record { rows = map-id s.clients.rows i; registered = s.clients.registered }; acts = s.acts ++ Start command ∷ [] })
+
+pub respawned : (id : List ℕ) (command : Command) (s : Session) → moved (Tried (Respawn id) command) s ≡ record s { counts = one_more_of id s.counts; acts = s.acts ++ Start command ∷ [] }
+respawned id command s = λ i. record s { clients = record { rows = map-id s.clients.rows i; registered = s.clients.registered }; counts = one_more_of id s.counts; acts = s.acts ++ Start command ∷ [] }

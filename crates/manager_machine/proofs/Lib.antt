@@ -1,1 +1,3 @@
 pub mod Acting
+pub mod Hearing
+pub mod Counted

@@ -5,6 +5,7 @@ ghost use Rattle.session_state.specs.Session.{moved};
 ghost use Rattle.manager_machine.specs.Order.{InOrder};
 
 use crate::inner::Core;
+use crate::waits::add_ordered;
 use sm_world::{Conn, NoMemory, Order};
 use xsmp_messages::XsmpMessage;
 
@@ -13,14 +14,16 @@ impl Core {
     pub(crate) fn join(&mut self, conn: Conn) -> Result<(), NoMemory>
         ensures { OnOk result (self.new ≡ moved (Outside (HasJoined conn)) self.old) }
     {
-        Err(NoMemory)
+        self.clients.join(conn)?;
+        Ok(())
     }
 
     /// XSMP has begun on a connection.
     pub(crate) fn ready(&mut self, conn: Conn) -> Result<(), NoMemory>
         ensures { OnOk result (self.new ≡ moved (Outside (IsReady conn)) self.old) }
     {
-        Err(NoMemory)
+        self.clients.ready(conn);
+        Ok(())
     }
 
     /// A client said this.
@@ -35,6 +38,7 @@ impl Core {
     pub(crate) fn order(&mut self, order: &Order) -> Result<(), NoMemory>
         ensures { OnOk result (self.new ≡ moved (Outside (HasOrdered order.now)) self.old) }
     {
-        Err(NoMemory)
+        add_ordered(&mut self.waits, order, self.is_ending)?;
+        Ok(())
     }
 }

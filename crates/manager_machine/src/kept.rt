@@ -4,6 +4,7 @@ ghost use Rattle.session_model.specs.Moves.{Cause as AnyCause, Committed as HasC
 ghost use Rattle.session_state.specs.Session.{moved, moved_all, reading_in};
 ghost use Rattle.manager_machine.specs.Kept.{is_respawn};
 
+use crate::counts::count_more;
 use crate::inner::Core;
 use checkpoint_records::{Book, EntryList};
 use ice_values::Array8;
@@ -33,7 +34,9 @@ impl Core {
     pub(crate) fn start_again(&mut self, id: Array8, command: Command) -> Result<(), NoMemory>
         ensures { OnOk result (self.new ≡ moved (HasTried (AsRespawn id) command) self.old) }
     {
-        Err(NoMemory)
+        count_more(&mut self.counts, id)?;
+        self.act(Act::Start(command))?;
+        Ok(())
     }
 
     /// Writes a book.

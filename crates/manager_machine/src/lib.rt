@@ -1,6 +1,7 @@
 //! The manager of a session: what it hears, and what it does about that, one event after another.
 #![tactic(auto)]
 
+mod counts;
 mod departures;
 mod given;
 mod heard;
