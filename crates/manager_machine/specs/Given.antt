@@ -11,3 +11,9 @@ is_of_rows SaveYourselfPhase2 = false
 is_of_rows ShutdownCancelled = false
 is_of_rows Die = false
 is_of_rows m = true
+
+-- a message that ends a save: its receiver neither has the token nor waits for it any more
+abbrev pub ends_save : XsmpMessage → Bool
+ends_save ShutdownCancelled = true
+ends_save Die = true
+ends_save m = false

@@ -4,7 +4,7 @@ ghost use Rattle.round_agreement.specs.Agreement.{Agreement, two_ready};
 ghost use Rattle.session_model.specs.Moves.{Blamed, Gave, Unset, gave_each};
 ghost use Rattle.session_model.specs.Rules.{wanting_two};
 ghost use Rattle.session_state.specs.Session.{moved, moved_all};
-ghost use Rattle.manager_machine.specs.Given.{is_of_rows};
+ghost use Rattle.manager_machine.specs.Given.{ends_save, is_of_rows};
 ghost use Rattle.manager_machine.specs.Order.{InOrder, MatchNext};
 ghost use Rattle.xsmp_messages.specs.declared.message.XsmpMessage.TheVariants.{Die as DieSaid, Interact as InteractSaid, RegisterClientReply as ReplySaid, SaveYourselfPhase2 as SecondSaid, ShutdownCancelled as CancelledSaid};
 
@@ -37,11 +37,25 @@ impl Core {
         Ok(())
     }
 
+    /// Sends a message that ends a save, so that its receiver is out of the queue for the token.
+    fn say_out(&mut self, conn: Conn, message: XsmpMessage) -> Result<(), NoMemory>
+        requires { ends_save message ≡ true }
+        ensures { OnOk result (self.new ≡ moved (Gave conn message) self.old) }
+    {
+        self.queue.leave(conn);
+        self.clients.give(conn, &message);
+        self.act(Act::Say(conn, message))?;
+        Ok(())
+    }
+
     /// Gives a connection its ID, by a RegisterClientReply.
     pub(crate) fn register(&mut self, conn: Conn, id: Array8) -> Result<(), NoMemory>
         ensures { OnOk result (self.new ≡ moved (Gave conn (ReplySaid id)) self.old) }
     {
-        Err(NoMemory)
+        self.give_id(conn, &id)?;
+        self.note_id(conn, &id)?;
+        self.act(Act::Say(conn, XsmpMessage::RegisterClientReply { id }))?;
+        Ok(())
     }
 
     /// Gives the token to the first that waits for it, by an Interact. True where there is one and
@@ -50,7 +64,12 @@ impl Core {
         requires { InOrder self.old }
         ensures { IfOk result (λ given. MatchNext (next_holder (is_some self.old.turns.holder) self.old.turns.waiting) given self.old self.new) }
     {
-        Err(NoMemory)
+        let Some(conn) = self.queue.grant() else {
+            return Ok(false);
+        };
+        self.clients.give(conn, &XsmpMessage::Interact);
+        self.act(Act::Say(conn, XsmpMessage::Interact))?;
+        Ok(true)
     }
 
     /// Sends SaveYourselfPhase2 to each member that wants the second phase, where that can begin.
@@ -64,14 +83,20 @@ impl Core {
     pub(crate) fn cancel_each(&mut self, conns: &[Conn]) -> Result<(), NoMemory>
         ensures { OnOk result (self.new ≡ moved_all (gave_each CancelledSaid conns.now) self.old) }
     {
-        Err(NoMemory)
+        for conn in conns {
+            self.say_out(*conn, XsmpMessage::ShutdownCancelled)?;
+        }
+        Ok(())
     }
 
     /// Sends a Die to each of these, which are out of the queue for the token then.
     pub(crate) fn kill_each(&mut self, conns: &[Conn]) -> Result<(), NoMemory>
         ensures { OnOk result (self.new ≡ moved_all (gave_each DieSaid conns.now) self.old) }
     {
-        Err(NoMemory)
+        for conn in conns {
+            self.say_out(*conn, XsmpMessage::Die)?;
+        }
+        Ok(())
     }
 
     /// Sends an Error.

@@ -103,7 +103,11 @@ fn add_operator(waits: &mut Vec<Wait>, wait: Wait, is_ending: bool) -> Result<()
 }
 
 /// The operator asked for this, where a shutdown was agreed or not.
-pub(crate) fn add_ordered(waits: &mut Vec<Wait>, order: &Order, is_ending: bool) -> Result<(), NoMemory>
+pub(crate) fn add_ordered(
+    waits: &mut Vec<Wait>,
+    order: &Order,
+    is_ending: bool,
+) -> Result<(), NoMemory>
     ensures { OnOk result (waits.new.items ≡ of.waits_ordered order.now is_ending waits.old.items) }
 {
     match order {
@@ -114,7 +118,11 @@ pub(crate) fn add_ordered(waits: &mut Vec<Wait>, order: &Order, is_ending: bool)
 }
 
 /// The round of a client that has just registered waits, where it is new.
-pub(crate) fn add_newcomer(waits: &mut Vec<Wait>, conn: Conn, is_known: bool) -> Result<(), NoMemory>
+pub(crate) fn add_newcomer(
+    waits: &mut Vec<Wait>,
+    conn: Conn,
+    is_known: bool,
+) -> Result<(), NoMemory>
     ensures { OnOk result (waits.new.items ≡ cond is_known waits.old.items (waits.old.items ++ of.first_save conn ∷ [])) }
 {
     if !is_known {
@@ -161,9 +169,18 @@ fn drop_lone(waits: &mut Vec<Wait>, conn: Conn)
 }
 
 /// A client departed: the rounds for it alone are dropped, and its requests for all stay.
-pub(crate) fn leave(waits: &mut Vec<Wait>, conn: Conn)
+pub(crate) fn drop_waits_of(waits: &mut Vec<Wait>, conn: Conn)
     ensures { waits.new.items ≡ of.waits_left conn waits.old.items }
 {
     drop_lone(waits, conn);
     disown_each(waits, conn);
+}
+
+/// No round waits any more where the session ends.
+pub(crate) fn drop_at_end(waits: &mut Vec<Wait>, is_shutdown: bool)
+    ensures { waits.new.items ≡ cond is_shutdown [] waits.old.items }
+{
+    if is_shutdown {
+        waits.clear();
+    }
 }

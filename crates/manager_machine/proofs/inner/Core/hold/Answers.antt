@@ -1,0 +1,23 @@
+use Rattle.std.proofs.Common.{◌≡◌, ◌∙◌, ◌∷◌, [], ◌++◌, true, sym, ap}
+use Rattle.std.specs.Prelude.{Some, is_some}
+use Rattle.interact_queue.specs.Queue.{next_holder}
+use Rattle.round_agreement.specs.Agreement.{are_distinct}
+use Rattle.xsmp_messages.specs.declared.message.XsmpMessage.TheVariants.{Interact}
+use Rattle.session_model.specs.declared.events.Act.TheVariants.{Say}
+use Rattle.session_model.specs.Moves.{Gave}
+use Rattle.session_clients.specs.Clients.{Held, held_by}
+use Rattle.session_state.specs.Session.{Session, moved}
+use Rattle.manager_machine.specs.contracts.inner.Core.{the_view}
+use Rattle.manager_machine.proofs.Holding.{held-by, next-given, others-left}
+use Rattle.manager_machine.proofs.inner.Core.hold.Goals as goal
+
+pub returns : goal.returns
+returns c =
+    let s = the_view c.self.inside in
+    let conn = c.in-Some.conn in
+    let queue-old = c.self.inside.queue in
+    let queue = c.grant.new.self in
+    let once : are_distinct s.turns.waiting ≡ true = ap (λ (t : Session). are_distinct t.turns.waiting) c.self.view_is ∙ c.requires.waiting_once in
+    let clients = ap (λ (held : Held). record s { clients = held; turns = record { waiting = queue.waiting; holder = queue.holder }; acts = s.acts ++ Say conn Interact ∷ [] }) c.give.ensures in
+    let step = c.in_ok-act.ensures ∙ clients ∙ held-by conn s queue.waiting queue.holder (others-left conn queue.waiting s.turns.waiting once c.in-Some.ensures.waiting) c.in-Some.ensures.holder in
+    rw (← c.self.view_is) (next-given (next_holder (is_some queue-old.holder) queue-old.waiting) conn s c.act.new.self c.in-Some.ensures.next step)
