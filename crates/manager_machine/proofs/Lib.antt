@@ -6,3 +6,5 @@ pub mod RoundMoves
 pub mod Holding
 pub mod Committing
 pub mod Leaving
+pub mod Asking
+pub mod Saying

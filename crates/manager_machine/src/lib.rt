@@ -14,4 +14,5 @@ mod registration;
 mod rounds;
 mod running;
 mod strays;
+mod token;
 mod waits;
