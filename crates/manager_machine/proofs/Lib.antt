@@ -8,3 +8,4 @@ pub mod Committing
 pub mod Leaving
 pub mod Asking
 pub mod Saying
+pub mod SecondPhase

@@ -1,28 +1,40 @@
-ghost use Rattle.std.specs.Prelude.{◌≡◌, true, false, Some, OnOk, IfOk, IsTrue, is_some};
+ghost use Rattle.std.specs.Prelude.{◌≡◌, true, false, Some, OnOk, IfOk, IsTrue, filter, is_some};
 ghost use Rattle.interact_queue.specs.Queue.{next_holder};
-ghost use Rattle.round_agreement.specs.Agreement.{Agreement, two_ready};
+ghost use Rattle.round_agreement.specs.Agreement.{Agreement, conns_of, two_ready};
 ghost use Rattle.session_model.specs.Moves.{Blamed, Gave, Unset, gave_each};
 ghost use Rattle.session_model.specs.Rules.{wanting_two};
+ghost use Rattle.session_clients.specs.Clients.{is_reply, phase_in};
 ghost use Rattle.session_state.specs.Session.{moved, moved_all};
-ghost use Rattle.manager_machine.specs.Given.{ends_save, is_of_rows};
-ghost use Rattle.manager_machine.specs.Order.{InOrder, MatchNext};
+ghost use Rattle.manager_machine.specs.Given.{ends_save, is_of_rows, told, told_each};
+ghost use Rattle.manager_machine.specs.Order.{InOrder, MatchNext, wants_second};
 ghost use Rattle.xsmp_messages.specs.declared.message.XsmpMessage.TheVariants.{Die as DieSaid, Interact as InteractSaid, RegisterClientReply as ReplySaid, SaveYourselfPhase2 as SecondSaid, ShutdownCancelled as CancelledSaid};
 
 use crate::inner::Core;
 use crate::messages::copy_message;
+use crate::running::start_second;
+use crate::second::wanting_among;
 use ice_values::{Array8, ErrorBody};
 use session_model::Act;
-use sm_world::{Conn, NoMemory};
+use sm_world::{Conn, ConnList, NoMemory};
 use xsmp_messages::XsmpMessage;
 
 impl Core {
+    /// Sends a message, which its receiver's row notes.
+    fn tell(&mut self, conn: Conn, message: XsmpMessage) -> Result<(), NoMemory>
+        requires { is_reply message ≡ false }
+        ensures { OnOk result (self.new ≡ told conn message self.old) }
+    {
+        self.clients.give(conn, &message);
+        self.act(Act::Say(conn, message))?;
+        Ok(())
+    }
+
     /// Sends a message that changes its receiver's row alone, if anything.
     pub(crate) fn say(&mut self, conn: Conn, message: XsmpMessage) -> Result<(), NoMemory>
         requires { is_of_rows message ≡ true }
         ensures { OnOk result (self.new ≡ moved (Gave conn message) self.old) }
     {
-        self.clients.give(conn, &message);
-        self.act(Act::Say(conn, message))?;
+        self.tell(conn, message)?;
         Ok(())
     }
 
@@ -43,8 +55,7 @@ impl Core {
         ensures { OnOk result (self.new ≡ moved (Gave conn message) self.old) }
     {
         self.queue.leave(conn);
-        self.clients.give(conn, &message);
-        self.act(Act::Say(conn, message))?;
+        self.tell(conn, message)?;
         Ok(())
     }
 
@@ -67,16 +78,42 @@ impl Core {
         let Some(conn) = self.queue.grant() else {
             return Ok(false);
         };
-        self.clients.give(conn, &XsmpMessage::Interact);
-        self.act(Act::Say(conn, XsmpMessage::Interact))?;
+        self.tell(conn, XsmpMessage::Interact)?;
         Ok(true)
     }
 
     /// Sends SaveYourselfPhase2 to each member that wants the second phase, where that can begin.
     pub(crate) fn begin_second(&mut self) -> Result<(), NoMemory>
+        requires { InOrder self.old }
         ensures { OnOk result ((round : Agreement) → self.old.round ≡ Some round → two_ready round.members ≡ true → self.new ≡ moved_all (gave_each SecondSaid (wanting_two round.members)) self.old) }
     {
-        Err(NoMemory)
+        let wanting = self.wanting_second()?;
+        if !start_second(&mut self.round) {
+            return Ok(());
+        }
+        self.tell_second(wanting.as_slice())?;
+        Ok(())
+    }
+
+    /// Sends SaveYourselfPhase2 to each of these, which their rows note.
+    fn tell_second(&mut self, conns: &[Conn]) -> Result<(), NoMemory>
+        ensures { OnOk result (self.new ≡ told_each SecondSaid conns.now self.old) }
+    {
+        for conn in conns {
+            self.tell(*conn, XsmpMessage::SaveYourselfPhase2)?;
+        }
+        Ok(())
+    }
+
+    /// The members of the running round whose phase says that they want the second phase.
+    fn wanting_second(&self) -> Result<ConnList, NoMemory>
+        ensures { IfOk result (λ conns. (round : Agreement) → self.now.round ≡ Some round → conns ≡ filter (λ c. wants_second (phase_in c self.now.clients.rows)) (conns_of round.members)) }
+    {
+        let alloc = *self.acts.allocator();
+        match &self.round {
+            Some(round) => wanting_among(alloc, &self.clients, round.members()),
+            None => Ok(ConnList::new(alloc)),
+        }
     }
 
     /// Sends a ShutdownCancelled to each of these, which are out of the queue for the token then.

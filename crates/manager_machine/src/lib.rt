@@ -13,6 +13,7 @@ mod messages;
 mod registration;
 mod rounds;
 mod running;
+mod second;
 mod strays;
 mod token;
 mod waits;

@@ -1,9 +1,10 @@
-ghost use Rattle.std.specs.Prelude.{◌≡◌, ◌||◌, ℕ, Option, true};
-ghost use Rattle.round_agreement.specs.Agreement.{is_at, is_first_saving as saves_first, is_saving as saves, without_member};
+ghost use Rattle.std.specs.Prelude.{◌≡◌, ◌||◌, ℕ, Option, cond, true};
+ghost use Rattle.round_agreement.specs.Agreement.{is_at, is_first_saving as saves_first, is_saving as saves, with_second, without_member};
 ghost use Rattle.session_model.specs.declared.phase.Phase.{Phase as APhase};
 ghost use Rattle.session_model.specs.Phases.{is_first_saving, is_saving, is_shutdown as is_a_shutdown};
 ghost use Rattle.session_model.specs.Reading.{wanted_in};
 ghost use Rattle.session_state.specs.Session.{in_round, round_said};
+ghost use Rattle.manager_machine.specs.Given.{may_begin_second};
 ghost use Rattle.manager_machine.specs.Order.{is_member_at};
 
 use round_agreement::{Round, Wanted};
@@ -57,4 +58,20 @@ pub(crate) fn hear_round(
         XsmpMessage::SaveYourselfPhase2Request if is_first_saving(phase) => round.wants_two(conn),
         _ => {}
     }
+}
+
+/// Begins the second phase of the running round, where it can begin. False where it can't, and then
+/// nothing is done.
+pub(crate) fn start_second(round: &mut Option<Round>) -> bool
+    ensures ready { result ≡ may_begin_second round.old }
+    ensures round { round.new ≡ cond result (in_round with_second round.old) round.old }
+{
+    let Some(round) = round else {
+        return false;
+    };
+    if !round.two_ready() {
+        return false;
+    }
+    round.start_two();
+    true
 }

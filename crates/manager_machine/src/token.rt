@@ -36,9 +36,8 @@ pub(crate) fn hear_queue(
     ensures { OnOk result ((phases : ℕ → Option APhase) → phases conn ≡ phase → record { waiting = queue.new.waiting; holder = queue.new.holder } ≡ turns_said conn message.now phases (λ dialog. may_interact wanted dialog) (record { waiting = queue.old.waiting; holder = queue.old.holder })) }
 {
     match message {
-        XsmpMessage::InteractRequest { dialog } if is_saving(phase) && may_interact(wanted, *dialog) => {
-            ask(queue, conn)
-        }
+        XsmpMessage::InteractRequest { dialog }
+            if is_saving(phase) && may_interact(wanted, *dialog) => { ask(queue, conn) }
         XsmpMessage::InteractDone { cancel: false } if is_interacting(phase) => {
             queue.release();
             Ok(())

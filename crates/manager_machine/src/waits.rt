@@ -254,12 +254,26 @@ pub(crate) fn hear_waits(
     ensures { OnOk result ((phases : ℕ → Option APhase) → phases conn ≡ phase → waits.new.items ≡ of.waits_said conn message.now phases waits.old.items) }
 {
     match message {
-        XsmpMessage::SaveYourselfRequest { kind, shutdown, style, fast, global: true } if is_bound(phase) => {
-            add_request(waits, conn, global_wait(conn, *kind, *shutdown, *style, *fast))
+        XsmpMessage::SaveYourselfRequest {
+            kind,
+            shutdown,
+            style,
+            fast,
+            global: true,
+        } if is_bound(phase) => {
+            add_request(
+                waits,
+                conn,
+                global_wait(conn, *kind, *shutdown, *style, *fast),
+            )
         }
-        XsmpMessage::SaveYourselfRequest { kind, shutdown: false, style, fast, global: false } if is_bound(phase) => {
-            add_request(waits, conn, lone_wait(conn, *kind, *style, *fast))
-        }
+        XsmpMessage::SaveYourselfRequest {
+            kind,
+            shutdown: false,
+            style,
+            fast,
+            global: false,
+        } if is_bound(phase) => { add_request(waits, conn, lone_wait(conn, *kind, *style, *fast)) }
         _ => Ok(()),
     }
 }

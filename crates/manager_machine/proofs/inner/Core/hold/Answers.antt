@@ -18,6 +18,5 @@ returns c =
     let queue-old = c.self.inside.queue in
     let queue = c.grant.new.self in
     let once : are_distinct s.turns.waiting ≡ true = ap (λ (t : Session). are_distinct t.turns.waiting) c.self.view_is ∙ c.requires.waiting_once in
-    let clients = ap (λ (held : Held). record s { clients = held; turns = record { waiting = queue.waiting; holder = queue.holder }; acts = s.acts ++ Say conn Interact ∷ [] }) c.give.ensures in
-    let step = c.in_ok-act.ensures ∙ clients ∙ held-by conn s queue.waiting queue.holder (others-left conn queue.waiting s.turns.waiting once c.in-Some.ensures.waiting) c.in-Some.ensures.holder in
-    rw (← c.self.view_is) (next-given (next_holder (is_some queue-old.holder) queue-old.waiting) conn s c.act.new.self c.in-Some.ensures.next step)
+    let step = c.in_ok-tell.ensures ∙ held-by conn s queue.waiting queue.holder (others-left conn queue.waiting s.turns.waiting once c.in-Some.ensures.waiting) c.in-Some.ensures.holder in
+    rw (← c.self.view_is) (next-given (next_holder (is_some queue-old.holder) queue-old.waiting) conn s c.tell.new.self c.in-Some.ensures.next step)
