@@ -1,7 +1,6 @@
 -- The token goes to the first that waits for it.
-use Rattle.std.proofs.Common.{◌≡◌, refl, ℕ, Bool, true, false, cond, not, ◌&&◌, List, [], ◌∷◌, ◌++◌, sym, ap, subst, ◌∙◌, arith}
-use Rattle.std.specs.Prelude.{Option, Some, None, ◌==◌}
-use Rattle.std.proofs.lemmas.Bool.Decides.{nat_tests}
+use Rattle.std.proofs.Common.{◌≡◌, refl, ℕ, Bool, true, false, cond, not, ◌&&◌, List, [], ◌∷◌, ◌++◌, sym, ap, ◌∙◌, arith}
+use Rattle.std.specs.Prelude.{Option, Some, None}
 use Rattle.xsmp_messages.specs.declared.message.XsmpMessage.TheVariants.{Interact}
 use Rattle.round_agreement.specs.Agreement.{are_distinct}
 use Rattle.interact_queue.specs.Queue.{is_in, without}
@@ -10,14 +9,8 @@ use Rattle.session_model.specs.Moves.{Gave}
 use Rattle.session_clients.specs.Clients.{held_by}
 use Rattle.session_state.specs.Session.{Session, moved}
 use Rattle.session_state.proofs.Known.{own}
+use Rattle.session_state.proofs.Reached.{without-none}
 use Rattle.manager_machine.specs.Order.{MatchNext}
-
-kept-at : (c d : ℕ) (cs ds : List ℕ) → (d == c) ≡ false → cs ≡ ds → cond (not (d == c)) (d ∷ cs) cs ≡ d ∷ ds
-kept-at c d cs ds e k = ap (λ (x : Bool). cond (not x) (d ∷ cs) cs) e ∙ ap (λ (xs : List ℕ). d ∷ xs) k
-
-without-none : (c : ℕ) (cs : List ℕ) → is_in c cs ≡ false → without c cs ≡ cs
-without-none c [] e = refl
-without-none c (d ∷ cs) e = kept-at c d (without c cs) cs (grind (arith, nat_tests)) (without-none c cs (grind (arith, nat_tests)))
 
 not-first : (x y : Bool) → (not x && y) ≡ true → x ≡ false
 not-first true y e = absurd (grind arith)

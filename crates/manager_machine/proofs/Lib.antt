@@ -1,7 +1,6 @@
 pub mod Acting
 pub mod Hearing
 pub mod Counted
-pub mod Giving
 pub mod RoundMoves
 pub mod Holding
 pub mod Committing
@@ -9,3 +8,4 @@ pub mod Leaving
 pub mod Asking
 pub mod Saying
 pub mod SecondPhase
+pub mod Reaching

@@ -1,5 +1,5 @@
 -- What holds of every session that stands for a history, as far as the parts of the manager ask for it.
-use Rattle.std.specs.Prelude.{Bool, List, None, Option, Some, false, filter, true, ℕ, ◌≡◌}
+use Rattle.std.specs.Prelude.{Bool, None, Option, Some, false, filter, true, ℕ, ◌≡◌}
 use Rattle.xsmp_messages.specs.declared.message.XsmpMessage.TheVariants.{Interact}
 use Rattle.interact_queue.specs.Queue.{is_holder, is_in}
 use Rattle.round_agreement.specs.Agreement.{Agreement, are_distinct, conns_of, is_at, is_first_saving as saves_first, is_saving as saves}

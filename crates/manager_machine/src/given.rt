@@ -1,4 +1,4 @@
-ghost use Rattle.std.specs.Prelude.{◌≡◌, true, false, Some, OnOk, IfOk, IsTrue, filter, is_some};
+ghost use Rattle.std.specs.Prelude.{◌≡◌, true, false, Some, OnOk, IfOk, filter, is_some};
 ghost use Rattle.interact_queue.specs.Queue.{next_holder};
 ghost use Rattle.round_agreement.specs.Agreement.{Agreement, conns_of, two_ready};
 ghost use Rattle.session_model.specs.Moves.{Blamed, Gave, Unset, gave_each};

@@ -1,5 +1,4 @@
-use Rattle.std.proofs.Common.{◌≡◌, ◌∙◌, ◌||◌, ap, cond, [], Bool, List}
-use Rattle.session_model.specs.declared.waits.Wait.{Wait}
+use Rattle.std.proofs.Common.{◌≡◌, ◌∙◌, ◌||◌, ap, cond, []}
 use Rattle.session_model.specs.Moves.{Agreed}
 use Rattle.session_model.specs.Phases.{is_shutdown}
 use Rattle.session_model.specs.Reading.{wanted_in}

@@ -1,4 +1,4 @@
-use Rattle.std.proofs.Common.{◌≡◌, ◌∙◌, ◌∷◌, [], List, ℕ, ap, sym}
+use Rattle.std.proofs.Common.{◌≡◌, ◌∙◌, [], List, ℕ, ap, sym}
 use Rattle.std.specs.Prelude.{Option}
 use Rattle.sm_world.specs.declared.commands.Command.{Command}
 use Rattle.ice_values.specs.declared.property.Property.{Property}
@@ -9,7 +9,7 @@ use Rattle.session_model.specs.Phases.{may_interact}
 use Rattle.session_model.specs.Reading.{wanted_in}
 use Rattle.session_model.specs.Tables.{stopped, stopped_said, strays_with}
 use Rattle.session_clients.specs.Clients.{held_after, phase_in, table_in}
-use Rattle.session_state.specs.Session.{Session, Turns, moved, turns_said}
+use Rattle.session_state.specs.Session.{Session, moved, turns_said}
 use Rattle.manager_machine.specs.contracts.inner.Core.{the_view}
 use Rattle.manager_machine.proofs.Saying.{said-by, stopped-spoken}
 use Rattle.manager_machine.proofs.inner.Core.hear.Goals as goal

@@ -1,12 +1,8 @@
-use Rattle.std.proofs.Common.{◌≡◌, ◌∙◌, ◌∷◌, [], ◌++◌, true, sym, ap}
-use Rattle.std.specs.Prelude.{Some, is_some}
+use Rattle.std.proofs.Common.{◌≡◌, ◌∙◌, true, ap}
+use Rattle.std.specs.Prelude.{is_some}
 use Rattle.interact_queue.specs.Queue.{next_holder}
 use Rattle.round_agreement.specs.Agreement.{are_distinct}
-use Rattle.xsmp_messages.specs.declared.message.XsmpMessage.TheVariants.{Interact}
-use Rattle.session_model.specs.declared.events.Act.TheVariants.{Say}
-use Rattle.session_model.specs.Moves.{Gave}
-use Rattle.session_clients.specs.Clients.{Held, held_by}
-use Rattle.session_state.specs.Session.{Session, moved}
+use Rattle.session_state.specs.Session.{Session}
 use Rattle.manager_machine.specs.contracts.inner.Core.{the_view}
 use Rattle.manager_machine.proofs.Holding.{held-by, next-given, others-left}
 use Rattle.manager_machine.proofs.inner.Core.hold.Goals as goal
