@@ -1,7 +1,7 @@
 -- Messages by what they change, and rounds whose second phase can begin.
 use Rattle.std.specs.Prelude.{Bool, List, None, Option, Some, [], false, true, ℕ, ◌++◌, ◌∷◌}
 use Rattle.xsmp_messages.specs.declared.message.XsmpMessage.{XsmpMessage}
-use Rattle.xsmp_messages.specs.declared.message.XsmpMessage.TheVariants.{Die, Interact, RegisterClientReply, SaveYourselfPhase2, ShutdownCancelled}
+use Rattle.xsmp_messages.specs.declared.message.XsmpMessage.TheVariants.{Die, Interact, RegisterClientReply, SaveComplete, SaveYourself, SaveYourselfPhase2, ShutdownCancelled}
 use Rattle.round_agreement.specs.Agreement.{Agreement, two_ready}
 use Rattle.session_model.specs.declared.events.Act.TheVariants.{Say}
 use Rattle.session_model.specs.Moves.{Gave}
@@ -16,6 +16,12 @@ is_of_rows SaveYourselfPhase2 = false
 is_of_rows ShutdownCancelled = false
 is_of_rows Die = false
 is_of_rows m = true
+
+-- a message that is sent to all members of a round
+abbrev pub is_for_members : XsmpMessage → Bool
+is_for_members (SaveYourself kind shutdown style fast) = true
+is_for_members SaveComplete = true
+is_for_members m = false
 
 -- a message that ends a save: its receiver neither has the token nor waits for it any more
 abbrev pub ends_save : XsmpMessage → Bool

@@ -5,12 +5,12 @@ ghost use Rattle.session_model.specs.Moves.{Blamed, Gave, Unset, gave_each};
 ghost use Rattle.session_model.specs.Rules.{wanting_two};
 ghost use Rattle.session_clients.specs.Clients.{is_reply, phase_in};
 ghost use Rattle.session_state.specs.Session.{moved, moved_all};
-ghost use Rattle.manager_machine.specs.Given.{ends_save, is_of_rows, told, told_each};
+ghost use Rattle.manager_machine.specs.Given.{ends_save, is_for_members, is_of_rows, told, told_each};
 ghost use Rattle.manager_machine.specs.Order.{InOrder, MatchNext, wants_second};
 ghost use Rattle.xsmp_messages.specs.declared.message.XsmpMessage.TheVariants.{Die as DieSaid, Interact as InteractSaid, RegisterClientReply as ReplySaid, SaveYourselfPhase2 as SecondSaid, ShutdownCancelled as CancelledSaid};
 
 use crate::inner::Core;
-use crate::messages::copy_message;
+use crate::messages::again;
 use crate::running::start_second;
 use crate::second::wanting_among;
 use ice_values::{Array8, ErrorBody};
@@ -38,13 +38,13 @@ impl Core {
         Ok(())
     }
 
-    /// Sends the same message, which changes rows alone, to each of these.
+    /// Sends the same message, a SaveYourself or a SaveComplete, to each of these.
     pub(crate) fn say_each(&mut self, conns: &[Conn], message: &XsmpMessage) -> Result<(), NoMemory>
-        requires { is_of_rows message.now ≡ true }
+        requires { is_for_members message.now ≡ true }
         ensures { OnOk result (self.new ≡ moved_all (gave_each message.now conns.now) self.old) }
     {
         for conn in conns {
-            self.say(*conn, copy_message(message)?)?;
+            self.say(*conn, again(message))?;
         }
         Ok(())
     }
