@@ -24,7 +24,8 @@ impl Core {
         Ok(())
     }
 
-    /// Nobody is expected under this ID any more. Where it is new, its client is asked to save.
+    /// Nobody is expected under this ID any more. Where it is new it is counted, and a round for its
+    /// client waits.
     pub(crate) fn note_id(&mut self, conn: Conn, id: &Array8) -> Result<(), NoMemory>
         ensures { OnOk result (self.new ≡ record self.old {
           waits = cond (is_recorded id.now self.old.book) self.old.waits (self.old.waits ++ first_save conn ∷ []);
