@@ -1,0 +1,11 @@
+pub mod Acting
+pub mod Hearing
+pub mod Counted
+pub mod RoundMoves
+pub mod Holding
+pub mod Committing
+pub mod Leaving
+pub mod Asking
+pub mod Saying
+pub mod SecondPhase
+pub mod Reaching

@@ -1,0 +1,3 @@
+pub mod Order
+pub mod Given
+pub mod Kept

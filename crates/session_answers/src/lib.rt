@@ -1,0 +1,11 @@
+//! What the manager answers in bytes: the Errors of the session, the IDs that it gives, and the
+//! lines that it prints for its operator.
+#![tactic(auto)]
+
+mod errors;
+mod ids;
+mod status;
+
+pub use errors::{Offence, bad_state, bad_value};
+pub use ids::client_id;
+pub use status::{Doing, Status, status_line};

@@ -1,0 +1,166 @@
+ghost use Rattle.std.specs.Prelude.{◌≡◌, filter, not, None, IfOk};
+ghost use Rattle.session_model.specs.Tables.{has_id as has_that_id, is_of};
+ghost use Rattle.session_model.specs.Books.{is_eligible as may_start_again, recorded as entry_of_table, is_kept as stays, next_entry as entry_after, next_entries as entries_after, new_entry as entry_new};
+ghost use Rattle.session_books.specs.Plans.{seen};
+
+use checkpoint_records::{Book, Entry, EntryList};
+use ice_values::Array8;
+use round_agreement::Round;
+use session_clients::{Clients, is_recorded};
+use sm_world::{Conn, Duplicate, NoMemory};
+use std::alloc::Global;
+use xsmp_properties::{Hint, PropertyTable, command_of, hint_of};
+
+/// Whether a snapshot may become an entry: the client can be started again, and may be.
+fn is_eligible(alloc: Global, table: &PropertyTable) -> Result<bool, NoMemory>
+    ensures { IfOk result (λ eligible. eligible ≡ may_start_again table.now) }
+{
+    let restart = command_of(alloc, table, b"RestartCommand")?;
+    Ok(restart.is_some() && hint_of(table) != Hint::Never)
+}
+
+/// The entry of a client with this snapshot; None where it can't be started again.
+fn recorded(alloc: Global, id: &Array8, table: &PropertyTable) -> Result<Option<Entry>, NoMemory>
+    ensures { IfOk result (λ entry. entry ≡ entry_of_table id.now table.now) }
+{
+    if !is_eligible(alloc, table)? {
+        return Ok(None);
+    }
+    Ok(Some(Entry {
+        id: id.copy()?,
+        table: table.copy()?,
+    }))
+}
+
+/// Whether the ID is in the list.
+fn has_id(id: &Array8, ids: &[Array8]) -> bool
+    ensures { result ≡ has_that_id id.now ids.now }
+{
+    ids.iter().any(|other| other.as_slice() == id.as_slice())
+}
+
+/// Whether the entry of a client that isn't there stays.
+fn is_kept(expected: &[Array8], shutdown: bool, entry: &Entry) -> bool
+    ensures { (held : Held) (book : Book) → result ≡ stays (seen held book expected.now) shutdown entry.now }
+{
+    match hint_of(&entry.table) {
+        Hint::Anyway => true,
+        Hint::Immediately => true,
+        Hint::IfRunning => has_id(&entry.id, expected) && !shutdown,
+        Hint::Never => has_id(&entry.id, expected) && !shutdown,
+    }
+}
+
+/// What becomes of an entry; None where it goes.
+fn next_entry(
+    alloc: Global,
+    clients: &Clients,
+    round: &Round,
+    expected: &[Array8],
+    entry: &Entry,
+) -> Result<Option<Entry>, NoMemory>
+    ensures { IfOk result (λ next. (book : Book) → next ≡ entry_after (seen clients.now book expected.now) round.now entry.now) }
+{
+    let Some(conn) = clients.client_of(entry.id.as_slice()) else {
+        return if is_kept(expected, round.wanted().shutdown, entry) {
+            Ok(Some(entry.copy()?))
+        } else {
+            Ok(None)
+        };
+    };
+    if !round.members().contains(&conn) {
+        return Ok(Some(entry.copy()?));
+    }
+    match clients.saved(conn) {
+        Some(table) => recorded(alloc, &entry.id, table),
+        None => Ok(Some(entry.copy()?)),
+    }
+}
+
+/// The entry of a member that the book has none of yet.
+fn new_entry(
+    alloc: Global,
+    clients: &Clients,
+    book: &Book,
+    conn: Conn,
+) -> Result<Option<Entry>, NoMemory>
+    ensures { IfOk result (λ entry. (expected : List (List ℕ)) → entry ≡ entry_new (seen clients.now book.now expected) conn) }
+{
+    let Some(id) = clients.id(conn) else {
+        return Ok(None);
+    };
+    let Some(table) = clients.saved(conn) else {
+        return Ok(None);
+    };
+    if is_recorded(book, id.as_slice()) {
+        return Ok(None);
+    }
+    recorded(alloc, id, table)
+}
+
+/// The entries of the book that an agreement of this round writes: each old entry in its place, as
+/// far as it stays, and then the new ones in the order of the members. `expected` are the IDs of
+/// the opened book with which nobody has registered yet.
+pub fn next_entries(
+    alloc: Global,
+    clients: &Clients,
+    round: &Round,
+    book: &Book,
+    expected: &[Array8],
+) -> Result<EntryList, NoMemory>
+    ensures { IfOk result (λ entries. entries ≡ entries_after (seen clients.now book.now expected.now) round.now) }
+{
+    let mut entries = old_entries(alloc, clients, round, book, expected)?;
+    add_new(alloc, clients, round, book, &mut entries)?;
+    Ok(entries)
+}
+
+/// The old entries, as far as they stay, each as it is from then on.
+fn old_entries(
+    alloc: Global,
+    clients: &Clients,
+    round: &Round,
+    book: &Book,
+    expected: &[Array8],
+) -> Result<EntryList, NoMemory>
+    ensures { IfOk result (λ entries. entries ≡ filter_map (entry_after (seen clients.now book.now expected.now) round.now) book.now.entries) }
+{
+    let mut entries = EntryList::new(alloc);
+    for entry in book.entries.as_slice() {
+        if let Some(next) = next_entry(alloc, clients, round, expected, entry)? {
+            entries.push(next)?;
+        }
+    }
+    Ok(entries)
+}
+
+/// Adds the entries of the members that have none yet.
+fn add_new(
+    alloc: Global,
+    clients: &Clients,
+    round: &Round,
+    book: &Book,
+    entries: &mut EntryList,
+) -> Result<(), NoMemory>
+    ensures { OnOk result ((expected : List (List ℕ)) → entries.new ≡ entries.old ++ filter_map (entry_new (seen clients.now book.now expected)) (conns_of round.now.members)) }
+{
+    for conn in round.members() {
+        if let Some(entry) = new_entry(alloc, clients, book, *conn)? {
+            entries.push(entry)?;
+        }
+    }
+    Ok(())
+}
+
+/// The entries of a book without the one of this ID.
+pub fn entries_without(alloc: Global, book: &Book, id: &[u8]) -> Result<EntryList, NoMemory>
+    ensures { IfOk result (λ entries. entries ≡ filter (λ entry. not (is_of id.now entry)) book.now.entries) }
+{
+    let mut entries = EntryList::new(alloc);
+    for entry in book.entries.as_slice() {
+        if entry.id.as_slice() != id {
+            entries.push(entry.copy()?)?;
+        }
+    }
+    Ok(entries)
+}

@@ -1,0 +1,23 @@
+-- What is said of a connection by its first row.
+use Rattle.std.proofs.Common.{◌≡◌, ℕ, ◌==◌, Bool, true, false, cond, ◌||◌, List, [], ◌∷◌, refl, is_some}
+use Rattle.std.specs.Prelude.{Option}
+use Rattle.interact_queue.specs.Queue.{is_in}
+use Rattle.session_clients.specs.declared.client.Client.{Client}
+use Rattle.session_clients.specs.Clients.{conns_in, part_in}
+use Rattle.session_clients.specs.Rows.{part_of, row_in}
+
+pub part-row : {A : Type 0} (none : A) (part : Client → A) (c : ℕ) (rows : List Client) → part_in none part c rows ≡ part_of none part (row_in c rows)
+part-row none part c [] = refl
+part-row none part c (k ∷ ks) = by (k.conn == c) (part-row none part c ks)
+  where
+    by : (b : Bool) → part_in none part c ks ≡ part_of none part (row_in c ks) → cond b (part k) (part_in none part c ks) ≡ part_of none part (cond b (Option.Some k) (row_in c ks))
+    by true rest = refl
+    by false rest = rest
+
+pub known-row : (c : ℕ) (rows : List Client) → is_in c (conns_in rows) ≡ is_some (row_in c rows)
+known-row c [] = refl
+known-row c (k ∷ ks) = by (k.conn == c) (known-row c ks)
+  where
+    by : (b : Bool) → is_in c (conns_in ks) ≡ is_some (row_in c ks) → (b || is_in c (conns_in ks)) ≡ is_some (cond b (Option.Some k) (row_in c ks))
+    by true rest = refl
+    by false rest = rest

@@ -1,0 +1,31 @@
+-- What one row becomes, and how a row is found.
+use Rattle.std.specs.Prelude.{Bool, List, None, Option, Some, [], false, find, ℕ, ◌==◌}
+use Rattle.sm_world.specs.declared.events.Dialog.{Dialog}
+use Rattle.ice_values.specs.declared.property.Property.{Property}
+use Rattle.xsmp_messages.specs.declared.message.XsmpMessage.{XsmpMessage}
+use Rattle.xsmp_messages.specs.declared.message.XsmpMessage.TheVariants.{RegisterClientReply}
+use Rattle.session_model.specs.declared.events.SessionEvent.TheVariants.{Said}
+use Rattle.session_clients.specs.declared.client.Client.{Client}
+use Rattle.session_model.specs.Moves.{Gave, Move, Outside}
+use Rattle.session_clients.specs.Clients.{client_after}
+
+-- a row after a move for which no first table and no dialog counts
+abbrev pub client_by : Move → Client → Client
+client_by m k = client_after m (λ id. []) (λ dialog. false) k
+
+-- a row after a connection said this, where these dialogs are allowed
+abbrev pub client_heard : ℕ → XsmpMessage → (Dialog → Bool) → Client → Client
+client_heard c m allowed k = client_after (Outside (Said c m 0 [])) (λ id. []) allowed k
+
+-- a row after a connection got an ID, and this as its first table
+abbrev pub client_registered : ℕ → List ℕ → List Property → Client → Client
+client_registered c id table k = client_after (Gave c (RegisterClientReply id)) (λ other. table) (λ dialog. false) k
+
+-- the first row of a connection
+abbrev pub row_in : ℕ → List Client → Option Client
+row_in c rows = find (λ k. k.conn == c) rows
+
+-- a part of a row, and this where there is none
+abbrev pub part_of : {A : Type 0} → A → (Client → A) → Option Client → A
+part_of none part None = none
+part_of none part (Some k) = part k

@@ -1,0 +1,158 @@
+ghost use Rattle.std.specs.Prelude.{◌≡◌, false, IfOk, OnOk};
+ghost use Rattle.session_model.specs.declared.events.SessionEvent.TheVariants.{Ready};
+ghost use Rattle.session_model.specs.Moves.{Gave, Outside, Unset};
+ghost use Rattle.session_model.specs.Phases.{may_interact};
+ghost use Rattle.session_model.specs.Readings as of;
+ghost use Rattle.session_model.specs.Tables.{table_said};
+ghost use Rattle.session_clients.specs.Clients.{is_reply, no_client};
+ghost use Rattle.session_clients.specs.Rows.{client_by, client_heard, client_registered};
+
+use crate::phases::{given, is_bound, is_saving, readied, registered, said};
+use crate::tables::set_if_fits;
+use ice_values::Array8;
+use round_agreement::Wanted;
+use session_model::Phase;
+use sm_world::{Conn, Duplicate, NoMemory};
+use std::alloc::Global;
+use xsmp_messages::XsmpMessage;
+use xsmp_properties::PropertyTable;
+
+/// What is held of a live connection.
+#[derive(Drop)]
+pub struct Client {
+    /// Its number.
+    pub conn: Conn,
+    /// How far it is; None where XSMP hasn't begun.
+    pub phase: Option<Phase>,
+    /// The ID under which it registered (XSMP, chapter 6).
+    pub id: Option<Array8>,
+    /// What it says of itself; nothing before it registers.
+    pub table: PropertyTable,
+    /// What it said of itself as its last save was a success (the snapshot). There is none before
+    /// that, from each SaveYourself on, and after its round was cancelled.
+    pub saved: Option<PropertyTable>,
+}
+
+impl Client {
+    /// The row of a connection that has just joined.
+    pub(crate) fn joined(alloc: Global, conn: Conn) -> Result<Client, NoMemory>
+        ensures { IfOk result (λ client. client ≡ no_client conn) }
+    {
+        Ok(Client {
+            conn,
+            phase: None,
+            id: None,
+            table: PropertyTable::new(alloc)?,
+            saved: None,
+        })
+    }
+
+    /// XSMP began on a connection.
+    pub(crate) fn ready(&mut self, conn: Conn)
+        ensures { self.new ≡ client_by (Outside (Ready conn)) self.old }
+    {
+        if conn == self.conn {
+            self.phase = readied(self.phase);
+        }
+    }
+
+    /// XSMP was ended on a connection.
+    pub(crate) fn unset(&mut self, conn: Conn)
+        ensures { self.new ≡ client_by (Unset conn) self.old }
+    {
+        if conn == self.conn {
+            self.phase = None;
+        }
+    }
+
+    /// A connection got an ID, and with it this as its first table.
+    pub(crate) fn register(
+        &mut self,
+        conn: Conn,
+        id: &Array8,
+        table: &PropertyTable,
+    ) -> Result<(), NoMemory>
+        ensures { OnOk result (self.new ≡ client_registered conn id.now table.now self.old) }
+    {
+        if conn == self.conn {
+            self.phase = registered(self.phase);
+            self.id = Some(id.copy()?);
+            self.table = table.copy()?;
+        }
+        Ok(())
+    }
+
+    /// A connection was sent a message, which doesn't give it an ID.
+    pub(crate) fn give(&mut self, conn: Conn, message: &XsmpMessage)
+        requires { is_reply message.now ≡ false }
+        ensures { self.new ≡ client_by (Gave conn message.now) self.old }
+    {
+        if conn == self.conn {
+            self.phase = given(self.phase, message);
+            self.saved = kept(self.saved.take(), message);
+        }
+    }
+
+    /// A connection said this, while the running round, if any, is begun for `wanted`.
+    pub(crate) fn hear(
+        &mut self,
+        conn: Conn,
+        message: &XsmpMessage,
+        wanted: Option<Wanted>,
+    ) -> Result<(), NoMemory>
+        ensures { OnOk result (self.new ≡ client_heard conn message.now (may_interact wanted) self.old) }
+    {
+        if conn == self.conn {
+            self.take_snapshot(message)?;
+            self.change_table(message)?;
+            self.phase = said(self.phase, message, wanted);
+        }
+        Ok(())
+    }
+
+    /// Keeps a copy of the table where the client says that its save was a success.
+    fn take_snapshot(&mut self, message: &XsmpMessage) -> Result<(), NoMemory>
+        ensures { OnOk result (self.new ≡ record self.old { saved = of.saved_said self.old.conn message.now (λ c. self.old.phase) (λ c. self.old.table) self.old.saved }) }
+    {
+        match message {
+            XsmpMessage::SaveYourselfDone { success: true } if is_saving(self.phase) => {
+                self.saved = Some(self.table.copy()?);
+                Ok(())
+            }
+            _ => Ok(()),
+        }
+    }
+
+    /// Sets or deletes properties where the client asks for that and may.
+    fn change_table(&mut self, message: &XsmpMessage) -> Result<(), NoMemory>
+        ensures { OnOk result (self.new ≡ record self.old { table = table_said self.old.conn message.now (λ c. self.old.phase) self.old.table }) }
+    {
+        match message {
+            XsmpMessage::SetProperties { properties } if is_bound(self.phase) => {
+                set_if_fits(&mut self.table, properties)
+            }
+            XsmpMessage::DeleteProperties { names } if is_bound(self.phase) => {
+                self.table.delete(names);
+                Ok(())
+            }
+            _ => Ok(()),
+        }
+    }
+}
+
+/// The snapshot that is left after a client was sent this.
+fn kept(saved: Option<PropertyTable>, message: &XsmpMessage) -> Option<PropertyTable>
+    ensures { result ≡ of.saved_given message.now saved }
+{
+    match message {
+        XsmpMessage::SaveYourself { .. } | XsmpMessage::ShutdownCancelled => None,
+        _ => saved,
+    }
+}
+
+/// Whether a message gives a connection its ID.
+pub fn is_reply(message: &XsmpMessage) -> bool
+    ensures { result ≡ is_reply message.now }
+{
+    matches!(message, XsmpMessage::RegisterClientReply { .. })
+}

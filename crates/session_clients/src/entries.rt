@@ -1,0 +1,35 @@
+ghost use Rattle.std.specs.Prelude.{◌≡◌, IfOk, option_copied};
+ghost use Rattle.session_model.specs.Tables as of;
+
+use checkpoint_records::{Book, Entry};
+use sm_world::{Duplicate, NoMemory};
+use std::alloc::Global;
+use xsmp_properties::PropertyTable;
+
+/// The entry that a book has under an ID.
+pub fn entry_of<'a>(book: &'a Book, id: &[u8]) -> Option<&'a Entry>
+    ensures { option_copied result ≡ of.entry_of id.now book.now }
+{
+    book.entries
+        .as_slice()
+        .iter()
+        .find(|entry| id == entry.id.as_slice())
+}
+
+/// Whether a book has an entry under an ID.
+pub fn is_recorded(book: &Book, id: &[u8]) -> bool
+    ensures { result ≡ of.is_recorded id.now book.now }
+{
+    entry_of(book, id).is_some()
+}
+
+/// The table with which a client of this ID begins: a copy of what the book has under the ID, and
+/// no properties where it has no such entry.
+pub fn first_table(alloc: Global, book: &Book, id: &[u8]) -> Result<PropertyTable, NoMemory>
+    ensures { IfOk result (λ table. table ≡ of.first_table book.now id.now) }
+{
+    match entry_of(book, id) {
+        Some(entry) => entry.table.copy(),
+        None => PropertyTable::new(alloc),
+    }
+}

@@ -1,0 +1,20 @@
+//! What the manager holds of its clients: a row for each live connection, and who is registered.
+#![tactic(auto)]
+
+mod client;
+mod clients;
+mod entries;
+mod phases;
+mod rows;
+mod summaries;
+mod tables;
+#[cfg(test)]
+mod tests;
+
+pub use client::{Client, is_reply};
+pub use clients::Clients;
+pub use entries::{entry_of, first_table, is_recorded};
+pub use phases::{
+    given, is_bound, is_dying, is_first_saving, is_interacting, is_owing, is_saving, is_shutdown,
+    is_unregistered, may_interact, readied, said,
+};

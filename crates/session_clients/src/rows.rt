@@ -1,0 +1,120 @@
+ghost use Rattle.std.specs.Prelude.{◌≡◌, [], false, is_some, map, option_copied, unwrap_or, OnOk};
+ghost use Rattle.session_model.specs.declared.events.SessionEvent.TheVariants.{Ready};
+ghost use Rattle.interact_queue.specs.Queue.{is_in};
+ghost use Rattle.session_model.specs.Moves.{Gave, Outside, Unset};
+ghost use Rattle.session_model.specs.Phases.{may_interact};
+ghost use Rattle.session_model.specs.Reading.{has_that_id};
+ghost use Rattle.session_clients.specs.Clients.{conns_in, id_in, is_reply, phase_in, saved_in, table_in};
+ghost use Rattle.session_clients.specs.Rows.{client_by, client_heard, client_registered, row_in};
+
+use crate::Client;
+use ice_values::Array8;
+use round_agreement::Wanted;
+use session_model::Phase;
+use sm_world::{Conn, NoMemory};
+use xsmp_messages::XsmpMessage;
+use xsmp_properties::PropertyTable;
+
+/// The first row of a connection.
+fn row_in(rows: &[Client], conn: Conn) -> Option<&Client>
+    ensures { option_copied result ≡ row_in conn rows.now }
+{
+    rows.iter().find(|row| row.conn == conn)
+}
+
+/// Whether a connection has a row.
+pub(crate) fn has_row(rows: &[Client], conn: Conn) -> bool
+    ensures { result ≡ is_in conn (conns_in rows.now) }
+{
+    row_in(rows, conn).is_some()
+}
+
+pub(crate) fn phase_in(rows: &[Client], conn: Conn) -> Option<Phase>
+    ensures { result ≡ phase_in conn rows.now }
+{
+    row_in(rows, conn)?.phase
+}
+
+pub(crate) fn id_in(rows: &[Client], conn: Conn) -> Option<&Array8>
+    ensures { option_copied result ≡ id_in conn rows.now }
+{
+    row_in(rows, conn)?.id.as_ref()
+}
+
+pub(crate) fn table_in(rows: &[Client], conn: Conn) -> Option<&PropertyTable>
+    ensures known { is_some result ≡ is_in conn (conns_in rows.now) }
+    ensures table { unwrap_or (option_copied result) [] ≡ table_in conn rows.now }
+{
+    Some(&row_in(rows, conn)?.table)
+}
+
+pub(crate) fn saved_in(rows: &[Client], conn: Conn) -> Option<&PropertyTable>
+    ensures { option_copied result ≡ saved_in conn rows.now }
+{
+    row_in(rows, conn)?.saved.as_ref()
+}
+
+/// Whether a connection registered under this ID.
+pub(crate) fn has_id(rows: &[Client], conn: Conn, id: &[u8]) -> bool
+    ensures { result ≡ has_that_id id.now (id_in conn rows.now) }
+{
+    id_in(rows, conn).is_some_and(|other| id == other.as_slice())
+}
+
+/// XSMP began on a connection.
+pub(crate) fn ready_each(rows: &mut [Client], conn: Conn)
+    ensures { rows.new ≡ map (client_by (Outside (Ready conn))) rows.old }
+{
+    for row in rows {
+        row.ready(conn);
+    }
+}
+
+/// XSMP was ended on a connection.
+pub(crate) fn unset_each(rows: &mut [Client], conn: Conn)
+    ensures { rows.new ≡ map (client_by (Unset conn)) rows.old }
+{
+    for row in rows {
+        row.unset(conn);
+    }
+}
+
+/// A connection got an ID, and with it a copy of this as its first table.
+pub(crate) fn register_each(
+    rows: &mut [Client],
+    conn: Conn,
+    id: &Array8,
+    table: &PropertyTable,
+) -> Result<(), NoMemory>
+    ensures { OnOk result (rows.new ≡ map (client_registered conn id.now table.now) rows.old) }
+{
+    for row in rows {
+        row.register(conn, id, table)?;
+    }
+    Ok(())
+}
+
+/// A connection was sent a message, which doesn't give it an ID.
+pub(crate) fn give_each(rows: &mut [Client], conn: Conn, message: &XsmpMessage)
+    requires { is_reply message.now ≡ false }
+    ensures { rows.new ≡ map (client_by (Gave conn message.now)) rows.old }
+{
+    for row in rows {
+        row.give(conn, message);
+    }
+}
+
+/// A connection said this.
+pub(crate) fn hear_each(
+    rows: &mut [Client],
+    conn: Conn,
+    message: &XsmpMessage,
+    wanted: Option<Wanted>,
+) -> Result<(), NoMemory>
+    ensures { OnOk result (rows.new ≡ map (client_heard conn message.now (may_interact wanted)) rows.old) }
+{
+    for row in rows {
+        row.hear(conn, message, wanted)?;
+    }
+    Ok(())
+}

@@ -1,0 +1,15 @@
+pub mod Known
+pub mod Suits
+pub mod Unsaved
+pub mod Rows
+pub mod Members
+pub mod Turns
+pub mod Counts
+pub mod Steps
+pub mod Ruling
+pub mod Replying
+pub mod Made
+pub mod Taking
+pub mod Computed
+pub mod Reached
+pub mod Seconds
