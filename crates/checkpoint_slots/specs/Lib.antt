@@ -1,0 +1,5 @@
+pub mod Layout
+pub mod Recovery
+pub mod Turns
+pub mod Causes
+pub mod Faults
