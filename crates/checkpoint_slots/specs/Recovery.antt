@@ -38,7 +38,7 @@ may_be_length n = (n % 8 == 0) && nat_le n 8388584
 
 -- A book of n bytes that lies at a place, with a gate behind it. An open gate there is a damage.
 abbrev pub with_gate : ℕ → ℕ → Bool → Result Book ℕ → Result Book ℕ
-with_gate at n open (Err damage) = Err (at + damage)
+with_gate at n opened (Err damage) = Err (at + damage)
 with_gate at n true (Ok book) = Err (at + n)
 with_gate at n false (Ok book) = Ok book
 

@@ -4,7 +4,6 @@
 
 mod fault;
 mod layout;
-mod recovery;
 mod turn;
 
 pub use fault::StoreFault;
