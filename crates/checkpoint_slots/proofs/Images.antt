@@ -17,7 +17,7 @@ pub record Agree (at n : ℕ) (one two : List ℕ) : Type 0 where
   pub bytes : (i : ℕ) → i < length two → covers at n i ≡ false → slice_index one i ≡ slice_index two i
 
 -- a byte that may be read of a cell, or any where all may be
-some_byte : Option ℕ → ℕ
+abbrev some_byte : Option ℕ → ℕ
 some_byte None = 0
 some_byte (Some byte) = byte
 
@@ -49,18 +49,18 @@ module _ (P : List ℕ → Type 0) (first : List ℕ) (effects : List Effect) (e
 
       -- A file that a crash may leave before, which differs in the range alone: it is as the file outside, and
       -- inside it has what may be read.
-      byte_before : Bool → ℕ → ℕ
+      abbrev byte_before : Bool → ℕ → ℕ
       byte_before true i = some_byte (cell_of first effects i).reads
       byte_before false i = slice_index file i
 
-      byte_at : ℕ → ℕ
+      abbrev byte_at : ℕ → ℕ
       byte_at i = byte_before (covers at (length bytes) i) i
 
-      pub file_before : List ℕ
+      abbrev pub file_before : List ℕ
       file_before = map byte_at (range_with_len 0 (length first))
 
       byte-is : (i : ℕ) → i < length first → slice_index file_before i ≡ byte_at i
-      byte-is i within = get_or-map-range_with_len byte_at 0 (length first) i i 0 within refl
+      byte-is i within = get_or-map-range_with_len byte_at 0 (length first) i i 0 within (omega arith)
 
       before-left : (i : ℕ) → i < length first → IsTrue ((cell_of first effects i).left (byte_at i))
       before-left i within = elim (place at (length bytes) i) [

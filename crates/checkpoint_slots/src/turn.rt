@@ -77,6 +77,20 @@ fn target(current: Option<Current>) -> Slot
     }
 }
 
+/// What is current once the next book is opened.
+fn following(current: Option<Current>) -> Current
+    ensures { next_generation current < 2 ^ 64 → result ≡ record { slot = next_slot current; generation = next_generation current } }
+{
+    let generation = match current {
+        Some(current) => current.generation.saturating_add(1),
+        None => 1,
+    };
+    Current {
+        slot: target(current),
+        generation,
+    }
+}
+
 /// Writes these bytes and waits until they are on the disk.
 fn put<D: Disk>(disk: &mut D, at: u64, bytes: &[u8]) -> Result<(), Failed>
     requires { at + length bytes.now ≤ (D.outside disk.old).size }
@@ -84,9 +98,10 @@ fn put<D: Disk>(disk: &mut D, at: u64, bytes: &[u8]) -> Result<(), Failed>
     ensures size { (D.outside disk.new).size ≡ (D.outside disk.old).size }
     ensures uses { UsesDisk (D.outside disk.old) (D.outside disk.new) (is_err result) }
 {
-    disk.write_at(at, bytes)?;
-    disk.sync()?;
-    Ok(())
+    match disk.write_at(at, bytes) {
+        Err(failed) => Err(failed),
+        Ok(()) => disk.sync(),
+    }
 }
 
 /// The head of a slot: the generation, how many bytes its book has, and four zeros.
@@ -146,8 +161,10 @@ impl Steady {
         ensures cause { IfErr result (λ fault. fault ≡ FaultOfDisk) }
     {
         let Steady { current } = self;
-        put(disk, target(current).gate(), &[0])?;
-        Ok(Closed { current })
+        match put(disk, target(current).gate(), &[0]) {
+            Ok(()) => Ok(Closed { current }),
+            Err(Failed) => Err(StoreFault::DiskFault),
+        }
     }
 }
 
@@ -164,8 +181,10 @@ impl Closed {
         ensures cause { IfErr result (λ fault. fault ≡ FaultOfDisk) }
     {
         let Closed { current } = self;
-        put(disk, target(current).start(), body.as_slice())?;
-        Ok(Filled { current })
+        match put(disk, target(current).start(), body.as_slice()) {
+            Ok(()) => Ok(Filled { current }),
+            Err(Failed) => Err(StoreFault::DiskFault),
+        }
     }
 }
 
@@ -180,14 +199,11 @@ impl Filled {
         ensures cause { IfErr result (λ fault. fault ≡ FaultOfDisk) }
     {
         let Filled { current } = self;
-        let slot = target(current);
-        put(disk, slot.gate(), &[OPEN])?;
-        let generation = match current {
-            Some(current) => current.generation.saturating_add(1),
-            None => 1,
-        };
-        Ok(Steady {
-            current: Some(Current { slot, generation }),
-        })
+        match put(disk, target(current).gate(), &[OPEN]) {
+            Ok(()) => Ok(Steady {
+                current: Some(following(current)),
+            }),
+            Err(Failed) => Err(StoreFault::DiskFault),
+        }
     }
 }

@@ -1,25 +1,8 @@
-use Rattle.std.proofs.Common.{rules, ◌≡◌, ◌+◌, ◌++◌, replicate, ◌≤◌, ◌<◌, ◌^◌, ◌∷◌, [], length, is_err, IfOk, IfErr, OnOk, Err, ℕ, ◌-◌, ◌*◌, ◌/◌, ◌%◌, Bool, true, false, nat_eq, nat_lt, List, slice_index_or, slice_set, bit_and, bit_or, Fits, w8, w32, w64, Bor, MutBor}
-use Rattle.byteorder.specs.Endian.{little_bytes}
-use Rattle.sm_world.specs.Disk.{UsesDisk}
-use Rattle.sm_world.specs.Outside.{Added}
-use Rattle.sm_world.specs.declared.effects.Effect.TheVariants.{Wrote, Synced}
-use Rattle.checkpoint_records.specs.Rules.{KeepsRules}
-use Rattle.checkpoint_slots.specs.Recovery.{slot_bytes}
-use Rattle.checkpoint_slots.specs.Turns.{Closes, Fills, IsPut, Lifts, next_generation}
-use Rattle.checkpoint_slots.specs.Turns.{target as next_slot}
-use Rattle.checkpoint_slots.specs.Causes.{IsSpellFault}
-use Rattle.checkpoint_slots.specs.declared.fault.StoreFault.TheVariants.{DiskFault as FaultOfDisk}
-use Rattle.checkpoint_slots.specs.declared.fault.StoreFault.TheVariants.{Worn as IsWorn}
+use Rattle.checkpoint_slots.proofs.Adding.{put-failed, put-synced}
 use Rattle.checkpoint_slots.proofs.turn.put.Goals as goal
 
--- src/turn.rt:87:5
-pub returns-in_err-write_at-clause-effects : goal.returns-in_err-write_at-clause-effects
-returns-in_err-write_at-clause-effects g c = ?
+pub returns-in-Err-clause-effects : goal.returns-in-Err-clause-effects
+returns-in-Err-clause-effects g c = put-failed (Unit {0}) c.args.at c.args.bytes.now c.in-Err.failed c.in-Err.ensures.err
 
--- src/turn.rt:88:5
-pub returns-in_err-sync-clause-effects : goal.returns-in_err-sync-clause-effects
-returns-in_err-sync-clause-effects g c = ?
-
--- src/turn.rt:81:1
-pub returns-clause-effects : goal.returns-clause-effects
-returns-clause-effects g c = ?
+pub returns-in-Ok-clause-effects : goal.returns-in-Ok-clause-effects
+returns-in-Ok-clause-effects g c = put-synced c.args.at c.args.bytes.now c.sync.result c.in-Ok.ensures.ok c.sync.ensures.ok c.sync.ensures.err

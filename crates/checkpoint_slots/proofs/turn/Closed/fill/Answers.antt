@@ -1,21 +1,16 @@
-use Rattle.std.proofs.Common.{rules, ◌≡◌, ◌+◌, ◌++◌, replicate, ◌≤◌, ◌<◌, ◌^◌, ◌∷◌, [], length, is_err, IfOk, IfErr, OnOk, Err, ℕ, ◌-◌, ◌*◌, ◌/◌, ◌%◌, Bool, true, false, nat_eq, nat_lt, List, slice_index_or, slice_set, bit_and, bit_or, Fits, w8, w32, w64, Bor, MutBor}
-use Rattle.byteorder.specs.Endian.{little_bytes}
-use Rattle.sm_world.specs.Disk.{UsesDisk}
-use Rattle.sm_world.specs.Outside.{Added}
-use Rattle.sm_world.specs.declared.effects.Effect.TheVariants.{Wrote, Synced}
-use Rattle.checkpoint_records.specs.Rules.{KeepsRules}
-use Rattle.checkpoint_slots.specs.Recovery.{slot_bytes}
-use Rattle.checkpoint_slots.specs.Turns.{Closes, Fills, IsPut, Lifts, next_generation}
-use Rattle.checkpoint_slots.specs.Turns.{target as next_slot}
-use Rattle.checkpoint_slots.specs.Causes.{IsSpellFault}
-use Rattle.checkpoint_slots.specs.declared.fault.StoreFault.TheVariants.{DiskFault as FaultOfDisk}
-use Rattle.checkpoint_slots.specs.declared.fault.StoreFault.TheVariants.{Worn as IsWorn}
+use Rattle.std.proofs.Common.{◌≡◌, ◌∷◌, [], ap, ◌∙◌}
+use Rattle.checkpoint_slots.specs.Layout.{start_of}
+use Rattle.checkpoint_slots.specs.Turns.{target}
+use Rattle.checkpoint_slots.specs.declared.fault.StoreFault.TheVariants.{DiskFault}
+use Rattle.checkpoint_slots.proofs.Turning.{added-by, done-at, fills, fills-not, put-at}
 use Rattle.checkpoint_slots.proofs.turn.Closed.fill.Goals as goal
 
--- src/turn.rt:167:9
-pub returns-in_err-put-clause-effects : goal.returns-in_err-put-clause-effects
-returns-in_err-put-clause-effects g c = ?
+pub returns-in-Ok-clause-effects : goal.returns-in-Ok-clause-effects
+returns-in-Ok-clause-effects g c =
+    let place : c.start.result ≡ start_of (target c.self.inside.current) = c.start.ensures ∙ ap start_of c.target.ensures in
+    rw (← c.self.view_is) (added-by (λ added p. fills c.self.inside.current c.args.body.now c.requires.room added (done-at c.args.body.now place (rw (← c.as_slice.ensures) p))) c.in-Ok.ensures.effects)
 
--- src/turn.rt:157:5
-pub returns-clause-effects : goal.returns-clause-effects
-returns-clause-effects g c = ?
+pub returns-in-Err-clause-effects : goal.returns-in-Err-clause-effects
+returns-in-Err-clause-effects g c =
+    let place : c.start.result ≡ start_of (target c.self.inside.current) = c.start.ensures ∙ ap start_of c.target.ensures in
+    rw (← c.self.view_is) (added-by (λ added p. fills-not c.self.inside.current c.args.body.now c.requires.room DiskFault added (put-at c.args.body.now place (rw (← c.as_slice.ensures) p.0))) c.in-Err.ensures.effects)

@@ -1,21 +1,16 @@
-use Rattle.std.proofs.Common.{rules, ◌≡◌, ◌+◌, ◌++◌, replicate, ◌≤◌, ◌<◌, ◌^◌, ◌∷◌, [], length, is_err, IfOk, IfErr, OnOk, Err, ℕ, ◌-◌, ◌*◌, ◌/◌, ◌%◌, Bool, true, false, nat_eq, nat_lt, List, slice_index_or, slice_set, bit_and, bit_or, Fits, w8, w32, w64, Bor, MutBor}
-use Rattle.byteorder.specs.Endian.{little_bytes}
-use Rattle.sm_world.specs.Disk.{UsesDisk}
-use Rattle.sm_world.specs.Outside.{Added}
-use Rattle.sm_world.specs.declared.effects.Effect.TheVariants.{Wrote, Synced}
-use Rattle.checkpoint_records.specs.Rules.{KeepsRules}
-use Rattle.checkpoint_slots.specs.Recovery.{slot_bytes}
-use Rattle.checkpoint_slots.specs.Turns.{Closes, Fills, IsPut, Lifts, next_generation}
-use Rattle.checkpoint_slots.specs.Turns.{target as next_slot}
-use Rattle.checkpoint_slots.specs.Causes.{IsSpellFault}
-use Rattle.checkpoint_slots.specs.declared.fault.StoreFault.TheVariants.{DiskFault as FaultOfDisk}
-use Rattle.checkpoint_slots.specs.declared.fault.StoreFault.TheVariants.{Worn as IsWorn}
+use Rattle.std.proofs.Common.{◌≡◌, ◌∷◌, [], ap, ◌∙◌}
+use Rattle.checkpoint_slots.specs.Layout.{gate_at}
+use Rattle.checkpoint_slots.specs.Turns.{target}
+use Rattle.checkpoint_slots.specs.declared.fault.StoreFault.TheVariants.{DiskFault}
+use Rattle.checkpoint_slots.proofs.Turning.{added-by, closes, closes-not, done-at, put-at}
 use Rattle.checkpoint_slots.proofs.turn.Steady.close.Goals as goal
 
--- src/turn.rt:149:9
-pub returns-in_err-put-clause-effects : goal.returns-in_err-put-clause-effects
-returns-in_err-put-clause-effects g c = ?
+pub returns-in-Ok-clause-effects : goal.returns-in-Ok-clause-effects
+returns-in-Ok-clause-effects g c =
+    let place : c.gate.result ≡ gate_at (target c.self.inside.current) = c.gate.ensures ∙ ap gate_at c.target.ensures in
+    rw (← c.self.view_is) (added-by (λ added p. closes c.self.inside.current added (done-at (0 ∷ []) place p)) c.in-Ok.ensures.effects)
 
--- src/turn.rt:140:5
-pub returns-clause-effects : goal.returns-clause-effects
-returns-clause-effects g c = ?
+pub returns-in-Err-clause-effects : goal.returns-in-Err-clause-effects
+returns-in-Err-clause-effects g c =
+    let place : c.gate.result ≡ gate_at (target c.self.inside.current) = c.gate.ensures ∙ ap gate_at c.target.ensures in
+    rw (← c.self.view_is) (added-by (λ added p. closes-not c.self.inside.current DiskFault added (put-at (0 ∷ []) place p.0)) c.in-Err.ensures.effects)
