@@ -1,0 +1,11 @@
+pub mod FindLaws
+pub mod ZeroLaws
+pub mod IdLaws
+pub mod SpellLaws
+pub mod DistinctLaws
+pub mod TableOfLaws
+pub mod FrontLaws
+pub mod EntryLaws
+pub mod PendingLaws
+pub mod OrderLaws
+pub mod BookLaws

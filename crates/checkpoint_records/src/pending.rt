@@ -1,0 +1,194 @@
+ghost use Rattle.std.specs.Prelude.{◌≡◌, ◌∷◌, ◌++◌, ◌≤◌, [], ℕ, length, IfOk, IfErr, IfSome, IfNone};
+ghost use Rattle.std.specs.List.{list_any};
+ghost use Rattle.std.specs.Option.{option_map};
+ghost use Rattle.ice_values.specs.Cells.{zeros};
+ghost use Rattle.ice_values.specs.Properties.{array8, IsArray8, array8_list, IsListed};
+ghost use Rattle.ice_values.specs.declared.numbers.Endian.TheVariants.{Lsb};
+ghost use Rattle.checkpoint_records.specs.Books.{same_command as is_same, discards};
+ghost use Rattle.checkpoint_records.specs.Finding.{Finds, AreInFront, IsStuck, EndsEarly, IsStop};
+ghost use Rattle.checkpoint_records.specs.Fields.{fields_cells, HaveFieldSpelling, are_of_command};
+ghost use Rattle.checkpoint_records.specs.Parts.{ArePending};
+ghost use Rattle.checkpoint_records.specs.Rules.{IsCommand, command_cells};
+
+use crate::stops::Stop;
+use crate::texts::{are_words, in_pairs, is_environment, is_text};
+use crate::zeroed::take_zeroed;
+use crate::{Entry, same_command};
+use ice_values::{Array8, Array8List};
+use sm_world::{Command, CommandList, NoMemory};
+use std::alloc::Global;
+use xsmp_properties::command_of;
+
+const BYTE_LIMIT: usize = 16_384;
+
+fn take_text(alloc: Global, bytes: &[u8]) -> Result<Option<(Array8, &[u8])>, NoMemory>
+    ensures { IfOk result (λ found. Finds (λ text. zeros (array8 Lsb text)) (λ text. IsArray8 text × (length (array8 Lsb text) ≤ 65536)) bytes.now (option_map (λ x. (x.0, x.1.now)) found)) }
+{
+    take_zeroed(alloc, bytes)
+}
+
+fn take_list(alloc: Global, bytes: &[u8]) -> Result<Option<(Array8List, &[u8])>, NoMemory>
+    ensures { IfOk result (λ found. Finds (λ list. zeros (array8_list Lsb list)) (λ list. IsListed IsArray8 list × (length (array8_list Lsb list) ≤ 65536)) bytes.now (option_map (λ x. (x.0, x.1.now)) found)) }
+{
+    take_zeroed(alloc, bytes)
+}
+
+/// What stands in the bytes of a command.
+#[derive(Drop)]
+struct CommandFields {
+    words: Array8List,
+    directory: Array8,
+    /// Names and values in turn.
+    environment: Array8List,
+}
+
+/// The fields at the front of the bytes, and what follows them.
+fn take_fields(
+    alloc: Global,
+    bytes: &[u8],
+) -> Result<Option<(CommandFields, &[u8])>, NoMemory>
+    ensures { IfOk result (λ found. Finds (λ fields. zeros (fields_cells fields)) HaveFieldSpelling bytes.now (option_map (λ x. (x.0, x.1.now)) found)) }
+{
+    let (words, rest) = match take_list(alloc, bytes)? {
+        Some(found) => found,
+        None => return Ok(None),
+    };
+    let (directory, rest) = match take_text(alloc, rest)? {
+        Some(found) => found,
+        None => return Ok(None),
+    };
+    let (environment, rest) = match take_list(alloc, rest)? {
+        Some(found) => found,
+        None => return Ok(None),
+    };
+    let fields = CommandFields {
+        words,
+        directory,
+        environment,
+    };
+    Ok(Some((fields, rest)))
+}
+
+/// Whether a command has such words, such a directory and such an environment.
+fn are_of_command(fields: &CommandFields) -> bool
+    ensures { result ≡ are_of_command fields.now }
+{
+    are_words(fields.words.as_slice())
+        && is_text(fields.directory.as_slice())
+        && is_environment(fields.environment.as_slice())
+}
+
+/// The command at the front of the bytes, and what follows it.
+fn take_command(alloc: Global, bytes: &[u8]) -> Result<Option<(Command, &[u8])>, NoMemory>
+    ensures { IfOk result (λ found. Finds (λ command. zeros (command_cells Lsb command)) IsCommand bytes.now (option_map (λ x. (x.0, x.1.now)) found)) }
+{
+    let (fields, rest) = match take_fields(alloc, bytes)? {
+        Some(found) => found,
+        None => return Ok(None),
+    };
+    if bytes.len() > BYTE_LIMIT + rest.len() {
+        return Ok(None);
+    }
+    if !are_of_command(&fields) {
+        return Ok(None);
+    }
+    let environment = in_pairs(alloc, fields.environment.as_slice())?;
+    let command = Command {
+        words: fields.words,
+        directory: fields.directory,
+        environment,
+    };
+    Ok(Some((command, rest)))
+}
+
+/// The DiscardCommands of entries, in order.
+fn discards_of(alloc: Global, entries: &[Entry]) -> Result<CommandList, NoMemory>
+    ensures { IfOk result (λ commands. commands ≡ discards entries.now) }
+{
+    let mut commands = CommandList::new(alloc);
+    for entry in entries {
+        if let Some(discard) = command_of(alloc, &entry.table, b"DiscardCommand")? {
+            commands.push(discard)?;
+        }
+    }
+    Ok(commands)
+}
+
+/// Whether this command is the same as one that entries name.
+fn is_named(discards: &[Command], command: &Command) -> bool
+    ensures { result ≡ list_any (is_same command.now) discards.now }
+{
+    discards
+        .iter()
+        .any(|discard| same_command(command, discard))
+}
+
+/// Whether one of the commands is the same as this one.
+fn is_among(commands: &[Command], command: &Command) -> bool
+    ensures { result ≡ list_any (λ other. is_same other command.now) commands.now }
+{
+    commands.iter().any(|other| same_command(other, command))
+}
+
+/// The command that stands behind others, and what follows it.
+fn take_next<'a>(
+    alloc: Global,
+    discards: &[Command],
+    before: &[Command],
+    bytes: &'a [u8],
+) -> Result<(Command, &'a [u8]), Stop>
+    requires { ArePending discards.now before.now }
+    ensures next { IfOk result (λ x. ArePending discards.now (before.now ++ x.0 ∷ []) × (bytes.now ≡ zeros (command_cells Lsb x.0) ++ x.1.now)) }
+    ensures stop { IfErr result (λ stop. IsStop bytes.now (λ left. (left ≡ length bytes.now) × IsStuck (command_cells Lsb) (ArePending discards.now) before.now bytes.now) stop) }
+{
+    let left = bytes.len();
+    match take_command(alloc, bytes)? {
+        Some((command, rest)) => {
+            if is_among(before, &command) {
+                return Err(Stop::Broken { left });
+            }
+            if is_named(discards, &command) {
+                return Err(Stop::Broken { left });
+            }
+            Ok((command, rest))
+        }
+        None => Err(Stop::Broken { left }),
+    }
+}
+
+fn take_beside<'a>(
+    alloc: Global,
+    discards: &[Command],
+    count: u32,
+    bytes: &'a [u8],
+) -> Result<(CommandList, &'a [u8]), Stop>
+    ensures all { IfOk result (λ x. AreInFront (command_cells Lsb) (ArePending discards.now) bytes.now x.0 x.1.now × (length x.0 ≡ count)) }
+    ensures early { IfErr result (λ stop. IsStop bytes.now (EndsEarly (command_cells Lsb) (ArePending discards.now) bytes.now count) stop) }
+{
+    let mut pending = CommandList::new(alloc);
+    let mut rest = bytes;
+    for _i in 0..count {
+        match take_next(alloc, discards, pending.as_slice(), rest) {
+            Ok((command, after)) => {
+                pending.push(command)?;
+                rest = after;
+            }
+            Err(stop) => return Err(stop),
+        }
+    }
+    Ok((pending, rest))
+}
+
+/// So many pending commands at the front, beside these entries, and what follows them.
+pub(crate) fn take_pending<'a>(
+    alloc: Global,
+    entries: &[Entry],
+    count: u32,
+    bytes: &'a [u8],
+) -> Result<(CommandList, &'a [u8]), Stop>
+    ensures all { IfOk result (λ x. AreInFront (command_cells Lsb) (ArePending (discards entries.now)) bytes.now x.0 x.1.now × (length x.0 ≡ count)) }
+    ensures early { IfErr result (λ stop. IsStop bytes.now (EndsEarly (command_cells Lsb) (ArePending (discards entries.now)) bytes.now count) stop) }
+{
+    let discards = discards_of(alloc, entries)?;
+    take_beside(alloc, discards.as_slice(), count, bytes)
+}
