@@ -2,7 +2,7 @@
 use Rattle.std.proofs.Common.{◌≡◌, ◌+◌, ◌<◌, ◌≤◌, ◌^◌, ◌%◌, ◌&&◌, ℕ, Bool, true, false, nat_le, ◌==◌, List, [], ◌∷◌, ◌++◌, length, replicate, take, drop, slice_index, refl, ap, sym, subst, ◌∙◌, arith}
 use Rattle.std.specs.Prelude.{Result, Ok}
 use Rattle.std.proofs.Math.Seq.{drop-append_seam, take-append_seam, get_or-append_seam}
-use Rattle.std.proofs.lemmas.List.{append_assoc, take-append-drop}
+use Rattle.std.proofs.lemmas.List.{append_assoc, length-append, take-append-drop}
 use Rattle.byteorder.specs.Endian.{little_bytes, little_number}
 use Rattle.byteorder.specs.Numbers.{length-bytes_low_first, little_number-reads_back}
 use Rattle.checkpoint_records.specs.Damage.{StandFor}
@@ -83,3 +83,20 @@ module _ (generation : ℕ) (book : Book) (slot : List ℕ) (begins : take (leng
   has-book at room rules epoch =
       subst (λ (n : ℕ). BookAt (may_be_length n) at n (drop 16 slot) (Ok book)) (sym (length-at room))
       (subst (λ (b : Bool). BookAt b at (length (book_bytes book)) (drop 16 slot) (Ok book)) (sym (room-may (length (book_bytes book)) room)) (book-there at rules epoch))
+
+-- the bytes of a slot, as they are put together
+pub body-is : (generation : ℕ) (book : Book) (bytes front mid all : List ℕ) → bytes ≡ book_bytes book → front ≡ little_bytes 8 generation ++ (little_bytes 4 (length bytes) ++ replicate 4 0) → mid ≡ front ++ bytes → all ≡ mid ++ replicate 8 0 → all ≡ slot_bytes generation book
+unfolding slot_bytes
+body-is generation book bytes front mid all b f m a =
+    let numbers : List ℕ = little_bytes 4 (length bytes) in
+    let parts : (little_bytes 8 generation ++ (numbers ++ replicate 4 0)) ++ bytes ++ replicate 8 0 ≡ little_bytes 8 generation ++ (numbers ++ (replicate 4 0 ++ (bytes ++ replicate 8 0))) =
+    append_assoc (little_bytes 8 generation ++ (numbers ++ replicate 4 0)) bytes (replicate 8 0) ∙ append_assoc (little_bytes 8 generation) (numbers ++ replicate 4 0) (bytes ++ replicate 8 0) ∙ ap (λ (xs : List ℕ). little_bytes 8 generation ++ xs) (append_assoc numbers (replicate 4 0) (bytes ++ replicate 8 0)) in
+    a ∙ ap (λ (xs : List ℕ). xs ++ replicate 8 0) (m ∙ ap (λ (xs : List ℕ). xs ++ bytes) f) ∙ parts ∙ ap (λ (xs : List ℕ). little_bytes 8 generation ++ (little_bytes 4 (length xs) ++ (replicate 4 0 ++ (xs ++ replicate 8 0)))) b
+
+pub body-length : (generation : ℕ) (book : Book) → length (slot_bytes generation book) ≡ 24 + length (book_bytes book)
+unfolding slot_bytes
+body-length generation book =
+    let a = length-append (little_bytes 8 generation) (little_bytes 4 (length (book_bytes book)) ++ (replicate 4 0 ++ (book_bytes book ++ replicate 8 0))) in
+    let b = length-append (little_bytes 4 (length (book_bytes book))) (replicate 4 0 ++ (book_bytes book ++ replicate 8 0)) in
+    let d = length-append (book_bytes book) (replicate 8 0) in
+    omega (arith, a, b, d, little-length 8 generation, little-length 4 (length (book_bytes book)))

@@ -1,17 +1,11 @@
-use Rattle.std.proofs.Common.{rules, ◌≡◌, ◌+◌, ◌++◌, replicate, ◌≤◌, ◌<◌, ◌^◌, ◌∷◌, [], length, is_err, IfOk, IfErr, OnOk, Err, ℕ, ◌-◌, ◌*◌, ◌/◌, ◌%◌, Bool, true, false, nat_eq, nat_lt, List, slice_index_or, slice_set, bit_and, bit_or, Fits, w8, w32, w64, Bor, MutBor}
-use Rattle.byteorder.specs.Endian.{little_bytes}
-use Rattle.sm_world.specs.Disk.{UsesDisk}
-use Rattle.sm_world.specs.Outside.{Added}
-use Rattle.sm_world.specs.declared.effects.Effect.TheVariants.{Wrote, Synced}
-use Rattle.checkpoint_records.specs.Rules.{KeepsRules}
-use Rattle.checkpoint_slots.specs.Recovery.{slot_bytes}
-use Rattle.checkpoint_slots.specs.Turns.{Closes, Fills, IsPut, Lifts, next_generation}
-use Rattle.checkpoint_slots.specs.Turns.{target as next_slot}
-use Rattle.checkpoint_slots.specs.Causes.{IsSpellFault}
-use Rattle.checkpoint_slots.specs.declared.fault.StoreFault.TheVariants.{DiskFault as FaultOfDisk}
-use Rattle.checkpoint_slots.specs.declared.fault.StoreFault.TheVariants.{Worn as IsWorn}
+use Rattle.checkpoint_records.specs.Spelling.{book_bytes}
+use Rattle.std.proofs.Common.{◌≡◌, ◌+◌, ◌≤◌, length, ap, ◌∙◌, arith}
+use Rattle.checkpoint_slots.proofs.Bodies.{body-length}
+use Rattle.checkpoint_slots.proofs.Room.{book-room}
 use Rattle.checkpoint_slots.proofs.turn.Steady.spell.Goals as goal
 
--- src/turn.rt:117:5
 pub returns-in-Ok-clause-room : goal.returns-in-Ok-clause-room
-returns-in-Ok-clause-room c = ?
+returns-in-Ok-clause-room c =
+    let room = (book-room c.args.book.now c.requires).fits in
+    let size : length c.in-Ok.body ≡ 24 + length (book_bytes c.args.book.now) = ap length c.in-Ok.ensures ∙ body-length c.in-Some-generation.generation c.args.book.now in
+    omega (arith, room, size)
