@@ -6,3 +6,4 @@ pub mod Bodies
 pub mod Room
 pub mod Lifted
 pub mod Turning
+pub mod Reading

@@ -4,6 +4,7 @@
 
 mod fault;
 mod layout;
+mod recovery;
 mod turn;
 
 pub use fault::StoreFault;

@@ -27,7 +27,7 @@ pub struct Current {
 /// A turn of the store between two commits. There is no current slot before the first one.
 #[derive(Drop)]
 pub struct Steady {
-    current: Option<Current>,
+    pub(crate) current: Option<Current>,
 }
 
 /// A turn in which the gate of the other slot is closed.
