@@ -7,3 +7,4 @@ pub mod Room
 pub mod Lifted
 pub mod Turning
 pub mod Reading
+pub mod Looking

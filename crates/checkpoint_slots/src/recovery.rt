@@ -150,8 +150,14 @@ fn read_slot<D: Disk>(alloc: Global, disk: &mut D, slot: Slot) -> Result<Book, S
         });
     }
     let at = slot.start() + 16;
-    let bytes = read_bytes(alloc, disk, at, count)?;
-    let book = whole_book(alloc, at, &bytes)?;
+    let bytes = match read_bytes(alloc, disk, at, count) {
+        Ok(bytes) => bytes,
+        Err(fault) => return Err(fault),
+    };
+    let book = match whole_book(alloc, at, &bytes) {
+        Ok(book) => book,
+        Err(fault) => return Err(fault),
+    };
     if is_open_at(disk, at + u64::from(count))? {
         return Err(StoreFault::Damaged {
             at: at + u64::from(count),
