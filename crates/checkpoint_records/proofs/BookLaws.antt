@@ -1,12 +1,12 @@
 -- Where a book's bytes end, and where they are damaged.
-use Rattle.std.proofs.Common.{◌≡◌, ℕ, ◌+◌, ◌-◌, ◌^◌, ◌<◌, ◌≤◌, inl, inr, List, [], ◌∷◌, ◌++◌, length, Option, Some, None, Result, Ok, Err, refl, sym, ap, ap₂, ◌∙◌, subst, append_assoc, arith, length-append}
-use Rattle.std.specs.Prelude.{flat_map, ◌⊎◌}
+use Rattle.std.proofs.Common.{◌≡◌, ℕ, ◌+◌, ◌-◌, ◌^◌, ◌<◌, ◌≤◌, inl, inr, List, [], ◌∷◌, ◌++◌, length, None, Result, Ok, Err, refl, sym, ap, ap₂, ◌∙◌, subst, append_assoc, arith, length-append}
+use Rattle.std.specs.Prelude.{flat_map}
 use Rattle.std.specs.List.{AllByRecursion}
 use Rattle.std.proofs.lemmas.List.{append-nil}
 use Rattle.sm_world.specs.declared.commands.Command.{Command}
-use Rattle.ice_values.specs.Cells.{Cells, zeros}
+use Rattle.ice_values.specs.Cells.{zeros}
 use Rattle.ice_values.specs.Numbers.{card32}
-use Rattle.ice_values.specs.Reading.{Exact, pair_at, card_at}
+use Rattle.ice_values.specs.Reading.{pair_at, card_at}
 use Rattle.ice_values.specs.Properties.{array8, IsArray8, array8_at, array8_list, IsListed, array8_list_at, property_list, IsProperty, property_list_at}
 use Rattle.ice_values.specs.declared.numbers.Endian.TheVariants.{Lsb}
 use Rattle.ice_values.specs.declared.property.Property.{Property}
@@ -15,10 +15,10 @@ use Rattle.ice_values.proofs.FieldLaws.{pair, card4}
 use Rattle.ice_values.proofs.PropertyLaws.{array8_exact, array8_list_exact, property_list_exact}
 use Rattle.xsmp_properties.specs.Readers.{in_pairs}
 use Rattle.checkpoint_records.specs.Books.{discards}
-use Rattle.checkpoint_records.specs.Damage.{AreFirst, BeginsBook, IsFront, IsDamaged, StandFor}
+use Rattle.checkpoint_records.specs.Damage.{BeginsBook, IsDamaged, StandFor}
 use Rattle.checkpoint_records.specs.Finding.{Finds, AreInFront, IsStuck, EndsEarly, IsStop}
 use Rattle.checkpoint_records.specs.Parts.{IsHead, AreEntries, ArePending, HasEntrySpelling, HasCommandSpelling}
-use Rattle.checkpoint_records.specs.Rules.{in_turn, command_cells, IsEntry, IsCommand, KeepsRules}
+use Rattle.checkpoint_records.specs.Rules.{in_turn, command_cells, KeepsRules}
 use Rattle.checkpoint_records.specs.Spelling.{head_cells, entry_cells, parts_cells, book_bytes, Spells}
 use Rattle.checkpoint_records.specs.declared.head.Head.{Head}
 use Rattle.checkpoint_records.specs.declared.stops.Stop.{Stop}
@@ -226,8 +226,8 @@ module _ (bytes : List ℕ) (head : Head) (after : List ℕ) (is_head : IsHead h
             elim b.first [
               | inl p ↦ absurd (omega (arith, fewer, same.0, few, p.0))
               | inr p ↦
-                let is : after ≡ entries_bytes book.entries ++ tail = h.1 ∙ ap (λ (l : List Command). entries_bytes book.entries ++ (pending_bytes l ++ tail)) p.1 in
-                omega (arith, len, entries_leave_more book.entries tail same.2 is few)
+                  let is : after ≡ entries_bytes book.entries ++ tail = h.1 ∙ ap (λ (l : List Command). entries_bytes book.entries ++ (pending_bytes l ++ tail)) p.1 in
+                  omega (arith, len, entries_leave_more book.entries tail same.2 is few)
             ]
 
     module _ (all : length items ≡ head.entries) (pending : List Command) (last : List ℕ) (front_pending : AreInFront (command_cells Lsb) (ArePending (discards items)) rest pending last) where
@@ -276,12 +276,12 @@ module _ (bytes : List ℕ) (head : Head) (after : List ℕ) (is_head : IsHead h
               let same = same_entries k m book tail b in
               elim b.first [
                 | inl p ↦
-                  let t = these_entries k m book tail b p.0 in
-                  let le = most book.pending tail t.1 (omega (arith, p.1, same.1)) t.0 in
-                  omega (arith, len, leaves_more (command_cells Lsb) HasCommandSpelling command_once book.pending pending tail last (pending_list_fits (discards items) book.pending t.1) (pending_list_fits (discards items) pending front_pending.keep) (sym t.0) le)
+                    let t = these_entries k m book tail b p.0 in
+                    let le = most book.pending tail t.1 (omega (arith, p.1, same.1)) t.0 in
+                    omega (arith, len, leaves_more (command_cells Lsb) HasCommandSpelling command_once book.pending pending tail last (pending_list_fits (discards items) book.pending t.1) (pending_list_fits (discards items) pending front_pending.keep) (sym t.0) le)
                 | inr p ↦
-                  let is : after ≡ entries_bytes book.entries ++ tail = h.1 ∙ ap (λ (l : List Command). entries_bytes book.entries ++ (pending_bytes l ++ tail)) p.1 in
-                  omega (arith, len, length-last, entries_leave_more book.entries tail same.2 is (omega (arith, p.0, same.0, all)))
+                    let is : after ≡ entries_bytes book.entries ++ tail = h.1 ∙ ap (λ (l : List Command). entries_bytes book.entries ++ (pending_bytes l ++ tail)) p.1 in
+                    omega (arith, len, length-last, entries_leave_more book.entries tail same.2 is (omega (arith, p.0, same.0, all)))
               ]
 
       -- the next pending command is damaged
@@ -295,8 +295,8 @@ module _ (bytes : List ℕ) (head : Head) (after : List ℕ) (is_head : IsHead h
       pub ends_late : length pending ≡ head.pending → 0 < length last → IsDamaged bytes (length bytes - length last)
       ends_late every left =
           ends_in_pending (omega (arith, every)) (λ others tail are few is. omega (arith, few, every)) (λ others are len is.
-              let e = same_number (command_cells Lsb) HasCommandSpelling command_once pending others last [] (pending_list_fits (discards items) pending front_pending.keep) (pending_list_fits (discards items) others are) is (omega (arith, len, every)) in
-              omega (arith, left, ap length e.1))
+          let e = same_number (command_cells Lsb) HasCommandSpelling command_once pending others last [] (pending_list_fits (discards items) pending front_pending.keep) (pending_list_fits (discards items) others are) is (omega (arith, len, every)) in
+          omega (arith, left, ap length e.1))
 
       -- nothing is left
       pub is_whole : length pending ≡ head.pending → length last ≤ 0 → Spells bytes (book_of head.epoch items pending)
@@ -304,10 +304,10 @@ module _ (bytes : List ℕ) (head : Head) (after : List ℕ) (is_head : IsHead h
         rules = keeps head.epoch items pending (omega (arith, all, is_head.entries)) (omega (arith, every, is_head.pending)) front.keep front_pending.keep;
         epoch = is_head.epoch;
         is =
-          let e : bytes ≡ zeros (head_cells head.epoch head.entries head.pending ++ parts_cells items pending) ++ last =
-          starts ∙ ap (λ (l : List ℕ). head_bytes head ++ l) (front.is ∙ ap (λ (l : List ℕ). entries_bytes items ++ l) front_pending.is) ∙ sym (whole_bytes head.epoch head.entries head.pending items pending last) in
-          e ∙ ap (λ (l : List ℕ). zeros (head_cells head.epoch head.entries head.pending ++ parts_cells items pending) ++ l) (empty last none) ∙ append-nil (zeros (head_cells head.epoch head.entries head.pending ++ parts_cells items pending))
-          ∙ ap₂ (λ (n m : ℕ). zeros (head_cells head.epoch n m ++ parts_cells items pending)) (sym all) (sym every);
+            let e : bytes ≡ zeros (head_cells head.epoch head.entries head.pending ++ parts_cells items pending) ++ last =
+            starts ∙ ap (λ (l : List ℕ). head_bytes head ++ l) (front.is ∙ ap (λ (l : List ℕ). entries_bytes items ++ l) front_pending.is) ∙ sym (whole_bytes head.epoch head.entries head.pending items pending last) in
+            e ∙ ap (λ (l : List ℕ). zeros (head_cells head.epoch head.entries head.pending ++ parts_cells items pending) ++ l) (empty last none) ∙ append-nil (zeros (head_cells head.epoch head.entries head.pending ++ parts_cells items pending))
+            ∙ ap₂ (λ (n m : ℕ). zeros (head_cells head.epoch n m ++ parts_cells items pending)) (sym all) (sym every);
       }
         where
           empty : (l : List ℕ) → length l ≤ 0 → l ≡ []

@@ -1,5 +1,5 @@
 -- Lists of which no two items are the same.
-use Rattle.std.proofs.Common.{◌≡◌, ℕ, ◌-◌, ◌≤◌, Bool, true, false, ◌||◌, List, [], ◌∷◌, ◌++◌, length, map, take, drop, get_or, refl, sym, ap, ◌∙◌, arith}
+use Rattle.std.proofs.Common.{◌≡◌, ◌-◌, ◌≤◌, Bool, true, false, ◌||◌, List, [], ◌∷◌, ◌++◌, length, map, take, drop, get_or, refl, sym, ap, arith}
 use Rattle.std.specs.List.{AllByRecursion, IsDistinct, list_any}
 use Rattle.std.proofs.lemmas.List.{take_all}
 
@@ -72,7 +72,3 @@ module _ {K : Type 0} (eq : K → K → Bool) where
 pub any_map : {A K : Type 0} (test : K → Bool) (key : A → K) (xs : List A) → list_any (λ x. test (key x)) xs ≡ list_any test (map key xs)
 any_map test key [] = refl
 any_map test key (x ∷ xs) = ap (λ (b : Bool). test (key x) || b) (any_map test key xs)
-
-pub map_more : {A K : Type 0} (key : A → K) (xs ys : List A) → map key (xs ++ ys) ≡ map key xs ++ map key ys
-map_more key [] ys = refl
-map_more {A} {K} key (x ∷ xs) ys = ap (λ (l : List K). key x ∷ l) (map_more key xs ys)

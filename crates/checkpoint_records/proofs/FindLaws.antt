@@ -1,5 +1,5 @@
 -- What calls find at the front of bytes.
-use Rattle.std.proofs.Common.{◌≡◌, ℕ, List, ◌++◌, Option, Some, None, refl, ap}
+use Rattle.std.proofs.Common.{◌≡◌, ℕ, List, ◌++◌, Some, None, refl, ap}
 use Rattle.ice_values.specs.Cells.{zeros}
 use Rattle.ice_values.specs.Numbers.{number_bytes}
 use Rattle.ice_values.specs.declared.numbers.Endian.TheVariants.{Lsb}

@@ -1,5 +1,5 @@
 -- Lists of items whose spellings begin the same bytes: the shorter is the front of the longer.
-use Rattle.std.proofs.Common.{◌≡◌, ℕ, ◌+◌, ◌<◌, ◌≤◌, inl, inr, List, [], ◌∷◌, ◌++◌, length, Option, Some, refl, sym, ap, ap₂, ◌∙◌, subst, append_assoc, arith, length-append}
+use Rattle.std.proofs.Common.{◌≡◌, ℕ, ◌<◌, ◌≤◌, inl, inr, List, [], ◌∷◌, ◌++◌, length, Option, refl, sym, ap, ap₂, ◌∙◌, subst, append_assoc, arith, length-append}
 use Rattle.std.specs.Prelude.{flat_map}
 use Rattle.std.specs.List.{AllByRecursion}
 use Rattle.std.proofs.lemmas.Bool.{cases_lt}
@@ -54,9 +54,9 @@ module _ {A : Type 0} (cells : A → Cells) (Fits : A → Type 0) (once : AreOnc
     -- no longer list stands behind one that is stuck
     pub at_most : (xs ys : List A) (r s : List ℕ) → Keep xs → Keep ys → IsStuck cells Keep xs r → zeros (flat_map cells xs) ++ r ≡ zeros (flat_map cells ys) ++ s → length ys ≤ length xs
     at_most xs ys r s keep_xs keep_ys stuck is = elim (cases_lt (length xs) (length ys)) [
-        | inr le ↦ le
-        | inl lt ↦ let k = shorter xs ys r s (fit xs keep_xs) (fit ys keep_ys) is (omega (arith, lt)) in absurd (by k.0 k.1 k.2 lt)
-      ]
+      | inr le ↦ le
+      | inl lt ↦ let k = shorter xs ys r s (fit xs keep_xs) (fit ys keep_ys) is (omega (arith, lt)) in absurd (by k.0 k.1 k.2 lt)
+    ]
       where
         by : (more : List A) → ys ≡ xs ++ more → r ≡ zeros (flat_map cells more) ++ s → length xs < length ys → ⊥
         by [] e f lt = omega (arith, lt, ap length (e ∙ append-nil xs))

@@ -1,19 +1,19 @@
 -- What keeps the rules is short enough to be spelled.
-use Rattle.std.proofs.Common.{◌≡◌, ℕ, ◌+◌, ◌^◌, ◌<◌, ◌≤◌, ◌≢◌, inl, inr, List, [], ◌∷◌, ◌++◌, length, refl, sym, ap, ◌∙◌, subst, arith, length-append, append_assoc, codes}
+use Rattle.std.proofs.Common.{◌≡◌, ℕ, ◌+◌, ◌<◌, ◌≤◌, inl, inr, List, [], ◌∷◌, ◌++◌, length, refl, ap, ◌∙◌, arith, length-append, append_assoc, codes}
 use Rattle.std.specs.Prelude.{flat_map}
 use Rattle.std.specs.List.{AllByRecursion}
 use Rattle.sm_world.specs.declared.commands.Command.{Command}
-use Rattle.ice_values.specs.Cells.{Cells, zeros, pad_len}
+use Rattle.ice_values.specs.Cells.{Cells, zeros}
 use Rattle.ice_values.proofs.WriteLaws.{adds_cells}
 use Rattle.checkpoint_records.specs.Spelling.{head_cells, entry_cells, parts_cells, book_bytes}
 use Rattle.checkpoint_records.specs.declared.records.Book.{Book}
-use Rattle.ice_values.specs.Properties.{array8, IsArray8, listed, IsListed, array8_list, property, IsProperty, property_list}
+use Rattle.ice_values.specs.Properties.{array8, IsArray8, IsListed, array8_list, property, IsProperty, property_list}
 use Rattle.ice_values.specs.declared.numbers.Endian.TheVariants.{Lsb}
 use Rattle.ice_values.specs.declared.property.Property.{Property}
 use Rattle.ice_values.proofs.LengthLaws.{length-array8, length-listed}
 use Rattle.xsmp_properties.specs.Tables.{encoded_len, IsTableFull}
 use Rattle.xsmp_properties.proofs.TableLaws.{encoded_len-cons}
-use Rattle.checkpoint_records.specs.Rules.{hex8, client_id, IsClientId, in_turn, command_cells, IsEntry, IsCommand}
+use Rattle.checkpoint_records.specs.Rules.{hex8, IsClientId, in_turn, command_cells, IsEntry, IsCommand}
 use Rattle.checkpoint_records.specs.Parts.{HasEntrySpelling, HasCommandSpelling}
 use Rattle.checkpoint_records.specs.declared.records.Entry.{Entry}
 use Rattle.checkpoint_records.proofs.FindLaws.{number}

@@ -1,10 +1,10 @@
 -- Lists of properties that are tables.
-use Rattle.std.proofs.Common.{◌≡◌, ℕ, Bool, true, false, inl, List, [], ◌∷◌, ◌++◌, map, refl, sym, ap, ◌∙◌, subst, append_assoc}
-use Rattle.std.specs.List.{IsDistinct, list_any}
+use Rattle.std.proofs.Common.{◌≡◌, ℕ, true, false, List, [], ◌∷◌, ◌++◌, map, sym, ap, ◌∙◌, subst, append_assoc}
+use Rattle.std.specs.List.{list_any}
 use Rattle.std.specs.Str.{bytes_eq}
 use Rattle.ice_values.specs.declared.property.Property.{Property}
 use Rattle.std.proofs.lemmas.List.{append-nil}
-use Rattle.xsmp_properties.specs.Tables.{set_all, set_one, AreNamesDistinct}
+use Rattle.xsmp_properties.specs.Tables.{set_all, AreNamesDistinct}
 use Rattle.xsmp_properties.proofs.TableLaws.{set_one-new}
 use Rattle.checkpoint_records.proofs.DistinctLaws.{distinct_cons, distinct_tail, any_map}
 

@@ -1,6 +1,6 @@
 -- Values that are read, spelled again and compared.
 use Rattle.std.proofs.Common.{◌≡◌, ◌≢◌, ℕ, zero, suc, ◌≤◌, List, [], ◌∷◌, ◌++◌, length, take, Option, Some, None, refl, sym, ap, ◌∙◌, subst, arith}
-use Rattle.std.proofs.lemmas.List.{append_cancel_left, length-take-le}
+use Rattle.std.proofs.lemmas.List.{append_cancel_left}
 use Rattle.ice_values.specs.Cells.{Cells, zeros, Begins}
 use Rattle.ice_values.specs.Reading.{IsBytes, Exact}
 use Rattle.ice_values.proofs.CellLaws.{Begins-zeros, Begins-length, length-zeros}
@@ -69,4 +69,4 @@ module _ {A : Type 0} (cells : A → Cells) (Fits : A → Type 0) (read : List �
   pub missing : (bytes window : List ℕ) (value : A) (left again : List ℕ) → window ≡ take limit bytes → read window ≡ Some (value, left) → again ≡ spelled value → ((rest : List ℕ) → bytes ≢ again ++ rest) → Finds spelled IsShort bytes None
   missing bytes window value left again is_window is_read is_again other =
       nothing spelled IsShort bytes (λ x rest short is.
-          other rest (is ∙ ap (λ (y : A). spelled y ++ rest) (sym (same bytes window value left x rest is_window is_read short is)) ∙ ap (λ (l : List ℕ). l ++ rest) (sym is_again)))
+      other rest (is ∙ ap (λ (y : A). spelled y ++ rest) (sym (same bytes window value left x rest is_window is_read short is)) ∙ ap (λ (l : List ℕ). l ++ rest) (sym is_again)))

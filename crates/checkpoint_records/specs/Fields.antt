@@ -1,5 +1,5 @@
 -- What stands in the bytes of a command.
-use Rattle.std.specs.Prelude.{ℕ, ◌≤◌, Bool, ◌&&◌, List, ◌++◌, length}
+use Rattle.std.specs.Prelude.{◌≤◌, Bool, ◌&&◌, ◌++◌, length}
 use Rattle.ice_values.specs.Cells.{Cells}
 use Rattle.ice_values.specs.Properties.{array8, IsArray8, array8_list, IsListed}
 use Rattle.ice_values.specs.declared.numbers.Endian.TheVariants.{Lsb}

@@ -25,21 +25,14 @@ fn take_id(alloc: Global, bytes: &[u8]) -> Result<Option<(Array8, &[u8])>, NoMem
     take_zeroed(alloc, bytes)
 }
 
-fn take_properties(
-    alloc: Global,
-    bytes: &[u8],
-) -> Result<Option<(PropertyList, &[u8])>, NoMemory>
+fn take_properties(alloc: Global, bytes: &[u8]) -> Result<Option<(PropertyList, &[u8])>, NoMemory>
     ensures { IfOk result (λ found. Finds (λ items. zeros (property_list Lsb items)) (λ items. IsListed IsProperty items × (length (property_list Lsb items) ≤ 65536)) bytes.now (option_map (λ x. (x.0, x.1.now)) found)) }
 {
     take_zeroed(alloc, bytes)
 }
 
 /// The entry at the front of the bytes, and what follows it.
-fn take_entry(
-    alloc: Global,
-    epoch: u32,
-    bytes: &[u8],
-) -> Result<Option<(Entry, &[u8])>, NoMemory>
+fn take_entry(alloc: Global, epoch: u32, bytes: &[u8]) -> Result<Option<(Entry, &[u8])>, NoMemory>
     ensures { IfOk result (λ found. Finds (λ entry. zeros (entry_cells entry)) (IsEntry epoch) bytes.now (option_map (λ x. (x.0, x.1.now)) found)) }
 {
     let (id, rest) = match take_id(alloc, bytes)? {

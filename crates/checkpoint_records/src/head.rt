@@ -17,7 +17,7 @@ const ENTRY_LIMIT: u32 = 128;
 const PENDING_LIMIT: u32 = 320;
 
 /// What stands in front of the parts of a book.
-#[derive(Clone, Copy, Debug, PartialEq, Eq)]
+#[derive(Clone, Copy)]
 pub(crate) struct Head {
     pub epoch: u32,
     /// How many entries follow.

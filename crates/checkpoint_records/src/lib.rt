@@ -1,6 +1,8 @@
 //! What is kept of a session between its logins.
 #![tactic(auto)]
 
+#[cfg(test)]
+mod book_tests;
 mod entries;
 mod head;
 mod ids;

@@ -43,10 +43,7 @@ struct CommandFields {
 }
 
 /// The fields at the front of the bytes, and what follows them.
-fn take_fields(
-    alloc: Global,
-    bytes: &[u8],
-) -> Result<Option<(CommandFields, &[u8])>, NoMemory>
+fn take_fields(alloc: Global, bytes: &[u8]) -> Result<Option<(CommandFields, &[u8])>, NoMemory>
     ensures { IfOk result (λ found. Finds (λ fields. zeros (fields_cells fields)) HaveFieldSpelling bytes.now (option_map (λ x. (x.0, x.1.now)) found)) }
 {
     let (words, rest) = match take_list(alloc, bytes)? {

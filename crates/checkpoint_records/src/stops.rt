@@ -4,7 +4,7 @@ ghost use Rattle.checkpoint_records.specs.declared.stops.Stop.TheVariants.{NoMem
 use sm_world::NoMemory;
 
 /// Why reading stops before the end of a book.
-#[derive(Clone, Copy, Debug, PartialEq, Eq)]
+#[derive(Clone, Copy)]
 pub(crate) enum Stop {
     /// The bytes spell no book from where so many are left.
     Broken { left: usize },

@@ -1,8 +1,8 @@
-use Rattle.std.proofs.Common.{◌≡◌, ◌++◌, ◌∷◌, [], List, ◌∙◌, ap, refl, subst, arith, length, length-append}
+use Rattle.std.proofs.Common.{◌++◌, ◌∷◌, [], List, refl, subst, arith, length-append}
 use Rattle.checkpoint_records.specs.Parts.{AreEntries}
 use Rattle.checkpoint_records.specs.Spelling.{entry_cells}
 use Rattle.checkpoint_records.specs.declared.records.Entry.{Entry}
-use Rattle.checkpoint_records.proofs.FrontLaws.{none_yet, one_more, stops_early}
+use Rattle.checkpoint_records.proofs.FrontLaws.{none_yet, one_more}
 use Rattle.checkpoint_records.proofs.EntryLaws.{no_entries}
 use Rattle.checkpoint_records.proofs.entries.take_entries.Goals as goal
 

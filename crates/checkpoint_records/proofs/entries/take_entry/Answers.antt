@@ -1,4 +1,4 @@
-use Rattle.std.proofs.Common.{◌≡◌, ℕ, List, false, refl, sym, subst}
+use Rattle.std.proofs.Common.{ℕ, List, false, refl, sym, subst}
 use Rattle.std.specs.Prelude.{IsTrue}
 use Rattle.checkpoint_records.specs.Rules.{IsClientId}
 use Rattle.checkpoint_records.proofs.EntryLaws.{no_id, bad_id, no_table, bad_table, entry_found}
@@ -10,7 +10,7 @@ returns-in-None c = no_id c.args.epoch c.args.bytes.now (rw c.in-None.is at c.in
 pub returns-then-not-is_client_id : goal.returns-then-not-is_client_id
 returns-then-not-is_client_id c =
     bad_id c.args.epoch c.args.bytes.now c.in-Some.found.0 c.in-Some.found.1.now (rw c.in-Some.is at c.in_ok-found.ensures) (λ i.
-        let f : IsTrue false = c.if-not-is_client_id.ensures.1 (subst (λ (id : List ℕ). IsClientId c.args.epoch id) (sym c.as_slice.ensures) i) in absurd cc)
+    let f : IsTrue false = c.if-not-is_client_id.ensures.1 (subst (λ (id : List ℕ). IsClientId c.args.epoch id) (sym c.as_slice.ensures) i) in absurd cc)
 
 pub returns-in-None-2 : goal.returns-in-None-2
 returns-in-None-2 c =

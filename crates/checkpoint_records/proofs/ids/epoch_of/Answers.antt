@@ -1,4 +1,4 @@
-use Rattle.std.proofs.Common.{◌≡◌, ℕ, ◌<◌, ◌^◌, Bool, true, false, List, [], ◌∷◌, ◌++◌, Some, ◌∙◌, ap, sym, refl, drop, codes, length, arith}
+use Rattle.std.proofs.Common.{◌≡◌, ℕ, ◌<◌, ◌^◌, true, false, List, [], ◌∷◌, ◌++◌, Some, ◌∙◌, ap, sym, refl, drop, codes, length, arith}
 use Rattle.std.specs.Prelude.{◌==◌}
 use Rattle.std.proofs.lemmas.Bool.Decides.{Decides-eqb}
 use Rattle.std.proofs.lemmas.List.{append-nil}
@@ -29,7 +29,7 @@ returns-then-is_empty-clause-some c =
       c.in_ok-text-3.field-0-0,
       c.in_ok-text-3.ensures.some.0,
       id_made c.in_ok-epoch.epoch c.in_ok-text-3.field-0-0 c.args.id.now c.in_ok-text.text.now c.in_ok-epoch.text.now c.in_ok-text-2.text.now first c.in_ok-epoch.ensures.some.1 third
-      (c.in_ok-text-3.ensures.some.1 ∙ ap (λ (l : List ℕ). hex8 c.in_ok-text-3.field-0-0 ++ l) empty),
+          (c.in_ok-text-3.ensures.some.1 ∙ ap (λ (l : List ℕ). hex8 c.in_ok-text-3.field-0-0 ++ l) empty),
     )
 
 pub returns-else-is_empty-clause-only : goal.returns-else-is_empty-clause-only

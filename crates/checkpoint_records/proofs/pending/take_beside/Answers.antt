@@ -1,4 +1,4 @@
-use Rattle.std.proofs.Common.{◌≡◌, ◌++◌, ◌∷◌, [], List, ◌∙◌, ap, refl, subst, arith, length, length-append}
+use Rattle.std.proofs.Common.{◌++◌, ◌∷◌, [], List, refl, subst, arith, length-append}
 use Rattle.sm_world.specs.declared.commands.Command.{Command}
 use Rattle.ice_values.specs.declared.numbers.Endian.TheVariants.{Lsb}
 use Rattle.checkpoint_records.specs.Parts.{ArePending}

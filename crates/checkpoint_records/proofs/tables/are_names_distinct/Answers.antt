@@ -1,4 +1,4 @@
-use Rattle.std.proofs.Common.{◌≡◌, ◌-◌, ◌<◌, ◌∷◌, [], refl, List, length, take, drop, sym, subst, true, arith}
+use Rattle.std.proofs.Common.{◌≡◌, ◌-◌, ◌<◌, ◌∷◌, [], refl, List, length, take, drop, sym, subst, arith}
 use Rattle.std.specs.Str.{bytes_eq}
 use Rattle.ice_values.specs.declared.property.Property.{Property}
 use Rattle.xsmp_properties.specs.Tables.{AreNamesDistinct}
