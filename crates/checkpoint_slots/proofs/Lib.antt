@@ -8,3 +8,4 @@ pub mod Lifted
 pub mod Turning
 pub mod Reading
 pub mod Looking
+pub mod Once

@@ -3,3 +3,4 @@ pub mod Recovery
 pub mod Turns
 pub mod Causes
 pub mod Faults
+pub mod Laws

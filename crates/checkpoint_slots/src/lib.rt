@@ -3,10 +3,12 @@
 #![tactic(auto)]
 
 mod fault;
+mod laws;
 mod layout;
 mod recovery;
 mod turn;
 
 pub use fault::StoreFault;
+pub use laws::{files_recover_to_one, settled_stores_stand};
 pub use layout::{STORE_BYTES, Slot};
 pub use turn::{Closed, Current, Filled, Steady};
