@@ -1,0 +1,11 @@
+pub mod Adding
+pub mod Puts
+pub mod Images
+pub mod Files
+pub mod Bodies
+pub mod Room
+pub mod Lifted
+pub mod Turning
+pub mod Reading
+pub mod Looking
+pub mod Once

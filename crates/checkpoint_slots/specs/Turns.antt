@@ -1,0 +1,108 @@
+-- What a turn of the store stands for, and what its calls keep.
+use Rattle.std.specs.Prelude.{IfOk, IsTrue, List, None, Ok, Option, Result, Some, [], length, slice_index, take, ℕ, ◌++◌, ◌+◌, ◌<◌, ◌^◌, ◌≡◌, ◌≤◌, ◌⊎◌, ◌∷◌}
+use Rattle.std.specs.List.{AllByRecursion}
+use Rattle.sm_world.specs.Crash.{Image, cell_of, readable}
+use Rattle.sm_world.specs.Outside.{Outside}
+use Rattle.sm_world.specs.declared.effects.Effect.{Effect}
+use Rattle.sm_world.specs.declared.effects.Effect.TheVariants.{Heard, Printed, Published, Sent, Shut, Started, SyncFailed, Synced, Torn, Wrote}
+use Rattle.checkpoint_records.specs.Rules.{KeepsRules}
+use Rattle.checkpoint_records.specs.declared.records.Book.{Book}
+use Rattle.checkpoint_slots.specs.declared.fault.StoreFault.{StoreFault}
+use Rattle.checkpoint_slots.specs.declared.layout.Slot.{Slot}
+use Rattle.checkpoint_slots.specs.declared.layout.Slot.TheVariants.{First}
+use Rattle.checkpoint_slots.specs.declared.turn.Current.{Current}
+use Rattle.checkpoint_slots.specs.Layout.{gate_at, other, slot_of}
+use Rattle.checkpoint_slots.specs.Recovery.{Recovers, chosen, generation_of, slot_bytes}
+
+-- At each of these effects, and before the first, every file that a crash may leave recovers to the old book or to the new one.
+abbrev pub Swap : List ℕ → List Effect → List Effect → Book → Book → Type 0
+Swap first effects added old new = (n : ℕ) → n ≤ length added → (file : List ℕ) → Image first (effects ++ take n added) file → Recovers file (Ok old) ⊎ Recovers file (Ok new)
+
+-- recovery chooses the current slot, which has the current generation; where none is current no gate is open
+abbrev pub HasCurrent : Option Current → List ℕ → Type 0
+HasCurrent None file = chosen file ≡ Ok None
+HasCurrent (Some current) file = (chosen file ≡ Ok (Some current.slot)) × (generation_of (slot_of file current.slot) ≡ current.generation)
+
+-- the slot of the next book, and its generation
+abbrev pub target : Option Current → Slot
+target None = First
+target (Some current) = other current.slot
+
+abbrev pub next_generation : Option Current → ℕ
+next_generation None = 1
+next_generation (Some current) = current.generation + 1
+
+-- One file of a turn: of a steady one,
+pub record SteadyFile (current : Option Current) (book : Book) (file : List ℕ) : Type 0 where
+  pub recovers : Recovers file (Ok book)
+  pub chooses : HasCurrent current file
+
+-- of one whose other gate is closed,
+pub record ClosedFile (current : Option Current) (book : Book) (file : List ℕ) : Type 0 where
+  pub steady : SteadyFile current book file
+  pub gate : slice_index file (gate_at (target current)) ≡ 0
+
+-- and of one whose other slot begins with the next book.
+pub record FilledFile (current : Option Current) (book next : Book) (file : List ℕ) : Type 0 where
+  pub closed : ClosedFile current book file
+  pub begins : take (length (slot_bytes (next_generation current) next)) (slot_of file (target current)) ≡ slot_bytes (next_generation current) next
+
+-- The file has the size of a store. What may be read of it may be left by a crash, and every file that a crash may leave is such.
+pub record EveryImage (P : List ℕ → Type 0) (first : List ℕ) (effects : List Effect) : Type 0 where
+  pub size : length first ≡ 16777280
+  pub calm : (i : ℕ) → i < length first → (byte : ℕ) → IsTrue (readable (cell_of first effects i).reads byte) → IsTrue ((cell_of first effects i).left byte)
+  pub images : (file : List ℕ) → Image first effects file → P file
+
+-- A turn stands for a book, over what may have become of a file after these effects.
+abbrev pub SteadyStands : Option Current → Book → List ℕ → List Effect → Type 0
+SteadyStands current book first effects = EveryImage (SteadyFile current book) first effects
+
+abbrev pub ClosedStands : Option Current → Book → List ℕ → List Effect → Type 0
+ClosedStands current book first effects = EveryImage (ClosedFile current book) first effects
+
+-- a book can be the next one: it keeps the rules, and there is a number for its generation
+pub record IsNext (current : Option Current) (next : Book) : Type 0 where
+  pub rules : KeepsRules next
+  pub epoch : next.epoch < 2 ^ 32
+  pub generation : next_generation current < 2 ^ 64
+
+abbrev pub FilledStands : Option Current → Book → Book → List ℕ → List Effect → Type 0
+FilledStands current book next first effects = IsNext current next × EveryImage (FilledFile current book next) first effects
+
+-- an effect of the store's file, and so neither an event nor a deed
+abbrev pub IsOfStore : Effect → Type 0
+IsOfStore (Heard event) = ⊥
+IsOfStore (Sent conn bytes) = ⊥
+IsOfStore (Shut conn) = ⊥
+IsOfStore (Started command succeeded) = ⊥
+IsOfStore (Wrote at bytes) = Unit {0}
+IsOfStore (Torn at n) = Unit {0}
+IsOfStore Synced = Unit {0}
+IsOfStore SyncFailed = Unit {0}
+IsOfStore (Published path bytes) = ⊥
+IsOfStore (Printed text) = ⊥
+
+-- the effects that one write and one sync may add
+pub data IsPut (at : ℕ) (bytes : List ℕ) : List Effect → Type 0 where
+  nothing : IsPut at bytes []
+  tore : 2 ≤ length bytes → IsPut at bytes (Torn at (length bytes) ∷ [])
+  wrote : IsPut at bytes (Wrote at bytes ∷ [])
+  unsynced : IsPut at bytes (Wrote at bytes ∷ SyncFailed ∷ [])
+  done : IsPut at bytes (Wrote at bytes ∷ Synced ∷ [])
+
+-- What the calls keep by the effects that they add, whatever they answer.
+pub record Closes (current : Option Current) (result : Result (Option Current) StoreFault) (added : List Effect) : Type 0 where
+  pub store : AllByRecursion IsOfStore added
+  pub swap : (first : List ℕ) (effects : List Effect) (book next : Book) → SteadyStands current book first effects → Swap first effects added book next
+  pub turn : (first : List ℕ) (effects : List Effect) (book : Book) → SteadyStands current book first effects → IfOk result (λ closed. ClosedStands closed book first (effects ++ added))
+
+pub record Fills (current : Option Current) (body : List ℕ) (result : Result (Option Current) StoreFault) (added : List Effect) : Type 0 where
+  pub store : AllByRecursion IsOfStore added
+  pub swap : (first : List ℕ) (effects : List Effect) (book next : Book) → ClosedStands current book first effects → IsNext current next → body ≡ slot_bytes (next_generation current) next → Swap first effects added book next
+  pub turn : (first : List ℕ) (effects : List Effect) (book next : Book) → ClosedStands current book first effects → IsNext current next → body ≡ slot_bytes (next_generation current) next
+      → IfOk result (λ filled. FilledStands filled book next first (effects ++ added))
+
+pub record Lifts (current : Option Current) (result : Result (Option Current) StoreFault) (added : List Effect) : Type 0 where
+  pub store : AllByRecursion IsOfStore added
+  pub swap : (first : List ℕ) (effects : List Effect) (book next : Book) → FilledStands current book next first effects → Swap first effects added book next
+  pub turn : (first : List ℕ) (effects : List Effect) (book next : Book) → FilledStands current book next first effects → IfOk result (λ steady. SteadyStands steady next first (effects ++ added))

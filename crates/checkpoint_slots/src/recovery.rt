@@ -1,0 +1,192 @@
+ghost use Rattle.std.specs.Prelude.{Some as AtAll, ◌^◌, ◌≡◌, ◌+◌, ◌≤◌, ◌<◌, ℕ, List, length, take, drop, slice_index, IfOk, IfErr, OnOk, Ok as IsOk, Err as IsErr, false, true, nat_lt};
+ghost use Rattle.sm_world.specs.Disk.{KeepsToldSize, UsesDisk, has_failed};
+ghost use Rattle.checkpoint_records.specs.Damage.{StandFor};
+ghost use Rattle.checkpoint_slots.specs.Layout.{start_of, gate_at, is_gate_open as opens, is_open, slot_of};
+ghost use Rattle.checkpoint_slots.specs.Recovery.{Recovers, SlotStands, chosen, generation_of, length_of, may_be_length};
+ghost use Rattle.checkpoint_slots.specs.Turns.{HasCurrent, SteadyFile};
+ghost use Rattle.checkpoint_slots.specs.Causes.{AreOpen, Finds, IsBookFault, Never, IsRecoveryFault, IsSettled, Looks, Tells, is_disk_fault};
+ghost use Rattle.checkpoint_slots.specs.declared.layout.Slot.TheVariants.{First as FirstSlot, Second as SecondSlot};
+
+use crate::layout::OPEN;
+use crate::{Current, STORE_BYTES, Slot, Steady, StoreFault};
+use byteorder::{ByteOrder, LittleEndian};
+use checkpoint_records::{Book, BookRefusal, read_book};
+use sm_world::{Disk, Failure};
+use std::alloc::Global;
+
+/// How many bytes a book has at most: a slot's without its head and the gate behind the book.
+const BOOK_BYTES: u32 = 8_388_584;
+
+/// Fills the buffer with the bytes at this place.
+fn read<D: Disk>(disk: &mut D, at: u64, into: &mut [u8]) -> Result<(), Failure>
+    requires { at + length into.old ≤ (D.outside disk.old).size }
+    ensures bytes { Tells (D.outside disk.old) (λ file done. into.new ≡ take (length into.old) (drop at file)) result }
+    ensures world { Looks (D.outside disk.old) (D.outside disk.new) (has_failed result) }
+{
+    disk.read_at(at, into)
+}
+
+/// Whether the byte at this place is that of an open gate.
+fn is_open_at<D: Disk>(disk: &mut D, at: u64) -> Result<bool, Failure>
+    requires { at + 1 ≤ (D.outside disk.old).size }
+    ensures open { Tells (D.outside disk.old) (λ file opened. opened ≡ opens (slice_index file at)) result }
+    ensures world { Looks (D.outside disk.old) (D.outside disk.new) (has_failed result) }
+{
+    let mut byte = [0; 1];
+    match read(disk, at, &mut byte) {
+        Ok(()) => Ok(byte[0] == OPEN),
+        Err(failure) => Err(failure),
+    }
+}
+
+/// The generation of a slot.
+fn generation<D: Disk>(disk: &mut D, slot: Slot) -> Result<u64, Failure>
+    requires { (D.outside disk.old).size ≡ 16777280 }
+    ensures number { Tells (D.outside disk.old) (λ file number. number ≡ generation_of (slot_of file slot)) result }
+    ensures world { Looks (D.outside disk.old) (D.outside disk.new) (has_failed result) }
+{
+    let mut bytes = [0; 8];
+    match read(disk, slot.start(), &mut bytes) {
+        Ok(()) => Ok(LittleEndian::read_u64(&bytes)),
+        Err(failure) => Err(failure),
+    }
+}
+
+/// How many bytes the book of a slot has, as its head says.
+fn book_length<D: Disk>(disk: &mut D, slot: Slot) -> Result<u32, Failure>
+    requires { (D.outside disk.old).size ≡ 16777280 }
+    ensures number { Tells (D.outside disk.old) (λ file number. number ≡ length_of (slot_of file slot)) result }
+    ensures world { Looks (D.outside disk.old) (D.outside disk.new) (has_failed result) }
+{
+    let mut bytes = [0; 4];
+    match read(disk, slot.start() + 8, &mut bytes) {
+        Ok(()) => Ok(LittleEndian::read_u32(&bytes)),
+        Err(failure) => Err(failure),
+    }
+}
+
+/// This slot as the current one.
+fn current<D: Disk>(disk: &mut D, slot: Slot) -> Result<Current, Failure>
+    requires { (D.outside disk.old).size ≡ 16777280 }
+    ensures slot { IfOk result (λ current. current.slot ≡ slot) }
+    ensures number { Tells (D.outside disk.old) (λ file current. current.generation ≡ generation_of (slot_of file slot)) result }
+    ensures world { Looks (D.outside disk.old) (D.outside disk.new) (has_failed result) }
+{
+    match generation(disk, slot) {
+        Ok(generation) => Ok(Current { slot, generation }),
+        Err(failure) => Err(failure),
+    }
+}
+
+/// The slot with the greater generation, where both gates are open.
+fn newer<D: Disk>(disk: &mut D) -> Result<Current, StoreFault>
+    requires { (D.outside disk.old).size ≡ 16777280 }
+    ensures found { Finds (D.outside disk.old) (λ file current. AreOpen file → HasCurrent (AtAll current) file) (λ file at. AreOpen file → chosen file ≡ IsErr at) result }
+    ensures world { Looks (D.outside disk.old) (D.outside disk.new) (is_disk_fault result) }
+{
+    let first = current(disk, Slot::First)?;
+    let second = current(disk, Slot::Second)?;
+    if first.generation < second.generation {
+        return Ok(second);
+    }
+    if second.generation < first.generation {
+        return Ok(first);
+    }
+    Err(StoreFault::Damaged { at: 64 })
+}
+
+/// The slot that is current, by the gates; None where no gate is open.
+fn choose<D: Disk>(disk: &mut D) -> Result<Option<Current>, StoreFault>
+    requires { (D.outside disk.old).size ≡ 16777280 }
+    ensures found { Finds (D.outside disk.old) (λ file current. HasCurrent current file) (λ file at. chosen file ≡ IsErr at) result }
+    ensures world { Looks (D.outside disk.old) (D.outside disk.new) (is_disk_fault result) }
+{
+    let first = is_open_at(disk, Slot::First.gate())?;
+    let second = is_open_at(disk, Slot::Second.gate())?;
+    match (first, second) {
+        (false, false) => Ok(None),
+        (true, false) => Ok(Some(current(disk, Slot::First)?)),
+        (false, true) => Ok(Some(current(disk, Slot::Second)?)),
+        (true, true) => Ok(Some(newer(disk)?)),
+    }
+}
+
+/// So many bytes from this place on.
+fn read_bytes<D: Disk>(alloc: Global, disk: &mut D, at: u64, count: u32) -> Result<Vec<u8>, StoreFault>
+    requires { at + count ≤ (D.outside disk.old).size }
+    ensures found { Finds (D.outside disk.old) (λ file bytes. bytes.items ≡ take count (drop at file)) (λ file at. Never) result }
+    ensures world { Looks (D.outside disk.old) (D.outside disk.new) (is_disk_fault result) }
+{
+    let Ok(mut bytes) = vec![in alloc; 0; count as usize] else {
+        return Err(StoreFault::NoMemory);
+    };
+    read(disk, at, &mut bytes)?;
+    Ok(bytes)
+}
+
+/// The book that these bytes spell, which lie at a place of the file.
+fn whole_book(alloc: Global, at: u64, bytes: &[u8]) -> Result<Book, StoreFault>
+    requires { at + length bytes.now < 2 ^ 64 }
+    ensures ok { IfOk result (λ book. StandFor bytes.now (IsOk book)) }
+    ensures err { IfErr result (IsBookFault at bytes.now) }
+{
+    match read_book(alloc, bytes) {
+        Ok(book) => Ok(book),
+        Err(BookRefusal::Damaged { at: damage }) => Err(StoreFault::Damaged { at: at + damage }),
+        Err(BookRefusal::NoMemory) => Err(StoreFault::NoMemory),
+    }
+}
+
+/// The book of a slot.
+fn read_slot<D: Disk>(alloc: Global, disk: &mut D, slot: Slot) -> Result<Book, StoreFault>
+    requires { (D.outside disk.old).size ≡ 16777280 }
+    ensures found { Finds (D.outside disk.old) (λ file book. SlotStands (start_of slot) (slot_of file slot) (IsOk book)) (λ file at. SlotStands (start_of slot) (slot_of file slot) (IsErr at)) result }
+    ensures world { Looks (D.outside disk.old) (D.outside disk.new) (is_disk_fault result) }
+{
+    let count = book_length(disk, slot)?;
+    if count % 8 != 0 || count > BOOK_BYTES {
+        return Err(StoreFault::Damaged {
+            at: slot.start() + 8,
+        });
+    }
+    let at = slot.start() + 16;
+    let bytes = match read_bytes(alloc, disk, at, count) {
+        Ok(bytes) => bytes,
+        Err(fault) => return Err(fault),
+    };
+    let book = match whole_book(alloc, at, &bytes) {
+        Ok(book) => book,
+        Err(fault) => return Err(fault),
+    };
+    if is_open_at(disk, at + u64::from(count))? {
+        return Err(StoreFault::Damaged {
+            at: at + u64::from(count),
+        });
+    }
+    Ok(book)
+}
+
+impl Steady {
+    /// The turn and the book that the store's file stands for. In this order: a file of another
+    /// size than a store is WrongSize; then it is Damaged where its gates, the head of the chosen
+    /// slot, the book or the gate behind it say so. A file without an open gate has the empty book.
+    pub fn recover_from<D: Disk>(alloc: Global, disk: &mut D) -> Result<(Steady, Book), StoreFault>
+        ensures told { (D.outside disk.new).told ≡ (D.outside disk.old).told }
+        ensures size { IfOk result (λ recovered. (D.outside disk.new).size ≡ 16777280) }
+        ensures kept { KeepsToldSize (D.outside disk.old) (D.outside disk.new) }
+        ensures recovers { (file : List ℕ) → IsSettled (D.outside disk.old) file → IfOk result (λ recovered. SteadyFile recovered.0 recovered.1 file) }
+        ensures cause { IfErr result (IsRecoveryFault (D.outside disk.old) (D.outside disk.new).size) }
+        ensures uses { UsesDisk (D.outside disk.old) (D.outside disk.new) (is_disk_fault result) }
+    {
+        let size = disk.size()?;
+        if size != STORE_BYTES {
+            return Err(StoreFault::WrongSize { size });
+        }
+        let current = choose(disk)?;
+        let book = match current {
+            Some(current) => read_slot(alloc, disk, current.slot)?,
+            None => Book::empty(alloc)?,
+        };
+        Ok((Steady { current }, book))
+    }
+}
