@@ -66,8 +66,8 @@ module _ (generation : ℕ) (book : Book) (slot : List ℕ) (begins : take (leng
       ap (λ (xs : List ℕ). little_bytes 8 generation ++ xs) (sym (append_assoc numbers (replicate 4 0) (book_bytes book ++ r))) ∙ sym (append_assoc (little_bytes 8 generation) (numbers ++ replicate 4 0) (book_bytes book ++ r)) in
       let sixteen : length front ≡ 16 = sized in
       ap (λ (xs : List ℕ). drop 16 xs) (slot-is ∙ split) ∙ drop-by 16 front (book_bytes book ++ r) sixteen where
-    sized : length (little_bytes 8 generation ++ (little_bytes 4 (length (book_bytes book)) ++ replicate 4 0)) ≡ 16
-    sized = refl
+        sized : length (little_bytes 8 generation ++ (little_bytes 4 (length (book_bytes book)) ++ replicate 4 0)) ≡ 16
+        sized = refl
 
   gate-there : slice_index (book_bytes book ++ (replicate 8 0 ++ drop (length (slot_bytes generation book)) slot)) (length (book_bytes book)) ≡ 0
   gate-there = get_or-append_seam (book_bytes book) 0 (replicate 7 0 ++ drop (length (slot_bytes generation book)) slot) 0

@@ -43,11 +43,11 @@ slot-within file slot i within = omega (arith, slot-length file slot, within)
 module _ (at n : ℕ) (one two : List ℕ) (agree : Agree at n one two) where
   pub same-slot : (slot : Slot) → IsApart at n slot → slot_of one slot ≡ slot_of two slot
   same-slot slot apart = same_number_lists (slot_of one slot) (slot_of two slot)
-    (slot-length one slot ∙ ap (λ (k : ℕ). min 8388608 (k - start_of slot)) agree.size ∙ sym (slot-length two slot))
-    (λ i within.
-        let short : i < 8388608 = omega (arith, within, slot-short one slot) in
-        let inside : start_of slot + i < length two = subst (λ (k : ℕ). start_of slot + i < k) agree.size (slot-within one slot i within) in
-        slot-byte one slot i short ∙ agree.bytes (start_of slot + i) inside (apart-outside at n i slot apart short) ∙ sym (slot-byte two slot i short))
+      (slot-length one slot ∙ ap (λ (k : ℕ). min 8388608 (k - start_of slot)) agree.size ∙ sym (slot-length two slot))
+      (λ i within.
+      let short : i < 8388608 = omega (arith, within, slot-short one slot) in
+      let inside : start_of slot + i < length two = subst (λ (k : ℕ). start_of slot + i < k) agree.size (slot-within one slot i within) in
+      slot-byte one slot i short ∙ agree.bytes (start_of slot + i) inside (apart-outside at n i slot apart short) ∙ sym (slot-byte two slot i short))
 
   pub same-gate : length two ≡ 16777280 → (slot : Slot) → covers at n (gate_at slot) ≡ false → slice_index one (gate_at slot) ≡ slice_index two (gate_at slot)
   same-gate size First outside = agree.bytes 0 (omega (arith, size)) outside
@@ -150,6 +150,7 @@ slot-leaves (Some current) n short = (beside current.slot, gates current.slot) w
   beside : (slot : Slot) → IsApart (start_of (other slot)) n slot
   beside First = inr (omega arith)
   beside Second = inl (omega (arith, short))
+
   gates : (slot : Slot) → covers (start_of (other slot)) n (gate_at slot) ≡ false
   gates First = grind arith
   gates Second = grind arith
