@@ -1,11 +1,10 @@
 -- A slot that begins with what a commit writes has its generation and its book.
-use Rattle.std.proofs.Common.{◌≡◌, ◌+◌, ◌<◌, ◌≤◌, ◌^◌, ◌%◌, ◌&&◌, ℕ, Bool, true, false, nat_le, ◌==◌, List, [], ◌∷◌, ◌++◌, length, replicate, take, drop, slice_index, refl, ap, sym, subst, ◌∙◌, arith}
-use Rattle.std.specs.Prelude.{Result, Ok}
+use Rattle.std.proofs.Common.{◌≡◌, ◌+◌, ◌<◌, ◌≤◌, ◌^◌, ◌%◌, ℕ, Bool, true, false, List, ◌++◌, length, replicate, take, drop, slice_index, refl, ap, sym, subst, ◌∙◌, arith}
+use Rattle.std.specs.Prelude.{Ok}
 use Rattle.std.proofs.Math.Seq.{drop-append_seam, take-append_seam, get_or-append_seam}
 use Rattle.std.proofs.lemmas.List.{append_assoc, length-append, take-append-drop}
 use Rattle.byteorder.specs.Endian.{little_bytes, little_number}
 use Rattle.byteorder.specs.Numbers.{length-bytes_low_first, little_number-reads_back}
-use Rattle.checkpoint_records.specs.Damage.{StandFor}
 use Rattle.checkpoint_records.specs.Rules.{KeepsRules}
 use Rattle.checkpoint_records.specs.Spelling.{Spells, book_bytes}
 use Rattle.checkpoint_records.specs.declared.records.Book.{Book}

@@ -1,7 +1,6 @@
 -- Two files that are the same but for a range: what recovery makes of the one by what it makes of the other.
-use Rattle.std.proofs.Common.{◌≡◌, ◌≢◌, ◌+◌, ◌-◌, ◌<◌, ◌≤◌, ◌⊎◌, ℕ, Bool, true, false, nat_lt, ◌==◌, if◌then◌else◌, List, length, take, drop, slice_index, min, refl, ap, sym, subst, ◌∙◌, inl, inr, arith}
+use Rattle.std.proofs.Common.{◌≡◌, ◌+◌, ◌-◌, ◌<◌, ◌≤◌, ◌⊎◌, ℕ, Bool, true, false, nat_lt, if◌then◌else◌, List, length, drop, slice_index, min, refl, ap, sym, subst, ◌∙◌, inl, inr, arith}
 use Rattle.std.specs.Prelude.{Option, Some, None, Result, Ok, Err}
-use Rattle.std.proofs.lemmas.Bool.{false≢true}
 use Rattle.std.proofs.lemmas.Grind.{same_number_lists}
 use Rattle.std.proofs.lemmas.List.{get_or-drop, get_or-take, length-drop, length-take}
 use Rattle.sm_world.specs.Crash.{covers}
@@ -11,7 +10,7 @@ use Rattle.checkpoint_slots.specs.declared.layout.Slot.TheVariants.{First, Secon
 use Rattle.checkpoint_slots.specs.declared.turn.Current.{Current}
 use Rattle.checkpoint_slots.specs.Layout.{gate_at, is_gate_open, is_open, other, slot_of, start_of}
 use Rattle.checkpoint_slots.specs.Recovery.{Recovers, SlotStands, StandsBy, choose, chosen, generation_of}
-use Rattle.checkpoint_slots.specs.Turns.{ClosedFile, FilledFile, HasCurrent, SteadyFile, next_generation, target}
+use Rattle.checkpoint_slots.specs.Turns.{ClosedFile, SteadyFile, target}
 use Rattle.checkpoint_slots.proofs.Images.{Agree}
 
 -- the parts of a file that a range leaves

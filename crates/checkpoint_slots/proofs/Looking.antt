@@ -1,5 +1,5 @@
 -- What the looks of a recovery tell of the file.
-use Rattle.std.proofs.Common.{◌≡◌, ◌≢◌, ◌-◌, ◌+◌, ◌<◌, ◌≤◌, ◌%◌, ◌⊎◌, ◌&&◌, ℕ, Bool, true, false, nat_le, ◌==◌, List, length, take, drop, slice_index, min, refl, ap, sym, subst, ◌∙◌, inl, inr, arith}
+use Rattle.std.proofs.Common.{◌≡◌, ◌≢◌, ◌-◌, ◌+◌, ◌<◌, ◌≤◌, ◌%◌, ◌⊎◌, ℕ, Bool, true, false, List, length, take, drop, slice_index, min, refl, ap, sym, subst, ◌∙◌, arith}
 use Rattle.std.specs.Prelude.{None, Option, Result, Some, Ok, Err}
 use Rattle.std.proofs.lemmas.Grind.{same_number_lists}
 use Rattle.std.proofs.lemmas.List.{get_or-drop, get_or-take, length-drop, length-take}

@@ -1,9 +1,7 @@
-use Rattle.std.proofs.Common.{◌≡◌, ◌+◌, ◌≤◌, ◌%◌, ℕ, Bool, true, false, List, take, drop, slice_index, refl, ap, sym, ◌∙◌, arith}
+use Rattle.std.proofs.Common.{◌≡◌, ◌+◌, ℕ, true, false, List, take, drop, slice_index, refl, ap, sym, ◌∙◌}
 use Rattle.std.specs.Prelude.{Ok, Err}
-use Rattle.checkpoint_records.specs.declared.records.Book.{Book}
-use Rattle.checkpoint_slots.specs.Layout.{is_gate_open, slot_of, start_of}
+use Rattle.checkpoint_slots.specs.Layout.{is_gate_open}
 use Rattle.checkpoint_slots.specs.Causes.{Never}
-use Rattle.checkpoint_slots.specs.Recovery.{SlotStands, length_of}
 use Rattle.checkpoint_slots.proofs.Looking.{bad-length, book-fault, no-damage, read-stands, settled-on}
 use Rattle.checkpoint_slots.proofs.recovery.read_slot.Goals as goal
 
