@@ -1,11 +1,11 @@
 -- The effects of a put, by what its write and its sync answered.
-use Rattle.std.proofs.Common.{◌≡◌, ◌≤◌, ◌⊎◌, ◌++◌, ◌∷◌, [], ℕ, List, Result, Ok, Err, OnOk, OnErr, length, refl, ap, sym, subst, ◌∙◌, inl, inr}
+use Rattle.std.proofs.Common.{◌≡◌, ◌∷◌, [], ℕ, List, Result, Ok, Err, OnOk, OnErr, length, refl, ap, sym, subst, ◌∙◌, inl, inr}
 use Rattle.std.specs.Prelude.{Option}
 use Rattle.sm_world.specs.Disk.{IsFailedWrite, IsFailedSync}
 use Rattle.sm_world.specs.Outside.{Added, adds}
 use Rattle.sm_world.proofs.Adding.{adds-adds}
 use Rattle.sm_world.specs.declared.effects.Effect.{Effect}
-use Rattle.sm_world.specs.declared.effects.Effect.TheVariants.{SyncFailed, Synced, Torn, Wrote}
+use Rattle.sm_world.specs.declared.effects.Effect.TheVariants.{Synced, Wrote}
 use Rattle.checkpoint_slots.specs.Turns.{IsPut, done, nothing, tore, unsynced, wrote}
 
 failed-put : (at : ℕ) (bytes : List ℕ) {added : List Effect} → IsFailedWrite at (length bytes) added → IsPut at bytes added

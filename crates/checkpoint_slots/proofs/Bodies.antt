@@ -1,11 +1,10 @@
 -- A slot that begins with what a commit writes has its generation and its book.
-use Rattle.std.proofs.Common.{◌≡◌, ◌+◌, ◌<◌, ◌≤◌, ◌^◌, ◌%◌, ◌&&◌, ℕ, Bool, true, false, nat_le, ◌==◌, List, [], ◌∷◌, ◌++◌, length, replicate, take, drop, slice_index, refl, ap, sym, subst, ◌∙◌, arith}
-use Rattle.std.specs.Prelude.{Result, Ok}
+use Rattle.std.proofs.Common.{◌≡◌, ◌+◌, ◌<◌, ◌≤◌, ◌^◌, ◌%◌, ℕ, Bool, true, false, List, ◌++◌, length, replicate, take, drop, slice_index, refl, ap, sym, subst, ◌∙◌, arith}
+use Rattle.std.specs.Prelude.{Ok}
 use Rattle.std.proofs.Math.Seq.{drop-append_seam, take-append_seam, get_or-append_seam}
 use Rattle.std.proofs.lemmas.List.{append_assoc, length-append, take-append-drop}
 use Rattle.byteorder.specs.Endian.{little_bytes, little_number}
 use Rattle.byteorder.specs.Numbers.{length-bytes_low_first, little_number-reads_back}
-use Rattle.checkpoint_records.specs.Damage.{StandFor}
 use Rattle.checkpoint_records.specs.Rules.{KeepsRules}
 use Rattle.checkpoint_records.specs.Spelling.{Spells, book_bytes}
 use Rattle.checkpoint_records.specs.declared.records.Book.{Book}
@@ -66,8 +65,8 @@ module _ (generation : ℕ) (book : Book) (slot : List ℕ) (begins : take (leng
       ap (λ (xs : List ℕ). little_bytes 8 generation ++ xs) (sym (append_assoc numbers (replicate 4 0) (book_bytes book ++ r))) ∙ sym (append_assoc (little_bytes 8 generation) (numbers ++ replicate 4 0) (book_bytes book ++ r)) in
       let sixteen : length front ≡ 16 = sized in
       ap (λ (xs : List ℕ). drop 16 xs) (slot-is ∙ split) ∙ drop-by 16 front (book_bytes book ++ r) sixteen where
-    sized : length (little_bytes 8 generation ++ (little_bytes 4 (length (book_bytes book)) ++ replicate 4 0)) ≡ 16
-    sized = refl
+        sized : length (little_bytes 8 generation ++ (little_bytes 4 (length (book_bytes book)) ++ replicate 4 0)) ≡ 16
+        sized = refl
 
   gate-there : slice_index (book_bytes book ++ (replicate 8 0 ++ drop (length (slot_bytes generation book)) slot)) (length (book_bytes book)) ≡ 0
   gate-there = get_or-append_seam (book_bytes book) 0 (replicate 7 0 ++ drop (length (slot_bytes generation book)) slot) 0

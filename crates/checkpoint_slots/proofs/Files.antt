@@ -1,7 +1,6 @@
 -- Two files that are the same but for a range: what recovery makes of the one by what it makes of the other.
-use Rattle.std.proofs.Common.{◌≡◌, ◌≢◌, ◌+◌, ◌-◌, ◌<◌, ◌≤◌, ◌⊎◌, ℕ, Bool, true, false, nat_lt, ◌==◌, if◌then◌else◌, List, length, take, drop, slice_index, min, refl, ap, sym, subst, ◌∙◌, inl, inr, arith}
+use Rattle.std.proofs.Common.{◌≡◌, ◌+◌, ◌-◌, ◌<◌, ◌≤◌, ◌⊎◌, ℕ, Bool, true, false, nat_lt, if◌then◌else◌, List, length, drop, slice_index, min, refl, ap, sym, subst, ◌∙◌, inl, inr, arith}
 use Rattle.std.specs.Prelude.{Option, Some, None, Result, Ok, Err}
-use Rattle.std.proofs.lemmas.Bool.{false≢true}
 use Rattle.std.proofs.lemmas.Grind.{same_number_lists}
 use Rattle.std.proofs.lemmas.List.{get_or-drop, get_or-take, length-drop, length-take}
 use Rattle.sm_world.specs.Crash.{covers}
@@ -11,7 +10,7 @@ use Rattle.checkpoint_slots.specs.declared.layout.Slot.TheVariants.{First, Secon
 use Rattle.checkpoint_slots.specs.declared.turn.Current.{Current}
 use Rattle.checkpoint_slots.specs.Layout.{gate_at, is_gate_open, is_open, other, slot_of, start_of}
 use Rattle.checkpoint_slots.specs.Recovery.{Recovers, SlotStands, StandsBy, choose, chosen, generation_of}
-use Rattle.checkpoint_slots.specs.Turns.{ClosedFile, FilledFile, HasCurrent, SteadyFile, next_generation, target}
+use Rattle.checkpoint_slots.specs.Turns.{ClosedFile, SteadyFile, target}
 use Rattle.checkpoint_slots.proofs.Images.{Agree}
 
 -- the parts of a file that a range leaves
@@ -43,11 +42,11 @@ slot-within file slot i within = omega (arith, slot-length file slot, within)
 module _ (at n : ℕ) (one two : List ℕ) (agree : Agree at n one two) where
   pub same-slot : (slot : Slot) → IsApart at n slot → slot_of one slot ≡ slot_of two slot
   same-slot slot apart = same_number_lists (slot_of one slot) (slot_of two slot)
-    (slot-length one slot ∙ ap (λ (k : ℕ). min 8388608 (k - start_of slot)) agree.size ∙ sym (slot-length two slot))
-    (λ i within.
-        let short : i < 8388608 = omega (arith, within, slot-short one slot) in
-        let inside : start_of slot + i < length two = subst (λ (k : ℕ). start_of slot + i < k) agree.size (slot-within one slot i within) in
-        slot-byte one slot i short ∙ agree.bytes (start_of slot + i) inside (apart-outside at n i slot apart short) ∙ sym (slot-byte two slot i short))
+      (slot-length one slot ∙ ap (λ (k : ℕ). min 8388608 (k - start_of slot)) agree.size ∙ sym (slot-length two slot))
+      (λ i within.
+      let short : i < 8388608 = omega (arith, within, slot-short one slot) in
+      let inside : start_of slot + i < length two = subst (λ (k : ℕ). start_of slot + i < k) agree.size (slot-within one slot i within) in
+      slot-byte one slot i short ∙ agree.bytes (start_of slot + i) inside (apart-outside at n i slot apart short) ∙ sym (slot-byte two slot i short))
 
   pub same-gate : length two ≡ 16777280 → (slot : Slot) → covers at n (gate_at slot) ≡ false → slice_index one (gate_at slot) ≡ slice_index two (gate_at slot)
   same-gate size First outside = agree.bytes 0 (omega (arith, size)) outside
@@ -150,6 +149,7 @@ slot-leaves (Some current) n short = (beside current.slot, gates current.slot) w
   beside : (slot : Slot) → IsApart (start_of (other slot)) n slot
   beside First = inr (omega arith)
   beside Second = inl (omega (arith, short))
+
   gates : (slot : Slot) → covers (start_of (other slot)) n (gate_at slot) ≡ false
   gates First = grind arith
   gates Second = grind arith

@@ -1,8 +1,7 @@
 -- The files that a crash may leave after a put, by those that it may leave before.
-use Rattle.std.proofs.Common.{◌≡◌, ◌+◌, ◌<◌, ◌≤◌, ◌⊎◌, ℕ, zero, Bool, true, false, cond, IsTrue, ◌==◌, List, [], ◌∷◌, ◌++◌, length, map, take, slice_index, refl, ap, sym, subst, ◌∙◌, inl, inr, arith}
+use Rattle.std.proofs.Common.{◌≡◌, ◌+◌, ◌<◌, ◌⊎◌, ℕ, Bool, true, false, IsTrue, List, [], ◌∷◌, ◌++◌, length, map, slice_index, refl, ap, sym, subst, ◌∙◌, inl, inr, arith}
 use Rattle.std.specs.Prelude.{Option, Some, None}
 use Rattle.std.specs.List.{range_with_len}
-use Rattle.std.proofs.lemmas.Bool.{false≢true}
 use Rattle.std.proofs.lemmas.List.FromFn.{get_or-map-range_with_len, length-map-range_with_len}
 use Rattle.sm_world.proofs.Cells.{cell_from-append, place}
 use Rattle.sm_world.specs.Crash.{Cell, Image, cell_from, cell_of, covers, readable}

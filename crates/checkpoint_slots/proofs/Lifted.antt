@@ -1,17 +1,16 @@
 -- The file whose filled slot was opened.
-use Rattle.std.proofs.Common.{◌≡◌, ◌+◌, ◌<◌, ◌^◌, ℕ, Bool, true, false, nat_lt, List, length, take, slice_index, refl, ap, sym, subst, ◌∙◌, arith}
-use Rattle.std.specs.Prelude.{Option, Some, None, Result, Ok}
-use Rattle.checkpoint_records.specs.Spelling.{book_bytes}
+use Rattle.std.proofs.Common.{◌≡◌, ◌+◌, ℕ, true, false, nat_lt, List, length, take, slice_index, refl, ap, sym, ◌∙◌, arith}
+use Rattle.std.specs.Prelude.{Option, Some, None, Ok}
 use Rattle.checkpoint_records.specs.declared.records.Book.{Book}
 use Rattle.checkpoint_slots.specs.declared.layout.Slot.{Slot}
 use Rattle.checkpoint_slots.specs.declared.layout.Slot.TheVariants.{First, Second}
 use Rattle.checkpoint_slots.specs.declared.turn.Current.{Current}
 use Rattle.checkpoint_slots.specs.Layout.{gate_at, is_gate_open, is_open, other, slot_of, start_of}
-use Rattle.checkpoint_slots.specs.Recovery.{SlotStands, choose, chosen, generation_of, slot_bytes}
+use Rattle.checkpoint_slots.specs.Recovery.{SlotStands, chosen, generation_of, slot_bytes}
 use Rattle.checkpoint_slots.specs.Turns.{FilledFile, IsNext, SteadyFile, next_generation, target}
 use Rattle.checkpoint_slots.proofs.Images.{Agree}
 use Rattle.checkpoint_slots.proofs.Files.{chosen-beside, chosen-open, gate-apart, none-open, recovers-by, same-open, same-slot}
-use Rattle.checkpoint_slots.proofs.Bodies.{HasRoom, has-book, has-generation}
+use Rattle.checkpoint_slots.proofs.Bodies.{has-book, has-generation}
 use Rattle.checkpoint_slots.proofs.Room.{book-room}
 use Rattle.sm_world.specs.Crash.{covers}
 

@@ -1,5 +1,5 @@
 -- What the looks of a recovery tell of the file.
-use Rattle.std.proofs.Common.{◌≡◌, ◌≢◌, ◌-◌, ◌+◌, ◌<◌, ◌≤◌, ◌%◌, ◌⊎◌, ◌&&◌, ℕ, Bool, true, false, nat_le, ◌==◌, List, length, take, drop, slice_index, min, refl, ap, sym, subst, ◌∙◌, inl, inr, arith}
+use Rattle.std.proofs.Common.{◌≡◌, ◌≢◌, ◌-◌, ◌+◌, ◌<◌, ◌≤◌, ◌%◌, ◌⊎◌, ℕ, Bool, true, false, List, length, take, drop, slice_index, min, refl, ap, sym, subst, ◌∙◌, arith}
 use Rattle.std.specs.Prelude.{None, Option, Result, Some, Ok, Err}
 use Rattle.std.proofs.lemmas.Grind.{same_number_lists}
 use Rattle.std.proofs.lemmas.List.{get_or-drop, get_or-take, length-drop, length-take}
@@ -51,9 +51,9 @@ module _ (file : List ℕ) (slot : Slot) where
       let long : length (take n (drop (start_of slot + 16) file)) ≡ min n (length file - (start_of slot + 16)) = length-take n (drop (start_of slot + 16) file) ∙ ap (λ (k : ℕ). min n k) (length-drop (start_of slot + 16) file) in
       let other : length (take n (drop 16 (slot_of file slot))) ≡ min n (length (slot_of file slot) - 16) = length-take n (drop 16 (slot_of file slot)) ∙ ap (λ (k : ℕ). min n k) (length-drop 16 (slot_of file slot)) in
       same_number_lists (take n (drop (start_of slot + 16) file)) (take n (drop 16 (slot_of file slot))) (omega (arith, long, other, slot-length file slot, fits)) (λ i within.
-          let small : i < n = omega (arith, within, long) in
-          let there : start_of slot + 16 + i ≡ start_of slot + (16 + i) = omega arith in
-          get_or-take n (drop (start_of slot + 16) file) i 0 small ∙ get_or-drop (start_of slot + 16) file i 0 ∙ ap (λ (j : ℕ). slice_index file j) there ∙ sym (slot-byte file slot (16 + i) (omega (arith, small, fits))) ∙ sym (get_or-drop 16 (slot_of file slot) i 0) ∙ sym (get_or-take n (drop 16 (slot_of file slot)) i 0 small))
+      let small : i < n = omega (arith, within, long) in
+      let there : start_of slot + 16 + i ≡ start_of slot + (16 + i) = omega arith in
+      get_or-take n (drop (start_of slot + 16) file) i 0 small ∙ get_or-drop (start_of slot + 16) file i 0 ∙ ap (λ (j : ℕ). slice_index file j) there ∙ sym (slot-byte file slot (16 + i) (omega (arith, small, fits))) ∙ sym (get_or-drop 16 (slot_of file slot) i 0) ∙ sym (get_or-take n (drop 16 (slot_of file slot)) i 0 small))
 
   gate-at : (n : ℕ) → n ≤ 8388584 → slice_index (drop 16 (slot_of file slot)) n ≡ slice_index file (start_of slot + 16 + n)
   gate-at n fits =

@@ -4,7 +4,7 @@ use Rattle.std.proofs.lemmas.Bool.{false≢true}
 use Rattle.sm_world.proofs.Cells.{place, wrote_inside, wrote_outside, torn_inside, torn_outside, others_keep}
 use Rattle.sm_world.specs.Crash.{Cell, covers, readable, synced, torn, written, cell_after, cell_from}
 use Rattle.sm_world.specs.declared.effects.Effect.{Effect}
-use Rattle.sm_world.specs.declared.effects.Effect.TheVariants.{Wrote, Torn, Synced, SyncFailed}
+use Rattle.sm_world.specs.declared.effects.Effect.TheVariants.{Wrote, Synced, SyncFailed}
 use Rattle.checkpoint_slots.specs.Turns.{IsPut, nothing, tore, wrote, unsynced, done}
 
 -- what may be read of a byte may be left of it

@@ -1,6 +1,6 @@
 -- What each call of a turn keeps, by the effects of its put.
-use Rattle.std.proofs.Common.{◌≡◌, ◌+◌, ◌<◌, ◌≤◌, ◌^◌, ◌⊎◌, ◌++◌, ◌∷◌, [], ℕ, List, length, take, slice_index, refl, ap, sym, subst, ◌∙◌, inl, inr, arith}
-use Rattle.std.specs.Prelude.{IfOk, Option, Some, None, Result, Ok, Err, OnOk}
+use Rattle.std.proofs.Common.{◌≡◌, ◌+◌, ◌<◌, ◌≤◌, ◌^◌, ◌⊎◌, ◌++◌, ◌∷◌, [], ℕ, List, length, take, slice_index, ap, sym, subst, ◌∙◌, inl, inr, arith}
+use Rattle.std.specs.Prelude.{Option, Some, Ok, Err}
 use Rattle.std.specs.List.{AllByRecursion}
 use Rattle.std.proofs.lemmas.Grind.{same_number_lists}
 use Rattle.std.proofs.lemmas.List.{get_or-take, length-take-le}
@@ -15,7 +15,7 @@ use Rattle.checkpoint_slots.specs.declared.layout.Slot.TheVariants.{First, Secon
 use Rattle.checkpoint_slots.specs.declared.turn.Current.{Current}
 use Rattle.checkpoint_slots.specs.Layout.{gate_at, slot_of, start_of}
 use Rattle.checkpoint_slots.specs.Recovery.{Recovers, slot_bytes}
-use Rattle.checkpoint_slots.specs.Turns.{ClosedFile, ClosedStands, Closes, EveryImage, FilledFile, FilledStands, Fills, IsNext, IsOfStore, IsPut, Lifts, SteadyFile, SteadyStands, Swap, done, next_generation, nothing, target, tore, unsynced, wrote}
+use Rattle.checkpoint_slots.specs.Turns.{ClosedFile, ClosedStands, Closes, FilledFile, FilledStands, Fills, IsNext, IsOfStore, IsPut, Lifts, SteadyFile, SteadyStands, Swap, done, next_generation, nothing, target, tore, unsynced, wrote}
 use Rattle.checkpoint_slots.proofs.Puts.{put-front}
 use Rattle.checkpoint_slots.proofs.Images.{agree-before, done-bytes, every-after, file_before, image-before, old-or-new}
 use Rattle.checkpoint_slots.proofs.Files.{close-file, fill-file, slot-byte, slot-length}

@@ -1,5 +1,5 @@
 -- When a fault of the store comes.
-use Rattle.std.specs.Prelude.{Bool, Err, IsTrue, List, Ok, Option, Result, Some, false, length, slice_index, true, ℕ, ◌<◌, ◌^◌, ◌+◌, ◌≡◌, ◌≢◌}
+use Rattle.std.specs.Prelude.{Bool, Err, IsTrue, List, Ok, Result, Some, false, length, slice_index, true, ℕ, ◌<◌, ◌^◌, ◌+◌, ◌≡◌, ◌≢◌}
 use Rattle.sm_world.specs.Crash.{cell_of}
 use Rattle.sm_world.specs.Disk.{UsesDisk}
 use Rattle.sm_world.specs.Outside.{Outside}

@@ -2,7 +2,6 @@
 use Rattle.std.specs.Prelude.{IfOk, IsTrue, List, None, Ok, Option, Result, Some, [], length, slice_index, take, ℕ, ◌++◌, ◌+◌, ◌<◌, ◌^◌, ◌≡◌, ◌≤◌, ◌⊎◌, ◌∷◌}
 use Rattle.std.specs.List.{AllByRecursion}
 use Rattle.sm_world.specs.Crash.{Image, cell_of, readable}
-use Rattle.sm_world.specs.Outside.{Outside}
 use Rattle.sm_world.specs.declared.effects.Effect.{Effect}
 use Rattle.sm_world.specs.declared.effects.Effect.TheVariants.{Heard, Printed, Published, Sent, Shut, Started, SyncFailed, Synced, Torn, Wrote}
 use Rattle.checkpoint_records.specs.Rules.{KeepsRules}

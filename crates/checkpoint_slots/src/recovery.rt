@@ -1,4 +1,4 @@
-ghost use Rattle.std.specs.Prelude.{Some as AtAll, ◌^◌, ◌≡◌, ◌+◌, ◌≤◌, ◌<◌, ℕ, List, length, take, drop, slice_index, IfOk, IfErr, OnOk, Ok as IsOk, Err as IsErr, false, true, nat_lt};
+ghost use Rattle.std.specs.Prelude.{Some, ◌^◌, ◌≡◌, ◌+◌, ◌≤◌, ◌<◌, ℕ, List, length, take, drop, slice_index, IfOk, IfErr, OnOk, Ok, Err, false, true, nat_lt};
 ghost use Rattle.sm_world.specs.Disk.{KeepsToldSize, UsesDisk, has_failed};
 ghost use Rattle.checkpoint_records.specs.Damage.{StandFor};
 ghost use Rattle.checkpoint_slots.specs.Layout.{start_of, gate_at, is_gate_open as opens, is_open, slot_of};
@@ -81,7 +81,7 @@ fn current<D: Disk>(disk: &mut D, slot: Slot) -> Result<Current, Failure>
 /// The slot with the greater generation, where both gates are open.
 fn newer<D: Disk>(disk: &mut D) -> Result<Current, StoreFault>
     requires { (D.outside disk.old).size ≡ 16777280 }
-    ensures found { Finds (D.outside disk.old) (λ file current. AreOpen file → HasCurrent (AtAll current) file) (λ file at. AreOpen file → chosen file ≡ IsErr at) result }
+    ensures found { Finds (D.outside disk.old) (λ file current. AreOpen file → HasCurrent (Some current) file) (λ file at. AreOpen file → chosen file ≡ Err at) result }
     ensures world { Looks (D.outside disk.old) (D.outside disk.new) (is_disk_fault result) }
 {
     let first = current(disk, Slot::First)?;
@@ -98,7 +98,7 @@ fn newer<D: Disk>(disk: &mut D) -> Result<Current, StoreFault>
 /// The slot that is current, by the gates; None where no gate is open.
 fn choose<D: Disk>(disk: &mut D) -> Result<Option<Current>, StoreFault>
     requires { (D.outside disk.old).size ≡ 16777280 }
-    ensures found { Finds (D.outside disk.old) (λ file current. HasCurrent current file) (λ file at. chosen file ≡ IsErr at) result }
+    ensures found { Finds (D.outside disk.old) (λ file current. HasCurrent current file) (λ file at. chosen file ≡ Err at) result }
     ensures world { Looks (D.outside disk.old) (D.outside disk.new) (is_disk_fault result) }
 {
     let first = is_open_at(disk, Slot::First.gate())?;
@@ -112,7 +112,12 @@ fn choose<D: Disk>(disk: &mut D) -> Result<Option<Current>, StoreFault>
 }
 
 /// So many bytes from this place on.
-fn read_bytes<D: Disk>(alloc: Global, disk: &mut D, at: u64, count: u32) -> Result<Vec<u8>, StoreFault>
+fn read_bytes<D: Disk>(
+    alloc: Global,
+    disk: &mut D,
+    at: u64,
+    count: u32,
+) -> Result<Vec<u8>, StoreFault>
     requires { at + count ≤ (D.outside disk.old).size }
     ensures found { Finds (D.outside disk.old) (λ file bytes. bytes.items ≡ take count (drop at file)) (λ file at. Never) result }
     ensures world { Looks (D.outside disk.old) (D.outside disk.new) (is_disk_fault result) }
@@ -127,7 +132,7 @@ fn read_bytes<D: Disk>(alloc: Global, disk: &mut D, at: u64, count: u32) -> Resu
 /// The book that these bytes spell, which lie at a place of the file.
 fn whole_book(alloc: Global, at: u64, bytes: &[u8]) -> Result<Book, StoreFault>
     requires { at + length bytes.now < 2 ^ 64 }
-    ensures ok { IfOk result (λ book. StandFor bytes.now (IsOk book)) }
+    ensures ok { IfOk result (λ book. StandFor bytes.now (Ok book)) }
     ensures err { IfErr result (IsBookFault at bytes.now) }
 {
     match read_book(alloc, bytes) {
@@ -140,7 +145,7 @@ fn whole_book(alloc: Global, at: u64, bytes: &[u8]) -> Result<Book, StoreFault>
 /// The book of a slot.
 fn read_slot<D: Disk>(alloc: Global, disk: &mut D, slot: Slot) -> Result<Book, StoreFault>
     requires { (D.outside disk.old).size ≡ 16777280 }
-    ensures found { Finds (D.outside disk.old) (λ file book. SlotStands (start_of slot) (slot_of file slot) (IsOk book)) (λ file at. SlotStands (start_of slot) (slot_of file slot) (IsErr at)) result }
+    ensures found { Finds (D.outside disk.old) (λ file book. SlotStands (start_of slot) (slot_of file slot) (Ok book)) (λ file at. SlotStands (start_of slot) (slot_of file slot) (Err at)) result }
     ensures world { Looks (D.outside disk.old) (D.outside disk.new) (is_disk_fault result) }
 {
     let count = book_length(disk, slot)?;

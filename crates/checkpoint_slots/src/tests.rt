@@ -7,9 +7,7 @@ ghost use Rattle.checkpoint_records.specs.Rules.{KeepsRules};
 
 use crate::{Steady, StoreFault};
 use checkpoint_records::{Book, BookRefusal, read_book};
-use sm_world::{
-    Choice, Disk, Effect, EventList, MemWorld, NoMemory, NumberList, Octets,
-};
+use sm_world::{Choice, Disk, Effect, EventList, MemWorld, NoMemory, NumberList, Octets};
 use std::alloc::{Alloc, Global};
 use std::process::Abort;
 use std::test::Fail;
@@ -68,10 +66,7 @@ fn world_of(alloc: Global, store: Octets, failing: &[u64]) -> Result<MemWorld, N
 fn book_of(alloc: Global, epoch: u8) -> Result<Book, BookRefusal>
     ensures { IfOk result (λ book. KeepsRules book) }
 {
-    read_book(
-        alloc,
-        &[1, 0, 0, 0, epoch, 0, 0, 0, 0, 0, 0, 0, 0, 0, 0, 0],
-    )
+    read_book(alloc, &[1, 0, 0, 0, epoch, 0, 0, 0, 0, 0, 0, 0, 0, 0, 0, 0])
 }
 
 /// The epoch of the book that the store has.
@@ -133,7 +128,11 @@ fn a_commit_closes_fills_and_lifts(rt: HostRuntime) -> Result<(), Fail> {
 }
 
 /// The epochs that recovery finds after a crash, by each choice.
-fn epochs_left(rt: &impl Alloc<A = Global>, world: &MemWorld, first: usize) -> Result<Octets, Fail> {
+fn epochs_left(
+    rt: &impl Alloc<A = Global>,
+    world: &MemWorld,
+    first: usize,
+) -> Result<Octets, Fail> {
     let mut epochs = Octets::new(rt.alloc());
     if first > world.effects().len() {
         return Ok(epochs);
@@ -164,7 +163,11 @@ fn a_crash_leaves_the_old_book_or_the_new_one(rt: HostRuntime) -> Result<(), Fai
     assert!(rt; commit(rt.alloc(), &mut world, 1).is_ok());
     for (first, wanted) in EPOCHS.iter().enumerate() {
         let epochs = epochs_left(&rt, &world, first)?;
-        assert_eq!(rt; epochs.as_slice(), wanted.as_slice(), "after {first} effects");
+        assert_eq!(rt;
+            epochs.as_slice(),
+            wanted.as_slice(),
+            "after {first} effects"
+        );
     }
     Ok(())
 }
@@ -188,13 +191,25 @@ const LAST_SLOT: [u8; 24] = [
 fn a_store_is_damaged_at_its_place(rt: HostRuntime) -> Result<(), Fail> {
     let alloc = rt.alloc();
     let no_book = store_with(alloc, &[OPEN_GATE])?;
-    assert_eq!(rt; recovered(alloc, no_book)?, Err(StoreFault::Damaged { at: 80 }));
+    assert_eq!(rt;
+        recovered(alloc, no_book)?,
+        Err(StoreFault::Damaged { at: 80 })
+    );
     let odd_length = store_with(alloc, &[OPEN_GATE, (72, &[9])])?;
-    assert_eq!(rt; recovered(alloc, odd_length)?, Err(StoreFault::Damaged { at: 72 }));
+    assert_eq!(rt;
+        recovered(alloc, odd_length)?,
+        Err(StoreFault::Damaged { at: 72 })
+    );
     let gate_behind = store_with(alloc, &[OPEN_GATE, (64, &FIRST_BODY), (96, &[0xa5])])?;
-    assert_eq!(rt; recovered(alloc, gate_behind)?, Err(StoreFault::Damaged { at: 96 }));
+    assert_eq!(rt;
+        recovered(alloc, gate_behind)?,
+        Err(StoreFault::Damaged { at: 96 })
+    );
     let equal = store_with(alloc, &[OPEN_GATE, (32, &[0xa5])])?;
-    assert_eq!(rt; recovered(alloc, equal)?, Err(StoreFault::Damaged { at: 64 }));
+    assert_eq!(rt;
+        recovered(alloc, equal)?,
+        Err(StoreFault::Damaged { at: 64 })
+    );
     let blank = blank_store(alloc)?;
     assert_eq!(rt; recovered(alloc, blank)?, Ok(0));
     Ok(())
@@ -203,7 +218,10 @@ fn a_store_is_damaged_at_its_place(rt: HostRuntime) -> Result<(), Fail> {
 #[test]
 fn a_store_of_another_size_is_refused(rt: HostRuntime) -> Result<(), Fail> {
     let mut world = world_of(rt.alloc(), Octets::new(rt.alloc()), &[])?;
-    assert_eq!(rt; epoch_in(rt.alloc(), &mut world), Err(StoreFault::WrongSize { size: 0 }));
+    assert_eq!(rt;
+        epoch_in(rt.alloc(), &mut world),
+        Err(StoreFault::WrongSize { size: 0 })
+    );
     Ok(())
 }
 
@@ -249,7 +267,10 @@ fn survives(rt: &impl Alloc<A = Global>, number: u64) -> Result<bool, Fail> {
     };
     let count = world.effects().len();
     let epochs = epochs_left(rt, &world, count)?;
-    let whole = epochs.as_slice().iter().all(|epoch| *epoch == 1 || *epoch == 2);
+    let whole = epochs
+        .as_slice()
+        .iter()
+        .all(|epoch| *epoch == 1 || *epoch == 2);
     Ok(failed && whole)
 }
 

@@ -1,9 +1,7 @@
-use Rattle.std.proofs.Common.{◌≡◌, ◌+◌, ◌≤◌, ◌%◌, ℕ, Bool, true, false, List, take, drop, slice_index, refl, ap, sym, ◌∙◌, arith}
+use Rattle.std.proofs.Common.{◌≡◌, ◌+◌, ℕ, true, false, List, take, drop, slice_index, refl, ap, sym, ◌∙◌}
 use Rattle.std.specs.Prelude.{Ok, Err}
-use Rattle.checkpoint_records.specs.declared.records.Book.{Book}
-use Rattle.checkpoint_slots.specs.Layout.{is_gate_open, slot_of, start_of}
+use Rattle.checkpoint_slots.specs.Layout.{is_gate_open}
 use Rattle.checkpoint_slots.specs.Causes.{Never}
-use Rattle.checkpoint_slots.specs.Recovery.{SlotStands, length_of}
 use Rattle.checkpoint_slots.proofs.Looking.{bad-length, book-fault, no-damage, read-stands, settled-on}
 use Rattle.checkpoint_slots.proofs.recovery.read_slot.Goals as goal
 
@@ -19,9 +17,9 @@ returns-in-Err-whole_book-clause-found g c =
     let n : ℕ = c.in_ok-count.count in
     let bytes : List ℕ = c.deref.result.now in
     book-fault {B = ℕ} _ (λ file x. Never) _ at bytes c.in-Err-whole_book.fault c.in-Err-whole_book.ensures.err (λ file settled damage stands.
-        let once = settled-on file c.in_ok-count.ensures.world settled in
-        let read : bytes ≡ take n (drop at file) = c.deref.ensures.value ∙ c.in-Ok.ensures.found file once in
-        read-stands file c.args.slot at n bytes (Err damage) (is_gate_open (slice_index file (at + n))) (ap (λ (k : ℕ). k + 16) c.start-at.ensures) (c.in_ok-count.ensures.number file settled) c.if-count-ne0.false c.if-count-gt-BOOK_BYTES.false read stands refl)
+    let once = settled-on file c.in_ok-count.ensures.world settled in
+    let read : bytes ≡ take n (drop at file) = c.deref.ensures.value ∙ c.in-Ok.ensures.found file once in
+    read-stands file c.args.slot at n bytes (Err damage) (is_gate_open (slice_index file (at + n))) (ap (λ (k : ℕ). k + 16) c.start-at.ensures) (c.in_ok-count.ensures.number file settled) c.if-count-ne0.false c.if-count-gt-BOOK_BYTES.false read stands refl)
 
 pub returns-then-branch-clause-found : goal.returns-then-branch-clause-found
 returns-then-branch-clause-found g c = λ file settled.

@@ -1,5 +1,5 @@
 use Rattle.byteorder.specs.Endian.{little_bytes}
-use Rattle.std.proofs.Common.{ℕ, List, ◌≡◌, ◌++◌, ◌+◌, length, replicate, ap, sym, refl, ◌∙◌, arith}
+use Rattle.std.proofs.Common.{ℕ, List, ◌≡◌, ◌++◌, length, replicate, ap, ◌∙◌, arith}
 use Rattle.checkpoint_slots.proofs.Bodies.{body-is}
 use Rattle.checkpoint_slots.proofs.Room.{book-room}
 use Rattle.checkpoint_slots.proofs.turn.body_of.Goals as goal

@@ -1,4 +1,4 @@
-use Rattle.std.proofs.Common.{◌≡◌, ◌∷◌, [], ap, ◌∙◌}
+use Rattle.std.proofs.Common.{◌≡◌, ap, ◌∙◌}
 use Rattle.checkpoint_slots.specs.Layout.{start_of}
 use Rattle.checkpoint_slots.specs.Turns.{target}
 use Rattle.checkpoint_slots.specs.declared.fault.StoreFault.TheVariants.{DiskFault}

@@ -1,5 +1,5 @@
 use Rattle.checkpoint_records.specs.Spelling.{book_bytes}
-use Rattle.std.proofs.Common.{◌≡◌, ◌+◌, ◌≤◌, length, ap, ◌∙◌, arith}
+use Rattle.std.proofs.Common.{◌≡◌, ◌+◌, length, ap, ◌∙◌, arith}
 use Rattle.checkpoint_slots.proofs.Bodies.{body-length}
 use Rattle.checkpoint_slots.proofs.Room.{book-room}
 use Rattle.checkpoint_slots.proofs.turn.Steady.spell.Goals as goal
