@@ -9,3 +9,5 @@ pub mod Asking
 pub mod Saying
 pub mod SecondPhase
 pub mod Reaching
+pub mod Keeping
+pub mod Fitting

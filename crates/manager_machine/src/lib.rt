@@ -3,17 +3,27 @@
 
 mod counts;
 mod departures;
+mod events;
+mod faults;
 mod given;
 mod heard;
 mod ids;
 mod inner;
 mod kept;
+mod manager;
 mod marks;
 mod messages;
+mod opening;
 mod registration;
 mod rounds;
 mod running;
 mod second;
 mod strays;
+mod stubs;
 mod token;
 mod waits;
+
+pub use events::Acts;
+pub use faults::TakeFault;
+pub use manager::Manager;
+pub use session_model::{Act, SessionEvent};
