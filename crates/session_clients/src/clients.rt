@@ -1,4 +1,4 @@
-ghost use Rattle.std.specs.Prelude.{◌≡◌, ◌++◌, [], ◌∷◌, ℕ, List, false, filter, is_some, length, not, option_copied, unwrap_or, IfOk, OnOk};
+ghost use Rattle.std.specs.Prelude.{◌≡◌, [], ℕ, List, false, filter, is_some, length, not, option_copied, unwrap_or, IfOk, OnOk};
 ghost use Rattle.std.specs.List.{list_any};
 ghost use Rattle.ice_values.specs.declared.property.Property.{Property};
 ghost use Rattle.xsmp_messages.specs.declared.message.XsmpMessage.TheVariants.{RegisterClientReply};
@@ -34,7 +34,8 @@ use xsmp_messages::XsmpMessage;
 use xsmp_properties::PropertyTable;
 
 /// What is held of all clients: a row for each live connection, in the order in which they joined,
-/// and the registered connections, in the order in which they registered.
+/// and the registered connections, in the order in which they registered. Where a step answers want
+/// of memory, nothing is promised of what is held then.
 #[derive(Drop)]
 pub struct Clients {
     rows: Vec<Client>,

@@ -32,10 +32,14 @@ fn command(alloc: Global, name: &[u8], file: &[u8]) -> Result<PropertyList, NoMe
     Ok(list)
 }
 
-fn set_discard(alloc: Global, file: &[u8]) -> Result<XsmpMessage, NoMemory> {
-    Ok(XsmpMessage::SetProperties {
-        properties: command(alloc, b"DiscardCommand", file)?,
-    })
+/// A client says that these properties are set.
+fn set(clients: &mut Clients, conn: Conn, properties: PropertyList) -> Result<(), NoMemory> {
+    clients.hear(conn, &XsmpMessage::SetProperties { properties }, None)
+}
+
+/// A client says that the properties of these names are deleted.
+fn delete(clients: &mut Clients, conn: Conn, names: Array8List) -> Result<(), NoMemory> {
+    clients.hear(conn, &XsmpMessage::DeleteProperties { names }, None)
 }
 
 /// A book with an entry under this ID.
@@ -137,33 +141,62 @@ fn connections_leave(rt: HostRuntime) -> Result<(), Fail> {
     Ok(())
 }
 
-#[test]
-fn properties_are_set_and_deleted(rt: HostRuntime) -> Result<(), Fail> {
-    let alloc = rt.alloc();
+/// The first two connections say that they have a DiscardCommand.
+fn told(alloc: Global) -> Result<Clients, NoMemory> {
     let mut clients = three(alloc)?;
-    clients.hear(1, &set_discard(alloc, b"a")?, None)?;
-    clients.hear(2, &set_discard(alloc, b"b")?, None)?;
-    assert!(rt; has_discard(clients.table(1)));
-    assert!(rt; !has_discard(clients.table(2)));
-    assert!(rt; clients.discard(1)?.is_some());
-    assert_eq!(rt; clients.standing()?.as_slice().len(), 1);
+    set(&mut clients, 1, command(alloc, b"DiscardCommand", b"a")?)?;
+    set(&mut clients, 2, command(alloc, b"DiscardCommand", b"b")?)?;
+    Ok(clients)
+}
+
+fn discard_name(alloc: Global) -> Result<Array8List, NoMemory> {
     let mut names = Array8List::new(alloc);
     names.push(Octets::from_slice(alloc, b"DiscardCommand")?)?;
-    clients.hear(1, &XsmpMessage::DeleteProperties { names }, None)?;
-    assert!(rt; clients.discard(1)?.is_none());
+    Ok(names)
+}
+
+#[test]
+fn a_registered_client_sets_properties(rt: HostRuntime) -> Result<(), Fail> {
+    let clients = told(rt.alloc())?;
+    assert!(rt; has_discard(clients.table(1)));
+    assert!(rt; !has_discard(clients.table(2)));
+    let discards = clients.standing()?;
+    assert_eq!(rt; discards.as_slice().len(), 1);
     Ok(())
+}
+
+#[test]
+fn a_client_deletes_properties(rt: HostRuntime) -> Result<(), Fail> {
+    let alloc = rt.alloc();
+    let mut clients = told(alloc)?;
+    let before = clients.discard(1)?.is_some();
+    assert!(rt; before);
+    delete(&mut clients, 1, discard_name(alloc)?)?;
+    let after = clients.discard(1)?.is_some();
+    assert!(rt; !after);
+    Ok(())
+}
+
+/// A property of more bytes than a table may have.
+fn large(alloc: Global) -> Result<PropertyList, NoMemory> {
+    command(alloc, b"DiscardCommand", &[b'a'; 16_384])
 }
 
 #[test]
 fn a_table_has_its_limit(rt: HostRuntime) -> Result<(), Fail> {
     let alloc = rt.alloc();
-    let mut clients = three(alloc)?;
+    let clients = three(alloc)?;
     let small = command(alloc, b"DiscardCommand", b"a")?;
-    let large = command(alloc, b"DiscardCommand", &[b'a'; 16_384])?;
     assert!(rt; !clients.would_be_full(1, &small)?);
-    assert!(rt; clients.would_be_full(1, &large)?);
-    let message = XsmpMessage::SetProperties { properties: large };
-    clients.hear(1, &message, None)?;
+    assert!(rt; clients.would_be_full(1, &large(alloc)?)?);
+    Ok(())
+}
+
+#[test]
+fn a_list_that_does_not_fit_is_not_set(rt: HostRuntime) -> Result<(), Fail> {
+    let alloc = rt.alloc();
+    let mut clients = three(alloc)?;
+    set(&mut clients, 1, large(alloc)?)?;
     assert!(rt; !has_discard(clients.table(1)));
     Ok(())
 }
@@ -175,7 +208,7 @@ fn a_snapshot_is_of_a_save(rt: HostRuntime) -> Result<(), Fail> {
     save(&mut clients, false)?;
     assert!(rt; clients.saved(1).is_none());
     clients.give(1, &XsmpMessage::SaveComplete);
-    clients.hear(1, &set_discard(alloc, b"a")?, None)?;
+    set(&mut clients, 1, command(alloc, b"DiscardCommand", b"a")?)?;
     save(&mut clients, true)?;
     assert!(rt; has_discard(clients.saved(1)));
     clients.give(1, &XsmpMessage::SaveComplete);
