@@ -1,3 +1,4 @@
 pub mod Order
 pub mod Given
 pub mod Kept
+pub mod Answers
