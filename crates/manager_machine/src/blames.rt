@@ -31,7 +31,8 @@ pub(crate) fn bad_id(
 {
     let offence = Offence::of(message, sequence);
     let shown = part(frame, 8, SHOWN_LIMIT);
-    bad_value(alloc, Severity::CanContinue, offence, 8, shown)
+    let error = bad_value(alloc, Severity::CanContinue, offence, 8, shown)?;
+    Ok(error)
 }
 
 /// The Error for a new client where there is no room for one more ID.
@@ -45,7 +46,8 @@ pub(crate) fn no_room(
 {
     let offence = Offence::of(message, sequence);
     let shown = part(frame, 8, 8);
-    bad_value(alloc, Severity::FatalToProtocol, offence, 8, shown)
+    let error = bad_value(alloc, Severity::FatalToProtocol, offence, 8, shown)?;
+    Ok(error)
 }
 
 /// The Error for properties that don't fit into the table of their client.
@@ -59,7 +61,8 @@ pub(crate) fn full_table(
 {
     let offence = Offence::of(message, sequence);
     let shown = part(frame, 8, 4);
-    bad_value(alloc, Severity::CanContinue, offence, 8, shown)
+    let error = bad_value(alloc, Severity::CanContinue, offence, 8, shown)?;
+    Ok(error)
 }
 
 /// The Error for a client that wants to be shut down alone.
@@ -73,5 +76,6 @@ pub(crate) fn lone_shutdown(
 {
     let offence = Offence::of(message, sequence);
     let shown = part(frame, 12, 1);
-    bad_value(alloc, Severity::CanContinue, offence, 12, shown)
+    let error = bad_value(alloc, Severity::CanContinue, offence, 12, shown)?;
+    Ok(error)
 }

@@ -170,6 +170,13 @@ impl Core {
         }
     }
 
+    /// Whether a message has its place, by the phase of its sender.
+    fn belongs(&self, conn: Conn, message: &XsmpMessage) -> bool
+        ensures { result ≡ belongs (wanted self.now.round) message.now (phase_in conn self.now.clients.rows) }
+    {
+        has_place(wanted_in(&self.round), message, self.clients.phase(conn))
+    }
+
     /// The answer to a message of a client that wasn't told to die.
     fn reply_by_phase(
         &self,
@@ -180,12 +187,12 @@ impl Core {
     ) -> Result<Reply, NoMemory>
         ensures { IfOk result (λ reply. (s : Session) → moves_of s reply ≡ of.answered (reading_in self.now) (arrival conn message.now sequence frame.now) message.now (phase_in conn self.now.clients.rows)) }
     {
-        let phase = self.clients.phase(conn);
-        if has_place(wanted_in(&self.round), message, phase) {
-            return self.reply_in_place(conn, message, sequence, frame);
+        if !self.belongs(conn, message) {
+            let alloc = *self.acts.allocator();
+            return Ok(refusal(alloc, conn, message, sequence));
         }
-        let alloc = *self.acts.allocator();
-        Ok(refusal(alloc, conn, message, sequence))
+        let reply = self.reply_in_place(conn, message, sequence, frame)?;
+        Ok(reply)
     }
 
     /// The answer to a message that doesn't end anything. A client that was told to die is heard
