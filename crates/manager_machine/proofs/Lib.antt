@@ -11,3 +11,4 @@ pub mod SecondPhase
 pub mod Reaching
 pub mod Keeping
 pub mod Fitting
+pub mod Replying

@@ -2,3 +2,4 @@ pub mod Order
 pub mod Given
 pub mod Kept
 pub mod Keeper
+pub mod Answers

@@ -1,7 +1,9 @@
 //! The manager of a session: what it hears, and what it does about that, one event after another.
 #![tactic(auto)]
 
+mod blames;
 mod counts;
+mod departing;
 mod departures;
 mod events;
 mod faults;
@@ -14,9 +16,14 @@ mod manager;
 mod marks;
 mod messages;
 mod opening;
+mod orders;
+mod perform;
+mod registering;
 mod registration;
+mod replies;
 mod rounds;
 mod running;
+mod said;
 mod second;
 mod strays;
 mod stubs;
