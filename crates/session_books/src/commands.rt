@@ -41,11 +41,7 @@ fn last_command(
 
 /// What is started when the session ends, in the order of the book: the ShutdownCommand of each
 /// entry with the hint Anyway whose client isn't there (XSMP, chapter 11).
-pub fn last_commands(
-    alloc: Global,
-    clients: &Clients,
-    book: &Book,
-) -> Result<CommandList, NoMemory>
+pub fn last_commands(alloc: Global, clients: &Clients, book: &Book) -> Result<CommandList, NoMemory>
     ensures { IfOk result (λ commands. commands ≡ filter_map (command_at_end (clients_in clients.now)) book.now.entries) }
 {
     let mut commands = CommandList::new(alloc);
