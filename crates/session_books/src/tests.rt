@@ -186,7 +186,7 @@ fn commands_are_of_the_hint_anyway(rt: HostRuntime) -> Result<(), Fail> {
 #[test]
 fn who_is_there_needs_no_last_command(rt: HostRuntime) -> Result<(), Fail> {
     let alloc = rt.alloc();
-    let commands = last_commands(alloc, &two(alloc, true)?, &example(alloc)?)?;
+    let commands = last_commands(alloc, &two(alloc, true)?, &example(alloc)?.entries)?;
     let mut text = Octets::new(alloc);
     for command in commands.as_slice() {
         add_command(&mut text, command)?;
