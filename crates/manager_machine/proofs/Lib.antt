@@ -1,3 +1,4 @@
 pub mod Acting
 pub mod Hearing
 pub mod Counted
+pub mod Carrying

@@ -1,3 +1,5 @@
 pub mod Order
 pub mod Given
 pub mod Kept
+pub mod Settling
+pub mod Agreeing
