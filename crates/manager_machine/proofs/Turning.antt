@@ -28,20 +28,9 @@ went-moves : (moves : List Move) (n : ℕ) (s : Session) → not (is_nil moves) 
 went-moves [] n s e = absurd (grind arith)
 went-moves (m ∷ moves) n s e = refl
 
-no-moves : (moves : List Move) → not (is_nil moves) ≡ false → moves ≡ []
-no-moves [] e = refl
-no-moves (m ∷ moves) e = absurd (grind arith)
-
 -- a rule held, and the others go on from there
 pub settle-went : (n : ℕ) (s t : Session) (went : Bool) → went ≡ true → WentOn (rule (reading_in s)) went s t → settle_in n t ≡ settle_in (suc n) s
 settle-went n s t went e w = ap (λ (x : Session). settle_in n x) w.0 ∙ sym (went-moves (rule (reading_in s)) n s (sym w.1 ∙ e))
-
--- no rule held, so all has settled
-pub settle-rested : (n : ℕ) (s t : Session) (went : Bool) → went ≡ false → WentOn (rule (reading_in s)) went s t → t ≡ settle_in n s
-settle-rested zero s t went e w = w.0 ∙ ap (λ (moves : List Move). moved_all moves s) (no-moves (rule (reading_in s)) (sym w.1 ∙ e))
-settle-rested (suc n) s t went e w =
-    let none = no-moves (rule (reading_in s)) (sym w.1 ∙ e) in
-    w.0 ∙ ap (λ (moves : List Move). moved_all moves s) none ∙ sym (ap (λ (moves : List Move). go_on_in (λ x. settle_in n x) s moves) none)
 
 -- it goes on in order
 pub in-order-went : (s t : Session) (went : Bool) → went ≡ true → WentOn (rule (reading_in s)) went s t → SettlesInOrder s → SettlesInOrder t

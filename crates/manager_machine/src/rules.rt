@@ -67,15 +67,6 @@ fn members_for(alloc: Global, only: Option<Conn>, conns: &[Conn]) -> Result<Conn
     }
 }
 
-/// How often the rules hold at most, where so many rounds wait. A number that is too large is
-/// refused as want of memory is.
-fn rule_limit(waits: usize) -> Result<usize, NoMemory>
-    ensures { IfOk result (λ limit. limit ≡ 4 * waits + 4) }
-{
-    let limit = waits.checked_mul(4).ok_or(NoMemory)?;
-    limit.checked_add(4).ok_or(NoMemory)
-}
-
 impl Core {
     fn progress(&self) -> Progress
         ensures { result ≡ progress_in self.now.round }
@@ -171,7 +162,7 @@ impl Core {
         requires { SettlesInOrder self.old }
         ensures { OnOk result (self.new ≡ settled_in self.old) }
     {
-        let limit = rule_limit(self.waits.len())?;
+        let limit = 4 * self.waits.len() + 4;
         for _rule in 0..limit {
             if !self.settle_once()? {
                 return Ok(());
