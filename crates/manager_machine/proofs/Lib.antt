@@ -12,3 +12,6 @@ pub mod Reaching
 pub mod Keeping
 pub mod Fitting
 pub mod Replying
+pub mod Carrying
+pub mod Going
+pub mod Turning

@@ -1,6 +1,7 @@
 //! The manager of a session: what it hears, and what it does about that, one event after another.
 #![tactic(auto)]
 
+mod agreement;
 mod blames;
 mod counts;
 mod departing;
@@ -22,11 +23,11 @@ mod registering;
 mod registration;
 mod replies;
 mod rounds;
+mod rules;
 mod running;
 mod said;
 mod second;
 mod strays;
-mod stubs;
 mod token;
 mod waits;
 

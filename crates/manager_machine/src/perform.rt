@@ -1,7 +1,6 @@
 ghost use Rattle.std.specs.Prelude.{◌≡◌, ◌∷◌, [], codes, OnOk};
 ghost use Rattle.session_model.specs.declared.events.SessionEvent.TheVariants.{Joined as HasJoined, Left as HasLeft, Operator as HasOrdered, Said as HasSaid};
-ghost use Rattle.session_model.specs.Books.{issue as issue_moves, with_entries};
-ghost use Rattle.discard_ledger.specs.Discards.{issuable as may_run};
+ghost use Rattle.session_model.specs.Books.{with_entries};
 ghost use Rattle.session_model.specs.Moves.{Blamed, Outside, Printed, Unset};
 ghost use Rattle.session_model.specs.Replies.{reply as answer_to, resigned};
 ghost use Rattle.session_state.specs.Session.{moved, moved_all, reading_in};
@@ -12,7 +11,7 @@ use crate::inner::Core;
 use crate::replies::{Again, Forgetting, Reply};
 use ice_values::ErrorBody;
 use session_model::SessionEvent;
-use sm_world::{Command, CommandList, Conn, ConnList, NoMemory, Octets, Order};
+use sm_world::{Command, Conn, ConnList, NoMemory, Octets, Order};
 use xsmp_messages::XsmpMessage;
 
 impl Core {
@@ -70,15 +69,6 @@ impl Core {
             Some(command) => self.start(command),
             None => Ok(()),
         }
-    }
-
-    /// The pending commands are run that aren't among these, which stand.
-    fn discard(&mut self, standing: &CommandList) -> Result<(), NoMemory>
-        ensures { OnOk result (self.new ≡ moved_all (issue_moves self.old.book (may_run standing.now self.old.book.pending)) self.old) }
-    {
-        let commands = self.ledger.issuable(standing)?;
-        self.issue(&commands)?;
-        Ok(())
     }
 
     /// The line `ok` is printed, and a client is forgotten.
