@@ -1,17 +1,18 @@
 -- Books that are written, and commands that are tried before one is.
-use Rattle.std.proofs.Common.{◌≡◌, refl, ◌<◌, length, arith, List, [], ◌∷◌, ◌++◌, sym, ◌∙◌, map-id}
+use Rattle.std.proofs.Common.{◌≡◌, refl, ◌<◌, length, arith, List, [], ◌∷◌, ◌++◌, ap, sym, ◌∙◌, map-id}
 use Rattle.sm_world.specs.declared.commands.Command.{Command}
 use Rattle.checkpoint_records.specs.declared.records.Book.{Book}
 use Rattle.discard_ledger.specs.Discards.{without_commands}
 use Rattle.session_model.specs.declared.events.Act.TheVariants.{Commit}
-use Rattle.session_model.specs.Books.{issue}
-use Rattle.session_model.specs.Moves.{Committed, Discard, Move, tried_each}
+use Rattle.restart_plan.specs.Restarts.{opening_restarts}
+use Rattle.session_model.specs.Books.{issue, opening_moves, raised}
+use Rattle.session_model.specs.Moves.{Committed, Discard, Move, Restart, tried_each}
 use Rattle.session_state.specs.Session.{Session, moved, moved_all}
 
 pub committed-by : (book told : Book) (strays : List Command) (s : Session) → told ≡ book → strays ≡ [] → record s { book = book; strays = strays; acts = s.acts ++ Commit told ∷ [] } ≡ moved (Committed book) s
 committed-by book told strays s e k = λ i. record s { clients = record { rows = sym (map-id s.clients.rows) i; registered = s.clients.registered }; book = book; strays = k i; acts = s.acts ++ Commit (e i) ∷ [] }
 
-all-append : (first second : List Move) (s : Session) → moved_all (first ++ second) s ≡ moved_all second (moved_all first s)
+pub all-append : (first second : List Move) (s : Session) → moved_all (first ++ second) s ≡ moved_all second (moved_all first s)
 all-append [] second s = refl
 all-append (m ∷ first) second s = all-append first second (moved m s)
 
@@ -21,3 +22,13 @@ issued [] s t u book n b e f = absurd (omega arith)
 issued (command ∷ commands) s t u book n b e f =
     f ∙ (λ i. moved (Committed (b i)) (e i))
     ∙ sym (all-append (tried_each Discard (command ∷ commands)) (Committed (record s.book { pending = without_commands (command ∷ commands) s.book.pending }) ∷ []) s)
+
+-- the book of the next epoch is written, its pending commands are tried, and clients are started again
+pub begun-by : (s t u v : Session) (book : Book) (pending restarts : List Command) → book ≡ raised s.book → pending ≡ s.book.pending → restarts ≡ opening_restarts s.book.entries
+    → t ≡ moved (Committed book) s → u ≡ moved_all (issue t.book pending) t → v ≡ moved_all (tried_each Restart restarts) u → v ≡ moved_all (opening_moves s.book) s
+begun-by s t u v book pending restarts b p r e f g =
+    let first : t ≡ moved (Committed (raised s.book)) s = e ∙ ap (λ (x : Book). moved (Committed x) s) b in
+    g
+    ∙ (λ i. moved_all (tried_each Restart (r i)) (f i))
+    ∙ (λ i. moved_all (tried_each Restart (opening_restarts s.book.entries)) (moved_all (issue (first i).book (p i)) (first i)))
+    ∙ sym (all-append (issue (raised s.book) s.book.pending) (tried_each Restart (opening_restarts s.book.entries)) (moved (Committed (raised s.book)) s))

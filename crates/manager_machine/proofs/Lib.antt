@@ -9,3 +9,9 @@ pub mod Asking
 pub mod Saying
 pub mod SecondPhase
 pub mod Reaching
+pub mod Keeping
+pub mod Fitting
+pub mod Replying
+pub mod Carrying
+pub mod Going
+pub mod Turning

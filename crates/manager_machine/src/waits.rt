@@ -88,7 +88,7 @@ fn has_operator(waits: &[Wait]) -> bool
 }
 
 /// The operator has to wait: a shutdown was agreed, or a round of the operator waits.
-fn is_busy(is_ending: bool, waits: &[Wait]) -> bool
+pub(crate) fn is_busy(is_ending: bool, waits: &[Wait]) -> bool
     ensures { result ≡ of.is_busy is_ending waits.now }
 {
     is_ending || has_operator(waits)

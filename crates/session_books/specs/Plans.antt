@@ -1,6 +1,7 @@
 -- What the next book looks at: the clients, the book of now, and whose clients are still expected.
 use Rattle.std.specs.Prelude.{List, None, [], false, ℕ}
 use Rattle.checkpoint_records.specs.declared.records.Book.{Book}
+use Rattle.checkpoint_records.specs.Books.{empty_book}
 use Rattle.session_model.specs.Reading.{Reading}
 use Rattle.session_clients.specs.Clients.{Held, clients_in}
 
@@ -12,3 +13,7 @@ seen held book expected = record {
   store = record { book = book; strays = [] };
   run = record { given = 0; expected = expected; respawns = λ id. 0; is_ending = false };
 }
+
+-- where nothing counts but whose clients are still expected
+abbrev pub expecting : List (List ℕ) → Reading
+expecting expected = seen (record { rows = []; registered = [] }) empty_book expected

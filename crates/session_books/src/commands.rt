@@ -3,7 +3,7 @@ ghost use Rattle.session_model.specs.Books.{command_anyway as command_at_all};
 ghost use Rattle.session_model.specs.Rules.{last_command as command_at_end};
 ghost use Rattle.session_clients.specs.Clients.{clients_in};
 
-use checkpoint_records::{Book, Entry};
+use checkpoint_records::{Entry, EntryList};
 use session_clients::Clients;
 use sm_world::{Command, CommandList, NoMemory};
 use std::alloc::Global;
@@ -39,17 +39,17 @@ fn last_command(
     }
 }
 
-/// What is started when the session ends, in the order of the book: the ShutdownCommand of each
-/// entry with the hint Anyway whose client isn't there (XSMP, chapter 11).
+/// What is started when the session ends with these entries, in their order: the ShutdownCommand of
+/// each one with the hint Anyway whose client isn't there (XSMP, chapter 11).
 pub fn last_commands(
     alloc: Global,
     clients: &Clients,
-    book: &Book,
+    entries: &EntryList,
 ) -> Result<CommandList, NoMemory>
-    ensures { IfOk result (λ commands. commands ≡ filter_map (command_at_end (clients_in clients.now)) book.now.entries) }
+    ensures { IfOk result (λ commands. commands ≡ filter_map (command_at_end (clients_in clients.now)) entries.now) }
 {
     let mut commands = CommandList::new(alloc);
-    for entry in book.entries.as_slice() {
+    for entry in entries.as_slice() {
         if let Some(command) = last_command(alloc, clients, entry)? {
             commands.push(command)?;
         }

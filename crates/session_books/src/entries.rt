@@ -1,7 +1,9 @@
-ghost use Rattle.std.specs.Prelude.{◌≡◌, filter, not, None, IfOk};
+ghost use Rattle.std.specs.Prelude.{◌≡◌, ◌++◌, [], None, Some, cond, filter, filter_map, not, IfOk, OnOk};
+ghost use Rattle.checkpoint_records.specs.Books.{empty_book};
+ghost use Rattle.round_agreement.specs.Agreement.{conns_of};
 ghost use Rattle.session_model.specs.Tables.{has_id as has_that_id, is_of};
-ghost use Rattle.session_model.specs.Books.{is_eligible as may_start_again, recorded as entry_of_table, is_kept as stays, next_entry as entry_after, next_entries as entries_after, new_entry as entry_new};
-ghost use Rattle.session_books.specs.Plans.{seen};
+ghost use Rattle.session_model.specs.Books.{is_eligible as may_start_again, recorded as entry_of_table, is_kept as stays, entry_saved, snapshot, next_entry as entry_after, next_entries as entries_after, new_entry as entry_new};
+ghost use Rattle.session_books.specs.Plans.{expecting, seen};
 
 use checkpoint_records::{Book, Entry, EntryList};
 use ice_values::Array8;
@@ -41,13 +43,48 @@ fn has_id(id: &Array8, ids: &[Array8]) -> bool
 
 /// Whether the entry of a client that isn't there stays.
 fn is_kept(expected: &[Array8], shutdown: bool, entry: &Entry) -> bool
-    ensures { (held : Held) (book : Book) → result ≡ stays (seen held book expected.now) shutdown entry.now }
+    ensures { result ≡ stays (expecting expected.now) shutdown entry.now }
 {
     match hint_of(&entry.table) {
         Hint::Anyway => true,
         Hint::Immediately => true,
         Hint::IfRunning => has_id(&entry.id, expected) && !shutdown,
         Hint::Never => has_id(&entry.id, expected) && !shutdown,
+    }
+}
+
+/// What becomes of the entry of a client that isn't there; None where it goes.
+fn entry_left(
+    alloc: Global,
+    expected: &[Array8],
+    shutdown: bool,
+    entry: &Entry,
+) -> Result<Option<Entry>, NoMemory>
+    ensures { IfOk result (λ next. next ≡ cond (stays (expecting expected.now) shutdown entry.now) (Some entry.now) None) }
+{
+    if is_kept(expected, shutdown, entry) {
+        Ok(Some(entry.copy()?))
+    } else {
+        Ok(None)
+    }
+}
+
+/// What becomes of the entry of a client that is there, by its connection; None where it goes.
+fn entry_of_client(
+    alloc: Global,
+    clients: &Clients,
+    round: &Round,
+    conn: Conn,
+    entry: &Entry,
+) -> Result<Option<Entry>, NoMemory>
+    ensures { IfOk result (λ next. next ≡ entry_saved entry.now (snapshot (seen clients.now empty_book []) round.now conn)) }
+{
+    if !round.members().contains(&conn) {
+        return Ok(Some(entry.copy()?));
+    }
+    match clients.saved(conn) {
+        Some(table) => recorded(alloc, &entry.id, table),
+        None => Ok(Some(entry.copy()?)),
     }
 }
 
@@ -59,21 +96,11 @@ fn next_entry(
     expected: &[Array8],
     entry: &Entry,
 ) -> Result<Option<Entry>, NoMemory>
-    ensures { IfOk result (λ next. (book : Book) → next ≡ entry_after (seen clients.now book expected.now) round.now entry.now) }
+    ensures { IfOk result (λ next. next ≡ entry_after (seen clients.now empty_book expected.now) round.now entry.now) }
 {
-    let Some(conn) = clients.client_of(entry.id.as_slice()) else {
-        return if is_kept(expected, round.wanted().shutdown, entry) {
-            Ok(Some(entry.copy()?))
-        } else {
-            Ok(None)
-        };
-    };
-    if !round.members().contains(&conn) {
-        return Ok(Some(entry.copy()?));
-    }
-    match clients.saved(conn) {
-        Some(table) => recorded(alloc, &entry.id, table),
-        None => Ok(Some(entry.copy()?)),
+    match clients.client_of(entry.id.as_slice()) {
+        Some(conn) => entry_of_client(alloc, clients, round, conn, entry),
+        None => entry_left(alloc, expected, round.wanted().shutdown, entry),
     }
 }
 
@@ -84,7 +111,7 @@ fn new_entry(
     book: &Book,
     conn: Conn,
 ) -> Result<Option<Entry>, NoMemory>
-    ensures { IfOk result (λ entry. (expected : List (List ℕ)) → entry ≡ entry_new (seen clients.now book.now expected) conn) }
+    ensures { IfOk result (λ entry. entry ≡ entry_new (seen clients.now book.now []) conn) }
 {
     let Some(id) = clients.id(conn) else {
         return Ok(None);
@@ -123,7 +150,7 @@ fn old_entries(
     book: &Book,
     expected: &[Array8],
 ) -> Result<EntryList, NoMemory>
-    ensures { IfOk result (λ entries. entries ≡ filter_map (entry_after (seen clients.now book.now expected.now) round.now) book.now.entries) }
+    ensures { IfOk result (λ entries. entries ≡ filter_map (entry_after (seen clients.now empty_book expected.now) round.now) book.now.entries) }
 {
     let mut entries = EntryList::new(alloc);
     for entry in book.entries.as_slice() {
@@ -142,7 +169,7 @@ fn add_new(
     book: &Book,
     entries: &mut EntryList,
 ) -> Result<(), NoMemory>
-    ensures { OnOk result ((expected : List (List ℕ)) → entries.new ≡ entries.old ++ filter_map (entry_new (seen clients.now book.now expected)) (conns_of round.now.members)) }
+    ensures { OnOk result (entries.new ≡ entries.old ++ filter_map (entry_new (seen clients.now book.now [])) (conns_of round.now.members)) }
 {
     for conn in round.members() {
         if let Some(entry) = new_entry(alloc, clients, book, *conn)? {
@@ -158,7 +185,7 @@ pub fn entries_without(alloc: Global, book: &Book, id: &[u8]) -> Result<EntryLis
 {
     let mut entries = EntryList::new(alloc);
     for entry in book.entries.as_slice() {
-        if entry.id.as_slice() != id {
+        if id != entry.id.as_slice() {
             entries.push(entry.copy()?)?;
         }
     }

@@ -1,0 +1,100 @@
+ghost use Rattle.std.specs.Prelude.{◌≡◌, ◌++◌, ◌<◌, ◌↔◌, true, is_err, Err, IfOk, OnOk};
+ghost use Rattle.checkpoint_records.specs.Rules.{KeepsRules};
+ghost use Rattle.session_clients.specs.Clients.{phase_in};
+ghost use Rattle.session_model.specs.Moves.{History, all_acts};
+ghost use Rattle.session_model.specs.Phases.{is_bound as is_bound_phase};
+ghost use Rattle.session_model.specs.Rules.{Takes, opened, taken};
+ghost use Rattle.session_state.specs.Session.{reading_in};
+ghost use Rattle.manager_machine.specs.Keeper.{AreFit, StandsFor};
+
+use crate::events::Acts;
+use crate::faults::TakeFault;
+use crate::inner::Core;
+use checkpoint_records::Book;
+use session_clients::is_bound;
+use session_model::{Marks, SessionEvent};
+use sm_world::{Conn, NoMemory};
+use std::alloc::Global;
+use std::marker::Model;
+
+/// The manager of a session (XSMP, chapters 6 to 8). It takes what happens, one event after another,
+/// and says what is to be done about each.
+#[derive(Drop)]
+pub struct Manager {
+    core: Core,
+    /// An earlier call answered want of memory.
+    stopped: bool,
+}
+
+impl Model for Manager {
+    ghost use Rattle.manager_machine.specs.Keeper.{IsKept, Keeper};
+
+    ghost Value = { Keeper };
+
+    ghost view = { λ manager. record { session = manager.core; stopped = manager.stopped } };
+
+    ghost invariant = { λ manager. IsKept manager.stopped manager.core };
+}
+
+impl Manager {
+    /// Opens a book: a run begins, with one more than the epoch of the book. The acts write the book
+    /// anew, try its pending commands, and start the clients of the last run again.
+    pub fn begin(alloc: Global, book: Book) -> Result<(Manager, Acts), NoMemory>
+        requires rules { KeepsRules book }
+        requires epoch { book.epoch < 4294967295 }
+        ensures stands { IfOk result (λ begun. StandsFor begun.0 (opened book)) }
+        ensures acts { IfOk result (λ begun. begun.1 ≡ all_acts (opened book)) }
+        ensures fit { IfOk result (λ begun. AreFit begun.1) }
+    {
+        let mut core = Core::open(alloc, book)?;
+        core.begin_run()?;
+        let acts = core.hand_over();
+        let manager = Manager {
+            core,
+            stopped: false,
+        };
+        Ok((manager, acts))
+    }
+
+    /// Takes an event, and gives what is to be done about it, in its order. A connection that joins
+    /// may not be live, and all that else happens on a connection asks that it is. XSMP begins on a
+    /// connection on which it hasn't yet, and a message comes on one on which it has; its frame spells
+    /// the message. After want of memory the manager is stopped, and takes nothing any more.
+    pub fn take(&mut self, event: SessionEvent) -> Result<Acts, TakeFault>
+        requires { Takes event (reading_in self.old.session) }
+        ensures stands { OnOk result ((h : History) → StandsFor self.old h → StandsFor self.new (taken event h)) }
+        ensures acts { IfOk result (λ acts. (h : History) → StandsFor self.old h → all_acts (taken event h) ≡ all_acts h ++ acts) }
+        ensures fit { IfOk result (λ acts. (h : History) → StandsFor self.old h → AreFit acts) }
+        ensures refused { (result ≡ Err TakeFault.Stopped) ↔ (self.old.stopped ≡ true) }
+        ensures stopped { self.new.stopped ≡ is_err result }
+    {
+        if self.stopped {
+            return Err(TakeFault::Stopped);
+        }
+        self.stopped = true;
+        let acts = self.core.take(event)?;
+        self.stopped = false;
+        Ok(acts)
+    }
+
+    /// Whether a connection is registered and wasn't told to die.
+    pub fn bound(&self, conn: Conn) -> bool
+        ensures { result ≡ is_bound_phase (phase_in conn self.now.session.clients.rows) }
+    {
+        is_bound(self.core.clients.phase(conn))
+    }
+
+    /// How far the rounds of all clients are.
+    pub fn marks(&self) -> Marks
+        ensures { result ≡ self.now.session.marks }
+    {
+        self.core.marks
+    }
+
+    /// The book that was written last.
+    pub fn book(&self) -> &Book
+        ensures { result.now ≡ self.now.session.book }
+    {
+        &self.core.book
+    }
+}

@@ -1,0 +1,177 @@
+ghost use Rattle.std.specs.Prelude.{◌≡◌, ◌∷◌, [], List, Some, codes, cond, filter, not, ℕ, IfOk};
+ghost use Rattle.sm_world.specs.declared.events.Order.TheVariants.{Cancel as ToCancel, DropConn as ToDrop};
+ghost use Rattle.session_answers.specs.Answers.{doing_text};
+ghost use Rattle.session_model.specs.declared.events.SessionEvent.TheVariants.{Joined as HasJoined, Left as HasLeft, Operator as HasOrdered};
+ghost use Rattle.session_model.specs.Books.{command_anyway as command_at_all, standing as standing_of};
+ghost use Rattle.session_model.specs.Moves.{Printed};
+ghost use Rattle.session_model.specs.Replies as of;
+ghost use Rattle.session_model.specs.Tables.{is_of};
+ghost use Rattle.session_clients.specs.Clients.{clients_in};
+ghost use Rattle.session_state.specs.Session.{Session, reading_in};
+ghost use Rattle.manager_machine.specs.Answers.{moves_of};
+
+use crate::inner::Core;
+use crate::replies::{Forgetting, Reply};
+use crate::running::wanted_in;
+use crate::said::members_of;
+use crate::waits::is_busy;
+use checkpoint_records::Entry;
+use round_agreement::Round;
+use session_answers::{Doing, Status, status_line};
+use session_books::{command_anyway, entries_without};
+use session_clients::entry_of;
+use sm_world::{Conn, NoMemory, Octets, Order};
+use std::alloc::Global;
+
+/// How many connections may be live.
+const LIVE_LIMIT: usize = 64;
+
+/// This line is printed.
+fn line(alloc: Global, text: &[u8]) -> Result<Reply, NoMemory>
+    ensures { IfOk result (λ reply. (s : Session) → moves_of s reply ≡ Printed text.now ∷ []) }
+{
+    Ok(Reply::Print(Octets::from_slice(alloc, text)?))
+}
+
+/// The answer to the operator's cancellation while a round runs.
+fn cancelling(alloc: Global, round: &Round) -> Result<Reply, NoMemory>
+    ensures { IfOk result (λ reply. (s : Session) → moves_of s reply ≡ cond round.now.wanted.shutdown (Printed (codes "ok") ∷ of.called_off (Some round.now)) (Printed (codes "no shutdown") ∷ [])) }
+{
+    if round.wanted().shutdown {
+        return Ok(Reply::PrintAndCallOff(members_of(alloc, round)?));
+    }
+    line(alloc, b"no shutdown")
+}
+
+impl Core {
+    /// The answer to the operator's checkpoint or shutdown.
+    fn reply_to_request(&self) -> Result<Reply, NoMemory>
+        ensures { IfOk result (λ reply. (s : Session) → moves_of s reply ≡ of.may_wait (reading_in self.now)) }
+    {
+        let alloc = *self.acts.allocator();
+        if is_busy(self.is_ending, &self.waits) {
+            return line(alloc, b"busy");
+        }
+        line(alloc, b"ok")
+    }
+
+    /// The answer to the operator's cancellation.
+    fn reply_to_cancel(&self) -> Result<Reply, NoMemory>
+        ensures { IfOk result (λ reply. (s : Session) → moves_of s reply ≡ of.ordered (reading_in self.now) ToCancel) }
+    {
+        let alloc = *self.acts.allocator();
+        match &self.round {
+            Some(round) => cancelling(alloc, round),
+            None => line(alloc, b"no shutdown"),
+        }
+    }
+
+    /// The answer where the operator has a connection shut.
+    fn reply_to_drop(&self, conn: Conn) -> Result<Reply, NoMemory>
+        ensures { IfOk result (λ reply. (s : Session) → moves_of s reply ≡ of.ordered (reading_in self.now) (ToDrop conn)) }
+    {
+        if self.clients.is_live(conn) {
+            return Ok(Reply::PrintAndShut(conn, self.again(conn)?));
+        }
+        line(*self.acts.allocator(), b"no connection")
+    }
+
+    /// What the session is at.
+    fn doing(&self) -> Doing
+        ensures { doing_text result ≡ of.state_text (reading_in self.now) }
+    {
+        if self.is_ending {
+            return Doing::Ending;
+        }
+        match wanted_in(&self.round) {
+            Some(wanted) if wanted.shutdown => Doing::ShuttingDown,
+            Some(_) => Doing::Saving,
+            None => Doing::Idle,
+        }
+    }
+
+    /// The answer where the operator asks how the session is.
+    fn reply_to_status(&self) -> Result<Reply, NoMemory>
+        ensures { IfOk result (λ reply. (s : Session) → moves_of s reply ≡ Printed (of.status_text (reading_in self.now)) ∷ []) }
+    {
+        let status = Status {
+            connections: self.clients.live_count() as u64,
+            records: self.book.entries.as_slice().len() as u64,
+            pending: self.book.pending.as_slice().len() as u64,
+            epoch: self.book.epoch,
+            doing: self.doing(),
+        };
+        Ok(Reply::Print(status_line(*self.acts.allocator(), &status)?))
+    }
+
+    /// What goes with the client of an entry that is forgotten.
+    fn forgetting(&self, id: &Octets, entry: &Entry) -> Result<Forgetting, NoMemory>
+        ensures entries { IfOk result (λ plan. plan.entries ≡ filter (λ other. not (is_of id.now other)) self.now.book.entries) }
+        ensures resign { IfOk result (λ plan. plan.resign ≡ command_at_all (codes "ResignCommand") entry.now) }
+        ensures standing { IfOk result (λ plan. plan.standing ≡ standing_of (clients_in self.now.clients)) }
+    {
+        let alloc = *self.acts.allocator();
+        let entries = entries_without(alloc, &self.book, id.as_slice())?;
+        let resign = command_anyway(alloc, entry, b"ResignCommand")?;
+        let standing = self.clients.standing()?;
+        Ok(Forgetting {
+            entries,
+            resign,
+            standing,
+        })
+    }
+
+    /// The answer where the operator has the client of an entry forgotten.
+    fn reply_to_entry(&self, id: &Octets, entry: &Entry) -> Result<Reply, NoMemory>
+        ensures { IfOk result (λ reply. (s : Session) → (reading_in s).store ≡ (reading_in self.now).store → moves_of s reply ≡ of.forget_one (reading_in self.now) id.now (Some entry.now)) }
+    {
+        if self.clients.client_of(id.as_slice()).is_some() {
+            return line(*self.acts.allocator(), b"live");
+        }
+        Ok(Reply::Forget(self.forgetting(id, entry)?))
+    }
+
+    /// The answer where the operator has a client forgotten.
+    fn reply_to_forget(&self, id: &Octets) -> Result<Reply, NoMemory>
+        ensures { IfOk result (λ reply. (s : Session) → (reading_in s).store ≡ (reading_in self.now).store → moves_of s reply ≡ of.forget (reading_in self.now) id.now) }
+    {
+        if self.is_ending || self.round.is_some() {
+            return line(*self.acts.allocator(), b"busy");
+        }
+        match entry_of(&self.book, id.as_slice()) {
+            Some(entry) => self.reply_to_entry(id, entry),
+            None => line(*self.acts.allocator(), b"unknown"),
+        }
+    }
+
+    /// The answer to an order of the operator.
+    pub(crate) fn reply_to_order(&self, order: &Order) -> Result<Reply, NoMemory>
+        ensures { IfOk result (λ reply. (s : Session) → (reading_in s).store ≡ (reading_in self.now).store → moves_of s reply ≡ of.reply (reading_in self.now) (HasOrdered order.now)) }
+    {
+        match order {
+            Order::Checkpoint => self.reply_to_request(),
+            Order::Shutdown => self.reply_to_request(),
+            Order::Cancel => self.reply_to_cancel(),
+            Order::DropConn(conn) => self.reply_to_drop(*conn),
+            Order::Forget(id) => self.reply_to_forget(id),
+            Order::Status => self.reply_to_status(),
+        }
+    }
+
+    /// The answer to a connection that is gone.
+    pub(crate) fn reply_to_leaving(&self, conn: Conn) -> Result<Reply, NoMemory>
+        ensures { IfOk result (λ reply. (s : Session) → moves_of s reply ≡ of.reply (reading_in self.now) (HasLeft conn)) }
+    {
+        Ok(Reply::StartAgain(self.again(conn)?))
+    }
+
+    /// The answer to a connection that was opened.
+    pub(crate) fn reply_to_joining(&self, conn: Conn) -> Reply
+        ensures { (s : Session) → moves_of s result ≡ of.reply (reading_in self.now) (HasJoined conn) }
+    {
+        if self.is_ending || self.clients.live_count() >= LIVE_LIMIT {
+            return Reply::Shut(conn, None);
+        }
+        Reply::Quiet
+    }
+}

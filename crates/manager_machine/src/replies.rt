@@ -1,0 +1,52 @@
+use checkpoint_records::EntryList;
+use ice_values::{Array8, ErrorBody, PropertyList};
+use sm_world::{Command, CommandList, Conn, ConnList, Octets};
+
+/// A client that is started again at once, as it departs.
+#[derive(Drop)]
+pub(crate) struct Again {
+    /// The ID under which it registered.
+    pub(crate) id: Array8,
+    /// Its RestartCommand.
+    pub(crate) command: Command,
+}
+
+/// What goes with a client that is forgotten.
+#[derive(Drop)]
+pub(crate) struct Forgetting {
+    /// The entries of the book without that of the client.
+    pub(crate) entries: EntryList,
+    /// The client's ResignCommand, where its hint is Anyway.
+    pub(crate) resign: Option<Command>,
+    /// The DiscardCommands of the registered clients.
+    pub(crate) standing: CommandList,
+}
+
+/// What is done about an event, as it is told before the event changes anything.
+#[derive(Drop)]
+pub(crate) enum Reply {
+    /// Nothing.
+    Quiet,
+    /// An Error is sent.
+    Blame(Conn, ErrorBody),
+    /// An Error is sent, and XSMP ends on the connection.
+    TurnAway(Conn, ErrorBody),
+    /// A connection gets this ID.
+    Register(Conn, Array8),
+    /// A client is told its properties.
+    Tell(Conn, PropertyList),
+    /// The running round is called off, and these are told so.
+    CallOff(ConnList),
+    /// A connection is shut, and its client is started again, where it has to be.
+    Shut(Conn, Option<Again>),
+    /// The client that left is started again, where it has to be.
+    StartAgain(Option<Again>),
+    /// A line is printed.
+    Print(Octets),
+    /// The line `ok` is printed, and the running round is called off.
+    PrintAndCallOff(ConnList),
+    /// The line `ok` is printed, and a connection is shut.
+    PrintAndShut(Conn, Option<Again>),
+    /// The line `ok` is printed, and a client is forgotten.
+    Forget(Forgetting),
+}

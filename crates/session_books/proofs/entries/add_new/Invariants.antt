@@ -1,0 +1,10 @@
+use Rattle.std.proofs.Common.{◌≡◌, ◌++◌, [], drop, filter_map}
+use Rattle.round_agreement.specs.Agreement.{conns_of}
+use Rattle.session_model.specs.Books.{new_entry}
+use Rattle.session_books.specs.Plans.{seen}
+use Rattle.session_books.proofs.entries.add_new.Given as goal
+
+abbrev pub invariant-loop-conn : goal.invariant-loop-conn
+invariant-loop-conn l =
+    l.entries ++ filter_map (new_entry (seen l.clients l.book [])) (drop l.conn-index l.conn-items)
+    ≡ l.initial.entries ++ filter_map (new_entry (seen l.clients l.book [])) (conns_of l.round.members)
