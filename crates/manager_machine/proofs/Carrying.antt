@@ -15,11 +15,8 @@ use Rattle.manager_machine.specs.declared.agreement.Completion.{Completion}
 use Rattle.manager_machine.specs.declared.agreement.Completion.TheVariants.{End, Save}
 use Rattle.manager_machine.specs.declared.agreement.Ending.{Ending}
 use Rattle.manager_machine.specs.declared.agreement.Plan.{Plan}
+use Rattle.manager_machine.proofs.Committing.{all-append}
 use Rattle.manager_machine.specs.Agreeing.{carrying, completing, discarding, ending, planned}
-
-pub all-append : (first second : List Move) (s : Session) → moved_all (first ++ second) s ≡ moved_all second (moved_all first s)
-all-append [] second s = refl
-all-append (m ∷ first) second s = all-append first second (moved m s)
 
 -- the three parts of an end, one after another
 pub ended-all : (end : Ending) (s : Session) → moved_all (tried_each ForEnd end.commands) (moved_all (map Closed end.others) (moved_all (gave_each Die end.registered) s)) ≡ moved_all (ending end) s

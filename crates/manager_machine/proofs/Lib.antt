@@ -4,3 +4,11 @@ pub mod Counted
 pub mod Carrying
 pub mod Going
 pub mod Turning
+pub mod RoundMoves
+pub mod Holding
+pub mod Committing
+pub mod Leaving
+pub mod Asking
+pub mod Saying
+pub mod SecondPhase
+pub mod Reaching
