@@ -39,6 +39,6 @@ second-went r (Some round) old new e k =
     let t : two_ready round.members ≡ true = ready (two_ready round.members) (agreed round) (deserted round) e in
     let same : gave_each SaveYourselfPhase2 (wanting_two round.members) ≡ round_rule r (Some round) = sym (ap (λ (b : Bool). running_rule b r round) t) in
     let told : is_nil (gave_each SaveYourselfPhase2 (wanting_two round.members)) ≡ false =
-        some-told round.members (both (list_all (λ m. is_done m.step || wants_two m.step) round.members) (list_any (λ m. wants_two m.step) round.members) t)
+    some-told round.members (both (list_all (λ m. is_done m.step || wants_two m.step) round.members) (list_any (λ m. wants_two m.step) round.members) t)
     in
     (k round refl t ∙ ap (λ (moves : List Move). moved_all moves old) same, sym (ap (λ (b : Bool). not b) told) ∙ ap (λ (moves : List Move). not (is_nil moves)) same)

@@ -14,9 +14,9 @@ returns c =
     let round = c.args.round.now in
     let ids : c.deref.result.now ≡ c.self.inside.expected.items = search rules in
     let entries : c.in_ok-entries.entries ≡ next_entries (reading_in s) round =
-        c.in_ok-entries.ensures
-        ∙ ap (λ (expected : List (List ℕ)). next_entries (seen c.self.inside.clients c.self.inside.book expected) round) ids
-        ∙ ap (λ (t : Session). next_entries (reading_in t) round) c.self.view_is
+    c.in_ok-entries.ensures
+    ∙ ap (λ (expected : List (List ℕ)). next_entries (seen c.self.inside.clients c.self.inside.book expected) round) ids
+    ∙ ap (λ (t : Session). next_entries (reading_in t) round) c.self.view_is
     in
     let book = with_entries (reading_in s).store c.in_ok-entries.entries in
     let done : completing c.in_ok-completion.completion ≡ completed round.wanted.shutdown (clients_in s.clients) round book = search rules in
