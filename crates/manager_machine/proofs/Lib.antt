@@ -1,6 +1,9 @@
 pub mod Acting
 pub mod Hearing
 pub mod Counted
+pub mod Carrying
+pub mod Going
+pub mod Turning
 pub mod RoundMoves
 pub mod Holding
 pub mod Committing
@@ -12,6 +15,3 @@ pub mod Reaching
 pub mod Keeping
 pub mod Fitting
 pub mod Replying
-pub mod Carrying
-pub mod Going
-pub mod Turning
