@@ -1,10 +1,9 @@
 -- Moves by which nothing changes but what was done.
-use Rattle.std.proofs.Common.{◌≡◌, refl, ℕ, Bool, false, List, [], ◌∷◌, ◌++◌, sym, ◌∙◌, arith, map-id}
+use Rattle.std.proofs.Common.{◌≡◌, refl, ℕ, false, List, [], ◌∷◌, ◌++◌, ◌∙◌, arith, map-id}
 use Rattle.ice_values.specs.Fields.{ErrorFields}
 use Rattle.sm_world.specs.declared.commands.Command.{Command}
 use Rattle.session_model.specs.declared.events.Act.TheVariants.{Blame, Finish, Print, Start}
-use Rattle.session_model.specs.Moves.{Blamed, Cause, Discard, End, Finished, Move, Printed, Resign, Respawn, Restart, Tried}
-use Rattle.session_clients.specs.declared.client.Client.{Client}
+use Rattle.session_model.specs.Moves.{Blamed, Cause, Finished, Printed, Respawn, Tried}
 use Rattle.session_state.specs.Session.{Session, moved, one_more_of}
 use Rattle.manager_machine.specs.Kept.{is_respawn}
 

@@ -1,5 +1,5 @@
 -- Moves that come from outside, and what they leave.
-use Rattle.std.proofs.Common.{◌≡◌, ℕ, List, [], ◌∷◌, ◌++◌, map-id}
+use Rattle.std.proofs.Common.{◌≡◌, ℕ, map-id}
 use Rattle.std.proofs.lemmas.List.{append-nil}
 use Rattle.sm_world.specs.declared.events.Order.{Order}
 use Rattle.session_model.specs.declared.events.SessionEvent.TheVariants.{Joined, Operator, Ready}

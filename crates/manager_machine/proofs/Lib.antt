@@ -2,3 +2,11 @@ pub mod Acting
 pub mod Hearing
 pub mod Counted
 pub mod Replying
+pub mod RoundMoves
+pub mod Holding
+pub mod Committing
+pub mod Leaving
+pub mod Asking
+pub mod Saying
+pub mod SecondPhase
+pub mod Reaching

@@ -1,7 +1,12 @@
--- Messages by what they change.
-use Rattle.std.specs.Prelude.{Bool, false, true}
+-- Messages by what they change, and rounds whose second phase can begin.
+use Rattle.std.specs.Prelude.{Bool, List, None, Option, Some, [], false, true, ℕ, ◌++◌, ◌∷◌}
 use Rattle.xsmp_messages.specs.declared.message.XsmpMessage.{XsmpMessage}
-use Rattle.xsmp_messages.specs.declared.message.XsmpMessage.TheVariants.{Die, Interact, RegisterClientReply, SaveYourselfPhase2, ShutdownCancelled}
+use Rattle.xsmp_messages.specs.declared.message.XsmpMessage.TheVariants.{Die, Interact, RegisterClientReply, SaveComplete, SaveYourself, SaveYourselfPhase2, ShutdownCancelled}
+use Rattle.round_agreement.specs.Agreement.{Agreement, two_ready}
+use Rattle.session_model.specs.declared.events.Act.TheVariants.{Say}
+use Rattle.session_model.specs.Moves.{Gave}
+use Rattle.session_clients.specs.Clients.{held_by}
+use Rattle.session_state.specs.Session.{Session}
 
 -- a message that changes nothing but the row of its receiver
 abbrev pub is_of_rows : XsmpMessage → Bool
@@ -11,3 +16,28 @@ is_of_rows SaveYourselfPhase2 = false
 is_of_rows ShutdownCancelled = false
 is_of_rows Die = false
 is_of_rows m = true
+
+-- a message that is sent to all members of a round
+abbrev pub is_for_members : XsmpMessage → Bool
+is_for_members (SaveYourself kind shutdown style fast) = true
+is_for_members SaveComplete = true
+is_for_members m = false
+
+-- a message that ends a save: its receiver neither has the token nor waits for it any more
+abbrev pub ends_save : XsmpMessage → Bool
+ends_save ShutdownCancelled = true
+ends_save Die = true
+ends_save m = false
+
+-- a message is sent, and nothing changes but its receiver's row
+abbrev pub told : ℕ → XsmpMessage → Session → Session
+told c m s = record s { clients = held_by (Gave c m) s.clients; acts = s.acts ++ Say c m ∷ [] }
+
+abbrev pub told_each : XsmpMessage → List ℕ → Session → Session
+told_each m [] s = s
+told_each m (c ∷ conns) s = told_each m conns (told c m s)
+
+-- a round runs whose second phase can begin
+abbrev pub may_begin_second : Option Agreement → Bool
+may_begin_second None = false
+may_begin_second (Some round) = two_ready round.members

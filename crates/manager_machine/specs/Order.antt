@@ -1,17 +1,25 @@
 -- What holds of every session that stands for a history, as far as the parts of the manager ask for it.
-use Rattle.std.specs.Prelude.{Bool, List, None, Option, Some, false, true, ℕ, ◌≡◌}
+use Rattle.std.specs.Prelude.{Bool, None, Option, Some, false, filter, true, ℕ, ◌≡◌}
 use Rattle.xsmp_messages.specs.declared.message.XsmpMessage.TheVariants.{Interact}
 use Rattle.interact_queue.specs.Queue.{is_holder, is_in}
-use Rattle.round_agreement.specs.Agreement.{Agreement, are_distinct, is_at, is_first_saving as saves_first, is_saving as saves}
+use Rattle.round_agreement.specs.Agreement.{Agreement, are_distinct, conns_of, is_at, is_first_saving as saves_first, is_saving as saves}
+use Rattle.session_model.specs.declared.phase.Phase.{Phase}
+use Rattle.session_model.specs.declared.phase.Phase.TheVariants.{WantsTwo}
 use Rattle.session_model.specs.Phases.{is_asked, is_first_saving, is_interacting, is_saving}
 use Rattle.session_clients.specs.Clients.{phase_in}
 use Rattle.session_model.specs.Moves.{Gave}
+use Rattle.session_model.specs.Rules.{wanting_two}
 use Rattle.session_state.specs.Session.{Session, moved, settle_in}
 
 -- a member of the running round is at such a step
 abbrev pub is_member_at : (ℕ → Agreement → Bool) → ℕ → Option Agreement → Bool
 is_member_at test c None = false
 is_member_at test c (Some round) = test c round
+
+-- a client waits for the second phase of its save
+abbrev pub wants_second : Option Phase → Bool
+wants_second (Some WantsTwo) = true
+wants_second phase = false
 
 pub record InOrder (s : Session) : Type 0 where
   -- nobody is registered twice, and nobody waits twice for the token
@@ -23,6 +31,8 @@ pub record InOrder (s : Session) : Type 0 where
   -- who saves, in the first phase or in the second, is a member of the running round that does
   pub saving : (c : ℕ) → is_saving (phase_in c s.clients.rows) ≡ true → is_member_at (λ d round. is_at saves d round.members) c s.round ≡ true
   pub saving_first : (c : ℕ) → is_first_saving (phase_in c s.clients.rows) ≡ true → is_member_at (λ d round. is_at saves_first d round.members) c s.round ≡ true
+  -- the members that want the second phase are those whose phase says so
+  pub wanting : (round : Agreement) → s.round ≡ Some round → filter (λ c. wants_second (phase_in c s.clients.rows)) (conns_of round.members) ≡ wanting_two round.members
 
 -- it goes on so while the session settles
 abbrev pub SettlesInOrder : Session → Type 0

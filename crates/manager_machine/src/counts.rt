@@ -34,3 +34,10 @@ pub(crate) fn count_more(counts: &mut Counts, id: Array8) -> Result<(), NoMemory
     }
     Ok(())
 }
+
+/// How many new IDs were given, after one more was that is known or not.
+pub(crate) fn given_after(given: u32, is_known: bool) -> Result<u32, NoMemory>
+    ensures { IfOk result (λ after. after ≡ cond is_known given (given + 1)) }
+{
+    if is_known { Ok(given) } else { one_more(given) }
+}

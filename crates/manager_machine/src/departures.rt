@@ -4,6 +4,10 @@ ghost use Rattle.session_model.specs.declared.events.SessionEvent.TheVariants.{L
 ghost use Rattle.session_state.specs.Session.{moved, moved_all};
 
 use crate::inner::Core;
+use crate::running::leave_round;
+use crate::strays::add_stray;
+use crate::waits::drop_waits_of;
+use session_model::Act;
 use sm_world::{Conn, NoMemory};
 
 impl Core {
@@ -11,20 +15,31 @@ impl Core {
     pub(crate) fn leave(&mut self, conn: Conn) -> Result<(), NoMemory>
         ensures { OnOk result (self.new ≡ moved (Outside (HasLeft conn)) self.old) }
     {
-        Err(NoMemory)
+        let command = self.clients.discard(conn)?;
+        add_stray(&mut self.ledger, &self.book, command)?;
+        self.clients.leave(conn);
+        self.queue.leave(conn);
+        leave_round(&mut self.round, conn);
+        drop_waits_of(&mut self.waits, conn);
+        Ok(())
     }
 
     /// Shuts a connection.
     pub(crate) fn close(&mut self, conn: Conn) -> Result<(), NoMemory>
         ensures { OnOk result (self.new ≡ moved (Closed conn) self.old) }
     {
-        Err(NoMemory)
+        self.leave(conn)?;
+        self.act(Act::Shut(conn))?;
+        Ok(())
     }
 
     /// Shuts each of these connections.
     pub(crate) fn close_each(&mut self, conns: &[Conn]) -> Result<(), NoMemory>
         ensures { OnOk result (self.new ≡ moved_all (map Closed conns.now) self.old) }
     {
-        Err(NoMemory)
+        for conn in conns {
+            self.close(*conn)?;
+        }
+        Ok(())
     }
 }

@@ -5,7 +5,10 @@ ghost use Rattle.session_state.specs.Session.{moved};
 ghost use Rattle.manager_machine.specs.Order.{InOrder};
 
 use crate::inner::Core;
-use crate::waits::add_ordered;
+use crate::running::{hear_round, wanted_in};
+use crate::strays::{add_stray, stopped};
+use crate::token::hear_queue;
+use crate::waits::{add_ordered, hear_waits};
 use sm_world::{Conn, NoMemory, Order};
 use xsmp_messages::XsmpMessage;
 
@@ -31,7 +34,16 @@ impl Core {
         requires { InOrder self.old }
         ensures { OnOk result ((sequence : ℕ) (frame : List ℕ) → self.new ≡ moved (Outside (HasSaid conn message.now sequence frame)) self.old) }
     {
-        Err(NoMemory)
+        let phase = self.clients.phase(conn);
+        let wanted = wanted_in(&self.round);
+        let before = self.clients.discard(conn)?;
+        hear_round(&mut self.round, conn, message, phase);
+        hear_queue(&mut self.queue, conn, message, phase, wanted)?;
+        hear_waits(&mut self.waits, conn, message, phase)?;
+        self.clients.hear(conn, message, wanted)?;
+        let now = self.clients.discard(conn)?;
+        add_stray(&mut self.ledger, &self.book, stopped(before, &now))?;
+        Ok(())
     }
 
     /// The operator asked for this.

@@ -44,18 +44,18 @@ impl Model for Core {
     ghost Value = { Session };
 
     ghost view = { λ core. record {
-        clients = core.clients;
-        round = core.round;
-        waits = core.waits.items;
-        turns = record { waiting = core.queue.waiting; holder = core.queue.holder };
-        book = core.book;
-        strays = core.ledger.strays;
-        given = core.given;
-        expected = core.expected.items;
-        counts = core.counts.items;
-        is_ending = core.is_ending;
-        marks = core.marks;
-        acts = core.acts.items;
+      clients = core.clients;
+      round = core.round;
+      waits = core.waits.items;
+      turns = record { waiting = core.queue.waiting; holder = core.queue.holder };
+      book = core.book;
+      strays = core.ledger.strays;
+      given = core.given;
+      expected = core.expected.items;
+      counts = core.counts.items;
+      is_ending = core.is_ending;
+      marks = core.marks;
+      acts = core.acts.items;
     } };
 
     ghost invariant = { λ core. core.ledger.pending ≡ core.book.pending };

@@ -1,4 +1,5 @@
-ghost use Rattle.std.specs.Prelude.{◌≡◌, false, OnOk};
+ghost use Rattle.std.specs.Prelude.{◌≡◌, [], false, IfOk, OnOk};
+ghost use Rattle.discard_ledger.specs.Discards.{without_commands};
 ghost use Rattle.session_model.specs.Books.{issue as issue_moves, with_entries};
 ghost use Rattle.session_model.specs.Moves.{Cause as AnyCause, Committed as HasCommitted, Discard as AsDiscard, Finished as HasFinished, Printed as HasPrinted, Respawn as AsRespawn, Tried as HasTried, tried_each};
 ghost use Rattle.session_state.specs.Session.{moved, moved_all, reading_in};
@@ -6,10 +7,12 @@ ghost use Rattle.manager_machine.specs.Kept.{is_respawn};
 
 use crate::counts::count_more;
 use crate::inner::Core;
-use checkpoint_records::{Book, EntryList};
+use checkpoint_records::{Book, EntryList, copy_book};
+use discard_ledger::Ledger;
 use ice_values::Array8;
 use session_model::Act;
 use sm_world::{Command, CommandList, Duplicate, NoMemory, Octets};
+use std::mem;
 
 impl Core {
     /// Starts a command, for any cause but that a client departed.
@@ -39,11 +42,46 @@ impl Core {
         Ok(())
     }
 
+    /// The book of these entries, for which the pending commands of the ledger are made anew. A
+    /// refused call loses the strays.
+    fn next_book(&mut self, entries: EntryList) -> Result<Book, NoMemory>
+        ensures book { IfOk result (λ book. book ≡ with_entries (reading_in self.old).store entries) }
+        ensures rest { OnOk result (self.new ≡ record self.old { strays = [] }) }
+    {
+        let alloc = *self.acts.allocator();
+        let fresh = Ledger::new(alloc, self.book.pending.copy()?);
+        let mut ledger = mem::replace(&mut self.ledger, fresh);
+        let mut book = Book {
+            entries,
+            pending: CommandList::new(alloc),
+            epoch: self.book.epoch,
+        };
+        ledger.retire(&self.book, &book)?;
+        book.pending = ledger.pending().copy()?;
+        Ok(book)
+    }
+
+    /// A copy of the book without these pending commands.
+    fn book_without(&self, commands: &CommandList) -> Result<Book, NoMemory>
+        ensures { IfOk result (λ book. book ≡ record self.now.book { pending = without_commands commands.now self.now.book.pending }) }
+    {
+        Ok(Book {
+            entries: self.book.entries.copy()?,
+            pending: self.ledger.issuable(commands)?,
+            epoch: self.book.epoch,
+        })
+    }
+
     /// Writes a book.
     pub(crate) fn commit(&mut self, book: Book) -> Result<(), NoMemory>
         ensures { OnOk result (self.new ≡ moved (HasCommitted book) self.old) }
     {
-        Err(NoMemory)
+        let alloc = *self.acts.allocator();
+        let told = copy_book(&book)?;
+        self.ledger = Ledger::new(alloc, book.pending.copy()?);
+        self.book = book;
+        self.act(Act::Commit(told))?;
+        Ok(())
     }
 
     /// Writes the book with these entries, whose pending commands are those of now and those that
@@ -51,7 +89,9 @@ impl Core {
     pub(crate) fn commit_entries(&mut self, entries: EntryList) -> Result<(), NoMemory>
         ensures { OnOk result (self.new ≡ moved (HasCommitted (with_entries (reading_in self.old).store entries)) self.old) }
     {
-        Err(NoMemory)
+        let book = self.next_book(entries)?;
+        self.commit(book)?;
+        Ok(())
     }
 
     /// Tries these commands, which are pending; and then, where there was one, writes the book
@@ -59,7 +99,13 @@ impl Core {
     pub(crate) fn issue(&mut self, commands: &CommandList) -> Result<(), NoMemory>
         ensures { OnOk result (self.new ≡ moved_all (issue_moves self.old.book commands.now) self.old) }
     {
-        Err(NoMemory)
+        if commands.as_slice().is_empty() {
+            return Ok(());
+        }
+        let book = self.book_without(commands)?;
+        self.start_each(commands)?;
+        self.commit(book)?;
+        Ok(())
     }
 
     /// Prints a line.

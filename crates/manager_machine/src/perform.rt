@@ -73,7 +73,7 @@ impl Core {
     }
 
     /// The pending commands are run that aren't among these, which stand.
-    fn discard(&mut self, standing: &CommandList) -> Result<(), NoMemory>
+    fn discard_beside(&mut self, standing: &CommandList) -> Result<(), NoMemory>
         ensures { OnOk result (self.new ≡ moved_all (issue_moves self.old.book (may_run standing.now self.old.book.pending)) self.old) }
     {
         let commands = self.ledger.issuable(standing)?;
@@ -88,7 +88,7 @@ impl Core {
         self.print_ok()?;
         self.commit_entries(plan.entries)?;
         self.resign(plan.resign)?;
-        self.discard(&plan.standing)?;
+        self.discard_beside(&plan.standing)?;
         Ok(())
     }
 

@@ -1,11 +1,13 @@
-ghost use Rattle.std.specs.Prelude.{◌≡◌, ◌++◌, ◌∷◌, [], ◌||◌, cond, drop, filter, map, not, Bool, OnOk};
+ghost use Rattle.std.specs.Prelude.{◌≡◌, ◌++◌, ◌∷◌, [], ◌||◌, cond, drop, filter, map, not, ℕ, Option, OnOk};
 ghost use Rattle.std.specs.List.{list_any};
-ghost use Rattle.sm_world.specs.declared.events.Order.{Order as AnOrder};
+ghost use Rattle.session_model.specs.declared.phase.Phase.{Phase as APhase};
 ghost use Rattle.session_model.specs.Waits as of;
 
 use round_agreement::Wanted;
-use session_model::{Owner, Wait};
+use session_clients::is_bound;
+use session_model::{Owner, Phase, Wait};
 use sm_world::{Conn, NoMemory, Order, SaveKind, SaveStyle};
+use xsmp_messages::XsmpMessage;
 
 /// The round of a client that has just registered anew.
 fn first_save(conn: Conn) -> Wait
@@ -103,7 +105,11 @@ fn add_operator(waits: &mut Vec<Wait>, wait: Wait, is_ending: bool) -> Result<()
 }
 
 /// The operator asked for this, where a shutdown was agreed or not.
-pub(crate) fn add_ordered(waits: &mut Vec<Wait>, order: &Order, is_ending: bool) -> Result<(), NoMemory>
+pub(crate) fn add_ordered(
+    waits: &mut Vec<Wait>,
+    order: &Order,
+    is_ending: bool,
+) -> Result<(), NoMemory>
     ensures { OnOk result (waits.new.items ≡ of.waits_ordered order.now is_ending waits.old.items) }
 {
     match order {
@@ -114,7 +120,11 @@ pub(crate) fn add_ordered(waits: &mut Vec<Wait>, order: &Order, is_ending: bool)
 }
 
 /// The round of a client that has just registered waits, where it is new.
-pub(crate) fn add_newcomer(waits: &mut Vec<Wait>, conn: Conn, is_known: bool) -> Result<(), NoMemory>
+pub(crate) fn add_newcomer(
+    waits: &mut Vec<Wait>,
+    conn: Conn,
+    is_known: bool,
+) -> Result<(), NoMemory>
     ensures { OnOk result (waits.new.items ≡ cond is_known waits.old.items (waits.old.items ++ of.first_save conn ∷ [])) }
 {
     if !is_known {
@@ -161,9 +171,109 @@ fn drop_lone(waits: &mut Vec<Wait>, conn: Conn)
 }
 
 /// A client departed: the rounds for it alone are dropped, and its requests for all stay.
-pub(crate) fn leave(waits: &mut Vec<Wait>, conn: Conn)
+pub(crate) fn drop_waits_of(waits: &mut Vec<Wait>, conn: Conn)
     ensures { waits.new.items ≡ of.waits_left conn waits.old.items }
 {
     drop_lone(waits, conn);
     disown_each(waits, conn);
+}
+
+/// No round waits any more where the session ends.
+pub(crate) fn drop_at_end(waits: &mut Vec<Wait>, is_shutdown: bool)
+    ensures { waits.new.items ≡ cond is_shutdown [] waits.old.items }
+{
+    if is_shutdown {
+        waits.clear();
+    }
+}
+
+/// A client's request, for itself alone.
+fn lone_wait(conn: Conn, kind: SaveKind, style: SaveStyle, fast: bool) -> Wait
+    ensures { result ≡ of.lone_wait conn kind style fast }
+{
+    Wait {
+        wanted: Wanted {
+            only: Some(conn),
+            from: Some(conn),
+            kind,
+            shutdown: false,
+            style,
+            fast,
+        },
+        owner: Owner::Sender(conn),
+    }
+}
+
+/// A client's request for all.
+fn global_wait(conn: Conn, kind: SaveKind, shutdown: bool, style: SaveStyle, fast: bool) -> Wait
+    ensures { result ≡ of.global_wait conn kind shutdown style fast }
+{
+    Wait {
+        wanted: Wanted {
+            only: None,
+            from: Some(conn),
+            kind,
+            shutdown,
+            style,
+            fast,
+        },
+        owner: Owner::Sender(conn),
+    }
+}
+
+/// Puts a sender's request in the place of the one of its that waits. False where there is none.
+fn replace(waits: &mut [Wait], conn: Conn, request: Wait) -> bool
+    ensures { cond result waits.new (waits.new ++ request ∷ []) ≡ of.with_request conn request waits.old }
+{
+    for wait in waits {
+        if is_sender(conn, wait.owner) {
+            *wait = request;
+            return true;
+        }
+    }
+    false
+}
+
+/// A sender's request takes the place of the one of its that waits, or goes last.
+fn add_request(waits: &mut Vec<Wait>, conn: Conn, request: Wait) -> Result<(), NoMemory>
+    ensures { OnOk result (waits.new.items ≡ of.with_request conn request waits.old.items) }
+{
+    if !replace(waits, conn, request) {
+        waits.push(request)?;
+    }
+    Ok(())
+}
+
+/// A client said this, and was in this phase before.
+pub(crate) fn hear_waits(
+    waits: &mut Vec<Wait>,
+    conn: Conn,
+    message: &XsmpMessage,
+    phase: Option<Phase>,
+) -> Result<(), NoMemory>
+    ensures { OnOk result ((phases : ℕ → Option APhase) → phases conn ≡ phase → waits.new.items ≡ of.waits_said conn message.now phases waits.old.items) }
+{
+    match message {
+        XsmpMessage::SaveYourselfRequest {
+            kind,
+            shutdown,
+            style,
+            fast,
+            global: true,
+        } if is_bound(phase) => {
+            add_request(
+                waits,
+                conn,
+                global_wait(conn, *kind, *shutdown, *style, *fast),
+            )
+        }
+        XsmpMessage::SaveYourselfRequest {
+            kind,
+            shutdown: false,
+            style,
+            fast,
+            global: false,
+        } if is_bound(phase) => { add_request(waits, conn, lone_wait(conn, *kind, *style, *fast)) }
+        _ => Ok(()),
+    }
 }

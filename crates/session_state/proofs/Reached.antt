@@ -84,7 +84,7 @@ waiting-distinct s h st = ap (λ (cs : List ℕ). are_distinct cs) st.waiting_is
 kept-at : (c d : ℕ) (cs ds : List ℕ) → (d == c) ≡ false → cs ≡ ds → cond (not (d == c)) (d ∷ cs) cs ≡ d ∷ ds
 kept-at c d cs ds e k = ap (λ (x : Bool). cond (not x) (d ∷ cs) cs) e ∙ ap (λ (xs : List ℕ). d ∷ xs) k
 
-without-none : (c : ℕ) (cs : List ℕ) → is_in c cs ≡ false → without c cs ≡ cs
+pub without-none : (c : ℕ) (cs : List ℕ) → is_in c cs ≡ false → without c cs ≡ cs
 without-none c [] e = refl
 without-none c (d ∷ cs) e = kept-at c d (without c cs) cs (grind (arith, nat_tests)) (without-none c cs (grind (arith, nat_tests)))
 
@@ -101,7 +101,7 @@ course-runs None members round e = absurd (grind arith)
 course-runs (Some r) members round e = let same : round ≡ record { members = members; began_empty = steps.is_nil r.members; wanted = r.wanted } = cc in ap (λ (x : Agreement). x.members) same
 
 -- the members that are held are those of the history, as far as they are
-round-members : (round : Agreement) (s : Session) (h : History) → Stands s h → s.round ≡ Some round → round.members ≡ rows_now h
+pub round-members : (round : Agreement) (s : Session) (h : History) → Stands s h → s.round ≡ Some round → round.members ≡ rows_now h
 round-members round s h st e = course-runs (of.running h) (rows_now h) round (sym e ∙ st.round_is)
 
 at-row : (b i : Bool) (test : Step → Bool) (c d : ℕ) (step : ℕ → Step) (x : Bool) → (b ≡ true → d ≡ c) → x ≡ (i && test (step c)) → ((b && test (step d)) || x) ≡ ((b || i) && test (step c))

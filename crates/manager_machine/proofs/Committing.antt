@@ -1,0 +1,23 @@
+-- Books that are written, and commands that are tried before one is.
+use Rattle.std.proofs.Common.{◌≡◌, refl, ◌<◌, length, arith, List, [], ◌∷◌, ◌++◌, sym, ◌∙◌, map-id}
+use Rattle.sm_world.specs.declared.commands.Command.{Command}
+use Rattle.checkpoint_records.specs.declared.records.Book.{Book}
+use Rattle.discard_ledger.specs.Discards.{without_commands}
+use Rattle.session_model.specs.declared.events.Act.TheVariants.{Commit}
+use Rattle.session_model.specs.Books.{issue}
+use Rattle.session_model.specs.Moves.{Committed, Discard, Move, tried_each}
+use Rattle.session_state.specs.Session.{Session, moved, moved_all}
+
+pub committed-by : (book told : Book) (strays : List Command) (s : Session) → told ≡ book → strays ≡ [] → record s { book = book; strays = strays; acts = s.acts ++ Commit told ∷ [] } ≡ moved (Committed book) s
+committed-by book told strays s e k = λ i. record s { clients = record { rows = sym (map-id s.clients.rows) i; registered = s.clients.registered }; book = book; strays = k i; acts = s.acts ++ Commit (e i) ∷ [] }
+
+all-append : (first second : List Move) (s : Session) → moved_all (first ++ second) s ≡ moved_all second (moved_all first s)
+all-append [] second s = refl
+all-append (m ∷ first) second s = all-append first second (moved m s)
+
+pub issued : (commands : List Command) (s t u : Session) (book : Book) → 0 < length commands → book ≡ record s.book { pending = without_commands commands s.book.pending } → t ≡ moved_all (tried_each Discard commands) s → u ≡ moved (Committed book) t
+    → u ≡ moved_all (issue s.book commands) s
+issued [] s t u book n b e f = absurd (omega arith)
+issued (command ∷ commands) s t u book n b e f =
+    f ∙ (λ i. moved (Committed (b i)) (e i))
+    ∙ sym (all-append (tried_each Discard (command ∷ commands)) (Committed (record s.book { pending = without_commands (command ∷ commands) s.book.pending }) ∷ []) s)

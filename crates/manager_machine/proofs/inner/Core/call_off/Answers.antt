@@ -1,0 +1,13 @@
+use Rattle.std.proofs.Common.{◌≡◌, ◌∙◌, ap}
+use Rattle.session_model.specs.Moves.{Cancelled}
+use Rattle.session_model.specs.Reading.{wanted_in}
+use Rattle.session_model.specs.Readings.{marks_after}
+use Rattle.session_state.specs.Session.{Session, moved}
+use Rattle.manager_machine.specs.contracts.inner.Core.{the_view}
+use Rattle.manager_machine.proofs.RoundMoves.{cancelled-by}
+use Rattle.manager_machine.proofs.inner.Core.call_off.Goals as goal
+
+pub returns : goal.returns
+returns c =
+    let marks : c.ended-self-inside.result ≡ marks_after Cancelled (wanted_in c.self.inside.round) c.self.inside.marks = rw (← c.wanted_in.ensures) c.ended-self-inside.ensures.cancelled in
+    cancelled-by (the_view c.self.inside) c.ended-self-inside.result marks ∙ ap (λ (s : Session). moved Cancelled s) c.self.view_is
