@@ -158,7 +158,9 @@ impl Core {
             }
             XsmpMessage::GetProperties => Ok(Reply::Tell(conn, self.properties_of(conn)?)),
             XsmpMessage::SaveYourselfRequest {
-                shutdown, global, ..
+                shutdown,
+                global,
+                ..
             } => {
                 let is_lone = *shutdown && !*global;
                 self.reply_to_save_request(conn, is_lone, message, sequence, frame)
