@@ -4,6 +4,7 @@ pub mod Counted
 pub mod Carrying
 pub mod Going
 pub mod Turning
+pub mod Replying
 pub mod RoundMoves
 pub mod Holding
 pub mod Committing
@@ -14,4 +15,3 @@ pub mod SecondPhase
 pub mod Reaching
 pub mod Keeping
 pub mod Fitting
-pub mod Replying
