@@ -28,6 +28,8 @@ mod running;
 mod said;
 mod second;
 mod strays;
+#[cfg(test)]
+mod tests;
 mod token;
 mod waits;
 
