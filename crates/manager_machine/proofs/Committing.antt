@@ -12,6 +12,7 @@ use Rattle.session_state.specs.Session.{Session, moved, moved_all}
 pub committed-by : (book told : Book) (strays : List Command) (s : Session) → told ≡ book → strays ≡ [] → record s { book = book; strays = strays; acts = s.acts ++ Commit told ∷ [] } ≡ moved (Committed book) s
 committed-by book told strays s e k = λ i. record s { clients = record { rows = sym (map-id s.clients.rows) i; registered = s.clients.registered }; book = book; strays = k i; acts = s.acts ++ Commit (e i) ∷ [] }
 
+-- moves after moves
 pub all-append : (first second : List Move) (s : Session) → moved_all (first ++ second) s ≡ moved_all second (moved_all first s)
 all-append [] second s = refl
 all-append (m ∷ first) second s = all-append first second (moved m s)

@@ -1,6 +1,10 @@
 pub mod Acting
 pub mod Hearing
 pub mod Counted
+pub mod Carrying
+pub mod Going
+pub mod Turning
+pub mod Replying
 pub mod RoundMoves
 pub mod Holding
 pub mod Committing
@@ -11,7 +15,3 @@ pub mod SecondPhase
 pub mod Reaching
 pub mod Keeping
 pub mod Fitting
-pub mod Replying
-pub mod Carrying
-pub mod Going
-pub mod Turning

@@ -1,5 +1,5 @@
 -- One rule after another.
-use Rattle.std.proofs.Common.{◌≡◌, refl, ℕ, ◌+◌, ◌*◌, suc, zero, Bool, true, false, not, List, [], ◌∷◌, sym, ap, subst, ◌∙◌, arith}
+use Rattle.std.proofs.Common.{◌≡◌, refl, ℕ, suc, Bool, true, false, not, List, [], ◌∷◌, sym, ap, subst, ◌∙◌, arith}
 use Rattle.std.specs.Prelude.{Option, Some, None, is_some}
 use Rattle.interact_queue.specs.Queue.{next_holder}
 use Rattle.round_agreement.specs.Agreement.{is_nil}

@@ -31,13 +31,15 @@ again_moves (Some again) = Tried (Respawn again.id) again.command ∷ []
 abbrev pub call_off_moves : List ℕ → List Move
 call_off_moves conns = Cancelled ∷ gave_each ShutdownCancelled conns
 
+-- a connection is shut, and its client is started again
 abbrev pub shut_moves : ℕ → Option Again → List Move
 shut_moves c again = Closed c ∷ again_moves again
 
--- this book is written; then the client's ResignCommand is started, and the pending commands that stand no more
+-- this book is written; then the client's ResignCommand is started, and the pending commands that stand in no table
 abbrev pub forget_moves : Forgetting → Book → List Move
 forget_moves plan book = Printed (codes "ok") ∷ Committed book ∷ resigned plan.resign ++ issue book (issuable plan.standing book.pending)
 
+-- a reply as moves, in the session in which it is done: only the book without an entry depends on that
 abbrev pub moves_of : Session → Reply → List Move
 moves_of s Quiet = []
 moves_of s (Blame c error) = Blamed c error ∷ []
@@ -54,6 +56,7 @@ moves_of s (Forget plan) = forget_moves plan (with_entries (reading_in s).store 
 
 -- How a message is answered
 
+-- a message as it arrived
 abbrev pub arrival : ℕ → XsmpMessage → ℕ → List ℕ → Arrival
 arrival c m sequence frame = record { conn = c; message = m; sequence = sequence; frame = frame }
 

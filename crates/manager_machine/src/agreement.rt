@@ -1,7 +1,6 @@
 ghost use Rattle.std.specs.Prelude.{◌≡◌, Some, IfOk, OnOk};
 ghost use Rattle.checkpoint_records.specs.declared.records.Book.{Book as ABook};
-ghost use Rattle.round_agreement.specs.Agreement.{Agreement, conns_of};
-ghost use Rattle.session_model.specs.Moves.{gave_each};
+ghost use Rattle.round_agreement.specs.Agreement.{Agreement};
 ghost use Rattle.session_model.specs.Rules.{agreement as agreement_moves, completed, ended};
 ghost use Rattle.session_clients.specs.Clients.{clients_in};
 ghost use Rattle.session_state.specs.Session.{moved_all, reading_in};

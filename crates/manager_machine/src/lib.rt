@@ -1,10 +1,10 @@
 //! The manager of a session: what it hears, and what it does about that, one event after another.
 #![tactic(auto)]
 
+mod admissions;
 mod agreement;
 mod blames;
 mod counts;
-mod departing;
 mod departures;
 mod events;
 mod faults;
@@ -19,15 +19,17 @@ mod messages;
 mod opening;
 mod orders;
 mod perform;
-mod registering;
 mod registration;
 mod replies;
+mod respawns;
 mod rounds;
 mod rules;
 mod running;
 mod said;
 mod second;
 mod strays;
+#[cfg(test)]
+mod tests;
 mod token;
 mod waits;
 

@@ -1,6 +1,7 @@
 ghost use Rattle.std.specs.Prelude.{◌≡◌, ◌++◌, ◌<◌, ◌↔◌, true, is_err, Err, IfOk, OnOk};
 ghost use Rattle.checkpoint_records.specs.Rules.{KeepsRules};
-ghost use Rattle.session_clients.specs.Clients.{phase_in};
+ghost use Rattle.interact_queue.specs.Queue.{is_in};
+ghost use Rattle.session_clients.specs.Clients.{conns_in, phase_in};
 ghost use Rattle.session_model.specs.Moves.{History, all_acts};
 ghost use Rattle.session_model.specs.Phases.{is_bound as is_bound_phase};
 ghost use Rattle.session_model.specs.Rules.{Takes, opened, taken};
@@ -12,7 +13,7 @@ use crate::faults::TakeFault;
 use crate::inner::Core;
 use checkpoint_records::Book;
 use session_clients::is_bound;
-use session_model::{Marks, SessionEvent};
+use session_model::{Marks, Phase, SessionEvent};
 use sm_world::{Conn, NoMemory};
 use std::alloc::Global;
 use std::marker::Model;
@@ -37,8 +38,8 @@ impl Model for Manager {
 }
 
 impl Manager {
-    /// Opens a book: a run begins, with one more than the epoch of the book. The acts write the book
-    /// anew, try its pending commands, and start the clients of the last run again.
+    /// Opens a book: a run begins, with the next epoch. The acts write the book anew, start its
+    /// pending commands and drop them from it, and start the clients of the last run again.
     pub fn begin(alloc: Global, book: Book) -> Result<(Manager, Acts), NoMemory>
         requires rules { KeepsRules book }
         requires epoch { book.epoch < 4294967295 }
@@ -57,9 +58,9 @@ impl Manager {
     }
 
     /// Takes an event, and gives what is to be done about it, in its order. A connection that joins
-    /// may not be live, and all that else happens on a connection asks that it is. XSMP begins on a
-    /// connection on which it hasn't yet, and a message comes on one on which it has; its frame spells
-    /// the message. After want of memory the manager is stopped, and takes nothing any more.
+    /// isn't live, and one that is ready, says something or left is. XSMP begins where it hasn't
+    /// yet, and a message comes where it has, with a frame that spells it. The call is refused as
+    /// `Stopped` exactly after want of memory in an earlier one.
     pub fn take(&mut self, event: SessionEvent) -> Result<Acts, TakeFault>
         requires { Takes event (reading_in self.old.session) }
         ensures stands { OnOk result ((h : History) → StandsFor self.old h → StandsFor self.new (taken event h)) }
@@ -75,6 +76,20 @@ impl Manager {
         let acts = self.core.take(event)?;
         self.stopped = false;
         Ok(acts)
+    }
+
+    /// Whether a connection is live: it joined, and neither left nor was shut since.
+    pub fn is_live(&self, conn: Conn) -> bool
+        ensures { result ≡ is_in conn (conns_in self.now.session.clients.rows) }
+    {
+        self.core.clients.is_live(conn)
+    }
+
+    /// How far a connection is; None where XSMP hasn't begun on it, and where it isn't live.
+    pub fn phase(&self, conn: Conn) -> Option<Phase>
+        ensures { result ≡ phase_in conn self.now.session.clients.rows }
+    {
+        self.core.clients.phase(conn)
     }
 
     /// Whether a connection is registered and wasn't told to die.

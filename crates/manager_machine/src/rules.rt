@@ -1,4 +1,4 @@
-ghost use Rattle.std.specs.Prelude.{◌≡◌, ◌+◌, ◌*◌, ◌&&◌, length, true, IfOk, OnOk};
+ghost use Rattle.std.specs.Prelude.{◌≡◌, ◌&&◌, true, IfOk, OnOk};
 ghost use Rattle.round_agreement.specs.Agreement.{are_distinct, is_nil};
 ghost use Rattle.session_model.specs.Rules.{begin as begin_moves, idle_rule, is_free as may_begin, members_for as members, round_rule, rule, save_yourself as save_message};
 ghost use Rattle.session_clients.specs.Clients.{conns_in};

@@ -1,4 +1,4 @@
-use Rattle.std.proofs.Common.{rules, ◌≡◌, ap, ◌∙◌}
+use Rattle.std.proofs.Common.{◌≡◌, ap, ◌∙◌}
 use Rattle.session_model.specs.Moves.{Agreed, Committed}
 use Rattle.session_model.specs.Books.{with_entries}
 use Rattle.session_state.specs.Session.{Session, moved, moved_all, reading_in}

@@ -1,4 +1,4 @@
-use Rattle.std.proofs.Common.{rules, ◌≡◌, sym, ◌∙◌}
+use Rattle.std.proofs.Common.{sym, ◌∙◌}
 use Rattle.session_state.specs.Session.{reading_in}
 use Rattle.manager_machine.proofs.Going.{second-went}
 use Rattle.manager_machine.proofs.inner.Core.go_on.Goals as goal

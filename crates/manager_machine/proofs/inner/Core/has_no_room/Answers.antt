@@ -1,5 +1,4 @@
-use Rattle.std.proofs.Common.{◌≡◌, sym, ap}
-use Rattle.session_model.specs.Replies.{known_ids}
+use Rattle.std.proofs.Common.{sym, ap}
 use Rattle.session_clients.specs.Clients.{clients_in}
 use Rattle.session_state.specs.Session.{Session, reading_in}
 use Rattle.manager_machine.proofs.Replying.{full-by_ids, full-by_number}
