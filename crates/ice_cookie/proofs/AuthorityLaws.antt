@@ -120,10 +120,6 @@ length-entry entry rest =
     let g = length-append (field_bytes entry.proof) rest in
     omega (arith, a, b, c, d, e, f, g, length-number_bytes Msb 2 (length entry.protocol))
 
--- what follows an entry is shorter
-pub shorter : (bytes : List ℕ) (entry : AuthorityEntry) (rest : List ℕ) → bytes ≡ entry_bytes entry ++ rest → length rest < length bytes
-shorter bytes entry rest is = omega (arith, ap length is, length-entry entry rest)
-
 nothing_left : HasNoFront []
 nothing_left = λ entry after fits is. omega (arith, ap length is, length-entry entry after)
 
