@@ -15,3 +15,4 @@ pub mod SecondPhase
 pub mod Reaching
 pub mod Keeping
 pub mod Fitting
+pub mod Nothing

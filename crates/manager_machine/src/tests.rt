@@ -126,7 +126,8 @@ fn frame_of(alloc: Global, message: &XsmpMessage) -> Result<Octets, EncodeRefusa
 /// The manager of a session over an empty book.
 fn open(rt: &(impl Abort + Alloc<A = Global>)) -> Result<Desk, Fail> {
     let alloc = rt.alloc();
-    let (manager, acts) = Manager::begin(alloc, Book::empty(alloc)?)?;
+    let book = Book::empty(alloc)?;
+    let (manager, acts) = Manager::begin(alloc, book)?;
     let mut done = Octets::new(alloc);
     put_acts(&mut done, acts.as_slice())?;
     Ok(Desk { manager, done })
