@@ -49,11 +49,7 @@ pub(crate) struct Plan {
 pub(crate) fn copy_conns(alloc: Global, conns: &[Conn]) -> Result<ConnList, NoMemory>
     ensures { IfOk result (λ list. list ≡ conns.now) }
 {
-    let mut list = ConnList::new(alloc);
-    for conn in conns {
-        list.push(*conn)?;
-    }
-    Ok(list)
+    Ok(ConnList::from_vec(Vec::from_slice(alloc, conns)?))
 }
 
 /// How the session ends with these entries.

@@ -12,6 +12,7 @@ ghost use Rattle.session_clients.specs.Clients.{phase_in, table_in};
 ghost use Rattle.session_state.specs.Session.{Session, reading_in};
 ghost use Rattle.manager_machine.specs.Answers.{arrival, has_place as belongs, moves_of, placed};
 
+use crate::agreement::copy_conns;
 use crate::blames::{full_table, lone_shutdown};
 use crate::inner::Core;
 use crate::replies::Reply;
@@ -60,7 +61,7 @@ fn refusal(alloc: Global, conn: Conn, message: &XsmpMessage, sequence: u32) -> R
 pub(crate) fn members_of(alloc: Global, round: &Round) -> Result<ConnList, NoMemory>
     ensures { IfOk result (λ conns. conns ≡ conns_of round.now.members) }
 {
-    Ok(ConnList::from_vec(Vec::from_slice(alloc, round.members())?))
+    copy_conns(alloc, round.members())
 }
 
 impl Core {

@@ -8,5 +8,5 @@ pub returns : goal.returns
 returns c =
     let m = c.args.message.now in
     subst (λ (bytes : List ℕ). Spells Lsb 1 m bytes)
-    (sym (c.in_ok-encode_xsmp.ensures.ok ∙ ap (λ (bytes : List ℕ). bytes ++ canon Lsb 1 m) c.new.ensures))
+    (sym (c.in_ok-encode_xsmp.ensures.ok ∙ ap (λ (bytes : List ℕ). bytes ++ canon Lsb 1 m) c.new-frame.ensures))
     (canon_spells Lsb 1 m c.in_ok-encode_xsmp.ensures.fits)
