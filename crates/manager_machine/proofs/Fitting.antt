@@ -1,6 +1,5 @@
 -- What is done in a run fits: messages and Errors into a frame, and books into the store.
 use Rattle.std.proofs.Common.{◌≡◌, ◌<◌, List, [], ◌∷◌, ◌++◌, arith, subst, sym}
-use Rattle.std.specs.List.{AllByRecursion}
 use Rattle.checkpoint_records.specs.declared.records.Book.{Book}
 use Rattle.checkpoint_records.specs.Rules.{KeepsRules}
 use Rattle.session_model.specs.declared.events.Act.{Act}

@@ -1,6 +1,6 @@
 -- A session that is of a run goes on being of one: it is in order while it answers and settles, and stands for the history after
 -- the event.
-use Rattle.std.proofs.Common.{◌≡◌, refl, ◌<◌, ℕ, false, List, [], ◌∷◌, ◌++◌, ap, subst, sym, ◌∙◌}
+use Rattle.std.proofs.Common.{◌≡◌, refl, ◌<◌, false, List, [], ◌∷◌, ◌++◌, ap, subst, sym, ◌∙◌}
 use Rattle.std.proofs.Math.Bool.{Bool-set}
 use Rattle.std.proofs.Math.Logic.{∥∥₁_elim, ∥∥₁_map}
 use Rattle.std.specs.Coded.{Coded-set, coded_list, coded_ℕ}

@@ -1,7 +1,5 @@
 use Rattle.std.proofs.Common.{◌≡◌, [], ◌∙◌, ap}
-use Rattle.session_model.specs.Moves.{all_acts}
 use Rattle.session_model.specs.Books.{opening_moves}
-use Rattle.session_model.specs.Rules.{opened}
 use Rattle.session_state.specs.Session.{Session, moved_all, opened_in}
 use Rattle.manager_machine.proofs.Fitting.{fit-opened}
 use Rattle.manager_machine.proofs.Keeping.{acts-opened, keeper-opened, run-opened}

@@ -1,4 +1,4 @@
-use Rattle.std.proofs.Common.{◌≡◌, sym, subst}
+use Rattle.std.proofs.Common.{sym, subst}
 use Rattle.session_model.specs.Rules.{Takes}
 use Rattle.session_state.specs.Session.{reading_in}
 use Rattle.manager_machine.specs.Keeper.{Keeper, StandsFor}
