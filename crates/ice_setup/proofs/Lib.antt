@@ -1,2 +1,4 @@
 pub mod Cells
 pub mod SaidLaws
+pub mod OpenerCells
+pub mod OpenerSaid

@@ -2,3 +2,4 @@ pub mod Errors
 pub mod Offers
 pub mod Setup
 pub mod Laws
+pub mod Opener

@@ -14,8 +14,8 @@ use std::alloc::Global;
 /// The manager's major opcode for the messages of XSMP.
 pub const MANAGER_OPCODE: u8 = 1;
 
-/// A text of the manager's own.
-fn own_text(alloc: Global, bytes: &[u8]) -> Result<Text16, NoMemory>
+/// A text of one's own.
+pub fn own_text(alloc: Global, bytes: &[u8]) -> Result<Text16, NoMemory>
     requires { length bytes.now ≤ 65535 }
     ensures { IfOk result (λ text. text ≡ bytes.now) }
 {

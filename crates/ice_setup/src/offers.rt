@@ -4,10 +4,10 @@ ghost use Rattle.ice_setup.specs.Offers.{index_byte, is_cookie_name, is_xsmp as 
 use ice_values::{Text16, Version};
 
 /// The authentication protocol that the manager speaks.
-const COOKIE_NAME: [u8; 18] = *b"MIT-MAGIC-COOKIE-1";
+pub(crate) const COOKIE_NAME: [u8; 18] = *b"MIT-MAGIC-COOKIE-1";
 
 /// The protocol over ICE that the manager speaks.
-const PROTOCOL_NAME: [u8; 4] = *b"XSMP";
+pub(crate) const PROTOCOL_NAME: [u8; 4] = *b"XSMP";
 
 /// Whether a protocol's name is XSMP's.
 pub fn is_xsmp(name: &Text16) -> bool

@@ -1,4 +1,4 @@
-//! The table of the set-up: every state against every message, and whole set-ups to the byte.
+//! The manager's table of the set-up: every state against every message, and whole set-ups to the byte.
 
 use crate::{
     AnySetup, AwaitOrder, Moved, Offending, error_of, opcode_values, refusal, spelled_messages_fit,
@@ -13,10 +13,10 @@ use std::fmt::Write;
 use std::process::Abort;
 use std::test::Fail;
 
-const COOKIE: Cookie = Cookie([0, 1, 2, 3, 4, 5, 6, 7, 8, 9, 10, 11, 12, 13, 14, 15]);
+pub(crate) const COOKIE: Cookie = Cookie([0, 1, 2, 3, 4, 5, 6, 7, 8, 9, 10, 11, 12, 13, 14, 15]);
 
 /// ByteOrder, least significant byte first.
-const ORDER: &[u8] = b"\x00\x01\x00\x00\x00\x00\x00\x00";
+pub(crate) const ORDER: &[u8] = b"\x00\x01\x00\x00\x00\x00\x00\x00";
 
 /// ByteOrder, most significant byte first.
 const OTHER_ORDER: &[u8] = b"\x00\x01\x01\x00\x00\x00\x00\x00";
@@ -30,10 +30,11 @@ const OTHER_CONNECT: &[u8] =
     b"\x00\x02\x01\x01\x00\x00\x00\x06\x00\x00\x00\x00\x00\x00\x00\x00\x00\x03MIT\x00\x00\x00\x00\x031.0\x00\x00\x00\x00\x12MIT-MAGIC-COOKIE-1\x00\x01\x00\x00";
 
 /// AuthenticationRequired for the first name.
-const REQUIRED: &[u8] = b"\x00\x03\x00\x00\x01\x00\x00\x00\x00\x00\x00\x00\x00\x00\x00\x00";
+pub(crate) const REQUIRED: &[u8] =
+    b"\x00\x03\x00\x00\x01\x00\x00\x00\x00\x00\x00\x00\x00\x00\x00\x00";
 
 /// AuthenticationReply with the cookie.
-const REPLY: &[u8] =
+pub(crate) const REPLY: &[u8] =
     b"\x00\x04\x00\x00\x03\x00\x00\x00\x10\x00\x00\x00\x00\x00\x00\x00\x00\x01\x02\x03\x04\x05\x06\x07\x08\x09\x0a\x0b\x0c\x0d\x0e\x0f";
 
 /// The same, most significant byte first.
@@ -41,7 +42,7 @@ const OTHER_REPLY: &[u8] =
     b"\x00\x04\x00\x00\x00\x00\x00\x03\x00\x10\x00\x00\x00\x00\x00\x00\x00\x01\x02\x03\x04\x05\x06\x07\x08\x09\x0a\x0b\x0c\x0d\x0e\x0f";
 
 /// ConnectionReply for the first version.
-const CONNECTED: &[u8] =
+pub(crate) const CONNECTED: &[u8] =
     b"\x00\x06\x00\x00\x02\x00\x00\x00\x03\x00smd\x00\x00\x00\x03\x001.0\x00\x00\x00";
 
 /// ProtocolSetup with opcode 1, one name and one version.
@@ -57,7 +58,7 @@ const OTHER_PROTOCOL: &[u8] =
     b"\x00\x07\x01\x00\x07\x00\x00\x00\x01\x01\x00\x00\x00\x00\x00\x00\x04\x00XSMQ\x00\x00\x03\x00MIT\x00\x00\x00\x03\x001.0\x00\x00\x00\x12\x00MIT-MAGIC-COOKIE-1\x01\x00\x00\x00";
 
 /// ProtocolReply for the first version.
-const BEGUN: &[u8] =
+pub(crate) const BEGUN: &[u8] =
     b"\x00\x08\x00\x01\x02\x00\x00\x00\x03\x00smd\x00\x00\x00\x03\x001.0\x00\x00\x00";
 
 /// AuthenticationReply with the last byte wrong.
@@ -69,7 +70,7 @@ const SHORT_REPLY: &[u8] =
     b"\x00\x04\x00\x00\x03\x00\x00\x00\x0f\x00\x00\x00\x00\x00\x00\x00\x00\x01\x02\x03\x04\x05\x06\x07\x08\x09\x0a\x0b\x0c\x0d\x0e\x00";
 
 /// A frame of each message.
-const MESSAGES: [&[u8]; 13] = [
+pub(crate) const MESSAGES: [&[u8]; 13] = [
     b"\x00\x00\x01\x80\x01\x00\x00\x00\x05\x00\x00\x00\x09\x00\x00\x00",
     ORDER,
     CONNECT,
@@ -212,7 +213,7 @@ const ROWS: [Row; 6] = [
 ];
 
 /// The message that a frame spells.
-fn spelled(alloc: Global, endian: Endian, frame: &[u8]) -> Result<IceMessage, Fail> {
+pub(crate) fn spelled(alloc: Global, endian: Endian, frame: &[u8]) -> Result<IceMessage, Fail> {
     if frame.len() < 8 || frame[0] != 0 {
         return Err("no header".into());
     }
@@ -256,7 +257,7 @@ fn name(state: &AnySetup) -> &'static str {
     }
 }
 
-fn write_answer(text: &mut String, answer: &IceMessage) -> Result<(), Fail> {
+pub(crate) fn write_answer(text: &mut String, answer: &IceMessage) -> Result<(), Fail> {
     match answer {
         IceMessage::Error(error) => {
             let severity = error.severity.number();
@@ -533,7 +534,7 @@ const SCRIPTS: [Script; 7] = [
     },
 ];
 
-fn bytes_of(alloc: Global, answer: &Option<IceMessage>) -> Result<Octets, Fail> {
+pub(crate) fn bytes_of(alloc: Global, answer: &Option<IceMessage>) -> Result<Octets, Fail> {
     let mut out = Octets::new(alloc);
     if let Some(answer) = answer {
         encode_ice(Endian::Lsb, answer, &mut out)?;

@@ -1,0 +1,5 @@
+pub mod Phases
+pub mod Saves
+pub mod Taking
+pub mod Asking
+pub mod Laws

@@ -1,0 +1,13 @@
+//! The outside of a client: the connection to its manager, the files that it reads, and one of them
+//! in memory.
+#![tactic(auto)]
+
+mod calls;
+mod memory;
+mod peer;
+mod pieces;
+#[cfg(test)]
+mod tests;
+
+pub use memory::MemPeer;
+pub use peer::{FILE_LIMIT, Peer};
