@@ -1,13 +1,13 @@
 -- What the session in memory does as the session is told of something, and as a client is answered.
-use Rattle.std.specs.Prelude.{◌≡◌, ◌≢◌, ℕ, List, [], ◌∷◌, ◌++◌}
-use Rattle.manager_machine.specs.Keeper.{StandsFor}
+use Rattle.std.specs.Prelude.{◌≡◌, ◌≢◌, ℕ, List, ◌++◌}
+use Rattle.manager_machine.specs.Keeper.{Keeper, StandsFor}
 use Rattle.session_model.specs.Moves.{History, Outside, ◌▷◌}
 use Rattle.session_model.specs.Rules.{Takes as TakesEvent, taken}
 use Rattle.session_model.specs.declared.events.Act.{Act as SessionAct}
 use Rattle.session_model.specs.declared.events.SessionEvent.{SessionEvent}
 use Rattle.session_model.specs.declared.events.SessionEvent.TheVariants.{Ready, Said, Left}
 use Rattle.session_state.specs.Session.{Session, reading_in}
-use Rattle.session_engine.specs.Acts.{acts_for, acts_for_all}
+use Rattle.session_engine.specs.Acts.{acts_for_all}
 use Rattle.session_engine.specs.Answers.{KeepsWhole}
 use Rattle.session_engine.specs.Machine.{Connection, Machine, Step, acts_of, acts_since, answered, connection_of, connections_through, departs}
 use Rattle.session_engine.specs.Shown.{Agrees, AreDistinct, Matches, Shows, ShowsLive, kept_at}
@@ -21,12 +21,16 @@ use Rattle.session_engine.specs.declared.live.Connections.{Connections}
 abbrev pub FollowsLive : List SessionAct → Connections → Connections → Type 0
 FollowsLive acts old new = (pending : ℕ → List ℕ) (ks : List Connection) → ShowsLive pending old ks → ShowsLive pending new (connections_through acts ks)
 
--- An act of the session is followed.
-pub record FollowsAct (act : SessionAct) (old new : Engine) : Type 0 where
+-- These acts of the session are followed.
+pub record Follows (done : List SessionAct) (old new : Engine) : Type 0 where
   pub cookie : new.cookie ≡ old.cookie
   pub manager : new.manager ≡ old.manager
-  pub acts : new.acts ≡ old.acts ++ acts_for act
-  pub live : FollowsLive (act ∷ []) old.live new.live
+  pub acts : new.acts ≡ old.acts ++ acts_for_all done
+  pub live : FollowsLive done old.live new.live
+
+-- it stands for some history
+abbrev pub IsStanding : Keeper → Type 0
+IsStanding keeper = (h : History) × StandsFor keeper h
 
 -- The session was told, whose history was this, and is followed.
 pub record TellsOf (event : SessionEvent) (h : History) (old new : Engine) : Type 0 where

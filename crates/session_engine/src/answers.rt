@@ -55,7 +55,9 @@ impl Outcome {
     /// The connection goes on from here, after it was there; where XSMP is spoken and wasn't
     /// before, it has begun.
     fn goes(before: &AnySetup, setup: AnySetup, message: Option<Message>) -> Outcome
-        ensures { result ≡ going (speaks_xsmp setup && not (speaks_xsmp before.now)) setup message }
+        ensures outcome { result ≡ going (speaks_xsmp setup && not (speaks_xsmp before.now)) setup message }
+        ensures said { CanBeSaid message → CanBeSaid (said_in result.answer) }
+        ensures spelled { IsSpelled result.answer }
     {
         if setup.client_opcode().is_some() && !before.client_opcode().is_some() {
             let answer = Answer::Begins(message);

@@ -7,10 +7,11 @@ use checkpoint_records::Book;
 use ice_cookie::Cookie;
 use ice_messages::IceMessage;
 use ice_values::Endian;
-use manager_machine::{Act as SessionAct, Manager};
+use manager_machine::{Act as SessionAct, Acts, Manager};
 use session_model::SessionEvent;
 use sm_world::{Conn, NoMemory, Order};
 use std::alloc::Global;
+use std::collections::VecDeque;
 use xsmp_messages::XsmpMessage;
 
 /// The session in memory. It hears what comes, and gives the acts that answer it; no device is
@@ -28,16 +29,16 @@ impl Engine {
     ghost use Rattle.std.specs.Prelude.{◌≡◌, ◌≤◌, ◌++◌, [], ◌∷◌, length, IfOk, IfSome, OnOk};
     ghost use Rattle.std.specs.List.{AllByRecursion};
     ghost use Rattle.sm_world.specs.declared.events.Event.TheVariants.{Joined, Gone, Operator};
-    ghost use Rattle.manager_machine.specs.Keeper.{IsFit};
+    ghost use Rattle.manager_machine.specs.Keeper.{AreFit, IsFit};
     ghost use Rattle.session_model.specs.Rules.{Takes as TakesEvent};
     ghost use Rattle.session_model.specs.declared.events.SessionEvent.TheVariants.{Left as LeftIt};
     ghost use Rattle.session_state.specs.Session.{reading_in};
-    ghost use Rattle.session_engine.specs.Acts.{CanBeDone, acts_for, says};
+    ghost use Rattle.session_engine.specs.Acts.{CanBeDone, says};
     ghost use Rattle.session_engine.specs.Answers.{said_in};
     ghost use Rattle.session_engine.specs.Machine.{Machine, opening_acts, start, step};
     ghost use Rattle.session_engine.specs.Messages.{CanBeSaid};
     ghost use Rattle.session_engine.specs.Shown.{Shows, Gives, Takes, IsShown, all_cut, to_cut};
-    ghost use Rattle.session_engine.specs.Telling.{Tells, FollowsAct, TakesAnswer, Answers, Departs};
+    ghost use Rattle.session_engine.specs.Telling.{Tells, Follows, TakesAnswer, Answers, Departs, IsStanding};
     ghost use Rattle.session_engine.specs.declared.acts.Act.TheVariants.{Shut};
 
     /// A session with this cookie, before anything came. It gives what opens it.
@@ -52,9 +53,7 @@ impl Engine {
             manager,
             acts: ActList::new(alloc),
         };
-        for act in acts.into_vec() {
-            engine.follow(act)?;
-        }
+        engine.follow_all(acts)?;
         Ok(engine)
     }
 
@@ -69,7 +68,7 @@ impl Engine {
     /// Does to the live connections what the session did, and gives it to the outside.
     fn follow(&mut self, act: SessionAct) -> Result<(), NoMemory>
         requires { IsFit act }
-        ensures { OnOk result (FollowsAct act self.old self.new) }
+        ensures { OnOk result (Follows (act ∷ []) self.old self.new) }
     {
         match act {
             SessionAct::Say(conn, message) => self.acts.push(Act::Say(conn, Message::Xsmp(message))),
@@ -81,9 +80,9 @@ impl Engine {
                 self.live.unset(conn);
                 Ok(())
             }
-            SessionAct::Shut(conn) => {
-                self.live.leave(conn);
-                self.acts.push(Act::Shut(conn))
+            SessionAct::Shut(closed) => {
+                self.live.leave(closed);
+                self.acts.push(Act::Shut(closed))
             }
             SessionAct::Start(command) => self.acts.push(Act::Start(command)),
             SessionAct::Commit(book) => self.acts.push(Act::Commit(book)),
@@ -92,8 +91,21 @@ impl Engine {
         }
     }
 
+    /// Follows all that the session did, in its order.
+    fn follow_all(&mut self, acts: Acts) -> Result<(), NoMemory>
+        requires { AreFit acts }
+        ensures { OnOk result (Follows acts self.old self.new) }
+    {
+        let mut left = VecDeque::from(acts.into_vec());
+        while let Some(act) = left.pop_front() {
+            self.follow(act)?;
+        }
+        Ok(())
+    }
+
     /// Tells the session what happened, and follows it.
     fn tell(&mut self, event: SessionEvent) -> Result<(), NoMemory>
+        requires stands { IsStanding self.old.manager }
         requires takes { TakesEvent event (reading_in self.old.manager.session) }
         ensures { OnOk result (Tells event self.old self.new) }
     {
@@ -101,10 +113,7 @@ impl Engine {
             Ok(acts) => acts,
             Err(_) => return Err(NoMemory),
         };
-        for act in acts.into_vec() {
-            self.follow(act)?;
-        }
-        Ok(())
+        self.follow_all(acts)
     }
 
     /// Hears that a connection joined. The session decides whether it is closed at once, and else
@@ -129,6 +138,7 @@ impl Engine {
     /// Closes a connection after a last message, if there is one, and tells the session.
     fn close(&mut self, conn: Conn, message: Option<Message>) -> Result<(), NoMemory>
         requires said { CanBeSaid message }
+        requires stands { IsStanding self.old.manager }
         requires takes { TakesEvent (LeftIt conn) (reading_in self.old.manager.session) }
         ensures { OnOk result (Departs conn (says conn message ++ Shut conn ∷ []) self.old self.new) }
     {
@@ -141,6 +151,7 @@ impl Engine {
     /// closed is no longer live.
     fn answer(&mut self, conn: Conn, answer: Answer) -> Result<(), NoMemory>
         requires said { CanBeSaid (said_in answer) }
+        requires stands { IsStanding self.old.manager }
         requires takes { TakesAnswer conn answer self.old.manager.session }
         ensures { OnOk result (Answers conn answer self.old self.new) }
     {
@@ -160,6 +171,7 @@ impl Engine {
 
     /// Answers a client that wants to close while it speaks XSMP.
     fn decide(&mut self, conn: Conn) -> Result<(), NoMemory>
+        requires stands { IsStanding self.old.manager }
         requires takes { TakesEvent (LeftIt conn) (reading_in self.old.manager.session) }
         ensures { OnOk result (Answers conn Answer.Asks self.old self.new) }
     {
@@ -188,16 +200,16 @@ impl Engine {
     }
 
     /// Hears that a connection is gone.
-    pub fn leave(&mut self, conn: Conn) -> Result<(), NoMemory>
+    pub fn leave(&mut self, gone: Conn) -> Result<(), NoMemory>
         requires { IsShown all_cut self.old }
-        ensures { (m : Machine) → Shows all_cut self.old m → OnOk result (Gives (step m (Gone conn)) self.new) }
+        ensures { (m : Machine) → Shows all_cut self.old m → OnOk result (Gives (step m (Gone gone)) self.new) }
     {
         self.acts.clear();
-        if !self.live.is_live(conn) {
+        if !self.live.is_live(gone) {
             return Ok(());
         }
-        self.live.leave(conn);
-        self.tell(SessionEvent::Left(conn))
+        self.live.leave(gone);
+        self.tell(SessionEvent::Left(gone))
     }
 
     /// Hears an order of the operator.

@@ -5,7 +5,7 @@ ghost use Rattle.sm_world.specs.declared.events.Event.TheVariants.{Joined, Piece
 ghost use Rattle.session_engine.specs.Acts.{CanBeDone, is_finish, has_finish};
 ghost use Rattle.session_engine.specs.Carries.{CarriesOut, Serves};
 ghost use Rattle.session_engine.specs.Causes.{HearsNone, HasCause};
-ghost use Rattle.session_engine.specs.Machine.{Machine, acts_of, step};
+ghost use Rattle.session_engine.specs.Machine.{Machine, acts_of, opening_acts, start, step};
 ghost use Rattle.session_engine.specs.Shown.{Shows, Carried, IsShown, all_cut};
 ghost use Rattle.session_engine.specs.Turns.{is_end, either};
 
@@ -204,6 +204,27 @@ fn take_event<W: Links + Console>(
     }
 }
 
+/// Opens a session with this cookie, and does what opens it.
+fn open<W: Links + Console>(
+    alloc: Global,
+    world: &mut W,
+    shell: &mut Shell,
+    cookie: Cookie,
+) -> Result<Engine, Halt>
+    ensures done { Added (W.outside world.old).told (W.outside world.new).told (CarriesOut opening_acts (is_ok result)) }
+    ensures shows { IfOk result (λ engine. Shows all_cut engine (start cookie)) }
+    ensures alone { HearsNone (W.outside world.old) (W.outside world.new) result }
+{
+    let engine = match Engine::new(alloc, cookie) {
+        Ok(engine) => engine,
+        Err(NoMemory) => return Err(Halt::NoMemory),
+    };
+    match shell.perform(world, engine.acts()) {
+        Ok(()) => Ok(engine),
+        Err(halt) => Err(halt),
+    }
+}
+
 /// Answers the events of a world until one ends the run, at most `turns` of them.
 pub fn serve<W: Links + Console>(
     alloc: Global,
@@ -216,14 +237,11 @@ pub fn serve<W: Links + Console>(
     ensures counts { NotFallen (W.outside world.old).faults (W.outside world.new).faults }
     ensures cause { IfErr result (HasCause (W.outside world.old).faults (W.outside world.new).faults) }
 {
-    let mut engine = match Engine::new(alloc, cookie) {
-        Ok(engine) => engine,
-        Err(NoMemory) => return Err(ServeFault::NoMemory),
-    };
     let mut shell = Shell::new(alloc);
-    if let Err(halt) = carry_out(world, &mut shell, engine.acts()) {
-        return Err(halt.fault());
-    }
+    let mut engine = match open(alloc, world, &mut shell, cookie) {
+        Ok(engine) => engine,
+        Err(halt) => return Err(halt.fault()),
+    };
     for _ in 0..turns {
         let event = match hear(world) {
             Ok(event) => event,
