@@ -13,9 +13,8 @@ use Rattle.session_engine.specs.Carries.{Going, CarriesOut, item_of}
 use Rattle.session_engine.specs.Causes.{IsCaused, HasCause, fault_of}
 use Rattle.session_engine.specs.Machine.{Did}
 use Rattle.session_engine.specs.declared.acts.Act.{Act}
-use Rattle.session_engine.specs.declared.acts.Act.TheVariants.{Finish}
 use Rattle.session_engine.specs.declared.fault.Halt.{Halt}
-use Rattle.session_engine.specs.declared.fault.Halt.TheVariants.{Links, NoMemory}
+use Rattle.session_engine.specs.declared.fault.Halt.TheVariants.{Links, Console, NoMemory}
 use Rattle.session_engine.specs.declared.fault.ServeFault.TheVariants.{Spent}
 
 -- nothing was done, and all is left
@@ -64,12 +63,12 @@ one_act effect act is_done old new (Err halt) added = record {
   holds = record { left = act ∷ []; going = still (act ∷ []); none_left = λ e. absurd (false≢true e) };
 }
 
--- the end of the run is nothing that a device does
-pub finished : (old : Option (List Effect)) → Added old old (CarriesOut (Finish ∷ []) true)
-finished old = record {
+-- what is hidden is nothing that a device does
+pub hidden : (act : Act) → deed_in act ≡ [] → (old : Option (List Effect)) → Added old old (CarriesOut (act ∷ []) true)
+hidden act none old = record {
   effects = [];
   added = sym (adds-none old);
-  holds = record { left = []; going = record { deaf = refl; quiet = refl; done = Finish ∷ []; parts = refl; so_far = refl; in_order = refl }; none_left = λ e. refl };
+  holds = record { left = []; going = record { deaf = refl; quiet = refl; done = act ∷ []; parts = refl; so_far = rw none refl; in_order = refl }; none_left = λ e. refl };
 }
 
 -- nothing had to be done
@@ -123,15 +122,19 @@ stopped all left old new going = record { effects = going.effects; added = going
 -- a halt is no want of turns
 pub never_spent : (halt : Halt) → fault_of halt ≡ Spent → ⊥
 never_spent Links e = absurd cc
+never_spent Console e = absurd cc
 never_spent NoMemory e = absurd cc
 
 -- the cause of a halt in the later of two parts of a call is one in the whole call
 pub cause_later : (first second third : Faults) (halt : Halt) → NotFallen first second → IsCaused second third halt → IsCaused first third halt
 cause_later first second third Links one (inl rose) = inl (omega (arith, one.links))
 cause_later first second third Links one (inr full) = inr full
+cause_later first second third Console one (inl rose) = inl (omega (arith, one.console))
+cause_later first second third Console one (inr full) = inr full
 cause_later first second third NoMemory one cause = tt
 
 -- ... and one of the run's fault
 pub fault_cause : (old new : Faults) (halt : Halt) → IsCaused old new halt → HasCause old new (fault_of halt)
 fault_cause old new Links cause = cause
+fault_cause old new Console cause = cause
 fault_cause old new NoMemory cause = tt

@@ -5,9 +5,9 @@ use Rattle.ice_values.specs.declared.numbers.Endian.{Endian}
 use Rattle.ice_framing.specs.Frames.{Standing, Cut, fed, cut, behind, units, IsPartial, unit_limit}
 use Rattle.ice_framing.specs.declared.cutting.WholeFrame.{WholeFrame}
 use Rattle.ice_setup.specs.declared.states.AnySetup.{AnySetup}
-use Rattle.session_engine.specs.Answers.{oversize_answer, KeepsLive}
-use Rattle.session_engine.specs.Cutting.{Cuts}
-use Rattle.session_engine.specs.Shown.{CutsAt}
+use Rattle.session_engine.specs.Answers.{oversize_answer, KeepsWhole}
+use Rattle.session_engine.specs.Cutting.{Cuts, Unsets}
+use Rattle.session_engine.specs.Shown.{CutsAt, UnsetsAt}
 use Rattle.session_engine.specs.Streams.{parts_at}
 use Rattle.session_engine.specs.declared.answers.Answer.{Answer}
 use Rattle.session_engine.specs.declared.answers.Answer.TheVariants.{Closes}
@@ -48,9 +48,12 @@ pub forgotten : (before after : Standing) (left : List ℕ) → after ≡ record
 forgotten before after left is = rw (is, drop_whole left) (parts_at-partial (record { order = before.order; held = [] }) (empty_partial before.order) (empty_within before.order))
 
 -- it ends its connection
-oversize_by : (b : Bool) (answer : Answer) → (KeepsLive answer → ⊥) → KeepsLive (if b then Closes None else answer) → ⊥
+oversize_by : (b : Bool) (answer : Answer) → (KeepsWhole answer → ⊥) → KeepsWhole (if b then Closes None else answer) → ⊥
 oversize_by true answer ends keeps = keeps
 oversize_by false answer ends keeps = ends keeps
 
-pub oversize_ends : (setup : AnySetup) (sequence : ℕ) (header : List ℕ) → KeepsLive (oversize_answer setup sequence header) → ⊥
+pub oversize_ends : (setup : AnySetup) (sequence : ℕ) (header : List ℕ) → KeepsWhole (oversize_answer setup sequence header) → ⊥
 oversize_ends setup sequence header keeps = oversize_by (slice_index header 1 == 0) _ (λ never. never) keeps
+
+pub unsets_live : (before after : Option Kept) (kept changed : Kept) → before ≡ Some kept → after ≡ Some changed → Unsets kept changed → UnsetsAt before after
+unsets_live before after kept changed is_kept is_changed unsets = rw (is_kept, is_changed) (changed, refl, unsets)

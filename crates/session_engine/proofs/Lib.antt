@@ -2,9 +2,14 @@ pub mod CutLemmas
 pub mod Parts
 pub mod Connections
 pub mod Adding
-pub mod Running
+pub mod Inner
+pub mod Following
 pub mod Showing
+pub mod Outcomes
+pub mod Answering
+pub mod Events
+pub mod Limits
+pub mod Running
 pub mod Pieces
 pub mod Seats
 pub mod Loop
-pub mod Limits

@@ -7,15 +7,15 @@ use Rattle.sm_world.specs.declared.effects.Effect.TheVariants.{Heard}
 use Rattle.sm_world.specs.declared.events.Event.{Event}
 use Rattle.ice_cookie.specs.declared.cookies.Cookie.{Cookie}
 use Rattle.session_engine.specs.Acts.{has_finish}
-use Rattle.session_engine.specs.Machine.{Machine, acts_of, start, step, after_all}
-use Rattle.session_engine.specs.Carries.{Serves}
+use Rattle.session_engine.specs.Machine.{Machine, acts_of, opening_acts, start, step, after_all}
+use Rattle.session_engine.specs.Carries.{CarriesOut, Serves}
 use Rattle.session_engine.specs.Shown.{Shows, Carried, all_cut}
 use Rattle.session_engine.specs.declared.engine.Engine.{Engine}
 use Rattle.session_engine.specs.declared.fault.Halt.{Halt}
 use Rattle.session_engine.specs.declared.fault.ServeFault.{ServeFault}
 use Rattle.session_engine.specs.declared.fault.ServeFault.TheVariants.{Spent}
 use Rattle.sm_world.proofs.Adding.{adds-adds, adds-none}
-use Rattle.session_engine.proofs.Running.{Runs, runs_begin, goes_on, is_end, is_cut_short, is_over}
+use Rattle.session_engine.proofs.Running.{Runs, runs_begin, goes_on, is_end, is_cut_short, is_over, is_unopened}
 
 -- what was heard, and what its step added
 heard_step : (old now between later : Option (List Effect)) (es ds : List Effect) (event : Event) → now ≡ adds old es → between ≡ adds now (Heard event ∷ []) → later ≡ adds between ds → later ≡ adds old (es ++ Heard event ∷ ds)
@@ -25,8 +25,11 @@ heard_step old now between later es ds event first second third =
 
 -- in a session with this cookie
 module _ (cookie : Cookie) where
-  pub loop_begins : (old : Option (List Effect)) (coming : Option (List Event)) (engine : Engine) → Shows all_cut engine (start cookie) → Added old old (Runs cookie coming coming engine 0)
-  loop_begins old coming engine shows = record { effects = []; added = sym (adds-none old); holds = runs_begin cookie coming engine shows }
+  pub loop_begins : (old now : Option (List Effect)) (coming : Option (List Event)) (engine : Engine) → Added old now (CarriesOut opening_acts true) → Shows all_cut engine (start cookie) → Added old now (Runs cookie coming coming engine 0)
+  loop_begins old now coming engine out shows = record { effects = out.effects; added = out.added; holds = runs_begin cookie coming engine out.effects out.holds shows }
+
+  pub loop_unopened : (old now : Option (List Effect)) (coming : Option (List Event)) (turns : ℕ) (fault : ServeFault) → (fault ≡ Spent → ⊥) → Added old now (CarriesOut opening_acts false) → Added old now (Serves cookie coming turns (Err fault))
+  loop_unopened old now coming turns fault apart out = record { effects = out.effects; added = out.added; holds = is_unopened cookie coming turns out.effects fault apart out.holds }
 
   pub loop_goes_on : (old now between later : Option (List Effect)) (coming left after last : Option (List Event)) (engine next : Engine) (n more : ℕ) (event : Event) → more ≡ suc n → Added old now (Runs cookie coming left engine n) → between ≡ adds now (Heard event ∷ []) → TakesNext {E = Halt} left after (Ok event) → last ≡ after → ((m : Machine) → Shows all_cut engine m → Carried between later next (step m event) true) → ((m : Machine) → Shows all_cut engine m → has_finish (acts_of (step m event)) ≡ false) → Added old later (Runs cookie coming last next more)
   loop_goes_on old now between later coming left after last engine next n more event is_more runs was_heard takes is_last carried goes =

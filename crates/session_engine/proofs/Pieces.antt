@@ -1,25 +1,35 @@
 -- The rest of a piece: the acts that were done, and the parts that the machine still has to take.
-use Rattle.std.proofs.Common.{◌≡◌, ℕ, ◌+◌, ◌-◌, zero, suc, true, false, List, [], ◌∷◌, ◌++◌, length, take, drop, Option, Some, None, refl, sym, ◌∙◌, ap, arith}
+use Rattle.std.proofs.Common.{◌≡◌, inl, inr, ℕ, ◌+◌, ◌-◌, zero, suc, Bool, true, false, List, [], ◌∷◌, ◌++◌, length, take, drop, Option, Some, None, refl, sym, ◌∙◌, ap, arith}
 use Rattle.std.proofs.lemmas.List.{length-drop, take_all}
 use Rattle.std.proofs.lemmas.Grind.{flat_map-append}
 use Rattle.sm_world.specs.Outside.{Added}
 use Rattle.sm_world.specs.declared.effects.Effect.{Effect}
 use Rattle.sm_world.specs.declared.events.Event.TheVariants.{Piece}
-use Rattle.session_engine.specs.Acts.{has_finish}
+use Rattle.std.specs.Option.{option_map}
+use Rattle.std.proofs.lemmas.Bool.{cases_eq}
+use Rattle.session_model.specs.Phases.{is_bound}
+use Rattle.session_model.specs.Readings as of
+use Rattle.session_model.specs.Rules.{taken}
+use Rattle.session_model.specs.declared.events.Act.{Act as SessionAct}
+use Rattle.session_model.specs.declared.events.Act.TheVariants.{Shut as ShutsConn, Unset}
+use Rattle.session_model.specs.declared.events.SessionEvent.TheVariants.{Ready, Said, Left}
+use Rattle.session_engine.specs.Acts.{has_finish, says}
 use Rattle.session_engine.specs.Answers.{outcome, sequence_after}
 use Rattle.session_engine.specs.Carries.{Going, CarriesOut}
-use Rattle.session_engine.specs.Machine.{Connection, Machine, Step, Entry, act_in, acts_of, behind, connection_of, counted, noted, parted, fed_on, stays, answered, part_taken, parts_taken, step}
+use Rattle.session_engine.specs.Machine.{Connection, Machine, Step, Entry, act_in, acts_of, acts_since, asked, behind, connection_of, connections_after, connections_through, counted, departs, noted, fed_on, stays, unset_on, without, answered, part_taken, parts_taken, step}
 use Rattle.session_engine.specs.Shown.{Shows, Carried, TakesPart, TakesNone, parts_on, parts_left, all_cut, to_cut}
 use Rattle.session_engine.specs.Streams.{Part, parts_of}
 use Rattle.session_engine.specs.Turns.{is_end, either}
 use Rattle.session_engine.specs.declared.answers.Answer.{Answer}
-use Rattle.session_engine.specs.declared.answers.Answer.TheVariants.{Stays, Closes}
+use Rattle.session_engine.specs.declared.answers.Answer.TheVariants.{Stays, Begins, Closes, Speaks, Asks}
+use Rattle.session_engine.specs.declared.acts.Act.{Act}
+use Rattle.session_engine.specs.declared.acts.Act.TheVariants.{Shut}
 use Rattle.session_engine.specs.declared.answers.Outcome.{Outcome}
 use Rattle.session_engine.specs.declared.engine.Engine.{Engine}
 use Rattle.session_engine.specs.declared.serving.Turn.{Turn}
 use Rattle.session_engine.specs.declared.serving.Turn.TheVariants.{GoesOn}
 use Rattle.session_engine.proofs.Adding.{all_left, done_too, halted, all_done}
-use Rattle.session_engine.proofs.Connections.{same, connection_of-changed, connection_of-without}
+use Rattle.session_engine.proofs.Connections.{same, other, connection_of-changed, connection_of-without}
 use Rattle.session_engine.proofs.Running.{has_finish-append}
 use Rattle.session_engine.proofs.Showing.{piece_brings, piece_comes}
 
@@ -47,21 +57,63 @@ behind_first n xs x rest e =
     let more : n + 1 ≡ suc n = omega arith in
     ap (λ k. drop k xs) more ∙ behind_suc n xs x rest e
 
--- behind a part the rest of the parts is what the stream still has, or nothing once the connection is closed
-rest_by : (m : Machine) (c : ℕ) (setup : _) (answer : Answer) (k : Connection) (part : Part) (rest : List Part) → connection_of c m.connections ≡ Some k → drop k.taken (parts_of k.stream) ≡ part ∷ rest → parts_taken (answered (noted m c setup) c answer) c rest ≡ rest_taken (answered (noted m c setup) c answer) c
-rest_by m c setup (Stays message) k part rest is_k is_next =
-    let at_c : connection_of c (noted m c setup).connections ≡ Some (counted setup k) = rw (connection_of-changed (counted setup) (λ k. refl) c c m.connections, same c c refl, is_k) refl in
-    ap (parts_taken (noted m c setup) c) (sym (ap parts_on at_c ∙ behind_first k.taken (parts_of k.stream) part rest is_next))
-rest_by m c setup (Closes message) k part rest is_k is_next =
-    let next : Machine = parted (noted m c setup) c in
-    let none : connection_of c next.connections ≡ None = rw (connection_of-without c c (noted m c setup).connections, same c c refl) refl in
-    parts_taken-not_live next c rest none ∙ sym (parts_taken-not_live next c (parts_left next c) none)
+-- a connection of which nothing but its set-up changed, or that isn't live any more
+abbrev Follows : Connection → Option Connection → Type 0
+Follows k None = Unit {0}
+Follows k (Some now) = (now.stream ≡ k.stream) × (now.taken ≡ k.taken)
+
+follows-unset : (k : Connection) (now : Option Connection) → Follows k now → Follows k (option_map unset_on now)
+follows-unset k None follows = tt
+follows-unset k (Some now) follows = follows
+
+follows-without : (c d : ℕ) (ks : List Connection) (k : Connection) → Follows k (connection_of c ks) → Follows k (connection_of c (without d ks))
+follows-without c d ks k follows = elim (cases_eq c d) [
+  | inl e ↦ rw (connection_of-without d c ks, same c d e) tt
+  | inr apart ↦ rw (connection_of-without d c ks, other c d apart) follows
+]
+
+follows-after : (act : SessionAct) (c : ℕ) (ks : List Connection) (k : Connection) → Follows k (connection_of c ks) → Follows k (connection_of c (connections_after act ks))
+follows-after (Unset d) c ks k follows = elim (cases_eq c d) [
+  | inl e ↦ rw (connection_of-changed unset_on (λ k. refl) d c ks, same c d e) (follows-unset k (connection_of c ks) follows)
+  | inr apart ↦ rw (connection_of-changed unset_on (λ k. refl) d c ks, other c d apart) follows
+]
+follows-after (ShutsConn d) c ks k follows = follows-without c d ks k follows
+follows-after act c ks k follows = follows
+
+follows-through : (acts : List SessionAct) (c : ℕ) (ks : List Connection) (k : Connection) → Follows k (connection_of c ks) → Follows k (connection_of c (connections_through acts ks))
+follows-through [] c ks k follows = follows
+follows-through (act ∷ acts) c ks k follows = follows-through acts c (connections_after act ks) k (follows-after act c ks k follows)
+
+follows-departed : (m : Machine) (c : ℕ) (acts : List Act) (k : Connection) → Follows k (connection_of c m.connections) → Follows k (connection_of c (departs m c acts).next.connections)
+follows-departed m c acts k follows = follows-through (acts_since m.session (taken (Left c) m.session)) c (without c m.connections) k (follows-without c c m.connections k follows)
+
+follows-asked : (m : Machine) (c : ℕ) (b : Bool) (k : Connection) → Follows k (connection_of c m.connections) → Follows k (connection_of c (asked m c b).next.connections)
+follows-asked m c true k follows = follows
+follows-asked m c false k follows = follows-departed m c (Shut c ∷ []) k follows
+
+follows-answered : (m : Machine) (c : ℕ) (answer : Answer) (k : Connection) → Follows k (connection_of c m.connections) → Follows k (connection_of c (answered m c answer).next.connections)
+follows-answered m c (Stays message) k follows = follows
+follows-answered m c (Begins message) k follows = follows-through (acts_since m.session (taken (Ready c) m.session)) c m.connections k follows
+follows-answered m c (Closes message) k follows = follows-departed m c (says c message ++ Shut c ∷ []) k follows
+follows-answered m c (Speaks message sequence frame) k follows = follows-through (acts_since m.session (taken (Said c message sequence frame) m.session)) c m.connections k follows
+follows-answered m c Asks k follows = follows-asked m c (is_bound (of.phase_of c m.session)) k follows
+
+-- the rest of the parts is what the stream still has, or nothing once the connection isn't live
+rest_at : (n : Machine) (c : ℕ) (now : Option Connection) (k : Connection) (rest : List Part) → connection_of c n.connections ≡ now → Follows k now → drop k.taken (parts_of k.stream) ≡ rest → parts_taken n c rest ≡ rest_taken n c
+rest_at n c None k rest is_now follows is_rest = parts_taken-not_live n c rest is_now ∙ sym (parts_taken-not_live n c (parts_left n c) is_now)
+rest_at n c (Some now) k rest is_now follows is_rest =
+    ap (parts_taken n c) (sym (ap parts_on is_now ∙ (ap (λ s. drop now.taken (parts_of s)) follows.0 ∙ (ap (λ t. drop t (parts_of k.stream)) follows.1 ∙ is_rest))))
+
+rest_by : (m : Machine) (c : ℕ) (o : Outcome) (k : Connection) (part : Part) (rest : List Part) → connection_of c m.connections ≡ Some k → drop k.taken (parts_of k.stream) ≡ part ∷ rest → parts_taken (answered (noted m c o.setup) c o.answer).next c rest ≡ rest_taken (answered (noted m c o.setup) c o.answer).next c
+rest_by m c o k part rest is_k is_next =
+    let at_c : connection_of c (noted m c o.setup).connections ≡ Some (counted o.setup k) = rw (connection_of-changed (counted o.setup) (λ k. refl) c c m.connections, same c c refl, is_k) refl in
+    let next : Machine = (answered (noted m c o.setup) c o.answer).next in
+    let follows : Follows (counted o.setup k) (connection_of c next.connections) = follows-answered (noted m c o.setup) c o.answer (counted o.setup k) (rw at_c (refl, refl)) in
+    rest_at next c (connection_of c next.connections) (counted o.setup k) rest refl follows (behind_first k.taken (parts_of k.stream) part rest is_next)
 
 first_by : (m : Machine) (c : ℕ) (k : Option Connection) (part : Part) (rest : List Part) → connection_of c m.connections ≡ k → parts_on k ≡ part ∷ rest → parts_taken (part_taken m c part).next c rest ≡ rest_taken (part_taken m c part).next c
 first_by m c None part rest is_k is_next = absurd cc
-first_by m c (Some k) part rest is_k is_next =
-    let o : Outcome = outcome k.setup (sequence_after k.taken) part in
-    rw is_k (rest_by m c o.setup o.answer k part rest is_k is_next)
+first_by m c (Some k) part rest is_k is_next = rw is_k (rest_by m c (outcome k.setup (sequence_after k.taken) part) k part rest is_k is_next)
 
 -- the rest of the parts begins with the next one
 pub first_of_rest : (m : Machine) (c : ℕ) (part : Part) (rest : List Part) → parts_left m c ≡ part ∷ rest → rest_taken m c ≡ behind (part_taken m c part).line (rest_taken (part_taken m c part).next c)

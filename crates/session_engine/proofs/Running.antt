@@ -11,16 +11,16 @@ use Rattle.sm_world.specs.declared.effects.Effect.{Effect}
 use Rattle.sm_world.specs.declared.effects.Effect.TheVariants.{Heard}
 use Rattle.sm_world.specs.declared.events.Event.{Event}
 use Rattle.session_engine.specs.Acts.{deeds_in, deed_in, has_finish}
-use Rattle.session_engine.specs.Machine.{Machine, Item, Came, Did, acts_of, start as start_with, step, after_all, script_from, run_from}
+use Rattle.session_engine.specs.Machine.{Machine, Item, Came, Did, acts_of, opening_acts, start as start_with, step, after_all, script_from, run_from}
 use Rattle.session_engine.specs.declared.acts.Act.{Act}
-use Rattle.session_engine.specs.declared.acts.Act.TheVariants.{Say, Shut, Finish}
+use Rattle.session_engine.specs.declared.acts.Act.TheVariants.{Say, Shut, Start, Commit, Print, Finish}
 use Rattle.session_engine.specs.Carries.{Going, CarriesOut, IsPrefix, IsOnScript as IsOnScriptOf, Serves as ServesWith, Brought, next_events, is_whole, items, item_of, script as script_with, run as run_with}
 use Rattle.ice_cookie.specs.declared.cookies.Cookie.{Cookie}
 use Rattle.session_engine.specs.Shown.{Shows, all_cut}
 use Rattle.session_engine.specs.declared.engine.Engine.{Engine}
 use Rattle.session_engine.specs.declared.fault.Halt.{Halt}
 use Rattle.session_engine.specs.declared.fault.ServeFault.{ServeFault}
-use Rattle.session_engine.specs.declared.fault.ServeFault.TheVariants.{LinkFault, Spent, NoMemory}
+use Rattle.session_engine.specs.declared.fault.ServeFault.TheVariants.{LinkFault, ConsoleFault, Spent, NoMemory}
 
 -- these events are the first of those to come, and the others are left
 abbrev pub BroughtSoFar : Option (List Event) → Option (List Event) → List Event → Type 0
@@ -32,11 +32,21 @@ pub has_finish-append : (xs ys : List Act) → has_finish (xs ++ ys) ≡ (if has
 has_finish-append [] ys = refl
 has_finish-append (Say conn message ∷ xs) ys = has_finish-append xs ys
 has_finish-append (Shut conn ∷ xs) ys = has_finish-append xs ys
+has_finish-append (Start command ∷ xs) ys = has_finish-append xs ys
+has_finish-append (Commit book ∷ xs) ys = has_finish-append xs ys
+has_finish-append (Print text ∷ xs) ys = has_finish-append xs ys
 has_finish-append (Finish ∷ xs) ys = refl
+
+second_by : (b c : Bool) → (if b then true else c) ≡ false → c ≡ false
+second_by true c e = absurd (false≢true (sym e))
+second_by false c e = e
 
 no_finish_by : (b : Bool) (rest : List Act) → (if b then true else has_finish (if b then [] else rest)) ≡ false → (b ≡ false) × (has_finish rest ≡ false)
 no_finish_by true rest e = absurd (false≢true (sym e))
 no_finish_by false rest e = (refl, e)
+
+later_unfinished : (xs ys : List Act) → has_finish (xs ++ ys) ≡ false → has_finish ys ≡ false
+later_unfinished xs ys e = second_by (has_finish xs) (has_finish ys) (sym (has_finish-append xs ys) ∙ e)
 
 -- no Finish in a script is none in its first step and none in the rest
 unfinished_parts : (acts rest : List Act) → has_finish (acts ++ (if has_finish acts then [] else rest)) ≡ false → (has_finish acts ≡ false) × (has_finish rest ≡ false)
@@ -134,12 +144,23 @@ module _ (cookie : Cookie) where
   abbrev pub Serves : Option (List Event) → ℕ → Result (Unit {0}) ServeFault → List Effect → Type 0
   Serves coming turns answer effects = ServesWith cookie coming turns answer effects
 
+  -- one more event after events without Finish
+  one-more : (events : List Event) (event : Event) → has_finish (script events) ≡ false → script (events ++ event ∷ []) ≡ script events ++ acts_of (step (after_all start events) event)
+  one-more events event unfinished =
+      ap (λ acts. opening_acts ++ acts) (script_from-more start events event (later_unfinished opening_acts (script_from start events) unfinished))
+      ∙ sym (append_assoc opening_acts (script_from start events) (acts_of (step (after_all start events) event)))
+
+  one-more-shown : (events : List Event) (event : Event) → has_finish (script events) ≡ false → run (events ++ event ∷ []) ≡ run events ++ (Came event ∷ map Did (deeds_in (acts_of (step (after_all start events) event))))
+  one-more-shown events event unfinished =
+      ap (λ is. map Did (deeds_in opening_acts) ++ is) (run_from-more start events event (later_unfinished opening_acts (script_from start events) unfinished))
+      ∙ sym (append_assoc (map Did (deeds_in opening_acts)) (run_from start events) (Came event ∷ map Did (deeds_in (acts_of (step (after_all start events) event)))))
+
   -- The script of a run with one more event, and the deeds of its effects so far.
   front_on_script : (es ds : List Effect) (event : Event) (left : List Act) → Going (acts_of (step (after_all start (heard es)) event)) left ds → has_finish (script (heard es)) ≡ false → deeds es ≡ deeds_in (script (heard es)) → (k : ℕ) → IsPrefix (deeds (es ++ Heard event ∷ take k ds)) (deeds_in (script (heard (es ++ Heard event ∷ take k ds))))
   front_on_script es ds event left adds unfinished all_done k =
       let acts = (acts_of (step (after_all start (heard es)) event)) in
       let deaf : heard (take k ds) ≡ [] = deaf_front (heard (take k ds)) (heard (drop k ds)) (heard_parts k ds adds.deaf) in
-      let scripts : script (heard (es ++ Heard event ∷ take k ds)) ≡ script (heard es) ++ acts = ap script (heard-more es (take k ds) event deaf) ∙ script_from-more start (heard es) event unfinished in
+      let scripts : script (heard (es ++ Heard event ∷ take k ds)) ≡ script (heard es) ++ acts = ap script (heard-more es (take k ds) event deaf) ∙ one-more (heard es) event unfinished in
       let parts : deeds (take k ds) ++ deeds (drop k ds) ≡ deeds_in adds.done = sym (flat_map-append deed_of (take k ds) (drop k ds)) ∙ (ap deeds (take-append-drop k ds) ∙ adds.so_far) in
       let all : deeds_in acts ≡ deeds (take k ds) ++ (deeds (drop k ds) ++ deeds_in left) =
       ap deeds_in (sym adds.parts) ∙ (flat_map-append deed_in adds.done left ∙ (ap (λ xs. xs ++ deeds_in left) (sym parts) ∙ append_assoc (deeds (take k ds)) (deeds (drop k ds)) (deeds_in left))) in (
@@ -181,26 +202,38 @@ module _ (cookie : Cookie) where
   none_heard_yet : (n : ℕ) (event : Event) (more : List Effect) → ◌≡◌ {A = List Effect} (drop n []) (Heard event ∷ more) → ⊥
   none_heard_yet n event more e = none_is_heard event (heard more) (sym (ap heard (sym (drop_none n) ∙ e)))
 
+  -- the effects of the opening
+  opening_on_script : (es : List Effect) (left : List Act) → Going opening_acts left es → IsOnScript es
+  opening_on_script es left going = record {
+    no_other_deed = λ n.
+        let deaf : heard (take n es) ≡ [] = deaf_front (heard (take n es)) (heard (drop n es)) (heard_parts n es going.deaf) in
+        let parts : deeds (take n es) ++ deeds (drop n es) ≡ deeds_in going.done = sym (flat_map-append deed_of (take n es) (drop n es)) ∙ (ap deeds (take-append-drop n es) ∙ going.so_far) in
+        let all : deeds (take n es) ++ (deeds (drop n es) ++ deeds_in left) ≡ deeds_in opening_acts =
+        sym (append_assoc (deeds (take n es)) (deeds (drop n es)) (deeds_in left)) ∙ (ap (λ xs. xs ++ deeds_in left) parts ∙ (sym (flat_map-append deed_in going.done left) ∙ ap deeds_in going.parts)) in
+        rw deaf (deeds (drop n es) ++ deeds_in left, all ∙ ap deeds_in (sym (append-nil opening_acts)));
+    no_deed_missing = λ n event more is_heard. absurd (none_is_heard event (heard more) (sym (ap heard is_heard) ∙ deaf_back (heard (take n es)) (heard (drop n es)) (heard_parts n es going.deaf)));
+    heard_in_time = λ n event more is_heard. absurd (none_is_heard event (heard more) (sym (ap heard is_heard) ∙ deaf_back (heard (take n es)) (heard (drop n es)) (heard_parts n es going.deaf)));
+    none_published = going.quiet;
+  }
+
   brought_none : (coming : Option (List Event)) → BroughtSoFar coming coming []
   brought_none None = refl
   brought_none (Some coming) = (refl, refl)
 
-  -- nothing was heard yet
-  pub runs_begin : (coming : Option (List Event)) (engine : Engine) → Shows all_cut engine start → Runs coming coming engine 0 []
-  runs_begin coming engine shows = record {
-    shows = shows;
-    count = refl;
-    unfinished = refl;
-    all_done = refl;
-    in_order = refl;
-    on_script = record {
-      no_other_deed = λ n. rw (take_none n) ([], refl);
-      no_deed_missing = λ n event more is_heard. absurd (none_heard_yet n event more is_heard);
-      heard_in_time = λ n event more is_heard. absurd (none_heard_yet n event more is_heard);
-      none_published = refl;
-    };
-    brought = brought_none coming;
-  }
+  -- nothing was heard yet, and the book was opened
+  pub runs_begin : (coming : Option (List Event)) (engine : Engine) (es : List Effect) → CarriesOut opening_acts true es → Shows all_cut engine start → Runs coming coming engine 0 es
+  runs_begin coming engine es out shows =
+      let whole : out.going.done ≡ opening_acts = sym (append-nil out.going.done) ∙ (ap (λ xs. out.going.done ++ xs) (sym (out.none_left refl)) ∙ out.going.parts) in
+      let all : deeds es ≡ deeds_in opening_acts = out.going.so_far ∙ ap deeds_in whole in
+      record {
+        shows = rw (out.going.deaf) shows;
+        count = ap length out.going.deaf;
+        unfinished = rw (out.going.deaf) refl;
+        all_done = rw (out.going.deaf) (all ∙ ap deeds_in (sym (append-nil opening_acts)));
+        in_order = rw (out.going.deaf) (out.going.in_order ∙ (ap (map Did) all ∙ sym (append-nil (map Did (deeds_in opening_acts)))));
+        on_script = opening_on_script es out.left out.going;
+        brought = rw (out.going.deaf) (brought_none coming);
+      }
 
   -- the events to come, but for one more
   drop_one_first : (n : ℕ) (xs : List Event) → drop n (drop 1 xs) ≡ drop (suc n) xs
@@ -235,7 +268,7 @@ module _ (cookie : Cookie) where
 
   -- the script after one more event
   script-more : (es ds : List Effect) (event : Event) → heard ds ≡ [] → has_finish (script (heard es)) ≡ false → script (heard (es ++ Heard event ∷ ds)) ≡ script (heard es) ++ (acts_of (step (after_all start (heard es)) event))
-  script-more es ds event deaf unfinished = ap script (heard-more es ds event deaf) ∙ script_from-more start (heard es) event unfinished
+  script-more es ds event deaf unfinished = ap script (heard-more es ds event deaf) ∙ one-more (heard es) event unfinished
 
   -- Finish in the script after one more event is Finish in that event's step
   finish-more : (es ds : List Effect) (event : Event) → heard ds ≡ [] → has_finish (script (heard es)) ≡ false → has_finish (script (heard (es ++ Heard event ∷ ds))) ≡ has_finish (acts_of (step (after_all start (heard es)) event))
@@ -260,7 +293,7 @@ module _ (cookie : Cookie) where
       items-more es ds event
       ∙ (ap (λ xs. xs ++ (Came event ∷ items ds)) in_order
       ∙ (ap (λ xs. run (heard es) ++ (Came event ∷ xs)) (out.going.in_order ∙ ap (map Did) (out.going.so_far ∙ ap deeds_in whole))
-      ∙ sym (ap run (heard-more es ds event out.going.deaf) ∙ run_from-more start (heard es) event unfinished)))
+      ∙ sym (ap run (heard-more es ds event out.going.deaf) ∙ one-more-shown (heard es) event unfinished)))
 
   -- the run goes on
   pub goes_on : (coming left after : Option (List Event)) (engine next : Engine) (n : ℕ) (es ds : List Effect) (event : Event) → Runs coming left engine n es → TakesNext {E = Halt} left after (Ok event) → CarriesOut (acts_of (step (after_all start (heard es)) event)) true ds → Shows all_cut next (step (after_all start (heard es)) event).next → has_finish (acts_of (step (after_all start (heard es)) event)) ≡ false → Runs coming after next (suc n) (es ++ Heard event ∷ ds)
@@ -284,6 +317,7 @@ module _ (cookie : Cookie) where
   -- a fault but Spent cuts the run short
   not_whole : (fault : ServeFault) → (fault ≡ Spent → ⊥) → is_whole (Err fault) ≡ true → ⊥
   not_whole LinkFault apart e = false≢true e
+  not_whole ConsoleFault apart e = false≢true e
   not_whole Spent apart e = apart refl
   not_whole NoMemory apart e = false≢true e
 
@@ -340,4 +374,22 @@ module _ (cookie : Cookie) where
     in_order = λ e. runs.in_order;
     in_turns = omega (arith, runs.count);
     spent = λ e. (runs.count ∙ at_end (the_fault fault Spent e), runs.unfinished);
+  }
+
+  brought_nothing : (coming : Option (List Event)) → Brought coming []
+  brought_nothing None = tt
+  brought_nothing (Some coming) = refl
+
+  -- a fault as the book was opened
+  pub is_unopened : (coming : Option (List Event)) (turns : ℕ) (es : List Effect) (fault : ServeFault) → (fault ≡ Spent → ⊥) → CarriesOut opening_acts false es → Serves coming turns (Err fault) es
+  is_unopened coming turns es fault apart out = record {
+    carries = record {
+      on_script = opening_on_script es out.left out.going;
+      all_done = λ e. absurd (not_whole fault apart e);
+      ended = λ e. absurd (fault_is_no_ok fault e);
+    };
+    brought = rw (out.going.deaf) (brought_nothing coming);
+    in_order = λ e. absurd (not_whole fault apart e);
+    in_turns = rw (out.going.deaf) (omega arith);
+    spent = λ e. absurd (apart (the_fault fault Spent e));
   }

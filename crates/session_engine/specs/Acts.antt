@@ -1,15 +1,18 @@
 -- What the manager does, one act after the other, and what of it the outside can see.
 use Rattle.std.specs.Prelude.{ℕ, Bool, true, false, List, [], ◌∷◌, ◌++◌, Option, Some, None, if◌then◌else◌}
 use Rattle.std.specs.List.{flat_map}
-use Rattle.sm_world.specs.Effects.{Deed, Sends, Shuts}
+use Rattle.sm_world.specs.Effects.{Deed, Sends, Shuts, Prints}
+use Rattle.xsmp_messages.specs.declared.message.XsmpMessage.TheVariants.{Error as XsmpError}
+use Rattle.session_model.specs.declared.events.Act.{Act as SessionAct}
+use Rattle.session_model.specs.declared.events.Act.TheVariants.{Say as SaysXsmp, Blame, Unset, Shut as ShutsConn, Start as Starts, Commit as Commits, Print as PrintsLine, Finish as Finishes}
 use Rattle.session_engine.specs.Messages.{spelled, IsTooLong}
 use Rattle.session_engine.specs.declared.acts.Act.{Act}
-use Rattle.session_engine.specs.declared.acts.Act.TheVariants.{Say, Shut, Finish}
-use Rattle.session_engine.specs.declared.answers.Answer.{Answer}
-use Rattle.session_engine.specs.declared.answers.Answer.TheVariants.{Stays, Closes}
+use Rattle.session_engine.specs.declared.acts.Act.TheVariants.{Say, Shut, Start, Commit, Print, Finish}
 use Rattle.session_engine.specs.declared.messages.Message.{Message}
+use Rattle.session_engine.specs.declared.messages.Message.TheVariants.{Xsmp}
 
--- what an act is to the outside: a deed, or nothing that it sees
+-- What an act is to the outside: a deed, or nothing that it sees. A line is printed with its newline. No device starts
+-- commands and none keeps books yet.
 pub data Kind : Type 0 where
   Shown : Deed → Kind
   Hidden : Kind
@@ -17,6 +20,9 @@ pub data Kind : Type 0 where
 abbrev pub kind_of : Act → Kind
 kind_of (Say conn message) = Shown (Sends conn (spelled message))
 kind_of (Shut conn) = Shown (Shuts conn)
+kind_of (Start command) = Hidden
+kind_of (Commit book) = Hidden
+kind_of (Print text) = Shown (Prints (text ++ 10 ∷ []))
 kind_of Finish = Hidden
 
 abbrev pub deeds_by : Kind → List Deed
@@ -34,6 +40,9 @@ deeds_in acts = flat_map deed_in acts
 abbrev pub is_finish : Act → Bool
 is_finish (Say conn message) = false
 is_finish (Shut conn) = false
+is_finish (Start command) = false
+is_finish (Commit book) = false
+is_finish (Print text) = false
 is_finish Finish = true
 
 abbrev pub has_finish : List Act → Bool
@@ -44,6 +53,9 @@ has_finish (act ∷ acts) = if is_finish act then true else has_finish acts
 abbrev pub CanBeDone : Act → Type 0
 CanBeDone (Say conn message) = ¬ (IsTooLong message)
 CanBeDone (Shut conn) = Unit {0}
+CanBeDone (Start command) = Unit {0}
+CanBeDone (Commit book) = Unit {0}
+CanBeDone (Print text) = Unit {0}
 CanBeDone Finish = Unit {0}
 
 -- what is said to a client, if anything
@@ -51,7 +63,17 @@ abbrev pub says : ℕ → Option Message → List Act
 says c None = []
 says c (Some message) = Say c message ∷ []
 
--- what an answer to a client asks for
-abbrev pub answer_acts : ℕ → Answer → List Act
-answer_acts c (Stays message) = says c message
-answer_acts c (Closes message) = says c message ++ Shut c ∷ []
+-- what is done about an act of the session: an Error of XSMP is sent as any message of XSMP, and where XSMP ends on a
+-- connection, nothing is done to the outside
+abbrev pub acts_for : SessionAct → List Act
+acts_for (SaysXsmp conn message) = Say conn (Xsmp message) ∷ []
+acts_for (Blame conn error) = Say conn (Xsmp (XsmpError error)) ∷ []
+acts_for (Unset conn) = []
+acts_for (ShutsConn conn) = Shut conn ∷ []
+acts_for (Starts command) = Start command ∷ []
+acts_for (Commits book) = Commit book ∷ []
+acts_for (PrintsLine text) = Print text ∷ []
+acts_for Finishes = Finish ∷ []
+
+abbrev pub acts_for_all : List SessionAct → List Act
+acts_for_all acts = flat_map acts_for acts

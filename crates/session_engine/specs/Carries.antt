@@ -11,7 +11,7 @@ use Rattle.session_engine.specs.Acts.{deeds_in, has_finish}
 use Rattle.session_engine.specs.Machine.{Item, Came, Did, script_of, run_of}
 use Rattle.session_engine.specs.declared.acts.Act.{Act}
 use Rattle.session_engine.specs.declared.fault.ServeFault.{ServeFault}
-use Rattle.session_engine.specs.declared.fault.ServeFault.TheVariants.{LinkFault, Spent, NoMemory}
+use Rattle.session_engine.specs.declared.fault.ServeFault.TheVariants.{LinkFault, ConsoleFault, Spent, NoMemory}
 
 abbrev pub IsPrefix : {A : Type 0} → List A → List A → Type 0
 IsPrefix {A} xs ys = (rest : List A) × (xs ++ rest ≡ ys)
@@ -21,6 +21,7 @@ abbrev pub is_whole : Result (Unit {0}) ServeFault → Bool
 is_whole (Ok x) = true
 is_whole (Err Spent) = true
 is_whole (Err LinkFault) = false
+is_whole (Err ConsoleFault) = false
 is_whole (Err NoMemory) = false
 
 -- the first n of the events to come, and End for each that isn't there

@@ -3,7 +3,7 @@ use Rattle.std.specs.Prelude.{◌≡◌, ℕ, List, [], ◌∷◌, drop, Option,
 use Rattle.ice_cookie.specs.declared.cookies.Cookie.{Cookie}
 use Rattle.ice_framing.specs.Frames.{beginning, fed, cut}
 use Rattle.ice_setup.specs.declared.states.AnySetup.TheVariants.{AwaitOrder as AtOrder}
-use Rattle.session_engine.specs.Answers.{outcome, sequence_after, KeepsLive}
+use Rattle.session_engine.specs.Answers.{outcome, sequence_after, without_xsmp, KeepsWhole}
 use Rattle.session_engine.specs.Streams.{Part, parts_at}
 use Rattle.session_engine.specs.declared.connection.Connection.{Connection as Kept}
 use Rattle.session_engine.specs.declared.connection.Answered.{Answered}
@@ -21,7 +21,7 @@ pub record TakesFirst (before : Kept) (left : List ℕ) (answered : Answered) (a
   pub setup : after.setup ≡ (outcome before.setup (sequence_after before.sequence) part).setup
   pub sequence : after.sequence ≡ sequence_after before.sequence
   -- what is cut behind the part is what would have been cut
-  pub stands : KeepsLive answered.answer → (cut (fed after.splitter (drop answered.count left))).standing ≡ (cut (fed before.splitter left)).standing
+  pub stands : KeepsWhole answered.answer → (cut (fed after.splitter (drop answered.count left))).standing ≡ (cut (fed before.splitter left)).standing
 
 -- No part is whole: all bytes are held.
 pub record HoldsAll (before : Kept) (left : List ℕ) (after : Kept) : Type 0 where
@@ -33,3 +33,9 @@ pub record HoldsAll (before : Kept) (left : List ℕ) (after : Kept) : Type 0 wh
 abbrev pub Cuts : Kept → List ℕ → Option Answered → Kept → Type 0
 Cuts before left None after = HoldsAll before left after
 Cuts before left (Some answered) after = TakesFirst before left answered after
+
+-- XSMP has ended on the connection, and nothing else has changed.
+pub record Unsets (before after : Kept) : Type 0 where
+  pub setup : after.setup ≡ without_xsmp before.setup
+  pub sequence : after.sequence ≡ before.sequence
+  pub splitter : after.splitter ≡ before.splitter

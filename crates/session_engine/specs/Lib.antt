@@ -8,4 +8,5 @@ pub mod Machine
 pub mod Carries
 pub mod Places
 pub mod Shown
+pub mod Telling
 pub mod Turns

@@ -1,5 +1,5 @@
 -- The session machine: what is done about each event, said over the whole streams of the connections.
-use Rattle.std.specs.Prelude.{ℕ, ◌+◌, length, nat_lt, List, [], ◌∷◌, ◌++◌, map, Option, Some, None, nat_eq, if◌then◌else◌}
+use Rattle.std.specs.Prelude.{ℕ, ◌+◌, length, drop, Bool, true, false, List, [], ◌∷◌, ◌++◌, map, Option, Some, None, nat_eq, if◌then◌else◌}
 use Rattle.std.specs.List.{flat_map}
 use Rattle.sm_world.specs.declared.events.Event.{Event}
 use Rattle.sm_world.specs.declared.events.Event.TheVariants.{Joined, Piece, Gone, Operator, Tick, End}
@@ -8,16 +8,26 @@ use Rattle.ice_values.specs.declared.numbers.Endian.TheVariants.{Lsb}
 use Rattle.ice_cookie.specs.declared.cookies.Cookie.{Cookie}
 use Rattle.ice_setup.specs.declared.states.AnySetup.{AnySetup}
 use Rattle.ice_setup.specs.declared.states.AnySetup.TheVariants.{AwaitOrder as AtOrder}
-use Rattle.ice_messages.specs.declared.message.IceMessage.TheVariants.{ByteOrder}
-use Rattle.session_engine.specs.Acts.{deeds_in, has_finish, answer_acts}
-use Rattle.session_engine.specs.Answers.{outcome, sequence_after}
+use Rattle.ice_messages.specs.declared.message.IceMessage.TheVariants.{ByteOrder, NoClose}
+use Rattle.checkpoint_records.specs.Books.{empty_book}
+use Rattle.checkpoint_records.specs.declared.records.Book.{Book}
+use Rattle.session_model.specs.Moves.{History, all_acts}
+use Rattle.session_model.specs.Phases.{is_bound}
+use Rattle.session_model.specs.Readings as of
+use Rattle.session_model.specs.Rules.{opened, taken}
+use Rattle.session_model.specs.declared.events.Act.{Act as SessionAct}
+use Rattle.session_model.specs.declared.events.Act.TheVariants.{Shut as ShutsConn, Unset}
+use Rattle.session_model.specs.declared.events.SessionEvent.{SessionEvent}
+use Rattle.session_model.specs.declared.events.SessionEvent.TheVariants.{Joined as HasJoined, Ready, Said, Left, Operator as Ordered}
+use Rattle.session_engine.specs.Acts.{deeds_in, has_finish, says, acts_for_all}
+use Rattle.session_engine.specs.Answers.{outcome, sequence_after, without_xsmp}
 use Rattle.session_engine.specs.Streams.{Part, new_parts}
 use Rattle.session_engine.specs.declared.acts.Act.{Act}
 use Rattle.session_engine.specs.declared.acts.Act.TheVariants.{Say, Shut, Finish}
 use Rattle.session_engine.specs.declared.messages.Message.TheVariants.{Ice}
 use Rattle.session_engine.specs.declared.answers.Answer.{Answer}
 use Rattle.session_engine.specs.declared.answers.Outcome.{Outcome}
-use Rattle.session_engine.specs.declared.answers.Answer.TheVariants.{Stays, Closes}
+use Rattle.session_engine.specs.declared.answers.Answer.TheVariants.{Stays, Begins, Closes, Speaks, Asks}
 
 -- what the machine notes, in its order: it took a part of a connection's stream, or it gave an act
 pub data Entry : Type 0 where
@@ -35,10 +45,12 @@ pub record Connection : Type 0 where
   pub taken : ℕ
   pub setup : AnySetup
 
--- the cookie that a client must show, and the live connections, in the order in which they joined
+-- the cookie that a client must show, the live connections, in the order in which they joined, and all that happened in
+-- the session
 pub record Machine : Type 0 where
   pub cookie : Cookie
   pub connections : List Connection
+  pub session : History
 
 -- what is noted, and the machine afterwards
 pub record Step : Type 0 where
@@ -49,9 +61,17 @@ pub record Step : Type 0 where
 abbrev pub acts_of : Step → List Act
 acts_of step = flat_map act_in step.line
 
+-- the book that a run opens; none is kept yet
+abbrev pub opening_book : Book
+opening_book = empty_book
+
+-- what is done as the book is opened
+abbrev pub opening_acts : List Act
+opening_acts = acts_for_all (all_acts (opened opening_book))
+
 -- before anything came
 abbrev pub start : Cookie → Machine
-start cookie = record { cookie = cookie; connections = [] }
+start cookie = record { cookie = cookie; connections = []; session = opened opening_book }
 
 abbrev pub connection_of : ℕ → List Connection → Option Connection
 connection_of c [] = None
@@ -101,14 +121,59 @@ noted m c setup = record m { connections = changed (counted setup) c m.connectio
 abbrev pub fed_on : Machine → ℕ → List ℕ → Machine
 fed_on m c bytes = record m { connections = changed (fed_with bytes) c m.connections }
 
--- the machine behind an answer
-abbrev pub answered : Machine → ℕ → Answer → Machine
-answered m c (Stays message) = m
-answered m c (Closes message) = parted m c
+-- these acts are done, and nothing changes but the outside
+abbrev pub does : Machine → List Act → Step
+does m acts = record { line = map Does acts; next = m }
+
+-- The session
+
+abbrev pub unset_on : Connection → Connection
+unset_on k = record k { setup = without_xsmp k.setup }
+
+-- the live connections after an act of the session
+abbrev pub connections_after : SessionAct → List Connection → List Connection
+connections_after (Unset c) ks = changed unset_on c ks
+connections_after (ShutsConn c) ks = without c ks
+connections_after act ks = ks
+
+abbrev pub connections_through : List SessionAct → List Connection → List Connection
+connections_through [] ks = ks
+connections_through (act ∷ acts) ks = connections_through acts (connections_after act ks)
+
+-- the acts that a history has beyond an earlier one
+abbrev pub acts_since : History → History → List SessionAct
+acts_since earlier later = drop (length (all_acts earlier)) (all_acts later)
+
+-- the session did this, and its history is that now
+abbrev pub followed : Machine → List SessionAct → History → Step
+followed m acts h = record { line = map Does (acts_for_all acts); next = record m { connections = connections_through acts m.connections; session = h } }
+
+-- The session is told what happened, and what it does about that is done.
+abbrev pub told : Machine → SessionEvent → Step
+told m event = followed m (acts_since m.session (taken event m.session)) (taken event m.session)
+
+-- these acts are done, the last of which closes a connection, and the session is told that it left
+abbrev pub departs : Machine → ℕ → List Act → Step
+departs m c acts = behind (map Does acts) (told (parted m c) (Left c))
+
+-- A client wants to close while XSMP is spoken: it may not where it is registered and wasn't told to die.
+abbrev pub asked : Machine → ℕ → Bool → Step
+asked m c true = does m (Say c (Ice NoClose) ∷ [])
+asked m c false = departs m c (Shut c ∷ [])
+
+-- what an answer to a client brings
+abbrev pub answered : Machine → ℕ → Answer → Step
+answered m c (Stays message) = does m (says c message)
+answered m c (Begins message) = behind (map Does (says c message)) (told m (Ready c))
+answered m c (Closes message) = departs m c (says c message ++ Shut c ∷ [])
+answered m c (Speaks message sequence frame) = told m (Said c message sequence frame)
+answered m c Asks = asked m c (is_bound (of.phase_of c m.session))
+
+-- Events
 
 -- what a part brought is noted, and answered
 abbrev pub brought : Machine → ℕ → Part → Outcome → Step
-brought m c part o = record { line = Took c part ∷ map Does (answer_acts c o.answer); next = answered (noted m c o.setup) c o.answer }
+brought m c part o = behind (Took c part ∷ []) (answered (noted m c o.setup) c o.answer)
 
 -- what follows a shut is dropped
 abbrev pub part_for : Machine → ℕ → Part → Option Connection → Step
@@ -128,21 +193,35 @@ abbrev pub piece_for : Machine → ℕ → List ℕ → Option Connection → St
 piece_for m c bytes None = stays m
 piece_for m c bytes (Some k) = parts_taken (fed_on m c bytes) c (new_parts k.stream bytes)
 
--- a new connection is sent the manager's ByteOrder, or closed at once where 64 are live
+-- a connection that is live is sent the manager's ByteOrder
+abbrev pub greeting : ℕ → Option Connection → List Act
+greeting c None = []
+greeting c (Some k) = Say c (Ice (ByteOrder Lsb)) ∷ []
+
+abbrev pub greeted : ℕ → Step → Step
+greeted c step = record { line = step.line ++ map Does (greeting c (connection_of c step.next.connections)); next = step.next }
+
+-- a new connection is live
+abbrev pub joining : Machine → ℕ → Machine
+joining m c = record m { connections = m.connections ++ joined m.cookie c ∷ [] }
+
+-- The session is told of a new connection, and decides whether it is shut at once.
 abbrev pub join_for : Machine → ℕ → Option Connection → Step
-join_for m c None =
-    if nat_lt (length m.connections) live_limit
-    then record { line = Does (Say c (Ice (ByteOrder Lsb))) ∷ []; next = record m { connections = m.connections ++ joined m.cookie c ∷ [] } }
-    else record { line = Does (Shut c) ∷ []; next = m }
+join_for m c None = greeted c (told (joining m c) (HasJoined c))
 join_for m c (Some k) = stays m
+
+-- the session is told of the end of a live connection
+abbrev pub gone_for : Machine → ℕ → Option Connection → Step
+gone_for m c None = stays m
+gone_for m c (Some k) = told (parted m c) (Left c)
 
 abbrev pub step : Machine → Event → Step
 step m (Joined c) = join_for m c (connection_of c m.connections)
 step m (Piece c bytes) = piece_for m c bytes (connection_of c m.connections)
-step m (Gone c) = stays (parted m c)
-step m (Operator order) = stays m
+step m (Gone c) = gone_for m c (connection_of c m.connections)
+step m (Operator order) = told m (Ordered order)
 step m (Tick milliseconds) = stays m
-step m End = record { line = Does Finish ∷ []; next = m }
+step m End = does m (Finish ∷ [])
 
 -- the machine after these events
 abbrev pub after_all : Machine → List Event → Machine
@@ -154,8 +233,9 @@ abbrev pub script_from : Machine → List Event → List Act
 script_from m [] = []
 script_from m (event ∷ events) = acts_of (step m event) ++ (if has_finish (acts_of (step m event)) then [] else script_from (step m event).next events)
 
+-- the opening acts, and those for the events
 abbrev pub script_of : Cookie → List Event → List Act
-script_of cookie events = script_from (start cookie) events
+script_of cookie events = opening_acts ++ script_from (start cookie) events
 
 -- what the run shows, in its order: an event came, or a deed was done
 pub data Item : Type 0 where
@@ -166,6 +246,6 @@ abbrev pub run_from : Machine → List Event → List Item
 run_from m [] = []
 run_from m (event ∷ events) = Came event ∷ (map Did (deeds_in (acts_of (step m event))) ++ (if has_finish (acts_of (step m event)) then [] else run_from (step m event).next events))
 
--- each event followed by its deeds, up to the end of the run
+-- the deeds of the opening, and each event followed by its deeds, up to the end of the run
 abbrev pub run_of : Cookie → List Event → List Item
-run_of cookie events = run_from (start cookie) events
+run_of cookie events = map Did (deeds_in opening_acts) ++ run_from (start cookie) events

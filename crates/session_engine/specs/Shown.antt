@@ -1,17 +1,19 @@
 -- What the code keeps of the connections, against the machine.
-use Rattle.std.specs.Prelude.{◌≡◌, ℕ, ◌+◌, ◌%◌, ◌^◌, Bool, true, List, [], ◌∷◌, ◌++◌, length, drop, Option, Some, None, nat_eq, is_some, if◌then◌else◌}
+use Rattle.std.specs.Prelude.{◌≡◌, ℕ, ◌+◌, ◌%◌, ◌^◌, Bool, true, false, List, [], ◌∷◌, ◌++◌, length, drop, map, Option, Some, None, nat_eq, is_some, if◌then◌else◌}
 use Rattle.std.specs.Ordering.{nat_cmp}
-use Rattle.std.specs.BTreeMap.{get as place_of, btree_map_len}
+use Rattle.std.specs.BTreeMap.{get as place_of}
 use Rattle.sm_world.specs.Outside.{Added}
 use Rattle.sm_world.specs.declared.effects.Effect.{Effect}
 use Rattle.ice_framing.specs.Frames.{fed, cut, standing_of}
+use Rattle.manager_machine.specs.Keeper.{StandsFor}
+use Rattle.session_model.specs.Moves.{History}
+use Rattle.session_model.specs.Readings as of
+use Rattle.session_engine.specs.Answers.{speaks_xsmp}
 use Rattle.session_engine.specs.Carries.{CarriesOut}
-use Rattle.session_engine.specs.Cutting.{Cuts}
+use Rattle.session_engine.specs.Cutting.{Cuts, Unsets}
 use Rattle.session_engine.specs.Machine.{Connection, Machine, Step, acts_of, connection_of, part_taken}
 use Rattle.session_engine.specs.Places.{kept_in}
 use Rattle.session_engine.specs.Streams.{Part, parts_at, parts_of}
-use Rattle.session_engine.specs.declared.answers.Answer.{Answer}
-use Rattle.session_engine.specs.declared.answers.Answer.TheVariants.{Stays, Closes}
 use Rattle.session_engine.specs.declared.connection.Connection.{Connection as Kept}
 use Rattle.session_engine.specs.declared.connection.Answered.{Answered}
 use Rattle.session_engine.specs.declared.engine.Engine.{Engine}
@@ -20,10 +22,6 @@ use Rattle.session_engine.specs.declared.live.Connections.{Connections}
 -- what is kept of a connection, and None where it isn't live
 abbrev pub kept_at : Connections → ℕ → Option Kept
 kept_at live c = kept_in live.seats (place_of nat_cmp live.places c)
-
--- how many connections are live
-abbrev pub kept_count : Connections → ℕ
-kept_count live = btree_map_len live.places
 
 -- of this connection that is kept now, and of every other what was
 abbrev pub ChangesAt : Connections → Connections → ℕ → Option Kept → Type 0
@@ -34,15 +32,14 @@ abbrev pub CutsAt : Option Kept → List ℕ → Option Answered → Option Kept
 CutsAt None left answered after = (answered ≡ None) × (after ≡ None)
 CutsAt (Some before) left answered after = (kept : Kept) × (after ≡ Some kept) × Cuts before left answered kept
 
--- this connection isn't live any more
-pub record Leaves (c : ℕ) (old new : Connections) : Type 0 where
-  pub change : ChangesAt old new c None
-  pub count : kept_count new + (if is_some (kept_at old c) then 1 else 0) ≡ kept_count old
+-- what the end of XSMP does at a connection, live or not
+abbrev pub UnsetsAt : Option Kept → Option Kept → Type 0
+UnsetsAt None after = after ≡ None
+UnsetsAt (Some before) after = (kept : Kept) × (after ≡ Some kept) × Unsets before kept
 
--- a connection that an answer closes isn't live any more
-abbrev pub LeavesWhereClosed : ℕ → Answer → Connections → Connections → Type 0
-LeavesWhereClosed c (Stays message) old new = new ≡ old
-LeavesWhereClosed c (Closes message) old new = Leaves c old new
+-- this connection isn't live any more
+abbrev pub Leaves : ℕ → Connections → Connections → Type 0
+Leaves c old new = ChangesAt old new c None
 
 -- What is kept shows a connection, where these bytes of its stream are still to be cut.
 pub record IsKeptOf (pending : List ℕ) (kept : Kept) (k : Connection) : Type 0 where
@@ -73,16 +70,31 @@ all_cut q = []
 abbrev pub to_cut : ℕ → List ℕ → ℕ → List ℕ
 to_cut c left q = if nat_eq q c then left else []
 
--- the live connections show those of the machine
-pub record ShowsLive (pending : ℕ → List ℕ) (live : Connections) (m : Machine) : Type 0 where
-  pub each : (q : ℕ) → Matches (pending q) (kept_at live q) (connection_of q m.connections)
-  pub count : kept_count live ≡ length m.connections
-  pub distinct : AreDistinct m.connections
+-- what is kept of the live connections shows these
+pub record ShowsLive (pending : ℕ → List ℕ) (live : Connections) (ks : List Connection) : Type 0 where
+  pub each : (q : ℕ) → Matches (pending q) (kept_at live q) (connection_of q ks)
+  pub distinct : AreDistinct ks
+
+-- XSMP is spoken on a connection, which is live
+abbrev pub is_speaking : Option Connection → Bool
+is_speaking None = false
+is_speaking (Some k) = speaks_xsmp k.setup
+
+-- The session and the connections agree who is live, and a client has a phase exactly where its set-up says that XSMP is spoken.
+pub record Agrees (ks : List Connection) (h : History) : Type 0 where
+  pub numbers : map (λ (k : Connection). k.number) ks ≡ of.live h
+  pub phases : (q : ℕ) → is_some (of.phase_of q h) ≡ is_speaking (connection_of q ks)
 
 -- the session in memory shows the machine
 pub record Shows (pending : ℕ → List ℕ) (engine : Engine) (m : Machine) : Type 0 where
   pub cookie : m.cookie ≡ engine.cookie
-  pub live : ShowsLive pending engine.live m
+  pub live : ShowsLive pending engine.live m.connections
+  pub stands : StandsFor engine.manager m.session
+  pub agrees : Agrees m.connections m.session
+
+-- it shows some machine
+abbrev pub IsShown : (ℕ → List ℕ) → Engine → Type 0
+IsShown pending engine = (m : Machine) × Shows pending engine m
 
 -- It gave the acts of a step, and shows the machine after it.
 pub record Gives (step : Step) (engine : Engine) : Type 0 where

@@ -1,12 +1,11 @@
 use crate::acts::Act;
-use crate::answers::Answer;
 use crate::messages::Message;
 use sm_world::{Conn, NoMemory};
 use std::alloc::Global;
 use std::marker::Model;
 
 /// What is to be done, in its order. Each message in it has a spelling that is not too long.
-#[derive(Debug, Drop)]
+#[derive(Drop)]
 pub struct ActList {
     items: Vec<Act>,
 }
@@ -27,8 +26,9 @@ impl Model for ActList {
 impl ActList {
     ghost use Rattle.std.specs.Prelude.{◌≡◌, [], ◌∷◌, ◌++◌, OnOk};
     ghost use Rattle.std.specs.List.{AllByRecursion};
-    ghost use Rattle.session_engine.specs.Acts.{CanBeDone, says, answer_acts};
+    ghost use Rattle.session_engine.specs.Acts.{CanBeDone, says};
     ghost use Rattle.session_engine.specs.Messages.{CanBeSaid};
+    ghost use Rattle.session_engine.specs.declared.acts.Act.TheVariants.{Shut as Shuts};
 
     /// Nothing; this takes no memory.
     pub fn new(alloc: Global) -> ActList
@@ -68,7 +68,7 @@ impl ActList {
     /// Adds that a last message is sent, if there is one, and that the connection is closed.
     pub fn close(&mut self, to: Conn, message: Option<Message>) -> Result<(), NoMemory>
         requires { CanBeSaid message }
-        ensures { OnOk result (self.new ≡ self.old ++ answer_acts to (Answer.Closes message)) }
+        ensures { OnOk result (self.new ≡ self.old ++ (says to message ++ Shuts to ∷ [])) }
     {
         self.say(to, message)?;
         self.push(Act::Shut(to))

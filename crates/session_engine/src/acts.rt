@@ -1,13 +1,20 @@
 use crate::messages::Message;
-use sm_world::Conn;
+use checkpoint_records::Book;
+use sm_world::{Command, Conn, Octets};
 
 /// One thing that the manager does.
-#[derive(Debug, Drop)]
+#[derive(Drop)]
 pub enum Act {
     /// Sends a message on a connection.
     Say(Conn, Message),
     /// Closes a connection.
     Shut(Conn),
+    /// Starts a command.
+    Start(Command),
+    /// Writes the book to the store.
+    Commit(Book),
+    /// Prints a line, which is given without its newline.
+    Print(Octets),
     /// Ends the run.
     Finish,
 }

@@ -1,10 +1,11 @@
-ghost use Rattle.std.specs.Prelude.{◌≡◌, ◌≤◌, ◌%◌, length, take, slice_index, true, IfOk};
+ghost use Rattle.std.specs.Prelude.{◌≡◌, ◌≤◌, ◌%◌, ◌&&◌, length, take, slice_index, true, not, IfOk};
 ghost use Rattle.ice_messages.specs.Messages.{IsFrame};
 ghost use Rattle.ice_messages.specs.Reading.{decode_at};
 ghost use Rattle.ice_framing.specs.Frames.{byte_limit};
+ghost use Rattle.xsmp_messages.specs.Reading.{decode_at as xsmp_at};
 ghost use Rattle.ice_values.specs.declared.numbers.Endian.{Endian as AnyEndian};
 ghost use Rattle.ice_setup.specs.Setup.{HasFittingBody, CanBeSaid as MovesWithin};
-ghost use Rattle.session_engine.specs.Answers.{named_in, staying, closing, outcome_of, message_outcome, refused, first_outcome, read_outcome, later_outcome, frame_outcome, is_opcode as is_opcode_of, is_ordered, error_about as error_about_of, oversize_answer, said_in};
+ghost use Rattle.session_engine.specs.Answers.{named_in, staying, closing, going, speaks_xsmp, outcome_of, message_outcome, refused, refused_xsmp, first_outcome, read_outcome, xsmp_outcome, later_outcome, frame_outcome, is_opcode as is_opcode_of, is_ordered, error_about as error_about_of, oversize_answer, said_in, IsSpelled};
 ghost use Rattle.session_engine.specs.Messages.{CanBeSaid};
 
 use crate::messages::Message;
@@ -16,19 +17,26 @@ use ice_setup::{
 use ice_values::{DecodeRefusal, Endian, ErrorBody, ErrorClass, Severity, read_card32};
 use sm_world::{NoMemory, Octets};
 use std::alloc::Global;
-use xsmp_messages::XsmpMessage;
+use xsmp_messages::{XsmpMessage, decode_xsmp};
 
 /// What is done about one part of a client's stream.
-#[derive(Debug, Drop)]
+#[derive(Drop)]
 pub enum Answer {
     /// The message, if any, goes back, and the connection stays.
     Stays(Option<Message>),
+    /// The message, if any, goes back, and XSMP has begun on the connection.
+    Begins(Option<Message>),
     /// The message, if any, goes back, and the connection is closed.
     Closes(Option<Message>),
+    /// A message of XSMP came, with its number among all messages of the connection and its whole
+    /// frame. The session answers it.
+    Speaks(XsmpMessage, u32, Octets),
+    /// The client wants to close, which the session decides.
+    Asks,
 }
 
 /// What a part of a client's stream brings.
-#[derive(Debug, Drop)]
+#[derive(Drop)]
 pub struct Outcome {
     /// How far the connection's set-up has come then.
     pub setup: AnySetup,
@@ -42,6 +50,20 @@ impl Outcome {
     {
         let answer = Answer::Stays(message);
         Outcome { setup, answer }
+    }
+
+    /// The connection goes on from here, after it was there; where XSMP is spoken and wasn't
+    /// before, it has begun.
+    fn goes(before: &AnySetup, setup: AnySetup, message: Option<Message>) -> Outcome
+        ensures outcome { result ≡ going (speaks_xsmp setup && not (speaks_xsmp before.now)) setup message }
+        ensures said { CanBeSaid message → CanBeSaid (said_in result.answer) }
+        ensures spelled { IsSpelled result.answer }
+    {
+        if setup.client_opcode().is_some() && !before.client_opcode().is_some() {
+            let answer = Answer::Begins(message);
+            return Outcome { setup, answer };
+        }
+        Outcome::stays(setup, message)
     }
 
     /// The message, if any, goes back, and the connection is closed.
@@ -64,16 +86,20 @@ fn named(sequence: u32, frame: &[u8]) -> Offending
     }
 }
 
-/// What the set-up brings, as an outcome. A client that wants to close is closed.
+/// What the set-up brings, as an outcome.
 fn settle(before: AnySetup, moved: Moved) -> Outcome
     ensures outcome { result ≡ outcome_of before moved }
     ensures said { MovesWithin moved → CanBeSaid (said_in result.answer) }
+    ensures spelled { IsSpelled result.answer }
 {
     match moved {
-        Moved::Goes(setup, message) => Outcome::stays(setup, message.map(Message::Ice)),
+        Moved::Goes(setup, message) => Outcome::goes(&before, setup, message.map(Message::Ice)),
         Moved::Ends(message) => Outcome::closes(before, message.map(Message::Ice)),
         Moved::Close => Outcome::closes(before, None),
-        Moved::Ask(setup) => Outcome::closes(setup, None),
+        Moved::Ask(_) => Outcome {
+            setup: before,
+            answer: Answer::Asks,
+        },
     }
 }
 
@@ -86,6 +112,7 @@ fn take_message(
 ) -> Result<Outcome, NoMemory>
     ensures outcome { IfOk result (λ outcome. outcome ≡ message_outcome setup message sequence) }
     ensures said { (e : AnyEndian) → HasFittingBody e message → IfOk result (λ outcome. CanBeSaid (said_in outcome.answer)) }
+    ensures spelled { IfOk result (λ outcome. IsSpelled outcome.answer) }
 {
     match setup.take(alloc, message, sequence) {
         Ok(moved) => Ok(settle(setup, moved)),
@@ -100,6 +127,7 @@ fn refuse(setup: AnySetup, class: ErrorClass, offending: Offending, values: Octe
     requires few { length values ≤ 65528 }
     ensures outcome { result ≡ refused setup class offending values }
     ensures said { CanBeSaid (said_in result.answer) }
+    ensures spelled { IsSpelled result.answer }
 {
     let error = Message::Ice(IceMessage::Error(refusal(&setup, class, offending, values)));
     if setup.connected() {
@@ -118,6 +146,7 @@ fn take_first(
     requires { 8 ≤ length frame.now }
     ensures outcome { IfOk result (λ outcome. outcome ≡ first_outcome state sequence frame.now) }
     ensures said { IfOk result (λ outcome. CanBeSaid (said_in outcome.answer)) }
+    ensures spelled { IfOk result (λ outcome. IsSpelled outcome.answer) }
 {
     let offending = named(sequence, frame);
     let setup = AnySetup::AwaitOrder(state);
@@ -152,6 +181,7 @@ fn take_ice(
     requires opcode { slice_index frame.now 0 ≡ 0 }
     ensures outcome { IfOk result (λ outcome. outcome ≡ read_outcome setup sequence frame.now (decode_at endian frame.now)) }
     ensures said { IfOk result (λ outcome. CanBeSaid (said_in outcome.answer)) }
+    ensures spelled { IfOk result (λ outcome. IsSpelled outcome.answer) }
 {
     let offending = named(sequence, frame);
     match decode_ice(alloc, endian, frame) {
@@ -180,6 +210,57 @@ fn is_opcode(own: Option<u8>, opcode: u8) -> bool
     }
 }
 
+/// Refuses a message of XSMP, with values that fill units of 8 bytes.
+fn refuse_xsmp(
+    setup: AnySetup,
+    class: ErrorClass,
+    offending: Offending,
+    values: Octets,
+) -> Outcome
+    requires units { length values % 8 ≡ 0 }
+    requires few { length values ≤ 65528 }
+    ensures outcome { result ≡ refused_xsmp setup class offending values }
+    ensures said { CanBeSaid (said_in result.answer) }
+    ensures spelled { IsSpelled result.answer }
+{
+    let error = error_of(Severity::CanContinue, class, offending, values);
+    Outcome::stays(setup, Some(Message::Xsmp(XsmpMessage::Error(error))))
+}
+
+/// Takes what a frame of the client's opcode spells.
+fn take_xsmp(
+    alloc: Global,
+    setup: AnySetup,
+    sequence: u32,
+    endian: Endian,
+    frame: &[u8],
+) -> Result<Outcome, NoMemory>
+    requires whole { IsFrame endian frame.now }
+    requires within { length frame.now ≤ byte_limit }
+    ensures outcome { IfOk result (λ outcome. outcome ≡ xsmp_outcome setup sequence frame.now (xsmp_at endian frame.now)) }
+    ensures said { IfOk result (λ outcome. CanBeSaid (said_in outcome.answer)) }
+    ensures spelled { IfOk result (λ outcome. IsSpelled outcome.answer) }
+{
+    let offending = named(sequence, frame);
+    match decode_xsmp(alloc, endian, frame) {
+        Ok(message) => {
+            let answer = Answer::Speaks(message, sequence, Octets::from_slice(alloc, frame)?);
+            Ok(Outcome { setup, answer })
+        }
+        Err(DecodeRefusal::BadMinor) => {
+            Ok(refuse_xsmp(setup, ErrorClass::BadMinor, offending, Octets::new(alloc)))
+        }
+        Err(DecodeRefusal::BadLength) => {
+            Ok(refuse_xsmp(setup, ErrorClass::BadLength, offending, Octets::new(alloc)))
+        }
+        Err(DecodeRefusal::BadValue { at, .. }) => {
+            let values = wrong_byte_values(alloc, at, frame)?;
+            Ok(refuse_xsmp(setup, ErrorClass::BadValue, offending, values))
+        }
+        Err(DecodeRefusal::NoMemory) => Err(NoMemory),
+    }
+}
+
 /// Takes a frame behind the first.
 fn take_later(
     alloc: Global,
@@ -192,6 +273,7 @@ fn take_later(
     requires within { length frame.now ≤ byte_limit }
     ensures outcome { IfOk result (λ outcome. outcome ≡ later_outcome setup sequence endian frame.now) }
     ensures said { IfOk result (λ outcome. CanBeSaid (said_in outcome.answer)) }
+    ensures spelled { IfOk result (λ outcome. IsSpelled outcome.answer) }
 {
     let (opcode, minor) = (frame[0], frame[1]);
     if minor == 0 {
@@ -201,7 +283,7 @@ fn take_later(
         return take_ice(alloc, setup, sequence, endian, frame);
     }
     if is_opcode(setup.client_opcode(), opcode) {
-        return Ok(Outcome::closes(setup, None));
+        return take_xsmp(alloc, setup, sequence, endian, frame);
     }
     let values = opcode_values(alloc, opcode)?;
     Ok(refuse(setup, ErrorClass::BadMajor, named(sequence, frame), values))
@@ -219,6 +301,7 @@ pub fn take_frame(
     requires within { length frame.bytes.now ≤ byte_limit }
     ensures outcome { IfOk result (λ outcome. outcome ≡ frame_outcome setup sequence (record { endian = frame.entry.endian; bytes = frame.entry.bytes.now })) }
     ensures said { IfOk result (λ outcome. CanBeSaid (said_in outcome.answer)) }
+    ensures spelled { IfOk result (λ outcome. IsSpelled outcome.answer) }
 {
     match setup {
         AnySetup::AwaitOrder(state) => take_first(alloc, state, sequence, frame.bytes),
@@ -240,6 +323,7 @@ fn error_about(of_xsmp: bool, error: ErrorBody) -> Message
 fn answer_oversize(alloc: Global, setup: &AnySetup, sequence: u32, header: &[u8; 8]) -> Answer
     ensures answer { result ≡ oversize_answer setup.now sequence header.now }
     ensures said { CanBeSaid (said_in result) }
+    ensures spelled { IsSpelled result }
 {
     let offending = named(sequence, header);
     if offending.minor == 0 {
@@ -261,6 +345,7 @@ pub fn answer_header(alloc: Global, setup: &AnySetup, sequence: u32, splitter: &
     requires { 8 ≤ length splitter.now.held }
     ensures answer { result ≡ oversize_answer setup.now sequence (take 8 splitter.now.held) }
     ensures said { CanBeSaid (said_in result) }
+    ensures spelled { IsSpelled result }
 {
     match splitter.header() {
         Some(header) => answer_oversize(alloc, setup, sequence, &header),

@@ -25,7 +25,7 @@ pub struct Connection {
 }
 
 /// A part of the stream is whole.
-#[derive(Debug, Drop)]
+#[derive(Drop)]
 pub struct Answered {
     /// How it is answered.
     pub answer: Answer,
@@ -36,9 +36,9 @@ pub struct Answered {
 impl Connection {
     ghost use Rattle.std.specs.Prelude.{◌≡◌, ◌≤◌, ℕ, length, IfOk, IfSome};
     ghost use Rattle.ice_framing.specs.Frames.{beginning};
-    ghost use Rattle.session_engine.specs.Answers.{said_in};
+    ghost use Rattle.session_engine.specs.Answers.{said_in, IsSpelled};
     ghost use Rattle.session_engine.specs.Messages.{CanBeSaid};
-    ghost use Rattle.session_engine.specs.Cutting.{IsNew, Cuts};
+    ghost use Rattle.session_engine.specs.Cutting.{IsNew, Cuts, Unsets};
 
     /// A connection that just joined, of a session with this cookie.
     pub fn new(alloc: Global, cookie: Cookie, conn: Conn) -> Result<Connection, NoMemory>
@@ -57,6 +57,7 @@ impl Connection {
     pub fn cut(&mut self, alloc: Global, left: &[u8]) -> Result<Option<Answered>, NoMemory>
         ensures cuts { IfOk result (λ answered. Cuts self.old left.now answered self.new) }
         ensures said { IfOk result (λ answered. IfSome answered (λ part. CanBeSaid (said_in part.answer))) }
+        ensures spelled { IfOk result (λ answered. IfSome answered (λ part. IsSpelled part.answer)) }
         ensures some { IfOk result (λ answered. IfSome answered (λ part. 1 ≤ part.count)) }
         ensures within { IfOk result (λ answered. IfSome answered (λ part. part.count ≤ length left.now)) }
         ensures conn { self.new.conn ≡ self.old.conn }
@@ -87,5 +88,15 @@ impl Connection {
             answer: outcome.answer,
             count,
         }))
+    }
+
+    /// XSMP has ended: a ProtocolSetup is awaited again.
+    pub fn unset(&mut self)
+        ensures unsets { Unsets self.old self.new }
+        ensures conn { self.new.conn ≡ self.old.conn }
+    {
+        if let AnySetup::Ready(ready) = self.setup {
+            self.setup = AnySetup::AwaitProtocol(ready.unset());
+        }
     }
 }

@@ -3,41 +3,58 @@ use crate::acts::Act;
 use crate::answers::Answer;
 use crate::live::Connections;
 use crate::messages::Message;
+use checkpoint_records::Book;
 use ice_cookie::Cookie;
 use ice_messages::IceMessage;
 use ice_values::Endian;
-use sm_world::{Conn, NoMemory};
+use manager_machine::{Act as SessionAct, Acts, Manager};
+use session_model::SessionEvent;
+use sm_world::{Conn, NoMemory, Order};
 use std::alloc::Global;
+use std::collections::VecDeque;
+use xsmp_messages::XsmpMessage;
 
 /// The session in memory. It hears what comes, and gives the acts that answer it; no device is
 /// called here. After NoMemory it is spent.
-#[derive(Debug, Drop)]
+#[derive(Drop)]
 pub struct Engine {
     cookie: Cookie,
     live: Connections,
+    manager: Manager,
     /// What the last call gave.
     acts: ActList,
 }
 
 impl Engine {
-    ghost use Rattle.std.specs.Prelude.{◌≡◌, ◌≤◌, ◌++◌, length, IfOk, IfSome, OnOk};
+    ghost use Rattle.std.specs.Prelude.{◌≡◌, ◌≤◌, ◌++◌, [], ◌∷◌, length, IfOk, IfSome, OnOk};
     ghost use Rattle.std.specs.List.{AllByRecursion};
-    ghost use Rattle.sm_world.specs.declared.events.Event.TheVariants.{Joined, Gone};
-    ghost use Rattle.session_engine.specs.Acts.{CanBeDone, answer_acts};
+    ghost use Rattle.sm_world.specs.declared.events.Event.TheVariants.{Joined, Gone, Operator};
+    ghost use Rattle.manager_machine.specs.Keeper.{AreFit, IsFit};
+    ghost use Rattle.session_model.specs.Rules.{Takes as TakesEvent};
+    ghost use Rattle.session_model.specs.declared.events.SessionEvent.TheVariants.{Left as LeftIt};
+    ghost use Rattle.session_state.specs.Session.{reading_in};
+    ghost use Rattle.session_engine.specs.Acts.{CanBeDone, says};
     ghost use Rattle.session_engine.specs.Answers.{said_in};
-    ghost use Rattle.session_engine.specs.Machine.{Machine, start, step};
+    ghost use Rattle.session_engine.specs.Machine.{Machine, opening_acts, start, step};
     ghost use Rattle.session_engine.specs.Messages.{CanBeSaid};
-    ghost use Rattle.session_engine.specs.Shown.{Shows, Gives, Takes, LeavesWhereClosed, all_cut, to_cut};
+    ghost use Rattle.session_engine.specs.Shown.{Shows, Gives, Takes, IsShown, all_cut, to_cut};
+    ghost use Rattle.session_engine.specs.Telling.{Tells, Follows, TakesAnswer, Answers, Departs, IsStanding};
+    ghost use Rattle.session_engine.specs.declared.acts.Act.TheVariants.{Shut};
 
-    /// A session with this cookie, before anything came.
-    pub fn new(alloc: Global, cookie: Cookie) -> Engine
-        ensures { Shows all_cut result (start cookie) }
+    /// A session with this cookie, before anything came. It gives what opens it.
+    pub fn new(alloc: Global, cookie: Cookie) -> Result<Engine, NoMemory>
+        ensures shows { IfOk result (λ engine. Shows all_cut engine (start cookie)) }
+        ensures acts { IfOk result (λ engine. engine.acts ≡ opening_acts) }
     {
-        Engine {
+        let (manager, acts) = Manager::begin(alloc, Book::empty(alloc)?)?;
+        let mut engine = Engine {
             cookie,
             live: Connections::new(alloc),
+            manager,
             acts: ActList::new(alloc),
-        }
+        };
+        engine.follow_all(acts)?;
+        Ok(engine)
     }
 
     /// What the last call gave.
@@ -48,42 +65,126 @@ impl Engine {
         self.acts.as_slice()
     }
 
-    /// Hears that a connection joined. It is sent the manager's order, or closed where as many are
-    /// live as can be.
+    /// Does to the live connections what the session did, and gives it to the outside.
+    fn follow(&mut self, act: SessionAct) -> Result<(), NoMemory>
+        requires { IsFit act }
+        ensures { OnOk result (Follows (act ∷ []) self.old self.new) }
+    {
+        match act {
+            SessionAct::Say(conn, message) => self.acts.push(Act::Say(conn, Message::Xsmp(message))),
+            SessionAct::Blame(conn, error) => {
+                let message = Message::Xsmp(XsmpMessage::Error(error));
+                self.acts.push(Act::Say(conn, message))
+            }
+            SessionAct::Unset(conn) => {
+                self.live.unset(conn);
+                Ok(())
+            }
+            SessionAct::Shut(closed) => {
+                self.live.leave(closed);
+                self.acts.push(Act::Shut(closed))
+            }
+            SessionAct::Start(command) => self.acts.push(Act::Start(command)),
+            SessionAct::Commit(book) => self.acts.push(Act::Commit(book)),
+            SessionAct::Print(text) => self.acts.push(Act::Print(text)),
+            SessionAct::Finish => self.acts.push(Act::Finish),
+        }
+    }
+
+    /// Follows all that the session did, in its order.
+    fn follow_all(&mut self, acts: Acts) -> Result<(), NoMemory>
+        requires { AreFit acts }
+        ensures { OnOk result (Follows acts self.old self.new) }
+    {
+        let mut left = VecDeque::from(acts.into_vec());
+        while let Some(act) = left.pop_front() {
+            self.follow(act)?;
+        }
+        Ok(())
+    }
+
+    /// Tells the session what happened, and follows it.
+    fn tell(&mut self, event: SessionEvent) -> Result<(), NoMemory>
+        requires stands { IsStanding self.old.manager }
+        requires takes { TakesEvent event (reading_in self.old.manager.session) }
+        ensures { OnOk result (Tells event self.old self.new) }
+    {
+        let acts = match self.manager.take(event) {
+            Ok(acts) => acts,
+            Err(_) => return Err(NoMemory),
+        };
+        self.follow_all(acts)
+    }
+
+    /// Hears that a connection joined. The session decides whether it is closed at once, and else
+    /// it is sent the manager's order.
     pub fn join(&mut self, alloc: Global, conn: Conn) -> Result<(), NoMemory>
+        requires { IsShown all_cut self.old }
         ensures { (m : Machine) → Shows all_cut self.old m → OnOk result (Gives (step m (Joined conn)) self.new) }
     {
         self.acts.clear();
         if self.live.is_live(conn) {
             return Ok(());
         }
-        if self.live.is_full() {
-            return self.acts.close(conn, None);
-        }
         self.live.join(alloc, self.cookie, conn)?;
-        let order = Message::Ice(IceMessage::ByteOrder(Endian::Lsb));
-        self.acts.push(Act::Say(conn, order))
+        self.tell(SessionEvent::Joined(conn))?;
+        if self.live.is_live(conn) {
+            let order = Message::Ice(IceMessage::ByteOrder(Endian::Lsb));
+            return self.acts.push(Act::Say(conn, order));
+        }
+        Ok(())
     }
 
-    /// Gives what answers a client. A connection that is to be closed is no longer live.
+    /// Closes a connection after a last message, if there is one, and tells the session.
+    fn close(&mut self, conn: Conn, message: Option<Message>) -> Result<(), NoMemory>
+        requires said { CanBeSaid message }
+        requires stands { IsStanding self.old.manager }
+        requires takes { TakesEvent (LeftIt conn) (reading_in self.old.manager.session) }
+        ensures { OnOk result (Departs conn (says conn message ++ Shut conn ∷ []) self.old self.new) }
+    {
+        self.live.leave(conn);
+        self.acts.close(conn, message)?;
+        self.tell(SessionEvent::Left(conn))
+    }
+
+    /// Gives what answers a client, and tells the session what it has to hear. A connection that is
+    /// closed is no longer live.
     fn answer(&mut self, conn: Conn, answer: Answer) -> Result<(), NoMemory>
-        requires { CanBeSaid (said_in answer) }
-        ensures acts { OnOk result (self.new.acts ≡ self.old.acts ++ answer_acts conn answer) }
-        ensures live { LeavesWhereClosed conn answer self.old.live self.new.live }
-        ensures cookie { self.new.cookie ≡ self.old.cookie }
+        requires said { CanBeSaid (said_in answer) }
+        requires stands { IsStanding self.old.manager }
+        requires takes { TakesAnswer conn answer self.old.manager.session }
+        ensures { OnOk result (Answers conn answer self.old self.new) }
     {
         match answer {
             Answer::Stays(message) => self.acts.say(conn, message),
-            Answer::Closes(message) => {
-                self.live.leave(conn);
-                self.acts.close(conn, message)
+            Answer::Begins(message) => {
+                self.acts.say(conn, message)?;
+                self.tell(SessionEvent::Ready(conn))
             }
+            Answer::Closes(message) => self.close(conn, message),
+            Answer::Speaks(message, sequence, frame) => {
+                self.tell(SessionEvent::Said(conn, message, sequence, frame))
+            }
+            Answer::Asks => self.decide(conn),
         }
+    }
+
+    /// Answers a client that wants to close while it speaks XSMP.
+    fn decide(&mut self, conn: Conn) -> Result<(), NoMemory>
+        requires stands { IsStanding self.old.manager }
+        requires takes { TakesEvent (LeftIt conn) (reading_in self.old.manager.session) }
+        ensures { OnOk result (Answers conn Answer.Asks self.old self.new) }
+    {
+        if self.manager.bound(conn) {
+            return self.acts.push(Act::Say(conn, Message::Ice(IceMessage::NoClose)));
+        }
+        self.close(conn, None)
     }
 
     /// Hears the rest of a piece up to the end of the first part of the stream, and says how many
     /// bytes that was. `None` where it completes no part.
     pub fn cut(&mut self, alloc: Global, conn: Conn, left: &[u8]) -> Result<Option<usize>, NoMemory>
+        requires { IsShown (to_cut conn left.now) self.old }
         ensures takes { (m : Machine) → Shows (to_cut conn left.now) self.old m → IfOk result (λ count. Takes m conn left.now count self.new) }
         ensures some { IfOk result (λ count. IfSome count (λ n. 1 ≤ n)) }
         ensures within { IfOk result (λ count. IfSome count (λ n. n ≤ length left.now)) }
@@ -99,10 +200,24 @@ impl Engine {
     }
 
     /// Hears that a connection is gone.
-    pub fn leave(&mut self, conn: Conn)
-        ensures { (m : Machine) → Shows all_cut self.old m → Gives (step m (Gone conn)) self.new }
+    pub fn leave(&mut self, gone: Conn) -> Result<(), NoMemory>
+        requires { IsShown all_cut self.old }
+        ensures { (m : Machine) → Shows all_cut self.old m → OnOk result (Gives (step m (Gone gone)) self.new) }
     {
         self.acts.clear();
-        self.live.leave(conn);
+        if !self.live.is_live(gone) {
+            return Ok(());
+        }
+        self.live.leave(gone);
+        self.tell(SessionEvent::Left(gone))
+    }
+
+    /// Hears an order of the operator.
+    pub fn order(&mut self, order: Order) -> Result<(), NoMemory>
+        requires { IsShown all_cut self.old }
+        ensures { (m : Machine) → Shows all_cut self.old m → OnOk result (Gives (step m (Operator order)) self.new) }
+    {
+        self.acts.clear();
+        self.tell(SessionEvent::Operator(order))
     }
 }

@@ -1,5 +1,5 @@
 ghost use Rattle.std.specs.Prelude.{◌≡◌};
-ghost use Rattle.session_engine.specs.Causes.{fault_of, halt_of};
+ghost use Rattle.session_engine.specs.Causes.{fault_of, halt_of, console_halt_of};
 
 use sm_world::Failure;
 use thiserror::Error;
@@ -10,6 +10,9 @@ pub enum ServeFault {
     /// The links refused.
     #[error("link fault")]
     LinkFault,
+    /// The console refused.
+    #[error("console fault")]
+    ConsoleFault,
     /// So many events were heard as were granted.
     #[error("turns spent")]
     Spent,
@@ -22,6 +25,8 @@ pub enum ServeFault {
 pub enum Halt {
     /// The links refused.
     Links,
+    /// The console refused.
+    Console,
     NoMemory,
 }
 
@@ -32,6 +37,7 @@ impl Halt {
     {
         match self {
             Halt::Links => ServeFault::LinkFault,
+            Halt::Console => ServeFault::ConsoleFault,
             Halt::NoMemory => ServeFault::NoMemory,
         }
     }
@@ -43,6 +49,16 @@ pub fn link_halt(failure: Failure) -> Halt
 {
     match failure {
         Failure::Failed => Halt::Links,
+        Failure::NoMemory => Halt::NoMemory,
+    }
+}
+
+/// Why a call on the console did nothing.
+pub fn console_halt(failure: Failure) -> Halt
+    ensures { result ≡ console_halt_of failure }
+{
+    match failure {
+        Failure::Failed => Halt::Console,
         Failure::NoMemory => Halt::NoMemory,
     }
 }

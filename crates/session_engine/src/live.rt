@@ -7,9 +7,6 @@ use sm_world::{Conn, NoMemory};
 use std::alloc::Global;
 use std::collections::BTreeMap;
 
-/// How many connections can be live.
-const LIVE_LIMIT: usize = 64;
-
 /// The live connections. Each stays where it lies for as long as it is live.
 #[derive(Debug, Drop)]
 pub struct Connections {
@@ -21,17 +18,15 @@ pub struct Connections {
 }
 
 impl Connections {
-    ghost use Rattle.std.specs.Prelude.{◌≡◌, ◌≢◌, ◌≤◌, ℕ, ◌+◌, length, None, Some, is_some, nat_lt, IfSome, IfOk, OnOk, if◌then◌else◌, not};
-    ghost use Rattle.session_engine.specs.Answers.{said_in};
+    ghost use Rattle.std.specs.Prelude.{◌≡◌, ◌≢◌, ◌≤◌, ℕ, length, None, Some, is_some, IfSome, IfOk, OnOk};
+    ghost use Rattle.session_engine.specs.Answers.{said_in, IsSpelled};
     ghost use Rattle.session_engine.specs.Messages.{CanBeSaid};
     ghost use Rattle.session_engine.specs.Cutting.{IsNew};
-    ghost use Rattle.session_engine.specs.Machine.{live_limit};
-    ghost use Rattle.session_engine.specs.Shown.{kept_at, kept_count, ChangesAt, CutsAt, Leaves};
+    ghost use Rattle.session_engine.specs.Shown.{kept_at, ChangesAt, CutsAt, Leaves, UnsetsAt};
     ghost use Rattle.session_engine.specs.declared.connection.Connection.{Connection};
 
     pub fn new(alloc: Global) -> Connections
-        ensures none { (q : ℕ) → kept_at result q ≡ None }
-        ensures count { kept_count result ≡ 0 }
+        ensures { (q : ℕ) → kept_at result q ≡ None }
     {
         Connections {
             places: BTreeMap::new(alloc),
@@ -45,18 +40,10 @@ impl Connections {
         self.places.contains_key(&conn)
     }
 
-    /// As many connections are live as can be.
-    pub fn is_full(&self) -> bool
-        ensures { nat_lt (kept_count self.now) live_limit ≡ not result }
-    {
-        self.places.len() >= LIVE_LIMIT
-    }
-
     /// Makes a connection live that isn't, of a session with this cookie.
     pub fn join(&mut self, alloc: Global, cookie: Cookie, conn: Conn) -> Result<(), NoMemory>
         requires { kept_at self.old conn ≡ None }
-        ensures change { OnOk result ((kept : Connection) × IsNew cookie kept × ChangesAt self.old self.new conn (Some kept)) }
-        ensures count { OnOk result (kept_count self.new ≡ kept_count self.old + 1) }
+        ensures { OnOk result ((kept : Connection) × IsNew cookie kept × ChangesAt self.old self.new conn (Some kept)) }
     {
         let place = self.seats.insert(Connection::new(alloc, cookie, conn)?)?;
         if self.places.insert(conn, place).is_err() {
@@ -76,10 +63,10 @@ impl Connections {
     ) -> Result<Option<Answered>, NoMemory>
         ensures cut { IfOk result (λ answered. CutsAt (kept_at self.old conn) left.now answered (kept_at self.new conn)) }
         ensures said { IfOk result (λ answered. IfSome answered (λ part. CanBeSaid (said_in part.answer))) }
+        ensures spelled { IfOk result (λ answered. IfSome answered (λ part. IsSpelled part.answer)) }
         ensures some { IfOk result (λ answered. IfSome answered (λ part. 1 ≤ part.count)) }
         ensures within { IfOk result (λ answered. IfSome answered (λ part. part.count ≤ length left.now)) }
         ensures others { OnOk result ((q : ℕ) → q ≢ conn → kept_at self.new q ≡ kept_at self.old q) }
-        ensures count { OnOk result (kept_count self.new ≡ kept_count self.old) }
     {
         let Some(place) = self.places.get(&conn) else {
             return Ok(None);
@@ -97,6 +84,19 @@ impl Connections {
     {
         if let Some(place) = self.places.remove(&conn) {
             self.seats.try_remove(place);
+        }
+    }
+
+    /// Notes that XSMP has ended on a connection, if it is live.
+    pub fn unset(&mut self, conn: Conn)
+        ensures at { UnsetsAt (kept_at self.old conn) (kept_at self.new conn) }
+        ensures others { (q : ℕ) → q ≢ conn → kept_at self.new q ≡ kept_at self.old q }
+    {
+        let Some(place) = self.places.get(&conn) else {
+            return;
+        };
+        if let Some(connection) = self.seats.get_mut(*place) {
+            connection.unset();
         }
     }
 }

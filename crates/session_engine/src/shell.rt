@@ -1,4 +1,4 @@
-ghost use Rattle.std.specs.Prelude.{◌≡◌, ◌++◌, IfOk, OnOk, IsErrOf};
+ghost use Rattle.std.specs.Prelude.{◌≡◌, [], ◌∷◌, ◌++◌, IfOk, OnOk, IsErrOf};
 ghost use Rattle.sm_world.specs.Events.{HasPieceSize};
 ghost use Rattle.sm_world.specs.Outside.{adds, of_ok, TakesNext};
 ghost use Rattle.sm_world.specs.declared.effects.Effect.TheVariants.{Heard};
@@ -6,12 +6,12 @@ ghost use Rattle.session_engine.specs.Causes.{KeepsCounts};
 ghost use Rattle.session_engine.specs.Messages.{spelled, IsTooLong};
 
 use crate::acts::Act;
-use crate::fault::{Halt, link_halt};
+use crate::fault::{Halt, console_halt, link_halt};
 use crate::messages::Message;
 use ice_messages::encode_ice;
 use ice_setup::MANAGER_OPCODE;
 use ice_values::{EncodeRefusal, Endian};
-use sm_world::{Conn, Event, Links, Octets};
+use sm_world::{Conn, Console, Event, Links, NoMemory, Octets};
 use std::alloc::Global;
 use xsmp_messages::encode_xsmp;
 
@@ -36,6 +36,15 @@ fn spell(message: &Message, bytes: &mut Octets) -> Result<(), EncodeRefusal>
     }
 }
 
+/// Writes a line in place of the bytes.
+fn put_line(text: &[u8], bytes: &mut Octets) -> Result<(), NoMemory>
+    ensures { OnOk result (bytes.new ≡ text.now ++ 10 ∷ []) }
+{
+    bytes.truncate(0);
+    bytes.append(text)?;
+    bytes.append(b"\n")
+}
+
 /// Does acts on the devices of a world. It knows nothing of the session.
 #[derive(Debug, Drop)]
 pub struct Shell {
@@ -44,10 +53,10 @@ pub struct Shell {
 }
 
 impl Shell {
-    ghost use Rattle.std.specs.Prelude.{◌≡◌, [], ◌∷◌, is_ok};
+    ghost use Rattle.std.specs.Prelude.{◌≡◌, [], ◌∷◌, ◌++◌, is_ok};
     ghost use Rattle.std.specs.List.{AllByRecursion};
     ghost use Rattle.sm_world.specs.Outside.{Added, adds, on_ok};
-    ghost use Rattle.sm_world.specs.declared.effects.Effect.TheVariants.{Sent, Shut};
+    ghost use Rattle.sm_world.specs.declared.effects.Effect.TheVariants.{Sent, Shut, Printed};
     ghost use Rattle.session_engine.specs.Acts.{CanBeDone};
     ghost use Rattle.session_engine.specs.Carries.{CarriesOut};
     ghost use Rattle.session_engine.specs.Causes.{HearsNone};
@@ -81,7 +90,18 @@ impl Shell {
         world.shut(to).map_err(link_halt)
     }
 
-    fn do_act<W: Links>(&mut self, world: &mut W, act: &Act) -> Result<(), Halt>
+    /// Prints a line.
+    fn print<W: Console>(&mut self, world: &mut W, text: &[u8]) -> Result<(), Halt>
+        ensures effects { (W.outside world.new).told ≡ adds (W.outside world.old).told (on_ok result (Printed (text.now ++ 10 ∷ []) ∷ [])) }
+        ensures alone { HearsNone (W.outside world.old) (W.outside world.new) result }
+    {
+        if put_line(text, &mut self.bytes).is_err() {
+            return Err(Halt::NoMemory);
+        }
+        world.print(self.bytes.as_slice()).map_err(console_halt)
+    }
+
+    fn do_act<W: Links + Console>(&mut self, world: &mut W, act: &Act) -> Result<(), Halt>
         requires { CanBeDone act.now }
         ensures done { Added (W.outside world.old).told (W.outside world.new).told (CarriesOut (act.now ∷ []) (is_ok result)) }
         ensures alone { HearsNone (W.outside world.old) (W.outside world.new) result }
@@ -89,12 +109,15 @@ impl Shell {
         match act {
             Act::Say(to, message) => self.send(world, *to, message),
             Act::Shut(conn) => self.shut(world, *conn),
+            Act::Start(_) => Ok(()),
+            Act::Commit(_) => Ok(()),
+            Act::Print(text) => self.print(world, text.as_slice()),
             Act::Finish => Ok(()),
         }
     }
 
     /// Does acts in their order, up to one that a device refuses.
-    pub fn perform<W: Links>(&mut self, world: &mut W, acts: &[Act]) -> Result<(), Halt>
+    pub fn perform<W: Links + Console>(&mut self, world: &mut W, acts: &[Act]) -> Result<(), Halt>
         requires { AllByRecursion CanBeDone acts.now }
         ensures done { Added (W.outside world.old).told (W.outside world.new).told (CarriesOut acts.now (is_ok result)) }
         ensures alone { HearsNone (W.outside world.old) (W.outside world.new) result }

@@ -4,7 +4,9 @@ ghost use Rattle.sm_world.specs.Events.{HasPieceSize};
 
 use crate::{ServeFault, at_most_64_live, serve};
 use ice_cookie::Cookie;
-use sm_world::{Effect, Event, EventList, MemWorld, NoMemory, NumberList, Octets, SteadyWorld};
+use sm_world::{
+    Effect, Event, EventList, MemWorld, NoMemory, NumberList, Octets, Order, SteadyWorld,
+};
 use std::alloc::Global;
 use std::fmt::Write;
 use std::process::Abort;
@@ -25,6 +27,11 @@ const PING_ANSWERED: &str = "Sent(1, Octets { bytes: [0, 1, 0, 0, 0, 0, 0, 0] })
 /// ... and then a BadState for the first frame, a Ping, and its end.
 const CLOSED: &str = "Sent(1, Octets { bytes: [0, 1, 0, 0, 0, 0, 0, 0] }) \
     Sent(1, Octets { bytes: [0, 0, 1, 128, 1, 0, 0, 0, 9, 2, 0, 0, 1, 0, 0, 0] }) Shut(1) ";
+
+/// What is printed for `status` before anything came.
+const STATUS_PRINTED: &str = "Printed(Octets { bytes: [99, 111, 110, 110, 101, 99, 116, 105, 111, 110, 115, 32, 48, 44, 32, 114, 101, \
+    99, 111, 114, 100, 115, 32, 48, 44, 32, 112, 101, 110, 100, 105, 110, 103, 32, \
+    48, 44, 32, 101, 112, 111, 99, 104, 32, 49, 44, 32, 105, 100, 108, 101, 10] }) ";
 
 /// Ends the test where other things were done than these. What was heard doesn't count.
 fn expect_done(
@@ -107,6 +114,20 @@ fn expect_spent(rt: &(impl Abort + Alloc<A = Global>), turns: u64, want: &str) -
 fn a_ping_is_answered_however_it_is_cut(rt: HostRuntime) -> Result<(), Fail> {
     expect_served(&rt, at_once(rt.alloc(), &CLIENT)?, PING_ANSWERED)?;
     expect_served(&rt, byte_by_byte(rt.alloc(), &CLIENT)?, PING_ANSWERED)
+}
+
+/// One order.
+fn ordered(alloc: Global, order: Order) -> Result<EventList, NoMemory>
+    ensures { IfOk result (AllByRecursion HasPieceSize) }
+{
+    let mut events = EventList::new(alloc);
+    events.push(Event::Operator(order))?;
+    Ok(events)
+}
+
+#[test]
+fn an_order_is_answered_by_a_line(rt: HostRuntime) -> Result<(), Fail> {
+    expect_served(&rt, ordered(rt.alloc(), Order::Status)?, STATUS_PRINTED)
 }
 
 #[test]

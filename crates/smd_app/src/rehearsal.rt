@@ -43,6 +43,7 @@ pub fn run_in_memory(alloc: Global, events: EventList, turns: u64) -> Result<Reh
         Err(ServeFault::Spent) => false,
         Err(ServeFault::NoMemory) => return Err(NoMemory),
         Err(ServeFault::LinkFault) => unreachable!(),
+        Err(ServeFault::ConsoleFault) => unreachable!(),
     };
     let trace = trace_text(alloc, world.effects())?;
     Ok(Rehearsal { trace, finished })

@@ -14,6 +14,11 @@ loop-left-init g c = record {
   counts = never_fallen _;
 }
 
+pub cut-requires : goal.cut-requires
+cut-requires g c =
+    let taking = c.loop-left.invariant.taking c.requires.0 c.requires.1 in
+    (taking.machine, taking.shows)
+
 pub loop-left-preserved : goal.loop-left-preserved
 loop-left-preserved g c = record {
   taking = λ m shows.

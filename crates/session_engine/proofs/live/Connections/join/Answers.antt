@@ -1,7 +1,5 @@
-use Rattle.std.proofs.Common.{rules, ◌≡◌, None, Some}
-use Rattle.std.specs.Ordering.{nat_cmp}
-use Rattle.std.specs.BTreeMap.{get as place_of}
-use Rattle.session_engine.proofs.Seats.{filled, absent, kept_is, seated_after, seated_here}
+use Rattle.std.proofs.Common.{rules, Some}
+use Rattle.session_engine.proofs.Seats.{filled, kept_is, seated_after, seated_here}
 use Rattle.session_engine.proofs.live.Connections.join.Goals as goal
 
 pub invariant_of-self-else-is_err : goal.invariant_of-self-else-is_err
@@ -9,12 +7,7 @@ invariant_of-self-else-is_err c =
     let change = filled c.args.self.now.places c.insert-2.new.self c.args.self.now.seats c.insert.new.self c.args.conn c.in_ok-place.place c.in_ok-new.field-0 c.args.self.now.seated c.in_ok-place.ensures.was_vacant (λ q. search rules) c.in_ok-place.ensures.updates in
     record { seated = seated_after c.args.self.now.places c.insert-2.new.self c.args.self.now.seats c.insert.new.self c.args.conn c.in_ok-place.place (Some c.in_ok-place.place) (Some c.in_ok-new.field-0) c.args.self.now.seated change (seated_here c.insert.new.self c.args.conn c.in_ok-place.place c.in_ok-new.field-0 c.in_ok-place.ensures.updates.changed c.in_ok-new.ensures.conn) }
 
-pub returns-clause-count : goal.returns-clause-count
-returns-clause-count c =
-    let none : place_of nat_cmp c.args.self.now.places c.args.conn ≡ None = absent c.args.self.now.places c.args.self.now.seats c.args.conn c.args.self.now.seated c.requires in
-    search rules
-
-pub returns-clause-change : goal.returns-clause-change
-returns-clause-change c =
+pub returns : goal.returns
+returns c =
     let change = filled c.args.self.now.places c.insert-2.new.self c.args.self.now.seats c.insert.new.self c.args.conn c.in_ok-place.place c.in_ok-new.field-0 c.args.self.now.seated c.in_ok-place.ensures.was_vacant (λ q. search rules) c.in_ok-place.ensures.updates in
     (c.in_ok-new.field-0, c.in_ok-new.ensures.new, kept_is c.args.self.now.places c.insert-2.new.self c.args.self.now.seats c.insert.new.self c.args.conn c.in_ok-place.place (Some c.in_ok-place.place) (Some c.in_ok-new.field-0) change c.in_ok-place.ensures.updates.changed)
