@@ -1,27 +1,24 @@
 -- What the session takes as a client is answered, and what the session in memory gives then.
-use Rattle.std.proofs.Common.{◌≡◌, ◌≢◌, inl, inr, ℕ, ◌≤◌, Bool, true, false, List, [], ◌∷◌, ◌++◌, length, drop, Option, Some, None, refl, sym, ◌∙◌, ap, subst, append_assoc}
+use Rattle.std.proofs.Common.{◌≡◌, ◌≢◌, ℕ, Bool, true, false, List, [], ◌∷◌, ◌++◌, drop, Option, Some, None, refl, sym, ◌∙◌, ap, subst}
 use Rattle.std.specs.Option.{is_some}
-use Rattle.std.proofs.lemmas.List.{append-nil}
-use Rattle.std.proofs.lemmas.Bool.{cases_eq, false≢true}
+use Rattle.std.proofs.lemmas.Bool.{false≢true}
 use Rattle.ice_messages.specs.declared.message.IceMessage.TheVariants.{NoClose}
 use Rattle.interact_queue.specs.Queue.{is_in}
 use Rattle.manager_machine.specs.Keeper.{Keeper, StandsFor}
 use Rattle.xsmp_messages.specs.declared.message.XsmpMessage.{XsmpMessage}
-use Rattle.xsmp_messages.specs.Messages.{Spells}
 use Rattle.session_clients.specs.Clients.{phase_in, conns_in}
 use Rattle.session_model.specs.declared.phase.Phase.{Phase}
-use Rattle.session_model.specs.declared.events.SessionEvent.TheVariants.{Joined as HasJoined, Ready, Said, Left, Operator}
-use Rattle.session_model.specs.Moves.{History, Outside, ◌▷◌}
+use Rattle.session_model.specs.declared.events.SessionEvent.TheVariants.{Joined as HasJoined, Ready, Said, Left}
+use Rattle.session_model.specs.Moves.{History}
 use Rattle.session_model.specs.Phases.{is_bound}
 use Rattle.session_model.specs.Readings as of
 use Rattle.session_model.specs.Rules.{Takes as TakesEvent}
 use Rattle.session_state.specs.Session.{reading_in}
 use Rattle.ice_framing.specs.Frames.{fed}
 use Rattle.session_engine.specs.Acts.{says}
-use Rattle.session_engine.specs.Answers.{outcome, sequence_after, speaks_xsmp, IsSpelled, KeepsWhole}
-use Rattle.session_engine.specs.Cutting.{TakesFirst}
-use Rattle.session_engine.specs.Machine.{Connection, Machine, Does, connection_of, changed, counted, does, noted, parted, asked, answered, departs, told, part_taken}
-use Rattle.session_engine.specs.Shown.{Agrees, IsKeptOf, IsShown, Matches, Shows, ShowsLive, Leaves, CutsAt, TakesPart, is_speaking, kept_at, parts_left, to_cut}
+use Rattle.session_engine.specs.Answers.{outcome, sequence_after, speaks_xsmp, IsSpelled}
+use Rattle.session_engine.specs.Machine.{Connection, Machine, connection_of, changed, counted, does, noted, parted, asked, answered, told}
+use Rattle.session_engine.specs.Shown.{Agrees, IsShown, Matches, Shows, ShowsLive, Leaves, CutsAt, TakesPart, is_speaking, kept_at, parts_left, to_cut}
 use Rattle.session_engine.specs.Streams.{Part, parts_at}
 use Rattle.session_engine.specs.Telling.{AgreesFor, Answers, Departs, GivesBehind, IsAnswering, ShowsOthers, TakesAnswer, Tells}
 use Rattle.session_engine.specs.declared.acts.Act.{Act}
@@ -32,11 +29,10 @@ use Rattle.session_engine.specs.declared.answers.Outcome.{Outcome}
 use Rattle.session_engine.specs.declared.connection.Answered.{Answered}
 use Rattle.session_engine.specs.declared.connection.Connection.{Connection as Kept}
 use Rattle.session_engine.specs.declared.engine.Engine.{Engine}
-use Rattle.session_engine.specs.declared.live.Connections.{Connections}
 use Rattle.session_engine.specs.declared.messages.Message.{Message}
 use Rattle.session_engine.specs.declared.messages.Message.TheVariants.{Ice}
 use Rattle.session_engine.proofs.Following.{agrees-left, agrees-noted, agrees-ready, agrees-said, numbers-in}
-use Rattle.session_engine.proofs.Outcomes.{Fits, FitsAnswer, fits-part}
+use Rattle.session_engine.proofs.Outcomes.{FitsAnswer, fits-part}
 use Rattle.session_engine.proofs.Showing.{CutsOne, acts_noted, everywhere, gives_behind, left_of, noted_shown, others_shown, same_outcome, tell_gives, to_cut-same}
 
 -- ---- what the session takes
@@ -173,8 +169,8 @@ pub takes_part : (m : Machine) (c : ℕ) (left : List ℕ) (answered_so : Answer
 takes_part m c left answered_so cut_so after none cuts answers =
     let o : Outcome = outcome cuts.k.setup (sequence_after cuts.k.taken) cuts.part in
     let given : GivesBehind [] (to_cut c (drop answered_so.count left)) (answered (noted m c o.setup) c o.answer) after =
-        subst (λ (answer : Answer). GivesBehind [] (to_cut c (drop answered_so.count left)) (answered (noted m c o.setup) c answer) after) cuts.answer
-        (subst (λ (xs : List Act). GivesBehind xs (to_cut c (drop answered_so.count left)) (answered (noted m c o.setup) c answered_so.answer) after) none (answers (to_cut c (drop answered_so.count left)) (noted m c o.setup) cuts.answering)) in
+    subst (λ (answer : Answer). GivesBehind [] (to_cut c (drop answered_so.count left)) (answered (noted m c o.setup) c answer) after) cuts.answer
+    (subst (λ (xs : List Act). GivesBehind xs (to_cut c (drop answered_so.count left)) (answered (noted m c o.setup) c answered_so.answer) after) none (answers (to_cut c (drop answered_so.count left)) (noted m c o.setup) cuts.answering)) in
     record {
       part = cuts.part;
       rest = cuts.rest;

@@ -1,5 +1,5 @@
 -- What the session in memory gives as a connection joins or is gone, and for an order.
-use Rattle.std.proofs.Common.{◌≡◌, ℕ, Bool, true, false, List, [], ◌∷◌, ◌++◌, map, Option, Some, None, refl, sym, ◌∙◌, ap, subst, arith}
+use Rattle.std.proofs.Common.{◌≡◌, ℕ, Bool, true, false, List, [], ◌∷◌, ◌++◌, map, Option, Some, None, refl, sym, ◌∙◌, ap, arith}
 use Rattle.std.specs.Option.{is_some}
 use Rattle.std.proofs.lemmas.List.{append-nil}
 use Rattle.std.proofs.lemmas.Bool.{false≢true}
@@ -15,7 +15,7 @@ use Rattle.session_model.specs.Rules.{Takes as TakesEvent}
 use Rattle.session_model.specs.declared.events.SessionEvent.TheVariants.{Joined as HasJoined, Left, Operator as Ordered}
 use Rattle.session_state.specs.Session.{reading_in}
 use Rattle.session_engine.specs.Cutting.{IsNew}
-use Rattle.session_engine.specs.Machine.{Connection, Machine, Step, Does, act_in, acts_of, connection_of, without, joined, joining, greeting, greeted, gone_for, join_for, parted, stays, told, step}
+use Rattle.session_engine.specs.Machine.{Connection, Machine, Step, Does, act_in, acts_of, connection_of, joining, greeting, greeted, gone_for, join_for, parted, stays, told, step}
 use Rattle.session_engine.specs.Shown.{ChangesAt, Gives, IsShown, Leaves, Shows, all_cut, kept_at}
 use Rattle.session_engine.specs.Telling.{GivesBehind, Tells}
 use Rattle.session_engine.specs.declared.acts.Act.{Act}
@@ -25,7 +25,7 @@ use Rattle.session_engine.specs.declared.engine.Engine.{Engine}
 use Rattle.session_engine.specs.declared.messages.Message.TheVariants.{Ice}
 use Rattle.session_engine.proofs.Answering.{takes-joined, takes-left}
 use Rattle.session_engine.proofs.Following.{agrees-joined, agrees-left, agrees-ordered}
-use Rattle.session_engine.proofs.Showing.{acts_noted, joined_shows, live_some, none_live, others_shown, tell_gives}
+use Rattle.session_engine.proofs.Showing.{acts_noted, joined_shows, live_some, others_shown, tell_gives}
 
 -- acts behind none
 gives-all : (before : List Act) (s : Step) (engine : Engine) → before ≡ [] → GivesBehind before all_cut s engine → Gives s engine

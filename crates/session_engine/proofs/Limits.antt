@@ -1,13 +1,12 @@
 -- How many connections are live.
-use Rattle.std.proofs.Common.{◌≡◌, ℕ, ◌+◌, ◌<◌, ◌≤◌, nat_eq, Bool, true, false, List, [], ◌∷◌, ◌++◌, map, length, Option, Some, None, refl, sym, ◌∙◌, ap, subst, arith, append_assoc, length-append, cond, ◌||◌, if◌then◌else◌}
+use Rattle.std.proofs.Common.{◌≡◌, ℕ, ◌<◌, ◌≤◌, nat_eq, Bool, true, false, List, [], ◌∷◌, ◌++◌, length, Option, Some, None, refl, sym, ◌∙◌, ap, arith, append_assoc, length-append, ◌||◌, if◌then◌else◌}
 use Rattle.std.specs.Prelude.{nat_le}
-use Rattle.std.specs.Option.{is_some}
 use Rattle.std.proofs.lemmas.List.{append-nil, length-map}
 use Rattle.std.proofs.lemmas.Bool.Decides.{nat_tests}
 use Rattle.sm_world.specs.declared.events.Event.{Event}
 use Rattle.sm_world.specs.declared.events.Event.TheVariants.{Joined, Piece, Gone, Operator, Tick, End}
 use Rattle.ice_cookie.specs.declared.cookies.Cookie.{Cookie}
-use Rattle.session_model.specs.Moves.{History, Move, Outside, Closed, ◌▷◌, acts_of as acts_by, all_acts}
+use Rattle.session_model.specs.Moves.{History, Move, ◌▷◌, acts_of as acts_by, all_acts}
 use Rattle.session_model.specs.Phases.{is_bound}
 use Rattle.session_model.specs.Reading.{reading}
 use Rattle.session_model.specs.Readings as of
@@ -19,7 +18,7 @@ use Rattle.session_model.specs.declared.events.SessionEvent.{SessionEvent}
 use Rattle.session_model.specs.declared.events.SessionEvent.TheVariants.{Joined as HasJoined, Ready, Said, Left, Operator as Ordered}
 use Rattle.session_engine.specs.Acts.{says}
 use Rattle.session_engine.specs.Answers.{outcome, sequence_after}
-use Rattle.session_engine.specs.Machine.{Connection, Machine, Step, start, connection_of, changed, without, joined, joining, fed_with, counted, unset_on, connections_after, connections_through, acts_since, told, live_limit, noted, fed_on, asked, answered, departs, parted, part_for, part_taken, parts_taken, piece_for, gone_for, join_for, step, after_all}
+use Rattle.session_engine.specs.Machine.{Connection, Machine, start, connection_of, without, joined, joining, fed_with, counted, unset_on, connections_after, connections_through, acts_since, told, live_limit, noted, fed_on, asked, answered, departs, parted, part_for, part_taken, parts_taken, piece_for, gone_for, join_for, step, after_all}
 use Rattle.session_engine.specs.Shown.{Agrees}
 use Rattle.session_engine.specs.Streams.{Part, new_parts}
 use Rattle.session_engine.specs.Telling.{AgreesFor}
@@ -30,7 +29,7 @@ use Rattle.session_engine.specs.declared.answers.Answer.TheVariants.{Stays, Begi
 use Rattle.session_engine.specs.declared.answers.Outcome.{Outcome}
 use Rattle.session_engine.proofs.Answering.{agrees-for}
 use Rattle.session_engine.proofs.Connections.{same, length-changed}
-use Rattle.session_engine.proofs.Following.{agrees-changed, agrees-joined, agrees-left, agrees-ordered, agrees-said, agrees-told, since-is, through-append}
+use Rattle.session_engine.proofs.Following.{agrees-changed, agrees-joined, agrees-left, agrees-ordered, agrees-said, agrees-told, since-is}
 use Rattle.session_engine.proofs.Inner.{IsInner, kept-replied}
 use Rattle.session_engine.proofs.Outcomes.{fits-part}
 

@@ -1,5 +1,5 @@
 -- The engine's loop: what one turn adds to the effects of a run, whether the world tells them or not.
-use Rattle.std.proofs.Common.{◌≡◌, ℕ, suc, ◌<◌, ◌≤◌, true, false, List, [], ◌∷◌, ◌++◌, Option, Ok, Err, refl, sym, ◌∙◌, ap, append_assoc}
+use Rattle.std.proofs.Common.{◌≡◌, ℕ, suc, ◌<◌, ◌≤◌, true, false, List, [], ◌∷◌, ◌++◌, Option, Ok, Err, refl, ◌∙◌, ap, append_assoc}
 use Rattle.sm_world.specs.Effects.{heard}
 use Rattle.sm_world.specs.Outside.{adds, TakesNext, Added}
 use Rattle.sm_world.specs.declared.effects.Effect.{Effect}

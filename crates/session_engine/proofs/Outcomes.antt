@@ -1,6 +1,6 @@
 -- Whether XSMP is spoken on a connection, before and behind each part of its stream.
 use Rattle.std.proofs.Common.{◌≡◌, ℕ, Bool, true, false, not, ◌&&◌, ◌||◌, ◌==◌, List, [], Option, Some, None, Result, Ok, Err, nat_lt, slice_index, drop, refl, sym, ◌∙◌, ap, if◌then◌else◌}
-use Rattle.std.specs.Option.{option_map, is_some}
+use Rattle.std.specs.Option.{is_some}
 use Rattle.std.proofs.lemmas.Bool.{false≢true}
 use Rattle.ice_values.specs.Numbers.{number}
 use Rattle.ice_values.specs.declared.class.ErrorClass.{ErrorClass}
@@ -25,7 +25,7 @@ use Rattle.ice_setup.specs.declared.states.Moved.{Moved}
 use Rattle.ice_setup.specs.declared.states.Moved.TheVariants.{Goes, Ends, Close, Ask}
 use Rattle.xsmp_messages.specs.Reading.{decode_at as xsmp_at}
 use Rattle.xsmp_messages.specs.declared.message.XsmpMessage.{XsmpMessage}
-use Rattle.session_engine.specs.Answers.{named_in, stated_order, going, speaks_xsmp, refused, refused_xsmp, outcome_of, message_outcome, first_outcome, read_outcome, xsmp_outcome, later_outcome, frame_outcome, is_opcode, oversize_answer, outcome}
+use Rattle.session_engine.specs.Answers.{named_in, stated_order, going, speaks_xsmp, refused, outcome_of, message_outcome, first_outcome, read_outcome, xsmp_outcome, later_outcome, frame_outcome, is_opcode, outcome}
 use Rattle.session_engine.specs.Streams.{Part, Whole, TooMuch}
 use Rattle.session_engine.specs.declared.answers.Answer.{Answer}
 use Rattle.session_engine.specs.declared.answers.Answer.TheVariants.{Stays, Begins, Closes, Speaks, Asks}

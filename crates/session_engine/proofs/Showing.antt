@@ -1,5 +1,5 @@
 -- The session in memory against the machine: it shows the machine after each of its calls.
-use Rattle.std.proofs.Common.{◌≡◌, ◌≢◌, inl, inr, ℕ, ◌≤◌, ◌+◌, ◌*◌, ◌/◌, ◌%◌, ◌^◌, Bool, true, false, List, [], ◌∷◌, ◌++◌, length, drop, map, Option, Some, None, Result, Ok, Err, OnOk, refl, sym, ◌∙◌, ap, subst, arith, append_assoc, length-append}
+use Rattle.std.proofs.Common.{◌≡◌, ◌≢◌, inl, inr, ℕ, ◌≤◌, ◌+◌, ◌*◌, ◌/◌, ◌%◌, ◌^◌, false, List, [], ◌∷◌, ◌++◌, length, drop, map, Option, Some, None, Result, Ok, Err, OnOk, refl, sym, ◌∙◌, ap, subst, arith, append_assoc, length-append}
 use Rattle.std.specs.Option.{option_map, is_some}
 use Rattle.std.specs.List.{flat_map}
 use Rattle.std.proofs.Math.Nat.{div-add-mod, add-mul-mod_self_left}
@@ -21,12 +21,11 @@ use Rattle.session_model.specs.Rules.{opened, taken}
 use Rattle.session_engine.specs.Acts.{acts_for, acts_for_all}
 use Rattle.session_engine.specs.Answers.{outcome, sequence_after, KeepsWhole}
 use Rattle.session_engine.specs.Cutting.{IsNew, TakesFirst, HoldsAll, Unsets}
-use Rattle.session_engine.specs.Machine.{Connection, Machine, Step, Entry, Does, act_in, acts_of, acts_since, behind, connection_of, changed, without, joined, fed_with, counted, unset_on, connections_after, connections_through, opening_book, start, stays, noted, fed_on, answered, part_for, part_taken, parts_taken, told, step}
-use Rattle.session_engine.specs.Shown.{kept_at, ChangesAt, CutsAt, UnsetsAt, Leaves, IsKeptOf, Matches, Agrees, AreDistinct, ShowsLive, Shows, Gives, TakesPart, TakesNone, parts_on, parts_left, all_cut, to_cut}
+use Rattle.session_engine.specs.Machine.{Connection, Machine, Step, Does, act_in, acts_of, acts_since, behind, connection_of, changed, without, joined, fed_with, counted, unset_on, connections_after, connections_through, opening_book, start, stays, noted, fed_on, parts_taken, told, step}
+use Rattle.session_engine.specs.Shown.{kept_at, ChangesAt, CutsAt, UnsetsAt, Leaves, IsKeptOf, Matches, Agrees, AreDistinct, ShowsLive, Shows, TakesNone, parts_on, parts_left, all_cut, to_cut}
 use Rattle.session_engine.specs.Streams.{Part, parts_at, parts_of}
-use Rattle.session_engine.specs.Telling.{Follows, GivesBehind, IsAnswering, ShowsOthers, Tells, AgreesFor}
+use Rattle.session_engine.specs.Telling.{Follows, GivesBehind, IsAnswering, Tells, AgreesFor}
 use Rattle.session_engine.specs.declared.acts.Act.{Act}
-use Rattle.session_engine.specs.declared.answers.Answer.{Answer}
 use Rattle.session_engine.specs.declared.answers.Outcome.{Outcome}
 use Rattle.session_engine.specs.declared.connection.Connection.{Connection as Kept}
 use Rattle.session_engine.specs.declared.connection.Answered.{Answered}

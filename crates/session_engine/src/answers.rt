@@ -211,12 +211,7 @@ fn is_opcode(own: Option<u8>, opcode: u8) -> bool
 }
 
 /// Refuses a message of XSMP, with values that fill units of 8 bytes.
-fn refuse_xsmp(
-    setup: AnySetup,
-    class: ErrorClass,
-    offending: Offending,
-    values: Octets,
-) -> Outcome
+fn refuse_xsmp(setup: AnySetup, class: ErrorClass, offending: Offending, values: Octets) -> Outcome
     requires units { length values % 8 ≡ 0 }
     requires few { length values ≤ 65528 }
     ensures outcome { result ≡ refused_xsmp setup class offending values }

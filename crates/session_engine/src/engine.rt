@@ -71,7 +71,9 @@ impl Engine {
         ensures { OnOk result (Follows (act ∷ []) self.old self.new) }
     {
         match act {
-            SessionAct::Say(conn, message) => self.acts.push(Act::Say(conn, Message::Xsmp(message))),
+            SessionAct::Say(conn, message) => self
+                .acts
+                .push(Act::Say(conn, Message::Xsmp(message))),
             SessionAct::Blame(conn, error) => {
                 let message = Message::Xsmp(XsmpMessage::Error(error));
                 self.acts.push(Act::Say(conn, message))
@@ -176,7 +178,9 @@ impl Engine {
         ensures { OnOk result (Answers conn Answer.Asks self.old self.new) }
     {
         if self.manager.bound(conn) {
-            return self.acts.push(Act::Say(conn, Message::Ice(IceMessage::NoClose)));
+            return self
+                .acts
+                .push(Act::Say(conn, Message::Ice(IceMessage::NoClose)));
         }
         self.close(conn, None)
     }

@@ -63,7 +63,11 @@ fn turn_of(acts: &[Act]) -> Turn
 }
 
 /// Does acts, and says whether one of them ends the run.
-fn carry_out<W: Links + Console>(world: &mut W, shell: &mut Shell, acts: &[Act]) -> Result<Turn, Halt>
+fn carry_out<W: Links + Console>(
+    world: &mut W,
+    shell: &mut Shell,
+    acts: &[Act],
+) -> Result<Turn, Halt>
     requires { AllByRecursion CanBeDone acts.now }
     ensures done { Added (W.outside world.old).told (W.outside world.new).told (CarriesOut acts.now (is_ok result)) }
     ensures turn { IfOk result (λ turn. is_end turn ≡ has_finish acts.now) }

@@ -29,7 +29,8 @@ const CLOSED: &str = "Sent(1, Octets { bytes: [0, 1, 0, 0, 0, 0, 0, 0] }) \
     Sent(1, Octets { bytes: [0, 0, 1, 128, 1, 0, 0, 0, 9, 2, 0, 0, 1, 0, 0, 0] }) Shut(1) ";
 
 /// What is printed for `status` before anything came.
-const STATUS_PRINTED: &str = "Printed(Octets { bytes: [99, 111, 110, 110, 101, 99, 116, 105, 111, 110, 115, 32, 48, 44, 32, 114, 101, \
+const STATUS_PRINTED: &str =
+    "Printed(Octets { bytes: [99, 111, 110, 110, 101, 99, 116, 105, 111, 110, 115, 32, 48, 44, 32, 114, 101, \
     99, 111, 114, 100, 115, 32, 48, 44, 32, 112, 101, 110, 100, 105, 110, 103, 32, \
     48, 44, 32, 101, 112, 111, 99, 104, 32, 49, 44, 32, 105, 100, 108, 101, 10] }) ";
 

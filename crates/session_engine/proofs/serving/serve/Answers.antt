@@ -1,8 +1,8 @@
-use Rattle.std.proofs.Common.{◌+◌, sym, ◌∙◌, ap, arith, rules}
-use Rattle.sm_world.proofs.Adding.{adds-none, fallen_never}
+use Rattle.std.proofs.Common.{◌+◌, sym, ◌∙◌, ap, arith}
+use Rattle.sm_world.proofs.Adding.{fallen_never}
 use Rattle.session_engine.specs.Turns.{is_end}
-use Rattle.session_engine.proofs.Adding.{cause_later, fault_cause, never_spent}
-use Rattle.session_engine.proofs.Loop.{loop_begins, loop_unopened, loop_goes_on, loop_ends, loop_cut_short, loop_over}
+use Rattle.session_engine.proofs.Adding.{never_spent}
+use Rattle.session_engine.proofs.Loop.{loop_begins, loop_unopened, loop_goes_on, loop_ends, loop_cut_short}
 use Rattle.session_engine.proofs.serving.serve.Goals as goal
 
 pub returns-in-Err-clause-serves : goal.returns-in-Err-clause-serves

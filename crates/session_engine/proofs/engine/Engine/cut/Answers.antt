@@ -1,4 +1,4 @@
-use Rattle.std.proofs.Common.{refl, Some, None}
+use Rattle.std.proofs.Common.{refl, Some}
 use Rattle.session_engine.specs.declared.engine.Engine.{Engine}
 use Rattle.session_engine.proofs.Answering.{is_cut, takes-cut, takes_part}
 use Rattle.session_engine.proofs.Showing.{CutsOne, takes_none}

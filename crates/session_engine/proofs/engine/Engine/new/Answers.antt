@@ -1,6 +1,4 @@
-use Rattle.std.proofs.Common.{refl, subst, sym}
-use Rattle.checkpoint_records.specs.Rules.{KeepsRules}
-use Rattle.checkpoint_records.specs.declared.records.Book.{Book}
+use Rattle.std.proofs.Common.{refl}
 use Rattle.session_engine.specs.declared.engine.Engine.{Engine}
 use Rattle.session_engine.proofs.Events.{rules-empty}
 use Rattle.session_engine.proofs.Showing.{opens}
