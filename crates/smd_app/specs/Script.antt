@@ -6,12 +6,12 @@ use Rattle.sm_world.specs.declared.events.Event.TheVariants.{Joined, Piece, Gone
 use Rattle.control_lines.specs.Lines.{lines_of}
 use Rattle.control_lines.specs.Script.{Says, SayAll, IsSkipped}
 
--- An event of a rehearsal. An operator's order isn't taken yet.
+-- An event of a rehearsal: each that a line can say.
 abbrev pub IsTaken : Event → Type 0
 IsTaken (Joined n) = Unit {0}
 IsTaken (Piece n bytes) = Unit {0}
 IsTaken (Gone n) = Unit {0}
-IsTaken (Operator order) = ⊥
+IsTaken (Operator order) = Unit {0}
 IsTaken (Tick milliseconds) = Unit {0}
 IsTaken End = Unit {0}
 

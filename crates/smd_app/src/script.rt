@@ -7,7 +7,7 @@ ghost use Rattle.smd_app.specs.Script.{ScriptSays, SayTaken, Takes};
 ghost use Rattle.smd_app.specs.Faults.{IsScriptFault};
 
 use control_lines::{OrderRefusal, next_line, read_script_line};
-use sm_world::{Event, EventList};
+use sm_world::EventList;
 use std::alloc::Global;
 
 /// How many bytes a script can have. A line that holds a byte past these is none.
@@ -21,15 +21,13 @@ pub enum ScriptFault {
     NoMemory,
 }
 
-/// Adds the event that a line says to those before it, and nothing for a line that is skipped. An
-/// operator's order isn't of a rehearsal's grammar yet.
+/// Adds the event that a line says to those before it, and nothing for a line that is skipped.
 fn take_line(alloc: Global, events: &mut EventList, line: &[u8]) -> Result<(), OrderRefusal>
     ensures taken { OnOk result ((said : List Event) × SayTaken (line.now ∷ []) said × (events.new ≡ events.old ++ said)) }
     ensures refused { IfErr result (IsRefusal (Takes line.now)) }
 {
     match read_script_line(alloc, line)? {
         None => Ok(()),
-        Some(Event::Operator(_)) => Err(OrderRefusal::BadLine),
         Some(event) => {
             events.push(event)?;
             Ok(())

@@ -212,8 +212,8 @@ fn ticks_and_skipped_lines(rt: HostRuntime) -> Result<(), Fail> {
             "smd: bad script line 1\n|",
         ),
         ("tick 00\n", 9, 7, "smd: bad script line 1\n|"),
-        // An operator's order isn't taken yet.
-        ("#\norder status\n", 9, 7, "smd: bad script line 2\n|"),
+        // No such order.
+        ("#\norder nothing\n", 9, 7, "smd: bad script line 2\n|"),
     ];
     for (script, turns, status, want) in table {
         let answer = rehearsed(alloc, "rehearse", script.as_bytes(), turns)?;
