@@ -105,10 +105,12 @@ fn a_client_with_the_cookie_gets_in(rt: HostRuntime) -> Result<(), Fail> {
          piece 1 PS / sent 1 AQ / piece 1 AR / sent 1 PR",
         // One that writes the most significant byte first.
         "join 1 / sent 1 BO / piece 1 BOM / piece 1 CSM / sent 1 AQ / piece 1 ARM / sent 1 CR",
-        // Nobody can register yet, so a message of XSMP closes the connection, and so does a client
-        // that wants to close.
+        // It registers, gets an ID, and is asked to save for the first time.
         "join 1 / sent 1 BO / piece 1 BO / piece 1 CS / sent 1 AQ / piece 1 AR / sent 1 CR / \
-         piece 1 PS / sent 1 AQ / piece 1 AR / sent 1 PR / piece 1 RC / shut 1",
+         piece 1 PS / sent 1 AQ / piece 1 AR / sent 1 PR / piece 1 RC / \
+         sent 1 010200000400000015000000736d642d30303030303030312d30303030303030\
+         3100000000000000 / sent 1 01030000010000000100000000000000",
+        // One that isn't registered and wants to close is shut.
         "join 1 / sent 1 BO / piece 1 BO / piece 1 CS / sent 1 AQ / piece 1 AR / sent 1 CR / \
          piece 1 PS / sent 1 AQ / piece 1 AR / sent 1 PR / piece 1 000b000000000000 / shut 1",
     ];
