@@ -17,7 +17,6 @@ mod stops;
 mod tables;
 #[cfg(test)]
 mod tests;
-mod texts;
 mod zeroed;
 
 pub use laws::{books_read_back, bytes_stand_for_one};

@@ -11,13 +11,12 @@ ghost use Rattle.checkpoint_records.specs.Parts.{ArePending};
 ghost use Rattle.checkpoint_records.specs.Rules.{IsCommand, command_cells};
 
 use crate::stops::Stop;
-use crate::texts::{are_words, in_pairs, is_environment, is_text};
 use crate::zeroed::take_zeroed;
 use crate::{Entry, same_command};
 use ice_values::{Array8, Array8List};
 use sm_world::{Command, CommandList, NoMemory};
 use std::alloc::Global;
-use xsmp_properties::command_of;
+use xsmp_properties::{are_words, command_of, in_pairs, is_environment, is_text};
 
 const BYTE_LIMIT: usize = 16_384;
 

@@ -2,7 +2,6 @@
 //! in memory.
 #![tactic(auto)]
 
-mod calls;
 mod memory;
 mod peer;
 mod pieces;

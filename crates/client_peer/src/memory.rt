@@ -5,12 +5,11 @@ ghost use Rattle.client_peer.specs.Peers.{received, file_at};
 ghost use Rattle.client_peer.specs.Pieces.{is_solid, part, after_part};
 
 use crate::Peer;
-use crate::calls::Calls;
 use crate::peer::FILE_LIMIT;
 use crate::pieces::Pieces;
 use sm_world::{
-    Console, Duplicate, Effect, Event, Failed, Failure, Faults, ListOf, NoMemory, NumberList,
-    Octets, OctetsList, PairList, Told,
+    Calls, Console, Duplicate, Effect, Event, Failed, Failure, Faults, ListOf, NoMemory,
+    NumberList, Octets, OctetsList, PairList, Told,
 };
 use std::alloc::Global;
 

@@ -1,12 +1,12 @@
 ghost use Rattle.std.specs.Prelude.{◌≡◌, ◌<◌, ◌^◌, ◌%◌, ◌≤◌, length, IfOk};
-ghost use Rattle.xsmp_messages.specs.Messages.{minor_of as opcode_of};
+ghost use Rattle.xsmp_messages.specs.Messages.{minor_of};
 ghost use Rattle.session_model.specs.Errors.{value_at};
 ghost use Rattle.session_answers.specs.Answers.{blames_state, blames_value};
 
 use ice_values::{Endian, ErrorBody, ErrorClass, Severity, pad, put_bytes, put_card32, put_zeros};
 use sm_world::{NoMemory, Octets};
 use std::alloc::Global;
-use xsmp_messages::XsmpMessage;
+use xsmp_messages::{XsmpMessage, minor};
 
 /// The message that an Error refuses.
 #[derive(Clone, Copy, Debug)]
@@ -20,40 +20,13 @@ pub struct Offence {
 impl Offence {
     /// This message, with its number among those of its sender.
     pub fn of(message: &XsmpMessage, sequence: u32) -> Offence
-        ensures minor { result.minor ≡ opcode_of message.now }
+        ensures minor { result.minor ≡ minor_of message.now }
         ensures sequence { result.sequence ≡ sequence }
     {
         Offence {
-            minor: minor_of(message),
+            minor: minor(message),
             sequence,
         }
-    }
-}
-
-/// The minor opcode of a message (XSMP, chapter 10: Messages).
-fn minor_of(message: &XsmpMessage) -> u8
-    ensures { result ≡ opcode_of message.now }
-{
-    match message {
-        XsmpMessage::Error(_) => 0,
-        XsmpMessage::RegisterClient { .. } => 1,
-        XsmpMessage::RegisterClientReply { .. } => 2,
-        XsmpMessage::SaveYourself { .. } => 3,
-        XsmpMessage::SaveYourselfRequest { .. } => 4,
-        XsmpMessage::InteractRequest { .. } => 5,
-        XsmpMessage::Interact => 6,
-        XsmpMessage::InteractDone { .. } => 7,
-        XsmpMessage::SaveYourselfDone { .. } => 8,
-        XsmpMessage::Die => 9,
-        XsmpMessage::ShutdownCancelled => 10,
-        XsmpMessage::ConnectionClosed { .. } => 11,
-        XsmpMessage::SetProperties { .. } => 12,
-        XsmpMessage::DeleteProperties { .. } => 13,
-        XsmpMessage::GetProperties => 14,
-        XsmpMessage::GetPropertiesReply { .. } => 15,
-        XsmpMessage::SaveYourselfPhase2Request => 16,
-        XsmpMessage::SaveYourselfPhase2 => 17,
-        XsmpMessage::SaveComplete => 18,
     }
 }
 

@@ -1,9 +1,10 @@
 -- What a world tells, and what the calls of its traits do to that.
-use Rattle.std.specs.Prelude.{◌≡◌, ◌⊎◌, ℕ, ◌-◌, ◌^◌, ◌<◌, ◌≤◌, List, [], ◌∷◌, ◌++◌, length, take, drop, Option, None, Some, Result, Ok, Err, IsErrOf}
+use Rattle.std.specs.Prelude.{◌≡◌, ◌⊎◌, ℕ, Bool, false, ◌-◌, ◌^◌, ◌<◌, ◌≤◌, List, [], ◌∷◌, ◌++◌, length, take, drop, Option, None, Some, Result, Ok, Err, IsErrOf}
 use Rattle.sm_world.specs.Events.{next_of}
 use Rattle.sm_world.specs.declared.effects.Effect.{Effect}
 use Rattle.sm_world.specs.declared.events.Event.{Event}
 use Rattle.sm_world.specs.declared.failures.Failure.{Failure}
+use Rattle.sm_world.specs.declared.failures.NoMemory.{NoMemory}
 use Rattle.sm_world.specs.declared.failures.Failure.TheVariants.{Failed}
 use Rattle.sm_world.specs.declared.failures.Faults.{Faults}
 
@@ -55,7 +56,7 @@ pub record NotFallen (old new : Faults) : Type 0 where
   pub spawner : old.spawner ≤ new.spawner
   pub console : old.console ≤ new.console
 
--- What no call of Links or Console changes: the store, and the files of a peer.
+-- What no call of Links, Spawner or Console changes: the store, and the files of a peer.
 pub record KeepsFiles (old new : Outside) : Type 0 where
   pub size : new.size ≡ old.size
   pub first : new.first ≡ old.first
@@ -69,6 +70,17 @@ pub record UsesLinks {A : Type 0} (old new : Outside) (result : Result A Failure
   pub spawner : new.faults.spawner ≡ old.faults.spawner
   pub console : new.faults.console ≡ old.faults.console
   pub kept : KeepsFiles old new
+  pub input : new.input ≡ old.input
+
+-- A command isn't started only where the count of Spawner rose. A call changes no other count, and nothing else that is told but the effects.
+pub record UsesSpawner (old new : Outside) (result : Result Bool NoMemory) : Type 0 where
+  pub cause : result ≡ Ok false → Rose old.faults.spawner new.faults.spawner
+  pub spawner : old.faults.spawner ≤ new.faults.spawner
+  pub disk : new.faults.disk ≡ old.faults.disk
+  pub links : new.faults.links ≡ old.faults.links
+  pub console : new.faults.console ≡ old.faults.console
+  pub kept : KeepsFiles old new
+  pub coming : new.coming ≡ old.coming
   pub input : new.input ≡ old.input
 
 -- A call of Console fails only where the count of Console rose. It changes no other count, and nothing else that is told but the effects and the input.

@@ -17,6 +17,7 @@ mod steady;
 mod tape;
 
 pub use bytes::Octets;
+pub use calls::Calls;
 pub use commands::Command;
 pub use crash::Choice;
 pub use disk::Disk;
@@ -28,7 +29,7 @@ pub use lists::{
     CommandList, ConnList, Duplicate, EventList, ListOf, NumberList, OctetsList, PairList,
 };
 pub use memory::MemWorld;
-pub use outside::{Console, Links, Told};
+pub use outside::{Console, Links, Spawner, Told};
 pub use steady::SteadyWorld;
 
 #[cfg(test)]

@@ -1,4 +1,4 @@
-ghost use Rattle.std.specs.Prelude.{◌≡◌, ◌≤◌, ◌+◌, ◌↔◌, ℕ, [], ◌∷◌, length, take, drop, Some, Contains, IsErr, IfOk, OnOk, OnErr};
+ghost use Rattle.std.specs.Prelude.{◌≡◌, ◌≤◌, ◌+◌, ◌↔◌, ℕ, [], ◌∷◌, length, take, drop, Some, not, Contains, IsErr, IfOk, OnOk, OnErr};
 ghost use Rattle.std.specs.List.{AllByRecursion};
 ghost use Rattle.sm_world.specs.Choices.{IsCrashFile};
 ghost use Rattle.sm_world.specs.Crash.{Image};
@@ -9,8 +9,8 @@ ghost use Rattle.sm_world.specs.Calls.{counted, one_more};
 use crate::calls::Calls;
 use crate::tape::Tape;
 use crate::{
-    Choice, Conn, Console, Disk, Effect, Event, EventList, Failed, Failure, Faults, Links,
-    NoMemory, NumberList, Octets, Told,
+    Choice, Command, Conn, Console, Disk, Duplicate, Effect, Event, EventList, Failed, Failure,
+    Faults, Links, NoMemory, NumberList, Octets, Spawner, Told,
 };
 use std::alloc::Global;
 
@@ -232,6 +232,30 @@ impl Links for MemWorld {
         self.call_links()?;
         self.tape.note(Effect::Shut(to))?;
         Ok(())
+    }
+}
+
+impl Spawner for MemWorld {
+    ghost use Rattle.sm_world.specs.Outside.{adds, of_ok, UsesSpawner};
+    ghost use Rattle.sm_world.specs.Worlds.{mem_outside, mem_calls, mem_unrecorded, mem_file, FailsByNumber};
+    ghost use Rattle.sm_world.specs.declared.effects.Effect.TheVariants.{Started};
+
+    fn start(&mut self, command: &Command) -> Result<bool, NoMemory>
+        ensures effects { (mem_outside self.new).told ≡ adds (mem_outside self.old).told (of_ok (Started command.now) result) }
+        ensures uses { UsesSpawner (mem_outside self.old) (mem_outside self.new) result }
+        ensures numbered { IfOk result (λ started. FailsByNumber (λ faults. faults.spawner) self.old self.new (not started)) }
+        ensures counts { mem_calls self.new ≡ counted (mem_calls self.old) }
+        ensures refused { OnErr result (mem_outside self.new ≡ mem_outside self.old) }
+        ensures unrecorded { mem_unrecorded self.new ≡ mem_unrecorded self.old }
+        ensures file { mem_file self.new ≡ mem_file self.old }
+    {
+        let fails = self.calls.count();
+        let command = command.copy()?;
+        self.tape.note(Effect::Started(command, !fails))?;
+        if fails {
+            self.faults.spawner = self.faults.spawner.saturating_add(1);
+        }
+        Ok(!fails)
     }
 }
 

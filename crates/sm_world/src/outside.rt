@@ -1,9 +1,9 @@
 ghost use Rattle.std.specs.Prelude.{◌≡◌, ◌≤◌, length, [], ◌∷◌, IfOk};
 ghost use Rattle.sm_world.specs.Events.{HasPieceSize};
-ghost use Rattle.sm_world.specs.Outside.{Outside, adds, on_ok, of_ok, UsesLinks, UsesConsole, TakesNext, Reads};
-ghost use Rattle.sm_world.specs.declared.effects.Effect.TheVariants.{Heard, Sent, Shut, Printed};
+ghost use Rattle.sm_world.specs.Outside.{Outside, adds, on_ok, of_ok, UsesLinks, UsesSpawner, UsesConsole, TakesNext, Reads};
+ghost use Rattle.sm_world.specs.declared.effects.Effect.TheVariants.{Heard, Sent, Shut, Started, Printed};
 
-use crate::{Conn, Event, Failure};
+use crate::{Command, Conn, Event, Failure, NoMemory};
 
 /// What a world tells of itself to contracts: the effects so far, how often each device failed,
 /// and what is still to come. The traits over it each change their own part.
@@ -37,6 +37,14 @@ pub trait Links: Told {
         ensures effects { (Self.outside self.new).told ≡ adds (Self.outside self.old).told (on_ok result (Shut to ∷ [])) }
         ensures coming { (Self.outside self.new).coming ≡ (Self.outside self.old).coming }
         ensures uses { UsesLinks (Self.outside self.old) (Self.outside self.new) result };
+}
+
+/// The programs of the session.
+pub trait Spawner: Told {
+    /// Starts a program and doesn't wait for its end; false where that failed.
+    fn start(&mut self, command: &Command) -> Result<bool, NoMemory>
+        ensures effects { (Self.outside self.new).told ≡ adds (Self.outside self.old).told (of_ok (Started command.now) result) }
+        ensures uses { UsesSpawner (Self.outside self.old) (Self.outside self.new) result };
 }
 
 /// The operator's input and output.

@@ -1,4 +1,4 @@
-ghost use Rattle.std.specs.Prelude.{◌≡◌, ◌≤◌, ◌+◌, [], ◌∷◌, length, take, drop, Some, is_err, IfOk, OnOk, OnErr};
+ghost use Rattle.std.specs.Prelude.{◌≡◌, ◌≤◌, ◌+◌, [], ◌∷◌, length, take, drop, Some, is_err, true, IfOk, OnOk, OnErr};
 ghost use Rattle.std.specs.List.{AllByRecursion};
 ghost use Rattle.sm_world.specs.Calls.{one_more, counted_if};
 ghost use Rattle.sm_world.specs.Choices.{IsCrashFile};
@@ -8,8 +8,8 @@ ghost use Rattle.sm_world.specs.Outside.{Rose};
 
 use crate::tape::Tape;
 use crate::{
-    Choice, Conn, Console, Disk, Effect, Event, EventList, Failed, Failure, Links, NoMemory,
-    Octets, Told,
+    Choice, Command, Conn, Console, Disk, Duplicate, Effect, Event, EventList, Failed, Failure,
+    Links, NoMemory, Octets, Spawner, Told,
 };
 use std::alloc::Global;
 
@@ -139,6 +139,24 @@ impl Links for SteadyWorld {
     {
         self.tape.note(Effect::Shut(to))?;
         Ok(())
+    }
+}
+
+impl Spawner for SteadyWorld {
+    ghost use Rattle.sm_world.specs.Outside.{adds, of_ok, UsesSpawner};
+    ghost use Rattle.sm_world.specs.Worlds.{steady_outside, steady_file, steady_unrecorded};
+    ghost use Rattle.sm_world.specs.declared.effects.Effect.TheVariants.{Started};
+
+    fn start(&mut self, command: &Command) -> Result<bool, NoMemory>
+        ensures effects { (steady_outside self.new).told ≡ adds (steady_outside self.old).told (of_ok (Started command.now) result) }
+        ensures uses { UsesSpawner (steady_outside self.old) (steady_outside self.new) result }
+        ensures starts { IfOk result (λ started. started ≡ true) }
+        ensures file { steady_file self.new ≡ steady_file self.old }
+        ensures unrecorded { steady_unrecorded self.new ≡ steady_unrecorded self.old }
+    {
+        let command = command.copy()?;
+        self.tape.note(Effect::Started(command, true))?;
+        Ok(true)
     }
 }
 

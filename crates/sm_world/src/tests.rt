@@ -4,7 +4,7 @@ ghost use Rattle.sm_world.specs.Events.{HasPieceSize};
 
 use crate::{
     Command, Console, Duplicate, Event, EventList, Failure, Links, MemWorld, NoMemory, NumberList,
-    Octets, OctetsList, Order, PairList, SteadyWorld,
+    Octets, OctetsList, Order, PairList, Spawner, SteadyWorld,
 };
 use std::alloc::Global;
 use std::fmt::Debug;
@@ -161,6 +161,37 @@ fn a_steady_world_tells_what_is_done(rt: HostRuntime) -> Result<(), Fail> {
     let want = "[Sent(1, Octets { bytes: [9] }), Heard(Joined(1)), Shut(1), \
         Printed(Octets { bytes: [104, 105] })]";
     expect_shown(&rt, &world.effects(), want)
+}
+
+/// How this world tells that the command was started, or that it wasn't.
+fn started(alloc: Global, answer: bool) -> Result<String, NoMemory> {
+    Ok(format!(in alloc;
+        "Started(Command {{ words: ListOf {{ items: [Octets {{ bytes: [120] }}] }}, \
+        directory: Octets {{ bytes: [47] }}, \
+        environment: ListOf {{ items: [(Octets {{ bytes: [65] }}, Octets {{ bytes: [49] }})] }} \
+        }}, {answer})"
+    )?)
+}
+
+#[test]
+fn a_steady_world_starts_programs(rt: HostRuntime) -> Result<(), Fail> {
+    let mut world = steady_world(rt.alloc())?;
+    assert!(rt; world.start(&command(rt.alloc())?)?);
+    let want = format!(in rt.alloc(); "[{}]", started(rt.alloc(), true)?)?;
+    expect_shown(&rt, &world.effects(), want.as_str())
+}
+
+#[test]
+fn the_starts_that_are_told_to_fail_do(rt: HostRuntime) -> Result<(), Fail> {
+    let mut world = failing_world(rt.alloc(), 2, 9)?;
+    let command = command(rt.alloc())?;
+    for want in [true, false, true] {
+        assert_eq!(rt; world.start(&command)?, want);
+    }
+    let good = started(rt.alloc(), true)?;
+    let bad = started(rt.alloc(), false)?;
+    let want = format!(in rt.alloc(); "[{good}, {bad}, {good}]")?;
+    expect_shown(&rt, &world.effects(), want.as_str())
 }
 
 /// The call of this number in a run that makes each call once.

@@ -11,7 +11,8 @@ use ice_values::{
 };
 use sm_world::{NoMemory, Octets};
 
-fn minor(message: &XsmpMessage) -> u8
+/// The minor opcode of a message (XSMP, chapter 10: Messages).
+pub fn minor(message: &XsmpMessage) -> u8
     ensures { result ≡ minor_of message.now }
 {
     match message {

@@ -10,6 +10,6 @@ mod message;
 mod tests;
 
 pub use decoding::decode_xsmp;
-pub use encoding::encode_xsmp;
+pub use encoding::{encode_xsmp, minor};
 pub use laws::{an_encoded_message_is_decoded, cut_bytes_are_refused, decoding_is_exact};
 pub use message::{LAST_XSMP_MINOR, XsmpMessage};

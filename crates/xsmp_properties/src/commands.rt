@@ -33,7 +33,8 @@ pub fn directory_of(alloc: Global, table: &PropertyTable) -> Result<Octets, NoMe
     }
 }
 
-fn is_environment(values: &[Array8]) -> bool
+/// Whether these are the names and values of an environment in turn.
+pub fn is_environment(values: &[Array8]) -> bool
     ensures { result ≡ is_environment values.now }
 {
     let mut left = values;
@@ -46,7 +47,8 @@ fn is_environment(values: &[Array8]) -> bool
     left.is_empty()
 }
 
-fn in_pairs(alloc: Global, values: &[Array8]) -> Result<PairList, NoMemory>
+/// Names and values in turn as pairs. A name without a value is left out.
+pub fn in_pairs(alloc: Global, values: &[Array8]) -> Result<PairList, NoMemory>
     ensures { IfOk result (λ pairs. pairs ≡ in_pairs values.now) }
 {
     let mut pairs = PairList::new(alloc);

@@ -10,7 +10,8 @@ mod table;
 mod tests;
 mod texts;
 
-pub use commands::{command_of, directory_of, environment_of};
+pub use commands::{command_of, directory_of, environment_of, in_pairs, is_environment};
 pub use hints::{Hint, hint_of};
 pub use refusals::SetRefusal;
 pub use table::PropertyTable;
+pub use texts::{are_words, is_text};

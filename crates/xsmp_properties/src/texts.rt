@@ -13,7 +13,7 @@ fn is_utf8(bytes: &[u8]) -> bool
 }
 
 /// Whether these bytes are UTF-8 without NUL.
-pub(crate) fn is_text(bytes: &[u8]) -> bool
+pub fn is_text(bytes: &[u8]) -> bool
     ensures { result ≡ is_text bytes.now }
 {
     is_utf8(bytes) && !bytes.contains(&0)
@@ -33,7 +33,7 @@ fn are_texts(values: &[Array8]) -> bool
 }
 
 /// Whether these are the words of a command: a program and its arguments.
-pub(crate) fn are_words(values: &[Array8]) -> bool
+pub fn are_words(values: &[Array8]) -> bool
     ensures { result ≡ are_words values.now }
 {
     let [program, ..] = values else {
