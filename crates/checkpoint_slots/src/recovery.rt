@@ -1,6 +1,7 @@
 ghost use Rattle.std.specs.Prelude.{Some, ◌^◌, ◌≡◌, ◌+◌, ◌≤◌, ◌<◌, ℕ, List, length, take, drop, slice_index, IfOk, IfErr, OnOk, Ok, Err, false, true, nat_lt};
 ghost use Rattle.sm_world.specs.Disk.{KeepsToldSize, UsesDisk, has_failed};
 ghost use Rattle.checkpoint_records.specs.Damage.{StandFor};
+ghost use Rattle.checkpoint_records.specs.Rules.{KeepsRules};
 ghost use Rattle.checkpoint_slots.specs.Layout.{start_of, gate_at, is_gate_open as opens, is_open, slot_of};
 ghost use Rattle.checkpoint_slots.specs.Recovery.{Recovers, SlotStands, chosen, generation_of, length_of, may_be_length};
 ghost use Rattle.checkpoint_slots.specs.Turns.{HasCurrent, SteadyFile};
@@ -146,6 +147,7 @@ fn whole_book(alloc: Global, at: u64, bytes: &[u8]) -> Result<Book, StoreFault>
 fn read_slot<D: Disk>(alloc: Global, disk: &mut D, slot: Slot) -> Result<Book, StoreFault>
     requires { (D.outside disk.old).size ≡ 16777280 }
     ensures found { Finds (D.outside disk.old) (λ file book. SlotStands (start_of slot) (slot_of file slot) (Ok book)) (λ file at. SlotStands (start_of slot) (slot_of file slot) (Err at)) result }
+    ensures rules { IfOk result KeepsRules }
     ensures world { Looks (D.outside disk.old) (D.outside disk.new) (is_disk_fault result) }
 {
     let count = book_length(disk, slot)?;
@@ -180,6 +182,7 @@ impl Steady {
         ensures size { IfOk result (λ recovered. (D.outside disk.new).size ≡ 16777280) }
         ensures kept { KeepsToldSize (D.outside disk.old) (D.outside disk.new) }
         ensures recovers { (file : List ℕ) → IsSettled (D.outside disk.old) file → IfOk result (λ recovered. SteadyFile recovered.0 recovered.1 file) }
+        ensures rules { IfOk result (λ recovered. KeepsRules recovered.1) }
         ensures cause { IfErr result (IsRecoveryFault (D.outside disk.old) (D.outside disk.new).size) }
         ensures uses { UsesDisk (D.outside disk.old) (D.outside disk.new) (is_disk_fault result) }
     {

@@ -1,4 +1,4 @@
-ghost use Rattle.std.specs.Prelude.{◌≡◌, ◌+◌, ◌++◌, replicate, ◌≤◌, ◌<◌, ◌^◌, ◌∷◌, [], length, is_err, IfOk, IfErr, OnOk, Err};
+ghost use Rattle.std.specs.Prelude.{◌≡◌, ◌+◌, ◌++◌, replicate, ◌≤◌, ◌<◌, ◌^◌, ◌∷◌, [], length, is_err, IfOk, IfErr, OnOk, Err, Some};
 ghost use Rattle.byteorder.specs.Endian.{little_bytes};
 ghost use Rattle.sm_world.specs.Disk.{UsesDisk};
 ghost use Rattle.sm_world.specs.Outside.{Added};
@@ -194,6 +194,7 @@ impl Filled {
     pub fn lift<D: Disk>(self, disk: &mut D) -> Result<Steady, StoreFault>
         requires { (D.outside disk.old).size ≡ 16777280 }
         ensures effects { Added (D.outside disk.old).told (D.outside disk.new).told (Lifts self result) }
+        ensures next { next_generation self < 2 ^ 64 → IfOk result (λ steady. steady ≡ Some (record { slot = next_slot self; generation = next_generation self })) }
         ensures size { (D.outside disk.new).size ≡ (D.outside disk.old).size }
         ensures uses { UsesDisk (D.outside disk.old) (D.outside disk.new) (is_err result) }
         ensures cause { IfErr result (λ fault. fault ≡ FaultOfDisk) }
