@@ -31,7 +31,8 @@ recovers-once file one two p q = choice-once file (chosen file) one two p q
 same-byte : (x y : ℕ) → IsTrue (x == y) → x ≡ y
 same-byte x y e = grind (arith, e)
 
-only-file : (first file : List ℕ) → Image first [] file → file ≡ first
+-- a crash before any effect leaves the file as it is
+pub only-file : (first file : List ℕ) → Image first [] file → file ≡ first
 only-file first file image = same_number_lists file first image.size (λ i within. same-byte (slice_index file i) (slice_index first i) (image.bytes i (subst (λ (n : ℕ). i < n) image.size within)))
 
 pub settled-stands : SettledStoresStand

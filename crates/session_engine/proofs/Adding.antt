@@ -9,12 +9,12 @@ use Rattle.sm_world.specs.declared.effects.Effect.{Effect}
 use Rattle.sm_world.specs.declared.failures.Faults.{Faults}
 use Rattle.sm_world.proofs.Adding.{adds-adds, adds-none}
 use Rattle.session_engine.specs.Acts.{deed_in}
-use Rattle.session_engine.specs.Carries.{Going, CarriesOut, item_of}
+use Rattle.session_engine.specs.Doing.{Going, item_of}
 use Rattle.session_engine.specs.Causes.{IsCaused, HasCause, fault_of}
 use Rattle.session_engine.specs.Machine.{Did}
 use Rattle.session_engine.specs.declared.acts.Act.{Act}
 use Rattle.session_engine.specs.declared.fault.Halt.{Halt}
-use Rattle.session_engine.specs.declared.fault.Halt.TheVariants.{Links, Console, NoMemory}
+use Rattle.session_engine.specs.declared.fault.Halt.TheVariants.{Links, Console, Disk, Worn, NoMemory}
 use Rattle.session_engine.specs.declared.fault.ServeFault.TheVariants.{Spent}
 
 -- nothing was done, and all is left
@@ -40,7 +40,7 @@ pub record IsDoneBy (effect : Effect) (act : Act) : Type 0 where
   pub does : deed_of effect ≡ deed_in act
   pub shows : item_of effect ≡ map Did (deed_in act)
 
-one_going : (effect : Effect) (act : Act) → IsDoneBy effect act → Going (act ∷ []) [] (effect ∷ [])
+pub one_going : (effect : Effect) (act : Act) → IsDoneBy effect act → Going (act ∷ []) [] (effect ∷ [])
 one_going effect act is_done = record {
   deaf = rw (is_done.deaf) refl;
   quiet = rw (is_done.quiet) refl;
@@ -50,79 +50,12 @@ one_going effect act is_done = record {
   in_order = rw (is_done.does, is_done.shows) (append-nil (map Did (deed_in act)) ∙ ap (map Did) (sym (append-nil (deed_in act))));
 }
 
--- one call of a device: at an error nothing was done
-pub one_act : {X : Type 0} (effect : Effect) (act : Act) → IsDoneBy effect act → (old new : Option (List Effect)) (result : Result X Halt) → new ≡ adds old (on_ok result (effect ∷ [])) → Added old new (CarriesOut (act ∷ []) (is_ok result))
-one_act effect act is_done old new (Ok x) added = record {
-  effects = effect ∷ [];
-  added = added;
-  holds = record { left = []; going = one_going effect act is_done; none_left = λ e. refl };
-}
-one_act effect act is_done old new (Err halt) added = record {
-  effects = [];
-  added = added;
-  holds = record { left = act ∷ []; going = still (act ∷ []); none_left = λ e. absurd (false≢true e) };
-}
-
--- what is hidden is nothing that a device does
-pub hidden : (act : Act) → deed_in act ≡ [] → (old : Option (List Effect)) → Added old old (CarriesOut (act ∷ []) true)
-hidden act none old = record {
-  effects = [];
-  added = sym (adds-none old);
-  holds = record { left = []; going = record { deaf = refl; quiet = refl; done = act ∷ []; parts = refl; so_far = rw none refl; in_order = refl }; none_left = λ e. refl };
-}
-
--- nothing had to be done
-pub untouched : (whole : Bool) (old : Option (List Effect)) → Added old old (CarriesOut [] whole)
-untouched whole old = record {
-  effects = [];
-  added = sym (adds-none old);
-  holds = record { left = []; going = still []; none_left = λ e. refl };
-}
-
--- nothing was done of what was to be done
-pub given_up : (acts : List Act) (old : Option (List Effect)) → Added old old (CarriesOut acts false)
-given_up acts old = record {
-  effects = [];
-  added = sym (adds-none old);
-  holds = record { left = acts; going = still acts; none_left = λ e. absurd (false≢true e) };
-}
-
--- before the first of some acts
-pub all_left : (acts : List Act) (old : Option (List Effect)) → Added old old (Going acts acts)
-all_left acts old = record { effects = []; added = sym (adds-none old); holds = still acts }
-
--- these acts were done too, which begin what was left
-pub done_too : (all acts rest : List Act) (old middle new : Option (List Effect)) → Added old middle (Going all (acts ++ rest)) → Added middle new (CarriesOut acts true) → Added old new (Going all rest)
-done_too all acts rest old middle new one two = record {
-  effects = one.effects ++ two.effects;
-  added = two.added ∙ (ap (λ t. adds t two.effects) one.added ∙ adds-adds old one.effects two.effects);
-  holds = rw (two.holds.none_left refl) at (going_on all acts rest two.holds.left one.effects two.effects one.holds two.holds.going);
-}
-
--- of these acts some were done, and then no more
-pub halted : (all acts rest : List Act) (old middle new : Option (List Effect)) → Added old middle (Going all (acts ++ rest)) → Added middle new (CarriesOut acts false) → Added old new (CarriesOut all false)
-halted all acts rest old middle new one two = record {
-  effects = one.effects ++ two.effects;
-  added = two.added ∙ (ap (λ t. adds t two.effects) one.added ∙ adds-adds old one.effects two.effects);
-  holds = record {
-    left = two.holds.left ++ rest;
-    going = going_on all acts rest two.holds.left one.effects two.effects one.holds two.holds.going;
-    none_left = λ e. absurd (false≢true e);
-  };
-}
-
--- nothing is left
-pub all_done : (all : List Act) (old new : Option (List Effect)) → Added old new (Going all []) → Added old new (CarriesOut all true)
-all_done all old new going = record { effects = going.effects; added = going.added; holds = record { left = []; going = going.holds; none_left = λ e. refl } }
-
--- no more is done of what is left
-pub stopped : (all left : List Act) (old new : Option (List Effect)) → Added old new (Going all left) → Added old new (CarriesOut all false)
-stopped all left old new going = record { effects = going.effects; added = going.added; holds = record { left = left; going = going.holds; none_left = λ e. absurd (false≢true e) } }
-
 -- a halt is no want of turns
 pub never_spent : (halt : Halt) → fault_of halt ≡ Spent → ⊥
 never_spent Links e = absurd cc
 never_spent Console e = absurd cc
+never_spent Disk e = absurd cc
+never_spent Worn e = absurd cc
 never_spent NoMemory e = absurd cc
 
 -- the cause of a halt in the later of two parts of a call is one in the whole call
@@ -131,10 +64,15 @@ cause_later first second third Links one (inl rose) = inl (omega (arith, one.lin
 cause_later first second third Links one (inr full) = inr full
 cause_later first second third Console one (inl rose) = inl (omega (arith, one.console))
 cause_later first second third Console one (inr full) = inr full
+cause_later first second third Disk one (inl rose) = inl (omega (arith, one.disk))
+cause_later first second third Disk one (inr full) = inr full
+cause_later first second third Worn one cause = tt
 cause_later first second third NoMemory one cause = tt
 
 -- ... and one of the run's fault
 pub fault_cause : (old new : Faults) (halt : Halt) → IsCaused old new halt → HasCause old new (fault_of halt)
 fault_cause old new Links cause = cause
 fault_cause old new Console cause = cause
+fault_cause old new Disk cause = cause
+fault_cause old new Worn cause = tt
 fault_cause old new NoMemory cause = tt

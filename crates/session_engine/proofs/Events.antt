@@ -4,9 +4,7 @@ use Rattle.std.specs.Option.{is_some}
 use Rattle.std.proofs.lemmas.List.{append-nil}
 use Rattle.std.proofs.lemmas.Bool.{false≢true}
 use Rattle.std.proofs.lemmas.Grind.{flat_map-append}
-use Rattle.std.specs.List.{flat_map, IsDistinct}
-use Rattle.checkpoint_records.specs.Books.{empty_book}
-use Rattle.checkpoint_records.specs.Rules.{KeepsRules}
+use Rattle.std.specs.List.{flat_map}
 use Rattle.ice_messages.specs.declared.message.IceMessage.TheVariants.{ByteOrder}
 use Rattle.ice_values.specs.declared.numbers.Endian.TheVariants.{Lsb}
 use Rattle.sm_world.specs.declared.events.Event.TheVariants.{Joined, Gone, Operator}
@@ -126,13 +124,3 @@ gives-refused c m before engine shows absent gives gone =
     let s : Step = told (joining m c) (HasJoined c) in
     join-by m c engine (none_by (connection_of c m.connections) (is-live m c before shows ∙ absent))
     (greeted-by c s None engine engine (none_by (connection_of c s.next.connections) (is-live s.next c engine gives.shows ∙ gone)) gives refl refl refl (sym (append-nil engine.acts)))
-
--- ---- the opening
-
-distinct-none : {K : Type 0} (e : K → K → Bool) → IsDistinct e []
-unfolding IsDistinct
-distinct-none e = tt
-
--- the empty book keeps the rules of the store
-pub rules-empty : KeepsRules empty_book
-rules-empty = record { few_entries = omega arith; few_pending = omega arith; entries = tt; commands = tt; ids_differ = distinct-none _; commands_differ = distinct-none _; none_named = tt }

@@ -2,6 +2,8 @@ pub mod CutLemmas
 pub mod Parts
 pub mod Connections
 pub mod Adding
+pub mod Performing
+pub mod Storing
 pub mod Inner
 pub mod Following
 pub mod Showing
@@ -10,6 +12,9 @@ pub mod Answering
 pub mod Events
 pub mod Limits
 pub mod Running
+pub mod Opening
+pub mod Brought
+pub mod Sessions
 pub mod Pieces
 pub mod Seats
 pub mod Loop

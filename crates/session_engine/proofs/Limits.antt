@@ -1,10 +1,12 @@
 -- How many connections are live.
+use Rattle.std.specs.Option.{is_some}
 use Rattle.std.proofs.Common.{◌≡◌, ℕ, ◌<◌, ◌≤◌, nat_eq, Bool, true, false, List, [], ◌∷◌, ◌++◌, length, Option, Some, None, refl, sym, ◌∙◌, ap, arith, append_assoc, length-append, ◌||◌, if◌then◌else◌}
 use Rattle.std.specs.Prelude.{nat_le}
 use Rattle.std.proofs.lemmas.List.{append-nil, length-map}
 use Rattle.std.proofs.lemmas.Bool.Decides.{nat_tests}
 use Rattle.sm_world.specs.declared.events.Event.{Event}
 use Rattle.sm_world.specs.declared.events.Event.TheVariants.{Joined, Piece, Gone, Operator, Tick, End}
+use Rattle.checkpoint_records.specs.declared.records.Book.{Book}
 use Rattle.ice_cookie.specs.declared.cookies.Cookie.{Cookie}
 use Rattle.session_model.specs.Moves.{History, Move, ◌▷◌, acts_of as acts_by, all_acts}
 use Rattle.session_model.specs.Phases.{is_bound}
@@ -27,6 +29,7 @@ use Rattle.session_engine.specs.declared.acts.Act.TheVariants.{Shut}
 use Rattle.session_engine.specs.declared.answers.Answer.{Answer}
 use Rattle.session_engine.specs.declared.answers.Answer.TheVariants.{Stays, Begins, Closes, Speaks, Asks}
 use Rattle.session_engine.specs.declared.answers.Outcome.{Outcome}
+use Rattle.session_engine.proofs.Opening.{opened_live, opened_phase}
 use Rattle.session_engine.proofs.Answering.{agrees-for}
 use Rattle.session_engine.proofs.Connections.{same, length-changed}
 use Rattle.session_engine.proofs.Following.{agrees-changed, agrees-joined, agrees-left, agrees-ordered, agrees-said, agrees-told, since-is}
@@ -182,8 +185,8 @@ few-all : (m : Machine) (events : List Event) → Agrees m.connections m.session
 few-all m [] agrees few = few
 few-all m (event ∷ events) agrees few = few-all (step m event).next events (agrees-step m event agrees) (few-step m event agrees few)
 
-pub agrees-start : (cookie : Cookie) → Agrees (start cookie).connections (start cookie).session
-agrees-start cookie = record { numbers = refl; phases = λ q. refl }
+pub agrees-start : (cookie : Cookie) (book : Book) → Agrees (start cookie book).connections (start cookie book).session
+agrees-start cookie book = record { numbers = sym (opened_live book); phases = λ q. ap is_some (opened_phase book q) }
 
-pub always_few : (cookie : Cookie) (events : List Event) → length (after_all (start cookie) events).connections ≤ live_limit
-always_few cookie events = few-all (start cookie) events (agrees-start cookie) (omega arith)
+pub always_few : (cookie : Cookie) (book : Book) (events : List Event) → length (after_all (start cookie book) events).connections ≤ live_limit
+always_few cookie book events = few-all (start cookie book) events (agrees-start cookie book) (omega arith)

@@ -1,21 +1,132 @@
 -- The engine's loop: what one turn adds to the effects of a run, whether the world tells them or not.
-use Rattle.std.proofs.Common.{◌≡◌, ℕ, suc, ◌<◌, ◌≤◌, true, false, List, [], ◌∷◌, ◌++◌, Option, Ok, Err, refl, ◌∙◌, ap, append_assoc}
-use Rattle.sm_world.specs.Effects.{heard}
-use Rattle.sm_world.specs.Outside.{adds, TakesNext, Added}
+use Rattle.std.proofs.Common.{◌≡◌, ◌≢◌, ◌⊎◌, inl, inr, ℕ, zero, suc, ◌+◌, ◌<◌, ◌≤◌, Bool, true, false, List, [], ◌∷◌, ◌++◌, length, take, drop, Option, Some, None, Result, Ok, Err, IsOk, IsErrOf, refl, sym, ◌∙◌, ap, subst, append_assoc, arith}
+use Rattle.std.proofs.lemmas.Bool.{false≢true}
+use Rattle.std.proofs.lemmas.List.{append-nil}
+use Rattle.sm_world.specs.Crash.{Image}
+use Rattle.sm_world.specs.Disk.{HasToldSize}
+use Rattle.sm_world.specs.Effects.{deeds, heard, published}
+use Rattle.sm_world.specs.Outside.{Added, Outside, TakesNext, adds}
 use Rattle.sm_world.specs.declared.effects.Effect.{Effect}
 use Rattle.sm_world.specs.declared.effects.Effect.TheVariants.{Heard}
 use Rattle.sm_world.specs.declared.events.Event.{Event}
+use Rattle.sm_world.proofs.Adding.{adds-adds, adds-none}
+use Rattle.checkpoint_records.specs.declared.records.Book.{Book}
+use Rattle.checkpoint_slots.specs.Causes.{IsRecoveryFault, IsSettled}
+use Rattle.checkpoint_slots.specs.Recovery.{Recovers}
+use Rattle.checkpoint_slots.specs.Turns.{SteadyFile, SteadyStands}
+use Rattle.checkpoint_slots.specs.declared.fault.StoreFault.{StoreFault}
+use Rattle.checkpoint_slots.specs.declared.fault.StoreFault.TheVariants.{WrongSize as HasWrongSize, Damaged as IsDamaged, DiskFault as FailsOnDisk, Worn as IsWorn, NoMemory as LacksMemory}
+use Rattle.checkpoint_slots.specs.declared.turn.Current.{Current}
+use Rattle.checkpoint_slots.proofs.Once.{only-file, recovers-once, settled-stands}
 use Rattle.ice_cookie.specs.declared.cookies.Cookie.{Cookie}
-use Rattle.session_engine.specs.Acts.{has_finish}
-use Rattle.session_engine.specs.Machine.{Machine, acts_of, opening_acts, start, step, after_all}
-use Rattle.session_engine.specs.Carries.{CarriesOut, Serves}
-use Rattle.session_engine.specs.Shown.{Shows, Carried, all_cut}
+use Rattle.session_model.specs.Readings as of
+use Rattle.session_model.specs.declared.marks.Marks.{Marks}
+use Rattle.session_engine.specs.Acts.{book_after, deeds_in, has_finish}
+use Rattle.session_engine.specs.Carries.{Brought, FailsOr, IsRecovered, IsUnopened, KeepsItsWord, Opens, Rests, Runs, Serves, is_whole, script}
+use Rattle.session_engine.specs.Causes.{IsNotWorn, IsOfRun, fault_of, opening_fault_of}
+use Rattle.session_engine.specs.Machine.{Machine, acts_of, after_all, opening_acts, start, step}
+use Rattle.session_engine.specs.Saved.{IsSaved, Performs}
+use Rattle.session_engine.specs.Session.{IsCut, Serving, StandsFor, Starts, StepsTo, kept}
+use Rattle.session_engine.specs.Shown.{Carried, IsShown, Shows, all_cut}
 use Rattle.session_engine.specs.declared.engine.Engine.{Engine}
 use Rattle.session_engine.specs.declared.fault.Halt.{Halt}
+use Rattle.session_engine.specs.declared.fault.Halt.TheVariants.{Links, Console, Disk, Worn as WearsIt, NoMemory as WantsMemory}
 use Rattle.session_engine.specs.declared.fault.ServeFault.{ServeFault}
-use Rattle.session_engine.specs.declared.fault.ServeFault.TheVariants.{Spent}
-use Rattle.sm_world.proofs.Adding.{adds-adds, adds-none}
-use Rattle.session_engine.proofs.Running.{Runs, runs_begin, goes_on, is_end, is_cut_short, is_over, is_unopened}
+use Rattle.session_engine.specs.declared.fault.ServeFault.TheVariants.{Damaged, WrongSize, DiskFault, LinkFault, ConsoleFault, Worn, Spent, NoMemory}
+use Rattle.session_engine.specs.declared.session.Session.{Session}
+use Rattle.session_engine.specs.declared.session.Stepped.{Stepped}
+use Rattle.session_engine.specs.declared.session.Stepped.TheVariants.{Goes, Finished}
+use Rattle.session_engine.proofs.Adding.{never_spent}
+use Rattle.session_engine.proofs.Brought.{BroughtSoFar, brought_is, brought_more, brought_none, brought_nothing, length-more}
+use Rattle.session_engine.proofs.Running.{after_all-more, heard-more, none_is_heard}
+use Rattle.session_engine.proofs.Sessions.{halt_of_run, runs_cut_short, runs_end, runs_over, runs_unopened, stands_begin, stands_more, the_fault}
+
+-- The loop
+
+-- between two events: what the session stands for, and how much was heard
+pub record Holds (cookie : Cookie) (coming left : Option (List Event)) (n : ℕ) (session : Session) (opening : Book) (current : Option Current) (effects : List Effect) : Type 0 where
+  pub stands : StandsFor cookie opening current session effects
+  pub count : length (heard effects) ≡ n
+  pub brought : BroughtSoFar coming left (heard effects)
+
+-- what holds as a turn of the loop begins
+abbrev pub InLoop : Cookie → Outside → Outside → ℕ → Session → Type 0
+InLoop cookie old now n session = Opens old now (Holds cookie old.coming now.coming n session)
+
+pub loop_begins : (cookie : Cookie) (old now : Outside) (session : Session) → now.coming ≡ old.coming → Starts cookie old now (Ok session) → InLoop cookie old now 0 session
+loop_begins cookie old now session same starts = record {
+  book = starts.book;
+  current = starts.current;
+  recovered = starts.recovered;
+  size = starts.size;
+  below = starts.below;
+  adds = record {
+    effects = starts.adds.effects;
+    added = starts.adds.added;
+    holds = record {
+      stands = starts.adds.holds.0;
+      count = ap length starts.adds.holds.1;
+      brought = rw (starts.adds.holds.1, same) (brought_none old.coming);
+    };
+  };
+}
+
+-- the session in memory shows a machine
+pub shown_in : (cookie : Cookie) (old now : Outside) (n : ℕ) (session : Session) → InLoop cookie old now n session → IsShown all_cut session.engine
+shown_in cookie old now n session held = (after_all (start cookie held.book) (heard held.adds.effects), held.adds.holds.stands.shows)
+
+-- a fault as the store was opened
+pub loop_unopened : (cookie : Cookie) (turns : ℕ) (old new : Outside) (fault : ServeFault) → Starts cookie old new (Err fault) → Serving cookie turns old new (Err fault)
+loop_unopened cookie turns old new fault (inl rests) = inl rests
+loop_unopened cookie turns old new fault (inr opens) = inr (record {
+  book = opens.book;
+  current = opens.current;
+  recovered = opens.recovered;
+  size = opens.size;
+  below = opens.below;
+  adds = record {
+    effects = opens.adds.effects;
+    added = opens.adds.added;
+    holds = record {
+      runs = opens.adds.holds.0.runs;
+      brought = rw (opens.adds.holds.1) (brought_nothing old.coming);
+      in_turns = rw (opens.adds.holds.1) (omega arith);
+      spent = λ e. absurd (opens.adds.holds.0.in_time (the_fault fault Spent e));
+    };
+  };
+})
+
+-- the faults of what was heard
+not_worn : (halt : Halt) → IsNotWorn {A = Event} (Err halt) → fault_of halt ≡ Worn → ⊥
+not_worn Links able e = cc
+not_worn Console able e = cc
+not_worn Disk able e = cc
+not_worn WearsIt able e = able
+not_worn WantsMemory able e = cc
+
+-- no more came
+pub loop_over : (cookie : Cookie) (turns n : ℕ) (old now new : Outside) (session : Session) (fault : ServeFault) → n ≤ turns → (fault ≡ Worn → ⊥) → IsOfRun fault → (fault ≡ Spent → n ≡ turns) → new.told ≡ now.told → new.size ≡ now.size → InLoop cookie old now n session → Serving cookie turns old new (Err fault)
+loop_over cookie turns n old now new session fault in_turns able opened at_end quiet sized held = inr (record {
+  book = held.book;
+  current = held.current;
+  recovered = held.recovered;
+  size = sized ∙ held.size;
+  below = held.below;
+  adds = record {
+    effects = held.adds.effects;
+    added = quiet ∙ held.adds.added;
+    holds = record {
+      runs = runs_over cookie held.book held.current session fault held.adds.effects able opened held.adds.holds.stands;
+      brought = brought_is old.coming now.coming (heard held.adds.effects) held.adds.holds.brought;
+      in_turns = omega (arith, held.adds.holds.count);
+      spent = λ e. (held.adds.holds.count ∙ at_end (the_fault fault Spent e), held.adds.holds.stands.unfinished);
+    };
+  };
+})
+
+pub loop_silent : (cookie : Cookie) (turns n : ℕ) (old now new : Outside) (session : Session) (halt : Halt) → n < turns → IsNotWorn {A = Event} (Err halt) → new.told ≡ adds now.told [] → new.size ≡ now.size → InLoop cookie old now n session → Serving cookie turns old new (Err (fault_of halt))
+loop_silent cookie turns n old now new session halt in_turns able quiet sized held =
+    loop_over cookie turns n old now new session (fault_of halt) (omega arith) (not_worn halt able) (halt_of_run halt) (λ e. absurd (never_spent halt e)) (quiet ∙ adds-none now.told) sized held
 
 -- what was heard, and what its step added
 heard_step : (old now between later : Option (List Effect)) (es ds : List Effect) (event : Event) → now ≡ adds old es → between ≡ adds now (Heard event ∷ []) → later ≡ adds between ds → later ≡ adds old (es ++ Heard event ∷ ds)
@@ -23,49 +134,239 @@ heard_step old now between later es ds event first second third =
     third ∙ (ap (λ t. adds t ds) (second ∙ (ap (λ t. adds t (Heard event ∷ [])) first ∙ adds-adds old es (Heard event ∷ [])))
     ∙ (adds-adds old (es ++ Heard event ∷ []) ds ∙ ap (adds old) (append_assoc es (Heard event ∷ []) ds)))
 
--- in a session with this cookie
-module _ (cookie : Cookie) where
-  pub loop_begins : (old now : Option (List Effect)) (coming : Option (List Event)) (engine : Engine) → Added old now (CarriesOut opening_acts true) → Shows all_cut engine (start cookie) → Added old now (Runs cookie coming coming engine 0)
-  loop_begins old now coming engine out shows = record { effects = out.effects; added = out.added; holds = runs_begin cookie coming engine out.effects out.holds shows }
+-- what a step was called with and what it promised, in the loop
+abbrev pub Stepping : Outside → Outside → Session → Event → Result Stepped ServeFault → Type 0
+Stepping between later session event answer =
+    (cookie : Cookie) (opening : Book) (current : Option Current) (effects : List Effect) → StandsFor cookie opening current session effects
+    → Added between.told later.told (λ added. (heard added ≡ []) × StepsTo cookie opening current answer (effects ++ Heard event ∷ added))
 
-  pub loop_unopened : (old now : Option (List Effect)) (coming : Option (List Event)) (turns : ℕ) (fault : ServeFault) → (fault ≡ Spent → ⊥) → Added old now (CarriesOut opening_acts false) → Added old now (Serves cookie coming turns (Err fault))
-  loop_unopened old now coming turns fault apart out = record { effects = out.effects; added = out.added; holds = is_unopened cookie coming turns out.effects fault apart out.holds }
+pub loop_goes_on : (cookie : Cookie) (n more : ℕ) (old now between later : Outside) (session next : Session) (event : Event) → more ≡ suc n → InLoop cookie old now n session → between.told ≡ adds now.told (Heard event ∷ []) → TakesNext {E = Halt} now.coming between.coming (Ok event) → later.coming ≡ between.coming → later.size ≡ 16777280 → Stepping between later session event (Ok (Goes next)) → InLoop cookie old later more next
+loop_goes_on cookie n more old now between later session next event is_more held was_heard takes same sized steps =
+    let es = held.adds.effects in
+    let step = steps cookie held.book held.current es held.adds.holds.stands in
+    let is_heard = heard-more es step.effects event step.holds.0 in
+    record {
+      book = held.book;
+      current = held.current;
+      recovered = held.recovered;
+      size = sized;
+      below = held.below;
+      adds = record {
+        effects = es ++ Heard event ∷ step.effects;
+        added = heard_step old.told now.told between.told later.told es step.effects event held.adds.added was_heard step.added;
+        holds = record {
+          stands = step.holds.1;
+          count = ap length is_heard ∙ (length-more (heard es) event ∙ (ap suc held.adds.holds.count ∙ sym is_more));
+          brought = rw (is_heard, same) (brought_more old.coming now.coming between.coming (heard es) event held.adds.holds.brought takes);
+        };
+      };
+    }
 
-  pub loop_goes_on : (old now between later : Option (List Effect)) (coming left after last : Option (List Event)) (engine next : Engine) (n more : ℕ) (event : Event) → more ≡ suc n → Added old now (Runs cookie coming left engine n) → between ≡ adds now (Heard event ∷ []) → TakesNext {E = Halt} left after (Ok event) → last ≡ after → ((m : Machine) → Shows all_cut engine m → Carried between later next (step m event) true) → ((m : Machine) → Shows all_cut engine m → has_finish (acts_of (step m event)) ≡ false) → Added old later (Runs cookie coming last next more)
-  loop_goes_on old now between later coming left after last engine next n more event is_more runs was_heard takes is_last carried goes =
-      let es = runs.effects in
-      let m : Machine = after_all (start cookie) (heard es) in
-      let out = carried m runs.holds.shows in
-      rw (is_more, is_last) (record {
-        effects = es ++ Heard event ∷ out.acts.effects;
-        added = heard_step old now between later es out.acts.effects event runs.added was_heard out.acts.added;
-        holds = goes_on cookie coming left after engine next n es out.acts.effects event runs.holds takes out.acts.holds (out.shows refl) (goes m runs.holds.shows);
-      })
+pub loop_ends : (cookie : Cookie) (turns n : ℕ) (old now between later : Outside) (session : Session) (event : Event) (stepped : Stepped) (marks : Marks) → stepped ≡ Finished marks → n < turns → InLoop cookie old now n session → between.told ≡ adds now.told (Heard event ∷ []) → TakesNext {E = Halt} now.coming between.coming (Ok event) → later.size ≡ 16777280 → Stepping between later session event (Ok stepped) → Serving cookie turns old later (Ok tt)
+loop_ends cookie turns n old now between later session event stepped marks is in_turns held was_heard takes sized steps =
+    let es = held.adds.effects in
+    let finished : Stepping between later session event (Ok (Finished marks)) = rw is at steps in
+    let step = finished cookie held.book held.current es held.adds.holds.stands in
+    let is_heard = heard-more es step.effects event step.holds.0 in
+    record {
+      book = held.book;
+      current = held.current;
+      recovered = held.recovered;
+      size = sized;
+      below = held.below;
+      adds = record {
+        effects = es ++ Heard event ∷ step.effects;
+        added = heard_step old.told now.told between.told later.told es step.effects event held.adds.added was_heard step.added;
+        holds = record {
+          runs = step.holds.1.0;
+          brought = rw is_heard (brought_is old.coming between.coming (heard es ++ event ∷ []) (brought_more old.coming now.coming between.coming (heard es) event held.adds.holds.brought takes));
+          in_turns = omega (arith, ap length is_heard, length-more (heard es) event, held.adds.holds.count);
+          spent = λ e. absurd cc;
+        };
+      };
+    }
 
-  pub loop_ends : (old now between later : Option (List Effect)) (coming left after : Option (List Event)) (engine next : Engine) (n turns : ℕ) (event : Event) → n < turns → Added old now (Runs cookie coming left engine n) → between ≡ adds now (Heard event ∷ []) → TakesNext {E = Halt} left after (Ok event) → ((m : Machine) → Shows all_cut engine m → Carried between later next (step m event) true) → ((m : Machine) → Shows all_cut engine m → has_finish (acts_of (step m event)) ≡ true) → Added old later (Serves cookie coming turns (Ok tt))
-  loop_ends old now between later coming left after engine next n turns event in_turns runs was_heard takes carried ends =
-      let es = runs.effects in
-      let m : Machine = after_all (start cookie) (heard es) in
-      let out = carried m runs.holds.shows in
-      record {
-        effects = es ++ Heard event ∷ out.acts.effects;
-        added = heard_step old now between later es out.acts.effects event runs.added was_heard out.acts.added;
-        holds = is_end cookie coming left after engine n turns es out.acts.effects event in_turns runs.holds takes out.acts.holds (ends m runs.holds.shows);
-      }
+pub loop_cut_short : (cookie : Cookie) (turns n : ℕ) (old now between later : Outside) (session : Session) (event : Event) (fault : ServeFault) → n < turns → InLoop cookie old now n session → between.told ≡ adds now.told (Heard event ∷ []) → TakesNext {E = Halt} now.coming between.coming (Ok event) → later.size ≡ 16777280 → Stepping between later session event (Err fault) → Serving cookie turns old later (Err fault)
+loop_cut_short cookie turns n old now between later session event fault in_turns held was_heard takes sized steps =
+    let es = held.adds.effects in
+    let step = steps cookie held.book held.current es held.adds.holds.stands in
+    let is_heard = heard-more es step.effects event step.holds.0 in
+    inr (record {
+      book = held.book;
+      current = held.current;
+      recovered = held.recovered;
+      size = sized;
+      below = held.below;
+      adds = record {
+        effects = es ++ Heard event ∷ step.effects;
+        added = heard_step old.told now.told between.told later.told es step.effects event held.adds.added was_heard step.added;
+        holds = record {
+          runs = step.holds.1.runs;
+          brought = rw is_heard (brought_is old.coming between.coming (heard es ++ event ∷ []) (brought_more old.coming now.coming between.coming (heard es) event held.adds.holds.brought takes));
+          in_turns = omega (arith, ap length is_heard, length-more (heard es) event, held.adds.holds.count);
+          spent = λ e. absurd (step.holds.1.in_time (the_fault fault Spent e));
+        };
+      };
+    })
 
-  pub loop_cut_short : (old now between later : Option (List Effect)) (coming left after : Option (List Event)) (engine next : Engine) (n turns : ℕ) (event : Event) (fault : ServeFault) → (fault ≡ Spent → ⊥) → n < turns → Added old now (Runs cookie coming left engine n) → between ≡ adds now (Heard event ∷ []) → TakesNext {E = Halt} left after (Ok event) → ((m : Machine) → Shows all_cut engine m → Carried between later next (step m event) false) → Added old later (Serves cookie coming turns (Err fault))
-  loop_cut_short old now between later coming left after engine next n turns event fault apart in_turns runs was_heard takes carried =
-      let es = runs.effects in
-      let out = carried (after_all (start cookie) (heard es)) runs.holds.shows in
-      record {
-        effects = es ++ Heard event ∷ out.acts.effects;
-        added = heard_step old now between later es out.acts.effects event runs.added was_heard out.acts.added;
-        holds = is_cut_short cookie coming left after engine n turns es out.acts.effects event fault apart in_turns runs.holds takes out.acts.holds;
-      }
+-- One step
 
-  pub loop_over : (old now later : Option (List Effect)) (coming left : Option (List Event)) (engine : Engine) (n turns : ℕ) (fault : ServeFault) → n ≤ turns → (fault ≡ Spent → n ≡ turns) → Added old now (Runs cookie coming left engine n) → later ≡ adds now [] → Added old later (Serves cookie coming turns (Err fault))
-  loop_over old now later coming left engine n turns fault in_turns at_end runs none_heard = record {
-    effects = runs.effects;
-    added = none_heard ∙ (adds-none now ∙ runs.added);
-    holds = is_over cookie coming left engine n turns runs.effects fault in_turns at_end runs.holds;
-  }
+pub step_goes : (old new : Outside) (session next : Session) (event : Event) (core : Engine) → ((m : Machine) → Shows all_cut session.engine m → Carried old.told new.told session.store core (step m event) (Ok next.store)) → next.engine ≡ core → ((m : Machine) → Shows all_cut session.engine m → has_finish (acts_of (step m event)) ≡ false) → Stepping old new session event (Ok (Goes next))
+step_goes old new session next event core carried same goes cookie opening current effects stands =
+    let m : Machine = after_all (start cookie opening) (heard effects) in
+    let out = carried m stands.shows in
+    record {
+      effects = out.acts.effects;
+      added = out.acts.added;
+      holds = (
+        out.acts.holds.out.going.deaf,
+        stands_more cookie opening current session next effects out.acts.effects event stands out.acts.holds (rw same (out.shows refl)) (goes m stands.shows),
+      );
+    }
+
+pub step_ends : (old new : Outside) (session : Session) (event : Event) (core : Engine) (next : Option Current) (marks : Marks) → marks ≡ core.manager.session.marks → ((m : Machine) → Shows all_cut session.engine m → Carried old.told new.told session.store core (step m event) (Ok next)) → ((m : Machine) → Shows all_cut session.engine m → has_finish (acts_of (step m event)) ≡ true) → Stepping old new session event (Ok (Finished marks))
+step_ends old new session event core next marks is_marks carried ends cookie opening current effects stands =
+    let m : Machine = after_all (start cookie opening) (heard effects) in
+    let out = carried m stands.shows in
+    let shown : Shows all_cut core (step m event).next = out.shows refl in
+    let after : after_all (start cookie opening) (heard (effects ++ Heard event ∷ out.acts.effects)) ≡ (step m event).next = ap (after_all (start cookie opening)) (heard-more effects out.acts.effects event out.acts.holds.out.going.deaf) ∙ after_all-more (start cookie opening) (heard effects) event in
+    record {
+      effects = out.acts.effects;
+      added = out.acts.added;
+      holds = (
+        out.acts.holds.out.going.deaf,
+        (
+          runs_end cookie opening current next session effects out.acts.effects event stands out.acts.holds (ends m stands.shows),
+          is_marks ∙ (shown.stands.stands.marks_are ∙ ap (λ (n : Machine). of.marks n.session) (sym after)),
+        ),
+      );
+    }
+
+pub step_cut_short : (old new : Outside) (session : Session) (event : Event) (core : Engine) (halt : Halt) (fault : ServeFault) → fault ≡ fault_of halt → ((m : Machine) → Shows all_cut session.engine m → Carried old.told new.told session.store core (step m event) (Err halt)) → Stepping old new session event (Err fault)
+step_cut_short old new session event core halt fault is_fault carried cookie opening current effects stands =
+    let out = carried (after_all (start cookie opening) (heard effects)) stands.shows in
+    rw is_fault (record {
+      effects = out.acts.effects;
+      added = out.acts.added;
+      holds = (
+        out.acts.holds.out.going.deaf,
+        record { runs = runs_cut_short cookie opening current session halt effects out.acts.effects event stands out.acts.holds; in_time = never_spent halt },
+      );
+    })
+
+-- The opening
+
+-- why the store wasn't opened
+pub unopened_by : (outside : Outside) (size : ℕ) (fault : StoreFault) → IsRecoveryFault outside size fault → IsUnopened outside size (opening_fault_of fault)
+unopened_by outside size (HasWrongSize n) cause = cause
+unopened_by outside size (IsDamaged at) cause = cause
+unopened_by outside size FailsOnDisk cause = tt
+unopened_by outside size IsWorn cause = absurd cause
+unopened_by outside size LacksMemory cause = tt
+
+pub recovered_by : (old new : Outside) (opening : Book) (current : Option Current) → HasToldSize new → new.first ≡ old.first → new.size ≡ 16777280 → ((file : List ℕ) → IsSettled old file → SteadyFile current opening file) → IsRecovered old opening current
+recovered_by old new opening current sized same is_size recovers file settled = (settled.size ∙ (sized settled.began (same ∙ settled.first) ∙ is_size), recovers file settled)
+
+pub opens : (cookie : Cookie) (old between new : Outside) (opening : Book) (current : Option Current) (session : Session) → IsRecovered old opening current → new.size ≡ 16777280 → opening.epoch < 4294967295 → between.told ≡ old.told → Added between.told new.told (Performs current (opening_acts opening) (Ok session.store)) → Shows all_cut session.engine (start cookie opening) → Starts cookie old new (Ok session)
+opens cookie old between new opening current session recovered sized below quiet done shows = record {
+  book = opening;
+  current = current;
+  recovered = recovered;
+  size = sized;
+  below = below;
+  adds = record {
+    effects = done.effects;
+    added = done.added ∙ ap (λ t. adds t done.effects) quiet;
+    holds = (stands_begin cookie opening current session done.effects done.holds shows, done.holds.out.going.deaf);
+  };
+}
+
+pub opens_not : (cookie : Cookie) (old between new : Outside) (opening : Book) (current : Option Current) (halt : Halt) (fault : ServeFault) → fault ≡ fault_of halt → IsRecovered old opening current → new.size ≡ 16777280 → opening.epoch < 4294967295 → between.told ≡ old.told → Added between.told new.told (Performs current (opening_acts opening) (Err halt)) → Starts cookie old new (Err fault)
+opens_not cookie old between new opening current halt fault is_fault recovered sized below quiet done = rw is_fault (inr (record {
+  book = opening;
+  current = current;
+  recovered = recovered;
+  size = sized;
+  below = below;
+  adds = record {
+    effects = done.effects;
+    added = done.added ∙ ap (λ t. adds t done.effects) quiet;
+    holds = (record { runs = runs_unopened cookie opening current halt done.effects done.holds; in_time = never_spent halt }, done.holds.out.going.deaf);
+  };
+}))
+
+-- The headline
+
+take_none : (n : ℕ) → ◌≡◌ {A = List Effect} (take n []) []
+take_none zero = refl
+take_none (suc n) = refl
+
+drop_none : (n : ℕ) → ◌≡◌ {A = List Effect} (drop n []) []
+drop_none zero = refl
+drop_none (suc n) = refl
+
+none_heard_yet : (n : ℕ) (event : Event) (more : List Effect) → ◌≡◌ {A = List Effect} (drop n []) (Heard event ∷ more) → ⊥
+none_heard_yet n event more e = none_is_heard event (heard more) (sym (ap heard (sym (drop_none n) ∙ e)))
+
+unopened_cuts : (outside : Outside) (size : ℕ) (fault : ServeFault) → IsUnopened outside size fault → is_whole (Err fault) ≡ true → ⊥
+unopened_cuts outside size (Damaged at) cause e = false≢true e
+unopened_cuts outside size (WrongSize n) cause e = false≢true e
+unopened_cuts outside size DiskFault cause e = false≢true e
+unopened_cuts outside size LinkFault cause e = false≢true e
+unopened_cuts outside size ConsoleFault cause e = false≢true e
+unopened_cuts outside size Worn cause e = false≢true e
+unopened_cuts outside size Spent cause e = cause
+unopened_cuts outside size NoMemory cause e = false≢true e
+
+-- where nothing was done the file is as it was
+word_unopened : (cookie : Cookie) (book : Book) (file : List ℕ) (old new : Outside) (fault : ServeFault) → Recovers file (Ok book) → Rests old new fault → Added old.told new.told (KeepsItsWord cookie book file (Err fault))
+word_unopened cookie book file old new fault recovers rests = record {
+  effects = [];
+  added = rests.told ∙ sym (adds-none old.told);
+  holds = record {
+    carries = record {
+      on_script = record {
+        no_other_deed = λ n. rw (take_none n) (deeds_in (script cookie book []), refl);
+        no_deed_missing = λ n event more e. absurd (none_heard_yet n event more e);
+        heard_in_time = λ n event more e. absurd (none_heard_yet n event more e);
+        none_published = refl;
+      };
+      all_done = λ e. absurd (unopened_cuts old new.size fault rests.cause e);
+      ended = λ e. absurd (false≢true e);
+    };
+    keeps = record {
+      saved = λ n left image. rw (take_none n) (record {
+        front = [];
+        rest = script cookie book [];
+        parts = refl;
+        same = refl;
+        recovers = subst (λ (f : List ℕ). Recovers f (Ok book)) (sym (only-file file left (rw (take_none n) at image))) recovers;
+      });
+      none_behind = λ n event more e. absurd (none_heard_yet n event more e);
+    };
+    is_current = λ e. absurd (unopened_cuts old new.size fault rests.cause e);
+  };
+}
+
+ok_book : (one two : Book) → ◌≡◌ {A = Result Book ℕ} (Ok one) (Ok two) → one ≡ two
+ok_book one two e = cc
+
+word_opened : (cookie : Cookie) (turns : ℕ) (book : Book) (file : List ℕ) (old new : Outside) (answer : Result (Unit {0}) ServeFault) → IsSettled old file → Recovers file (Ok book) → Opens old new (λ opening current effects. Serves cookie opening current old.coming turns answer effects) → Added old.told new.told (KeepsItsWord cookie book file answer)
+word_opened cookie turns book file old new answer settled recovers opens =
+    let found = opens.recovered file settled in
+    let same : opens.book ≡ book = ok_book opens.book book (recovers-once file (Ok opens.book) (Ok book) found.1.recovers recovers) in
+    let stands : SteadyStands opens.current opens.book file [] = settled-stands opens.current opens.book file found.0 found.1 in
+    rw (sym same) (record {
+      effects = opens.adds.effects;
+      added = opens.adds.added;
+      holds = record {
+        carries = opens.adds.holds.runs.carries;
+        keeps = opens.adds.holds.runs.keeps file [] stands;
+        is_current = λ e left image. opens.adds.holds.runs.is_current e file [] stands left image;
+      };
+    })
+
+pub keeps_word : (cookie : Cookie) (turns : ℕ) (old new : Outside) (answer : Result (Unit {0}) ServeFault) → Serving cookie turns old new answer → (file : List ℕ) (book : Book) → IsSettled old file → Recovers file (Ok book) → Added old.told new.told (KeepsItsWord cookie book file answer)
+keeps_word cookie turns old new (Ok x) opens file book settled recovers = word_opened cookie turns book file old new (Ok x) settled recovers opens
+keeps_word cookie turns old new (Err fault) (inl rests) file book settled recovers = word_unopened cookie book file old new fault recovers rests
+keeps_word cookie turns old new (Err fault) (inr opens) file book settled recovers = word_opened cookie turns book file old new (Err fault) settled recovers opens

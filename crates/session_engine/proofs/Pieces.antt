@@ -1,12 +1,13 @@
 -- The rest of a piece: the acts that were done, and the parts that the machine still has to take.
-use Rattle.std.proofs.Common.{◌≡◌, inl, inr, ℕ, ◌+◌, ◌-◌, zero, suc, Bool, true, false, List, [], ◌∷◌, ◌++◌, length, take, drop, Option, Some, None, refl, sym, ◌∙◌, ap, arith}
-use Rattle.std.proofs.lemmas.List.{length-drop, take_all}
+use Rattle.std.proofs.Common.{◌≡◌, inl, inr, ℕ, ◌+◌, ◌-◌, zero, suc, Bool, true, false, List, [], ◌∷◌, ◌++◌, length, take, drop, Option, Some, None, Ok, Err, refl, sym, ◌∙◌, ap, arith, append_assoc}
+use Rattle.std.proofs.lemmas.List.{append-nil, length-drop, take_all}
 use Rattle.std.proofs.lemmas.Grind.{flat_map-append}
 use Rattle.sm_world.specs.Outside.{Added}
 use Rattle.sm_world.specs.declared.effects.Effect.{Effect}
 use Rattle.sm_world.specs.declared.events.Event.TheVariants.{Piece}
 use Rattle.std.specs.Option.{option_map}
 use Rattle.std.proofs.lemmas.Bool.{cases_eq}
+use Rattle.checkpoint_slots.specs.declared.turn.Current.{Current}
 use Rattle.session_model.specs.Phases.{is_bound}
 use Rattle.session_model.specs.Readings as of
 use Rattle.session_model.specs.Rules.{taken}
@@ -15,7 +16,7 @@ use Rattle.session_model.specs.declared.events.Act.TheVariants.{Shut as ShutsCon
 use Rattle.session_model.specs.declared.events.SessionEvent.TheVariants.{Ready, Said, Left}
 use Rattle.session_engine.specs.Acts.{has_finish, says}
 use Rattle.session_engine.specs.Answers.{outcome, sequence_after}
-use Rattle.session_engine.specs.Carries.{Going, CarriesOut}
+use Rattle.session_engine.specs.Saved.{Performs}
 use Rattle.session_engine.specs.Machine.{Connection, Machine, Step, Entry, act_in, acts_of, acts_since, asked, behind, connection_of, connections_after, connections_through, counted, departs, noted, fed_on, stays, unset_on, without, answered, part_taken, parts_taken, step}
 use Rattle.session_engine.specs.Shown.{Shows, Carried, TakesPart, TakesNone, parts_on, parts_left, all_cut, to_cut}
 use Rattle.session_engine.specs.Streams.{Part, parts_of}
@@ -26,9 +27,11 @@ use Rattle.session_engine.specs.declared.acts.Act.{Act}
 use Rattle.session_engine.specs.declared.acts.Act.TheVariants.{Shut}
 use Rattle.session_engine.specs.declared.answers.Outcome.{Outcome}
 use Rattle.session_engine.specs.declared.engine.Engine.{Engine}
+use Rattle.session_engine.specs.declared.fault.Halt.{Halt}
+use Rattle.session_engine.specs.declared.fault.Halt.TheVariants.{NoMemory}
 use Rattle.session_engine.specs.declared.serving.Turn.{Turn}
 use Rattle.session_engine.specs.declared.serving.Turn.TheVariants.{GoesOn}
-use Rattle.session_engine.proofs.Adding.{all_left, done_too, halted, all_done}
+use Rattle.session_engine.proofs.Performing.{told_none, told_nothing, told_then, told_stopped}
 use Rattle.session_engine.proofs.Connections.{same, other, connection_of-changed, connection_of-without}
 use Rattle.session_engine.proofs.Running.{has_finish-append}
 use Rattle.session_engine.proofs.Showing.{piece_brings, piece_comes}
@@ -124,18 +127,22 @@ acts_of-behind : (line : List Entry) (s : Step) → acts_of (behind line s) ≡ 
 acts_of-behind line s = flat_map-append act_in line s.line
 
 -- In the middle of a piece: what was done of its step, and what the rest of it still brings.
-pub record Taking (all : Step) (c : ℕ) (left : List ℕ) (old now : Option (List Effect)) (engine : Engine) (turn : Turn) : Type 0 where
+pub record Taking (all : Step) (c : ℕ) (left : List ℕ) (old now : Option (List Effect)) (engine : Engine) (began current : Option Current) (turn : Turn) : Type 0 where
   pub machine : Machine
   pub shows : Shows (to_cut c left) engine machine
-  pub going : Added old now (Going (acts_of all) (acts_of (rest_taken machine c)))
+  pub done : List Act
+  pub parts : done ++ acts_of (rest_taken machine c) ≡ acts_of all
+  pub performs : Added old now (Performs began done (Ok current))
   pub next : (rest_taken machine c).next ≡ all.next
   pub ended : has_finish (acts_of all) ≡ either (is_end turn) (has_finish (acts_of (rest_taken machine c)))
 
-pub begins : (m : Machine) (c : ℕ) (bytes : List ℕ) (old : Option (List Effect)) (engine : Engine) → Shows all_cut engine m → Taking (step m (Piece c bytes)) c bytes old old engine GoesOn
-begins m c bytes old engine shows = rw (piece_brings m c bytes engine shows) (record {
+pub begins : (m : Machine) (c : ℕ) (bytes : List ℕ) (old : Option (List Effect)) (engine : Engine) (current : Option Current) → Shows all_cut engine m → Taking (step m (Piece c bytes)) c bytes old old engine current current GoesOn
+begins m c bytes old engine current shows = rw (piece_brings m c bytes engine shows) (record {
   machine = fed_on m c bytes;
   shows = piece_comes m c bytes engine shows;
-  going = all_left (acts_of (rest_taken (fed_on m c bytes) c)) old;
+  done = [];
+  parts = refl;
+  performs = told_nothing current old;
   next = refl;
   ended = refl;
 })
@@ -145,8 +152,8 @@ either-assoc true b c = refl
 either-assoc false b c = refl
 
 -- one more part was taken, and what it brings was done
-pub takes : (all : Step) (c : ℕ) (left rest_left : List ℕ) (old now later : Option (List Effect)) (before after : Engine) (turn last both : Turn) → (taking : Taking all c left old now before turn) → TakesPart taking.machine c rest_left after → Added now later (CarriesOut after.acts true) → is_end last ≡ has_finish after.acts → is_end both ≡ either (is_end turn) (is_end last) → Taking all c rest_left old later after both
-takes all c left rest_left old now later before after turn last both taking part done is_last is_both =
+pub takes : (all : Step) (c : ℕ) (left rest_left : List ℕ) (old now later : Option (List Effect)) (before after : Engine) (began current next : Option Current) (turn last both : Turn) → (taking : Taking all c left old now before began current turn) → TakesPart taking.machine c rest_left after → Added now later (Performs current after.acts (Ok next)) → is_end last ≡ has_finish after.acts → is_end both ≡ either (is_end turn) (is_end last) → Taking all c rest_left old later after began next both
+takes all c left rest_left old now later before after began current next turn last both taking part done is_last is_both =
     let s : Step = part_taken taking.machine c part.part in
     let first : rest_taken taking.machine c ≡ behind s.line (rest_taken s.next c) = first_of_rest taking.machine c part.part part.rest part.is_next in
     let acts : acts_of (rest_taken taking.machine c) ≡ after.acts ++ acts_of (rest_taken s.next c) = ap acts_of first ∙ (acts_of-behind s.line (rest_taken s.next c) ∙ ap (λ xs. xs ++ acts_of (rest_taken s.next c)) (sym part.acts)) in
@@ -154,34 +161,46 @@ takes all c left rest_left old now later before after turn last both taking part
     record {
       machine = s.next;
       shows = part.shows;
-      going = done_too (acts_of all) after.acts (acts_of (rest_taken s.next c)) old now later (rw acts at taking.going) done;
+      done = taking.done ++ after.acts;
+      parts = append_assoc taking.done after.acts (acts_of (rest_taken s.next c)) ∙ (ap (λ xs. taking.done ++ xs) (sym acts) ∙ taking.parts);
+      performs = told_then began current taking.done after.acts (Ok next) old now later taking.performs done;
       next = sym (ap (λ (s : Step). s.next) first) ∙ taking.next;
       ended = taking.ended ∙ (ap (either (is_end turn)) finish ∙ (either-assoc (is_end turn) (is_end last) (has_finish (acts_of (rest_taken s.next c))) ∙ ap (λ b. either b (has_finish (acts_of (rest_taken s.next c)))) (sym is_both)));
     }
 
 -- the run is cut short as what a part brings is done
-pub cut_short : (all : Step) (c : ℕ) (left rest_left : List ℕ) (old now later : Option (List Effect)) (before after : Engine) (turn : Turn) → (taking : Taking all c left old now before turn) → TakesPart taking.machine c rest_left after → Added now later (CarriesOut after.acts false) → Carried old later after all false
-cut_short all c left rest_left old now later before after turn taking part done =
+pub cut_short : (all : Step) (c : ℕ) (left rest_left : List ℕ) (old now later : Option (List Effect)) (before after : Engine) (began current : Option Current) (turn : Turn) (halt : Halt) → (taking : Taking all c left old now before began current turn) → TakesPart taking.machine c rest_left after → Added now later (Performs current after.acts (Err halt)) → Carried old later began after all (Err halt)
+cut_short all c left rest_left old now later before after began current turn halt taking part done =
     let s : Step = part_taken taking.machine c part.part in
     let acts : acts_of (rest_taken taking.machine c) ≡ after.acts ++ acts_of (rest_taken s.next c) = ap acts_of (first_of_rest taking.machine c part.part part.rest part.is_next) ∙ (acts_of-behind s.line (rest_taken s.next c) ∙ ap (λ xs. xs ++ acts_of (rest_taken s.next c)) (sym part.acts)) in
+    let whole : (taking.done ++ after.acts) ++ acts_of (rest_taken s.next c) ≡ acts_of all = append_assoc taking.done after.acts (acts_of (rest_taken s.next c)) ∙ (ap (λ xs. taking.done ++ xs) (sym acts) ∙ taking.parts) in
     record {
-      acts = halted (acts_of all) after.acts (acts_of (rest_taken s.next c)) old now later (rw acts at taking.going) done;
+      acts = rw (sym whole) (told_stopped began (taking.done ++ after.acts) (acts_of (rest_taken s.next c)) halt old later (told_then began current taking.done after.acts (Err halt) old now later taking.performs done));
       shows = λ e. absurd cc;
     }
+
+-- no memory was found to go on
+pub given_up : (all : Step) (c : ℕ) (left : List ℕ) (old now : Option (List Effect)) (before after : Engine) (began current : Option Current) (turn : Turn) → (taking : Taking all c left old now before began current turn) → Carried old now began after all (Err NoMemory)
+given_up all c left old now before after began current turn taking = record {
+  acts = rw (sym taking.parts) (told_then began current taking.done (acts_of (rest_taken taking.machine c)) (Err NoMemory) old now now taking.performs (told_none current (acts_of (rest_taken taking.machine c)) now));
+  shows = λ e. absurd cc;
+}
 
 none_taken : (m : Machine) (c : ℕ) → parts_left m c ≡ [] → rest_taken m c ≡ stays m
 none_taken m c none = ap (parts_taken m c) none
 
 -- the rest of a piece is at its end
-pub ends : (all : Step) (c : ℕ) (left : List ℕ) (old now : Option (List Effect)) (before after : Engine) (turn : Turn) → (taking : Taking all c left old now before turn) → TakesNone taking.machine c after → Carried old now after all true
-ends all c left old now before after turn taking none = record {
-  acts = all_done (acts_of all) old now (rw (none_taken taking.machine c none.none_left) at taking.going);
-  shows = λ e. rw (sym (rw (none_taken taking.machine c none.none_left) at taking.next)) none.shows;
-}
+pub ends : (all : Step) (c : ℕ) (left : List ℕ) (old now : Option (List Effect)) (before after : Engine) (began current : Option Current) (turn : Turn) → (taking : Taking all c left old now before began current turn) → TakesNone taking.machine c after → Carried old now began after all (Ok current)
+ends all c left old now before after began current turn taking none =
+    let whole : taking.done ≡ acts_of all = sym (append-nil taking.done) ∙ (rw (none_taken taking.machine c none.none_left) at taking.parts) in
+    record {
+      acts = rw (sym whole) taking.performs;
+      shows = λ e. rw (sym (rw (none_taken taking.machine c none.none_left) at taking.next)) none.shows;
+    }
 
 either_false : (b : _) → either b false ≡ b
 either_false true = refl
 either_false false = refl
 
-pub ended : (all : Step) (c : ℕ) (left : List ℕ) (old now : Option (List Effect)) (before after : Engine) (turn : Turn) → (taking : Taking all c left old now before turn) → TakesNone taking.machine c after → is_end turn ≡ has_finish (acts_of all)
-ended all c left old now before after turn taking none = sym (rw (none_taken taking.machine c none.none_left) at taking.ended ∙ either_false (is_end turn))
+pub ended : (all : Step) (c : ℕ) (left : List ℕ) (old now : Option (List Effect)) (before after : Engine) (began current : Option Current) (turn : Turn) → (taking : Taking all c left old now before began current turn) → TakesNone taking.machine c after → is_end turn ≡ has_finish (acts_of all)
+ended all c left old now before after began current turn taking none = sym (rw (none_taken taking.machine c none.none_left) at taking.ended ∙ either_false (is_end turn))

@@ -5,27 +5,17 @@ use Rattle.std.proofs.lemmas.List.{append-nil, length-drop, take-append-le, drop
 use Rattle.std.proofs.lemmas.Bool.{cases_lt, false≢true}
 use Rattle.std.proofs.lemmas.Grind.{flat_map-append}
 use Rattle.sm_world.specs.Effects.{heard, deeds, event_of, deed_of, file_of}
-use Rattle.sm_world.specs.Events.{next_of}
-use Rattle.sm_world.specs.Outside.{adds, TakesNext}
 use Rattle.sm_world.specs.declared.effects.Effect.{Effect}
 use Rattle.sm_world.specs.declared.effects.Effect.TheVariants.{Heard}
 use Rattle.sm_world.specs.declared.events.Event.{Event}
 use Rattle.session_engine.specs.Acts.{deeds_in, deed_in, has_finish}
-use Rattle.session_engine.specs.Machine.{Machine, Item, Came, Did, acts_of, opening_acts, start as start_with, step, after_all, script_from, run_from}
+use Rattle.session_engine.specs.Machine.{Machine, Item, Came, Did, acts_of, opening_acts as opening_acts_of, start as start_with, step, after_all, script_from, run_from}
 use Rattle.session_engine.specs.declared.acts.Act.{Act}
 use Rattle.session_engine.specs.declared.acts.Act.TheVariants.{Say, Shut, Start, Commit, Print, Finish}
-use Rattle.session_engine.specs.Carries.{Going, CarriesOut, IsPrefix, IsOnScript as IsOnScriptOf, Serves as ServesWith, Brought, next_events, is_whole, items, item_of, script as script_with, run as run_with}
+use Rattle.session_engine.specs.Carries.{IsPrefix, IsOnScript as IsOnScriptOf, script as script_with, run as run_with}
+use Rattle.session_engine.specs.Doing.{Going, CarriesOut, items, item_of}
+use Rattle.checkpoint_records.specs.declared.records.Book.{Book}
 use Rattle.ice_cookie.specs.declared.cookies.Cookie.{Cookie}
-use Rattle.session_engine.specs.Shown.{Shows, all_cut}
-use Rattle.session_engine.specs.declared.engine.Engine.{Engine}
-use Rattle.session_engine.specs.declared.fault.Halt.{Halt}
-use Rattle.session_engine.specs.declared.fault.ServeFault.{ServeFault}
-use Rattle.session_engine.specs.declared.fault.ServeFault.TheVariants.{LinkFault, ConsoleFault, Spent, NoMemory}
-
--- these events are the first of those to come, and the others are left
-abbrev pub BroughtSoFar : Option (List Event) → Option (List Event) → List Event → Type 0
-BroughtSoFar None left events = left ≡ None
-BroughtSoFar (Some coming) left events = (events ≡ next_events (length events) coming) × (left ≡ Some (drop (length events) coming))
 
 -- Finish in two lists of acts
 pub has_finish-append : (xs ys : List Act) → has_finish (xs ++ ys) ≡ (if has_finish xs then true else has_finish ys)
@@ -74,15 +64,15 @@ after_all-more m [] event = refl
 after_all-more m (first ∷ events) event = after_all-more (step m first).next events event
 
 -- a part of effects that hear nothing hears nothing
-deaf_front : (xs ys : List Event) → xs ++ ys ≡ [] → xs ≡ []
+pub deaf_front : (xs ys : List Event) → xs ++ ys ≡ [] → xs ≡ []
 deaf_front [] ys e = refl
 deaf_front (x ∷ xs) ys e = cc
 
-deaf_back : (xs ys : List Event) → xs ++ ys ≡ [] → ys ≡ []
+pub deaf_back : (xs ys : List Event) → xs ++ ys ≡ [] → ys ≡ []
 deaf_back [] ys e = e
 deaf_back (x ∷ xs) ys e = cc
 
-heard_parts : (k : ℕ) (ds : List Effect) → heard ds ≡ [] → heard (take k ds) ++ heard (drop k ds) ≡ []
+pub heard_parts : (k : ℕ) (ds : List Effect) → heard ds ≡ [] → heard (take k ds) ++ heard (drop k ds) ≡ []
 heard_parts k ds deaf = sym (flat_map-append event_of (take k ds) (drop k ds)) ∙ (ap heard (take-append-drop k ds) ∙ deaf)
 
 -- the events after one more was heard
@@ -97,7 +87,7 @@ front_heard : (xs ys more : List Effect) (other : Event) → 0 < length xs → x
 front_heard [] ys more other some e = absurd (omega arith)
 front_heard (x ∷ xs) ys more other some e = (xs, cc)
 
-none_is_heard : (event : Event) (events : List Event) → event ∷ events ≡ [] → ⊥
+pub none_is_heard : (event : Event) (events : List Event) → event ∷ events ≡ [] → ⊥
 none_is_heard event events e = cc
 
 point_after : (P : List Effect → Type 0) (es ds : List Effect) (event : Event) → heard ds ≡ [] → P es → (k : ℕ) (other : Event) (more : List Effect) → drop (length es + k) (es ++ Heard event ∷ ds) ≡ Heard other ∷ more → P (take (length es + k) (es ++ Heard event ∷ ds))
@@ -127,22 +117,22 @@ each_front P es ds event before after n = elim (cases_lt (length es) n) [
   | inr h ↦ rw (take-append-le n es (Heard event ∷ ds) h) (before n)
 ]
 
--- All that follows is said of a session with this cookie.
-module _ (cookie : Cookie) where
+-- All that follows is said of a session with this cookie that opens this book.
+module _ (cookie : Cookie) (opening : Book) where
   abbrev pub start : Machine
-  start = start_with cookie
+  start = start_with cookie opening
+
+  abbrev pub opening_acts : List Act
+  opening_acts = opening_acts_of opening
 
   abbrev pub script : List Event → List Act
-  script events = script_with cookie events
+  script events = script_with cookie opening events
 
   abbrev pub run : List Event → List Item
-  run events = run_with cookie events
+  run events = run_with cookie opening events
 
   abbrev pub IsOnScript : List Effect → Type 0
-  IsOnScript effects = IsOnScriptOf cookie effects
-
-  abbrev pub Serves : Option (List Event) → ℕ → Result (Unit {0}) ServeFault → List Effect → Type 0
-  Serves coming turns answer effects = ServesWith cookie coming turns answer effects
+  IsOnScript effects = IsOnScriptOf cookie opening effects
 
   -- one more event after events without Finish
   one-more : (events : List Event) (event : Event) → has_finish (script events) ≡ false → script (events ++ event ∷ []) ≡ script events ++ acts_of (step (after_all start events) event)
@@ -172,17 +162,7 @@ module _ (cookie : Cookie) where
             ∙ (sym (flat_map-append deed_in (script (heard es)) acts) ∙ ap deeds_in (sym scripts))))),
       )
 
-  -- what holds of the effects of a run that goes on
-  pub record Runs (coming left : Option (List Event)) (engine : Engine) (n : ℕ) (es : List Effect) : Type 0 where
-    pub shows : Shows all_cut engine (after_all start (heard es))
-    pub count : length (heard es) ≡ n
-    pub unfinished : has_finish (script (heard es)) ≡ false
-    pub all_done : deeds es ≡ deeds_in (script (heard es))
-    pub in_order : items es ≡ run (heard es)
-    pub on_script : IsOnScript es
-    pub brought : BroughtSoFar coming left (heard es)
-
-  more_on_script : (es ds : List Effect) (event : Event) (left : List Act) → Going (acts_of (step (after_all start (heard es)) event)) left ds → has_finish (script (heard es)) ≡ false → deeds es ≡ deeds_in (script (heard es)) → IsOnScript es → IsOnScript (es ++ Heard event ∷ ds)
+  pub more_on_script : (es ds : List Effect) (event : Event) (left : List Act) → Going (acts_of (step (after_all start (heard es)) event)) left ds → has_finish (script (heard es)) ≡ false → deeds es ≡ deeds_in (script (heard es)) → IsOnScript es → IsOnScript (es ++ Heard event ∷ ds)
   more_on_script es ds event left adds unfinished all_done on_script = record {
     no_other_deed = each_front (λ xs. IsPrefix (deeds xs) (deeds_in (script (heard xs)))) es ds event on_script.no_other_deed (front_on_script es ds event left adds unfinished all_done);
     no_deed_missing = each_heard (λ xs. deeds xs ≡ deeds_in (script (heard xs))) es ds event adds.deaf on_script.no_deed_missing all_done;
@@ -190,20 +170,8 @@ module _ (cookie : Cookie) where
     none_published = rw (flat_map-append file_of es (Heard event ∷ ds), on_script.none_published, adds.quiet) refl;
   }
 
-  -- parts of an empty list
-  take_none : (n : ℕ) → ◌≡◌ {A = List Effect} (take n []) []
-  take_none zero = refl
-  take_none (suc n) = refl
-
-  drop_none : {A : Type 0} (n : ℕ) → ◌≡◌ {A = List A} (drop n []) []
-  drop_none zero = refl
-  drop_none (suc n) = refl
-
-  none_heard_yet : (n : ℕ) (event : Event) (more : List Effect) → ◌≡◌ {A = List Effect} (drop n []) (Heard event ∷ more) → ⊥
-  none_heard_yet n event more e = none_is_heard event (heard more) (sym (ap heard (sym (drop_none n) ∙ e)))
-
   -- the effects of the opening
-  opening_on_script : (es : List Effect) (left : List Act) → Going opening_acts left es → IsOnScript es
+  pub opening_on_script : (es : List Effect) (left : List Act) → Going opening_acts left es → IsOnScript es
   opening_on_script es left going = record {
     no_other_deed = λ n.
         let deaf : heard (take n es) ≡ [] = deaf_front (heard (take n es)) (heard (drop n es)) (heard_parts n es going.deaf) in
@@ -216,68 +184,21 @@ module _ (cookie : Cookie) where
     none_published = going.quiet;
   }
 
-  brought_none : (coming : Option (List Event)) → BroughtSoFar coming coming []
-  brought_none None = refl
-  brought_none (Some coming) = (refl, refl)
-
-  -- nothing was heard yet, and the book was opened
-  pub runs_begin : (coming : Option (List Event)) (engine : Engine) (es : List Effect) → CarriesOut opening_acts true es → Shows all_cut engine start → Runs coming coming engine 0 es
-  runs_begin coming engine es out shows =
-      let whole : out.going.done ≡ opening_acts = sym (append-nil out.going.done) ∙ (ap (λ xs. out.going.done ++ xs) (sym (out.none_left refl)) ∙ out.going.parts) in
-      let all : deeds es ≡ deeds_in opening_acts = out.going.so_far ∙ ap deeds_in whole in
-      record {
-        shows = rw (out.going.deaf) shows;
-        count = ap length out.going.deaf;
-        unfinished = rw (out.going.deaf) refl;
-        all_done = rw (out.going.deaf) (all ∙ ap deeds_in (sym (append-nil opening_acts)));
-        in_order = rw (out.going.deaf) (out.going.in_order ∙ (ap (map Did) all ∙ sym (append-nil (map Did (deeds_in opening_acts)))));
-        on_script = opening_on_script es out.left out.going;
-        brought = rw (out.going.deaf) (brought_none coming);
-      }
-
-  -- the events to come, but for one more
-  drop_one_first : (n : ℕ) (xs : List Event) → drop n (drop 1 xs) ≡ drop (suc n) xs
-  drop_one_first n [] = drop_none n
-  drop_one_first n (x ∷ xs) = refl
-
-  drop_one_after : (n : ℕ) (xs : List Event) → drop 1 (drop n xs) ≡ drop (suc n) xs
-  drop_one_after zero xs = refl
-  drop_one_after (suc n) [] = refl
-  drop_one_after (suc n) (x ∷ xs) = drop_one_after n xs
-
-  next_events-more : (n : ℕ) (coming : List Event) → next_events (suc n) coming ≡ next_events n coming ++ next_of (drop n coming) ∷ []
-  next_events-more zero coming = refl
-  next_events-more (suc n) coming =
-      ap (λ es. next_of coming ∷ es) (next_events-more n (drop 1 coming))
-      ∙ ap (λ xs. next_of coming ∷ (next_events n (drop 1 coming) ++ next_of xs ∷ [])) (drop_one_first n coming)
-
-  length-more : (events : List Event) (event : Event) → length (events ++ event ∷ []) ≡ suc (length events)
-  length-more events event = omega (arith, length-append events (event ∷ []))
-
-  brought_more : (coming left after : Option (List Event)) (events : List Event) (event : Event) → BroughtSoFar coming left events → TakesNext {E = Halt} left after (Ok event) → BroughtSoFar coming after (events ++ event ∷ [])
-  brought_more None left after events event brought takes = rw brought at takes
-  brought_more (Some coming) left after events event brought takes =
-      let takes_next : (event ≡ next_of (drop (length events) coming)) × (after ≡ Some (drop 1 (drop (length events) coming))) = rw brought.1 at takes in
-      rw (length-more events event) (
-        ap (λ es. es ++ event ∷ []) brought.0 ∙ (ap (λ e. next_events (length events) coming ++ e ∷ []) takes_next.0 ∙ sym (next_events-more (length events) coming)),
-        takes_next.1 ∙ ap Some (drop_one_after (length events) coming),
-      )
-
   items-more : (es ds : List Effect) (event : Event) → items (es ++ Heard event ∷ ds) ≡ items es ++ (Came event ∷ items ds)
   items-more es ds event = flat_map-append item_of es (Heard event ∷ ds)
 
   -- the script after one more event
-  script-more : (es ds : List Effect) (event : Event) → heard ds ≡ [] → has_finish (script (heard es)) ≡ false → script (heard (es ++ Heard event ∷ ds)) ≡ script (heard es) ++ (acts_of (step (after_all start (heard es)) event))
+  pub script-more : (es ds : List Effect) (event : Event) → heard ds ≡ [] → has_finish (script (heard es)) ≡ false → script (heard (es ++ Heard event ∷ ds)) ≡ script (heard es) ++ (acts_of (step (after_all start (heard es)) event))
   script-more es ds event deaf unfinished = ap script (heard-more es ds event deaf) ∙ one-more (heard es) event unfinished
 
   -- Finish in the script after one more event is Finish in that event's step
-  finish-more : (es ds : List Effect) (event : Event) → heard ds ≡ [] → has_finish (script (heard es)) ≡ false → has_finish (script (heard (es ++ Heard event ∷ ds))) ≡ has_finish (acts_of (step (after_all start (heard es)) event))
+  pub finish-more : (es ds : List Effect) (event : Event) → heard ds ≡ [] → has_finish (script (heard es)) ≡ false → has_finish (script (heard (es ++ Heard event ∷ ds))) ≡ has_finish (acts_of (step (after_all start (heard es)) event))
   finish-more es ds event deaf unfinished =
       ap has_finish (script-more es ds event deaf unfinished)
       ∙ (has_finish-append (script (heard es)) (acts_of (step (after_all start (heard es)) event)) ∙ rw unfinished refl)
 
   -- what was done after a whole step
-  done-more : (es ds : List Effect) (event : Event) → CarriesOut (acts_of (step (after_all start (heard es)) event)) true ds → has_finish (script (heard es)) ≡ false → deeds es ≡ deeds_in (script (heard es)) → deeds (es ++ Heard event ∷ ds) ≡ deeds_in (script (heard (es ++ Heard event ∷ ds)))
+  pub done-more : (es ds : List Effect) (event : Event) → CarriesOut (acts_of (step (after_all start (heard es)) event)) true ds → has_finish (script (heard es)) ≡ false → deeds es ≡ deeds_in (script (heard es)) → deeds (es ++ Heard event ∷ ds) ≡ deeds_in (script (heard (es ++ Heard event ∷ ds)))
   done-more es ds event out unfinished all_done =
       let acts = (acts_of (step (after_all start (heard es)) event)) in
       let whole : out.going.done ≡ acts = sym (append-nil out.going.done) ∙ (ap (λ xs. out.going.done ++ xs) (sym (out.none_left refl)) ∙ out.going.parts) in
@@ -286,7 +207,7 @@ module _ (cookie : Cookie) where
       ∙ (ap (λ xs. deeds_in (script (heard es)) ++ xs) (out.going.so_far ∙ ap deeds_in whole)
       ∙ (sym (flat_map-append deed_in (script (heard es)) acts) ∙ ap deeds_in (sym (script-more es ds event out.going.deaf unfinished)))))
 
-  shown-more : (es ds : List Effect) (event : Event) → CarriesOut (acts_of (step (after_all start (heard es)) event)) true ds → has_finish (script (heard es)) ≡ false → items es ≡ run (heard es) → items (es ++ Heard event ∷ ds) ≡ run (heard (es ++ Heard event ∷ ds))
+  pub shown-more : (es ds : List Effect) (event : Event) → CarriesOut (acts_of (step (after_all start (heard es)) event)) true ds → has_finish (script (heard es)) ≡ false → items es ≡ run (heard es) → items (es ++ Heard event ∷ ds) ≡ run (heard (es ++ Heard event ∷ ds))
   shown-more es ds event out unfinished in_order =
       let acts = (acts_of (step (after_all start (heard es)) event)) in
       let whole : out.going.done ≡ acts = sym (append-nil out.going.done) ∙ (ap (λ xs. out.going.done ++ xs) (sym (out.none_left refl)) ∙ out.going.parts) in
@@ -294,102 +215,3 @@ module _ (cookie : Cookie) where
       ∙ (ap (λ xs. xs ++ (Came event ∷ items ds)) in_order
       ∙ (ap (λ xs. run (heard es) ++ (Came event ∷ xs)) (out.going.in_order ∙ ap (map Did) (out.going.so_far ∙ ap deeds_in whole))
       ∙ sym (ap run (heard-more es ds event out.going.deaf) ∙ one-more-shown (heard es) event unfinished)))
-
-  -- the run goes on
-  pub goes_on : (coming left after : Option (List Event)) (engine next : Engine) (n : ℕ) (es ds : List Effect) (event : Event) → Runs coming left engine n es → TakesNext {E = Halt} left after (Ok event) → CarriesOut (acts_of (step (after_all start (heard es)) event)) true ds → Shows all_cut next (step (after_all start (heard es)) event).next → has_finish (acts_of (step (after_all start (heard es)) event)) ≡ false → Runs coming after next (suc n) (es ++ Heard event ∷ ds)
-  goes_on coming left after engine next n es ds event runs takes out shows goes =
-      let is_heard = heard-more es ds event out.going.deaf in
-      record {
-        shows = rw (is_heard, after_all-more start (heard es) event) shows;
-        count = ap length is_heard ∙ (length-more (heard es) event ∙ ap suc runs.count);
-        unfinished = finish-more es ds event out.going.deaf runs.unfinished ∙ goes;
-        all_done = done-more es ds event out runs.unfinished runs.all_done;
-        in_order = shown-more es ds event out runs.unfinished runs.in_order;
-        on_script = more_on_script es ds event out.left out.going runs.unfinished runs.all_done runs.on_script;
-        brought = rw is_heard (brought_more coming left after (heard es) event runs.brought takes);
-      }
-
-  -- what was brought, without what is left
-  brought_is : (coming left : Option (List Event)) (events : List Event) → BroughtSoFar coming left events → Brought coming events
-  brought_is None left events brought = tt
-  brought_is (Some coming) left events brought = brought.0
-
-  -- a fault but Spent cuts the run short
-  not_whole : (fault : ServeFault) → (fault ≡ Spent → ⊥) → is_whole (Err fault) ≡ true → ⊥
-  not_whole LinkFault apart e = false≢true e
-  not_whole ConsoleFault apart e = false≢true e
-  not_whole Spent apart e = apart refl
-  not_whole NoMemory apart e = false≢true e
-
-  ok_is_no_fault : (fault : ServeFault) → ◌≡◌ {A = Result (Unit {0}) ServeFault} (Ok tt) (Err fault) → ⊥
-  ok_is_no_fault fault e = cc
-
-  the_fault : (one other : ServeFault) → ◌≡◌ {A = Result (Unit {0}) ServeFault} (Err one) (Err other) → one ≡ other
-  the_fault one other e = cc
-
-  fault_is_no_ok : (fault : ServeFault) → IsOk {T = Unit {0}} (Err fault) → ⊥
-  fault_is_no_ok fault e = false≢true e
-
-  -- the machine's own end
-  pub is_end : (coming left after : Option (List Event)) (engine : Engine) (n turns : ℕ) (es ds : List Effect) (event : Event) → n < turns → Runs coming left engine n es → TakesNext {E = Halt} left after (Ok event) → CarriesOut (acts_of (step (after_all start (heard es)) event)) true ds → has_finish (acts_of (step (after_all start (heard es)) event)) ≡ true → Serves coming turns (Ok tt) (es ++ Heard event ∷ ds)
-  is_end coming left after engine n turns es ds event in_turns runs takes out finishes =
-      let is_heard = heard-more es ds event out.going.deaf in
-      record {
-        carries = record {
-          on_script = more_on_script es ds event out.left out.going runs.unfinished runs.all_done runs.on_script;
-          all_done = λ e. done-more es ds event out runs.unfinished runs.all_done;
-          ended = λ e. finish-more es ds event out.going.deaf runs.unfinished ∙ finishes;
-        };
-        brought = rw is_heard (brought_is coming after (heard es ++ event ∷ []) (brought_more coming left after (heard es) event runs.brought takes));
-        in_order = λ e. shown-more es ds event out runs.unfinished runs.in_order;
-        in_turns = omega (arith, ap length is_heard, length-more (heard es) event, runs.count);
-        spent = λ e. absurd (ok_is_no_fault Spent e);
-      }
-
-  -- a fault as an event was answered
-  pub is_cut_short : (coming left after : Option (List Event)) (engine : Engine) (n turns : ℕ) (es ds : List Effect) (event : Event) (fault : ServeFault) → (fault ≡ Spent → ⊥) → n < turns → Runs coming left engine n es → TakesNext {E = Halt} left after (Ok event) → CarriesOut (acts_of (step (after_all start (heard es)) event)) false ds → Serves coming turns (Err fault) (es ++ Heard event ∷ ds)
-  is_cut_short coming left after engine n turns es ds event fault apart in_turns runs takes out =
-      let is_heard = heard-more es ds event out.going.deaf in
-      record {
-        carries = record {
-          on_script = more_on_script es ds event out.left out.going runs.unfinished runs.all_done runs.on_script;
-          all_done = λ e. absurd (not_whole fault apart e);
-          ended = λ e. absurd (fault_is_no_ok fault e);
-        };
-        brought = rw is_heard (brought_is coming after (heard es ++ event ∷ []) (brought_more coming left after (heard es) event runs.brought takes));
-        in_order = λ e. absurd (not_whole fault apart e);
-        in_turns = omega (arith, ap length is_heard, length-more (heard es) event, runs.count);
-        spent = λ e. absurd (apart (the_fault fault Spent e));
-      }
-
-  -- no more came, for a fault of the links or for want of memory, or since the turns are spent
-  pub is_over : (coming left : Option (List Event)) (engine : Engine) (n turns : ℕ) (es : List Effect) (fault : ServeFault) → n ≤ turns → (fault ≡ Spent → n ≡ turns) → Runs coming left engine n es → Serves coming turns (Err fault) es
-  is_over coming left engine n turns es fault in_turns at_end runs = record {
-    carries = record {
-      on_script = runs.on_script;
-      all_done = λ e. runs.all_done;
-      ended = λ e. absurd (fault_is_no_ok fault e);
-    };
-    brought = brought_is coming left (heard es) runs.brought;
-    in_order = λ e. runs.in_order;
-    in_turns = omega (arith, runs.count);
-    spent = λ e. (runs.count ∙ at_end (the_fault fault Spent e), runs.unfinished);
-  }
-
-  brought_nothing : (coming : Option (List Event)) → Brought coming []
-  brought_nothing None = tt
-  brought_nothing (Some coming) = refl
-
-  -- a fault as the book was opened
-  pub is_unopened : (coming : Option (List Event)) (turns : ℕ) (es : List Effect) (fault : ServeFault) → (fault ≡ Spent → ⊥) → CarriesOut opening_acts false es → Serves coming turns (Err fault) es
-  is_unopened coming turns es fault apart out = record {
-    carries = record {
-      on_script = opening_on_script es out.left out.going;
-      all_done = λ e. absurd (not_whole fault apart e);
-      ended = λ e. absurd (fault_is_no_ok fault e);
-    };
-    brought = rw (out.going.deaf) (brought_nothing coming);
-    in_order = λ e. absurd (not_whole fault apart e);
-    in_turns = rw (out.going.deaf) (omega arith);
-    spent = λ e. absurd (apart (the_fault fault Spent e));
-  }

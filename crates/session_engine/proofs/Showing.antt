@@ -8,6 +8,7 @@ use Rattle.std.proofs.lemmas.List.{append-nil}
 use Rattle.std.proofs.lemmas.Bool.{cases_eq, false≢true}
 use Rattle.std.proofs.lemmas.Grind.{flat_map-append}
 use Rattle.sm_world.specs.declared.events.Event.TheVariants.{Piece}
+use Rattle.checkpoint_records.specs.declared.records.Book.{Book}
 use Rattle.ice_cookie.specs.declared.cookies.Cookie.{Cookie}
 use Rattle.ice_framing.specs.Frames.{fed, cut, standing_of, units, unit_limit}
 use Rattle.ice_framing.proofs.Cuts.{fed-nil, cut-partial}
@@ -21,7 +22,7 @@ use Rattle.session_model.specs.Rules.{opened, taken}
 use Rattle.session_engine.specs.Acts.{acts_for, acts_for_all}
 use Rattle.session_engine.specs.Answers.{outcome, sequence_after, KeepsWhole}
 use Rattle.session_engine.specs.Cutting.{IsNew, TakesFirst, HoldsAll, Unsets}
-use Rattle.session_engine.specs.Machine.{Connection, Machine, Step, Does, act_in, acts_of, acts_since, behind, connection_of, changed, without, joined, fed_with, counted, unset_on, connections_after, connections_through, opening_book, start, stays, noted, fed_on, parts_taken, told, step}
+use Rattle.session_engine.specs.Machine.{Connection, Machine, Step, Does, act_in, acts_of, acts_since, behind, connection_of, changed, without, joined, fed_with, counted, unset_on, connections_after, connections_through, start, stays, noted, fed_on, parts_taken, told, step}
 use Rattle.session_engine.specs.Shown.{kept_at, ChangesAt, CutsAt, UnsetsAt, Leaves, IsKeptOf, Matches, Agrees, AreDistinct, ShowsLive, Shows, TakesNone, parts_on, parts_left, all_cut, to_cut}
 use Rattle.session_engine.specs.Streams.{Part, parts_at, parts_of}
 use Rattle.session_engine.specs.Telling.{Follows, GivesBehind, IsAnswering, Tells, AgreesFor}
@@ -31,6 +32,7 @@ use Rattle.session_engine.specs.declared.connection.Connection.{Connection as Ke
 use Rattle.session_engine.specs.declared.connection.Answered.{Answered}
 use Rattle.session_engine.specs.declared.engine.Engine.{Engine}
 use Rattle.session_engine.specs.declared.live.Connections.{Connections}
+use Rattle.session_engine.proofs.Opening.{opened_live, opened_phase}
 use Rattle.session_engine.proofs.Connections.{same, other, connection_of-changed, connection_of-without, connection_of-append, changed_absent, distinct-changed, distinct-without, distinct-append}
 use Rattle.session_engine.proofs.Following.{agrees-told, agrees-changed, since-is, through-append}
 use Rattle.session_engine.proofs.Parts.{parts_at-partial, parts_of-append}
@@ -154,14 +156,14 @@ through-none [] = refl
 through-none (act ∷ acts) = ap (connections_through acts) (after-none act) ∙ through-none acts
 
 -- the opening is followed
-pub opens : (cookie : Cookie) (acts : List SessionAct) (first engine : Engine) → first.cookie ≡ cookie → ((q : ℕ) → kept_at first.live q ≡ None) → StandsFor first.manager (opened opening_book) → Follows acts first engine → Shows all_cut engine (start cookie)
-opens cookie acts first engine same_cookie none stands follows =
+pub opens : (cookie : Cookie) (book : Book) (acts : List SessionAct) (first engine : Engine) → first.cookie ≡ cookie → ((q : ℕ) → kept_at first.live q ≡ None) → StandsFor first.manager (opened book) → Follows acts first engine → Shows all_cut engine (start cookie book)
+opens cookie book acts first engine same_cookie none stands follows =
     let none_shown : ShowsLive all_cut first.live [] = record { each = λ q. rw (none q) tt; distinct = tt } in
     record {
       cookie = sym (follows.cookie ∙ same_cookie);
       live = subst (λ (ks : List Connection). ShowsLive all_cut engine.live ks) (through-none acts) (follows.live all_cut [] none_shown);
       stands = rw (follows.manager) stands;
-      agrees = record { numbers = refl; phases = λ q. refl };
+      agrees = record { numbers = sym (opened_live book); phases = λ q. ap is_some (opened_phase book q) };
     }
 
 -- acts that were given before the session was told

@@ -1,17 +1,27 @@
 -- What a run does to the outside: the list of its effects against the script of what it heard.
-use Rattle.std.specs.Prelude.{◌≡◌, ◌≤◌, ℕ, zero, suc, Bool, true, false, List, [], ◌∷◌, ◌++◌, length, take, drop, map, Option, Some, None, Result, Ok, Err, IsOk, IsErrOf}
-use Rattle.std.specs.List.{flat_map}
-use Rattle.sm_world.specs.Effects.{Sends, Shuts, Starts, Prints, heard, deeds, published}
+use Rattle.std.specs.Prelude.{◌≡◌, ◌≢◌, ◌≤◌, ◌<◌, ◌⊎◌, ℕ, zero, suc, Bool, true, false, List, [], ◌∷◌, ◌++◌, length, take, drop, Option, Some, None, Result, Ok, Err, IsOk, IsErrOf, IfErr}
+use Rattle.sm_world.specs.Crash.{Image}
+use Rattle.sm_world.specs.Disk.{KeepsToldSize}
+use Rattle.sm_world.specs.Effects.{heard, deeds, published}
 use Rattle.sm_world.specs.Events.{next_of}
+use Rattle.sm_world.specs.Outside.{Outside, Added}
 use Rattle.sm_world.specs.declared.effects.Effect.{Effect}
-use Rattle.sm_world.specs.declared.effects.Effect.TheVariants.{Heard, Sent, Shut, Started, Wrote, Torn, Synced, SyncFailed, Published, Printed}
+use Rattle.sm_world.specs.declared.effects.Effect.TheVariants.{Heard}
 use Rattle.sm_world.specs.declared.events.Event.{Event}
+use Rattle.checkpoint_records.specs.declared.records.Book.{Book}
+use Rattle.checkpoint_slots.specs.Causes.{IsSettled}
+use Rattle.checkpoint_slots.specs.Recovery.{Recovers}
+use Rattle.checkpoint_slots.specs.Turns.{SteadyFile, SteadyStands}
+use Rattle.checkpoint_slots.specs.declared.turn.Current.{Current}
 use Rattle.ice_cookie.specs.declared.cookies.Cookie.{Cookie}
-use Rattle.session_engine.specs.Acts.{deeds_in, has_finish}
-use Rattle.session_engine.specs.Machine.{Item, Came, Did, script_of, run_of}
+use Rattle.session_engine.specs.Acts.{book_after, deeds_in, has_finish}
+use Rattle.session_engine.specs.Causes.{IsOfRun}
+use Rattle.session_engine.specs.Doing.{items}
+use Rattle.session_engine.specs.Machine.{Item, script_of, run_of}
+use Rattle.session_engine.specs.Saved.{IsSaved, WearsOut}
 use Rattle.session_engine.specs.declared.acts.Act.{Act}
 use Rattle.session_engine.specs.declared.fault.ServeFault.{ServeFault}
-use Rattle.session_engine.specs.declared.fault.ServeFault.TheVariants.{LinkFault, ConsoleFault, Spent, NoMemory}
+use Rattle.session_engine.specs.declared.fault.ServeFault.TheVariants.{Damaged, WrongSize, DiskFault, LinkFault, ConsoleFault, Worn, Spent, NoMemory}
 
 abbrev pub IsPrefix : {A : Type 0} → List A → List A → Type 0
 IsPrefix {A} xs ys = (rest : List A) × (xs ++ rest ≡ ys)
@@ -20,8 +30,12 @@ IsPrefix {A} xs ys = (rest : List A) × (xs ++ rest ≡ ys)
 abbrev pub is_whole : Result (Unit {0}) ServeFault → Bool
 is_whole (Ok x) = true
 is_whole (Err Spent) = true
+is_whole (Err (Damaged at)) = false
+is_whole (Err (WrongSize size)) = false
+is_whole (Err DiskFault) = false
 is_whole (Err LinkFault) = false
 is_whole (Err ConsoleFault) = false
+is_whole (Err Worn) = false
 is_whole (Err NoMemory) = false
 
 -- the first n of the events to come, and End for each that isn't there
@@ -34,31 +48,15 @@ abbrev pub Brought : Option (List Event) → List Event → Type 0
 Brought None events = Unit {0}
 Brought (Some coming) events = events ≡ next_events (length events) coming
 
-abbrev pub item_of : Effect → List Item
-item_of (Heard event) = Came event ∷ []
-item_of (Sent conn bytes) = Did (Sends conn bytes) ∷ []
-item_of (Shut conn) = Did (Shuts conn) ∷ []
-item_of (Started command succeeded) = Did (Starts command) ∷ []
-item_of (Wrote at bytes) = []
-item_of (Torn at length) = []
-item_of Synced = []
-item_of SyncFailed = []
-item_of (Published path bytes) = []
-item_of (Printed text) = Did (Prints text) ∷ []
-
--- what a list of effects shows, in its order
-abbrev pub items : List Effect → List Item
-items effects = flat_map item_of effects
-
--- All that follows is said of a session with this cookie.
-module _ (cookie : Cookie) where
+-- All that follows is said of a session with this cookie that opens this book.
+module _ (cookie : Cookie) (opening : Book) where
   -- the acts of the session machine for these events
   abbrev pub script : List Event → List Act
-  script events = script_of cookie events
+  script events = script_of cookie opening events
 
   -- each of these events followed by its deeds
   abbrev pub run : List Event → List Item
-  run events = run_of cookie events
+  run events = run_of cookie opening events
 
   -- The first effects of a run, against the script of the events among them.
   pub record IsOnScript (effects : List Effect) : Type 0 where
@@ -71,6 +69,17 @@ module _ (cookie : Cookie) where
     -- no file is published
     pub none_published : published effects ≡ []
 
+  -- a file recovers to the last checkpoint that the machine decided
+  abbrev pub IsCurrent : List Effect → List ℕ → Type 0
+  IsCurrent effects file = Recovers file (Ok (book_after opening (script (heard effects))))
+
+  -- What a crash leaves, where the store began with the bytes `first` and had these effects before the run.
+  pub record Keeps (first : List ℕ) (before effects : List Effect) : Type 0 where
+    -- at each point every file that a crash may leave recovers to a checkpoint of the script: one that stands behind a front with exactly the deeds done
+    pub saved : (n : ℕ) (file : List ℕ) → Image first (before ++ take n effects) file → IsSaved opening (script (heard (take n effects))) (deeds (take n effects)) file
+    -- and to the last one, before anything more is heard
+    pub none_behind : (n : ℕ) (event : Event) (more : List Effect) → drop n effects ≡ Heard event ∷ more → (file : List ℕ) → Image first (before ++ take n effects) file → IsCurrent (take n effects) file
+
   -- The effects of a run with this answer are those of the session machine, in its order.
   pub record Carries (effects : List Effect) (answer : Result (Unit {0}) ServeFault) : Type 0 where
     -- at each point of the run
@@ -80,28 +89,67 @@ module _ (cookie : Cookie) where
     -- Ok is the machine's own end
     pub ended : IsOk answer → has_finish (script (heard effects)) ≡ true
 
-  -- What a call of the engine adds: a run of the session machine over the events that it was brought.
-  pub record Serves (coming : Option (List Event)) (turns : ℕ) (answer : Result (Unit {0}) ServeFault) (effects : List Effect) : Type 0 where
+  -- A run over a store whose turn stood for the opened book.
+  pub record Runs (current : Option Current) (answer : Result (Unit {0}) ServeFault) (effects : List Effect) : Type 0 where
     pub carries : Carries effects answer
-    pub brought : Brought coming (heard effects)
     -- events and deeds stand in the machine's order
     pub in_order : is_whole answer ≡ true → items effects ≡ run (heard effects)
+    pub keeps : (first : List ℕ) (before : List Effect) → SteadyStands current opening first before → Keeps first before effects
+    -- where no fault cut the run short, the last checkpoint is in the store
+    pub is_current : is_whole answer ≡ true → (first : List ℕ) (before : List Effect) → SteadyStands current opening first before → (file : List ℕ) → Image first (before ++ effects) file → IsCurrent effects file
+    -- no fault of the recovery comes any more
+    pub opened : IfErr answer IsOfRun
+    -- the store is worn where a commit found no number more
+    pub worn : IsErrOf answer Worn → WearsOut current (script (heard effects)) effects
+
+  -- What a call of the engine adds: a run over the events that it was brought.
+  pub record Serves (current : Option Current) (coming : Option (List Event)) (turns : ℕ) (answer : Result (Unit {0}) ServeFault) (effects : List Effect) : Type 0 where
+    pub runs : Runs current answer effects
+    pub brought : Brought coming (heard effects)
     -- no more is heard than was granted
     pub in_turns : length (heard effects) ≤ turns
     -- the turns are spent where so many events were heard and none ended the run
     pub spent : IsErrOf answer Spent → (length (heard effects) ≡ turns) × (has_finish (script (heard effects)) ≡ false)
 
--- Effects that do all but the acts that are left, and hear and publish nothing.
-pub record Going (all left : List Act) (effects : List Effect) : Type 0 where
-  pub deaf : heard effects ≡ []
-  pub quiet : published effects ≡ []
-  pub done : List Act
-  pub parts : done ++ left ≡ all
-  pub so_far : deeds effects ≡ deeds_in done
-  pub in_order : items effects ≡ map Did (deeds effects)
+  -- The headline, for a store that began with this file: all that was sent, started and shut is the machine's, in its order, and every file
+  -- that a crash could leave at any point recovers to one whole checkpoint, at least as new as the last one decided before any deed done.
+  pub record KeepsItsWord (file : List ℕ) (answer : Result (Unit {0}) ServeFault) (effects : List Effect) : Type 0 where
+    pub carries : Carries effects answer
+    pub keeps : Keeps file [] effects
+    pub is_current : is_whole answer ≡ true → (left : List ℕ) → Image file effects left → IsCurrent effects left
 
--- Effects that do the acts in order, and all of them where `whole` holds.
-pub record CarriesOut (acts : List Act) (whole : Bool) (effects : List Effect) : Type 0 where
-  pub left : List Act
-  pub going : Going acts left effects
-  pub none_left : whole ≡ true → left ≡ []
+-- The beginning of a run
+
+-- What recovery found is what each file stands for of which no byte is in doubt. It has the size of a store.
+abbrev pub IsRecovered : Outside → Book → Option Current → Type 0
+IsRecovered outside book current = (file : List ℕ) → IsSettled outside file → (length file ≡ 16777280) × SteadyFile current book file
+
+-- Why no run was begun, where the disk tells this size: in this order, the size, a damage, and an epoch that can't be raised.
+abbrev pub IsUnopened : Outside → ℕ → ServeFault → Type 0
+IsUnopened outside told (WrongSize size) = (size ≡ told) × (size ≢ 16777280)
+IsUnopened outside told (Damaged at) = (told ≡ 16777280) × ((file : List ℕ) → IsSettled outside file → Recovers file (Err at))
+IsUnopened outside told Worn = (told ≡ 16777280) × ((book : Book) × (current : Option Current) × IsRecovered outside book current × (book.epoch ≡ 4294967295))
+IsUnopened outside told DiskFault = Unit {0}
+IsUnopened outside told NoMemory = Unit {0}
+IsUnopened outside told LinkFault = ⊥
+IsUnopened outside told ConsoleFault = ⊥
+IsUnopened outside told Spent = ⊥
+
+-- nothing was done, and the store has its size still
+pub record Rests (old new : Outside) (fault : ServeFault) : Type 0 where
+  pub told : new.told ≡ old.told
+  pub kept : KeepsToldSize old new
+  pub cause : IsUnopened old new.size fault
+
+-- The store was recovered, its epoch can be raised, and these effects were added over its book.
+pub record Opens (old new : Outside) (P : Book → Option Current → List Effect → Type 0) : Type 0 where
+  pub book : Book
+  pub current : Option Current
+  pub recovered : IsRecovered old book current
+  pub size : new.size ≡ 16777280
+  pub below : book.epoch < 4294967295
+  pub adds : Added old.told new.told (P book current)
+
+-- what a call that opens a store may do at a fault
+abbrev pub FailsOr : Outside → Outside → (Book → Option Current → List Effect → Type 0) → ServeFault → Type 0
+FailsOr old new P fault = Rests old new fault ⊎ Opens old new P

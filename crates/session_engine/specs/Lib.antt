@@ -5,7 +5,11 @@ pub mod Acts
 pub mod Causes
 pub mod Cutting
 pub mod Machine
+pub mod Doing
+pub mod Starting
+pub mod Saved
 pub mod Carries
+pub mod Session
 pub mod Places
 pub mod Shown
 pub mod Telling

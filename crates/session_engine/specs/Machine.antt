@@ -9,7 +9,6 @@ use Rattle.ice_cookie.specs.declared.cookies.Cookie.{Cookie}
 use Rattle.ice_setup.specs.declared.states.AnySetup.{AnySetup}
 use Rattle.ice_setup.specs.declared.states.AnySetup.TheVariants.{AwaitOrder as AtOrder}
 use Rattle.ice_messages.specs.declared.message.IceMessage.TheVariants.{ByteOrder, NoClose}
-use Rattle.checkpoint_records.specs.Books.{empty_book}
 use Rattle.checkpoint_records.specs.declared.records.Book.{Book}
 use Rattle.session_model.specs.Moves.{History, all_acts}
 use Rattle.session_model.specs.Phases.{is_bound}
@@ -61,17 +60,13 @@ pub record Step : Type 0 where
 abbrev pub acts_of : Step → List Act
 acts_of step = flat_map act_in step.line
 
--- the book that a run opens; none is kept yet
-abbrev pub opening_book : Book
-opening_book = empty_book
+-- what is done as a book is opened
+abbrev pub opening_acts : Book → List Act
+opening_acts book = acts_for_all (all_acts (opened book))
 
--- what is done as the book is opened
-abbrev pub opening_acts : List Act
-opening_acts = acts_for_all (all_acts (opened opening_book))
-
--- before anything came
-abbrev pub start : Cookie → Machine
-start cookie = record { cookie = cookie; connections = []; session = opened opening_book }
+-- a run that opens this book, before anything came
+abbrev pub start : Cookie → Book → Machine
+start cookie book = record { cookie = cookie; connections = []; session = opened book }
 
 abbrev pub connection_of : ℕ → List Connection → Option Connection
 connection_of c [] = None
@@ -234,8 +229,8 @@ script_from m [] = []
 script_from m (event ∷ events) = acts_of (step m event) ++ (if has_finish (acts_of (step m event)) then [] else script_from (step m event).next events)
 
 -- the opening acts, and those for the events
-abbrev pub script_of : Cookie → List Event → List Act
-script_of cookie events = opening_acts ++ script_from (start cookie) events
+abbrev pub script_of : Cookie → Book → List Event → List Act
+script_of cookie book events = opening_acts book ++ script_from (start cookie book) events
 
 -- what the run shows, in its order: an event came, or a deed was done
 pub data Item : Type 0 where
@@ -247,5 +242,5 @@ run_from m [] = []
 run_from m (event ∷ events) = Came event ∷ (map Did (deeds_in (acts_of (step m event))) ++ (if has_finish (acts_of (step m event)) then [] else run_from (step m event).next events))
 
 -- the deeds of the opening, and each event followed by its deeds, up to the end of the run
-abbrev pub run_of : Cookie → List Event → List Item
-run_of cookie events = map Did (deeds_in opening_acts) ++ run_from (start cookie) events
+abbrev pub run_of : Cookie → Book → List Event → List Item
+run_of cookie book events = map Did (deeds_in (opening_acts book)) ++ run_from (start cookie book) events

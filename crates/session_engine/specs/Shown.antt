@@ -1,22 +1,24 @@
 -- What the code keeps of the connections, against the machine.
-use Rattle.std.specs.Prelude.{◌≡◌, ℕ, ◌%◌, ◌^◌, Bool, true, false, List, [], ◌∷◌, ◌++◌, length, drop, map, Option, Some, None, nat_eq, is_some, if◌then◌else◌}
+use Rattle.std.specs.Prelude.{◌≡◌, ℕ, ◌%◌, ◌^◌, Bool, true, false, List, [], ◌∷◌, ◌++◌, length, drop, map, Option, Some, None, Result, IsOk, nat_eq, is_some, if◌then◌else◌}
 use Rattle.std.specs.Ordering.{nat_cmp}
 use Rattle.std.specs.BTreeMap.{get as place_of}
 use Rattle.sm_world.specs.Outside.{Added}
 use Rattle.sm_world.specs.declared.effects.Effect.{Effect}
 use Rattle.ice_framing.specs.Frames.{fed, cut, standing_of}
+use Rattle.checkpoint_slots.specs.declared.turn.Current.{Current}
 use Rattle.manager_machine.specs.Keeper.{StandsFor}
 use Rattle.session_model.specs.Moves.{History}
 use Rattle.session_model.specs.Readings as of
 use Rattle.session_engine.specs.Answers.{speaks_xsmp}
-use Rattle.session_engine.specs.Carries.{CarriesOut}
 use Rattle.session_engine.specs.Cutting.{Cuts, Unsets}
 use Rattle.session_engine.specs.Machine.{Connection, Machine, Step, acts_of, connection_of, part_taken}
 use Rattle.session_engine.specs.Places.{kept_in}
+use Rattle.session_engine.specs.Saved.{Performs}
 use Rattle.session_engine.specs.Streams.{Part, parts_at, parts_of}
 use Rattle.session_engine.specs.declared.connection.Connection.{Connection as Kept}
 use Rattle.session_engine.specs.declared.connection.Answered.{Answered}
 use Rattle.session_engine.specs.declared.engine.Engine.{Engine}
+use Rattle.session_engine.specs.declared.fault.Halt.{Halt}
 use Rattle.session_engine.specs.declared.live.Connections.{Connections}
 
 -- what is kept of a connection, and None where it isn't live
@@ -126,7 +128,7 @@ abbrev pub Takes : Machine → ℕ → List ℕ → Option ℕ → Engine → Ty
 Takes m c left None engine = TakesNone m c engine
 Takes m c left (Some count) engine = TakesPart m c (drop count left) engine
 
--- The effects that were added do the acts of a step, and the session shows the machine after it.
-pub record Carried (old new : Option (List Effect)) (engine : Engine) (step : Step) (whole : Bool) : Type 0 where
-  pub acts : Added old new (CarriesOut (acts_of step) whole)
-  pub shows : whole ≡ true → Shows all_cut engine step.next
+-- The effects that were added do the acts of a step over a turn of the store, and the session shows the machine after it.
+pub record Carried (old new : Option (List Effect)) (current : Option Current) (engine : Engine) (step : Step) (answer : Result (Option Current) Halt) : Type 0 where
+  pub acts : Added old new (Performs current (acts_of step) answer)
+  pub shows : IsOk answer → Shows all_cut engine step.next

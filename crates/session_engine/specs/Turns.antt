@@ -1,5 +1,7 @@
--- Whether the run goes on.
-use Rattle.std.specs.Prelude.{Bool, true, false, if◌then◌else◌}
+-- Whether the run goes on, and who has the store then.
+use Rattle.std.specs.Prelude.{Bool, true, false, if◌then◌else◌, Option, Result, Ok, Err}
+use Rattle.checkpoint_slots.specs.declared.turn.Current.{Current}
+use Rattle.session_engine.specs.declared.fault.Halt.{Halt}
 use Rattle.session_engine.specs.declared.serving.Turn.{Turn}
 use Rattle.session_engine.specs.declared.serving.Turn.TheVariants.{GoesOn, Ended}
 
@@ -10,3 +12,8 @@ is_end Ended = true
 -- the run ends in the first of two parts of it, or in the second
 abbrev pub either : Bool → Bool → Bool
 either first second = if first then true else second
+
+-- who has the store's turn behind some acts
+abbrev pub stored : Result (Option Current × Turn) Halt → Result (Option Current) Halt
+stored (Ok done) = Ok done.0
+stored (Err halt) = Err halt

@@ -8,7 +8,7 @@ use ice_cookie::Cookie;
 use ice_messages::IceMessage;
 use ice_values::Endian;
 use manager_machine::{Act as SessionAct, Acts, Manager};
-use session_model::SessionEvent;
+use session_model::{Marks, SessionEvent};
 use sm_world::{Conn, NoMemory, Order};
 use std::alloc::Global;
 use std::collections::VecDeque;
@@ -26,9 +26,10 @@ pub struct Engine {
 }
 
 impl Engine {
-    ghost use Rattle.std.specs.Prelude.{◌≡◌, ◌≤◌, ◌++◌, [], ◌∷◌, length, IfOk, IfSome, OnOk};
+    ghost use Rattle.std.specs.Prelude.{◌≡◌, ◌≤◌, ◌<◌, ◌++◌, [], ◌∷◌, length, IfOk, IfSome, OnOk};
     ghost use Rattle.std.specs.List.{AllByRecursion};
     ghost use Rattle.sm_world.specs.declared.events.Event.TheVariants.{Joined, Gone, Operator};
+    ghost use Rattle.checkpoint_records.specs.Rules.{KeepsRules};
     ghost use Rattle.manager_machine.specs.Keeper.{AreFit, IsFit};
     ghost use Rattle.session_model.specs.Rules.{Takes as TakesEvent};
     ghost use Rattle.session_model.specs.declared.events.SessionEvent.TheVariants.{Left as LeftIt};
@@ -41,12 +42,14 @@ impl Engine {
     ghost use Rattle.session_engine.specs.Telling.{Tells, Follows, TakesAnswer, Answers, Departs, IsStanding};
     ghost use Rattle.session_engine.specs.declared.acts.Act.TheVariants.{Shut};
 
-    /// A session with this cookie, before anything came. It gives what opens it.
-    pub fn new(alloc: Global, cookie: Cookie) -> Result<Engine, NoMemory>
-        ensures shows { IfOk result (λ engine. Shows all_cut engine (start cookie)) }
-        ensures acts { IfOk result (λ engine. engine.acts ≡ opening_acts) }
+    /// A session with this cookie over a book, before anything came. It gives what opens the book.
+    pub fn new(alloc: Global, cookie: Cookie, book: Book) -> Result<Engine, NoMemory>
+        requires rules { KeepsRules book }
+        requires below { book.epoch < 4294967295 }
+        ensures shows { IfOk result (λ engine. Shows all_cut engine (start cookie book)) }
+        ensures acts { IfOk result (λ engine. engine.acts ≡ opening_acts book) }
     {
-        let (manager, acts) = Manager::begin(alloc, Book::empty(alloc)?)?;
+        let (manager, acts) = Manager::begin(alloc, book)?;
         let mut engine = Engine {
             cookie,
             live: Connections::new(alloc),
@@ -63,6 +66,20 @@ impl Engine {
         ensures can { AllByRecursion CanBeDone result.now }
     {
         self.acts.as_slice()
+    }
+
+    /// The book that was committed last.
+    pub fn book(&self) -> &Book
+        ensures { result.now ≡ self.now.manager.session.book }
+    {
+        self.manager.book()
+    }
+
+    /// How far the rounds of all clients are.
+    pub fn marks(&self) -> Marks
+        ensures { result ≡ self.now.manager.session.marks }
+    {
+        self.manager.marks()
     }
 
     /// Does to the live connections what the session did, and gives it to the outside.

@@ -1,5 +1,6 @@
 ghost use Rattle.std.specs.Prelude.{List, length, ◌≤◌};
 ghost use Rattle.sm_world.specs.declared.events.Event.{Event as AnyEvent};
+ghost use Rattle.checkpoint_records.specs.declared.records.Book.{Book as AnyBook};
 ghost use Rattle.session_engine.specs.Machine.{start, after_all, live_limit};
 
 use ice_cookie::Cookie;
@@ -7,5 +8,5 @@ use ice_cookie::Cookie;
 /// Does nothing: its contract is a law of the session machine. Whatever came, at most 64
 /// connections are live.
 pub fn at_most_64_live(cookie: Cookie)
-    ensures { (events : List AnyEvent) → length (after_all (start cookie) events).connections ≤ live_limit }
+    ensures { (book : AnyBook) (events : List AnyEvent) → length (after_all (start cookie book) events).connections ≤ live_limit }
 {}

@@ -11,6 +11,7 @@ mod laws;
 mod live;
 mod messages;
 mod serving;
+mod session;
 mod shell;
 
 pub use acts::Act;
@@ -18,7 +19,7 @@ pub use answers::{Answer, Outcome};
 pub use fault::ServeFault;
 pub use laws::at_most_64_live;
 pub use messages::Message;
-pub use serving::serve;
+pub use session::{Session, Stepped, serve};
 
 #[cfg(test)]
 mod tests;

@@ -2,16 +2,19 @@ ghost use Rattle.std.specs.Prelude.{◌≡◌, [], ◌∷◌, ◌++◌, IfOk, On
 ghost use Rattle.sm_world.specs.Events.{HasPieceSize};
 ghost use Rattle.sm_world.specs.Outside.{adds, of_ok, TakesNext};
 ghost use Rattle.sm_world.specs.declared.effects.Effect.TheVariants.{Heard};
-ghost use Rattle.session_engine.specs.Causes.{KeepsCounts};
+ghost use Rattle.session_engine.specs.Causes.{IsNotWorn, KeepsCounts};
 ghost use Rattle.session_engine.specs.Messages.{spelled, IsTooLong};
+ghost use Rattle.session_engine.specs.Starting.{handed_on};
 
 use crate::acts::Act;
-use crate::fault::{Halt, console_halt, link_halt};
+use crate::fault::{Halt, commit_halt, console_halt, link_halt};
 use crate::messages::Message;
+use checkpoint_records::Book;
+use checkpoint_slots::Steady;
 use ice_messages::encode_ice;
 use ice_setup::MANAGER_OPCODE;
 use ice_values::{EncodeRefusal, Endian};
-use sm_world::{Conn, Console, Event, Links, NoMemory, Octets};
+use sm_world::{Command, Conn, Console, Disk, Event, Links, NoMemory, Octets, Spawner};
 use std::alloc::Global;
 use xsmp_messages::encode_xsmp;
 
@@ -20,6 +23,8 @@ pub fn hear<W: Links>(world: &mut W) -> Result<Event, Halt>
     ensures effects { (W.outside world.new).told ≡ adds (W.outside world.old).told (of_ok Heard result) }
     ensures coming { TakesNext (W.outside world.old).coming (W.outside world.new).coming result }
     ensures size { IfOk result HasPieceSize }
+    ensures store { (W.outside world.new).size ≡ (W.outside world.old).size }
+    ensures able { IsNotWorn result }
     ensures counts { KeepsCounts (W.outside world.old).faults (W.outside world.new).faults result }
 {
     world.next().map_err(link_halt)
@@ -45,26 +50,41 @@ fn put_line(text: &[u8], bytes: &mut Octets) -> Result<(), NoMemory>
     bytes.append(b"\n")
 }
 
+/// The store's turn, where an act was done that isn't the store's.
+fn hand_on(done: Result<(), Halt>, store: Steady) -> Result<Steady, Halt>
+    ensures { result ≡ handed_on store done }
+{
+    match done {
+        Ok(()) => Ok(store),
+        Err(halt) => Err(halt),
+    }
+}
+
 /// Does acts on the devices of a world. It knows nothing of the session.
 #[derive(Debug, Drop)]
 pub struct Shell {
+    alloc: Global,
     /// The bytes of the last message. Their memory serves the next one.
     bytes: Octets,
 }
 
 impl Shell {
-    ghost use Rattle.std.specs.Prelude.{◌≡◌, [], ◌∷◌, ◌++◌, is_ok};
+    ghost use Rattle.std.specs.Prelude.{◌≡◌, [], ◌∷◌, ◌++◌};
     ghost use Rattle.std.specs.List.{AllByRecursion};
     ghost use Rattle.sm_world.specs.Outside.{Added, adds, on_ok};
     ghost use Rattle.sm_world.specs.declared.effects.Effect.TheVariants.{Sent, Shut, Printed};
+    ghost use Rattle.checkpoint_records.specs.Rules.{KeepsRules};
     ghost use Rattle.session_engine.specs.Acts.{CanBeDone};
-    ghost use Rattle.session_engine.specs.Carries.{CarriesOut};
-    ghost use Rattle.session_engine.specs.Causes.{HearsNone};
+    ghost use Rattle.session_engine.specs.Causes.{HearsNone, IsNotWorn};
     ghost use Rattle.session_engine.specs.Messages.{spelled, IsTooLong};
+    ghost use Rattle.session_engine.specs.Saved.{Performs};
+    ghost use Rattle.session_engine.specs.Starting.{Launches};
+    ghost use Rattle.session_engine.specs.declared.acts.Act.TheVariants.{Commit as Commits};
 
     /// This takes no memory.
     pub fn new(alloc: Global) -> Shell {
         Shell {
+            alloc,
             bytes: Octets::new(alloc),
         }
     }
@@ -72,6 +92,7 @@ impl Shell {
     fn send<W: Links>(&mut self, world: &mut W, to: Conn, message: &Message) -> Result<(), Halt>
         requires { ¬ (IsTooLong message.now) }
         ensures effects { (W.outside world.new).told ≡ adds (W.outside world.old).told (on_ok result (Sent to (spelled message.now) ∷ [])) }
+        ensures able { IsNotWorn result }
         ensures alone { HearsNone (W.outside world.old) (W.outside world.new) result }
     {
         self.bytes.truncate(0);
@@ -85,14 +106,28 @@ impl Shell {
 
     fn shut<W: Links>(&mut self, world: &mut W, to: Conn) -> Result<(), Halt>
         ensures effects { (W.outside world.new).told ≡ adds (W.outside world.old).told (on_ok result (Shut to ∷ [])) }
+        ensures able { IsNotWorn result }
         ensures alone { HearsNone (W.outside world.old) (W.outside world.new) result }
     {
         world.shut(to).map_err(link_halt)
     }
 
+    /// Starts a command. One that can't be started counts as tried.
+    fn start<W: Spawner>(&mut self, world: &mut W, command: &Command) -> Result<(), Halt>
+        ensures effects { Launches (W.outside world.old).told (W.outside world.new).told command.now result }
+        ensures able { IsNotWorn result }
+        ensures alone { HearsNone (W.outside world.old) (W.outside world.new) result }
+    {
+        match world.start(command) {
+            Ok(_) => Ok(()),
+            Err(NoMemory) => Err(Halt::NoMemory),
+        }
+    }
+
     /// Prints a line.
     fn print<W: Console>(&mut self, world: &mut W, text: &[u8]) -> Result<(), Halt>
         ensures effects { (W.outside world.new).told ≡ adds (W.outside world.old).told (on_ok result (Printed (text.now ++ 10 ∷ []) ∷ [])) }
+        ensures able { IsNotWorn result }
         ensures alone { HearsNone (W.outside world.old) (W.outside world.new) result }
     {
         if put_line(text, &mut self.bytes).is_err() {
@@ -101,33 +136,79 @@ impl Shell {
         world.print(self.bytes.as_slice()).map_err(console_halt)
     }
 
-    fn do_act<W: Links + Console>(&mut self, world: &mut W, act: &Act) -> Result<(), Halt>
-        requires { CanBeDone act.now }
-        ensures done { Added (W.outside world.old).told (W.outside world.new).told (CarriesOut (act.now ∷ []) (is_ok result)) }
+    /// Writes a checkpoint: it is spelled before the disk is touched, and stands in the store once
+    /// its gate is lifted.
+    fn commit<W: Disk>(
+        &mut self,
+        world: &mut W,
+        store: Steady,
+        book: &Book,
+    ) -> Result<Steady, Halt>
+        requires size { (W.outside world.old).size ≡ 16777280 }
+        requires rules { KeepsRules book.now }
+        ensures done { Added (W.outside world.old).told (W.outside world.new).told (Performs store (Commits book.now ∷ []) result) }
         ensures alone { HearsNone (W.outside world.old) (W.outside world.new) result }
     {
-        match act {
-            Act::Say(to, message) => self.send(world, *to, message),
-            Act::Shut(conn) => self.shut(world, *conn),
-            Act::Start(_) => Ok(()),
-            Act::Commit(_) => Ok(()),
-            Act::Print(text) => self.print(world, text.as_slice()),
-            Act::Finish => Ok(()),
+        let _epoch = book.epoch;
+        let (store, body) = match store.spell(self.alloc, book) {
+            Ok(spelled) => spelled,
+            Err((_, fault)) => return Err(commit_halt(fault)),
+        };
+        let closed = match store.close(world) {
+            Ok(closed) => closed,
+            Err(fault) => return Err(commit_halt(fault)),
+        };
+        let filled = match closed.fill(world, &body) {
+            Ok(filled) => filled,
+            Err(fault) => return Err(commit_halt(fault)),
+        };
+        match filled.lift(world) {
+            Ok(store) => Ok(store),
+            Err(fault) => Err(commit_halt(fault)),
         }
     }
 
-    /// Does acts in their order, up to one that a device refuses.
-    pub fn perform<W: Links + Console>(&mut self, world: &mut W, acts: &[Act]) -> Result<(), Halt>
-        requires { AllByRecursion CanBeDone acts.now }
-        ensures done { Added (W.outside world.old).told (W.outside world.new).told (CarriesOut acts.now (is_ok result)) }
+    /// Does an act, and hands the store's turn on.
+    fn do_act<W: Disk + Links + Spawner + Console>(
+        &mut self,
+        world: &mut W,
+        store: Steady,
+        act: &Act,
+    ) -> Result<Steady, Halt>
+        requires size { (W.outside world.old).size ≡ 16777280 }
+        requires can { CanBeDone act.now }
+        ensures done { Added (W.outside world.old).told (W.outside world.new).told (Performs store (act.now ∷ []) result) }
         ensures alone { HearsNone (W.outside world.old) (W.outside world.new) result }
     {
+        match act {
+            Act::Say(to, message) => hand_on(self.send(world, *to, message), store),
+            Act::Shut(conn) => hand_on(self.shut(world, *conn), store),
+            Act::Start(command) => hand_on(self.start(world, command), store),
+            Act::Commit(book) => self.commit(world, store, book),
+            Act::Print(text) => hand_on(self.print(world, text.as_slice()), store),
+            Act::Finish => Ok(store),
+        }
+    }
+
+    /// Does acts in their order, up to one that a device refuses, and hands the store's turn on.
+    pub fn perform<W: Disk + Links + Spawner + Console>(
+        &mut self,
+        world: &mut W,
+        store: Steady,
+        acts: &[Act],
+    ) -> Result<Steady, Halt>
+        requires size { (W.outside world.old).size ≡ 16777280 }
+        requires can { AllByRecursion CanBeDone acts.now }
+        ensures done { Added (W.outside world.old).told (W.outside world.new).told (Performs store acts.now result) }
+        ensures alone { HearsNone (W.outside world.old) (W.outside world.new) result }
+    {
+        let mut store = store;
         for act in acts {
-            match self.do_act(world, act) {
-                Ok(()) => {}
+            match self.do_act(world, store, act) {
+                Ok(next) => store = next,
                 Err(halt) => return Err(halt),
             }
         }
-        Ok(())
+        Ok(store)
     }
 }

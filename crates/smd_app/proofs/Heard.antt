@@ -5,6 +5,7 @@ use Rattle.std.proofs.lemmas.List.{take_all, take-append-le, take-append-drop}
 use Rattle.std.proofs.lemmas.Bool.{cases_lt, false≢true}
 use Rattle.sm_world.specs.declared.events.Event.{Event}
 use Rattle.sm_world.specs.declared.events.Event.TheVariants.{End}
+use Rattle.checkpoint_records.specs.Books.{empty_book}
 use Rattle.session_engine.specs.Carries.{next_events}
 use Rattle.session_engine.specs.Acts.{deeds_in, has_finish}
 use Rattle.session_engine.specs.Machine.{Machine, Came, Did, Item, acts_of, start as start_with, step, script_from, run_from}
@@ -15,13 +16,13 @@ use Rattle.smd_app.specs.Rehearsals.{rehearsal_cookie, with_end, ends_within}
 
 -- the machine of a rehearsal
 abbrev pub start : Machine
-start = start_with rehearsal_cookie
+start = start_with rehearsal_cookie empty_book
 
 abbrev pub script : List Event → List Act
-script events = script_with rehearsal_cookie events
+script events = script_with rehearsal_cookie empty_book events
 
 abbrev pub run : List Event → List Item
-run events = run_with rehearsal_cookie events
+run events = run_with rehearsal_cookie empty_book events
 
 later_finish : (b : Bool) (rest : List Act) → (if b then true else has_finish (if b then [] else rest)) ≡ true → b ≡ false → has_finish rest ≡ true
 later_finish true rest e unfinished = absurd (false≢true (sym unfinished))

@@ -1,7 +1,8 @@
--- A rehearsal: a script's events, and then End, are run on a world in memory.
+-- A rehearsal: a script's events, and then End, are run on a world in memory, whose store has no book yet.
 use Rattle.std.specs.Prelude.{◌≡◌, ℕ, ◌≤◌, Bool, true, false, List, [], ◌∷◌, ◌++◌, length, take}
 use Rattle.sm_world.specs.declared.events.Event.{Event}
 use Rattle.sm_world.specs.declared.events.Event.TheVariants.{End}
+use Rattle.checkpoint_records.specs.Books.{empty_book}
 use Rattle.ice_cookie.specs.declared.cookies.Cookie.{Cookie}
 use Rattle.session_engine.specs.Carries.{script, run}
 use Rattle.session_engine.specs.Acts.{has_finish}
@@ -24,7 +25,7 @@ with_end events = events ++ End ∷ []
 
 -- one of the first so many events ends the run
 abbrev pub ends_within : ℕ → List Event → Bool
-ends_within turns events = has_finish (script rehearsal_cookie (take turns (with_end events)))
+ends_within turns events = has_finish (script rehearsal_cookie empty_book (take turns (with_end events)))
 
 -- The script was read to its end, and its run came to its own end within the turns.
 pub record Finishes (bytes : List ℕ) (turns : ℕ) (events : List Event) : Type 0 where
@@ -39,11 +40,11 @@ pub record Outlasts (bytes : List ℕ) (turns : ℕ) (events : List Event) : Typ
 
 -- the lines of the whole run
 abbrev pub whole_trace : List Event → List ℕ
-whole_trace events = text (run rehearsal_cookie (with_end events))
+whole_trace events = text (run rehearsal_cookie empty_book (with_end events))
 
 -- the lines for the first events, as many as there were turns
 abbrev pub first_trace : ℕ → List Event → List ℕ
-first_trace turns events = text (run rehearsal_cookie (take turns events))
+first_trace turns events = text (run rehearsal_cookie empty_book (take turns events))
 
 -- whether the run came to its end, and its lines
 pub record Rehearses (events : List Event) (turns : ℕ) (rehearsal : Rehearsal) : Type 0 where

@@ -42,6 +42,12 @@ pub fn run_in_memory(alloc: Global, events: EventList, turns: u64) -> Result<Reh
         Ok(()) => true,
         Err(ServeFault::Spent) => false,
         Err(ServeFault::NoMemory) => return Err(NoMemory),
+        // This disk fails for want of memory alone, and that is found long before the numbers of
+        // the checkpoints are used up.
+        Err(ServeFault::DiskFault) => return Err(NoMemory),
+        Err(ServeFault::Worn) => return Err(NoMemory),
+        Err(ServeFault::WrongSize { .. }) => unreachable!(),
+        Err(ServeFault::Damaged { .. }) => unreachable!(),
         Err(ServeFault::LinkFault) => unreachable!(),
         Err(ServeFault::ConsoleFault) => unreachable!(),
     };

@@ -1,0 +1,227 @@
+-- What a session stands for, from event to event: the theorem about the engine, on lists alone.
+use Rattle.std.proofs.Common.{◌≡◌, inl, inr, ℕ, zero, suc, ◌+◌, Bool, true, false, List, [], ◌∷◌, ◌++◌, take, drop, map, Option, Result, Ok, Err, IsOk, IsErrOf, is_ok, refl, sym, ◌∙◌, ap, arith, append_assoc}
+use Rattle.std.proofs.lemmas.List.{append-nil, take-append-drop}
+use Rattle.std.proofs.lemmas.Bool.{false≢true}
+use Rattle.std.proofs.lemmas.Grind.{flat_map-append}
+use Rattle.sm_world.specs.Crash.{Image}
+use Rattle.sm_world.specs.Effects.{deed_of, deeds, heard}
+use Rattle.sm_world.specs.declared.effects.Effect.{Effect}
+use Rattle.sm_world.specs.declared.effects.Effect.TheVariants.{Heard}
+use Rattle.sm_world.specs.declared.events.Event.{Event}
+use Rattle.checkpoint_records.specs.declared.records.Book.{Book}
+use Rattle.checkpoint_slots.specs.Turns.{SteadyStands, next_generation}
+use Rattle.checkpoint_slots.specs.declared.turn.Current.{Current}
+use Rattle.ice_cookie.specs.declared.cookies.Cookie.{Cookie}
+use Rattle.session_engine.specs.Acts.{book_after, commits_in, deed_in, deeds_in, has_finish}
+use Rattle.session_engine.specs.Carries.{Carries as CarriesWith, IsCurrent as IsCurrentWith, Keeps as KeepsWith, Runs as RunsWith, is_whole}
+use Rattle.session_engine.specs.Causes.{IsOfRun, fault_of}
+use Rattle.session_engine.specs.Doing.{CarriesOut, items}
+use Rattle.session_engine.specs.Machine.{Did, Machine, acts_of, after_all, step}
+use Rattle.session_engine.specs.Saved.{IsSaved, Performs, WearsOut}
+use Rattle.session_engine.specs.Session.{StandsFor as StandsForWith}
+use Rattle.session_engine.specs.Shown.{Shows, all_cut}
+use Rattle.session_engine.specs.declared.acts.Act.{Act}
+use Rattle.session_engine.specs.declared.acts.Act.TheVariants.{Commit}
+use Rattle.session_engine.specs.declared.fault.Halt.{Halt}
+use Rattle.session_engine.specs.declared.fault.Halt.TheVariants.{Links, Console, Disk, Worn as WearsIt, NoMemory as WantsMemory}
+use Rattle.session_engine.specs.declared.fault.ServeFault.{ServeFault}
+use Rattle.session_engine.specs.declared.fault.ServeFault.TheVariants.{Worn}
+use Rattle.session_engine.specs.declared.session.Session.{Session}
+use Rattle.session_engine.proofs.Opening.{opened_unfinished}
+use Rattle.session_engine.proofs.Performing.{book_after-append, commits_in-append, saved_behind, stands_quiet, whole_done}
+use Rattle.session_engine.proofs.Running as of
+
+-- a halt cuts the run short
+halt_cuts : (halt : Halt) → is_whole (Err (fault_of halt)) ≡ true → ⊥
+halt_cuts Links e = false≢true e
+halt_cuts Console e = false≢true e
+halt_cuts Disk e = false≢true e
+halt_cuts WearsIt e = false≢true e
+halt_cuts WantsMemory e = false≢true e
+
+-- a halt comes behind the recovery of the store
+pub halt_of_run : (halt : Halt) → IsOfRun (fault_of halt)
+halt_of_run Links = tt
+halt_of_run Console = tt
+halt_of_run Disk = tt
+halt_of_run WearsIt = tt
+halt_of_run WantsMemory = tt
+
+-- only a worn store makes a worn run
+worn_halt : (halt : Halt) → IsErrOf {T = Unit {0}} (Err (fault_of halt)) Worn → IsErrOf {T = Option Current} (Err halt) WearsIt
+worn_halt Links e = absurd cc
+worn_halt Console e = absurd cc
+worn_halt Disk e = absurd cc
+worn_halt WearsIt e = refl
+worn_halt WantsMemory e = absurd cc
+
+pub the_fault : (one other : ServeFault) → ◌≡◌ {A = Result (Unit {0}) ServeFault} (Err one) (Err other) → one ≡ other
+the_fault one other e = cc
+
+fault_is_no_ok : (fault : ServeFault) → IsOk {T = Unit {0}} (Err fault) → ⊥
+fault_is_no_ok fault e = false≢true e
+
+-- where an event lies among the effects
+places : (before es zs : List Effect) (event : Event) → before ++ (es ++ Heard event ∷ zs) ≡ ((before ++ es) ++ Heard event ∷ []) ++ zs
+places before es zs event = sym (append_assoc before es (Heard event ∷ zs)) ∙ sym (append_assoc (before ++ es) (Heard event ∷ []) zs)
+
+module _ (cookie : Cookie) (opening : Book) where
+  abbrev pub StandsFor : Option Current → Session → List Effect → Type 0
+  StandsFor current session effects = StandsForWith cookie opening current session effects
+
+  abbrev pub Runs : Option Current → Result (Unit {0}) ServeFault → List Effect → Type 0
+  Runs current answer effects = RunsWith cookie opening current answer effects
+
+  abbrev Keeps : List ℕ → List Effect → List Effect → Type 0
+  Keeps first before effects = KeepsWith cookie opening first before effects
+
+  abbrev IsCurrent : List Effect → List ℕ → Type 0
+  IsCurrent effects file = IsCurrentWith cookie opening effects file
+
+  abbrev script : List Event → List Act
+  script events = of.script cookie opening events
+
+  abbrev start : Machine
+  start = of.start cookie opening
+
+  -- The opening
+
+  deaf_take : (n : ℕ) (es : List Effect) → heard es ≡ [] → heard (take n es) ≡ []
+  deaf_take n es deaf = of.deaf_front (heard (take n es)) (heard (drop n es)) (of.heard_parts n es deaf)
+
+  opening_script : (zs : List Effect) → heard zs ≡ [] → script (heard zs) ≡ of.opening_acts cookie opening
+  opening_script zs deaf = ap script deaf ∙ append-nil (of.opening_acts cookie opening)
+
+  opening_keeps : (current : Option Current) (answer : Result (Option Current) Halt) (es : List Effect) → Performs current (of.opening_acts cookie opening) answer es → (first : List ℕ) (before : List Effect) → SteadyStands current opening first before → Keeps first before es
+  opening_keeps current answer es performs first before stands = record {
+    saved = λ n file image. rw (opening_script (take n es) (deaf_take n es performs.out.going.deaf)) (performs.saves first before opening stands n file image);
+    none_behind = λ n event more is_heard. absurd (of.none_is_heard event (heard more) (sym (ap heard is_heard) ∙ of.deaf_back (heard (take n es)) (heard (drop n es)) (of.heard_parts n es performs.out.going.deaf)));
+  }
+
+  pub stands_begin : (current : Option Current) (session : Session) (es : List Effect) → Performs current (of.opening_acts cookie opening) (Ok session.store) es → Shows all_cut session.engine start → StandsFor current session es
+  stands_begin current session es performs shows =
+      let acts : List Act = of.opening_acts cookie opening in
+      let deaf : heard es ≡ [] = performs.out.going.deaf in
+      let done : deeds es ≡ deeds_in acts = whole_done acts es performs.out in
+      let scripts : script (heard es) ≡ acts = opening_script es deaf in
+      record {
+        shows = rw deaf shows;
+        unfinished = ap has_finish scripts ∙ opened_unfinished opening;
+        all_done = done ∙ ap deeds_in (sym scripts);
+        in_order = rw deaf (performs.out.going.in_order ∙ (ap (map Did) done ∙ sym (append-nil (map Did (deeds_in acts)))));
+        on_script = of.opening_on_script cookie opening es performs.out.left performs.out.going;
+        keeps = opening_keeps current (Ok session.store) es performs;
+        store = λ first before stands. rw scripts (performs.leaves first before opening stands);
+        counts = rw scripts performs.counts;
+      }
+
+  pub runs_unopened : (current : Option Current) (halt : Halt) (es : List Effect) → Performs current (of.opening_acts cookie opening) (Err halt) es → Runs current (Err (fault_of halt)) es
+  runs_unopened current halt es performs = record {
+    carries = record {
+      on_script = of.opening_on_script cookie opening es performs.out.left performs.out.going;
+      all_done = λ e. absurd (halt_cuts halt e);
+      ended = λ e. absurd (fault_is_no_ok (fault_of halt) e);
+    };
+    in_order = λ e. absurd (halt_cuts halt e);
+    keeps = opening_keeps current (Err halt) es performs;
+    is_current = λ e. absurd (halt_cuts halt e);
+    opened = halt_of_run halt;
+    worn = λ e. rw (opening_script es performs.out.going.deaf) (performs.worn (worn_halt halt e));
+  }
+
+  -- One event more
+
+  abbrev acts_at : List Effect → Event → List Act
+  acts_at es event = acts_of (step (after_all start (heard es)) event)
+
+  -- the store as the event was heard
+  stands_heard : (current : Option Current) (session : Session) (es : List Effect) (event : Event) → StandsFor current session es → (first : List ℕ) (before : List Effect) → SteadyStands current opening first before → SteadyStands session.store (book_after opening (script (heard es))) first ((before ++ es) ++ Heard event ∷ [])
+  stands_heard current session es event held first before stands =
+      stands_quiet session.store (book_after opening (script (heard es))) first (before ++ es) (Heard event) tt (held.store first before stands)
+
+  saved_more : (current : Option Current) (session : Session) (es ds : List Effect) (event : Event) (answer : Result (Option Current) Halt) → StandsFor current session es → Performs session.store (acts_at es event) answer ds → (first : List ℕ) (before : List Effect) → SteadyStands current opening first before → (k : ℕ) (file : List ℕ) → Image first (before ++ (es ++ Heard event ∷ take k ds)) file → IsSaved opening (script (heard (es ++ Heard event ∷ take k ds))) (deeds (es ++ Heard event ∷ take k ds)) file
+  saved_more current session es ds event answer held performs first before stands k file image =
+      let later = performs.saves first ((before ++ es) ++ Heard event ∷ []) (book_after opening (script (heard es))) (stands_heard current session es event held first before stands) k file (rw (places before es (take k ds) event) at image) in
+      rw (of.script-more cookie opening es (take k ds) event (deaf_take k ds performs.out.going.deaf) held.unfinished, of.deeds-more es (take k ds) event, held.all_done)
+      (saved_behind opening (script (heard es)) (acts_at es event) (deeds (take k ds)) file later)
+
+  keeps_more : (current : Option Current) (session : Session) (es ds : List Effect) (event : Event) (answer : Result (Option Current) Halt) → StandsFor current session es → Performs session.store (acts_at es event) answer ds → (first : List ℕ) (before : List Effect) → SteadyStands current opening first before → Keeps first before (es ++ Heard event ∷ ds)
+  keeps_more current session es ds event answer held performs first before stands = record {
+    saved = of.each_front (λ zs. (file : List ℕ) → Image first (before ++ zs) file → IsSaved opening (script (heard zs)) (deeds zs) file) es ds event
+        ((held.keeps first before stands).saved)
+        (saved_more current session es ds event answer held performs first before stands);
+    none_behind = of.each_heard (λ zs. (file : List ℕ) → Image first (before ++ zs) file → IsCurrent zs file) es ds event performs.out.going.deaf
+        ((held.keeps first before stands).none_behind)
+        (λ file image. ((held.store first before stands).images file image).recovers);
+  }
+
+  store_more : (current : Option Current) (session : Session) (next : Option Current) (es ds : List Effect) (event : Event) → StandsFor current session es → Performs session.store (acts_at es event) (Ok next) ds → (first : List ℕ) (before : List Effect) → SteadyStands current opening first before → SteadyStands next (book_after opening (script (heard (es ++ Heard event ∷ ds)))) first (before ++ (es ++ Heard event ∷ ds))
+  store_more current session next es ds event held performs first before stands =
+      rw (of.script-more cookie opening es ds event performs.out.going.deaf held.unfinished, book_after-append opening (script (heard es)) (acts_at es event), places before es ds event)
+      (performs.leaves first ((before ++ es) ++ Heard event ∷ []) (book_after opening (script (heard es))) (stands_heard current session es event held first before stands))
+
+  -- the run goes on
+  pub stands_more : (current : Option Current) (session next : Session) (es ds : List Effect) (event : Event) → StandsFor current session es → Performs session.store (acts_at es event) (Ok next.store) ds → Shows all_cut next.engine (step (after_all start (heard es)) event).next → has_finish (acts_at es event) ≡ false → StandsFor current next (es ++ Heard event ∷ ds)
+  stands_more current session next es ds event held performs shows goes =
+      let deaf : heard ds ≡ [] = performs.out.going.deaf in
+      record {
+        shows = rw (of.heard-more es ds event deaf, of.after_all-more start (heard es) event) shows;
+        unfinished = of.finish-more cookie opening es ds event deaf held.unfinished ∙ goes;
+        all_done = of.done-more cookie opening es ds event performs.out held.unfinished held.all_done;
+        in_order = of.shown-more cookie opening es ds event performs.out held.unfinished held.in_order;
+        on_script = of.more_on_script cookie opening es ds event performs.out.left performs.out.going held.unfinished held.all_done held.on_script;
+        keeps = keeps_more current session es ds event (Ok next.store) held performs;
+        store = store_more current session next.store es ds event held performs;
+        counts = omega (arith, performs.counts, held.counts, ap commits_in (of.script-more cookie opening es ds event deaf held.unfinished), commits_in-append (script (heard es)) (acts_at es event));
+      }
+
+  -- the machine's own end
+  pub runs_end : (current next : Option Current) (session : Session) (es ds : List Effect) (event : Event) → StandsFor current session es → Performs session.store (acts_at es event) (Ok next) ds → has_finish (acts_at es event) ≡ true → Runs current (Ok tt) (es ++ Heard event ∷ ds)
+  runs_end current next session es ds event held performs finishes = record {
+    carries = record {
+      on_script = of.more_on_script cookie opening es ds event performs.out.left performs.out.going held.unfinished held.all_done held.on_script;
+      all_done = λ e. of.done-more cookie opening es ds event performs.out held.unfinished held.all_done;
+      ended = λ e. of.finish-more cookie opening es ds event performs.out.going.deaf held.unfinished ∙ finishes;
+    };
+    in_order = λ e. of.shown-more cookie opening es ds event performs.out held.unfinished held.in_order;
+    keeps = keeps_more current session es ds event (Ok next) held performs;
+    is_current = λ e first before stands file image. ((store_more current session next es ds event held performs first before stands).images file image).recovers;
+    opened = tt;
+    worn = λ e. absurd cc;
+  }
+
+  worn_more : (current : Option Current) (session : Session) (es ds : List Effect) (event : Event) → StandsFor current session es → heard ds ≡ [] → WearsOut session.store (acts_at es event) ds → WearsOut current (script (heard (es ++ Heard event ∷ ds))) (es ++ Heard event ∷ ds)
+  worn_more current session es ds event held deaf worn = record {
+    front = script (heard es) ++ worn.front;
+    rest = worn.rest;
+    book = worn.book;
+    parts = append_assoc (script (heard es)) worn.front (Commit worn.book ∷ worn.rest) ∙ (ap (λ zs. script (heard es) ++ zs) worn.parts ∙ sym (of.script-more cookie opening es ds event deaf held.unfinished));
+    same = of.deeds-more es ds event ∙ (ap (λ zs. zs ++ deeds ds) held.all_done ∙ (ap (λ zs. deeds_in (script (heard es)) ++ zs) worn.same ∙ sym (flat_map-append deed_in (script (heard es)) worn.front)));
+    last = omega (arith, commits_in-append (script (heard es)) worn.front, held.counts, worn.last);
+  }
+
+  -- a halt as an event was answered
+  pub runs_cut_short : (current : Option Current) (session : Session) (halt : Halt) (es ds : List Effect) (event : Event) → StandsFor current session es → Performs session.store (acts_at es event) (Err halt) ds → Runs current (Err (fault_of halt)) (es ++ Heard event ∷ ds)
+  runs_cut_short current session halt es ds event held performs = record {
+    carries = record {
+      on_script = of.more_on_script cookie opening es ds event performs.out.left performs.out.going held.unfinished held.all_done held.on_script;
+      all_done = λ e. absurd (halt_cuts halt e);
+      ended = λ e. absurd (fault_is_no_ok (fault_of halt) e);
+    };
+    in_order = λ e. absurd (halt_cuts halt e);
+    keeps = keeps_more current session es ds event (Err halt) held performs;
+    is_current = λ e. absurd (halt_cuts halt e);
+    opened = halt_of_run halt;
+    worn = λ e. worn_more current session es ds event held performs.out.going.deaf (performs.worn (worn_halt halt e));
+  }
+
+  -- no more came
+  pub runs_over : (current : Option Current) (session : Session) (fault : ServeFault) (es : List Effect) → (fault ≡ Worn → ⊥) → IsOfRun fault → StandsFor current session es → Runs current (Err fault) es
+  runs_over current session fault es able opened held = record {
+    carries = record { on_script = held.on_script; all_done = λ e. held.all_done; ended = λ e. absurd (fault_is_no_ok fault e) };
+    in_order = λ e. held.in_order;
+    keeps = held.keeps;
+    is_current = λ e first before stands file image. ((held.store first before stands).images file image).recovers;
+    opened = opened;
+    worn = λ e. absurd (able (the_fault fault Worn e));
+  }

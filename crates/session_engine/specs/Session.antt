@@ -1,0 +1,59 @@
+-- What a session that is held between events stands for, and what its calls make of that.
+use Rattle.std.specs.Prelude.{◌≡◌, ◌≢◌, ℕ, ◌+◌, false, List, [], ◌++◌, Option, Result, Ok, Err}
+use Rattle.sm_world.specs.Effects.{heard, deeds}
+use Rattle.sm_world.specs.Outside.{Outside}
+use Rattle.sm_world.specs.declared.effects.Effect.{Effect}
+use Rattle.checkpoint_records.specs.declared.records.Book.{Book}
+use Rattle.checkpoint_slots.specs.Turns.{SteadyStands, next_generation}
+use Rattle.checkpoint_slots.specs.declared.turn.Current.{Current}
+use Rattle.ice_cookie.specs.declared.cookies.Cookie.{Cookie}
+use Rattle.session_model.specs.Readings as of
+use Rattle.session_engine.specs.Acts.{book_after, commits_in, deeds_in, has_finish}
+use Rattle.session_engine.specs.Carries.{FailsOr, IsOnScript, Keeps, Opens, Runs, Serves, run, script}
+use Rattle.session_engine.specs.Doing.{items}
+use Rattle.session_engine.specs.Machine.{after_all, start}
+use Rattle.session_engine.specs.Shown.{Shows, all_cut}
+use Rattle.session_engine.specs.declared.fault.Halt.{Halt}
+use Rattle.session_engine.specs.declared.fault.ServeFault.{ServeFault}
+use Rattle.session_engine.specs.declared.fault.ServeFault.TheVariants.{Spent}
+use Rattle.session_engine.specs.declared.session.Session.{Session}
+use Rattle.session_engine.specs.declared.session.Stepped.{Stepped}
+use Rattle.session_engine.specs.declared.session.Stepped.TheVariants.{Goes, Finished}
+
+-- After these effects of a run that goes on, over a store whose turn stood for the opened book: all was done, and the session, its
+-- connections and its store are what the machine leaves after the events among them.
+pub record StandsFor (cookie : Cookie) (opening : Book) (current : Option Current) (session : Session) (effects : List Effect) : Type 0 where
+  pub shows : Shows all_cut session.engine (after_all (start cookie opening) (heard effects))
+  pub unfinished : has_finish (script cookie opening (heard effects)) ≡ false
+  pub all_done : deeds effects ≡ deeds_in (script cookie opening (heard effects))
+  pub in_order : items effects ≡ run cookie opening (heard effects)
+  pub on_script : IsOnScript cookie opening effects
+  pub keeps : (first : List ℕ) (before : List Effect) → SteadyStands current opening first before → Keeps cookie opening first before effects
+  pub store : (first : List ℕ) (before : List Effect) → SteadyStands current opening first before → SteadyStands session.store (book_after opening (script cookie opening (heard effects))) first (before ++ effects)
+  pub counts : next_generation session.store ≡ next_generation current + commits_in (script cookie opening (heard effects))
+
+-- A device, the store or the memory cut the run short, and not the number of its turns.
+pub record IsCut (cookie : Cookie) (opening : Book) (current : Option Current) (fault : ServeFault) (effects : List Effect) : Type 0 where
+  pub runs : Runs cookie opening current (Err fault) effects
+  pub in_time : fault ≢ Spent
+
+-- the store's turn in a session that was opened
+abbrev pub kept : Result Session Halt → Result (Option Current) Halt
+kept (Ok session) = Ok session.store
+kept (Err halt) = Err halt
+
+-- a start hears nothing, and hands out a session that stands for what it added; or it did nothing, or its opening was cut short
+abbrev pub Starts : Cookie → Outside → Outside → Result Session ServeFault → Type 0
+Starts cookie old new (Ok session) = Opens old new (λ opening current effects. StandsFor cookie opening current session effects × (heard effects ≡ []))
+Starts cookie old new (Err fault) = FailsOr old new (λ opening current effects. IsCut cookie opening current fault effects × (heard effects ≡ [])) fault
+
+-- what a step makes of a session, where these are the effects with the event and what the step added
+abbrev pub StepsTo : Cookie → Book → Option Current → Result Stepped ServeFault → List Effect → Type 0
+StepsTo cookie opening current (Ok (Goes next)) effects = StandsFor cookie opening current next effects
+StepsTo cookie opening current (Ok (Finished marks)) effects = Runs cookie opening current (Ok tt) effects × (marks ≡ of.marks (after_all (start cookie opening) (heard effects)).session)
+StepsTo cookie opening current (Err fault) effects = IsCut cookie opening current fault effects
+
+-- a run over the recovered book; or nothing was done
+abbrev pub Serving : Cookie → ℕ → Outside → Outside → Result (Unit {0}) ServeFault → Type 0
+Serving cookie turns old new (Ok x) = Opens old new (λ opening current effects. Serves cookie opening current old.coming turns (Ok x) effects)
+Serving cookie turns old new (Err fault) = FailsOr old new (λ opening current effects. Serves cookie opening current old.coming turns (Err fault) effects) fault
