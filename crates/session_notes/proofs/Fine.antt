@@ -1,0 +1,256 @@
+-- What the notes say goes on from move to move, and the laws hold at each.
+use Rattle.std.proofs.Common.{◌≡◌, refl, ℕ, Bool, true, false, cond, not, ◌&&◌, ◌||◌, List, [], ◌∷◌, ◌++◌, map, filter, eqb, sym, ap, subst, ◌∙◌, arith}
+use Rattle.std.specs.Prelude.{Option, Some, None}
+use Rattle.std.specs.List.{AllByRecursion}
+use Rattle.std.proofs.lemmas.Bool.Decides.{nat_tests}
+use Rattle.sm_world.specs.declared.commands.Command.{Command}
+use Rattle.xsmp_messages.specs.declared.message.XsmpMessage.{XsmpMessage}
+use Rattle.xsmp_messages.specs.declared.message.XsmpMessage.TheVariants.{RegisterClientReply, GetPropertiesReply, SaveYourself, InteractRequest, Interact, InteractDone, SaveYourselfDone, Die, ShutdownCancelled, SaveYourselfPhase2Request, SaveYourselfPhase2, SaveComplete}
+use Rattle.interact_queue.specs.Queue.{is_in}
+use Rattle.ice_values.specs.Fields.{ErrorFields}
+use Rattle.session_model.specs.declared.phase.Phase.{Phase}
+use Rattle.session_model.specs.declared.phase.Phase.TheVariants.{Unregistered}
+use Rattle.session_model.specs.declared.events.SessionEvent.{SessionEvent}
+use Rattle.session_model.specs.declared.events.SessionEvent.TheVariants.{Joined, Ready, Said, Left, Operator}
+use Rattle.session_model.specs.declared.events.Act.TheVariants.{Say}
+use Rattle.session_model.specs.Phases.{is_asked, is_interacting, is_member, is_dying, is_owing, is_shutdown, may_interact, phase_said}
+use Rattle.session_model.specs.Moves.{Move, Cause, Outside, Gave, Blamed, Unset, Closed, Agreed, Tried, Committed, Printed, Finished, History, Opened, ◌▷◌, onto, gave_each, tried_each}
+use Rattle.session_model.specs.Readings as of
+use Rattle.session_model.proofs.Asked.{phases-tell}
+use Rattle.session_model.proofs.Sound.{Fits, Sound, sound-step, or-either}
+use Rattle.session_model.proofs.Level.{onto-append}
+use Rattle.session_model.proofs.Ruled.{differ, denied}
+use Rattle.session_notes.specs.Notes.{Entry, Note, Did, Heard, Given, Gone, entries_of}
+use Rattle.session_notes.specs.Watching.{has_token, was_asked, is_to_save, has_answered, requests}
+use Rattle.session_notes.proofs.Seen.{noted_of, AtEach, EachEntry}
+use Rattle.session_notes.proofs.Steps.{is_at_work, has_replied, is_bound_to_save, asked-works, gives_back}
+use Rattle.session_notes.proofs.Told as told
+use Rattle.session_notes.proofs.Open.{WaitsTold, HasPlace, own, waits-interact, waits-cancelled, waits-given, waits-gone, waits-unset, waits-ready, waits-said, waits-request}
+
+-- What a move asks
+
+abbrev pub Suits : Move → History → Type 0
+Suits (Outside (Said c (InteractRequest dialog) sequence frame)) h = HasPlace c dialog h
+Suits (Gave c (RegisterClientReply id)) h = of.phase_of c h ≡ Some Unregistered
+Suits (Gave c (SaveYourself kind shutdown style fast)) h = told.BeginsToSave c h × (of.is_ending h ≡ false)
+Suits (Gave c Interact) h = ((d : ℕ) → is_interacting (of.phase_of d h) ≡ false) × ((others : List ℕ) × (of.waiting h ≡ c ∷ others))
+Suits (Gave c SaveYourselfPhase2) h = (of.is_ending h ≡ false) × ((d : ℕ) → is_member (of.phase_of d h) ≡ true → has_replied (of.phase_of d h) ≡ true)
+Suits (Gave c Die) h = of.is_ending h ≡ true
+Suits (Unset c) h = of.phase_of c h ≡ Some Unregistered
+Suits (Blamed c error) h = ⊥
+Suits Agreed h = is_shutdown (of.wanted h) ≡ true → (c : ℕ) → is_at_work (of.phase_of c h) ≡ false
+Suits m h = Unit {0}
+
+fits-given : (c : ℕ) (m : XsmpMessage) (h : History) → Suits (Gave c m) h → Fits (Gave c m) h
+fits-given c (RegisterClientReply id) h s = s
+fits-given c Interact h s = s.0
+fits-given c Die h s = s
+fits-given c m h s = tt
+
+fits : (m : Move) (h : History) → Suits m h → Fits m h
+fits (Gave c m) h s = fits-given c m h s
+fits (Unset c) h s = s
+fits m h s = tt
+
+-- What the notes say
+
+pub record Told (h : History) (n : List Note) : Type 0 where
+  pub token : told.TokenTold h n
+  pub asked : told.AskedTold h n
+  pub owing : told.OwingTold h n
+  pub saves : told.SavesTold h n
+  pub answers : told.AnswersTold h n
+  pub waits : WaitsTold h n
+  pub rest : told.RestTold h
+
+first-asked : (c : ℕ) (others : List ℕ) (h : History) → of.waiting h ≡ c ∷ others → is_asked (of.phase_of c h) ≡ true
+first-asked c others h e = sym (phases-tell h c) ∙ ap (λ (xs : List ℕ). is_in c xs) e ∙ ap (λ (b : Bool). b || is_in c others) (own c)
+
+-- while somebody waits no shutdown was agreed
+goes-on : (c : ℕ) (others : List ℕ) (h : History) → told.RestTold h → of.waiting h ≡ c ∷ others → of.is_ending h ≡ false
+goes-on c others h r e = denied (of.is_ending h) (λ k. differ (asked-works (of.phase_of c h) (first-asked c others h e)) (r k c))
+
+told-given : (d : ℕ) (m : XsmpMessage) (h : History) (n : List Note) → Suits (Gave d m) h → Told h n → Told (Gave d m ▷ h) (Given d m ∷ n)
+told-given d (SaveYourself kind shutdown style fast) h n s t = record {
+  token = told.token-given d (SaveYourself kind shutdown style fast) h n refl t.token;
+  asked = told.asked-begun d kind shutdown style fast h n t.asked;
+  owing = told.owing-begun d kind shutdown style fast h n s.0 t.owing;
+  saves = told.saves-begun d kind shutdown style fast h n s.0 t.saves;
+  answers = told.answers-begun d kind shutdown style fast h n s.0 t.answers;
+  waits = waits-given d (SaveYourself kind shutdown style fast) h n refl t.waits;
+  rest = λ e c. absurd (differ e s.1);
+}
+told-given d Interact h n s t = record {
+  token = told.token-interact d h n (first-asked d s.1.0 h s.1.1) t.token;
+  asked = told.asked-given d Interact h n refl refl t.asked;
+  owing = told.owing-by d Interact h n refl refl t.owing;
+  saves = told.saves-given d Interact h n refl refl t.saves;
+  answers = told.answers-given d Interact h n refl t.answers;
+  waits = waits-interact d h n t.waits;
+  rest = told.rest-given d Interact h refl t.rest;
+}
+told-given d ShutdownCancelled h n s t = record {
+  token = told.token-cancelled d h n t.token;
+  asked = told.asked-cancelled d h n t.asked;
+  owing = told.owing-cancelled d h n t.owing;
+  saves = told.saves-released d ShutdownCancelled h n refl t.saves;
+  answers = told.answers-given d ShutdownCancelled h n refl t.answers;
+  waits = waits-cancelled d h n t.waits;
+  rest = told.rest-given d ShutdownCancelled h refl t.rest;
+}
+told-given d SaveComplete h n s t = record {
+  token = told.token-given d SaveComplete h n refl t.token;
+  asked = told.asked-given d SaveComplete h n refl refl t.asked;
+  owing = told.owing-by d SaveComplete h n refl refl t.owing;
+  saves = told.saves-released d SaveComplete h n refl t.saves;
+  answers = told.answers-given d SaveComplete h n refl t.answers;
+  waits = waits-given d SaveComplete h n refl t.waits;
+  rest = told.rest-given d SaveComplete h refl t.rest;
+}
+told-given d Die h n s t = record {
+  token = told.token-die d h n (t.rest s) t.token;
+  asked = told.asked-given d Die h n refl refl t.asked;
+  owing = told.owing-by d Die h n refl refl t.owing;
+  saves = told.saves-given d Die h n refl refl t.saves;
+  answers = told.answers-given d Die h n refl t.answers;
+  waits = λ e. absurd (differ s e);
+  rest = told.rest-given d Die h refl t.rest;
+}
+told-given d m h n s t = record {
+  token = told.token-given d m h n refl t.token;
+  asked = told.asked-given d m h n refl refl t.asked;
+  owing = told.owing-by d m h n refl refl t.owing;
+  saves = told.saves-given d m h n refl refl t.saves;
+  answers = told.answers-given d m h n refl t.answers;
+  waits = waits-given d m h n refl t.waits;
+  rest = told.rest-given d m h refl t.rest;
+}
+
+told-said : (d : ℕ) (m : XsmpMessage) (sequence : ℕ) (frame : List ℕ) (h : History) (n : List Note) → WaitsTold (Outside (Said d m sequence frame) ▷ h) (Heard d m ∷ n) → Told h n → Told (Outside (Said d m sequence frame) ▷ h) (Heard d m ∷ n)
+told-said d m sequence frame h n w t = record {
+  token = told.token-said d m sequence frame h n t.token;
+  asked = told.asked-said d m sequence frame h n t.asked;
+  owing = told.owing-heard d m sequence frame h n t.owing;
+  saves = told.saves-said d m sequence frame h n t.saves;
+  answers = told.answers-said d m sequence frame h n t.answers;
+  waits = w;
+  rest = told.rest-said d m sequence frame h t.rest;
+}
+
+told-message : (d : ℕ) (m : XsmpMessage) (sequence : ℕ) (frame : List ℕ) (h : History) (n : List Note) → Suits (Outside (Said d m sequence frame)) h → Sound h → Told h n → Told (Outside (Said d m sequence frame) ▷ h) (Heard d m ∷ n)
+told-message d (InteractRequest dialog) sequence frame h n s so t =
+    told-said d (InteractRequest dialog) sequence frame h n (waits-request d dialog sequence frame h n s so.die_at_end t.asked t.owing t.waits) t
+told-message d m sequence frame h n s so t = told-said d m sequence frame h n (waits-said d m sequence frame h n refl t.waits) t
+
+told-outside : (event : SessionEvent) (h : History) → Suits (Outside event) h → Sound h → Told h (noted_of h) → Told (Outside event ▷ h) (noted_of (Outside event ▷ h))
+told-outside (Joined d) h s so t = record { token = t.token; asked = t.asked; owing = t.owing; saves = t.saves; answers = t.answers; waits = t.waits; rest = t.rest }
+told-outside (Ready d) h s so t = record {
+  token = told.token-ready d h (noted_of h) t.token;
+  asked = told.asked-ready d h (noted_of h) t.asked;
+  owing = told.owing-began d h (noted_of h) t.owing;
+  saves = told.saves-ready d h (noted_of h) t.saves;
+  answers = told.answers-ready d h (noted_of h) t.answers;
+  waits = waits-ready d h (noted_of h) t.waits;
+  rest = told.rest-ready d h t.rest;
+}
+told-outside (Said d m sequence frame) h s so t = told-message d m sequence frame h (noted_of h) s so t
+told-outside (Left d) h s so t = record {
+  token = told.token-gone d h (noted_of h) t.token;
+  asked = told.asked-gone d h (noted_of h) t.asked;
+  owing = told.owing-left d h (noted_of h) t.owing;
+  saves = told.saves-gone d h (noted_of h) t.saves;
+  answers = told.answers-gone d h (noted_of h) t.answers;
+  waits = waits-gone d h (noted_of h) t.waits;
+  rest = told.rest-left d h t.rest;
+}
+told-outside (Operator order) h s so t = record { token = t.token; asked = t.asked; owing = t.owing; saves = t.saves; answers = t.answers; waits = t.waits; rest = t.rest }
+
+or-before : (x y : Bool) → (x || y) ≡ false → x ≡ false
+or-before true y e = e
+or-before false y e = refl
+
+told-agreed : (h : History) (n : List Note) → Suits Agreed h → Told h n → Told (Agreed ▷ h) n
+told-agreed h n s t = record {
+  token = t.token;
+  asked = t.asked;
+  owing = t.owing;
+  saves = t.saves;
+  answers = t.answers;
+  waits = λ e. t.waits (or-before (of.is_ending h) (is_shutdown (of.wanted h)) e);
+  rest = λ e c. or-either (of.is_ending h) (is_shutdown (of.wanted h)) (λ k. t.rest k c) (λ k. s k c) e;
+}
+
+told-step : (m : Move) (h : History) → Suits m h → Sound h → Told h (noted_of h) → Told (m ▷ h) (noted_of (m ▷ h))
+told-step (Outside event) h s so t = told-outside event h s so t
+told-step (Gave d m) h s so t = told-given d m h (noted_of h) s t
+told-step (Blamed d error) h s so t = absurd s
+told-step (Unset d) h s so t = record {
+  token = told.token-unset d h (noted_of h) s t.token;
+  asked = told.asked-unset d h (noted_of h) t.asked;
+  owing = told.owing-unset d h (noted_of h) t.owing;
+  saves = told.saves-unset d h (noted_of h) s t.saves;
+  answers = told.answers-unset d h (noted_of h) t.answers;
+  waits = waits-unset d h (noted_of h) s t.waits;
+  rest = told.rest-left d h t.rest;
+}
+told-step (Closed d) h s so t = record {
+  token = told.token-gone d h (noted_of h) t.token;
+  asked = told.asked-gone d h (noted_of h) t.asked;
+  owing = told.owing-left d h (noted_of h) t.owing;
+  saves = told.saves-gone d h (noted_of h) t.saves;
+  answers = told.answers-gone d h (noted_of h) t.answers;
+  waits = waits-gone d h (noted_of h) t.waits;
+  rest = told.rest-left d h t.rest;
+}
+told-step Agreed h s so t = told-agreed h (noted_of h) s t
+told-step m h s so t = record { token = t.token; asked = t.asked; owing = t.owing; saves = t.saves; answers = t.answers; waits = t.waits; rest = t.rest }
+
+-- The laws at each move
+
+-- one connection has the token at most
+abbrev pub OneHas : List Note → Type 0
+OneHas n = (c d : ℕ) → has_token c n ≡ true → has_token d n ≡ true → c ≡ d
+
+-- what a message that is sent asks of the notes before it
+abbrev pub IsDue : List Note → Entry → Type 0
+IsDue n (Did (Say c Interact)) = (others : List ℕ) × (requests n ≡ c ∷ others)
+IsDue n (Did (Say c SaveYourselfPhase2)) = (d : ℕ) → is_to_save d n ≡ true → has_answered d n ≡ true
+IsDue n entry = Unit {0}
+
+-- who dies does so since a shutdown was agreed
+bound-member : (c : ℕ) (h : History) → Sound h → of.is_ending h ≡ false → is_bound_to_save (of.phase_of c h) ≡ true → is_member (of.phase_of c h) ≡ true
+bound-member c h so f e = or-either (is_member (of.phase_of c h)) (is_dying (of.phase_of c h)) (λ k. k) (λ k. absurd (differ (so.die_at_end c k) f)) e
+
+due-given : (c : ℕ) (m : XsmpMessage) (h : History) (n : List Note) → Suits (Gave c m) h → Sound h → Told h n → IsDue n (Did (Say c m))
+due-given c Interact h n s so t = (s.1.0, t.waits (goes-on c s.1.0 h t.rest s.1.1) ∙ s.1.1)
+due-given c SaveYourselfPhase2 h n s so t = λ d e. t.answers d (s.1 d (bound-member d h so s.0 (t.saves d e)))
+due-given c m h n s so t = tt
+
+due-step : (m : Move) (h : History) → Suits m h → Sound h → Told h (noted_of h) → AllByRecursion (IsDue (noted_of h)) (entries_of m)
+due-step (Outside event) h s so t = (tt, tt)
+due-step (Gave c m) h s so t = (due-given c m h (noted_of h) s so t, tt)
+due-step (Blamed c error) h s so t = absurd s
+due-step (Unset c) h s so t = (tt, tt)
+due-step (Closed c) h s so t = (tt, tt)
+due-step (Tried cause command) h s so t = (tt, tt)
+due-step (Committed book) h s so t = (tt, tt)
+due-step (Printed text) h s so t = (tt, tt)
+due-step Finished h s so t = (tt, tt)
+due-step m h s so t = tt
+
+-- All of it
+
+pub record Fine (h : History) : Type 0 where
+  pub sound : Sound h
+  pub told : Told h (noted_of h)
+  pub one : AtEach OneHas h
+  pub due : EachEntry IsDue h
+
+one-now : (h : History) → Sound h → Told h (noted_of h) → OneHas (noted_of h)
+one-now h so t c d e f = so.one_holder c d (t.token c e) (t.token d f)
+
+pub fine-step : (m : Move) (h : History) → Suits m h → Fine h → Fine (m ▷ h)
+fine-step m h s f =
+    let so : Sound (m ▷ h) = sound-step m h (fits m h s) f.sound in
+    let t : Told (m ▷ h) (noted_of (m ▷ h)) = told-step m h s f.sound f.told in
+    record { sound = so; told = t; one = (one-now (m ▷ h) so t, f.one); due = (due-step m h s f.sound f.told, f.due) }

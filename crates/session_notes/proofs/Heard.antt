@@ -1,0 +1,380 @@
+-- Messages that come, and the answers to events.
+use Rattle.std.proofs.Common.{◌≡◌, refl, ℕ, Bool, true, false, cond, not, ◌&&◌, ◌||◌, List, [], ◌∷◌, ◌++◌, ◌+◌, map, filter, eqb, sym, ap, subst, ◌∙◌, arith}
+use Rattle.std.specs.Prelude.{Option, Some, None, is_some, codes}
+use Rattle.std.proofs.lemmas.Bool.Decides.{nat_tests}
+use Rattle.sm_world.specs.declared.commands.Command.{Command}
+use Rattle.sm_world.specs.declared.events.Order.{Order}
+use Rattle.sm_world.specs.declared.events.Order.TheVariants.{Checkpoint, Shutdown, Cancel, Status, DropConn, Forget}
+use Rattle.sm_world.specs.declared.events.Dialog.{Dialog}
+use Rattle.ice_values.specs.Fields.{ErrorFields}
+use Rattle.xsmp_properties.specs.Tables.{set_all}
+use Rattle.checkpoint_records.specs.declared.records.Book.{Book}
+use Rattle.checkpoint_records.specs.declared.records.Entry.{Entry}
+use Rattle.checkpoint_records.specs.Rules.{client_id}
+use Rattle.restart_plan.specs.Restarts.{respawn}
+use Rattle.discard_ledger.specs.Discards.{issuable}
+use Rattle.round_agreement.specs.Agreement.{Agreement, conns_of}
+use Rattle.round_agreement.specs.declared.wanted.Wanted.{Wanted}
+use Rattle.round_agreement.specs.declared.round.Member.{Member}
+use Rattle.xsmp_messages.specs.declared.message.XsmpMessage.{XsmpMessage}
+use Rattle.xsmp_messages.specs.declared.message.XsmpMessage.TheVariants.{Error, RegisterClient, RegisterClientReply, SaveYourselfRequest, InteractRequest, InteractDone, SaveYourselfDone, ShutdownCancelled, ConnectionClosed, SetProperties, DeleteProperties, GetProperties, GetPropertiesReply, SaveYourselfPhase2Request, SaveComplete}
+use Rattle.interact_queue.specs.Queue.{is_in, without}
+use Rattle.session_model.specs.declared.phase.Phase.{Phase}
+use Rattle.session_model.specs.declared.phase.Phase.TheVariants.{Unregistered, Saving, SavingTwo, Interacting, InteractingTwo, Owing, Dying}
+use Rattle.session_model.specs.declared.events.SessionEvent.{SessionEvent}
+use Rattle.session_model.specs.declared.events.SessionEvent.TheVariants.{Joined, Ready, Said, Left, Operator}
+use Rattle.session_model.specs.Phases.{is_asked, is_bound, is_unregistered, is_dying, is_owing, is_saving, is_first_saving, is_interacting, is_member, is_shutdown, may_interact, phase_said, asked_phase, talked_phase, saved_phase, second_phase}
+use Rattle.session_model.specs.Tables.{is_full, entry_of}
+use Rattle.session_model.specs.Errors.{Arrival, no_room, bad_id, full_table, lone_shutdown}
+use Rattle.session_model.specs.Moves.{Move, Cause, Outside, Gave, Blamed, Unset, Closed, Began, Over, Cancelled, Agreed, Tried, Committed, Printed, Finished, History, Opened, ◌▷◌, onto, gave_each, tried_each, Discard}
+use Rattle.session_model.specs.Readings as of
+use Rattle.session_model.specs.Reading.{Reading, reading, wanted_in, client_of}
+use Rattle.session_model.specs.Books.{issue, discarded, standing, command_anyway, book_forgetting}
+use Rattle.session_model.specs.Replies.{refused, or_bad_state, respawn_moves, entry_respawn, id_respawn, respawned, depart, has_no_room, enter, may_rejoin, rejoin, register, called_off, want_cancel, answered, unless_dying, said, resigned, forgotten, forget_one, forget, may_wait, ordered, has_no_place, reply, status_text}
+use Rattle.session_model.proofs.Sound.{Sound, sound-step}
+use Rattle.session_model.proofs.Level.{onto-append}
+use Rattle.session_model.proofs.Replied.{unregistered-is, cond-same}
+use Rattle.session_notes.specs.Notes.{Note, Heard}
+use Rattle.session_notes.specs.Watching.{has_token, requests}
+use Rattle.session_notes.proofs.Seen.{noted_of, AtEach}
+use Rattle.session_notes.proofs.Steps.{is_at_work, has_replied, is_bound_to_save}
+use Rattle.session_notes.proofs.Open.{HasPlace, own}
+use Rattle.session_notes.proofs.Fine.{Suits, Told, OneHas, Fine, fine-step}
+
+-- Moves that ask nothing
+
+abbrev pub is_calm : XsmpMessage → Bool
+is_calm (GetPropertiesReply table) = true
+is_calm SaveComplete = true
+is_calm ShutdownCancelled = true
+is_calm m = false
+
+abbrev pub IsCalm : Move → Type 0
+IsCalm (Outside event) = ⊥
+IsCalm (Gave c m) = is_calm m ≡ true
+IsCalm (Blamed c error) = ⊥
+IsCalm (Unset c) = ⊥
+IsCalm Agreed = ⊥
+IsCalm m = Unit {0}
+
+calm-given : (c : ℕ) (m : XsmpMessage) (h : History) → is_calm m ≡ true → Suits (Gave c m) h
+calm-given c (GetPropertiesReply table) h e = tt
+calm-given c SaveComplete h e = tt
+calm-given c ShutdownCancelled h e = tt
+calm-given c m h e = absurd (grind arith)
+
+calm-suits : (m : Move) (h : History) → IsCalm m → Suits m h
+calm-suits (Outside event) h e = absurd e
+calm-suits (Gave c m) h e = calm-given c m h e
+calm-suits (Blamed c error) h e = absurd e
+calm-suits (Unset c) h e = absurd e
+calm-suits Agreed h e = absurd e
+calm-suits m h e = tt
+
+abbrev pub AllCalm : List Move → Type 0
+AllCalm [] = Unit {0}
+AllCalm (m ∷ moves) = IsCalm m × AllCalm moves
+
+pub fine-calm : (moves : List Move) (h : History) → AllCalm moves → Fine h → Fine (onto h moves)
+fine-calm [] h e f = f
+fine-calm (m ∷ moves) h e f = fine-calm moves (m ▷ h) e.1 (fine-step m h (calm-suits m h e.0) f)
+
+pub fine-append : (h : History) (xs ys : List Move) → Fine (onto (onto h xs) ys) → Fine (onto h (xs ++ ys))
+fine-append h xs ys f = subst (λ (x : History). Fine x) (sym (onto-append h xs ys)) f
+
+pub calm-append : (xs ys : List Move) → AllCalm xs → AllCalm ys → AllCalm (xs ++ ys)
+calm-append [] ys p q = q
+calm-append (x ∷ xs) ys p q = (p.0, calm-append xs ys p.1 q)
+
+pub calm-tried : (cause : Cause) (commands : List Command) → AllCalm (tried_each cause commands)
+calm-tried cause [] = tt
+calm-tried cause (c ∷ commands) = (tt, calm-tried cause commands)
+
+pub calm-gave : (m : XsmpMessage) (conns : List ℕ) → is_calm m ≡ true → AllCalm (gave_each m conns)
+calm-gave m [] e = tt
+calm-gave m (c ∷ conns) e = (e, calm-gave m conns e)
+
+pub calm-closed : (conns : List ℕ) → AllCalm (map Closed conns)
+calm-closed [] = tt
+calm-closed (c ∷ conns) = (tt, calm-closed conns)
+
+pub calm-issue : (book : Book) (commands : List Command) → AllCalm (issue book commands)
+calm-issue book [] = tt
+calm-issue book (c ∷ commands) = (tt, calm-append (tried_each Discard commands) _ (calm-tried Discard commands) (tt, tt))
+
+calm-cond : (b : Bool) (xs ys : List Move) → AllCalm xs → AllCalm ys → AllCalm (cond b xs ys)
+calm-cond true xs ys p q = p
+calm-cond false xs ys p q = q
+
+calm-respawn : (id : List ℕ) (command : Option Command) → AllCalm (respawn_moves id command)
+calm-respawn id None = tt
+calm-respawn id (Some command) = (tt, tt)
+
+calm-entry : (r : Reading) (id : List ℕ) (entry : Option Entry) → AllCalm (entry_respawn r id entry)
+calm-entry r id None = tt
+calm-entry r id (Some entry) = calm-respawn id (respawn entry (r.run.respawns id))
+
+calm-id : (r : Reading) (id : Option (List ℕ)) → AllCalm (id_respawn r id)
+calm-id r None = tt
+calm-id r (Some id) = calm-entry r id (entry_of id r.store.book)
+
+calm-respawned : (r : Reading) (c : ℕ) → AllCalm (respawned r c)
+calm-respawned r c = calm-cond (is_dying (r.clients.phase c)) [] (id_respawn r (r.clients.id c)) tt (calm-id r (r.clients.id c))
+
+calm-resigned : (command : Option Command) → AllCalm (resigned command)
+calm-resigned None = tt
+calm-resigned (Some command) = (tt, tt)
+
+calm-forgotten : (r : Reading) (entry : Entry) (book : Book) → AllCalm (forgotten r entry book)
+calm-forgotten r entry book =
+    (tt, (tt, calm-append (resigned (command_anyway (codes "ResignCommand") entry)) (discarded r.clients book) (calm-resigned (command_anyway (codes "ResignCommand") entry)) (calm-issue book (issuable (standing r.clients) book.pending))))
+
+calm-forget_one : (r : Reading) (id : List ℕ) (entry : Option Entry) → AllCalm (forget_one r id entry)
+calm-forget_one r id None = (tt, tt)
+calm-forget_one r id (Some entry) = calm-cond (is_some (client_of id r.clients)) (Printed (codes "live") ∷ []) (forgotten r entry (book_forgetting r.store id)) (tt, tt) (calm-forgotten r entry (book_forgetting r.store id))
+
+calm-off : (o : Option Agreement) → AllCalm (called_off o)
+calm-off None = tt
+calm-off (Some round) = (tt, calm-gave ShutdownCancelled (conns_of round.members) refl)
+
+calm-ordered : (r : Reading) (order : Order) → AllCalm (ordered r order)
+calm-ordered r Checkpoint = (tt, tt)
+calm-ordered r Shutdown = (tt, tt)
+calm-ordered r Cancel = calm-cond (is_shutdown (wanted_in r.rounds.running)) (Printed (codes "ok") ∷ called_off r.rounds.running) (Printed (codes "no shutdown") ∷ []) (tt, calm-off r.rounds.running) (tt, tt)
+calm-ordered r (DropConn c) = calm-cond (is_in c r.clients.live) (Printed (codes "ok") ∷ depart r c) (Printed (codes "no connection") ∷ []) (tt, (tt, calm-respawned r c)) (tt, tt)
+calm-ordered r (Forget id) = calm-cond (r.run.is_ending || is_some r.rounds.running) (Printed (codes "busy") ∷ []) (forget_one r id (entry_of id r.store.book)) (tt, tt) (calm-forget_one r id (entry_of id r.store.book))
+calm-ordered r Status = (tt, tt)
+
+-- A message that is refused
+
+-- a message by which nothing changes
+pub record Ignored (c : ℕ) (m : XsmpMessage) (h : History) : Type 0 where
+  pub phase : phase_said (λ dialog. may_interact (of.wanted h) dialog) m (of.phase_of c h) ≡ of.phase_of c h
+  pub askers : of.asker_said c m (λ x. of.phase_of x h) (λ dialog. may_interact (of.wanted h) dialog) (of.askers h) ≡ of.askers h
+
+-- the history in which a message has just come
+abbrev pub heard : ℕ → XsmpMessage → ℕ → List ℕ → History → History
+heard c m sequence frame h = Outside (Said c m sequence frame) ▷ h
+
+filter-same : (p q : ℕ → Bool) (cs : List ℕ) → ((c : ℕ) → q c ≡ p c) → filter q cs ≡ filter p cs
+filter-same p q [] k = refl
+filter-same p q (c ∷ cs) k = ap (λ (b : Bool). cond b (c ∷ filter q cs) (filter q cs)) (k c) ∙ ap (λ (xs : List ℕ). cond (p c) (c ∷ xs) xs) (filter-same p q cs k)
+
+cond-one : (b : Bool) (p q : Option Phase) → (b ≡ true → q ≡ p) → cond b q p ≡ p
+cond-one true p q k = k refl
+cond-one false p q k = refl
+
+same-phase : (c : ℕ) (m : XsmpMessage) (sequence : ℕ) (frame : List ℕ) (h : History) → Ignored c m h → (d : ℕ) → of.phase_of d (heard c m sequence frame h) ≡ of.phase_of d h
+same-phase c m sequence frame h i d = cond-one (eqb c d) (of.phase_of d h) (phase_said (λ dialog. may_interact (of.wanted h) dialog) m (of.phase_of d h)) (λ k. phase-at k) where
+  phase-at : eqb c d ≡ true → phase_said (λ dialog. may_interact (of.wanted h) dialog) m (of.phase_of d h) ≡ of.phase_of d h
+  phase-at k = let e : c ≡ d = grind (arith, nat_tests) in subst (λ (x : ℕ). phase_said (λ dialog. may_interact (of.wanted h) dialog) m (of.phase_of x h) ≡ of.phase_of x h) e i.phase
+
+same-waiting : (c : ℕ) (m : XsmpMessage) (sequence : ℕ) (frame : List ℕ) (h : History) → Ignored c m h → of.waiting (heard c m sequence frame h) ≡ of.waiting h
+same-waiting c m sequence frame h i =
+    filter-same (λ d. is_asked (of.phase_of d h)) (λ d. is_asked (of.phase_of d (heard c m sequence frame h))) (of.askers (heard c m sequence frame h)) (λ d. ap (λ (p : Option Phase). is_asked p) (same-phase c m sequence frame h i d))
+    ∙ ap (λ (cs : List ℕ). filter (λ d. is_asked (of.phase_of d h)) cs) i.askers
+
+told-refused : (c : ℕ) (m : XsmpMessage) (sequence : ℕ) (frame : List ℕ) (error : ErrorFields) (h : History) (n : List Note) → Ignored c m h → Told h n → Told (Blamed c error ▷ heard c m sequence frame h) n
+told-refused c m sequence frame error h n i t = record {
+  token = λ d e. ap (λ (p : Option Phase). is_interacting p) (same-phase c m sequence frame h i d) ∙ t.token d e;
+  asked = λ d e. t.asked d (sym (ap (λ (p : Option Phase). is_member p) (same-phase c m sequence frame h i d)) ∙ e);
+  owing = λ d e. t.owing d (sym (ap (λ (p : Option Phase). is_owing p) (same-phase c m sequence frame h i d)) ∙ e);
+  saves = λ d e. ap (λ (p : Option Phase). is_bound_to_save p) (same-phase c m sequence frame h i d) ∙ t.saves d e;
+  answers = λ d e. t.answers d (sym (ap (λ (p : Option Phase). has_replied p) (same-phase c m sequence frame h i d)) ∙ e);
+  waits = λ e. t.waits e ∙ sym (same-waiting c m sequence frame h i);
+  rest = λ e d. ap (λ (p : Option Phase). is_at_work p) (same-phase c m sequence frame h i d) ∙ t.rest e d;
+}
+
+and-after : (b t : Bool) → (not b && t) ≡ true → t ≡ true
+and-after true t e = absurd (grind arith)
+and-after false t e = e
+
+-- nobody gets the token by what is said
+token-before : (c : ℕ) (m : XsmpMessage) (d : ℕ) (n : List Note) → has_token d (Heard c m ∷ n) ≡ true → has_token d n ≡ true
+token-before c (InteractDone cancel) d n e = and-after (eqb c d) (has_token d n) e
+token-before c m d n e = e
+
+one-heard : (c : ℕ) (m : XsmpMessage) (n : List Note) → OneHas n → OneHas (Heard c m ∷ n)
+one-heard c m n o a b e f = o a b (token-before c m a n e) (token-before c m b n f)
+
+top-one : (P : List Note → Type 0) (h : History) → AtEach P h → P (noted_of h)
+top-one P (Opened book) a = a
+top-one P (m ▷ h) a = a.0
+
+taken-back : (c : ℕ) (m : XsmpMessage) (n : List Note) → cond (eqb c c) n (Heard c m ∷ n) ≡ n
+taken-back c m n = ap (λ (b : Bool). cond b n (Heard c m ∷ n)) (own c)
+
+pub fine-refused : (c : ℕ) (m : XsmpMessage) (sequence : ℕ) (frame : List ℕ) (error : ErrorFields) (h : History) → Ignored c m h → Fine h → Fine (Blamed c error ▷ heard c m sequence frame h)
+fine-refused c m sequence frame error h i f =
+    let so : Sound (heard c m sequence frame h) = sound-step (Outside (Said c m sequence frame)) h tt f.sound in
+    let o : OneHas (noted_of h) = top-one OneHas h f.one in
+    record {
+      sound = sound-step (Blamed c error) (heard c m sequence frame h) tt so;
+      told = subst (λ (n : List Note). Told (Blamed c error ▷ heard c m sequence frame h) n) (sym (taken-back c m (noted_of h))) (told-refused c m sequence frame error h (noted_of h) i f.told);
+      one = (subst OneHas (sym (taken-back c m (noted_of h))) o, (one-heard c m (noted_of h) o, f.one));
+      due = ((tt, tt), ((tt, tt), f.due));
+    }
+
+fine-heard : (c : ℕ) (m : XsmpMessage) (sequence : ℕ) (frame : List ℕ) (moves : List Move) (h : History) → Suits (Outside (Said c m sequence frame)) h → AllCalm moves → Fine h → Fine (onto (heard c m sequence frame h) moves)
+fine-heard c m sequence frame moves h s e f = fine-calm moves (heard c m sequence frame h) e (fine-step (Outside (Said c m sequence frame)) h s f)
+
+-- The answers
+
+abbrev arrival : ℕ → XsmpMessage → ℕ → List ℕ → Arrival
+arrival c m sequence frame = record { conn = c; message = m; sequence = sequence; frame = frame }
+
+fine-or-bad : (b : Bool) (c : ℕ) (m : XsmpMessage) (sequence : ℕ) (frame : List ℕ) (moves : List Move) (h : History) → (b ≡ false → Ignored c m h) → Fine h → (b ≡ true → Fine (onto (heard c m sequence frame h) moves))
+    → Fine (onto (heard c m sequence frame h) (or_bad_state b (arrival c m sequence frame) moves))
+fine-or-bad true c m sequence frame moves h i f k = k refl
+fine-or-bad false c m sequence frame moves h i f k = fine-refused c m sequence frame _ h (i refl) f
+
+fine-cond : (b : Bool) (xs ys : List Move) (h : History) → (b ≡ true → Fine (onto h xs)) → (b ≡ false → Fine (onto h ys)) → Fine (onto h (cond b xs ys))
+fine-cond true xs ys h p q = p refl
+fine-cond false xs ys h p q = q refl
+
+-- Registration
+
+still-unregistered : (c : ℕ) (previous : List ℕ) (sequence : ℕ) (frame : List ℕ) (h : History) → of.phase_of c h ≡ Some Unregistered → of.phase_of c (heard c (RegisterClient previous) sequence frame h) ≡ Some Unregistered
+still-unregistered c previous sequence frame h u = cond-same (eqb c c) (of.phase_of c h) ∙ u
+
+fine-reply : (c : ℕ) (previous : List ℕ) (sequence : ℕ) (frame id : List ℕ) (h : History) → of.phase_of c h ≡ Some Unregistered → Fine h → Fine (Gave c (RegisterClientReply id) ▷ heard c (RegisterClient previous) sequence frame h)
+fine-reply c previous sequence frame id h u f =
+    fine-step (Gave c (RegisterClientReply id)) (heard c (RegisterClient previous) sequence frame h) (still-unregistered c previous sequence frame h u) (fine-step (Outside (Said c (RegisterClient previous) sequence frame)) h tt f)
+
+fine-turned-away : (c : ℕ) (previous : List ℕ) (sequence : ℕ) (frame : List ℕ) (error : ErrorFields) (h : History) → of.phase_of c h ≡ Some Unregistered → Fine h → Fine (Unset c ▷ Blamed c error ▷ heard c (RegisterClient previous) sequence frame h)
+fine-turned-away c previous sequence frame error h u f =
+    fine-step (Unset c) (Blamed c error ▷ heard c (RegisterClient previous) sequence frame h) (still-unregistered c previous sequence frame h u)
+    (fine-refused c (RegisterClient previous) sequence frame error h (record { phase = refl; askers = refl }) f)
+
+fine-register : (c : ℕ) (previous : List ℕ) (sequence : ℕ) (frame id : List ℕ) (h : History) → of.phase_of c h ≡ Some Unregistered → Fine h
+    → Fine (onto (heard c (RegisterClient previous) sequence frame h) (register (reading h) (arrival c (RegisterClient previous) sequence frame) id))
+fine-register c previous sequence frame [] h u f =
+    fine-cond (has_no_room (reading h)) (Blamed c (no_room (arrival c (RegisterClient previous) sequence frame)) ∷ Unset c ∷ []) (Gave c (RegisterClientReply (client_id (of.book h).epoch (of.given h + 1))) ∷ []) (heard c (RegisterClient previous) sequence frame h)
+    (λ e. fine-turned-away c previous sequence frame (no_room (arrival c (RegisterClient previous) sequence frame)) h u f)
+    (λ e. fine-reply c previous sequence frame (client_id (of.book h).epoch (of.given h + 1)) h u f)
+fine-register c previous sequence frame (b ∷ id) h u f =
+    fine-cond (may_rejoin (reading h) (b ∷ id)) (Gave c (RegisterClientReply (b ∷ id)) ∷ []) (Blamed c (bad_id (arrival c (RegisterClient previous) sequence frame)) ∷ []) (heard c (RegisterClient previous) sequence frame h)
+    (λ e. fine-reply c previous sequence frame (b ∷ id) h u f)
+    (λ e. fine-refused c (RegisterClient previous) sequence frame (bad_id (arrival c (RegisterClient previous) sequence frame)) h (record { phase = refl; askers = refl }) f)
+
+-- The token
+
+wanted-is : (o : Option of.Begun) (members : List Member) → wanted_in (of.course o members) ≡ of.wanted_of o
+wanted-is None members = refl
+wanted-is (Some r) members = refl
+
+or-none : (x y : Bool) → (x || y) ≡ false → (x ≡ false) × (y ≡ false)
+or-none true y e = absurd (grind arith)
+or-none false y e = (refl, e)
+
+asked-not : (a : Bool) (p : Option Phase) → (is_saving p && a) ≡ false → cond a (asked_phase p) p ≡ p
+asked-not false p e = refl
+asked-not true None e = refl
+asked-not true (Some Saving) e = absurd (grind arith)
+asked-not true (Some SavingTwo) e = absurd (grind arith)
+asked-not true (Some p) e = refl
+
+talked-not : (p : Option Phase) → is_interacting p ≡ false → talked_phase p ≡ p
+talked-not None e = refl
+talked-not (Some Interacting) e = absurd (grind arith)
+talked-not (Some InteractingTwo) e = absurd (grind arith)
+talked-not (Some p) e = refl
+
+saved-not : (p : Option Phase) → is_owing p ≡ false → is_saving p ≡ false → saved_phase p ≡ p
+saved-not None o e = refl
+saved-not (Some Saving) o e = absurd (grind arith)
+saved-not (Some SavingTwo) o e = absurd (grind arith)
+saved-not (Some Owing) o e = absurd (grind arith)
+saved-not (Some p) o e = refl
+
+second-not : (p : Option Phase) → is_first_saving p ≡ false → second_phase p ≡ p
+second-not None e = refl
+second-not (Some Saving) e = absurd (grind arith)
+second-not (Some p) e = refl
+
+-- the style of the running round allows the dialog
+abbrev style_allows : History → Dialog → Bool
+style_allows h dialog = may_interact (wanted_in (of.round h)) dialog
+
+style-is : (h : History) (dialog : Dialog) → style_allows h dialog ≡ may_interact (of.wanted h) dialog
+style-is h dialog = ap (λ (o : Option Wanted). may_interact o dialog) (wanted-is (of.running h) (of.rows (λ c. of.phase_of c h) (λ c. of.saved_of c h) (of.members h)))
+
+request-ignored : (c : ℕ) (dialog : Dialog) (h : History) → (is_owing (of.phase_of c h) || is_saving (of.phase_of c h) && style_allows h dialog) ≡ false → Ignored c (InteractRequest dialog) h
+request-ignored c dialog h e =
+    let k : (is_saving (of.phase_of c h) && may_interact (of.wanted h) dialog) ≡ false =
+    ap (λ (b : Bool). is_saving (of.phase_of c h) && b) (sym (style-is h dialog)) ∙ (or-none (is_owing (of.phase_of c h)) (is_saving (of.phase_of c h) && style_allows h dialog) e).1 in
+    record {
+      phase = asked-not (may_interact (of.wanted h) dialog) (of.phase_of c h) k;
+      askers = ap (λ (b : Bool). cond b (without c (of.askers h) ++ c ∷ []) (of.askers h)) k;
+    }
+
+request-placed : (c : ℕ) (dialog : Dialog) (h : History) → (is_owing (of.phase_of c h) || is_saving (of.phase_of c h) && style_allows h dialog) ≡ true → HasPlace c dialog h
+request-placed c dialog h e =
+    or-right (is_dying (of.phase_of c h)) (ap (λ (b : Bool). is_owing (of.phase_of c h) || is_saving (of.phase_of c h) && b) (sym (style-is h dialog)) ∙ e) where
+      or-right : (b : Bool) {x : Bool} → x ≡ true → (b || x) ≡ true
+      or-right true k = refl
+      or-right false k = k
+
+fine-want_cancel : (b : Bool) (c : ℕ) (sequence : ℕ) (frame : List ℕ) (h : History) → Fine h → Fine (onto (heard c (InteractDone true) sequence frame h) (want_cancel (reading h) (arrival c (InteractDone true) sequence frame) b))
+fine-want_cancel true c sequence frame h f = fine-heard c (InteractDone true) sequence frame (called_off (of.round h)) h tt (calm-off (of.round h)) f
+fine-want_cancel false c sequence frame h f = fine-refused c (InteractDone true) sequence frame _ h (record { phase = refl; askers = refl }) f
+
+-- by the phase of the sender
+fine-answered : (c : ℕ) (m : XsmpMessage) (sequence : ℕ) (frame : List ℕ) (h : History) → Fine h → Fine (onto (heard c m sequence frame h) (answered (reading h) (arrival c m sequence frame) m (of.phase_of c h)))
+fine-answered c (RegisterClient previous) sequence frame h f =
+    fine-or-bad (is_unregistered (of.phase_of c h)) c (RegisterClient previous) sequence frame (register (reading h) (arrival c (RegisterClient previous) sequence frame) previous) h (λ e. record { phase = refl; askers = refl }) f
+    (λ e. fine-register c previous sequence frame previous h (unregistered-is (of.phase_of c h) e) f)
+fine-answered c (SetProperties list) sequence frame h f =
+    fine-or-bad (is_bound (of.phase_of c h)) c (SetProperties list) sequence frame _ h (λ e. record { phase = refl; askers = refl }) f
+    (λ e. fine-cond (is_full (set_all (of.table_of c h) list)) (Blamed c (full_table (arrival c (SetProperties list) sequence frame)) ∷ []) [] (heard c (SetProperties list) sequence frame h)
+    (λ k. fine-refused c (SetProperties list) sequence frame _ h (record { phase = refl; askers = refl }) f) (λ k. fine-heard c (SetProperties list) sequence frame [] h tt tt f))
+fine-answered c (DeleteProperties names) sequence frame h f =
+    fine-or-bad (is_bound (of.phase_of c h)) c (DeleteProperties names) sequence frame [] h (λ e. record { phase = refl; askers = refl }) f (λ e. fine-heard c (DeleteProperties names) sequence frame [] h tt tt f)
+fine-answered c GetProperties sequence frame h f =
+    fine-or-bad (is_bound (of.phase_of c h)) c GetProperties sequence frame (Gave c (GetPropertiesReply (of.table_of c h)) ∷ []) h (λ e. record { phase = refl; askers = refl }) f
+    (λ e. fine-heard c GetProperties sequence frame (Gave c (GetPropertiesReply (of.table_of c h)) ∷ []) h tt (refl, tt) f)
+fine-answered c (SaveYourselfRequest kind shutdown style fast global) sequence frame h f =
+    fine-or-bad (is_bound (of.phase_of c h)) c (SaveYourselfRequest kind shutdown style fast global) sequence frame _ h (λ e. record { phase = refl; askers = refl }) f
+    (λ e. fine-cond (shutdown && not global) (Blamed c (lone_shutdown (arrival c (SaveYourselfRequest kind shutdown style fast global) sequence frame)) ∷ []) [] (heard c (SaveYourselfRequest kind shutdown style fast global) sequence frame h)
+    (λ k. fine-refused c (SaveYourselfRequest kind shutdown style fast global) sequence frame _ h (record { phase = refl; askers = refl }) f) (λ k. fine-heard c (SaveYourselfRequest kind shutdown style fast global) sequence frame [] h tt tt f))
+fine-answered c (InteractRequest dialog) sequence frame h f =
+    fine-or-bad (is_owing (of.phase_of c h) || is_saving (of.phase_of c h) && style_allows h dialog) c (InteractRequest dialog) sequence frame [] h (request-ignored c dialog h) f
+    (λ e. fine-heard c (InteractRequest dialog) sequence frame [] h (request-placed c dialog h e) tt f)
+fine-answered c (InteractDone false) sequence frame h f =
+    fine-or-bad (is_owing (of.phase_of c h) || is_interacting (of.phase_of c h)) c (InteractDone false) sequence frame [] h
+    (λ e. record { phase = talked-not (of.phase_of c h) (or-none (is_owing (of.phase_of c h)) (is_interacting (of.phase_of c h)) e).1; askers = refl }) f (λ e. fine-heard c (InteractDone false) sequence frame [] h tt tt f)
+fine-answered c (InteractDone true) sequence frame h f =
+    fine-or-bad (is_owing (of.phase_of c h) || is_interacting (of.phase_of c h)) c (InteractDone true) sequence frame _ h (λ e. record { phase = refl; askers = refl }) f
+    (λ e. fine-cond (is_owing (of.phase_of c h)) [] (want_cancel (reading h) (arrival c (InteractDone true) sequence frame) (is_shutdown (wanted_in (of.round h)))) (heard c (InteractDone true) sequence frame h)
+    (λ k. fine-heard c (InteractDone true) sequence frame [] h tt tt f) (λ k. fine-want_cancel (is_shutdown (wanted_in (of.round h))) c sequence frame h f))
+fine-answered c (SaveYourselfDone success) sequence frame h f =
+    fine-or-bad (is_owing (of.phase_of c h) || is_saving (of.phase_of c h)) c (SaveYourselfDone success) sequence frame [] h
+    (λ e. record { phase = saved-not (of.phase_of c h) (or-none (is_owing (of.phase_of c h)) (is_saving (of.phase_of c h)) e).0 (or-none (is_owing (of.phase_of c h)) (is_saving (of.phase_of c h)) e).1; askers = refl }) f
+    (λ e. fine-heard c (SaveYourselfDone success) sequence frame [] h tt tt f)
+fine-answered c SaveYourselfPhase2Request sequence frame h f =
+    fine-or-bad (is_owing (of.phase_of c h) || is_first_saving (of.phase_of c h)) c SaveYourselfPhase2Request sequence frame [] h
+    (λ e. record { phase = second-not (of.phase_of c h) (or-none (is_owing (of.phase_of c h)) (is_first_saving (of.phase_of c h)) e).1; askers = refl }) f
+    (λ e. fine-heard c SaveYourselfPhase2Request sequence frame [] h tt tt f)
+fine-answered c m sequence frame h f = fine-refused c m sequence frame _ h (record { phase = refl; askers = refl }) f
+
+-- a client that was told to die is heard no more
+dying-suits : (c : ℕ) (m : XsmpMessage) (sequence : ℕ) (frame : List ℕ) (h : History) → is_dying (of.phase_of c h) ≡ true → Suits (Outside (Said c m sequence frame)) h
+dying-suits c (InteractRequest dialog) sequence frame h e = ap (λ (b : Bool). b || (is_owing (of.phase_of c h) || is_saving (of.phase_of c h) && may_interact (of.wanted h) dialog)) e
+dying-suits c m sequence frame h e = tt
+
+fine-unless : (c : ℕ) (m : XsmpMessage) (sequence : ℕ) (frame : List ℕ) (h : History) (p : Option Phase) → of.phase_of c h ≡ p → Fine h → Fine (onto (heard c m sequence frame h) (unless_dying (reading h) (arrival c m sequence frame) p))
+fine-unless c m sequence frame h (Some Dying) e f = fine-heard c m sequence frame [] h (dying-suits c m sequence frame h (ap (λ (p : Option Phase). is_dying p) e)) tt f
+fine-unless c m sequence frame h None e f = subst (λ (p : Option Phase). Fine (onto (heard c m sequence frame h) (answered (reading h) (arrival c m sequence frame) m p))) e (fine-answered c m sequence frame h f)
+fine-unless c m sequence frame h (Some p) e f = subst (λ (q : Option Phase). Fine (onto (heard c m sequence frame h) (answered (reading h) (arrival c m sequence frame) m q))) e (fine-answered c m sequence frame h f)
+
+fine-said : (c : ℕ) (m : XsmpMessage) (sequence : ℕ) (frame : List ℕ) (h : History) → Fine h → Fine (onto (heard c m sequence frame h) (said (reading h) (arrival c m sequence frame) m))
+fine-said c (ConnectionClosed reasons) sequence frame h f = fine-heard c (ConnectionClosed reasons) sequence frame (depart (reading h) c) h tt (tt, calm-respawned (reading h) c) f
+fine-said c (Error error) sequence frame h f = fine-heard c (Error error) sequence frame [] h tt tt f
+fine-said c m sequence frame h f = fine-unless c m sequence frame h (of.phase_of c h) refl f
+
+pub fine-reply_to : (event : SessionEvent) (h : History) → Fine h → Fine (onto (Outside event ▷ h) (reply (reading h) event))
+fine-reply_to (Joined c) h f = fine-calm _ (Outside (Joined c) ▷ h) (calm-cond (has_no_place (reading h)) (Closed c ∷ []) [] (tt, tt) tt) (fine-step (Outside (Joined c)) h tt f)
+fine-reply_to (Ready c) h f = fine-step (Outside (Ready c)) h tt f
+fine-reply_to (Said c m sequence frame) h f = fine-said c m sequence frame h f
+fine-reply_to (Left c) h f = fine-calm (respawned (reading h) c) (Outside (Left c) ▷ h) (calm-respawned (reading h) c) (fine-step (Outside (Left c)) h tt f)
+fine-reply_to (Operator order) h f = fine-calm (ordered (reading h) order) (Outside (Operator order) ▷ h) (calm-ordered (reading h) order) (fine-step (Outside (Operator order)) h tt f)

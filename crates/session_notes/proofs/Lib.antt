@@ -1,0 +1,6 @@
+pub mod Seen
+pub mod Steps
+pub mod Told
+pub mod Open
+pub mod Fine
+pub mod Heard
