@@ -4,3 +4,4 @@ pub mod Told
 pub mod Open
 pub mod Fine
 pub mod Heard
+pub mod Settled
