@@ -5,3 +5,5 @@ pub mod Open
 pub mod Fine
 pub mod Heard
 pub mod Settled
+pub mod Discards
+pub mod Kept
