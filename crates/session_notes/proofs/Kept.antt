@@ -301,14 +301,20 @@ none-was : (test : Option Phase → Bool) (b : Bool) (p : Option Phase) → test
 none-was test true p n e = absurd (grind (arith, n))
 none-was test false p n e = e
 
-clear-outside : (command : Command) (event : SessionEvent) (h : History) → ((d : ℕ) (m : XsmpMessage) (sequence : ℕ) (frame : List ℕ) → event ≡ Said d m sequence frame → SetsNot command m) → Clear command h → Clear command (Outside event ▷ h)
+-- a move that sets no such command, and writes no book
+abbrev pub Leaves : Command → Move → Type 0
+Leaves command (Outside (Said d m sequence frame)) = SetsNot command m
+Leaves command (Committed written) = ⊥
+Leaves command m = Unit {0}
+
+clear-outside : (command : Command) (event : SessionEvent) (h : History) → Leaves command (Outside event) → Clear command h → Clear command (Outside event ▷ h)
 clear-outside command (Joined d) h s k = record { book = k.book; tables = k.tables; saved = k.saved }
 clear-outside command (Ready d) h s k = record {
   book = k.book;
   tables = λ c e. k.tables c (was-one (λ p. is_registered p) (eqb d c) (of.phase_of c h) (ready_phase (of.phase_of c h)) (λ j. sym (quiet-ready (of.phase_of c h)).registered ∙ j) e);
   saved = λ c e. k.saved c (was-one (λ p. is_member p) (eqb d c) (of.phase_of c h) (ready_phase (of.phase_of c h)) (λ j. sym (quiet-ready (of.phase_of c h)).member ∙ j) e);
 }
-clear-outside command (Said d m sequence frame) h s k = clear-said command d m sequence frame h (s d m sequence frame refl) k
+clear-outside command (Said d m sequence frame) h s k = clear-said command d m sequence frame h s k
 clear-outside command (Left d) h s k = record {
   book = k.book;
   tables = λ c e. gone-clear command (eqb d c) (of.table_of c h) (of.phase_of c h) (k.tables c) e;
@@ -370,23 +376,21 @@ clear-entries command h (entry ∷ entries) k a = (entry-at a.0, clear-entries c
 pub clear-committed : (command : Command) (written : Book) (h : History) (n : List Note) → IsNext written h n → Clear command h → Clear command (Committed written ▷ h)
 clear-committed command written h n w k = record { book = names-none command written.entries (clear-entries command h written.entries k w.entries); tables = k.tables; saved = k.saved }
 
--- whatever isn't a book that is written
-pub clear-step : (command : Command) (m : Move) (h : History) → ((d : ℕ) (x : XsmpMessage) (sequence : ℕ) (frame : List ℕ) → m ≡ Outside (Said d x sequence frame) → SetsNot command x) → ((written : Book) → m ≡ Committed written → ⊥) → Clear command h
-    → Clear command (m ▷ h)
-clear-step command (Outside event) h s w k = clear-outside command event h (λ d x sequence frame e. s d x sequence frame (ap Outside e)) k
-clear-step command (Gave d m) h s w k = clear-given command d m h k
-clear-step command (Committed written) h s w k = absurd (w written refl)
-clear-step command (Unset d) h s w k = record {
+pub clear-step : (command : Command) (m : Move) (h : History) → Leaves command m → Clear command h → Clear command (m ▷ h)
+clear-step command (Outside event) h s k = clear-outside command event h s k
+clear-step command (Gave d m) h s k = clear-given command d m h k
+clear-step command (Committed written) h s k = absurd s
+clear-step command (Unset d) h s k = record {
   book = k.book;
   tables = λ c e. k.tables c (none-was (λ p. is_registered p) (eqb d c) (of.phase_of c h) refl e);
   saved = λ c e. k.saved c (none-was (λ p. is_member p) (eqb d c) (of.phase_of c h) refl e);
 }
-clear-step command (Closed d) h s w k = record {
+clear-step command (Closed d) h s k = record {
   book = k.book;
   tables = λ c e. gone-clear command (eqb d c) (of.table_of c h) (of.phase_of c h) (k.tables c) e;
   saved = λ c e. gone-saved command (eqb d c) (of.saved_of c h) (of.phase_of c h) (k.saved c) e;
 }
-clear-step command m h s w k = record { book = k.book; tables = k.tables; saved = k.saved }
+clear-step command m h s k = record { book = k.book; tables = k.tables; saved = k.saved }
 
 -- a command that nobody needs
 pub clear-needless : (command other : Command) (h : History) → same_command command other ≡ true → IsNeedless other h → NoneNamed (of.book h) → Clear command h

@@ -2,8 +2,10 @@ pub mod Seen
 pub mod Steps
 pub mod Told
 pub mod Open
+pub mod Discards
+pub mod Kept
+pub mod Numbers
+pub mod Next
 pub mod Fine
 pub mod Heard
 pub mod Settled
-pub mod Discards
-pub mod Kept
