@@ -1,48 +1,64 @@
 -- What the notes say goes on from move to move, and the laws hold at each.
-use Rattle.std.proofs.Common.{◌≡◌, refl, ℕ, Bool, true, false, cond, not, ◌&&◌, ◌||◌, List, [], ◌∷◌, ◌++◌, map, filter, eqb, sym, ap, subst, ◌∙◌, arith}
-use Rattle.std.specs.Prelude.{Option, Some, None}
-use Rattle.std.specs.List.{AllByRecursion}
+use Rattle.std.proofs.Common.{◌≡◌, refl, ℕ, Bool, true, false, cond, not, ◌&&◌, ◌||◌, List, [], ◌∷◌, ◌++◌, ◌+◌, ◌<◌, map, filter, eqb, sym, ap, subst, ◌∙◌, arith, inl, inr}
+use Rattle.std.specs.Prelude.{Option, Some, None, ◌⊎◌}
+use Rattle.std.specs.List.{AllByRecursion, IsDistinct}
+use Rattle.std.specs.Str.{bytes_eq}
 use Rattle.std.proofs.lemmas.Bool.Decides.{nat_tests}
 use Rattle.sm_world.specs.declared.commands.Command.{Command}
 use Rattle.xsmp_messages.specs.declared.message.XsmpMessage.{XsmpMessage}
-use Rattle.xsmp_messages.specs.declared.message.XsmpMessage.TheVariants.{RegisterClientReply, GetPropertiesReply, SaveYourself, InteractRequest, Interact, InteractDone, SaveYourselfDone, Die, ShutdownCancelled, SaveYourselfPhase2Request, SaveYourselfPhase2, SaveComplete}
+use Rattle.xsmp_messages.specs.declared.message.XsmpMessage.TheVariants.{RegisterClientReply, GetPropertiesReply, SaveYourself, InteractRequest, Interact, InteractDone, SaveYourselfDone, Die, ShutdownCancelled, SaveYourselfPhase2Request, SaveYourselfPhase2, SaveComplete, SetProperties, DeleteProperties}
+use Rattle.checkpoint_records.specs.declared.records.Book.{Book}
+use Rattle.checkpoint_records.specs.declared.records.Entry.{Entry as Kept}
+use Rattle.checkpoint_records.specs.Books.{same_command, names}
+use Rattle.discard_ledger.specs.Discards.{is_among}
 use Rattle.interact_queue.specs.Queue.{is_in}
 use Rattle.ice_values.specs.Fields.{ErrorFields}
 use Rattle.session_model.specs.declared.phase.Phase.{Phase}
 use Rattle.session_model.specs.declared.phase.Phase.TheVariants.{Unregistered}
 use Rattle.session_model.specs.declared.events.SessionEvent.{SessionEvent}
 use Rattle.session_model.specs.declared.events.SessionEvent.TheVariants.{Joined, Ready, Said, Left, Operator}
-use Rattle.session_model.specs.declared.events.Act.TheVariants.{Say}
+use Rattle.session_model.specs.declared.events.Act.TheVariants.{Commit, Say}
 use Rattle.session_model.specs.Phases.{is_asked, is_interacting, is_member, is_dying, is_owing, is_shutdown, may_interact, phase_said}
-use Rattle.session_model.specs.Moves.{Move, Cause, Outside, Gave, Blamed, Unset, Closed, Agreed, Tried, Committed, Printed, Finished, History, Opened, ◌▷◌, onto, gave_each, tried_each}
+use Rattle.session_model.specs.Moves.{Move, Cause, Discard, Outside, Gave, Blamed, Unset, Closed, Began, Over, Cancelled, Agreed, Tried, Committed, Printed, Finished, History, Opened, ◌▷◌, onto, gave_each, tried_each}
 use Rattle.session_model.specs.Readings as of
 use Rattle.session_model.proofs.Asked.{phases-tell}
 use Rattle.session_model.proofs.Sound.{Fits, Sound, sound-step, or-either}
 use Rattle.session_model.proofs.Level.{onto-append}
 use Rattle.session_model.proofs.Ruled.{differ, denied}
-use Rattle.session_notes.specs.Notes.{Entry, Note, Did, Heard, Given, Gone, entries_of}
+use Rattle.session_notes.specs.Notes.{Entry, Note, Did, Heard, Given, Gone, Wrote, Started, entries_of}
+use Rattle.session_notes.specs.Keeping.{IsOfRun, book_in, new_ids, sets_discard, is_discarded, is_started}
+use Rattle.session_notes.specs.Laws.{StandsIn, IsSaved}
 use Rattle.session_notes.specs.Watching.{has_token, was_asked, is_to_save, has_answered, requests}
 use Rattle.session_notes.proofs.Seen.{noted_of, AtEach, EachEntry}
 use Rattle.session_notes.proofs.Steps.{is_at_work, has_replied, is_bound_to_save, asked-works, gives_back}
 use Rattle.session_notes.proofs.Told as told
+use Rattle.session_notes.proofs.Kept as kept
+use Rattle.session_notes.proofs.Kept.{HasRoom, HasTable, MaySave, IsGiven, IsNext, IsNeedless, NoneNamed, Saves}
+use Rattle.session_notes.proofs.Numbers.{of-run, numbers-differ}
 use Rattle.session_notes.proofs.Open.{WaitsTold, HasPlace, own, waits-interact, waits-cancelled, waits-given, waits-gone, waits-unset, waits-ready, waits-said, waits-request}
 
 -- What a move asks
 
 abbrev pub Suits : Move → History → Type 0
 Suits (Outside (Said c (InteractRequest dialog) sequence frame)) h = HasPlace c dialog h
-Suits (Gave c (RegisterClientReply id)) h = of.phase_of c h ≡ Some Unregistered
+Suits (Outside (Said c (SetProperties list) sequence frame)) h = HasRoom c list h
+Suits (Outside (Said c (DeleteProperties names) sequence frame)) h = HasTable c h
+Suits (Outside (Said c (SaveYourselfDone success) sequence frame)) h = MaySave c h
+Suits (Gave c (RegisterClientReply id)) h = (of.phase_of c h ≡ Some Unregistered) × IsGiven id h
 Suits (Gave c (SaveYourself kind shutdown style fast)) h = told.BeginsToSave c h × (of.is_ending h ≡ false)
 Suits (Gave c Interact) h = ((d : ℕ) → is_interacting (of.phase_of d h) ≡ false) × ((others : List ℕ) × (of.waiting h ≡ c ∷ others))
 Suits (Gave c SaveYourselfPhase2) h = (of.is_ending h ≡ false) × ((d : ℕ) → is_member (of.phase_of d h) ≡ true → has_replied (of.phase_of d h) ≡ true)
 Suits (Gave c Die) h = of.is_ending h ≡ true
 Suits (Unset c) h = of.phase_of c h ≡ Some Unregistered
 Suits (Blamed c error) h = ⊥
+Suits (Began conns wanted) h = of.is_ending h ≡ false
+Suits (Committed written) h = IsNext written h (noted_of h)
+Suits (Tried Discard command) h = IsNeedless command h
 Suits Agreed h = is_shutdown (of.wanted h) ≡ true → (c : ℕ) → is_at_work (of.phase_of c h) ≡ false
 Suits m h = Unit {0}
 
 fits-given : (c : ℕ) (m : XsmpMessage) (h : History) → Suits (Gave c m) h → Fits (Gave c m) h
-fits-given c (RegisterClientReply id) h s = s
+fits-given c (RegisterClientReply id) h s = s.0
 fits-given c Interact h s = s.0
 fits-given c Die h s = s
 fits-given c m h s = tt
@@ -205,6 +221,225 @@ told-step (Closed d) h s so t = record {
 told-step Agreed h s so t = told-agreed h (noted_of h) s t
 told-step m h s so t = record { token = t.token; asked = t.asked; owing = t.owing; saves = t.saves; answers = t.answers; waits = t.waits; rest = t.rest }
 
+-- What the notes say of what is kept
+
+pub record Keeps (h : History) (n : List Note) : Type 0 where
+  pub epoch : (of.book h).epoch ≡ kept.run_epoch h
+  pub few : of.given h < 4294967296
+  pub book : book_in (kept.opened_of h) n ≡ of.book h
+  pub id : kept.IdTold h n
+  pub new : kept.NewTold h n
+  pub idle : of.is_ending h ≡ true → of.running h ≡ None
+  pub table : kept.TableTold h n
+  pub saved : kept.SavedTold h n
+  pub unnamed : NoneNamed (kept.opened_of h) → NoneNamed (of.book h)
+  pub clear : NoneNamed (kept.opened_of h) → (command : Command) → is_discarded command n ≡ true → kept.Clear command h
+
+and-left : (x y : Bool) → (x && y) ≡ true → x ≡ true
+and-left true y e = refl
+and-left false y e = e
+
+and-right : (x y : Bool) → (x && y) ≡ true → y ≡ true
+and-right true y e = e
+and-right false y e = absurd (grind arith)
+
+not-true : (x : Bool) → not x ≡ true → x ≡ false
+not-true true e = sym e
+not-true false e = refl
+
+-- the table and the snapshot after a message
+keeps-with : (d : ℕ) (m : XsmpMessage) (sequence : ℕ) (frame : List ℕ) (h : History) (n : List Note) → kept.TableTold (Outside (Said d m sequence frame) ▷ h) (Heard d m ∷ n) → kept.SavedTold (Outside (Said d m sequence frame) ▷ h) (Heard d m ∷ n)
+    → (NoneNamed (kept.opened_of h) → (command : Command) → is_discarded command (Heard d m ∷ n) ≡ true → kept.Clear command (Outside (Said d m sequence frame) ▷ h)) → Keeps h n → Keeps (Outside (Said d m sequence frame) ▷ h) (Heard d m ∷ n)
+keeps-with d m sequence frame h n t s c k = record { epoch = k.epoch; few = k.few; book = k.book; id = k.id; new = k.new; idle = k.idle; table = t; saved = s; unnamed = k.unnamed; clear = c }
+
+keeps-said : (d : ℕ) (m : XsmpMessage) (sequence : ℕ) (frame : List ℕ) (h : History) (n : List Note) → Suits (Outside (Said d m sequence frame)) h → Sound h → Told h n → Keeps h n → Keeps (Outside (Said d m sequence frame) ▷ h) (Heard d m ∷ n)
+keeps-said d (SetProperties list) sequence frame h n s so t k =
+    keeps-with d (SetProperties list) sequence frame h n (kept.table-set d list sequence frame h n s so.die_at_end k.table) (kept.saved-said d (SetProperties list) sequence frame h n refl k.saved)
+    (λ u command e. kept.clear-said command d (SetProperties list) sequence frame h (not-true (sets_discard command list) (and-left (not (sets_discard command list)) (is_discarded command n) e))
+    (k.clear u command (and-right (not (sets_discard command list)) (is_discarded command n) e))) k
+keeps-said d (DeleteProperties names) sequence frame h n s so t k =
+    keeps-with d (DeleteProperties names) sequence frame h n (kept.table-without d names sequence frame h n s so.die_at_end k.table) (kept.saved-said d (DeleteProperties names) sequence frame h n refl k.saved)
+    (λ u command e. kept.clear-said command d (DeleteProperties names) sequence frame h tt (k.clear u command e)) k
+keeps-said d (SaveYourselfDone success) sequence frame h n s so t k =
+    keeps-with d (SaveYourselfDone success) sequence frame h n (kept.table-said d (SaveYourselfDone success) sequence frame h n refl k.table)
+    (kept.saved-done d success sequence frame h n s so.die_at_end t.asked t.owing k.table k.saved)
+    (λ u command e. kept.clear-said command d (SaveYourselfDone success) sequence frame h tt (k.clear u command e)) k
+keeps-said d m sequence frame h n s so t k =
+    keeps-with d m sequence frame h n (kept.table-said d m sequence frame h n refl k.table) (kept.saved-said d m sequence frame h n refl k.saved) (λ u command e. kept.clear-said command d m sequence frame h tt (k.clear u command e)) k
+
+keeps-given : (d : ℕ) (m : XsmpMessage) (h : History) (n : List Note) → Suits (Gave d m) h → Keeps h n → Keeps (Gave d m ▷ h) (Given d m ∷ n)
+keeps-given d (RegisterClientReply id) h n s k = record {
+  epoch = k.epoch;
+  few = kept.few-reply id h s.1 k.few;
+  book = k.book;
+  id = kept.id-given d (RegisterClientReply id) h n k.id;
+  new = kept.new-reply d id h n s.1 k.epoch k.book k.new;
+  idle = k.idle;
+  table = kept.table-reply d id h n k.book k.table;
+  saved = kept.saved-given d (RegisterClientReply id) h n k.saved;
+  unnamed = k.unnamed;
+  clear = λ u command e. kept.clear-step command (Gave d (RegisterClientReply id)) h tt (k.clear u command e);
+}
+keeps-given d m h n s k = record {
+  epoch = k.epoch;
+  few = k.few;
+  book = k.book;
+  id = k.id;
+  new = k.new;
+  idle = k.idle;
+  table = k.table;
+  saved = kept.saved-given d m h n k.saved;
+  unnamed = k.unnamed;
+  clear = λ u command e. kept.clear-step command (Gave d m) h tt (k.clear u command e);
+}
+
+keeps-outside : (event : SessionEvent) (h : History) → Suits (Outside event) h → Sound h → Told h (noted_of h) → Keeps h (noted_of h) → Keeps (Outside event ▷ h) (noted_of (Outside event ▷ h))
+keeps-outside (Said d m sequence frame) h s so t k = keeps-said d m sequence frame h (noted_of h) s so t k
+keeps-outside (Left d) h s so t k = record {
+  epoch = k.epoch;
+  few = k.few;
+  book = k.book;
+  id = kept.id-gone d h (noted_of h) k.id;
+  new = k.new;
+  idle = k.idle;
+  table = kept.table-gone d h (noted_of h) k.table;
+  saved = kept.saved-gone d h (noted_of h) k.saved;
+  unnamed = k.unnamed;
+  clear = λ u command e. kept.clear-step command (Outside (Left d)) h tt (k.clear u command e);
+}
+keeps-outside event h s so t k = record {
+  epoch = k.epoch;
+  few = k.few;
+  book = k.book;
+  id = k.id;
+  new = k.new;
+  idle = k.idle;
+  table = k.table;
+  saved = k.saved;
+  unnamed = k.unnamed;
+  clear = λ u command e. kept.clear-step command (Outside event) h tt (k.clear u command e);
+}
+
+discarded-at : (command other : Command) (h : History) (n : List Note) → IsNeedless other h → Keeps h n → NoneNamed (kept.opened_of h) → (same_command command other || is_discarded command n) ≡ true → kept.Clear command (Tried Discard other ▷ h)
+discarded-at command other h n s k u e =
+    kept.clear-step command (Tried Discard other) h tt (or-either (same_command command other) (is_discarded command n) (λ i. kept.clear-needless command other h i s (k.unnamed u)) (λ i. k.clear u command i) e)
+
+keeps-tried : (cause : Cause) (command : Command) (h : History) (n : List Note) → Suits (Tried cause command) h → Keeps h n → Keeps (Tried cause command ▷ h) (Started cause command ∷ n)
+keeps-tried Discard other h n s k = record {
+  epoch = k.epoch;
+  few = k.few;
+  book = k.book;
+  id = k.id;
+  new = k.new;
+  idle = k.idle;
+  table = k.table;
+  saved = k.saved;
+  unnamed = k.unnamed;
+  clear = λ u command e. discarded-at command other h n s k u e;
+}
+keeps-tried cause other h n s k = record {
+  epoch = k.epoch;
+  few = k.few;
+  book = k.book;
+  id = k.id;
+  new = k.new;
+  idle = k.idle;
+  table = k.table;
+  saved = k.saved;
+  unnamed = k.unnamed;
+  clear = λ u command e. kept.clear-step command (Tried cause other) h tt (k.clear u command e);
+}
+
+keeps-step : (m : Move) (h : History) → Suits m h → Sound h → Told h (noted_of h) → Keeps h (noted_of h) → Keeps (m ▷ h) (noted_of (m ▷ h))
+keeps-step (Outside event) h s so t k = keeps-outside event h s so t k
+keeps-step (Gave d m) h s so t k = keeps-given d m h (noted_of h) s k
+keeps-step (Blamed d error) h s so t k = absurd s
+keeps-step (Closed d) h s so t k = record {
+  epoch = k.epoch;
+  few = k.few;
+  book = k.book;
+  id = kept.id-gone d h (noted_of h) k.id;
+  new = k.new;
+  idle = k.idle;
+  table = kept.table-gone d h (noted_of h) k.table;
+  saved = kept.saved-gone d h (noted_of h) k.saved;
+  unnamed = k.unnamed;
+  clear = λ u command e. kept.clear-step command (Closed d) h tt (k.clear u command e);
+}
+keeps-step (Tried cause command) h s so t k = keeps-tried cause command h (noted_of h) s k
+keeps-step (Committed written) h s so t k = record {
+  epoch = s.epoch ∙ k.epoch;
+  few = k.few;
+  book = refl;
+  id = k.id;
+  new = k.new;
+  idle = k.idle;
+  table = k.table;
+  saved = k.saved;
+  unnamed = λ u. s.unnamed (k.unnamed u);
+  clear = λ u command e. kept.clear-committed command written h (noted_of h) s (k.clear u command e);
+}
+keeps-step (Began conns wanted) h s so t k = record {
+  epoch = k.epoch;
+  few = k.few;
+  book = k.book;
+  id = k.id;
+  new = k.new;
+  idle = λ e. absurd (differ e s);
+  table = k.table;
+  saved = k.saved;
+  unnamed = k.unnamed;
+  clear = λ u command e. kept.clear-step command (Began conns wanted) h tt (k.clear u command e);
+}
+keeps-step Agreed h s so t k = record {
+  epoch = k.epoch;
+  few = k.few;
+  book = k.book;
+  id = k.id;
+  new = k.new;
+  idle = λ e. refl;
+  table = λ e. k.table (or-before (of.is_ending h) (is_shutdown (of.wanted h)) e);
+  saved = λ e. k.saved (or-before (of.is_ending h) (is_shutdown (of.wanted h)) e);
+  unnamed = k.unnamed;
+  clear = λ u command e. kept.clear-step command Agreed h tt (k.clear u command e);
+}
+keeps-step Over h s so t k = record {
+  epoch = k.epoch;
+  few = k.few;
+  book = k.book;
+  id = k.id;
+  new = k.new;
+  idle = λ e. refl;
+  table = k.table;
+  saved = k.saved;
+  unnamed = k.unnamed;
+  clear = λ u command e. kept.clear-step command Over h tt (k.clear u command e);
+}
+keeps-step Cancelled h s so t k = record {
+  epoch = k.epoch;
+  few = k.few;
+  book = k.book;
+  id = k.id;
+  new = k.new;
+  idle = λ e. refl;
+  table = k.table;
+  saved = k.saved;
+  unnamed = k.unnamed;
+  clear = λ u command e. kept.clear-step command Cancelled h tt (k.clear u command e);
+}
+keeps-step m h s so t k = record {
+  epoch = k.epoch;
+  few = k.few;
+  book = k.book;
+  id = k.id;
+  new = k.new;
+  idle = k.idle;
+  table = k.table;
+  saved = k.saved;
+  unnamed = k.unnamed;
+  clear = λ u command e. kept.clear-step command m h tt (k.clear u command e);
+}
+
 -- The laws at each move
 
 -- one connection has the token at most
@@ -216,6 +451,21 @@ abbrev pub IsDue : List Note → Entry → Type 0
 IsDue n (Did (Say c Interact)) = (others : List ℕ) × (requests n ≡ c ∷ others)
 IsDue n (Did (Say c SaveYourselfPhase2)) = (d : ℕ) → is_to_save d n ≡ true → has_answered d n ≡ true
 IsDue n entry = Unit {0}
+
+-- the new IDs are of the run, and differ
+abbrev pub IdsHold : Book → List Note → Type 0
+IdsHold book n = AllByRecursion (λ id. IsOfRun (book.epoch + 1) id × ((book_in book n).epoch ≡ book.epoch + 1)) (new_ids book n) × IsDistinct bytes_eq (new_ids book n)
+
+-- the book that stands names no state that was discarded
+abbrev pub DiscardsHold : Book → List Note → Type 0
+DiscardsHold book n = NoneNamed book → (command : Command) → is_discarded command n ≡ true → names (book_in book n) command ≡ false
+
+-- what a book that is written asks of the notes before it
+abbrev pub IsOwed : Book → List Note → Entry → Type 0
+IsOwed book n (Did (Commit written)) =
+    AllByRecursion (λ entry. StandsIn entry (book_in book n).entries ⊎ IsSaved book n entry) written.entries
+    × ((command : Command) → is_among command (book_in book n).pending ≡ true → (is_among command written.pending || names written command || is_started command n) ≡ true)
+IsOwed book n entry = Unit {0}
 
 -- who dies does so since a shutdown was agreed
 bound-member : (c : ℕ) (h : History) → Sound h → of.is_ending h ≡ false → is_bound_to_save (of.phase_of c h) ≡ true → is_member (of.phase_of c h) ≡ true
@@ -238,13 +488,46 @@ due-step (Printed text) h s so t = (tt, tt)
 due-step Finished h s so t = (tt, tt)
 due-step m h s so t = tt
 
+ids-now : (h : History) (n : List Note) → Keeps h n → IdsHold (kept.opened_of h) n
+ids-now h n k =
+    let e : (book_in (kept.opened_of h) n).epoch ≡ kept.run_epoch h = ap (λ (b : Book). b.epoch) k.book ∙ k.epoch in
+    subst (λ (ids : List (List ℕ)). AllByRecursion (λ id. IsOfRun (kept.run_epoch h) id × ((book_in (kept.opened_of h) n).epoch ≡ kept.run_epoch h)) ids × IsDistinct bytes_eq ids) (sym k.new)
+    (of-run (kept.run_epoch h) (of.given h) ((book_in (kept.opened_of h) n).epoch ≡ kept.run_epoch h) k.few e, numbers-differ (kept.run_epoch h) (of.given h) k.few)
+
+discards-now : (h : History) (n : List Note) → Keeps h n → DiscardsHold (kept.opened_of h) n
+discards-now h n k u command e = ap (λ (b : Book). names b command) k.book ∙ (k.clear u command e).book
+
+saves-told : (h : History) (n : List Note) (xs : List Kept) → Keeps h n → AllByRecursion (λ entry. StandsIn entry (of.book h).entries ⊎ Saves entry h) xs → AllByRecursion (λ entry. StandsIn entry (book_in (kept.opened_of h) n).entries ⊎ IsSaved (kept.opened_of h) n entry) xs
+saves-told h n [] k a = tt
+saves-told h n (entry ∷ xs) k a = (told-at a.0, saves-told h n xs k a.1) where
+  told-at : StandsIn entry (of.book h).entries ⊎ Saves entry h → StandsIn entry (book_in (kept.opened_of h) n).entries ⊎ IsSaved (kept.opened_of h) n entry
+  told-at (inl s) = inl (subst (λ (b : Book). StandsIn entry b.entries) (sym k.book) s)
+  told-at (inr s) = inr (record { conn = s.conn; id = k.id s.conn ∙ s.id; table = k.saved s.going s.conn ∙ s.table })
+
+owed-step : (m : Move) (h : History) → Suits m h → Keeps h (noted_of h) → AllByRecursion (IsOwed (kept.opened_of h) (noted_of h)) (entries_of m)
+owed-step (Committed written) h s k =
+    ((saves-told h (noted_of h) written.entries k s.entries, λ command e. s.pending command (sym (ap (λ (b : Book). is_among command b.pending) k.book) ∙ e)), tt)
+owed-step (Outside event) h s k = (tt, tt)
+owed-step (Gave c m) h s k = (tt, tt)
+owed-step (Blamed c error) h s k = (tt, tt)
+owed-step (Unset c) h s k = (tt, tt)
+owed-step (Closed c) h s k = (tt, tt)
+owed-step (Tried cause command) h s k = (tt, tt)
+owed-step (Printed text) h s k = (tt, tt)
+owed-step Finished h s k = (tt, tt)
+owed-step m h s k = tt
+
 -- All of it
 
 pub record Fine (h : History) : Type 0 where
   pub sound : Sound h
   pub told : Told h (noted_of h)
+  pub keeps : Keeps h (noted_of h)
   pub one : AtEach OneHas h
   pub due : EachEntry IsDue h
+  pub ids : AtEach (IdsHold (kept.opened_of h)) h
+  pub discards : AtEach (DiscardsHold (kept.opened_of h)) h
+  pub owed : EachEntry (IsOwed (kept.opened_of h)) h
 
 one-now : (h : History) → Sound h → Told h (noted_of h) → OneHas (noted_of h)
 one-now h so t c d e f = so.one_holder c d (t.token c e) (t.token d f)
@@ -253,4 +536,14 @@ pub fine-step : (m : Move) (h : History) → Suits m h → Fine h → Fine (m �
 fine-step m h s f =
     let so : Sound (m ▷ h) = sound-step m h (fits m h s) f.sound in
     let t : Told (m ▷ h) (noted_of (m ▷ h)) = told-step m h s f.sound f.told in
-    record { sound = so; told = t; one = (one-now (m ▷ h) so t, f.one); due = (due-step m h s f.sound f.told, f.due) }
+    let k : Keeps (m ▷ h) (noted_of (m ▷ h)) = keeps-step m h s f.sound f.told f.keeps in
+    record {
+      sound = so;
+      told = t;
+      keeps = k;
+      one = (one-now (m ▷ h) so t, f.one);
+      due = (due-step m h s f.sound f.told, f.due);
+      ids = (ids-now (m ▷ h) (noted_of (m ▷ h)) k, f.ids);
+      discards = (discards-now (m ▷ h) (noted_of (m ▷ h)) k, f.discards);
+      owed = (owed-step m h s f.keeps, f.owed);
+    }

@@ -108,7 +108,7 @@ set-whole true false list items s e = sym (ap (λ (x : Bool). cond x items (set_
 set-whole false f list items s e = absurd (grind arith)
 
 -- P of c where it holds of d, and they are one
-moved : (P : ℕ → Type 0) (c d : ℕ) → P d → eqb d c ≡ true → P c
+pub moved : (P : ℕ → Type 0) (c d : ℕ) → P d → eqb d c ≡ true → P c
 moved P c d p e = let k : d ≡ c = grind (arith, nat_tests) in subst P k p
 
 pub table-set : (d : ℕ) (list : List Property) (sequence : ℕ) (frame : List ℕ) (h : History) (n : List Note) → HasRoom d list h → DieAtEnd h → TableTold h n → TableTold (Outside (Said d (SetProperties list) sequence frame) ▷ h) (Heard d (SetProperties list) ∷ n)

@@ -7,5 +7,6 @@ pub mod Kept
 pub mod Numbers
 pub mod Next
 pub mod Fine
+pub mod Calm
 pub mod Heard
 pub mod Settled

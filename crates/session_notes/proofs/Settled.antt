@@ -1,42 +1,53 @@
 -- The rules, and whole runs.
-use Rattle.std.proofs.Common.{◌≡◌, refl, ℕ, zero, suc, ◌+◌, ◌*◌, Bool, true, false, cond, not, ◌&&◌, ◌||◌, List, [], ◌∷◌, ◌++◌, map, filter, length, eqb, sym, ap, subst, ◌∙◌, arith}
-use Rattle.std.specs.Prelude.{Option, Some, None, is_some, filter_map}
-use Rattle.std.specs.List.{list_any, list_all}
+use Rattle.std.proofs.Common.{◌≡◌, refl, ℕ, zero, suc, ◌+◌, ◌*◌, Bool, true, false, cond, not, ◌&&◌, ◌||◌, List, [], ◌∷◌, ◌++◌, map, filter, length, eqb, sym, ap, subst, ◌∙◌, arith, inl, inr}
+use Rattle.std.specs.Prelude.{Option, Some, None, is_some, filter_map, ◌⊎◌}
+use Rattle.std.specs.List.{AllByRecursion, IsDistinct, list_any, list_all}
+use Rattle.std.specs.Str.{bytes_eq}
 use Rattle.std.proofs.lemmas.Bool.Decides.{nat_tests}
 use Rattle.sm_world.specs.declared.commands.Command.{Command}
 use Rattle.sm_world.specs.declared.events.SaveKind.{SaveKind}
 use Rattle.ice_values.specs.declared.property.Property.{Property}
 use Rattle.checkpoint_records.specs.declared.records.Book.{Book}
+use Rattle.checkpoint_records.specs.declared.records.Entry.{Entry as Kept}
+use Rattle.checkpoint_records.specs.Books.{same_command, discards, names}
+use Rattle.checkpoint_records.specs.Rules.{KeepsRules}
 use Rattle.round_agreement.specs.declared.wanted.Wanted.{Wanted}
 use Rattle.round_agreement.specs.declared.round.Member.{Member}
 use Rattle.round_agreement.specs.declared.round.Step.{Step}
 use Rattle.round_agreement.specs.Agreement.{Agreement, is_done, wants_two, all_done, two_ready, agreed, deserted, is_nil, conns_of}
-use Rattle.discard_ledger.specs.Discards.{issuable}
+use Rattle.discard_ledger.specs.Discards.{is_among, issuable}
 use Rattle.restart_plan.specs.Restarts.{opening_restarts}
+use Rattle.xsmp_messages.specs.declared.message.XsmpMessage.{XsmpMessage}
 use Rattle.xsmp_messages.specs.declared.message.XsmpMessage.TheVariants.{Interact, SaveComplete, Die, SaveYourself, SaveYourselfPhase2}
 use Rattle.interact_queue.specs.Queue.{is_in, next_holder}
 use Rattle.session_model.specs.declared.phase.Phase.{Phase}
-use Rattle.session_model.specs.declared.phase.Phase.TheVariants.{Done, WantsTwo, SavingTwo, AskedTwo, InteractingTwo}
+use Rattle.session_model.specs.declared.phase.Phase.TheVariants.{Done, Unregistered, WantsTwo, SavingTwo, AskedTwo, InteractingTwo}
 use Rattle.session_model.specs.declared.waits.Wait.{Wait}
 use Rattle.session_model.specs.declared.events.SessionEvent.{SessionEvent}
-use Rattle.session_model.specs.Phases.{is_interacting, is_first_saving, is_member, is_shutdown, step_of, begun_phase, second_begun_phase}
-use Rattle.session_model.specs.Moves.{Move, Outside, Gave, Closed, Began, Over, Agreed, Committed, Finished, Discard, End, Restart, History, Opened, ◌▷◌, onto, gave_each, tried_each}
+use Rattle.session_model.specs.Phases.{is_interacting, is_first_saving, is_member, is_shutdown, step_of, begun_phase, completed_phase, dying_phase, second_begun_phase}
+use Rattle.session_model.specs.Moves.{Move, Outside, Gave, Closed, Began, Over, Agreed, Tried, Committed, Finished, End, Restart, History, Opened, ◌▷◌, onto, gave_each, tried_each}
 use Rattle.session_model.specs.Readings as of
 use Rattle.session_model.specs.Reading.{Clients, reading}
 use Rattle.session_model.specs.Books.{next_book, issue, discarded, standing, raised, opening_moves}
 use Rattle.session_model.specs.Replies.{reply}
 use Rattle.session_model.specs.Rules.{last_command, ended, completed, agreement, wanting_two, over_rule, agreed_rule, running_rule, save_yourself, members_for, begin, begin_first, is_free, idle_rule, round_rule, token_rule, rule, go_on, settle, settled, finished, taken, opened, run}
 use Rattle.session_model.proofs.Sound.{AreRegistered, or-true, or-either}
-use Rattle.session_model.proofs.Level.{Good, phase-each, members-each, once-begun}
-use Rattle.session_model.proofs.Ruled.{denied, differ, and-left, and-right, any-in, interacting-registered, nobody-level, others, rows_now, round_now, good-rule, good-settle, good-finished}
+use Rattle.session_model.proofs.Pending.{command_equiv}
+use Rattle.session_model.proofs.Level.{Good, onto-append, phase-each, members-each, once-begun, once-completed, once-dying}
+use Rattle.session_model.proofs.Ruled.{denied, differ, and-left, and-right, any-in, interacting-registered, member-registered, nobody-level, member-by, conns-rows, others, rows_now, round_now, good-rule, good-settle, good-finished}
 use Rattle.session_model.proofs.Replied.{good-reply, good-opened, good-run}
 use Rattle.session_notes.specs.Notes.{Entry, entries, notes}
-use Rattle.session_notes.specs.Laws.{IsSeen}
-use Rattle.session_notes.proofs.Seen.{at-front, at-entry}
+use Rattle.session_notes.specs.Keeping.{is_started}
+use Rattle.session_notes.specs.Laws.{IsSeen, IsSaved, StandsIn}
+use Rattle.session_notes.proofs.Seen.{noted_of, AtEach, EachEntry, at-front, at-entry}
 use Rattle.session_notes.proofs.Steps.{is_at_work, has_replied, begun-first, works-member}
 use Rattle.session_notes.proofs.Told.{BeginsToSave, RestTold}
-use Rattle.session_notes.proofs.Fine.{Suits, OneHas, IsDue, Fine, fine-step}
-use Rattle.session_notes.proofs.Heard.{AllCalm, fine-calm, fine-append, calm-append, calm-tried, calm-gave, calm-closed, calm-issue, fine-reply_to}
+use Rattle.session_notes.proofs.Discards.{among-by}
+use Rattle.session_notes.proofs.Kept.{IsNeedless, NoneNamed, opened_of}
+use Rattle.session_notes.proofs.Next.{next-is}
+use Rattle.session_notes.proofs.Fine.{OneHas, IsDue, IdsHold, DiscardsHold, IsOwed, Fine, fine-step}
+use Rattle.session_notes.proofs.Calm.{fine-calm, fine-append, fine-issue, fine-discarded, calm-tried, calm-gave, calm-closed, AllStill, still-onto, still-append, still-gave, still-closed, still-tried}
+use Rattle.session_notes.proofs.Heard.{fine-reply_to}
 
 -- The token
 
@@ -66,7 +77,7 @@ cond-in false p q e = absurd (grind arith)
 
 -- who is taken into a round was in none, and saves from then on
 fine-begin : (conns : List ℕ) (wanted : Wanted) (h : History) → Good (onto h (begin conns wanted)) → ((c : ℕ) → is_member (of.phase_of c h) ≡ false) → of.is_ending h ≡ false → Fine h → Fine (onto h (begin conns wanted))
-fine-begin conns wanted h g n e f = fine-save wanted conns (Began conns wanted ▷ h) (λ c i. begun-first (of.phase_of c h) (n c) (member c i)) e (fine-step (Began conns wanted) h tt f) where
+fine-begin conns wanted h g n e f = fine-save wanted conns (Began conns wanted ▷ h) (λ c i. begun-first (of.phase_of c h) (n c) (member c i)) e (fine-step (Began conns wanted) h e f) where
   member : (c : ℕ) → is_in c conns ≡ true → is_member (begun_phase (of.phase_of c h)) ≡ true
   member c i =
       sym (cond-in (is_in c conns) (of.phase_of c h) (begun_phase (of.phase_of c h)) i)
@@ -158,8 +169,16 @@ all-rest h g a c = denied (is_at_work (of.phase_of c h)) (λ w. differ w (done-r
 abbrev agreed_now : Book → History → History
 agreed_now book h = Agreed ▷ Committed book ▷ h
 
-fine-agreed_now : (book : Book) (h : History) → ((c : ℕ) → is_at_work (of.phase_of c h) ≡ false) → Fine h → Fine (agreed_now book h)
-fine-agreed_now book h k f = fine-step Agreed (Committed book ▷ h) (λ e. k) (fine-step (Committed book) h tt f)
+-- while a round runs no shutdown was agreed
+still-goes : (r : of.Begun) (h : History) → (of.is_ending h ≡ true → of.running h ≡ None) → of.running h ≡ Some r → of.is_ending h ≡ false
+still-goes r h k e = denied (of.is_ending h) (λ i. no-round r (sym (k i) ∙ e)) where
+  no-round : (r : of.Begun) → None ≡ Some r → ⊥
+  no-round r e = grind arith
+
+fine-agreed_now : (r : of.Begun) (h : History) → of.running h ≡ Some r → all_done (rows_now h) ≡ true → Good h → Fine h → Fine (agreed_now (next_book (reading h) (round_now r h)) h)
+fine-agreed_now r h e a g f =
+    fine-step Agreed (Committed (next_book (reading h) (round_now r h)) ▷ h) (λ k. all-rest h g a)
+    (fine-step (Committed (next_book (reading h) (round_now r h))) h (next-is r h (noted_of h) (record { level = g.level; going = still-goes r h f.keeps.idle e })) f)
 
 fine-die : (conns : List ℕ) (h : History) → of.is_ending h ≡ true → Fine h → Fine (onto h (gave_each Die conns))
 fine-die [] h e f = f
@@ -170,7 +189,7 @@ fine-ended clients book h e f =
     let last : List Command = filter_map (last_command clients) book.entries in
     let dead : History = onto h (gave_each Die clients.registered) in
     fine-append h (gave_each Die clients.registered ++ map Closed (others clients)) (tried_each End last)
-    (fine-calm (tried_each End last) (onto h (gave_each Die clients.registered ++ map Closed (others clients))) (calm-tried End last)
+    (fine-calm (tried_each End last) (onto h (gave_each Die clients.registered ++ map Closed (others clients))) (calm-tried End last refl)
     (fine-append h (gave_each Die clients.registered) (map Closed (others clients)) (fine-calm (map Closed (others clients)) dead (calm-closed (others clients)) (fine-die clients.registered h e f))))
 
 fine-completed : (b : Bool) (clients : Clients) (round : Agreement) (book : Book) (h : History) → (b ≡ true → of.is_ending h ≡ true) → Fine h → Fine (onto h (completed b clients round book))
@@ -180,13 +199,102 @@ fine-completed false clients round book h e f = fine-calm (gave_each SaveComplet
 ends-session : (r : of.Begun) (h : History) → of.running h ≡ Some r → r.wanted.shutdown ≡ true → (of.is_ending h || is_shutdown (of.wanted h)) ≡ true
 ends-session r h e s = ap (λ (o : Option of.Begun). of.is_ending h || is_shutdown (of.wanted_of o)) e ∙ ap (λ (b : Bool). of.is_ending h || b) s ∙ or-true (of.is_ending h)
 
+-- Nobody is a member any more
+
+done-leaves : (p : Option Phase) (t : Bool) → is_done (step_of p t) ≡ true → is_member (completed_phase p) ≡ false
+done-leaves (Some Done) t e = refl
+done-leaves p t e = absurd (grind arith)
+
+dying-leaves : (p : Option Phase) → is_member (dying_phase p) ≡ false
+dying-leaves None = refl
+dying-leaves (Some Unregistered) = refl
+dying-leaves (Some p) = refl
+
+abbrev pub IsLone : History → Type 0
+IsLone h = (c : ℕ) → is_member (of.phase_of c h) ≡ false
+
+gone-lone : (b : Bool) (p : Option Phase) → is_member p ≡ false → is_member (cond b None p) ≡ false
+gone-lone true p e = refl
+gone-lone false p e = e
+
+lone-closed : (conns : List ℕ) (h : History) → IsLone h → IsLone (onto h (map Closed conns))
+lone-closed [] h l = l
+lone-closed (d ∷ conns) h l = lone-closed conns (Closed d ▷ h) (λ c. gone-lone (eqb d c) (of.phase_of c h) (l c))
+
+lone-tried : (commands : List Command) (h : History) → IsLone h → IsLone (onto h (tried_each End commands))
+lone-tried [] h l = l
+lone-tried (command ∷ commands) h l = lone-tried commands (Tried End command ▷ h) l
+
+lone-append : (h : History) (xs ys : List Move) → IsLone (onto (onto h xs) ys) → IsLone (onto h (xs ++ ys))
+lone-append h xs ys l = subst (λ (x : History). IsLone x) (sym (onto-append h xs ys)) l
+
+lone-ended : (book written : Book) (h : History) → Good h → IsLone (onto (agreed_now written h) (ended (reading h).clients book))
+lone-ended book written h g =
+    let last : List Command = filter_map (last_command (reading h).clients) book.entries in
+    let gone : List ℕ = others (reading h).clients in
+    lone-append (agreed_now written h) (gave_each Die (of.registered h) ++ map Closed gone) (tried_each End last)
+    (lone-tried last (onto (agreed_now written h) (gave_each Die (of.registered h) ++ map Closed gone))
+    (lone-append (agreed_now written h) (gave_each Die (of.registered h)) (map Closed gone) (lone-closed gone (onto (agreed_now written h) (gave_each Die (of.registered h))) die))) where
+      die : IsLone (onto (agreed_now written h) (gave_each Die (of.registered h)))
+      die c = ap (λ (p : Option Phase). is_member p) (phase-each Die once-dying (of.registered h) (agreed_now written h) c)
+          ∙ member-by (is_in c (of.registered h)) (of.phase_of c h) (dying_phase (of.phase_of c h)) (λ i. dying-leaves (of.phase_of c h)) (λ i. denied (is_member (of.phase_of c h)) (λ m. differ (g.sound.registered_are c ∙ member-registered (of.phase_of c h) m) i))
+
+lone-complete : (r : of.Begun) (written : Book) (h : History) → all_done (rows_now h) ≡ true → Good h → IsLone (onto (agreed_now written h) (gave_each SaveComplete (conns_of (rows_now h))))
+lone-complete r written h a g c =
+    let same : is_in c (conns_of (rows_now h)) ≡ is_in c (of.members h) = ap (λ (cs : List ℕ). is_in c cs) (conns-rows (λ d. of.phase_of d h) (λ d. of.saved_of d h) (of.members h)) in
+    ap (λ (p : Option Phase). is_member p) (phase-each SaveComplete once-completed (conns_of (rows_now h)) (agreed_now written h) c)
+    ∙ member-by (is_in c (conns_of (rows_now h))) (of.phase_of c h) (completed_phase (of.phase_of c h))
+    (λ i. done-leaves (of.phase_of c h) (is_some (of.saved_of c h))
+    (all-in (λ d. is_done (step_of (of.phase_of d h) (is_some (of.saved_of d h)))) c (of.members h) (sym (all-rows is_done (λ d. of.phase_of d h) (λ d. of.saved_of d h) (of.members h)) ∙ a) (sym same ∙ i)))
+    (λ i. sym (g.level c) ∙ sym same ∙ i)
+
+lone-completed : (b : Bool) (r : of.Begun) (written : Book) (h : History) → all_done (rows_now h) ≡ true → Good h → IsLone (onto (agreed_now written h) (completed b (reading h).clients (round_now r h) written))
+lone-completed true r written h a g = lone-ended written written h g
+lone-completed false r written h a g = lone-complete r written h a g
+
+still-ended : (clients : Clients) (book : Book) → AllStill (ended clients book)
+still-ended clients book =
+    still-append (gave_each Die clients.registered ++ map Closed (others clients)) (tried_each End (filter_map (last_command clients) book.entries))
+    (still-append (gave_each Die clients.registered) (map Closed (others clients)) (still-gave Die clients.registered refl) (still-closed (others clients))) (still-tried End (filter_map (last_command clients) book.entries))
+
+still-completed : (b : Bool) (clients : Clients) (round : Agreement) (book : Book) → AllStill (completed b clients round book)
+still-completed true clients round book = still-ended clients book
+still-completed false clients round book = still-gave SaveComplete (conns_of round.members) refl
+
+-- the book that stands is left by all that tells of an agreement
+
+book-gave : (m : XsmpMessage) (conns : List ℕ) (h : History) → of.book (onto h (gave_each m conns)) ≡ of.book h
+book-gave m [] h = refl
+book-gave m (c ∷ conns) h = book-gave m conns (Gave c m ▷ h)
+
+book-closed : (conns : List ℕ) (h : History) → of.book (onto h (map Closed conns)) ≡ of.book h
+book-closed [] h = refl
+book-closed (c ∷ conns) h = book-closed conns (Closed c ▷ h)
+
+book-tried : (commands : List Command) (h : History) → of.book (onto h (tried_each End commands)) ≡ of.book h
+book-tried [] h = refl
+book-tried (command ∷ commands) h = book-tried commands (Tried End command ▷ h)
+
+book-ended : (clients : Clients) (book : Book) (h : History) → of.book (onto h (ended clients book)) ≡ of.book h
+book-ended clients book h =
+    let last : List Command = filter_map (last_command clients) book.entries in
+    ap (λ (x : History). of.book x) (onto-append h (gave_each Die clients.registered ++ map Closed (others clients)) (tried_each End last))
+    ∙ book-tried last (onto h (gave_each Die clients.registered ++ map Closed (others clients)))
+    ∙ ap (λ (x : History). of.book x) (onto-append h (gave_each Die clients.registered) (map Closed (others clients)))
+    ∙ book-closed (others clients) (onto h (gave_each Die clients.registered)) ∙ book-gave Die clients.registered h
+
+book-completed : (b : Bool) (clients : Clients) (round : Agreement) (book : Book) (h : History) → of.book (onto h (completed b clients round book)) ≡ of.book h
+book-completed true clients round book h = book-ended clients book h
+book-completed false clients round book h = book-gave SaveComplete (conns_of round.members) h
+
 fine-agreement : (r : of.Begun) (h : History) → of.running h ≡ Some r → all_done (rows_now h) ≡ true → Good h → Fine h → Fine (onto h (agreement (reading h) (round_now r h)))
 fine-agreement r h e a g f =
     let book : Book = next_book (reading h) (round_now r h) in
     let tail : List Move = completed r.wanted.shutdown (reading h).clients (round_now r h) book in
     fine-append (agreed_now book h) tail (discarded (reading h).clients book)
-    (fine-calm (discarded (reading h).clients book) (onto (agreed_now book h) tail) (calm-issue book (issuable (standing (reading h).clients) book.pending))
-    (fine-completed r.wanted.shutdown (reading h).clients (round_now r h) book (agreed_now book h) (ends-session r h e) (fine-agreed_now book h (all-rest h g a) f)))
+    (fine-discarded book h (onto (agreed_now book h) tail) g.sound.registered_are (still-onto tail h (agreed_now book h) (still-completed r.wanted.shutdown (reading h).clients (round_now r h) book) (λ c i. (i, refl)))
+    (book-completed r.wanted.shutdown (reading h).clients (round_now r h) book (agreed_now book h)) (lone-completed r.wanted.shutdown r book h a g)
+    (fine-completed r.wanted.shutdown (reading h).clients (round_now r h) book (agreed_now book h) (ends-session r h e) (fine-agreed_now r h e a g f)))
 
 fine-over : (b : Bool) (h : History) → Fine h → Fine (onto h (over_rule b))
 fine-over true h f = fine-step Over h tt f
@@ -234,7 +342,7 @@ fine-taken : (event : SessionEvent) (h : History) → Good h → Fine h → Fine
 fine-taken event h g f =
     let answered_to : History = onto (Outside event ▷ h) (reply (reading h) event) in
     let rested : History = settled answered_to in
-    fine-finish (of.is_ending rested && is_nil (of.live rested)) rested (fine-settle (4 * length (of.waits answered_to) + 4) answered_to (good-reply event h g) (fine-reply_to event h f))
+    fine-finish (of.is_ending rested && is_nil (of.live rested)) rested (fine-settle (4 * length (of.waits answered_to) + 4) answered_to (good-reply event h g) (fine-reply_to event h g f))
 
 good-taken : (event : SessionEvent) (h : History) → Good h → Good (taken event h)
 good-taken event h g = good-run (event ∷ []) h g
@@ -245,8 +353,31 @@ fine-run (event ∷ events) h g f = fine-run events (taken event h) (good-taken 
 
 -- The opening
 
-fine-start : (book : Book) → Fine (Opened book)
-fine-start book = record {
+-- the history in which the book has just been opened
+abbrev opening : Book → History
+opening book = Committed (raised book) ▷ Opened book
+
+or-first : (x y z : Bool) → x ≡ true → (x || y || z) ≡ true
+or-first true y z e = refl
+or-first false y z e = absurd (grind arith)
+
+all-later : (book : Book) (other : Kept) (entries xs : List Kept) → AllByRecursion (λ entry. StandsIn entry entries ⊎ IsSaved book [] entry) xs → AllByRecursion (λ entry. StandsIn entry (other ∷ entries) ⊎ IsSaved book [] entry) xs
+all-later book other entries [] a = tt
+all-later book other entries (x ∷ xs) a = (later-at a.0, all-later book other entries xs a.1) where
+  later-at : StandsIn x entries ⊎ IsSaved book [] x → StandsIn x (other ∷ entries) ⊎ IsSaved book [] x
+  later-at (inl s) = inl (inr s)
+  later-at (inr s) = inr s
+
+all-stand : (book : Book) (entries : List Kept) → AllByRecursion (λ entry. StandsIn entry entries ⊎ IsSaved book [] entry) entries
+all-stand book [] = tt
+all-stand book (entry ∷ entries) = (inl (inl refl), all-later book entry entries entries (all-stand book entries))
+
+none-differ : IsDistinct bytes_eq []
+unfolding IsDistinct
+none-differ = tt
+
+fine-opening : (book : Book) → Fine (opening book)
+fine-opening book = record {
   sound = record {
     registered_are = λ c. refl;
     once = tt;
@@ -264,15 +395,77 @@ fine-start book = record {
     waits = λ e. refl;
     rest = λ e c. absurd (grind arith);
   };
-  one = λ c d e f. absurd (grind arith);
-  due = tt;
+  keeps = record {
+    epoch = refl;
+    few = omega arith;
+    book = refl;
+    id = λ c. refl;
+    new = refl;
+    idle = λ e. refl;
+    table = λ e c. refl;
+    saved = λ e c. refl;
+    unnamed = λ u. u;
+    clear = λ u command e. absurd (grind arith);
+  };
+  one = (λ c d e f. absurd (grind arith), λ c d e f. absurd (grind arith));
+  due = ((tt, tt), tt);
+  ids = ((tt, none-differ), (tt, none-differ));
+  discards = (λ u command e. absurd (grind arith), λ u command e. absurd (grind arith));
+  owed = (((all-stand book book.entries, λ command e. or-first (is_among command book.pending) (names (raised book) command) (is_started command []) e), tt), tt);
 }
 
-calm-opening : (book : Book) → AllCalm (opening_moves book)
-calm-opening book = (tt, calm-append (issue (raised book) book.pending) (tried_each Restart (opening_restarts book.entries)) (calm-issue (raised book) book.pending) (calm-tried Restart (opening_restarts book.entries)))
+-- each command of a list is in it
+all-among : (commands : List Command) → AllByRecursion (λ command. is_among command commands ≡ true) commands
+all-among [] = tt
+all-among (command ∷ commands) = (ap (λ (b : Bool). b || is_among command commands) (command_equiv.refl command), wider commands (all-among commands)) where
+  wider : (xs : List Command) → AllByRecursion (λ x. is_among x commands ≡ true) xs → AllByRecursion (λ x. (same_command x command || is_among x commands) ≡ true) xs
+  wider [] a = tt
+  wider (x ∷ xs) a = (ap (λ (b : Bool). same_command x command || b) a.0 ∙ or-true (same_command x command), wider xs a.1)
+
+all-needless : (book : Book) (commands : List Command) → AllByRecursion (λ command. is_among command book.pending ≡ true) commands → AllByRecursion (λ command. IsNeedless command (opening book)) commands
+all-needless book [] a = tt
+all-needless book (command ∷ commands) a = (record { pending = a.0; unset = λ c e. absurd (grind arith); alone = λ c. refl }, all-needless book commands a.1)
+
+fine-opened : (book : Book) → Fine (opened book)
+fine-opened book =
+    let issued : History = onto (opening book) (issue (raised book) book.pending) in
+    fine-append (opening book) (issue (raised book) book.pending) (tried_each Restart (opening_restarts book.entries))
+    (fine-calm (tried_each Restart (opening_restarts book.entries)) issued (calm-tried Restart (opening_restarts book.entries) refl)
+    (fine-issue (raised book) book.pending (opening book) refl (all-needless book book.pending (all-among book.pending)) (fine-opening book)))
 
 pub fine : (book : Book) (events : List SessionEvent) → Fine (run (opened book) events)
-fine book events = fine-run events (opened book) (good-opened book) (fine-calm (opening_moves book) (Opened book) (calm-opening book) (fine-start book))
+fine book events = fine-run events (opened book) (good-opened book) (fine-opened book)
+
+-- The book that was opened stays so
+
+opened-onto : (moves : List Move) (h : History) → opened_of (onto h moves) ≡ opened_of h
+opened-onto [] h = refl
+opened-onto (m ∷ moves) h = opened-onto moves (m ▷ h)
+
+opened-on : (n : ℕ) (h : History) (moves : List Move) → ((x : History) → opened_of (settle n x) ≡ opened_of x) → opened_of (go_on (λ x. settle n x) h moves) ≡ opened_of h
+opened-on n h [] k = refl
+opened-on n h (m ∷ moves) k = k (onto h (m ∷ moves)) ∙ opened-onto (m ∷ moves) h
+
+opened-settle : (n : ℕ) (h : History) → opened_of (settle n h) ≡ opened_of h
+opened-settle zero h = refl
+opened-settle (suc n) h = opened-on n h (rule (reading h)) (λ x. opened-settle n x)
+
+opened-finish : (b : Bool) (h : History) → opened_of (cond b (Finished ▷ h) h) ≡ opened_of h
+opened-finish true h = refl
+opened-finish false h = refl
+
+opened-taken : (event : SessionEvent) (h : History) → opened_of (taken event h) ≡ opened_of h
+opened-taken event h =
+    let answered_to : History = onto (Outside event ▷ h) (reply (reading h) event) in
+    let rested : History = settled answered_to in
+    opened-finish (of.is_ending rested && is_nil (of.live rested)) rested ∙ opened-settle (4 * length (of.waits answered_to) + 4) answered_to ∙ opened-onto (reply (reading h) event) (Outside event ▷ h)
+
+opened-run : (events : List SessionEvent) (h : History) → opened_of (run h events) ≡ opened_of h
+opened-run [] h = refl
+opened-run (event ∷ events) h = opened-run events (taken event h) ∙ opened-taken event h
+
+opened-is : (book : Book) (events : List SessionEvent) → opened_of (run (opened book) events) ≡ book
+opened-is book events = opened-run events (opened book) ∙ opened-onto (opening_moves book) (Opened book)
 
 -- The laws
 
@@ -281,3 +474,23 @@ one-has book seen s = at-front OneHas (run (opened book) s.events) seen s.later 
 
 pub is-due : (book : Book) (seen : List Entry) (entry : Entry) → IsSeen book (seen ++ entry ∷ []) → IsDue (notes seen) entry
 is-due book seen entry s = at-entry IsDue (run (opened book) s.events) seen s.later entry s.parts (fine book s.events).due
+
+pub ids-hold : (book : Book) (seen : List Entry) → IsSeen book seen → IdsHold book (notes seen)
+ids-hold book seen s =
+    at-front (IdsHold book) (run (opened book) s.events) seen s.later s.parts (subst (λ (b : Book). AtEach (IdsHold b) (run (opened book) s.events)) (opened-is book s.events) (fine book s.events).ids)
+
+pub discards-hold : (book : Book) (seen : List Entry) → IsSeen book seen → DiscardsHold book (notes seen)
+discards-hold book seen s =
+    at-front (DiscardsHold book) (run (opened book) s.events) seen s.later s.parts (subst (λ (b : Book). AtEach (DiscardsHold b) (run (opened book) s.events)) (opened-is book s.events) (fine book s.events).discards)
+
+pub is-owed : (book : Book) (seen : List Entry) (entry : Entry) → IsSeen book (seen ++ entry ∷ []) → IsOwed book (notes seen) entry
+is-owed book seen entry s =
+    at-entry (IsOwed book) (run (opened book) s.events) seen s.later entry s.parts (subst (λ (b : Book). EachEntry (IsOwed b) (run (opened book) s.events)) (opened-is book s.events) (fine book s.events).owed)
+
+-- a book that keeps the rules names none of its pending commands
+all-unnamed : (book : Book) (pending : List Command) → AllByRecursion (λ command. names book command ≡ false) pending → (command : Command) → is_among command pending ≡ true → names book command ≡ false
+all-unnamed book [] a command e = absurd (grind arith)
+all-unnamed book (other ∷ pending) a command e = or-either (same_command command other) (is_among command pending) (λ s. among-by command other (discards book.entries) s ∙ a.0) (λ i. all-unnamed book pending a.1 command i) e
+
+pub none-named-by_rules : (book : Book) → KeepsRules book → NoneNamed book
+none-named-by_rules book k command e = all-unnamed book book.pending k.none_named command e
