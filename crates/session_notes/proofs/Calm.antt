@@ -1,6 +1,6 @@
 -- Moves that ask nothing of the history, and the discards that go with a book.
-use Rattle.std.proofs.Common.{◌≡◌, refl, ℕ, Bool, true, false, cond, not, ◌&&◌, ◌||◌, List, [], ◌∷◌, ◌++◌, map, eqb, sym, ap, subst, ◌∙◌, arith}
-use Rattle.std.specs.Prelude.{Option, Some, None}
+use Rattle.std.proofs.Common.{◌≡◌, refl, ℕ, Bool, true, false, cond, ◌||◌, List, [], ◌∷◌, ◌++◌, map, eqb, sym, ap, subst, ◌∙◌, arith}
+use Rattle.std.specs.Prelude.{Option, None}
 use Rattle.std.specs.List.{AllByRecursion}
 use Rattle.sm_world.specs.declared.commands.Command.{Command}
 use Rattle.ice_values.specs.declared.property.Property.{Property}
@@ -9,7 +9,6 @@ use Rattle.xsmp_messages.specs.declared.message.XsmpMessage.TheVariants.{GetProp
 use Rattle.checkpoint_records.specs.declared.records.Book.{Book}
 use Rattle.checkpoint_records.specs.Books.{same_command}
 use Rattle.discard_ledger.specs.Discards.{discard_of, is_among, without_commands, issuable}
-use Rattle.interact_queue.specs.Queue.{is_in}
 use Rattle.session_model.specs.declared.phase.Phase.{Phase}
 use Rattle.session_model.specs.Phases.{is_member, is_registered, phase_given}
 use Rattle.session_model.specs.Tables.{is_same}

@@ -1,6 +1,6 @@
 -- Which DiscardCommand a table has.
-use Rattle.std.proofs.Common.{◌≡◌, refl, ℕ, Bool, true, false, cond, not, ◌&&◌, ◌||◌, List, [], ◌∷◌, ◌++◌, filter, sym, ap, subst, ◌∙◌, arith, inl, inr}
-use Rattle.std.specs.Prelude.{Option, Some, None, codes, find, filter_map, option_and_then, if◌then◌else◌, ◌⊎◌}
+use Rattle.std.proofs.Common.{◌≡◌, refl, ℕ, Bool, true, false, cond, not, ◌&&◌, ◌||◌, List, [], ◌∷◌, filter, sym, ap, subst, ◌∙◌, arith, inl, inr}
+use Rattle.std.specs.Prelude.{Option, Some, None, codes, find, option_and_then, if◌then◌else◌, ◌⊎◌}
 use Rattle.std.specs.List.{AllByRecursion, list_any, cons_option}
 use Rattle.std.specs.Str.{bytes_eq}
 use Rattle.std.specs.Cmp.Lexicographic.{same_text}
@@ -25,16 +25,20 @@ find-set name p (q ∷ items) = set-at (is_named p.name q) refl (find-set name p
   both : (b c : Bool) → b ≡ c → cond b (Some p) (find_property name items) ≡ cond b (Some p) (cond c (Some q) (find_property name items))
   both true c e = refl
   both false c e = ap (λ (b : Bool). cond b (Some q) (find_property name items)) e
+
   -- q has the name of p, so they fit the same names
   same : is_named p.name q ≡ true → is_named name p ≡ is_named name q
   same e = ap (λ (x : List ℕ). bytes_eq name x) (same_text p.name q.name (sym e))
+
   -- q has another name than p, so the name fits one of them at most
   swap : (b c : Bool) → (b ≡ true → c ≡ true → ⊥) → cond c (Some q) (cond b (Some p) (find_property name items)) ≡ cond b (Some p) (cond c (Some q) (find_property name items))
   swap true true k = absurd (k refl refl)
   swap true false k = refl
   swap false c k = refl
+
   apart : is_named p.name q ≡ false → is_named name p ≡ true → is_named name q ≡ true → ⊥
   apart e f g = let k : name ≡ p.name = same_text name p.name (sym f) in let l : is_named p.name q ≡ true = subst (λ (x : List ℕ). is_named x q ≡ true) k g in grind arith
+
   set-at : (b : Bool) → is_named p.name q ≡ b → find_property name (set_one items p) ≡ cond (is_named name p) (Some p) (find_property name items)
       → find_property name (cond b (p ∷ items) (q ∷ set_one items p)) ≡ cond (is_named name p) (Some p) (cond (is_named name q) (Some q) (find_property name items))
   set-at true e k = both (is_named name p) (is_named name q) (same e)
@@ -118,6 +122,7 @@ find-kept test name (p ∷ items) t = kept-at (test p) refl (find-kept test name
           absurd (clash (test p) (test q) (t p q x) e k) where
             clash : (a b : Bool) → a ≡ b → a ≡ false → b ≡ true → ⊥
             clash a b e f g = grind arith
+
   kept-at : (b : Bool) → test p ≡ b → (find_property name (filter test items) ≡ find_property name items) ⊎ (find_property name (filter test items) ≡ None)
       → (find_property name (cond b (p ∷ filter test items) (filter test items)) ≡ cond (is_named name p) (Some p) (find_property name items)) ⊎ (find_property name (cond b (p ∷ filter test items) (filter test items)) ≡ None)
   kept-at true e (inl k) = inl (ap (λ (o : Option Property). cond (is_named name p) (Some p) o) k)
@@ -206,6 +211,7 @@ kept-among gone (c ∷ list) command e = kept-at (is_among c gone) refl e (kept-
   parts : (b x : Bool) {P : Type 0} → (b ≡ true → P) → (x ≡ true → P) → (b || x) ≡ true → P
   parts true x f g k = f refl
   parts false x f g k = g k
+
   kept-at : (a : Bool) → is_among c gone ≡ a → is_among command (cond (not a) (c ∷ filter (λ x. not (is_among x gone)) list) (filter (λ x. not (is_among x gone)) list)) ≡ true
       → (is_among command (filter (λ x. not (is_among x gone)) list) ≡ true → (is_among command list ≡ true) × (is_among command gone ≡ false)) → ((same_command command c || is_among command list) ≡ true) × (is_among command gone ≡ false)
   kept-at true t f g = let k : (is_among command list ≡ true) × (is_among command gone ≡ false) = g f in (ap (λ (x : Bool). same_command command c || x) k.0 ∙ or-true (same_command command c), k.1)

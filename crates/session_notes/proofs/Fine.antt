@@ -1,36 +1,32 @@
 -- What the notes say goes on from move to move, and the laws hold at each.
-use Rattle.std.proofs.Common.{◌≡◌, refl, ℕ, Bool, true, false, cond, not, ◌&&◌, ◌||◌, List, [], ◌∷◌, ◌++◌, ◌+◌, ◌<◌, map, filter, eqb, sym, ap, subst, ◌∙◌, arith, inl, inr}
-use Rattle.std.specs.Prelude.{Option, Some, None, ◌⊎◌}
+use Rattle.std.proofs.Common.{◌≡◌, refl, ℕ, Bool, true, false, not, ◌&&◌, ◌||◌, List, [], ◌∷◌, ◌+◌, ◌<◌, sym, ap, subst, ◌∙◌, arith, inl, inr}
+use Rattle.std.specs.Prelude.{Some, None, ◌⊎◌}
 use Rattle.std.specs.List.{AllByRecursion, IsDistinct}
 use Rattle.std.specs.Str.{bytes_eq}
-use Rattle.std.proofs.lemmas.Bool.Decides.{nat_tests}
 use Rattle.sm_world.specs.declared.commands.Command.{Command}
 use Rattle.xsmp_messages.specs.declared.message.XsmpMessage.{XsmpMessage}
-use Rattle.xsmp_messages.specs.declared.message.XsmpMessage.TheVariants.{RegisterClientReply, GetPropertiesReply, SaveYourself, InteractRequest, Interact, InteractDone, SaveYourselfDone, Die, ShutdownCancelled, SaveYourselfPhase2Request, SaveYourselfPhase2, SaveComplete, SetProperties, DeleteProperties}
+use Rattle.xsmp_messages.specs.declared.message.XsmpMessage.TheVariants.{RegisterClientReply, SaveYourself, InteractRequest, Interact, SaveYourselfDone, Die, ShutdownCancelled, SaveYourselfPhase2, SaveComplete, SetProperties, DeleteProperties}
 use Rattle.checkpoint_records.specs.declared.records.Book.{Book}
 use Rattle.checkpoint_records.specs.declared.records.Entry.{Entry as Kept}
 use Rattle.checkpoint_records.specs.Books.{same_command, names}
 use Rattle.discard_ledger.specs.Discards.{is_among}
 use Rattle.interact_queue.specs.Queue.{is_in}
-use Rattle.ice_values.specs.Fields.{ErrorFields}
-use Rattle.session_model.specs.declared.phase.Phase.{Phase}
 use Rattle.session_model.specs.declared.phase.Phase.TheVariants.{Unregistered}
 use Rattle.session_model.specs.declared.events.SessionEvent.{SessionEvent}
 use Rattle.session_model.specs.declared.events.SessionEvent.TheVariants.{Joined, Ready, Said, Left, Operator}
 use Rattle.session_model.specs.declared.events.Act.TheVariants.{Commit, Say}
-use Rattle.session_model.specs.Phases.{is_asked, is_interacting, is_member, is_dying, is_owing, is_shutdown, may_interact, phase_said}
-use Rattle.session_model.specs.Moves.{Move, Cause, Discard, Outside, Gave, Blamed, Unset, Closed, Began, Over, Cancelled, Agreed, Tried, Committed, Printed, Finished, History, Opened, ◌▷◌, onto, gave_each, tried_each}
+use Rattle.session_model.specs.Phases.{is_asked, is_interacting, is_member, is_dying, is_shutdown}
+use Rattle.session_model.specs.Moves.{Move, Cause, Discard, Outside, Gave, Blamed, Unset, Closed, Began, Over, Cancelled, Agreed, Tried, Committed, Printed, Finished, History, ◌▷◌}
 use Rattle.session_model.specs.Readings as of
 use Rattle.session_model.proofs.Asked.{phases-tell}
 use Rattle.session_model.proofs.Sound.{Fits, Sound, sound-step, or-either}
-use Rattle.session_model.proofs.Level.{onto-append}
 use Rattle.session_model.proofs.Ruled.{differ, denied}
-use Rattle.session_notes.specs.Notes.{Entry, Note, Did, Heard, Given, Gone, Wrote, Started, entries_of}
+use Rattle.session_notes.specs.Notes.{Entry, Note, Did, Heard, Given, Started, entries_of}
 use Rattle.session_notes.specs.Keeping.{IsOfRun, book_in, new_ids, sets_discard, is_discarded, is_started}
 use Rattle.session_notes.specs.Laws.{StandsIn, IsSaved}
-use Rattle.session_notes.specs.Watching.{has_token, was_asked, is_to_save, has_answered, requests}
+use Rattle.session_notes.specs.Watching.{has_token, is_to_save, has_answered, requests}
 use Rattle.session_notes.proofs.Seen.{noted_of, AtEach, EachEntry}
-use Rattle.session_notes.proofs.Steps.{is_at_work, has_replied, is_bound_to_save, asked-works, gives_back}
+use Rattle.session_notes.proofs.Steps.{is_at_work, has_replied, is_bound_to_save, asked-works}
 use Rattle.session_notes.proofs.Told as told
 use Rattle.session_notes.proofs.Kept as kept
 use Rattle.session_notes.proofs.Kept.{HasRoom, HasTable, MaySave, IsGiven, IsNext, IsNeedless, NoneNamed, Saves}

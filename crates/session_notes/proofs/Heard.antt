@@ -1,10 +1,10 @@
 -- Messages that come, and the answers to events.
-use Rattle.std.proofs.Common.{◌≡◌, refl, ℕ, Bool, true, false, cond, not, ◌&&◌, ◌||◌, List, [], ◌∷◌, ◌++◌, ◌+◌, ◌<◌, map, filter, eqb, sym, ap, subst, ◌∙◌, arith}
+use Rattle.std.proofs.Common.{◌≡◌, refl, ℕ, Bool, true, false, cond, not, ◌&&◌, ◌||◌, List, [], ◌∷◌, ◌++◌, ◌+◌, ◌<◌, filter, eqb, sym, ap, subst, ◌∙◌, arith}
 use Rattle.std.specs.Prelude.{Option, Some, None, is_some, is_none, codes, nat_le}
 use Rattle.std.proofs.lemmas.Bool.Decides.{nat_tests}
 use Rattle.sm_world.specs.declared.commands.Command.{Command}
 use Rattle.sm_world.specs.declared.events.Order.{Order}
-use Rattle.sm_world.specs.declared.events.Order.TheVariants.{Checkpoint, Shutdown, Cancel, Status, DropConn, Forget}
+use Rattle.sm_world.specs.declared.events.Order.TheVariants.{Cancel, DropConn, Forget}
 use Rattle.sm_world.specs.declared.events.Dialog.{Dialog}
 use Rattle.ice_values.specs.Fields.{ErrorFields}
 use Rattle.ice_values.specs.declared.property.Property.{Property}
@@ -18,7 +18,7 @@ use Rattle.round_agreement.specs.Agreement.{Agreement, conns_of}
 use Rattle.round_agreement.specs.declared.wanted.Wanted.{Wanted}
 use Rattle.round_agreement.specs.declared.round.Member.{Member}
 use Rattle.xsmp_messages.specs.declared.message.XsmpMessage.{XsmpMessage}
-use Rattle.xsmp_messages.specs.declared.message.XsmpMessage.TheVariants.{Error, RegisterClient, RegisterClientReply, SaveYourselfRequest, InteractRequest, InteractDone, SaveYourselfDone, ShutdownCancelled, ConnectionClosed, SetProperties, DeleteProperties, GetProperties, GetPropertiesReply, SaveYourselfPhase2Request, SaveComplete}
+use Rattle.xsmp_messages.specs.declared.message.XsmpMessage.TheVariants.{Error, RegisterClient, RegisterClientReply, SaveYourselfRequest, InteractRequest, InteractDone, SaveYourselfDone, ShutdownCancelled, ConnectionClosed, SetProperties, DeleteProperties, GetProperties, GetPropertiesReply, SaveYourselfPhase2Request}
 use Rattle.interact_queue.specs.Queue.{is_in, without}
 use Rattle.session_model.specs.declared.phase.Phase.{Phase}
 use Rattle.session_model.specs.declared.phase.Phase.TheVariants.{Unregistered, Saving, SavingTwo, Interacting, InteractingTwo, Owing, Dying}
@@ -27,17 +27,17 @@ use Rattle.session_model.specs.declared.events.SessionEvent.TheVariants.{Joined,
 use Rattle.session_model.specs.Phases.{is_asked, is_bound, is_unregistered, is_dying, is_owing, is_saving, is_first_saving, is_interacting, is_member, is_registered, is_shutdown, may_interact, phase_said, asked_phase, talked_phase, saved_phase, second_phase}
 use Rattle.session_model.specs.Tables.{is_full, is_recorded, is_same, entry_of, set_table, table_said}
 use Rattle.session_model.specs.Errors.{Arrival, no_room, bad_id, full_table, lone_shutdown}
-use Rattle.session_model.specs.Moves.{Move, Outside, Gave, Blamed, Unset, Closed, Began, Over, Cancelled, Agreed, Tried, Committed, Printed, Finished, History, Opened, ◌▷◌, onto}
+use Rattle.session_model.specs.Moves.{Move, Outside, Gave, Blamed, Unset, Closed, Committed, Printed, History, Opened, ◌▷◌, onto}
 use Rattle.session_model.specs.Readings as of
 use Rattle.session_model.specs.Reading.{Reading, reading, wanted_in, client_of}
 use Rattle.session_model.specs.Books.{discarded, command_anyway, book_forgetting}
-use Rattle.session_model.specs.Replies.{refused, or_bad_state, respawn_moves, entry_respawn, id_respawn, respawned, depart, has_no_room, known_ids, enter, may_rejoin, rejoin, register, called_off, want_cancel, answered, unless_dying, said, resigned, forgotten, forget_one, forget, may_wait, ordered, has_no_place, reply, status_text}
+use Rattle.session_model.specs.Replies.{or_bad_state, respawn_moves, entry_respawn, id_respawn, respawned, depart, has_no_room, known_ids, may_rejoin, register, called_off, want_cancel, answered, unless_dying, said, resigned, forgotten, forget_one, ordered, has_no_place, reply}
 use Rattle.session_model.proofs.Sound.{Sound, sound-step}
 use Rattle.session_model.proofs.Level.{Good}
 use Rattle.session_model.proofs.Ruled.{and-left, differ, nobody-level}
 use Rattle.session_model.proofs.Replied.{unregistered-is, cond-same}
 use Rattle.session_notes.specs.Notes.{Note, Heard}
-use Rattle.session_notes.specs.Watching.{has_token, requests}
+use Rattle.session_notes.specs.Watching.{has_token}
 use Rattle.session_notes.specs.Keeping.{sets_discard, is_discarded}
 use Rattle.session_notes.proofs.Seen.{noted_of, AtEach}
 use Rattle.session_notes.proofs.Steps.{is_at_work, has_replied, is_bound_to_save}

@@ -1,6 +1,6 @@
 -- What the notes say of books, IDs, tables and discards, as far as a history says it too.
-use Rattle.std.proofs.Common.{◌≡◌, refl, ℕ, zero, suc, ◌+◌, ◌<◌, Bool, true, false, cond, not, ◌&&◌, ◌||◌, List, [], ◌∷◌, ◌++◌, eqb, sym, ap, subst, ◌∙◌, arith, inl, inr}
-use Rattle.std.specs.Prelude.{Option, Some, None, is_some, ◌⊎◌}
+use Rattle.std.proofs.Common.{◌≡◌, refl, ℕ, zero, suc, ◌+◌, ◌<◌, Bool, true, false, cond, not, ◌&&◌, ◌||◌, List, [], ◌∷◌, eqb, sym, ap, subst, ◌∙◌, arith, inl, inr}
+use Rattle.std.specs.Prelude.{Option, Some, None, ◌⊎◌}
 use Rattle.std.specs.List.{AllByRecursion}
 use Rattle.std.proofs.lemmas.Bool.Decides.{nat_tests}
 use Rattle.sm_world.specs.declared.commands.Command.{Command}
@@ -14,22 +14,22 @@ use Rattle.checkpoint_records.specs.Books.{same_command, discards, names}
 use Rattle.checkpoint_records.specs.Rules.{client_id}
 use Rattle.discard_ledger.specs.Discards.{discard_of, is_among}
 use Rattle.session_model.specs.declared.phase.Phase.{Phase}
-use Rattle.session_model.specs.declared.phase.Phase.TheVariants.{Unregistered, Saving, SavingTwo, Owing}
+use Rattle.session_model.specs.declared.phase.Phase.TheVariants.{Unregistered, Owing}
 use Rattle.session_model.specs.declared.events.SessionEvent.{SessionEvent}
 use Rattle.session_model.specs.declared.events.SessionEvent.TheVariants.{Joined, Ready, Said, Left, Operator}
-use Rattle.session_model.specs.Phases.{is_bound, is_dying, is_member, is_owing, is_registered, is_saving, may_interact, phase_given, phase_said, ready_phase, saved_phase}
+use Rattle.session_model.specs.Phases.{is_bound, is_dying, is_member, is_owing, is_registered, is_saving, may_interact, phase_given, phase_said, ready_phase}
 use Rattle.session_model.specs.Tables.{is_full, is_recorded, is_same, first_table, set_table, table_said}
-use Rattle.session_model.specs.Moves.{Move, Cause, Discard, Outside, Gave, Unset, Closed, Tried, Committed, History, Opened, ◌▷◌}
+use Rattle.session_model.specs.Moves.{Move, Outside, Gave, Unset, Closed, Committed, History, Opened, ◌▷◌}
 use Rattle.session_model.specs.Readings as of
 use Rattle.session_model.proofs.PhaseSteps.{quiet-said, quiet-ready, given-phase, is_reply}
 use Rattle.session_model.proofs.Sound.{DieAtEnd, or-either}
 use Rattle.session_model.proofs.Ruled.{differ}
-use Rattle.session_notes.specs.Notes.{Note, Heard, Given, Gone, Wrote, Started}
+use Rattle.session_notes.specs.Notes.{Note, Heard, Given, Gone}
 use Rattle.session_notes.specs.Watching.{was_asked}
-use Rattle.session_notes.specs.Keeping.{book_in, id_in, new_ids, table_in, snapshot_in, sets_discard, is_discarded, is_started}
+use Rattle.session_notes.specs.Keeping.{book_in, id_in, new_ids, table_in, snapshot_in, sets_discard, is_started}
 use Rattle.session_notes.specs.Laws.{StandsIn}
 use Rattle.session_notes.proofs.Steps.{begins, member-given, saving-member}
-use Rattle.session_notes.proofs.Told.{AskedTold, OwingTold, same-there}
+use Rattle.session_notes.proofs.Told.{AskedTold, OwingTold}
 use Rattle.session_notes.proofs.Discards.{table-clear, without-clear, names-none, none-names, first-clear, same-by, among-by}
 
 -- the book that was opened

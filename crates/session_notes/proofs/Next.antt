@@ -1,8 +1,7 @@
 -- The books that are written come from those before.
-use Rattle.std.proofs.Common.{◌≡◌, refl, ℕ, Bool, true, false, cond, not, ◌&&◌, ◌||◌, List, [], ◌∷◌, ◌++◌, filter, eqb, sym, ap, subst, ◌∙◌, arith, inl, inr}
-use Rattle.std.specs.Prelude.{Option, Some, None, is_some, find, filter_map, if◌then◌else◌, ◌⊎◌}
-use Rattle.std.specs.List.{AllByRecursion, list_any, cons_option}
-use Rattle.std.specs.Str.{bytes_eq}
+use Rattle.std.proofs.Common.{◌≡◌, refl, ℕ, Bool, true, false, cond, not, ◌||◌, List, [], ◌∷◌, ◌++◌, filter, eqb, sym, ap, subst, ◌∙◌, arith, inl, inr}
+use Rattle.std.specs.Prelude.{Option, Some, None, find, filter_map, if◌then◌else◌, ◌⊎◌}
+use Rattle.std.specs.List.{AllByRecursion, cons_option}
 use Rattle.std.specs.Cmp.Lexicographic.{same_text}
 use Rattle.std.proofs.lemmas.Bool.Decides.{nat_tests}
 use Rattle.sm_world.specs.declared.commands.Command.{Command}
@@ -10,23 +9,23 @@ use Rattle.ice_values.specs.declared.property.Property.{Property}
 use Rattle.checkpoint_records.specs.declared.records.Book.{Book}
 use Rattle.checkpoint_records.specs.declared.records.Entry.{Entry}
 use Rattle.checkpoint_records.specs.Books.{same_command, discards, names}
-use Rattle.discard_ledger.specs.Discards.{discard_of, is_among, without_commands, with_command, with_commands, each_once, next_pending, issuable}
-use Rattle.round_agreement.specs.Agreement.{Agreement, conns_of}
+use Rattle.discard_ledger.specs.Discards.{discard_of, is_among, without_commands, with_command, with_commands, next_pending, issuable}
+use Rattle.round_agreement.specs.Agreement.{conns_of}
 use Rattle.interact_queue.specs.Queue.{is_in}
-use Rattle.session_model.specs.Phases.{is_member, is_registered}
+use Rattle.session_model.specs.Phases.{is_member}
 use Rattle.session_model.specs.Tables.{is_of, is_recorded, is_same}
 use Rattle.session_model.specs.Moves.{History}
 use Rattle.session_model.specs.Readings as of
-use Rattle.session_model.specs.Reading.{Clients, Reading, reading, client_of, has_that_id}
-use Rattle.session_model.specs.Books.{is_eligible, recorded, is_kept, snapshot, entry_saved, entry_for, next_entry, new_saved, new_entry, next_entries, next_book, with_entries, book_forgetting, standing}
+use Rattle.session_model.specs.Reading.{reading, client_of, has_that_id}
+use Rattle.session_model.specs.Books.{is_eligible, recorded, is_kept, snapshot, entry_saved, entry_for, next_entry, new_saved, new_entry, next_entries, next_book, book_forgetting}
 use Rattle.session_model.proofs.Sound.{or-true}
 use Rattle.session_model.proofs.Pending.{command_equiv, all-append}
-use Rattle.session_model.proofs.Ruled.{differ, rows_now, round_now, conns-rows}
+use Rattle.session_model.proofs.Ruled.{rows_now, round_now, conns-rows}
 use Rattle.session_notes.specs.Notes.{Note}
 use Rattle.session_notes.specs.Keeping.{is_started}
 use Rattle.session_notes.specs.Laws.{StandsIn}
 use Rattle.session_notes.proofs.Discards.{among-by, among-kept, kept-among}
-use Rattle.session_notes.proofs.Kept.{NoneNamed, Saves, IsNext}
+use Rattle.session_notes.proofs.Kept.{Saves, IsNext}
 
 -- where an entry comes from
 abbrev pub Comes : History → Entry → Type 0
@@ -98,8 +97,10 @@ found-id h id (d ∷ cs) c e = found-at (has_that_id id (of.id_of d h)) refl e (
   has : (o : Option (List ℕ)) → has_that_id id o ≡ true → o ≡ Some id
   has None t = absurd (grind arith)
   has (Some other) t = ap (λ (x : List ℕ). Some x) (sym (same_text id other (sym t)))
+
   one : (x y : ℕ) → Some x ≡ Some y → x ≡ y
   one x y k = cc
+
   found-at : (b : Bool) → has_that_id id (of.id_of d h) ≡ b → cond b (Some d) (find (λ x. has_that_id id (of.id_of x h)) cs) ≡ Some c → (find (λ x. has_that_id id (of.id_of x h)) cs ≡ Some c → of.id_of c h ≡ Some id) → of.id_of c h ≡ Some id
   found-at true t k g = subst (λ (x : ℕ). of.id_of x h ≡ Some id) (one d c k) (has (of.id_of d h) t)
   found-at false t k g = g k
@@ -170,11 +171,13 @@ among-with command c kept e = with-at (is_among c kept) refl where
     last-false : (x : Bool) → (x || false) ≡ true → x ≡ true
     last-false true e = refl
     last-false false e = e
+
   at-end : is_among command (kept ++ c ∷ []) ≡ true
   at-end = among-append command kept (c ∷ []) ∙ ap (λ (b : Bool). is_among command kept || b) (or-nothing (same_command command c)) ∙ e where
     or-nothing : (b : Bool) → (b || false) ≡ b
     or-nothing true = refl
     or-nothing false = refl
+
   with-at : (b : Bool) → is_among c kept ≡ b → is_among command (if b then kept else kept ++ c ∷ []) ≡ true
   with-at true a = twice true (same_command command c) refl a e
   with-at false a = at-end
@@ -270,6 +273,7 @@ all-issuable stand (c ∷ pending) = issuable-at (is_among c stand) refl (wider 
   wider : (xs : List Command) → AllByRecursion (λ command. (is_among command pending ≡ true) × (is_among command stand ≡ false)) xs → AllByRecursion (λ command. ((same_command command c || is_among command pending) ≡ true) × (is_among command stand ≡ false)) xs
   wider [] a = tt
   wider (x ∷ xs) a = ((or-second (same_command x c) (is_among x pending) a.0.0, a.0.1), wider xs a.1)
+
   issuable-at : (b : Bool) → is_among c stand ≡ b → AllByRecursion (λ command. ((same_command command c || is_among command pending) ≡ true) × (is_among command stand ≡ false)) (issuable stand pending)
       → AllByRecursion (λ command. ((same_command command c || is_among command pending) ≡ true) × (is_among command stand ≡ false)) (cond (not b) (c ∷ issuable stand pending) (issuable stand pending))
   issuable-at true e k = k
@@ -282,8 +286,10 @@ not-standing command table (d ∷ cs) c e i = standing-at (discard_of (table d))
   both : (x y : Bool) → (x || y) ≡ false → (x ≡ false) × (y ≡ false)
   both true y e = absurd (grind arith)
   both false y e = (refl, e)
+
   there : eqb d c ≡ true → discard_of (table d) ≡ discard_of (table c)
   there k = let s : d ≡ c = grind (arith, nat_tests) in ap (λ (x : ℕ). discard_of (table x)) s
+
   standing-at : (o : Option Command) → discard_of (table d) ≡ o → is_among command (cons_option o (filter_map (λ x. discard_of (table x)) cs)) ≡ false → (b : Bool) → eqb d c ≡ b → (b || is_in c cs) ≡ true
       → (is_among command (filter_map (λ x. discard_of (table x)) cs) ≡ false → is_in c cs ≡ true → is_same command (discard_of (table c)) ≡ false) → is_same command (discard_of (table c)) ≡ false
   standing-at None s e true k j g = ap (λ (o : Option Command). is_same command o) (sym (there k) ∙ s)

@@ -1,5 +1,5 @@
 -- The requests that are open are those of the clients that wait.
-use Rattle.std.proofs.Common.{◌≡◌, refl, ℕ, Bool, true, false, cond, not, ◌&&◌, ◌||◌, List, [], ◌∷◌, ◌++◌, filter, eqb, sym, ap, subst, ◌∙◌, arith}
+use Rattle.std.proofs.Common.{◌≡◌, refl, ℕ, Bool, true, false, cond, not, ◌&&◌, ◌||◌, List, [], ◌∷◌, ◌++◌, filter, eqb, sym, ap, ◌∙◌, arith}
 use Rattle.std.specs.Prelude.{Option, Some, None}
 use Rattle.std.proofs.lemmas.Bool.Decides.{nat_tests}
 use Rattle.sm_world.specs.declared.events.Dialog.{Dialog}
@@ -7,10 +7,10 @@ use Rattle.xsmp_messages.specs.declared.message.XsmpMessage.{XsmpMessage}
 use Rattle.xsmp_messages.specs.declared.message.XsmpMessage.TheVariants.{RegisterClientReply, SaveYourself, InteractRequest, Interact, InteractDone, SaveYourselfDone, Die, ShutdownCancelled, SaveYourselfPhase2Request, SaveYourselfPhase2, SaveComplete}
 use Rattle.interact_queue.specs.Queue.{is_in, without}
 use Rattle.session_model.specs.declared.phase.Phase.{Phase}
-use Rattle.session_model.specs.declared.phase.Phase.TheVariants.{Unregistered, Idle, Saving, Asked, Interacting, WantsTwo, SavingTwo, AskedTwo, InteractingTwo, Done, Owing, Dying}
+use Rattle.session_model.specs.declared.phase.Phase.TheVariants.{Unregistered, Idle, Saving, Asked, Interacting, WantsTwo, SavingTwo, AskedTwo, InteractingTwo, Done, Owing}
 use Rattle.session_model.specs.declared.events.SessionEvent.TheVariants.{Ready, Said}
-use Rattle.session_model.specs.Phases.{is_asked, is_dying, is_owing, is_saving, may_interact, asked_phase, talked_phase, saved_phase, second_phase, cancelled_phase, held_phase, phase_given, phase_said, ready_phase}
-use Rattle.session_model.specs.Moves.{Move, Outside, Gave, Unset, History, ◌▷◌}
+use Rattle.session_model.specs.Phases.{is_asked, is_dying, is_owing, is_saving, may_interact, asked_phase, cancelled_phase, held_phase, phase_given, phase_said, ready_phase}
+use Rattle.session_model.specs.Moves.{Outside, Gave, Unset, History, ◌▷◌}
 use Rattle.session_model.specs.Readings as of
 use Rattle.session_model.proofs.Asked.{phases-tell}
 use Rattle.session_model.proofs.Sound.{phase-there, DieAtEnd}
@@ -215,14 +215,17 @@ pub waits-request : (d : ℕ) (dialog : Dialog) (sequence : ℕ) (frame : List �
 waits-request d dialog sequence frame h n place die asked owing t e = request-at (is_dying (of.phase_of d h)) (is_owing (of.phase_of d h)) (is_saving (of.phase_of d h)) (may_interact (of.wanted h) dialog) refl refl refl refl place where
   after : List ℕ
   after = cond (was_asked d n && not (is_in d (requests n))) (requests n ++ d ∷ []) (requests n)
+
   test : ℕ → Bool
   test = waits_by d (asks dialog h) h
+
   -- it owes an answer
   owes : is_owing (of.phase_of d h) ≡ true → is_saving (of.phase_of d h) ≡ false → after ≡ filter test (cond (is_saving (of.phase_of d h) && may_interact (of.wanted h) dialog) (without d (of.askers h) ++ d ∷ []) (of.askers h))
   owes o s =
       ap (λ (b : Bool). cond (b && not (is_in d (requests n))) (requests n ++ d ∷ []) (requests n)) (owing d o) ∙ t e
       ∙ sym (same-waits d (asks dialog h) h (λ c k. ap (λ (p : Option Phase). is_asked p) (asked-owing (may_interact (of.wanted h) dialog) (of.phase_of c h) (sym (same-there (λ x. is_owing (of.phase_of x h)) c d k) ∙ o))))
       ∙ ap (λ (b : Bool). filter test (cond (b && may_interact (of.wanted h) dialog) (without d (of.askers h) ++ d ∷ []) (of.askers h))) (sym s)
+
   -- it saves, and may ask
   saves : is_saving (of.phase_of d h) ≡ true → may_interact (of.wanted h) dialog ≡ true → after ≡ filter test (cond (is_saving (of.phase_of d h) && may_interact (of.wanted h) dialog) (without d (of.askers h) ++ d ∷ []) (of.askers h))
   saves s a =
@@ -236,6 +239,7 @@ waits-request d dialog sequence frame h n place die asked owing t e = request-at
       ∙ sym (filter-end test d (without d (of.askers h)) there)
       ∙ ap (λ (b : Bool). filter test (cond b (without d (of.askers h) ++ d ∷ []) (of.askers h))) (sym a)
       ∙ ap (λ (b : Bool). filter test (cond (b && may_interact (of.wanted h) dialog) (without d (of.askers h) ++ d ∷ []) (of.askers h))) (sym s)
+
   request-at : (y o s a : Bool) → is_dying (of.phase_of d h) ≡ y → is_owing (of.phase_of d h) ≡ o → is_saving (of.phase_of d h) ≡ s → may_interact (of.wanted h) dialog ≡ a → HasPlace d dialog h
       → after ≡ filter test (cond (is_saving (of.phase_of d h) && may_interact (of.wanted h) dialog) (without d (of.askers h) ++ d ∷ []) (of.askers h))
   request-at true o s a ky ko ks ka p = absurd (grind (arith, die d ky, e))

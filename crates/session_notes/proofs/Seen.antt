@@ -1,10 +1,10 @@
 -- What holds at each move of a history holds of each front of what is seen of it.
-use Rattle.std.proofs.Common.{◌≡◌, refl, List, [], ◌∷◌, ◌++◌, map, sym, ap, subst, ◌∙◌, arith, inl, inr}
+use Rattle.std.proofs.Common.{◌≡◌, refl, List, [], ◌∷◌, ◌++◌, sym, ap, subst, ◌∙◌, arith, inl, inr}
 use Rattle.std.specs.Prelude.{reverse, drop, ◌⊎◌}
 use Rattle.std.specs.List.{AllByRecursion}
 use Rattle.std.proofs.lemmas.List.{append-nil, reverse-append}
-use Rattle.session_model.specs.Moves.{Move, Outside, Gave, Blamed, Unset, Closed, Began, Over, Cancelled, Agreed, Tried, Committed, Printed, Finished, History, Opened, ◌▷◌}
-use Rattle.session_notes.specs.Notes.{Entry, Note, Came, Did, Launched, entries_of, entries, noted, notes}
+use Rattle.session_model.specs.Moves.{Move, Outside, Gave, Blamed, Unset, Closed, Tried, Committed, Printed, Finished, History, Opened, ◌▷◌}
+use Rattle.session_notes.specs.Notes.{Entry, Note, Came, Launched, entries_of, entries, noted, notes}
 
 -- A list of one item at most
 
@@ -67,6 +67,7 @@ part-of (f ∷ front) later (x ∷ xs) ys o e = more (part-of front later xs ys 
   same = head f x (front ++ later) (xs ++ ys) e where
     head : (f x : Entry) (fs xs : List Entry) → f ∷ fs ≡ x ∷ xs → f ≡ x
     head f x fs xs e = cc
+
   more : (front ≡ xs ++ ys) ⊎ ((left : List Entry) × (front ++ left ≡ xs)) → (f ∷ front ≡ x ∷ xs ++ ys) ⊎ ((left : List Entry) × (f ∷ front ++ left ≡ x ∷ xs))
   more (inl k) = inl (ap (λ (zs : List Entry). f ∷ zs) k ∙ ap (λ (z : Entry). z ∷ xs ++ ys) same)
   more (inr (left, k)) = inr (left, ap (λ (zs : List Entry). f ∷ zs) k ∙ ap (λ (z : Entry). z ∷ xs) same)

@@ -1,22 +1,20 @@
 -- What the notes say, as far as a history says it too.
-use Rattle.std.proofs.Common.{◌≡◌, refl, ℕ, Bool, true, false, cond, not, ◌&&◌, ◌||◌, List, [], ◌∷◌, ◌++◌, filter, eqb, sym, ap, subst, ◌∙◌, arith}
+use Rattle.std.proofs.Common.{◌≡◌, refl, ℕ, Bool, true, false, cond, not, ◌&&◌, ◌||◌, List, ◌∷◌, eqb, sym, ap, ◌∙◌, arith}
 use Rattle.std.specs.Prelude.{Option, Some, None}
 use Rattle.std.proofs.lemmas.Bool.Decides.{nat_tests}
 use Rattle.xsmp_messages.specs.declared.message.XsmpMessage.{XsmpMessage}
-use Rattle.xsmp_messages.specs.declared.message.XsmpMessage.TheVariants.{RegisterClientReply, SaveYourself, InteractRequest, Interact, InteractDone, SaveYourselfDone, Die, ShutdownCancelled, SaveYourselfPhase2Request, SaveYourselfPhase2, SaveComplete}
-use Rattle.interact_queue.specs.Queue.{is_in, without}
+use Rattle.xsmp_messages.specs.declared.message.XsmpMessage.TheVariants.{SaveYourself, Interact, InteractDone, SaveYourselfDone, Die, ShutdownCancelled, SaveYourselfPhase2Request, SaveComplete}
 use Rattle.session_model.specs.declared.phase.Phase.{Phase}
-use Rattle.session_model.specs.declared.phase.Phase.TheVariants.{Unregistered, Idle, Saving, Asked, Interacting, WantsTwo, SavingTwo, AskedTwo, InteractingTwo, Done, Owing, Dying}
-use Rattle.session_model.specs.declared.events.SessionEvent.{SessionEvent}
-use Rattle.session_model.specs.declared.events.SessionEvent.TheVariants.{Joined, Ready, Said, Left, Operator}
-use Rattle.session_model.specs.Phases.{is_asked, is_dying, is_first_saving, is_interacting, is_member, is_owing, is_saving, is_shutdown, may_interact, asked_phase, begun_phase, cancelled_phase, held_phase, phase_given, phase_said, ready_phase}
-use Rattle.session_model.specs.Moves.{Move, Outside, Gave, Blamed, Unset, Closed, Agreed, History, ◌▷◌}
+use Rattle.session_model.specs.declared.phase.Phase.TheVariants.{Unregistered, Saving}
+use Rattle.session_model.specs.declared.events.SessionEvent.TheVariants.{Ready, Said}
+use Rattle.session_model.specs.Phases.{is_asked, is_dying, is_first_saving, is_interacting, is_member, is_owing, may_interact, begun_phase, cancelled_phase, held_phase, phase_given, phase_said, ready_phase}
+use Rattle.session_model.specs.Moves.{Outside, Gave, Unset, History, ◌▷◌}
 use Rattle.session_model.specs.Readings as of
 use Rattle.session_model.proofs.PhaseSteps.{quiet-said, quiet-ready}
 use Rattle.session_model.proofs.Sound.{phase-there}
 use Rattle.session_notes.specs.Notes.{Note, Heard, Given, Gone}
-use Rattle.session_notes.specs.Watching.{has_token, was_asked, is_to_save, has_answered, requests}
-use Rattle.session_notes.proofs.Steps.{is_at_work, has_replied, is_bound_to_save, talks-works, works-member, asked-talks, first-member, first-not-owing, first-not-replied, ends_talk, talk-given, member-cancelled, begins, member-given, cancels, owing-given, releases, bound-given, replied-given, work-given, gives_back, talk-said, owing-said, replies, replied-said, work-said, work-ready, replied-ready, owing-ready, talk-ready}
+use Rattle.session_notes.specs.Watching.{has_token, was_asked, is_to_save, has_answered}
+use Rattle.session_notes.proofs.Steps.{is_at_work, has_replied, is_bound_to_save, talks-works, asked-talks, first-not-owing, first-not-replied, ends_talk, talk-given, member-cancelled, begins, member-given, cancels, owing-given, releases, bound-given, replied-given, work-given, talk-said, owing-said, replied-said, work-said, work-ready, replied-ready, owing-ready, talk-ready}
 
 -- One connection
 

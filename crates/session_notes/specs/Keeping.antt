@@ -4,7 +4,6 @@ use Rattle.std.specs.Prelude.{Bool, List, None, Option, Some, [], cond, false, n
 use Rattle.sm_world.specs.declared.commands.Command.{Command}
 use Rattle.ice_values.specs.declared.property.Property.{Property}
 use Rattle.xsmp_properties.specs.Tables.{set_all, without_names}
-use Rattle.xsmp_messages.specs.declared.message.XsmpMessage.{XsmpMessage}
 use Rattle.xsmp_messages.specs.declared.message.XsmpMessage.TheVariants.{DeleteProperties, RegisterClientReply, SaveYourself, SaveYourselfDone, SetProperties, ShutdownCancelled}
 use Rattle.checkpoint_records.specs.declared.records.Book.{Book}
 use Rattle.checkpoint_records.specs.Books.{same_command}

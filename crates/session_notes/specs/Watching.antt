@@ -1,6 +1,5 @@
 -- What notes say of a connection. Each reading is told for one note more.
-use Rattle.std.specs.Prelude.{Bool, List, [], cond, false, not, true, ℕ, ◌&&◌, ◌++◌, ◌==◌, ◌||◌, ◌∷◌}
-use Rattle.xsmp_messages.specs.declared.message.XsmpMessage.{XsmpMessage}
+use Rattle.std.specs.Prelude.{Bool, List, [], cond, false, not, ℕ, ◌&&◌, ◌++◌, ◌==◌, ◌||◌, ◌∷◌}
 use Rattle.xsmp_messages.specs.declared.message.XsmpMessage.TheVariants.{Interact, InteractDone, InteractRequest, SaveComplete, SaveYourself, SaveYourselfDone, SaveYourselfPhase2Request, ShutdownCancelled}
 use Rattle.interact_queue.specs.Queue.{is_in, without}
 use Rattle.session_notes.specs.Notes.{Given, Gone, Heard, Note}
