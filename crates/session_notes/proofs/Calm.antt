@@ -19,11 +19,13 @@ use Rattle.session_model.specs.Books.{issue, discarded, standing}
 use Rattle.session_model.proofs.PhaseSteps.{is_reply, given-phase}
 use Rattle.session_model.proofs.Sound.{AreRegistered, or-either}
 use Rattle.session_model.proofs.Level.{onto-append}
+use Rattle.session_model.proofs.Pending.{all-more}
 use Rattle.session_notes.specs.Keeping.{is_started}
 use Rattle.session_notes.proofs.Seen.{noted_of}
 use Rattle.session_notes.proofs.Kept.{IsNeedless}
 use Rattle.session_notes.proofs.Next.{issued-is, all-issuable, not-standing}
 use Rattle.session_notes.proofs.Fine.{Suits, Fine, fine-step}
+use Rattle.session_notes.proofs.Tests.{or-second}
 
 -- Moves that ask nothing
 
@@ -99,25 +101,17 @@ calm-cond false xs ys p q = q
 
 -- Commands that discard states
 
-needless-later : (other : Command) (h : History) (commands : List Command) → AllByRecursion (λ command. IsNeedless command h) commands → AllByRecursion (λ command. IsNeedless command (Tried Discard other ▷ h)) commands
-needless-later other h [] a = tt
-needless-later other h (c ∷ commands) a = (record { pending = a.0.pending; unset = a.0.unset; alone = a.0.alone }, needless-later other h commands a.1)
-
 fine-tried : (commands : List Command) (h : History) → AllByRecursion (λ command. IsNeedless command h) commands → Fine h → Fine (onto h (tried_each Discard commands))
 fine-tried [] h a f = f
-fine-tried (c ∷ commands) h a f = fine-tried commands (Tried Discard c ▷ h) (needless-later c h commands a.1) (fine-step (Tried Discard c) h a.0 f)
+fine-tried (c ∷ commands) h a f = fine-tried commands (Tried Discard c ▷ h) (all-more (λ command. IsNeedless command h) (λ command. IsNeedless command (Tried Discard c ▷ h)) (λ command n. record { pending = n.pending; unset = n.unset; alone = n.alone }) commands a.1) (fine-step (Tried Discard c) h a.0 f)
 
 book-tried : (commands : List Command) (h : History) → of.book (onto h (tried_each Discard commands)) ≡ of.book h
 book-tried [] h = refl
 book-tried (c ∷ commands) h = book-tried commands (Tried Discard c ▷ h)
 
-or-more : (b x : Bool) → x ≡ true → (b || x) ≡ true
-or-more true x e = refl
-or-more false x e = e
-
 started-more : (command : Command) (commands : List Command) (h : History) → is_started command (noted_of h) ≡ true → is_started command (noted_of (onto h (tried_each Discard commands))) ≡ true
 started-more command [] h e = e
-started-more command (c ∷ commands) h e = started-more command commands (Tried Discard c ▷ h) (or-more (same_command command c) (is_started command (noted_of h)) e)
+started-more command (c ∷ commands) h e = started-more command commands (Tried Discard c ▷ h) (or-second (same_command command c) (is_started command (noted_of h)) e)
 
 started-all : (command : Command) (commands : List Command) (h : History) → is_among command commands ≡ true → is_started command (noted_of (onto h (tried_each Discard commands))) ≡ true
 started-all command [] h e = absurd (grind arith)

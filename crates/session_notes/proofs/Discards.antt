@@ -13,9 +13,11 @@ use Rattle.checkpoint_records.specs.declared.records.Entry.{Entry}
 use Rattle.checkpoint_records.specs.Books.{same_command, discards, names}
 use Rattle.discard_ledger.specs.Discards.{discard_of, is_among}
 use Rattle.session_model.specs.Tables.{is_full, is_same, is_of, first_table, set_table, table_in}
-use Rattle.session_model.proofs.Sound.{or-true}
+use Rattle.session_model.proofs.Sound.{or-true, or-either}
+use Rattle.session_model.proofs.Ruled.{differ}
 use Rattle.session_model.proofs.Pending.{command_equiv}
 use Rattle.session_notes.specs.Keeping.{sets_discard}
+use Rattle.session_notes.proofs.Tests.{or-none}
 
 -- The property under a name
 
@@ -84,10 +86,6 @@ same-tells command items = same-words command items (values_of (codes "DiscardCo
 
 -- Tables
 
-denies : (b : Bool) → (b ≡ true → ⊥) → b ≡ false
-denies true n = absurd (n refl)
-denies false n = refl
-
 -- a list that doesn't set the command brings none
 pub set-clear : (command : Command) (list items : List Property) → sets_discard command list ≡ false → is_same command (discard_of items) ≡ false → is_same command (discard_of (set_all items list)) ≡ false
 set-clear command list items s c =
@@ -146,10 +144,6 @@ without-clear command gone items c =
 
 -- Books
 
-or-parts : (x y : Bool) → (x || y) ≡ false → (x ≡ false) × (y ≡ false)
-or-parts true y e = absurd (grind arith)
-or-parts false y e = (refl, e)
-
 or-joined : (x y : Bool) → x ≡ false → y ≡ false → (x || y) ≡ false
 or-joined true y e f = e
 or-joined false y e f = f
@@ -168,7 +162,7 @@ pub none-names : (command : Command) (entries : List Entry) → list_any (same_c
 none-names command [] e = tt
 none-names command (entry ∷ entries) e =
     let p : (is_same command (discard_of entry.table) ≡ false) × (list_any (same_command command) (discards entries) ≡ false) =
-    or-parts (is_same command (discard_of entry.table)) (list_any (same_command command) (discards entries)) (sym (any-cons command (discard_of entry.table) (discards entries)) ∙ e) in
+    or-none (is_same command (discard_of entry.table)) (list_any (same_command command) (discards entries)) (sym (any-cons command (discard_of entry.table) (discards entries)) ∙ e) in
     (p.0, none-names command entries p.1)
 
 -- the table with which an ID begins
@@ -197,9 +191,7 @@ among-kept gone [] command n e = e
 among-kept gone (c ∷ list) command n e = kept-at (same_command command c) (is_among c gone) refl refl e (among-kept gone list command n) where
   kept-at : (b a : Bool) → same_command command c ≡ b → is_among c gone ≡ a → (b || is_among command list) ≡ true → (is_among command list ≡ true → is_among command (filter (λ x. not (is_among x gone)) list) ≡ true)
       → is_among command (cond (not a) (c ∷ filter (λ x. not (is_among x gone)) list) (filter (λ x. not (is_among x gone)) list)) ≡ true
-  kept-at true true s t f g = absurd (clash (is_among command gone) (among-by command c gone s ∙ t) n) where
-    clash : (a : Bool) → a ≡ true → a ≡ false → ⊥
-    clash a e f = grind arith
+  kept-at true true s t f g = absurd (differ (among-by command c gone s ∙ t) n)
   kept-at true false s t f g = ap (λ (x : Bool). x || is_among command (filter (λ x. not (is_among x gone)) list)) s
   kept-at false true s t f g = g f
   kept-at false false s t f g = ap (λ (x : Bool). same_command command c || x) (g f) ∙ or-true (same_command command c)
@@ -208,14 +200,10 @@ among-kept gone (c ∷ list) command n e = kept-at (same_command command c) (is_
 pub kept-among : (gone list : List Command) (command : Command) → is_among command (filter (λ c. not (is_among c gone)) list) ≡ true → (is_among command list ≡ true) × (is_among command gone ≡ false)
 kept-among gone [] command e = absurd (grind arith)
 kept-among gone (c ∷ list) command e = kept-at (is_among c gone) refl e (kept-among gone list command) where
-  parts : (b x : Bool) {P : Type 0} → (b ≡ true → P) → (x ≡ true → P) → (b || x) ≡ true → P
-  parts true x f g k = f refl
-  parts false x f g k = g k
-
   kept-at : (a : Bool) → is_among c gone ≡ a → is_among command (cond (not a) (c ∷ filter (λ x. not (is_among x gone)) list) (filter (λ x. not (is_among x gone)) list)) ≡ true
       → (is_among command (filter (λ x. not (is_among x gone)) list) ≡ true → (is_among command list ≡ true) × (is_among command gone ≡ false)) → ((same_command command c || is_among command list) ≡ true) × (is_among command gone ≡ false)
   kept-at true t f g = let k : (is_among command list ≡ true) × (is_among command gone ≡ false) = g f in (ap (λ (x : Bool). same_command command c || x) k.0 ∙ or-true (same_command command c), k.1)
   kept-at false t f g =
-      parts (same_command command c) (is_among command (filter (λ x. not (is_among x gone)) list))
+      or-either (same_command command c) (is_among command (filter (λ x. not (is_among x gone)) list))
       (λ s. (ap (λ (x : Bool). x || is_among command list) s, among-by command c gone s ∙ t))
       (λ s. let k : (is_among command list ≡ true) × (is_among command gone ≡ false) = g s in (ap (λ (x : Bool). same_command command c || x) k.0 ∙ or-true (same_command command c), k.1)) f

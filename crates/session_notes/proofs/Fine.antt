@@ -20,7 +20,7 @@ use Rattle.session_model.specs.Moves.{Move, Cause, Discard, Outside, Gave, Blame
 use Rattle.session_model.specs.Readings as of
 use Rattle.session_model.proofs.Asked.{phases-tell}
 use Rattle.session_model.proofs.Sound.{Fits, Sound, sound-step, or-either}
-use Rattle.session_model.proofs.Ruled.{differ, denied}
+use Rattle.session_model.proofs.Ruled.{and-left, and-right, denied, differ}
 use Rattle.session_notes.specs.Notes.{Entry, Note, Did, Heard, Given, Started, entries_of}
 use Rattle.session_notes.specs.Keeping.{IsOfRun, book_in, new_ids, sets_discard, is_discarded, is_started}
 use Rattle.session_notes.specs.Laws.{StandsIn, IsSaved}
@@ -31,7 +31,8 @@ use Rattle.session_notes.proofs.Told as told
 use Rattle.session_notes.proofs.Kept as kept
 use Rattle.session_notes.proofs.Kept.{HasRoom, HasTable, MaySave, IsGiven, IsNext, IsNeedless, NoneNamed, Saves}
 use Rattle.session_notes.proofs.Numbers.{of-run, numbers-differ}
-use Rattle.session_notes.proofs.Open.{WaitsTold, HasPlace, own, waits-interact, waits-cancelled, waits-given, waits-gone, waits-unset, waits-ready, waits-said, waits-request}
+use Rattle.session_notes.proofs.Open.{WaitsTold, HasPlace, waits-interact, waits-cancelled, waits-given, waits-gone, waits-unset, waits-ready, waits-said, waits-request}
+use Rattle.session_notes.proofs.Tests.{not-true, or-none, own}
 
 -- What a move asks
 
@@ -177,10 +178,6 @@ told-outside (Left d) h s so t = record {
 }
 told-outside (Operator order) h s so t = record { token = t.token; asked = t.asked; owing = t.owing; saves = t.saves; answers = t.answers; waits = t.waits; rest = t.rest }
 
-or-before : (x y : Bool) → (x || y) ≡ false → x ≡ false
-or-before true y e = e
-or-before false y e = refl
-
 told-agreed : (h : History) (n : List Note) → Suits Agreed h → Told h n → Told (Agreed ▷ h) n
 told-agreed h n s t = record {
   token = t.token;
@@ -188,7 +185,7 @@ told-agreed h n s t = record {
   owing = t.owing;
   saves = t.saves;
   answers = t.answers;
-  waits = λ e. t.waits (or-before (of.is_ending h) (is_shutdown (of.wanted h)) e);
+  waits = λ e. t.waits ((or-none (of.is_ending h) (is_shutdown (of.wanted h)) e).0);
   rest = λ e c. or-either (of.is_ending h) (is_shutdown (of.wanted h)) (λ k. t.rest k c) (λ k. s k c) e;
 }
 
@@ -230,18 +227,6 @@ pub record Keeps (h : History) (n : List Note) : Type 0 where
   pub saved : kept.SavedTold h n
   pub unnamed : NoneNamed (kept.opened_of h) → NoneNamed (of.book h)
   pub clear : NoneNamed (kept.opened_of h) → (command : Command) → is_discarded command n ≡ true → kept.Clear command h
-
-and-left : (x y : Bool) → (x && y) ≡ true → x ≡ true
-and-left true y e = refl
-and-left false y e = e
-
-and-right : (x y : Bool) → (x && y) ≡ true → y ≡ true
-and-right true y e = e
-and-right false y e = absurd (grind arith)
-
-not-true : (x : Bool) → not x ≡ true → x ≡ false
-not-true true e = sym e
-not-true false e = refl
 
 -- the table and the snapshot after a message
 keeps-with : (d : ℕ) (m : XsmpMessage) (sequence : ℕ) (frame : List ℕ) (h : History) (n : List Note) → kept.TableTold (Outside (Said d m sequence frame) ▷ h) (Heard d m ∷ n) → kept.SavedTold (Outside (Said d m sequence frame) ▷ h) (Heard d m ∷ n)
@@ -394,8 +379,8 @@ keeps-step Agreed h s so t k = record {
   id = k.id;
   new = k.new;
   idle = λ e. refl;
-  table = λ e. k.table (or-before (of.is_ending h) (is_shutdown (of.wanted h)) e);
-  saved = λ e. k.saved (or-before (of.is_ending h) (is_shutdown (of.wanted h)) e);
+  table = λ e. k.table ((or-none (of.is_ending h) (is_shutdown (of.wanted h)) e).0);
+  saved = λ e. k.saved ((or-none (of.is_ending h) (is_shutdown (of.wanted h)) e).0);
   unnamed = k.unnamed;
   clear = λ u command e. kept.clear-step command Agreed h tt (k.clear u command e);
 }

@@ -41,11 +41,12 @@ use Rattle.session_notes.specs.Watching.{has_token}
 use Rattle.session_notes.specs.Keeping.{sets_discard, is_discarded}
 use Rattle.session_notes.proofs.Seen.{noted_of, AtEach}
 use Rattle.session_notes.proofs.Steps.{is_at_work, has_replied, is_bound_to_save}
-use Rattle.session_notes.proofs.Open.{HasPlace, own}
-use Rattle.session_notes.proofs.Kept.{opened_of, moved, IsGiven, IsClearSaved, Clear}
+use Rattle.session_notes.proofs.Open.{HasPlace}
+use Rattle.session_notes.proofs.Kept.{opened_of, IsGiven, IsClearSaved, Clear}
 use Rattle.session_notes.proofs.Next.{forgetting-is}
 use Rattle.session_notes.proofs.Fine.{Suits, Told, Keeps, OneHas, IdsHold, DiscardsHold, Fine, fine-step}
 use Rattle.session_notes.proofs.Calm.{AllCalm, fine-calm, fine-append, calm-gave, calm-cond, AllStill, still-onto, fine-discarded}
+use Rattle.session_notes.proofs.Tests.{and-after, cond-one, moved, or-none, or-second, own, filter-same}
 
 -- Moves that ask nothing
 
@@ -85,18 +86,9 @@ pub record Ignored (c : ℕ) (m : XsmpMessage) (h : History) : Type 0 where
 abbrev pub heard : ℕ → XsmpMessage → ℕ → List ℕ → History → History
 heard c m sequence frame h = Outside (Said c m sequence frame) ▷ h
 
-filter-same : (p q : ℕ → Bool) (cs : List ℕ) → ((c : ℕ) → q c ≡ p c) → filter q cs ≡ filter p cs
-filter-same p q [] k = refl
-filter-same p q (c ∷ cs) k = ap (λ (b : Bool). cond b (c ∷ filter q cs) (filter q cs)) (k c) ∙ ap (λ (xs : List ℕ). cond (p c) (c ∷ xs) xs) (filter-same p q cs k)
-
-cond-one : (b : Bool) (p q : Option Phase) → (b ≡ true → q ≡ p) → cond b q p ≡ p
-cond-one true p q k = k refl
-cond-one false p q k = refl
-
 same-phase : (c : ℕ) (m : XsmpMessage) (sequence : ℕ) (frame : List ℕ) (h : History) → Ignored c m h → (d : ℕ) → of.phase_of d (heard c m sequence frame h) ≡ of.phase_of d h
-same-phase c m sequence frame h i d = cond-one (eqb c d) (of.phase_of d h) (phase_said (λ dialog. may_interact (of.wanted h) dialog) m (of.phase_of d h)) (λ k. phase-at k) where
-  phase-at : eqb c d ≡ true → phase_said (λ dialog. may_interact (of.wanted h) dialog) m (of.phase_of d h) ≡ of.phase_of d h
-  phase-at k = let e : c ≡ d = grind (arith, nat_tests) in subst (λ (x : ℕ). phase_said (λ dialog. may_interact (of.wanted h) dialog) m (of.phase_of x h) ≡ of.phase_of x h) e i.phase
+same-phase c m sequence frame h i d =
+    cond-one (eqb c d) (of.phase_of d h) _ (λ k. moved (λ x. phase_said (λ dialog. may_interact (of.wanted h) dialog) m (of.phase_of x h) ≡ of.phase_of x h) d c i.phase k)
 
 same-waiting : (c : ℕ) (m : XsmpMessage) (sequence : ℕ) (frame : List ℕ) (h : History) → Ignored c m h → of.waiting (heard c m sequence frame h) ≡ of.waiting h
 same-waiting c m sequence frame h i =
@@ -114,22 +106,11 @@ told-refused c m sequence frame error h n i t = record {
   rest = λ e d. ap (λ (p : Option Phase). is_at_work p) (same-phase c m sequence frame h i d) ∙ t.rest e d;
 }
 
-and-after : (b t : Bool) → (not b && t) ≡ true → t ≡ true
-and-after true t e = absurd (grind arith)
-and-after false t e = e
-
 same-table : (c : ℕ) (m : XsmpMessage) (sequence : ℕ) (frame : List ℕ) (h : History) → Ignored c m h → (d : ℕ) → of.table_of d (heard c m sequence frame h) ≡ of.table_of d h
-same-table c m sequence frame h i d = cond-items (eqb c d) (λ k. moved (λ x. table_said x m (λ y. of.phase_of y h) (of.table_of x h) ≡ of.table_of x h) d c i.table k) where
-  cond-items : (b : Bool) → (b ≡ true → table_said d m (λ y. of.phase_of y h) (of.table_of d h) ≡ of.table_of d h) → cond b (table_said d m (λ y. of.phase_of y h) (of.table_of d h)) (of.table_of d h) ≡ of.table_of d h
-  cond-items true k = k refl
-  cond-items false k = refl
+same-table c m sequence frame h i d = cond-one (eqb c d) (of.table_of d h) _ (λ k. moved (λ x. table_said x m (λ y. of.phase_of y h) (of.table_of x h) ≡ of.table_of x h) d c i.table k)
 
 same-saved : (c : ℕ) (m : XsmpMessage) (sequence : ℕ) (frame : List ℕ) (h : History) → Ignored c m h → (d : ℕ) → of.saved_of d (heard c m sequence frame h) ≡ of.saved_of d h
-same-saved c m sequence frame h i d = cond-items (eqb c d) (λ k. moved (λ x. of.saved_said x m (λ y. of.phase_of y h) (λ y. of.table_of y h) (of.saved_of x h) ≡ of.saved_of x h) d c i.saved k) where
-  cond-items : (b : Bool) → (b ≡ true → of.saved_said d m (λ y. of.phase_of y h) (λ y. of.table_of y h) (of.saved_of d h) ≡ of.saved_of d h)
-      → cond b (of.saved_said d m (λ y. of.phase_of y h) (λ y. of.table_of y h) (of.saved_of d h)) (of.saved_of d h) ≡ of.saved_of d h
-  cond-items true k = k refl
-  cond-items false k = refl
+same-saved c m sequence frame h i d = cond-one (eqb c d) (of.saved_of d h) _ (λ k. moved (λ x. of.saved_said x m (λ y. of.phase_of y h) (λ y. of.table_of y h) (of.saved_of x h) ≡ of.saved_of x h) d c i.saved k)
 
 clear-refused : (command : Command) (c : ℕ) (m : XsmpMessage) (sequence : ℕ) (frame : List ℕ) (error : ErrorFields) (h : History) → Ignored c m h → Clear command h → Clear command (Blamed c error ▷ heard c m sequence frame h)
 clear-refused command c m sequence frame error h i k = record {
@@ -246,10 +227,6 @@ wanted-is : (o : Option of.Begun) (members : List Member) → wanted_in (of.cour
 wanted-is None members = refl
 wanted-is (Some r) members = refl
 
-or-none : (x y : Bool) → (x || y) ≡ false → (x ≡ false) × (y ≡ false)
-or-none true y e = absurd (grind arith)
-or-none false y e = (refl, e)
-
 asked-not : (a : Bool) (p : Option Phase) → (is_saving p && a) ≡ false → cond a (asked_phase p) p ≡ p
 asked-not false p e = refl
 asked-not true None e = refl
@@ -295,10 +272,7 @@ request-ignored c dialog h e =
 
 request-placed : (c : ℕ) (dialog : Dialog) (h : History) → (is_owing (of.phase_of c h) || is_saving (of.phase_of c h) && style_allows h dialog) ≡ true → HasPlace c dialog h
 request-placed c dialog h e =
-    or-dying (is_dying (of.phase_of c h)) (ap (λ (b : Bool). is_owing (of.phase_of c h) || is_saving (of.phase_of c h) && b) (sym (style-is h dialog)) ∙ e) where
-      or-dying : (b : Bool) {x : Bool} → x ≡ true → (b || x) ≡ true
-      or-dying true k = refl
-      or-dying false k = k
+    or-second (is_dying (of.phase_of c h)) _ (ap (λ (b : Bool). is_owing (of.phase_of c h) || is_saving (of.phase_of c h) && b) (sym (style-is h dialog)) ∙ e)
 
 fine-want_cancel : (b : Bool) (c : ℕ) (sequence : ℕ) (frame : List ℕ) (h : History) → Fine h → Fine (onto (heard c (InteractDone true) sequence frame h) (want_cancel (reading h) (arrival c (InteractDone true) sequence frame) b))
 fine-want_cancel true c sequence frame h f = fine-heard c (InteractDone true) sequence frame (called_off (of.round h)) h tt (calm-off (of.round h)) f
@@ -316,10 +290,6 @@ unsaved : (success : Bool) (c : ℕ) (h : History) → is_saving (of.phase_of c 
 unsaved true c h e = ap (λ (b : Bool). cond b (Some (of.table_of c h)) (of.saved_of c h)) e
 unsaved false c h e = refl
 
-or-right : (b : Bool) {x : Bool} → x ≡ true → (b || x) ≡ true
-or-right true k = refl
-or-right false k = k
-
 -- by the phase of the sender
 fine-answered : (c : ℕ) (m : XsmpMessage) (sequence : ℕ) (frame : List ℕ) (h : History) → Fine h → Fine (onto (heard c m sequence frame h) (answered (reading h) (arrival c m sequence frame) m (of.phase_of c h)))
 fine-answered c (RegisterClient previous) sequence frame h f =
@@ -329,10 +299,10 @@ fine-answered c (SetProperties list) sequence frame h f =
     fine-or-bad (is_bound (of.phase_of c h)) c (SetProperties list) sequence frame _ h (λ e. record { phase = refl; askers = refl; table = unbound-table (is_bound (of.phase_of c h)) (set_table list (of.table_of c h)) (of.table_of c h) e; saved = refl }) f
     (λ e. fine-cond (is_full (set_all (of.table_of c h) list)) (Blamed c (full_table (arrival c (SetProperties list) sequence frame)) ∷ []) [] (heard c (SetProperties list) sequence frame h)
     (λ k. fine-refused c (SetProperties list) sequence frame _ h (record { phase = refl; askers = refl; table = full-table (is_bound (of.phase_of c h)) list (of.table_of c h) k; saved = refl }) f)
-    (λ k. fine-heard c (SetProperties list) sequence frame [] h (or-right (is_dying (of.phase_of c h)) (ap (λ (b : Bool). b && not (is_full (set_all (of.table_of c h) list))) e ∙ ap not k)) tt f))
+    (λ k. fine-heard c (SetProperties list) sequence frame [] h (or-second (is_dying (of.phase_of c h)) _ (ap (λ (b : Bool). b && not (is_full (set_all (of.table_of c h) list))) e ∙ ap not k)) tt f))
 fine-answered c (DeleteProperties names) sequence frame h f =
     fine-or-bad (is_bound (of.phase_of c h)) c (DeleteProperties names) sequence frame [] h (λ e. record { phase = refl; askers = refl; table = unbound-table (is_bound (of.phase_of c h)) (without_names names (of.table_of c h)) (of.table_of c h) e; saved = refl }) f
-    (λ e. fine-heard c (DeleteProperties names) sequence frame [] h (or-right (is_dying (of.phase_of c h)) e) tt f)
+    (λ e. fine-heard c (DeleteProperties names) sequence frame [] h (or-second (is_dying (of.phase_of c h)) _ e) tt f)
 fine-answered c GetProperties sequence frame h f =
     fine-or-bad (is_bound (of.phase_of c h)) c GetProperties sequence frame (Gave c (GetPropertiesReply (of.table_of c h)) ∷ []) h (λ e. record { phase = refl; askers = refl; table = refl; saved = refl }) f
     (λ e. fine-heard c GetProperties sequence frame (Gave c (GetPropertiesReply (of.table_of c h)) ∷ []) h tt (refl, tt) f)
@@ -358,7 +328,7 @@ fine-answered c (SaveYourselfDone success) sequence frame h f =
       table = refl;
       saved = unsaved success c h (or-none (is_owing (of.phase_of c h)) (is_saving (of.phase_of c h)) e).1;
     }) f
-    (λ e. fine-heard c (SaveYourselfDone success) sequence frame [] h (or-right (is_dying (of.phase_of c h)) e) tt f)
+    (λ e. fine-heard c (SaveYourselfDone success) sequence frame [] h (or-second (is_dying (of.phase_of c h)) _ e) tt f)
 fine-answered c SaveYourselfPhase2Request sequence frame h f =
     fine-or-bad (is_owing (of.phase_of c h) || is_first_saving (of.phase_of c h)) c SaveYourselfPhase2Request sequence frame [] h
     (λ e. record { phase = second-not (of.phase_of c h) (or-none (is_owing (of.phase_of c h)) (is_first_saving (of.phase_of c h)) e).1; askers = refl; table = refl; saved = refl }) f

@@ -23,7 +23,8 @@ use Rattle.session_model.specs.Moves.{Move, Outside, Gave, Unset, Closed, Commit
 use Rattle.session_model.specs.Readings as of
 use Rattle.session_model.proofs.PhaseSteps.{quiet-said, quiet-ready, given-phase, is_reply}
 use Rattle.session_model.proofs.Sound.{DieAtEnd, or-either}
-use Rattle.session_model.proofs.Ruled.{differ}
+use Rattle.session_model.proofs.Ruled.{denied, differ, member-registered}
+use Rattle.session_model.proofs.Replied.{cond-same}
 use Rattle.session_notes.specs.Notes.{Note, Heard, Given, Gone}
 use Rattle.session_notes.specs.Watching.{was_asked}
 use Rattle.session_notes.specs.Keeping.{book_in, id_in, new_ids, table_in, snapshot_in, sets_discard, is_started}
@@ -31,6 +32,7 @@ use Rattle.session_notes.specs.Laws.{StandsIn}
 use Rattle.session_notes.proofs.Steps.{begins, member-given, saving-member}
 use Rattle.session_notes.proofs.Told.{AskedTold, OwingTold}
 use Rattle.session_notes.proofs.Discards.{table-clear, without-clear, names-none, none-names, first-clear, same-by, among-by}
+use Rattle.session_notes.proofs.Tests.{came-one, moved, none-passes}
 
 -- the book that was opened
 abbrev pub opened_of : History → Book
@@ -97,19 +99,12 @@ living true b f e = absurd (grind arith)
 living false b f e = e
 
 alive : (c : ℕ) (h : History) → DieAtEnd h → of.is_ending h ≡ false → is_dying (of.phase_of c h) ≡ false
-alive c h d e = not-dying (is_dying (of.phase_of c h)) (λ k. differ (d c k) e) where
-  not-dying : (b : Bool) → (b ≡ true → ⊥) → b ≡ false
-  not-dying true k = absurd (k refl)
-  not-dying false k = refl
+alive c h d e = denied (is_dying (of.phase_of c h)) (λ k. differ (d c k) e)
 
 set-whole : (b f : Bool) (list items : List Property) → is_full (set_all items list) ≡ f → (b && not f) ≡ true → set_all items list ≡ cond b (set_table list items) items
 set-whole true true list items s e = absurd (grind arith)
 set-whole true false list items s e = sym (ap (λ (x : Bool). cond x items (set_all items list)) s)
 set-whole false f list items s e = absurd (grind arith)
-
--- P of c where it holds of d, and they are one
-pub moved : (P : ℕ → Type 0) (c d : ℕ) → P d → eqb d c ≡ true → P c
-moved P c d p e = let k : d ≡ c = grind (arith, nat_tests) in subst P k p
 
 pub table-set : (d : ℕ) (list : List Property) (sequence : ℕ) (frame : List ℕ) (h : History) (n : List Note) → HasRoom d list h → DieAtEnd h → TableTold h n → TableTold (Outside (Said d (SetProperties list) sequence frame) ▷ h) (Heard d (SetProperties list) ∷ n)
 table-set d list sequence frame h n r y t e c =
@@ -124,10 +119,6 @@ without-whole false gone items e = absurd (grind arith)
 pub table-without : (d : ℕ) (gone : List (List ℕ)) (sequence : ℕ) (frame : List ℕ) (h : History) (n : List Note) → HasTable d h → DieAtEnd h → TableTold h n → TableTold (Outside (Said d (DeleteProperties gone) sequence frame) ▷ h) (Heard d (DeleteProperties gone) ∷ n)
 table-without d gone sequence frame h n r y t e c =
     cond-both (eqb d c) _ _ _ _ (λ k. ap (λ (items : List Property). without_names gone items) (t e c) ∙ without-whole (is_bound (of.phase_of c h)) gone (of.table_of c h) (living (is_dying (of.phase_of c h)) _ (alive c h y e) (moved (λ x. HasTable x h) c d r k))) (t e c)
-
-cond-same : {A : Type 0} (b : Bool) (x : A) → cond b x x ≡ x
-cond-same true x = refl
-cond-same false x = refl
 
 abbrev pub sets_table : XsmpMessage → Bool
 sets_table (SetProperties list) = true
@@ -233,28 +224,15 @@ pub record Clear (command : Command) (h : History) : Type 0 where
   pub tables : (c : ℕ) → is_registered (of.phase_of c h) ≡ true → is_same command (discard_of (of.table_of c h)) ≡ false
   pub saved : (c : ℕ) → is_member (of.phase_of c h) ≡ true → IsClearSaved command (of.saved_of c h)
 
--- a client of which this is known before and after
-was-one : (test : Option Phase → Bool) (b : Bool) (p q : Option Phase) → (test q ≡ true → test p ≡ true) → test (cond b q p) ≡ true → test p ≡ true
-was-one test true p q k e = k e
-was-one test false p q k e = e
-
-clear-saved-same : (command : Command) (b : Bool) (o : Option (List Property)) → IsClearSaved command o → IsClearSaved command (cond b o o)
-clear-saved-same command true o k = k
-clear-saved-same command false o k = k
-
-clear-same : (command : Command) (b : Bool) (items : List Property) → is_same command (discard_of items) ≡ false → is_same command (discard_of (cond b items items)) ≡ false
-clear-same command true items k = k
-clear-same command false items k = k
-
 clear-table : (command : Command) (b : Bool) (items others : List Property) → is_same command (discard_of items) ≡ false → is_same command (discard_of others) ≡ false → is_same command (discard_of (cond b items others)) ≡ false
 clear-table command true items others k l = k
 clear-table command false items others k l = l
 
 said-registered : (d : ℕ) (m : XsmpMessage) (h : History) (c : ℕ) → is_registered (cond (eqb d c) (phase_said (λ dialog. may_interact (of.wanted h) dialog) m (of.phase_of c h)) (of.phase_of c h)) ≡ true → is_registered (of.phase_of c h) ≡ true
-said-registered d m h c e = was-one (λ p. is_registered p) (eqb d c) (of.phase_of c h) _ (λ k. sym (quiet-said (λ dialog. may_interact (of.wanted h) dialog) m (of.phase_of c h)).registered ∙ k) e
+said-registered d m h c e = came-one (λ p. is_registered p) (eqb d c) (of.phase_of c h) _ (λ k. sym (quiet-said (λ dialog. may_interact (of.wanted h) dialog) m (of.phase_of c h)).registered ∙ k) e
 
 said-member : (d : ℕ) (m : XsmpMessage) (h : History) (c : ℕ) → is_member (cond (eqb d c) (phase_said (λ dialog. may_interact (of.wanted h) dialog) m (of.phase_of c h)) (of.phase_of c h)) ≡ true → is_member (of.phase_of c h) ≡ true
-said-member d m h c e = was-one (λ p. is_member p) (eqb d c) (of.phase_of c h) _ (λ k. sym (quiet-said (λ dialog. may_interact (of.wanted h) dialog) m (of.phase_of c h)).member ∙ k) e
+said-member d m h c e = came-one (λ p. is_member p) (eqb d c) (of.phase_of c h) _ (λ k. sym (quiet-said (λ dialog. may_interact (of.wanted h) dialog) m (of.phase_of c h)).member ∙ k) e
 
 -- the command is set by no list that is set
 abbrev pub SetsNot : Command → XsmpMessage → Type 0
@@ -274,11 +252,6 @@ saved-clear command d (SaveYourselfDone true) phase table o t k = saved-at (is_s
 saved-clear command d (SaveYourselfDone false) phase table o t k = k
 saved-clear command d m phase table o t k = k
 
-member-registered : (p : Option Phase) → is_member p ≡ true → is_registered p ≡ true
-member-registered None e = e
-member-registered (Some Unregistered) e = e
-member-registered (Some p) e = refl
-
 pub clear-said : (command : Command) (d : ℕ) (m : XsmpMessage) (sequence : ℕ) (frame : List ℕ) (h : History) → SetsNot command m → Clear command h → Clear command (Outside (Said d m sequence frame) ▷ h)
 clear-said command d m sequence frame h s k = record {
   book = k.book;
@@ -297,10 +270,6 @@ gone-saved : (command : Command) (b : Bool) (o : Option (List Property)) (p : Op
 gone-saved command true o p k e = absurd (grind arith)
 gone-saved command false o p k e = k e
 
-none-was : (test : Option Phase → Bool) (b : Bool) (p : Option Phase) → test None ≡ false → test (cond b None p) ≡ true → test p ≡ true
-none-was test true p n e = absurd (grind (arith, n))
-none-was test false p n e = e
-
 -- a move that sets no such command, and writes no book
 abbrev pub Leaves : Command → Move → Type 0
 Leaves command (Outside (Said d m sequence frame)) = SetsNot command m
@@ -311,8 +280,8 @@ clear-outside : (command : Command) (event : SessionEvent) (h : History) → Lea
 clear-outside command (Joined d) h s k = record { book = k.book; tables = k.tables; saved = k.saved }
 clear-outside command (Ready d) h s k = record {
   book = k.book;
-  tables = λ c e. k.tables c (was-one (λ p. is_registered p) (eqb d c) (of.phase_of c h) (ready_phase (of.phase_of c h)) (λ j. sym (quiet-ready (of.phase_of c h)).registered ∙ j) e);
-  saved = λ c e. k.saved c (was-one (λ p. is_member p) (eqb d c) (of.phase_of c h) (ready_phase (of.phase_of c h)) (λ j. sym (quiet-ready (of.phase_of c h)).member ∙ j) e);
+  tables = λ c e. k.tables c (came-one (λ p. is_registered p) (eqb d c) (of.phase_of c h) (ready_phase (of.phase_of c h)) (λ j. sym (quiet-ready (of.phase_of c h)).registered ∙ j) e);
+  saved = λ c e. k.saved c (came-one (λ p. is_member p) (eqb d c) (of.phase_of c h) (ready_phase (of.phase_of c h)) (λ j. sym (quiet-ready (of.phase_of c h)).member ∙ j) e);
 }
 clear-outside command (Said d m sequence frame) h s k = clear-said command d m sequence frame h s k
 clear-outside command (Left d) h s k = record {
@@ -382,8 +351,8 @@ clear-step command (Gave d m) h s k = clear-given command d m h k
 clear-step command (Committed written) h s k = absurd s
 clear-step command (Unset d) h s k = record {
   book = k.book;
-  tables = λ c e. k.tables c (none-was (λ p. is_registered p) (eqb d c) (of.phase_of c h) refl e);
-  saved = λ c e. k.saved c (none-was (λ p. is_member p) (eqb d c) (of.phase_of c h) refl e);
+  tables = λ c e. k.tables c (none-passes (λ p. is_registered p) (eqb d c) (of.phase_of c h) refl e);
+  saved = λ c e. k.saved c (none-passes (λ p. is_member p) (eqb d c) (of.phase_of c h) refl e);
 }
 clear-step command (Closed d) h s k = record {
   book = k.book;

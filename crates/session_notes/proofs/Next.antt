@@ -19,13 +19,14 @@ use Rattle.session_model.specs.Readings as of
 use Rattle.session_model.specs.Reading.{reading, client_of, has_that_id}
 use Rattle.session_model.specs.Books.{is_eligible, recorded, is_kept, snapshot, entry_saved, entry_for, next_entry, new_saved, new_entry, next_entries, next_book, book_forgetting}
 use Rattle.session_model.proofs.Sound.{or-true}
-use Rattle.session_model.proofs.Pending.{command_equiv, all-append}
+use Rattle.session_model.proofs.Pending.{command_equiv, all-append, all-filter, all-more}
 use Rattle.session_model.proofs.Ruled.{rows_now, round_now, conns-rows}
 use Rattle.session_notes.specs.Notes.{Note}
 use Rattle.session_notes.specs.Keeping.{is_started}
 use Rattle.session_notes.specs.Laws.{StandsIn}
 use Rattle.session_notes.proofs.Discards.{among-by, among-kept, kept-among}
 use Rattle.session_notes.proofs.Kept.{Saves, IsNext}
+use Rattle.session_notes.proofs.Tests.{or-false, or-first, or-none, or-second, own, same-there}
 
 -- where an entry comes from
 abbrev pub Comes : History → Entry → Type 0
@@ -33,27 +34,12 @@ Comes h entry = StandsIn entry (of.book h).entries ⊎ Saves entry h
 
 -- Entries that stay
 
-all-later : (other : Entry) (h : History) (entries xs : List Entry) → AllByRecursion (λ entry. StandsIn entry entries) xs → AllByRecursion (λ entry. StandsIn entry (other ∷ entries)) xs
-all-later other h entries [] a = tt
-all-later other h entries (x ∷ xs) a = (inr a.0, all-later other h entries xs a.1)
-
-all-stand : (h : History) (entries : List Entry) → AllByRecursion (λ entry. StandsIn entry entries) entries
-all-stand h [] = tt
-all-stand h (entry ∷ entries) = (inl refl, all-later entry h entries entries (all-stand h entries))
-
-all-come : (h : History) (xs : List Entry) → AllByRecursion (λ entry. StandsIn entry (of.book h).entries) xs → AllByRecursion (Comes h) xs
-all-come h [] a = tt
-all-come h (x ∷ xs) a = (inl a.0, all-come h xs a.1)
+pub all-stand : (entries : List Entry) → AllByRecursion (λ entry. StandsIn entry entries) entries
+all-stand [] = tt
+all-stand (entry ∷ entries) = (inl refl, all-more (λ other. StandsIn other entries) (λ other. StandsIn other (entry ∷ entries)) (λ other s. inr s) entries (all-stand entries))
 
 pub same-come : (h : History) (entries : List Entry) → (of.book h).entries ≡ entries → AllByRecursion (Comes h) entries
-same-come h entries e = subst (λ (xs : List Entry). AllByRecursion (Comes h) xs) e (all-come h (of.book h).entries (all-stand h (of.book h).entries))
-
-filter-come : (h : History) (test : Entry → Bool) (xs : List Entry) → AllByRecursion (Comes h) xs → AllByRecursion (Comes h) (filter test xs)
-filter-come h test [] a = tt
-filter-come h test (x ∷ xs) a = filter-at (test x) (filter-come h test xs a.1) where
-  filter-at : (b : Bool) → AllByRecursion (Comes h) (filter test xs) → AllByRecursion (Comes h) (cond b (x ∷ filter test xs) (filter test xs))
-  filter-at true k = (a.0, k)
-  filter-at false k = k
+same-come h entries e = subst (λ (xs : List Entry). AllByRecursion (Comes h) xs) e (all-more (λ entry. StandsIn entry (of.book h).entries) (Comes h) (λ entry s. inl s) (of.book h).entries (all-stand (of.book h).entries))
 
 -- Entries that are saved
 
@@ -135,9 +121,7 @@ new-comes r h c a i = new-at (of.id_of c h) (of.saved_of c h) refl refl where
 
 all-new : (r : of.Begun) (h : History) (cs : List ℕ) → Agreeing r h → ((c : ℕ) → is_in c cs ≡ true → is_in c (conns_of (rows_now h)) ≡ true) → AllByRecursion (λ c. MayCome h (new_entry (reading h) c)) cs
 all-new r h [] a k = tt
-all-new r h (c ∷ cs) a k = (new-comes r h c a (k c (ap (λ (b : Bool). b || is_in c cs) (own c))), all-new r h cs a (λ d i. k d (ap (λ (b : Bool). eqb c d || b) i ∙ or-true (eqb c d)))) where
-  own : (c : ℕ) → eqb c c ≡ true
-  own c = grind (arith, nat_tests)
+all-new r h (c ∷ cs) a k = (new-comes r h c a (k c (ap (λ (b : Bool). b || is_in c cs) (own c))), all-new r h cs a (λ d i. k d (ap (λ (b : Bool). eqb c d || b) i ∙ or-true (eqb c d))))
 
 next-come : (r : of.Begun) (h : History) → Agreeing r h → AllByRecursion (Comes h) (next_entries (reading h) (round_now r h))
 next-come r h a =
@@ -146,14 +130,6 @@ next-come r h a =
     (made-come h (new_entry (reading h)) (conns_of (rows_now h)) (all-new r h (conns_of (rows_now h)) a (λ c i. i)))
 
 -- Pending commands
-
-or-first : (x y : Bool) → x ≡ true → (x || y) ≡ true
-or-first true y e = refl
-or-first false y e = absurd (grind arith)
-
-or-second : (x y : Bool) → y ≡ true → (x || y) ≡ true
-or-second true y e = refl
-or-second false y e = e
 
 among-append : (command : Command) (xs ys : List Command) → is_among command (xs ++ ys) ≡ (is_among command xs || is_among command ys)
 among-append command [] ys = refl
@@ -167,26 +143,17 @@ among-with : (command c : Command) (kept : List Command) → (is_among command k
 among-with command c kept e = with-at (is_among c kept) refl where
   twice : (b s : Bool) → same_command command c ≡ s → is_among c kept ≡ true → (is_among command kept || s) ≡ true → is_among command kept ≡ true
   twice b true s a e = among-by command c kept s ∙ a
-  twice b false s a e = last-false (is_among command kept) e where
-    last-false : (x : Bool) → (x || false) ≡ true → x ≡ true
-    last-false true e = refl
-    last-false false e = e
+  twice b false s a e = sym (or-false (is_among command kept)) ∙ e
 
   at-end : is_among command (kept ++ c ∷ []) ≡ true
-  at-end = among-append command kept (c ∷ []) ∙ ap (λ (b : Bool). is_among command kept || b) (or-nothing (same_command command c)) ∙ e where
-    or-nothing : (b : Bool) → (b || false) ≡ b
-    or-nothing true = refl
-    or-nothing false = refl
+  at-end = among-append command kept (c ∷ []) ∙ ap (λ (b : Bool). is_among command kept || b) (or-false (same_command command c)) ∙ e
 
   with-at : (b : Bool) → is_among c kept ≡ b → is_among command (if b then kept else kept ++ c ∷ []) ≡ true
   with-at true a = twice true (same_command command c) refl a e
   with-at false a = at-end
 
 among-once : (command : Command) (list kept : List Command) → (is_among command kept || is_among command list) ≡ true → is_among command (with_commands kept list) ≡ true
-among-once command [] kept e = last-false (is_among command kept) e where
-  last-false : (x : Bool) → (x || false) ≡ true → x ≡ true
-  last-false true e = refl
-  last-false false e = e
+among-once command [] kept e = sym (or-false (is_among command kept)) ∙ e
 among-once command (c ∷ list) kept e = among-once command list (with_command kept c) (first-of (is_among command kept) (same_command command c) refl refl e) where
   first-of : (k s : Bool) → is_among command kept ≡ k → same_command command c ≡ s → (k || (s || is_among command list)) ≡ true → (is_among command (with_command kept c) || is_among command list) ≡ true
   first-of true s ek es e = or-first (is_among command (with_command kept c)) (is_among command list) (among-with command c kept (or-first (is_among command kept) (same_command command c) ek))
@@ -198,10 +165,7 @@ with-among : (command c : Command) (kept : List Command) → is_among command (w
 with-among command c kept e = with-at (is_among c kept) e where
   with-at : (b : Bool) → is_among command (if b then kept else kept ++ c ∷ []) ≡ true → (is_among command kept || same_command command c) ≡ true
   with-at true k = or-first (is_among command kept) (same_command command c) k
-  with-at false k = sym (ap (λ (b : Bool). is_among command kept || b) (or-nothing (same_command command c))) ∙ sym (among-append command kept (c ∷ [])) ∙ k where
-    or-nothing : (b : Bool) → (b || false) ≡ b
-    or-nothing true = refl
-    or-nothing false = refl
+  with-at false k = sym (ap (λ (b : Bool). is_among command kept || b) (or-false (same_command command c))) ∙ sym (among-append command kept (c ∷ [])) ∙ k
 
 once-among : (command : Command) (list kept : List Command) → is_among command (with_commands kept list) ≡ true → (is_among command kept || is_among command list) ≡ true
 once-among command [] kept e = or-first (is_among command kept) false e
@@ -244,7 +208,7 @@ next-is r h n a = record {
 pub forgetting-is : (h : History) (id : List ℕ) (n : List Note) → IsNext (book_forgetting (reading h).store id) h n
 forgetting-is h id n = record {
   epoch = refl;
-  entries = filter-come h (λ entry. not (is_of id entry)) (of.book h).entries (same-come h (of.book h).entries refl);
+  entries = all-filter (Comes h) (λ entry. not (is_of id entry)) (of.book h).entries (same-come h (of.book h).entries refl);
   pending = λ command e. pending-kept (of.book h) (of.strays h) (filter (λ entry. not (is_of id entry)) (of.book h).entries) command n e;
   unnamed = λ u command e. none-named (of.book h) (of.strays h) (filter (λ entry. not (is_of id entry)) (of.book h).entries) command e;
 }
@@ -269,11 +233,10 @@ issued-is book commands h n e s = record {
 -- what is issued is pending, and stands in no table of these
 pub all-issuable : (stand pending : List Command) → AllByRecursion (λ command. (is_among command pending ≡ true) × (is_among command stand ≡ false)) (issuable stand pending)
 all-issuable stand [] = tt
-all-issuable stand (c ∷ pending) = issuable-at (is_among c stand) refl (wider (issuable stand pending) (all-issuable stand pending)) where
-  wider : (xs : List Command) → AllByRecursion (λ command. (is_among command pending ≡ true) × (is_among command stand ≡ false)) xs → AllByRecursion (λ command. ((same_command command c || is_among command pending) ≡ true) × (is_among command stand ≡ false)) xs
-  wider [] a = tt
-  wider (x ∷ xs) a = ((or-second (same_command x c) (is_among x pending) a.0.0, a.0.1), wider xs a.1)
-
+all-issuable stand (c ∷ pending) =
+    issuable-at (is_among c stand) refl
+    (all-more (λ command. (is_among command pending ≡ true) × (is_among command stand ≡ false)) (λ command. ((same_command command c || is_among command pending) ≡ true) × (is_among command stand ≡ false))
+    (λ command k. (or-second (same_command command c) (is_among command pending) k.0, k.1)) (issuable stand pending) (all-issuable stand pending)) where
   issuable-at : (b : Bool) → is_among c stand ≡ b → AllByRecursion (λ command. ((same_command command c || is_among command pending) ≡ true) × (is_among command stand ≡ false)) (issuable stand pending)
       → AllByRecursion (λ command. ((same_command command c || is_among command pending) ≡ true) × (is_among command stand ≡ false)) (cond (not b) (c ∷ issuable stand pending) (issuable stand pending))
   issuable-at true e k = k
@@ -283,16 +246,11 @@ all-issuable stand (c ∷ pending) = issuable-at (is_among c stand) refl (wider 
 pub not-standing : (command : Command) (table : ℕ → List Property) (cs : List ℕ) (c : ℕ) → is_among command (filter_map (λ d. discard_of (table d)) cs) ≡ false → is_in c cs ≡ true → is_same command (discard_of (table c)) ≡ false
 not-standing command table [] c e i = absurd (grind arith)
 not-standing command table (d ∷ cs) c e i = standing-at (discard_of (table d)) refl e (eqb d c) refl i (not-standing command table cs c) where
-  both : (x y : Bool) → (x || y) ≡ false → (x ≡ false) × (y ≡ false)
-  both true y e = absurd (grind arith)
-  both false y e = (refl, e)
-
   there : eqb d c ≡ true → discard_of (table d) ≡ discard_of (table c)
-  there k = let s : d ≡ c = grind (arith, nat_tests) in ap (λ (x : ℕ). discard_of (table x)) s
-
+  there k = same-there (λ x. discard_of (table x)) c d k
   standing-at : (o : Option Command) → discard_of (table d) ≡ o → is_among command (cons_option o (filter_map (λ x. discard_of (table x)) cs)) ≡ false → (b : Bool) → eqb d c ≡ b → (b || is_in c cs) ≡ true
       → (is_among command (filter_map (λ x. discard_of (table x)) cs) ≡ false → is_in c cs ≡ true → is_same command (discard_of (table c)) ≡ false) → is_same command (discard_of (table c)) ≡ false
   standing-at None s e true k j g = ap (λ (o : Option Command). is_same command o) (sym (there k) ∙ s)
-  standing-at (Some other) s e true k j g = ap (λ (o : Option Command). is_same command o) (sym (there k) ∙ s) ∙ (both (same_command command other) (is_among command (filter_map (λ x. discard_of (table x)) cs)) e).0
+  standing-at (Some other) s e true k j g = ap (λ (o : Option Command). is_same command o) (sym (there k) ∙ s) ∙ (or-none (same_command command other) (is_among command (filter_map (λ x. discard_of (table x)) cs)) e).0
   standing-at None s e false k j g = g e j
-  standing-at (Some other) s e false k j g = g (both (same_command command other) (is_among command (filter_map (λ x. discard_of (table x)) cs)) e).1 j
+  standing-at (Some other) s e false k j g = g (or-none (same_command command other) (is_among command (filter_map (λ x. discard_of (table x)) cs)) e).1 j

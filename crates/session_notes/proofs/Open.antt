@@ -17,19 +17,13 @@ use Rattle.session_model.proofs.Sound.{phase-there, DieAtEnd}
 use Rattle.session_notes.specs.Notes.{Note, Heard, Given, Gone}
 use Rattle.session_notes.specs.Watching.{was_asked, requests}
 use Rattle.session_notes.proofs.Steps.{saving-member, saving-not-asked}
-use Rattle.session_notes.proofs.Told.{same-there, AskedTold, OwingTold}
+use Rattle.session_notes.proofs.Told.{AskedTold, OwingTold}
+use Rattle.session_notes.proofs.Tests.{filter-same, own, same-there}
 
 -- Filters
 
-pub own : (d : ℕ) → eqb d d ≡ true
-own d = grind (arith, nat_tests)
-
 other-way : (c d : ℕ) → eqb c d ≡ false → eqb d c ≡ false
 other-way c d e = grind (arith, nat_tests)
-
-filter-same : (p q : ℕ → Bool) (cs : List ℕ) → ((c : ℕ) → q c ≡ p c) → filter q cs ≡ filter p cs
-filter-same p q [] k = refl
-filter-same p q (c ∷ cs) k = ap (λ (b : Bool). cond b (c ∷ filter q cs) (filter q cs)) (k c) ∙ ap (λ (xs : List ℕ). cond (p c) (c ∷ xs) xs) (filter-same p q cs k)
 
 dropped : (b : Bool) (d c : ℕ) (cs : List ℕ) → eqb c d ≡ true → without d (cond b (c ∷ cs) cs) ≡ without d cs
 dropped true d c cs e = ap (λ (b : Bool). cond (not b) (c ∷ without d cs) (without d cs)) e

@@ -31,7 +31,7 @@ use Rattle.session_model.specs.Books.{next_book, issue, discarded, raised, openi
 use Rattle.session_model.specs.Replies.{reply}
 use Rattle.session_model.specs.Rules.{last_command, ended, completed, agreement, wanting_two, over_rule, agreed_rule, running_rule, save_yourself, members_for, begin, begin_first, is_free, idle_rule, round_rule, token_rule, rule, go_on, settle, settled, taken, opened, run}
 use Rattle.session_model.proofs.Sound.{AreRegistered, or-true, or-either}
-use Rattle.session_model.proofs.Pending.{command_equiv}
+use Rattle.session_model.proofs.Pending.{all-more, command_equiv}
 use Rattle.session_model.proofs.Level.{Good, onto-append, phase-each, members-each, once-begun, once-completed, once-dying}
 use Rattle.session_model.proofs.Ruled.{denied, differ, and-left, and-right, any-in, interacting-registered, member-registered, nobody-level, member-by, conns-rows, others, rows_now, round_now, good-rule}
 use Rattle.session_model.proofs.Replied.{good-reply, good-opened, good-run}
@@ -43,10 +43,11 @@ use Rattle.session_notes.proofs.Steps.{is_at_work, has_replied, begun-first, wor
 use Rattle.session_notes.proofs.Told.{BeginsToSave, RestTold}
 use Rattle.session_notes.proofs.Discards.{among-by}
 use Rattle.session_notes.proofs.Kept.{IsNeedless, NoneNamed, opened_of}
-use Rattle.session_notes.proofs.Next.{next-is}
+use Rattle.session_notes.proofs.Next.{all-stand, next-is}
 use Rattle.session_notes.proofs.Fine.{OneHas, IsDue, IdsHold, DiscardsHold, IsOwed, Fine, fine-step}
 use Rattle.session_notes.proofs.Calm.{fine-calm, fine-append, fine-issue, fine-discarded, calm-tried, calm-gave, calm-closed, AllStill, still-onto, still-append, still-gave, still-closed, still-tried}
 use Rattle.session_notes.proofs.Heard.{fine-reply_to}
+use Rattle.session_notes.proofs.Tests.{or-first, or-second, own}
 
 -- The token
 
@@ -66,9 +67,7 @@ fine-save : (wanted : Wanted) (conns : List ℕ) (h : History) → ((c : ℕ) �
 fine-save wanted [] h k e f = f
 fine-save wanted (d ∷ conns) h k e f =
     fine-save wanted conns (Gave d (save_yourself wanted) ▷ h) (λ c i. begun-again (eqb d c) (of.phase_of c h) (k c (ap (λ (b : Bool). eqb d c || b) i ∙ or-true (eqb d c)))) e
-    (fine-step (Gave d (save_yourself wanted)) h (k d (ap (λ (b : Bool). b || is_in d conns) (own d)), e) f) where
-      own : (d : ℕ) → eqb d d ≡ true
-      own d = grind (arith, nat_tests)
+    (fine-step (Gave d (save_yourself wanted)) h (k d (ap (λ (b : Bool). b || is_in d conns) (own d)), e) f)
 
 cond-in : (b : Bool) (p q : Option Phase) → b ≡ true → is_member (cond b q p) ≡ is_member q
 cond-in true p q e = refl
@@ -356,21 +355,6 @@ fine-run (event ∷ events) h g f = fine-run events (taken event h) (good-taken 
 abbrev opening : Book → History
 opening book = Committed (raised book) ▷ Opened book
 
-or-first : (x y z : Bool) → x ≡ true → (x || y || z) ≡ true
-or-first true y z e = refl
-or-first false y z e = absurd (grind arith)
-
-all-later : (book : Book) (other : Kept) (entries xs : List Kept) → AllByRecursion (λ entry. StandsIn entry entries ⊎ IsSaved book [] entry) xs → AllByRecursion (λ entry. StandsIn entry (other ∷ entries) ⊎ IsSaved book [] entry) xs
-all-later book other entries [] a = tt
-all-later book other entries (x ∷ xs) a = (later-at a.0, all-later book other entries xs a.1) where
-  later-at : StandsIn x entries ⊎ IsSaved book [] x → StandsIn x (other ∷ entries) ⊎ IsSaved book [] x
-  later-at (inl s) = inl (inr s)
-  later-at (inr s) = inr s
-
-all-stand : (book : Book) (entries : List Kept) → AllByRecursion (λ entry. StandsIn entry entries ⊎ IsSaved book [] entry) entries
-all-stand book [] = tt
-all-stand book (entry ∷ entries) = (inl (inl refl), all-later book entry entries entries (all-stand book entries))
-
 none-differ : IsDistinct bytes_eq []
 unfolding IsDistinct
 none-differ = tt
@@ -410,27 +394,23 @@ fine-opening book = record {
   due = ((tt, tt), tt);
   ids = ((tt, none-differ), (tt, none-differ));
   discards = (λ u command e. absurd (grind arith), λ u command e. absurd (grind arith));
-  owed = (((all-stand book book.entries, λ command e. or-first (is_among command book.pending) (names (raised book) command) (is_started command []) e), tt), tt);
+  owed = (((all-more (λ entry. StandsIn entry book.entries) (λ entry. StandsIn entry book.entries ⊎ IsSaved book [] entry) (λ entry s. inl s) book.entries (all-stand book.entries), λ command e. or-first _ (is_started command []) (or-first (is_among command book.pending) (names (raised book) command) e)), tt), tt);
 }
 
 -- each command of a list is in it
 all-among : (commands : List Command) → AllByRecursion (λ command. is_among command commands ≡ true) commands
 all-among [] = tt
-all-among (command ∷ commands) = (ap (λ (b : Bool). b || is_among command commands) (command_equiv.refl command), wider commands (all-among commands)) where
-  wider : (xs : List Command) → AllByRecursion (λ x. is_among x commands ≡ true) xs → AllByRecursion (λ x. (same_command x command || is_among x commands) ≡ true) xs
-  wider [] a = tt
-  wider (x ∷ xs) a = (ap (λ (b : Bool). same_command x command || b) a.0 ∙ or-true (same_command x command), wider xs a.1)
-
-all-needless : (book : Book) (commands : List Command) → AllByRecursion (λ command. is_among command book.pending ≡ true) commands → AllByRecursion (λ command. IsNeedless command (opening book)) commands
-all-needless book [] a = tt
-all-needless book (command ∷ commands) a = (record { pending = a.0; unset = λ c e. absurd (grind arith); alone = λ c. refl }, all-needless book commands a.1)
+all-among (command ∷ commands) = (
+  ap (λ (b : Bool). b || is_among command commands) (command_equiv.refl command),
+  all-more (λ x. is_among x commands ≡ true) (λ x. (same_command x command || is_among x commands) ≡ true) (λ x k. or-second (same_command x command) (is_among x commands) k) commands (all-among commands),
+)
 
 fine-opened : (book : Book) → Fine (opened book)
 fine-opened book =
     let issued : History = onto (opening book) (issue (raised book) book.pending) in
     fine-append (opening book) (issue (raised book) book.pending) (tried_each Restart (opening_restarts book.entries))
     (fine-calm (tried_each Restart (opening_restarts book.entries)) issued (calm-tried Restart (opening_restarts book.entries) refl)
-    (fine-issue (raised book) book.pending (opening book) refl (all-needless book book.pending (all-among book.pending)) (fine-opening book)))
+    (fine-issue (raised book) book.pending (opening book) refl (all-more (λ command. is_among command book.pending ≡ true) (λ command. IsNeedless command (opening book)) (λ command k. record { pending = k; unset = λ c e. absurd (grind arith); alone = λ c. refl }) book.pending (all-among book.pending)) (fine-opening book)))
 
 pub fine : (book : Book) (events : List SessionEvent) → Fine (run (opened book) events)
 fine book events = fine-run events (opened book) (good-opened book) (fine-opened book)

@@ -15,16 +15,7 @@ use Rattle.session_model.proofs.Sound.{phase-there}
 use Rattle.session_notes.specs.Notes.{Note, Heard, Given, Gone}
 use Rattle.session_notes.specs.Watching.{has_token, was_asked, is_to_save, has_answered}
 use Rattle.session_notes.proofs.Steps.{is_at_work, has_replied, is_bound_to_save, talks-works, asked-talks, first-not-owing, first-not-replied, ends_talk, talk-given, member-cancelled, begins, member-given, cancels, owing-given, releases, bound-given, replied-given, work-given, talk-said, owing-said, replied-said, work-said, work-ready, replied-ready, owing-ready, talk-ready}
-
--- One connection
-
--- what is known of d is known of c, where they are one
-pub same-there : (test : ℕ → Bool) (c d : ℕ) → eqb d c ≡ true → test d ≡ test c
-same-there test c d e = let k : d ≡ c = grind (arith, nat_tests) in ap (λ (x : ℕ). test x) k
-
-pub or-right : (b x : Bool) → x ≡ true → (b || x) ≡ true
-or-right true x e = refl
-or-right false x e = e
+use Rattle.session_notes.proofs.Tests.{came-one, none-passes, same-there}
 
 -- The token
 
@@ -70,10 +61,6 @@ token-said d m sequence frame h n t c e =
 
 abbrev pub AskedTold : History → List Note → Type 0
 AskedTold h n = (c : ℕ) → is_member (of.phase_of c h) ≡ true → was_asked c n ≡ true
-
-came-one : (test : Option Phase → Bool) (b : Bool) (p q : Option Phase) → (test q ≡ true → test p ≡ true) → test (cond b q p) ≡ true → test p ≡ true
-came-one test true p q k e = k e
-came-one test false p q k e = e
 
 -- who is named fails the test
 gone-one : (test : Option Phase → Bool) (b t : Bool) (p q : Option Phase) → test q ≡ false → (test p ≡ true → t ≡ true) → test (cond b q p) ≡ true → (not b && t) ≡ true
@@ -247,10 +234,6 @@ token-unset d h n u t c e = unset-one (λ p. is_interacting p) (eqb d c) (has_to
 
 pub saves-unset : (d : ℕ) (h : History) (n : List Note) → of.phase_of d h ≡ Some Unregistered → SavesTold h n → SavesTold (Unset d ▷ h) n
 saves-unset d h n u t c e = unset-one (λ p. is_bound_to_save p) (eqb d c) (is_to_save c n) (of.phase_of c h) refl (phase-there c d h (Some Unregistered) u) (t c) e
-
-none-passes : (test : Option Phase → Bool) (b : Bool) (p : Option Phase) → test None ≡ false → test (cond b None p) ≡ true → test p ≡ true
-none-passes test true p n e = absurd (grind (arith, n))
-none-passes test false p n e = e
 
 pub asked-unset : (d : ℕ) (h : History) (n : List Note) → AskedTold h n → AskedTold (Unset d ▷ h) n
 asked-unset d h n t c e = t c (none-passes (λ p. is_member p) (eqb d c) (of.phase_of c h) refl e)
