@@ -1,5 +1,6 @@
 -- What the notes say goes on from move to move, and the laws hold at each.
 use Rattle.std.proofs.Common.{◌≡◌, refl, ℕ, Bool, true, false, not, ◌&&◌, ◌||◌, List, [], ◌∷◌, ◌+◌, ◌<◌, sym, ap, subst, ◌∙◌, arith, inl, inr}
+use Rattle.std.proofs.lemmas.Bool.{not-true}
 use Rattle.std.specs.Prelude.{Some, None, ◌⊎◌}
 use Rattle.std.specs.List.{AllByRecursion, IsDistinct}
 use Rattle.std.specs.Str.{bytes_eq}
@@ -32,7 +33,7 @@ use Rattle.session_notes.proofs.Kept as kept
 use Rattle.session_notes.proofs.Kept.{HasRoom, HasTable, MaySave, IsGiven, IsNext, IsNeedless, NoneNamed, Saves}
 use Rattle.session_notes.proofs.Numbers.{of-run, numbers-differ}
 use Rattle.session_notes.proofs.Open.{WaitsTold, HasPlace, waits-interact, waits-cancelled, waits-given, waits-gone, waits-unset, waits-ready, waits-said, waits-request}
-use Rattle.session_notes.proofs.Tests.{not-true, or-none, own}
+use Rattle.session_notes.proofs.Tests.{or-none, own}
 
 -- What a move asks
 

@@ -11,3 +11,4 @@ pub mod Fine
 pub mod Calm
 pub mod Heard
 pub mod Settled
+pub mod Computed

@@ -26,10 +26,6 @@ pub and-after : (x y : Bool) → (not x && y) ≡ true → y ≡ true
 and-after true y e = absurd (grind arith)
 and-after false y e = e
 
-pub not-true : (x : Bool) → not x ≡ true → x ≡ false
-not-true true e = sym e
-not-true false e = refl
-
 -- where the test decides nothing
 pub cond-one : {A : Type 0} (b : Bool) (x y : A) → (b ≡ true → y ≡ x) → cond b y x ≡ x
 cond-one true x y k = k refl

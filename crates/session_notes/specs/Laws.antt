@@ -1,5 +1,6 @@
 -- Laws of every run, said of what is seen from outside alone. Each holds of each front of what is seen: at every moment, also
--- in the middle of the answer to one event.
+-- in the middle of the answer to one event, whatever comes from outside. A message that came last counts as accepted until an Error
+-- stands behind it.
 use Rattle.std.specs.Prelude.{List, Some, [], false, true, ℕ, ◌+◌, ◌++◌, ◌||◌, ◌∷◌, ◌≡◌, ◌⊎◌}
 use Rattle.std.specs.List.{AllByRecursion, IsDistinct}
 use Rattle.std.specs.Str.{bytes_eq}
@@ -13,7 +14,6 @@ use Rattle.xsmp_messages.specs.declared.message.XsmpMessage.TheVariants.{Interac
 use Rattle.session_model.specs.declared.events.SessionEvent.{SessionEvent}
 use Rattle.session_model.specs.declared.events.Act.TheVariants.{Commit, Say}
 use Rattle.session_model.specs.Rules.{opened, run}
-use Rattle.session_model.specs.Laws.{AllTake}
 use Rattle.session_notes.specs.Notes.{Did, Entry, Note, entries, notes}
 use Rattle.session_notes.specs.Keeping.{IsOfRun, book_in, id_in, is_discarded, is_started, new_ids, snapshot_in}
 use Rattle.session_notes.specs.Watching.{has_answered, has_token, is_to_save, requests}
@@ -21,7 +21,6 @@ use Rattle.session_notes.specs.Watching.{has_answered, has_token, is_to_save, re
 -- Somebody who watches has seen this so far, the oldest first: a run over this book shows it, and then goes on.
 pub record IsSeen (book : Book) (seen : List Entry) : Type 0 where
   pub events : List SessionEvent
-  pub allowed : AllTake (opened book) events
   pub later : List Entry
   pub parts : seen ++ later ≡ entries (run (opened book) events)
 

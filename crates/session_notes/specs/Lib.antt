@@ -2,3 +2,4 @@ pub mod Notes
 pub mod Watching
 pub mod Keeping
 pub mod Laws
+pub mod Examples
