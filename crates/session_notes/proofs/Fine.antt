@@ -2,7 +2,7 @@
 use Rattle.std.proofs.Common.{◌≡◌, refl, ℕ, Bool, true, false, not, ◌&&◌, ◌||◌, List, [], ◌∷◌, ◌+◌, ◌<◌, sym, ap, subst, ◌∙◌, arith, inl, inr}
 use Rattle.std.proofs.lemmas.Bool.{not-true}
 use Rattle.std.specs.Prelude.{Some, None, ◌⊎◌}
-use Rattle.std.specs.List.{AllByRecursion, IsDistinct}
+use Rattle.std.specs.List.{AllByRecursion, Contains, IsDistinct}
 use Rattle.std.specs.Str.{bytes_eq}
 use Rattle.sm_world.specs.declared.commands.Command.{Command}
 use Rattle.xsmp_messages.specs.declared.message.XsmpMessage.{XsmpMessage}
@@ -24,7 +24,7 @@ use Rattle.session_model.proofs.Sound.{Fits, Sound, sound-step, or-either}
 use Rattle.session_model.proofs.Ruled.{and-left, and-right, denied, differ}
 use Rattle.session_notes.specs.Notes.{Entry, Note, Did, Heard, Given, Started, entries_of}
 use Rattle.session_notes.specs.Keeping.{IsOfRun, book_in, new_ids, sets_discard, is_discarded, is_started}
-use Rattle.session_notes.specs.Laws.{StandsIn, IsSaved}
+use Rattle.session_notes.specs.Laws.{IsSaved}
 use Rattle.session_notes.specs.Watching.{has_token, is_to_save, has_answered, requests}
 use Rattle.session_notes.proofs.Seen.{noted_of, AtEach, EachEntry}
 use Rattle.session_notes.proofs.Steps.{is_at_work, has_replied, is_bound_to_save, asked-works}
@@ -445,7 +445,7 @@ DiscardsHold book n = NoneNamed book → (command : Command) → is_discarded co
 -- what a book that is written asks of the notes before it
 abbrev pub IsOwed : Book → List Note → Entry → Type 0
 IsOwed book n (Did (Commit written)) =
-    AllByRecursion (λ entry. StandsIn entry (book_in book n).entries ⊎ IsSaved book n entry) written.entries
+    AllByRecursion (λ entry. Contains (book_in book n).entries entry ⊎ IsSaved book n entry) written.entries
     × ((command : Command) → is_among command (book_in book n).pending ≡ true → (is_among command written.pending || names written command || is_started command n) ≡ true)
 IsOwed book n entry = Unit {0}
 
@@ -479,11 +479,11 @@ ids-now h n k =
 discards-now : (h : History) (n : List Note) → Keeps h n → DiscardsHold (kept.opened_of h) n
 discards-now h n k u command e = ap (λ (b : Book). names b command) k.book ∙ (k.clear u command e).book
 
-saves-told : (h : History) (n : List Note) (xs : List Kept) → Keeps h n → AllByRecursion (λ entry. StandsIn entry (of.book h).entries ⊎ Saves entry h) xs → AllByRecursion (λ entry. StandsIn entry (book_in (kept.opened_of h) n).entries ⊎ IsSaved (kept.opened_of h) n entry) xs
+saves-told : (h : History) (n : List Note) (xs : List Kept) → Keeps h n → AllByRecursion (λ entry. Contains (of.book h).entries entry ⊎ Saves entry h) xs → AllByRecursion (λ entry. Contains (book_in (kept.opened_of h) n).entries entry ⊎ IsSaved (kept.opened_of h) n entry) xs
 saves-told h n [] k a = tt
 saves-told h n (entry ∷ xs) k a = (told-at a.0, saves-told h n xs k a.1) where
-  told-at : StandsIn entry (of.book h).entries ⊎ Saves entry h → StandsIn entry (book_in (kept.opened_of h) n).entries ⊎ IsSaved (kept.opened_of h) n entry
-  told-at (inl s) = inl (subst (λ (b : Book). StandsIn entry b.entries) (sym k.book) s)
+  told-at : Contains (of.book h).entries entry ⊎ Saves entry h → Contains (book_in (kept.opened_of h) n).entries entry ⊎ IsSaved (kept.opened_of h) n entry
+  told-at (inl s) = inl (subst (λ (b : Book). Contains b.entries entry) (sym k.book) s)
   told-at (inr s) = inr (record { conn = s.conn; id = k.id s.conn ∙ s.id; table = k.saved s.going s.conn ∙ s.table })
 
 owed-step : (m : Move) (h : History) → Suits m h → Keeps h (noted_of h) → AllByRecursion (IsOwed (kept.opened_of h) (noted_of h)) (entries_of m)

@@ -1,7 +1,7 @@
 -- What the notes say of books, IDs, tables and discards, as far as a history says it too.
 use Rattle.std.proofs.Common.{◌≡◌, refl, ℕ, zero, suc, ◌+◌, ◌<◌, Bool, true, false, cond, not, ◌&&◌, ◌||◌, List, [], ◌∷◌, eqb, sym, ap, subst, ◌∙◌, arith, inl, inr}
 use Rattle.std.specs.Prelude.{Option, Some, None, ◌⊎◌}
-use Rattle.std.specs.List.{AllByRecursion}
+use Rattle.std.specs.List.{AllByRecursion, Contains}
 use Rattle.std.proofs.lemmas.Bool.Decides.{nat_tests}
 use Rattle.sm_world.specs.declared.commands.Command.{Command}
 use Rattle.ice_values.specs.declared.property.Property.{Property}
@@ -28,11 +28,10 @@ use Rattle.session_model.proofs.Replied.{cond-same}
 use Rattle.session_notes.specs.Notes.{Note, Heard, Given, Gone}
 use Rattle.session_notes.specs.Watching.{was_asked}
 use Rattle.session_notes.specs.Keeping.{book_in, id_in, new_ids, table_in, snapshot_in, sets_discard, is_started}
-use Rattle.session_notes.specs.Laws.{StandsIn}
 use Rattle.session_notes.proofs.Steps.{begins, member-given, saving-member}
 use Rattle.session_notes.proofs.Told.{AskedTold, OwingTold}
 use Rattle.session_notes.proofs.Discards.{table-clear, without-clear, names-none, none-names, first-clear, same-by, among-by}
-use Rattle.session_notes.proofs.Tests.{came-one, moved, none-passes}
+use Rattle.session_notes.proofs.Tests.{came-one, contains-all, moved, none-passes}
 
 -- the book that was opened
 abbrev pub opened_of : History → Book
@@ -65,7 +64,7 @@ pub record Saves (entry : Entry) (h : History) : Type 0 where
 -- the book may come next, where this was noted
 pub record IsNext (written : Book) (h : History) (n : List Note) : Type 0 where
   pub epoch : written.epoch ≡ (of.book h).epoch
-  pub entries : AllByRecursion (λ entry. StandsIn entry (of.book h).entries ⊎ Saves entry h) written.entries
+  pub entries : AllByRecursion (λ entry. Contains (of.book h).entries entry ⊎ Saves entry h) written.entries
   pub pending : (command : Command) → is_among command (of.book h).pending ≡ true → (is_among command written.pending || names written command || is_started command n) ≡ true
   pub unnamed : NoneNamed (of.book h) → NoneNamed written
 
@@ -329,17 +328,11 @@ clear-given command d m h k = record {
   saved = λ c e. given-saved command (eqb d c) m (of.saved_of c h) (of.phase_of c h) refl (k.saved c) e;
 }
 
--- an entry that stands in a list has what all in the list have
-stands-clear : (command : Command) (entry : Entry) (entries : List Entry) → StandsIn entry entries → AllByRecursion (λ (other : Entry). is_same command (discard_of other.table) ≡ false) entries → is_same command (discard_of entry.table) ≡ false
-stands-clear command entry [] s a = absurd s
-stands-clear command entry (other ∷ entries) (inl e) a = ap (λ (x : Entry). is_same command (discard_of x.table)) e ∙ a.0
-stands-clear command entry (other ∷ entries) (inr s) a = stands-clear command entry entries s a.1
-
-clear-entries : (command : Command) (h : History) (entries : List Entry) → Clear command h → AllByRecursion (λ entry. StandsIn entry (of.book h).entries ⊎ Saves entry h) entries → AllByRecursion (λ (entry : Entry). is_same command (discard_of entry.table) ≡ false) entries
+clear-entries : (command : Command) (h : History) (entries : List Entry) → Clear command h → AllByRecursion (λ entry. Contains (of.book h).entries entry ⊎ Saves entry h) entries → AllByRecursion (λ (entry : Entry). is_same command (discard_of entry.table) ≡ false) entries
 clear-entries command h [] k a = tt
 clear-entries command h (entry ∷ entries) k a = (entry-at a.0, clear-entries command h entries k a.1) where
-  entry-at : StandsIn entry (of.book h).entries ⊎ Saves entry h → is_same command (discard_of entry.table) ≡ false
-  entry-at (inl s) = stands-clear command entry (of.book h).entries s (none-names command (of.book h).entries k.book)
+  entry-at : Contains (of.book h).entries entry ⊎ Saves entry h → is_same command (discard_of entry.table) ≡ false
+  entry-at (inl s) = contains-all (λ (other : Entry). is_same command (discard_of other.table) ≡ false) entry (of.book h).entries s (none-names command (of.book h).entries k.book)
   entry-at (inr s) = subst (λ (o : Option (List Property)). IsClearSaved command o) s.table (k.saved s.conn s.member)
 
 pub clear-committed : (command : Command) (written : Book) (h : History) (n : List Note) → IsNext written h n → Clear command h → Clear command (Committed written ▷ h)

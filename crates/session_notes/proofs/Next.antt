@@ -1,7 +1,7 @@
 -- The books that are written come from those before.
 use Rattle.std.proofs.Common.{◌≡◌, refl, ℕ, Bool, true, false, cond, not, ◌||◌, List, [], ◌∷◌, ◌++◌, filter, eqb, sym, ap, subst, ◌∙◌, arith, inl, inr}
 use Rattle.std.specs.Prelude.{Option, Some, None, find, filter_map, if◌then◌else◌, ◌⊎◌}
-use Rattle.std.specs.List.{AllByRecursion, cons_option}
+use Rattle.std.specs.List.{AllByRecursion, Contains, cons_option}
 use Rattle.std.specs.Cmp.Lexicographic.{same_text}
 use Rattle.std.proofs.lemmas.Bool.Decides.{nat_tests}
 use Rattle.sm_world.specs.declared.commands.Command.{Command}
@@ -23,23 +23,22 @@ use Rattle.session_model.proofs.Pending.{command_equiv, all-append, all-filter, 
 use Rattle.session_model.proofs.Ruled.{rows_now, round_now, conns-rows}
 use Rattle.session_notes.specs.Notes.{Note}
 use Rattle.session_notes.specs.Keeping.{is_started}
-use Rattle.session_notes.specs.Laws.{StandsIn}
 use Rattle.session_notes.proofs.Discards.{among-by, among-kept, kept-among}
 use Rattle.session_notes.proofs.Kept.{Saves, IsNext}
-use Rattle.session_notes.proofs.Tests.{or-false, or-first, or-none, or-second, own, same-there}
+use Rattle.session_notes.proofs.Tests.{contains-first, contains-later, or-false, or-first, or-none, or-second, own, same-there}
 
 -- where an entry comes from
 abbrev pub Comes : History → Entry → Type 0
-Comes h entry = StandsIn entry (of.book h).entries ⊎ Saves entry h
+Comes h entry = Contains (of.book h).entries entry ⊎ Saves entry h
 
 -- Entries that stay
 
-pub all-stand : (entries : List Entry) → AllByRecursion (λ entry. StandsIn entry entries) entries
+pub all-stand : (entries : List Entry) → AllByRecursion (Contains entries) entries
 all-stand [] = tt
-all-stand (entry ∷ entries) = (inl refl, all-more (λ other. StandsIn other entries) (λ other. StandsIn other (entry ∷ entries)) (λ other s. inr s) entries (all-stand entries))
+all-stand (entry ∷ entries) = (contains-first entry entries, all-more (Contains entries) (Contains (entry ∷ entries)) (λ other s. contains-later entry other entries s) entries (all-stand entries))
 
 pub same-come : (h : History) (entries : List Entry) → (of.book h).entries ≡ entries → AllByRecursion (Comes h) entries
-same-come h entries e = subst (λ (xs : List Entry). AllByRecursion (Comes h) xs) e (all-more (λ entry. StandsIn entry (of.book h).entries) (Comes h) (λ entry s. inl s) (of.book h).entries (all-stand (of.book h).entries))
+same-come h entries e = subst (λ (xs : List Entry). AllByRecursion (Comes h) xs) e (all-more (Contains (of.book h).entries) (Comes h) (λ entry s. inl s) (of.book h).entries (all-stand (of.book h).entries))
 
 -- Entries that are saved
 

@@ -1,7 +1,7 @@
 -- The rules, and whole runs.
 use Rattle.std.proofs.Common.{◌≡◌, refl, ℕ, zero, suc, ◌+◌, ◌*◌, Bool, true, false, cond, not, ◌&&◌, ◌||◌, List, [], ◌∷◌, ◌++◌, map, length, eqb, sym, ap, subst, ◌∙◌, arith, inl, inr}
 use Rattle.std.specs.Prelude.{Option, Some, None, is_some, filter_map, ◌⊎◌}
-use Rattle.std.specs.List.{AllByRecursion, IsDistinct, list_any, list_all}
+use Rattle.std.specs.List.{AllByRecursion, Contains, IsDistinct, list_any, list_all}
 use Rattle.std.specs.Str.{bytes_eq}
 use Rattle.std.proofs.lemmas.Bool.Decides.{nat_tests}
 use Rattle.sm_world.specs.declared.commands.Command.{Command}
@@ -37,7 +37,7 @@ use Rattle.session_model.proofs.Ruled.{denied, differ, and-left, and-right, any-
 use Rattle.session_model.proofs.Replied.{good-reply, good-opened, good-run}
 use Rattle.session_notes.specs.Notes.{Entry, entries, notes}
 use Rattle.session_notes.specs.Keeping.{is_started}
-use Rattle.session_notes.specs.Laws.{IsSeen, IsSaved, StandsIn}
+use Rattle.session_notes.specs.Laws.{IsSeen, IsSaved}
 use Rattle.session_notes.proofs.Seen.{noted_of, AtEach, EachEntry, at-front, at-entry}
 use Rattle.session_notes.proofs.Steps.{is_at_work, has_replied, begun-first, works-member}
 use Rattle.session_notes.proofs.Told.{BeginsToSave, RestTold}
@@ -394,7 +394,7 @@ fine-opening book = record {
   due = ((tt, tt), tt);
   ids = ((tt, none-differ), (tt, none-differ));
   discards = (λ u command e. absurd (grind arith), λ u command e. absurd (grind arith));
-  owed = (((all-more (λ entry. StandsIn entry book.entries) (λ entry. StandsIn entry book.entries ⊎ IsSaved book [] entry) (λ entry s. inl s) book.entries (all-stand book.entries), λ command e. or-first _ (is_started command []) (or-first (is_among command book.pending) (names (raised book) command) e)), tt), tt);
+  owed = (((all-more (Contains book.entries) (λ entry. Contains book.entries entry ⊎ IsSaved book [] entry) (λ entry s. inl s) book.entries (all-stand book.entries), λ command e. or-first _ (is_started command []) (or-first (is_among command book.pending) (names (raised book) command) e)), tt), tt);
 }
 
 -- each command of a list is in it

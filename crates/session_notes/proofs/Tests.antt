@@ -1,6 +1,7 @@
 -- Tests, and lists of connections.
-use Rattle.std.proofs.Common.{◌≡◌, refl, ℕ, Bool, true, false, cond, not, ◌&&◌, ◌||◌, List, [], ◌∷◌, filter, eqb, sym, ap, subst, ◌∙◌, arith}
+use Rattle.std.proofs.Common.{◌≡◌, refl, ℕ, zero, suc, Bool, true, false, cond, not, ◌&&◌, ◌||◌, List, [], ◌∷◌, filter, eqb, sym, ap, subst, ◌∙◌, arith}
 use Rattle.std.specs.Prelude.{Option, None}
+use Rattle.std.specs.List.{AllByRecursion, Contains}
 use Rattle.std.proofs.lemmas.Bool.Decides.{nat_tests}
 use Rattle.session_model.specs.declared.phase.Phase.{Phase}
 
@@ -56,3 +57,17 @@ came-one test false p q k e = e
 
 pub none-passes : (test : Option Phase → Bool) (b : Bool) (p : Option Phase) → test None ≡ false → test (cond b None p) ≡ true → test p ≡ true
 none-passes test b p n e = came-one test b p None (λ k. absurd (grind (arith, n, k))) e
+
+-- Items of a list
+
+pub contains-first : {A : Type 0} (x : A) (xs : List A) → Contains (x ∷ xs) x
+contains-first x xs = (zero, omega arith, refl)
+
+pub contains-later : {A : Type 0} (x y : A) (xs : List A) → Contains xs y → Contains (x ∷ xs) y
+contains-later x y xs (k, l, e) = (suc k, omega (arith, l), e)
+
+-- an item has what all have
+pub contains-all : {A : Type 0} (P : A → Type 0) (y : A) (xs : List A) → Contains xs y → AllByRecursion P xs → P y
+contains-all P y [] (k, l, e) a = absurd (omega (arith, l))
+contains-all P y (x ∷ xs) (zero, l, e) a = subst P e a.0
+contains-all P y (x ∷ xs) (suc k, l, e) a = contains-all P y xs (k, omega (arith, l), e) a.1

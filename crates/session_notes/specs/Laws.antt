@@ -2,7 +2,7 @@
 -- in the middle of the answer to one event, whatever comes from outside. A message that came last counts as accepted until an Error
 -- stands behind it.
 use Rattle.std.specs.Prelude.{List, Some, [], false, true, ℕ, ◌+◌, ◌++◌, ◌||◌, ◌∷◌, ◌≡◌, ◌⊎◌}
-use Rattle.std.specs.List.{AllByRecursion, IsDistinct}
+use Rattle.std.specs.List.{AllByRecursion, Contains, IsDistinct}
 use Rattle.std.specs.Str.{bytes_eq}
 use Rattle.sm_world.specs.declared.commands.Command.{Command}
 use Rattle.checkpoint_records.specs.declared.records.Book.{Book}
@@ -46,11 +46,6 @@ NewIdsAreOfTheRun =
 abbrev pub NewIdsDiffer : Type 0
 NewIdsDiffer = (book : Book) (seen : List Entry) → IsSeen book seen → IsDistinct bytes_eq (new_ids book (notes seen))
 
--- an entry stands in a list
-abbrev pub StandsIn : Kept → List Kept → Type 0
-StandsIn entry [] = ⊥
-StandsIn entry (other ∷ entries) = (entry ≡ other) ⊎ StandsIn entry entries
-
 -- a client has saved this with success: it is the client's ID and snapshot
 pub record IsSaved (book : Book) (notes : List Note) (entry : Kept) : Type 0 where
   pub conn : ℕ
@@ -60,7 +55,7 @@ pub record IsSaved (book : Book) (notes : List Note) (entry : Kept) : Type 0 whe
 -- each entry of a book that is written stood in the book before, or a client has saved it with success
 abbrev pub EntriesWereSaved : Type 0
 EntriesWereSaved =
-    (book written : Book) (seen : List Entry) → IsSeen book (seen ++ Did (Commit written) ∷ []) → AllByRecursion (λ entry. StandsIn entry (book_in book (notes seen)).entries ⊎ IsSaved book (notes seen) entry) written.entries
+    (book written : Book) (seen : List Entry) → IsSeen book (seen ++ Did (Commit written) ∷ []) → AllByRecursion (λ entry. Contains (book_in book (notes seen)).entries entry ⊎ IsSaved book (notes seen) entry) written.entries
 
 -- Once a command was started to discard a state, the book that stands doesn't name it, until somebody sets it as his DiscardCommand
 -- again. This asks that the opened book keeps the rules.
