@@ -24,7 +24,8 @@ use Rattle.session_notes.specs.Keeping.{is_started}
 use Rattle.session_notes.proofs.Seen.{noted_of}
 use Rattle.session_notes.proofs.Kept.{IsNeedless}
 use Rattle.session_notes.proofs.Next.{issued-is, all-issuable, not-standing}
-use Rattle.session_notes.proofs.Fine.{Suits, Fine, fine-step}
+use Rattle.session_notes.proofs.Suits.{Suits}
+use Rattle.session_notes.proofs.Fine.{Fine, fine-step}
 use Rattle.session_notes.proofs.Tests.{or-second}
 
 -- Moves that ask nothing

@@ -44,7 +44,9 @@ use Rattle.session_notes.proofs.Steps.{is_at_work, has_replied, is_bound_to_save
 use Rattle.session_notes.proofs.Open.{HasPlace}
 use Rattle.session_notes.proofs.Kept.{opened_of, IsGiven, IsClearSaved, Clear}
 use Rattle.session_notes.proofs.Next.{forgetting-is}
-use Rattle.session_notes.proofs.Fine.{Suits, Told, Keeps, OneHas, IdsHold, DiscardsHold, Fine, fine-step}
+use Rattle.session_notes.proofs.Suits.{Suits}
+use Rattle.session_notes.proofs.Keeps.{Keeps}
+use Rattle.session_notes.proofs.Fine.{Told, OneHas, IdsHold, DiscardsHold, Fine, fine-step}
 use Rattle.session_notes.proofs.Calm.{AllCalm, fine-calm, fine-append, calm-gave, calm-cond, AllStill, still-onto, fine-discarded}
 use Rattle.session_notes.proofs.Tests.{and-after, cond-one, moved, or-none, or-second, own, filter-same}
 

@@ -7,6 +7,8 @@ pub mod Discards
 pub mod Kept
 pub mod Numbers
 pub mod Next
+pub mod Suits
+pub mod Keeps
 pub mod Fine
 pub mod Calm
 pub mod Heard
