@@ -46,7 +46,8 @@ use Rattle.session_notes.proofs.Kept.{opened_of, IsGiven, IsClearSaved, Clear}
 use Rattle.session_notes.proofs.Next.{forgetting-is}
 use Rattle.session_notes.proofs.Suits.{Suits}
 use Rattle.session_notes.proofs.Keeps.{Keeps}
-use Rattle.session_notes.proofs.Fine.{Told, OneHas, IdsHold, DiscardsHold, Fine, fine-step}
+use Rattle.session_notes.proofs.Tells.{Told}
+use Rattle.session_notes.proofs.Fine.{OneHas, IdsHold, DiscardsHold, Fine, fine-step}
 use Rattle.session_notes.proofs.Calm.{AllCalm, fine-calm, fine-append, calm-gave, calm-cond, AllStill, still-onto, fine-discarded}
 use Rattle.session_notes.proofs.Tests.{and-after, cond-one, moved, or-none, or-second, own, filter-same}
 

@@ -8,6 +8,7 @@ pub mod Kept
 pub mod Numbers
 pub mod Next
 pub mod Suits
+pub mod Tells
 pub mod Keeps
 pub mod Fine
 pub mod Calm
