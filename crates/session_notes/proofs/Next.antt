@@ -3,7 +3,6 @@ use Rattle.std.proofs.Common.{◌≡◌, refl, ℕ, Bool, true, false, cond, not
 use Rattle.std.specs.Prelude.{Option, Some, None, find, filter_map, if◌then◌else◌, ◌⊎◌}
 use Rattle.std.specs.List.{AllByRecursion, Contains, cons_option}
 use Rattle.std.specs.Cmp.Lexicographic.{same_text}
-use Rattle.std.proofs.lemmas.Bool.Decides.{nat_tests}
 use Rattle.sm_world.specs.declared.commands.Command.{Command}
 use Rattle.ice_values.specs.declared.property.Property.{Property}
 use Rattle.checkpoint_records.specs.declared.records.Book.{Book}
@@ -236,10 +235,10 @@ all-issuable stand (c ∷ pending) =
     issuable-at (is_among c stand) refl
     (all-more (λ command. (is_among command pending ≡ true) × (is_among command stand ≡ false)) (λ command. ((same_command command c || is_among command pending) ≡ true) × (is_among command stand ≡ false))
     (λ command k. (or-second (same_command command c) (is_among command pending) k.0, k.1)) (issuable stand pending) (all-issuable stand pending)) where
-  issuable-at : (b : Bool) → is_among c stand ≡ b → AllByRecursion (λ command. ((same_command command c || is_among command pending) ≡ true) × (is_among command stand ≡ false)) (issuable stand pending)
-      → AllByRecursion (λ command. ((same_command command c || is_among command pending) ≡ true) × (is_among command stand ≡ false)) (cond (not b) (c ∷ issuable stand pending) (issuable stand pending))
-  issuable-at true e k = k
-  issuable-at false e k = ((or-first (same_command c c) (is_among c pending) (command_equiv.refl c), e), k)
+      issuable-at : (b : Bool) → is_among c stand ≡ b → AllByRecursion (λ command. ((same_command command c || is_among command pending) ≡ true) × (is_among command stand ≡ false)) (issuable stand pending)
+          → AllByRecursion (λ command. ((same_command command c || is_among command pending) ≡ true) × (is_among command stand ≡ false)) (cond (not b) (c ∷ issuable stand pending) (issuable stand pending))
+      issuable-at true e k = k
+      issuable-at false e k = ((or-first (same_command c c) (is_among c pending) (command_equiv.refl c), e), k)
 
 -- what stands in no table of the registered is the DiscardCommand of none
 pub not-standing : (command : Command) (table : ℕ → List Property) (cs : List ℕ) (c : ℕ) → is_among command (filter_map (λ d. discard_of (table d)) cs) ≡ false → is_in c cs ≡ true → is_same command (discard_of (table c)) ≡ false
@@ -247,6 +246,7 @@ not-standing command table [] c e i = absurd (grind arith)
 not-standing command table (d ∷ cs) c e i = standing-at (discard_of (table d)) refl e (eqb d c) refl i (not-standing command table cs c) where
   there : eqb d c ≡ true → discard_of (table d) ≡ discard_of (table c)
   there k = same-there (λ x. discard_of (table x)) c d k
+
   standing-at : (o : Option Command) → discard_of (table d) ≡ o → is_among command (cons_option o (filter_map (λ x. discard_of (table x)) cs)) ≡ false → (b : Bool) → eqb d c ≡ b → (b || is_in c cs) ≡ true
       → (is_among command (filter_map (λ x. discard_of (table x)) cs) ≡ false → is_in c cs ≡ true → is_same command (discard_of (table c)) ≡ false) → is_same command (discard_of (table c)) ≡ false
   standing-at None s e true k j g = ap (λ (o : Option Command). is_same command o) (sym (there k) ∙ s)

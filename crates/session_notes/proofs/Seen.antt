@@ -3,8 +3,10 @@ use Rattle.std.proofs.Common.{◌≡◌, refl, List, [], ◌∷◌, ◌++◌, sy
 use Rattle.std.specs.Prelude.{reverse, drop, ◌⊎◌}
 use Rattle.std.specs.List.{AllByRecursion}
 use Rattle.std.proofs.lemmas.List.{append-nil, reverse-append}
-use Rattle.session_model.specs.Moves.{Move, Outside, Gave, Blamed, Unset, Closed, Tried, Committed, Printed, Finished, History, Opened, ◌▷◌}
-use Rattle.session_notes.specs.Notes.{Entry, Note, Came, Launched, entries_of, entries, noted, notes}
+use Rattle.session_model.specs.declared.events.Act.{Act}
+use Rattle.session_model.specs.declared.events.Act.TheVariants.{Start}
+use Rattle.session_model.specs.Moves.{Move, Outside, Gave, Blamed, Unset, Closed, Tried, Committed, Printed, Finished, History, Opened, acts_of, all_acts, ◌▷◌}
+use Rattle.session_notes.specs.Notes.{Did, Entry, Note, Came, Launched, acts_in, entries_of, entries, noted, notes}
 
 -- A list of one item at most
 
@@ -22,6 +24,23 @@ one-of (Committed book) = inr (_, refl)
 one-of (Printed text) = inr (_, refl)
 one-of Finished = inr (_, refl)
 one-of m = inl refl
+
+-- All acts
+
+acts-append : (xs ys : List Entry) → acts_in (xs ++ ys) ≡ acts_in xs ++ acts_in ys
+acts-append [] ys = refl
+acts-append (Came event ∷ xs) ys = acts-append xs ys
+acts-append (Did act ∷ xs) ys = ap (λ (acts : List Act). act ∷ acts) (acts-append xs ys)
+acts-append (Launched cause command ∷ xs) ys = ap (λ (acts : List Act). Start command ∷ acts) (acts-append xs ys)
+
+acts-of : (m : Move) → acts_in (entries_of m) ≡ acts_of m
+acts-of (Outside event) = refl
+acts-of m = refl
+
+pub all-acts : (h : History) → acts_in (entries h) ≡ all_acts h
+all-acts (Opened book) = refl
+all-acts (m ▷ h) =
+    acts-append (entries h) (entries_of m) ∙ ap (λ (acts : List Act). acts ++ acts_in (entries_of m)) (all-acts h) ∙ ap (λ (acts : List Act). all_acts h ++ acts) (acts-of m)
 
 -- The latest first
 

@@ -1,5 +1,5 @@
 -- The rules, and whole runs.
-use Rattle.std.proofs.Common.{◌≡◌, refl, ℕ, zero, suc, ◌+◌, ◌*◌, Bool, true, false, cond, not, ◌&&◌, ◌||◌, List, [], ◌∷◌, ◌++◌, map, length, eqb, sym, ap, subst, ◌∙◌, arith, inl, inr}
+use Rattle.std.proofs.Common.{◌≡◌, refl, ℕ, zero, suc, ◌+◌, ◌*◌, Bool, true, false, cond, not, ◌&&◌, ◌||◌, List, [], ◌∷◌, ◌++◌, map, length, eqb, sym, ap, subst, ◌∙◌, arith, inl}
 use Rattle.std.specs.Prelude.{Option, Some, None, is_some, filter_map, ◌⊎◌}
 use Rattle.std.specs.List.{AllByRecursion, Contains, IsDistinct, list_any, list_all}
 use Rattle.std.specs.Str.{bytes_eq}
@@ -7,7 +7,6 @@ use Rattle.std.proofs.lemmas.Bool.Decides.{nat_tests}
 use Rattle.sm_world.specs.declared.commands.Command.{Command}
 use Rattle.ice_values.specs.declared.property.Property.{Property}
 use Rattle.checkpoint_records.specs.declared.records.Book.{Book}
-use Rattle.checkpoint_records.specs.declared.records.Entry.{Entry as Kept}
 use Rattle.checkpoint_records.specs.Books.{same_command, discards, names}
 use Rattle.checkpoint_records.specs.Rules.{KeepsRules}
 use Rattle.round_agreement.specs.declared.wanted.Wanted.{Wanted}
@@ -35,7 +34,7 @@ use Rattle.session_model.proofs.Pending.{all-more, command_equiv}
 use Rattle.session_model.proofs.Level.{Good, onto-append, phase-each, members-each, once-begun, once-completed, once-dying}
 use Rattle.session_model.proofs.Ruled.{denied, differ, and-left, and-right, any-in, interacting-registered, member-registered, nobody-level, member-by, conns-rows, others, rows_now, round_now, good-rule}
 use Rattle.session_model.proofs.Replied.{good-reply, good-opened, good-run}
-use Rattle.session_notes.specs.Notes.{Entry, entries, notes}
+use Rattle.session_notes.specs.Notes.{Entry, notes}
 use Rattle.session_notes.specs.Keeping.{is_started}
 use Rattle.session_notes.specs.Laws.{IsSeen, IsSaved}
 use Rattle.session_notes.proofs.Seen.{noted_of, AtEach, EachEntry, at-front, at-entry}

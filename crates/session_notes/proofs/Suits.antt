@@ -1,39 +1,20 @@
 -- What a move asks of the history before it.
-use Rattle.std.proofs.Common.{◌≡◌, refl, ℕ, Bool, true, false, not, ◌&&◌, ◌||◌, List, [], ◌∷◌, ◌+◌, ◌<◌, sym, ap, subst, ◌∙◌, arith, inl, inr}
-use Rattle.std.proofs.lemmas.Bool.{not-true}
-use Rattle.std.specs.Prelude.{Some, None, ◌⊎◌}
-use Rattle.std.specs.List.{AllByRecursion, Contains, IsDistinct}
-use Rattle.std.specs.Str.{bytes_eq}
-use Rattle.sm_world.specs.declared.commands.Command.{Command}
+use Rattle.std.proofs.Common.{◌≡◌, ℕ, true, false, List, ◌∷◌}
+use Rattle.std.specs.Prelude.{Some}
 use Rattle.xsmp_messages.specs.declared.message.XsmpMessage.{XsmpMessage}
-use Rattle.xsmp_messages.specs.declared.message.XsmpMessage.TheVariants.{RegisterClientReply, SaveYourself, InteractRequest, Interact, SaveYourselfDone, Die, ShutdownCancelled, SaveYourselfPhase2, SaveComplete, SetProperties, DeleteProperties}
-use Rattle.checkpoint_records.specs.declared.records.Book.{Book}
-use Rattle.checkpoint_records.specs.declared.records.Entry.{Entry as Kept}
-use Rattle.checkpoint_records.specs.Books.{same_command, names}
-use Rattle.discard_ledger.specs.Discards.{is_among}
-use Rattle.interact_queue.specs.Queue.{is_in}
+use Rattle.xsmp_messages.specs.declared.message.XsmpMessage.TheVariants.{RegisterClientReply, SaveYourself, InteractRequest, Interact, SaveYourselfDone, Die, SaveYourselfPhase2, SetProperties, DeleteProperties}
+use Rattle.checkpoint_records.specs.Books.{names}
 use Rattle.session_model.specs.declared.phase.Phase.TheVariants.{Unregistered}
-use Rattle.session_model.specs.declared.events.SessionEvent.{SessionEvent}
-use Rattle.session_model.specs.declared.events.SessionEvent.TheVariants.{Joined, Ready, Said, Left, Operator}
-use Rattle.session_model.specs.declared.events.Act.TheVariants.{Commit, Say}
-use Rattle.session_model.specs.Phases.{is_asked, is_interacting, is_member, is_dying, is_shutdown}
-use Rattle.session_model.specs.Moves.{Move, Cause, Discard, Outside, Gave, Blamed, Unset, Closed, Began, Over, Cancelled, Agreed, Tried, Committed, Printed, Finished, History, ◌▷◌}
+use Rattle.session_model.specs.declared.events.SessionEvent.TheVariants.{Said}
+use Rattle.session_model.specs.Phases.{is_interacting, is_member, is_shutdown}
+use Rattle.session_model.specs.Moves.{Move, Discard, Outside, Gave, Blamed, Unset, Began, Agreed, Tried, Committed, History}
 use Rattle.session_model.specs.Readings as of
-use Rattle.session_model.proofs.Asked.{phases-tell}
-use Rattle.session_model.proofs.Sound.{Fits, Sound, sound-step, or-either}
-use Rattle.session_model.proofs.Ruled.{and-left, and-right, denied, differ}
-use Rattle.session_notes.specs.Notes.{Entry, Note, Did, Heard, Given, Started, entries_of}
-use Rattle.session_notes.specs.Keeping.{IsOfRun, book_in, new_ids, sets_discard, is_discarded, is_started}
-use Rattle.session_notes.specs.Laws.{IsSaved}
-use Rattle.session_notes.specs.Watching.{has_token, is_to_save, has_answered, requests}
-use Rattle.session_notes.proofs.Seen.{noted_of, AtEach, EachEntry}
-use Rattle.session_notes.proofs.Steps.{is_at_work, has_replied, is_bound_to_save, asked-works}
+use Rattle.session_model.proofs.Sound.{Fits}
+use Rattle.session_notes.proofs.Seen.{noted_of}
+use Rattle.session_notes.proofs.Steps.{is_at_work, has_replied}
 use Rattle.session_notes.proofs.Told as told
-use Rattle.session_notes.proofs.Kept as kept
-use Rattle.session_notes.proofs.Kept.{HasRoom, HasTable, MaySave, IsGiven, IsNext, IsNeedless, NoneNamed, Saves}
-use Rattle.session_notes.proofs.Numbers.{of-run, numbers-differ}
-use Rattle.session_notes.proofs.Open.{WaitsTold, HasPlace, waits-interact, waits-cancelled, waits-given, waits-gone, waits-unset, waits-ready, waits-said, waits-request}
-use Rattle.session_notes.proofs.Tests.{or-none, own}
+use Rattle.session_notes.proofs.Kept.{HasRoom, HasTable, MaySave, IsGiven, IsNext, IsNeedless}
+use Rattle.session_notes.proofs.Open.{HasPlace}
 
 abbrev pub Suits : Move → History → Type 0
 Suits (Outside (Said c (InteractRequest dialog) sequence frame)) h = HasPlace c dialog h

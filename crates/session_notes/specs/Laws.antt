@@ -13,8 +13,9 @@ use Rattle.discard_ledger.specs.Discards.{is_among}
 use Rattle.xsmp_messages.specs.declared.message.XsmpMessage.TheVariants.{Interact, SaveYourselfPhase2}
 use Rattle.session_model.specs.declared.events.SessionEvent.{SessionEvent}
 use Rattle.session_model.specs.declared.events.Act.TheVariants.{Commit, Say}
+use Rattle.session_model.specs.Moves.{History, all_acts}
 use Rattle.session_model.specs.Rules.{opened, run}
-use Rattle.session_notes.specs.Notes.{Did, Entry, Note, entries, notes}
+use Rattle.session_notes.specs.Notes.{Did, Entry, Note, acts_in, entries, notes}
 use Rattle.session_notes.specs.Keeping.{IsOfRun, book_in, id_in, is_discarded, is_started, new_ids, snapshot_in}
 use Rattle.session_notes.specs.Watching.{has_answered, has_token, is_to_save, requests}
 
@@ -23,6 +24,10 @@ pub record IsSeen (book : Book) (seen : List Entry) : Type 0 where
   pub events : List SessionEvent
   pub later : List Entry
   pub parts : seen ++ later ≡ entries (run (opened book) events)
+
+-- all that the manager does is seen
+abbrev pub AllActsAreSeen : Type 0
+AllActsAreSeen = (h : History) → acts_in (entries h) ≡ all_acts h
 
 -- one connection has the token at most
 abbrev pub OneHasTheToken : Type 0
@@ -37,7 +42,7 @@ abbrev pub TheSecondPhaseWaits : Type 0
 TheSecondPhaseWaits = (book : Book) (seen : List Entry) (c d : ℕ) → IsSeen book (seen ++ Did (Say c SaveYourselfPhase2) ∷ []) → is_to_save d (notes seen) ≡ true → has_answered d (notes seen) ≡ true
 
 -- Every new ID is of the run, whose epoch is one above that of the opened book, and the book that stands then is of this epoch
--- too. So no later run that opens such a book gives the ID as a new one.
+-- too. So a later run, which opens such a book, gives IDs of a larger epoch.
 abbrev pub NewIdsAreOfTheRun : Type 0
 NewIdsAreOfTheRun =
     (book : Book) (seen : List Entry) → IsSeen book seen → AllByRecursion (λ id. IsOfRun (book.epoch + 1) id × ((book_in book (notes seen)).epoch ≡ book.epoch + 1)) (new_ids book (notes seen))

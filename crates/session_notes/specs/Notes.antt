@@ -7,7 +7,7 @@ use Rattle.xsmp_messages.specs.declared.message.XsmpMessage.{XsmpMessage}
 use Rattle.session_model.specs.declared.events.SessionEvent.{SessionEvent}
 use Rattle.session_model.specs.declared.events.SessionEvent.TheVariants.{Left, Said}
 use Rattle.session_model.specs.declared.events.Act.{Act}
-use Rattle.session_model.specs.declared.events.Act.TheVariants.{Blame, Commit, Say, Shut}
+use Rattle.session_model.specs.declared.events.Act.TheVariants.{Blame, Commit, Say, Shut, Start}
 use Rattle.session_model.specs.Moves.{Cause, History, Move, Opened, Outside, Tried, acts_of, ◌▷◌}
 
 -- What is seen
@@ -31,6 +31,13 @@ entries_of m = map Did (acts_of m)
 abbrev pub entries : History → List Entry
 entries (Opened book) = []
 entries (m ▷ h) = entries h ++ entries_of m
+
+-- the acts among what is seen
+abbrev pub acts_in : List Entry → List Act
+acts_in [] = []
+acts_in (Came event ∷ seen) = acts_in seen
+acts_in (Did act ∷ seen) = act ∷ acts_in seen
+acts_in (Launched cause command ∷ seen) = Start command ∷ acts_in seen
 
 -- What is noted
 

@@ -1,4 +1,9 @@
-ghost use Rattle.session_notes.specs.Laws.{OneHasTheToken, TheFirstIsServed, TheSecondPhaseWaits, NewIdsAreOfTheRun, NewIdsDiffer, EntriesWereSaved, DiscardedStatesAreNotNamed, PendingIsNotLost};
+ghost use Rattle.session_notes.specs.Laws.{AllActsAreSeen, OneHasTheToken, TheFirstIsServed, TheSecondPhaseWaits, NewIdsAreOfTheRun, NewIdsDiffer, EntriesWereSaved, DiscardedStatesAreNotNamed, PendingIsNotLost};
+
+/// Does nothing: its contract is a law of every history. All that the manager does is seen.
+pub fn all_acts_are_seen()
+    ensures { AllActsAreSeen }
+{}
 
 /// Does nothing: its contract is a law of all that is seen of a run. One connection has the token at most.
 pub fn one_has_the_token()
