@@ -1,5 +1,6 @@
 pub mod Tests
 pub mod Seen
+pub mod Inner
 pub mod Steps
 pub mod Told
 pub mod Open

@@ -15,7 +15,7 @@ use Rattle.session_model.specs.declared.events.SessionEvent.{SessionEvent}
 use Rattle.session_model.specs.declared.events.Act.TheVariants.{Commit, Say}
 use Rattle.session_model.specs.Moves.{History, all_acts}
 use Rattle.session_model.specs.Rules.{opened, run}
-use Rattle.session_notes.specs.Notes.{Did, Entry, Note, acts_in, entries, notes}
+use Rattle.session_notes.specs.Notes.{Did, Entry, Note, acts_in, came_in, entries, notes}
 use Rattle.session_notes.specs.Keeping.{IsOfRun, book_in, id_in, is_discarded, is_started, new_ids, snapshot_in}
 use Rattle.session_notes.specs.Watching.{has_answered, has_token, is_to_save, requests}
 
@@ -24,6 +24,10 @@ pub record IsSeen (book : Book) (seen : List Entry) : Type 0 where
   pub events : List SessionEvent
   pub later : List Entry
   pub parts : seen ++ later ≡ entries (run (opened book) events)
+
+-- each event is seen
+abbrev pub AllEventsAreSeen : Type 0
+AllEventsAreSeen = (book : Book) (events : List SessionEvent) → came_in (entries (run (opened book) events)) ≡ events
 
 -- all that the manager does is seen
 abbrev pub AllActsAreSeen : Type 0

@@ -32,6 +32,13 @@ abbrev pub entries : History → List Entry
 entries (Opened book) = []
 entries (m ▷ h) = entries h ++ entries_of m
 
+-- what came from outside, among what is seen
+abbrev pub came_in : List Entry → List SessionEvent
+came_in [] = []
+came_in (Came event ∷ seen) = event ∷ came_in seen
+came_in (Did act ∷ seen) = came_in seen
+came_in (Launched cause command ∷ seen) = came_in seen
+
 -- the acts among what is seen
 abbrev pub acts_in : List Entry → List Act
 acts_in [] = []

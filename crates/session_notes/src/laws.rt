@@ -1,4 +1,9 @@
-ghost use Rattle.session_notes.specs.Laws.{AllActsAreSeen, OneHasTheToken, TheFirstIsServed, TheSecondPhaseWaits, NewIdsAreOfTheRun, NewIdsDiffer, EntriesWereSaved, DiscardedStatesAreNotNamed, PendingIsNotLost};
+ghost use Rattle.session_notes.specs.Laws.{AllActsAreSeen, AllEventsAreSeen, OneHasTheToken, TheFirstIsServed, TheSecondPhaseWaits, NewIdsAreOfTheRun, NewIdsDiffer, EntriesWereSaved, DiscardedStatesAreNotNamed, PendingIsNotLost};
+
+/// Does nothing: its contract is a law of every run. Each event is seen.
+pub fn all_events_are_seen()
+    ensures { AllEventsAreSeen }
+{}
 
 /// Does nothing: its contract is a law of every history. All that the manager does is seen.
 pub fn all_acts_are_seen()
