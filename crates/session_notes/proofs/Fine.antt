@@ -23,7 +23,7 @@ use Rattle.session_notes.specs.Watching.{has_token, is_to_save, has_answered, re
 use Rattle.session_notes.proofs.Seen.{noted_of, AtEach, EachEntry}
 use Rattle.session_notes.proofs.Steps.{is_bound_to_save}
 use Rattle.session_notes.proofs.Kept as kept
-use Rattle.session_notes.proofs.Kept.{HasRoom, HasTable, MaySave, IsGiven, IsNext, IsNeedless, NoneNamed, Saves}
+use Rattle.session_notes.proofs.Kept.{NoneNamed, Saves}
 use Rattle.session_notes.proofs.Numbers.{of-run, numbers-differ}
 use Rattle.session_notes.proofs.Suits.{Suits, fits}
 use Rattle.session_notes.proofs.Keeps.{Keeps, keeps-step}

@@ -18,7 +18,7 @@ use Rattle.session_notes.specs.Keeping.{book_in, sets_discard, is_discarded}
 use Rattle.session_notes.proofs.Seen.{noted_of}
 use Rattle.session_notes.proofs.Told.{AskedTold, OwingTold}
 use Rattle.session_notes.proofs.Kept as kept
-use Rattle.session_notes.proofs.Kept.{HasRoom, HasTable, MaySave, IsGiven, IsNext, IsNeedless, NoneNamed, Saves}
+use Rattle.session_notes.proofs.Kept.{NoneNamed}
 use Rattle.session_notes.proofs.Tests.{or-none}
 use Rattle.session_notes.proofs.Suits.{Suits}
 
