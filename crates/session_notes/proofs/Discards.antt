@@ -1,0 +1,209 @@
+-- Which DiscardCommand a table has.
+use Rattle.std.proofs.Common.{◌≡◌, refl, ℕ, Bool, true, false, cond, not, ◌&&◌, ◌||◌, List, [], ◌∷◌, filter, sym, ap, subst, ◌∙◌, arith, inl, inr}
+use Rattle.std.specs.Prelude.{Option, Some, None, codes, find, option_and_then, if◌then◌else◌, ◌⊎◌}
+use Rattle.std.specs.List.{AllByRecursion, list_any, cons_option}
+use Rattle.std.specs.Str.{bytes_eq}
+use Rattle.std.specs.Cmp.Lexicographic.{same_text}
+use Rattle.sm_world.specs.declared.commands.Command.{Command}
+use Rattle.ice_values.specs.declared.property.Property.{Property}
+use Rattle.xsmp_properties.specs.Tables.{is_named, find_property, set_one, set_all, without_names}
+use Rattle.xsmp_properties.specs.Readers.{values_of_kind, values_of, are_words, command_with, directory_of, environment_of}
+use Rattle.checkpoint_records.specs.declared.records.Book.{Book}
+use Rattle.checkpoint_records.specs.declared.records.Entry.{Entry}
+use Rattle.checkpoint_records.specs.Books.{same_command, discards, names}
+use Rattle.discard_ledger.specs.Discards.{discard_of, is_among}
+use Rattle.session_model.specs.Tables.{is_full, is_same, is_of, first_table, set_table, table_in}
+use Rattle.session_model.proofs.Sound.{or-true, or-either}
+use Rattle.session_model.proofs.Ruled.{differ}
+use Rattle.session_model.proofs.Pending.{command_equiv}
+use Rattle.session_notes.specs.Keeping.{sets_discard}
+use Rattle.session_notes.proofs.Tests.{or-none}
+
+-- The property under a name
+
+find-set : (name : List ℕ) (p : Property) (items : List Property) → find_property name (set_one items p) ≡ cond (is_named name p) (Some p) (find_property name items)
+find-set name p [] = refl
+find-set name p (q ∷ items) = set-at (is_named p.name q) refl (find-set name p items) where
+  both : (b c : Bool) → b ≡ c → cond b (Some p) (find_property name items) ≡ cond b (Some p) (cond c (Some q) (find_property name items))
+  both true c e = refl
+  both false c e = ap (λ (b : Bool). cond b (Some q) (find_property name items)) e
+
+  -- q has the name of p, so they fit the same names
+  same : is_named p.name q ≡ true → is_named name p ≡ is_named name q
+  same e = ap (λ (x : List ℕ). bytes_eq name x) (same_text p.name q.name (sym e))
+
+  -- q has another name than p, so the name fits one of them at most
+  swap : (b c : Bool) → (b ≡ true → c ≡ true → ⊥) → cond c (Some q) (cond b (Some p) (find_property name items)) ≡ cond b (Some p) (cond c (Some q) (find_property name items))
+  swap true true k = absurd (k refl refl)
+  swap true false k = refl
+  swap false c k = refl
+
+  apart : is_named p.name q ≡ false → is_named name p ≡ true → is_named name q ≡ true → ⊥
+  apart e f g = let k : name ≡ p.name = same_text name p.name (sym f) in let l : is_named p.name q ≡ true = subst (λ (x : List ℕ). is_named x q ≡ true) k g in grind arith
+
+  set-at : (b : Bool) → is_named p.name q ≡ b → find_property name (set_one items p) ≡ cond (is_named name p) (Some p) (find_property name items)
+      → find_property name (cond b (p ∷ items) (q ∷ set_one items p)) ≡ cond (is_named name p) (Some p) (cond (is_named name q) (Some q) (find_property name items))
+  set-at true e k = both (is_named name p) (is_named name q) (same e)
+  set-at false e k = ap (λ (o : Option Property). cond (is_named name q) (Some q) o) k ∙ swap (is_named name p) (is_named name q) (apart e)
+
+-- the last property of a list with this name, and what there was where there is none
+abbrev last_named : List ℕ → List Property → Option Property → Option Property
+last_named name [] o = o
+last_named name (p ∷ list) o = last_named name list (cond (is_named name p) (Some p) o)
+
+find-all : (name : List ℕ) (list items : List Property) → find_property name (set_all items list) ≡ last_named name list (find_property name items)
+find-all name [] items = refl
+find-all name (p ∷ list) items = find-all name list (set_one items p) ∙ ap (λ (o : Option Property). last_named name list o) (find-set name p items)
+
+-- the list has the name, or it changes nothing under it
+last-either : (name : List ℕ) (list : List Property) (o : Option Property) → (last_named name list o ≡ last_named name list None) ⊎ (last_named name list o ≡ o)
+last-either name [] o = inr refl
+last-either name (p ∷ list) o = either-at (is_named name p) (last-either name list o) where
+  either-at : (b : Bool) → (last_named name list o ≡ last_named name list None) ⊎ (last_named name list o ≡ o)
+      → (last_named name list (cond b (Some p) o) ≡ last_named name list (cond b (Some p) None)) ⊎ (last_named name list (cond b (Some p) o) ≡ o)
+  either-at true k = inl refl
+  either-at false k = k
+
+-- The command in a property
+
+abbrev words_in : Command → Option (List (List ℕ)) → Bool
+words_in command None = false
+words_in command (Some words) = are_words words && same_command command (record { words = words; directory = []; environment = [] })
+
+abbrev tells : Command → Option Property → Bool
+tells command o = words_in command (option_and_then (values_of_kind (codes "LISTofARRAY8")) o)
+
+same-words : (command : Command) (items : List Property) (o : Option (List (List ℕ))) → is_same command (option_and_then (command_with items) o) ≡ words_in command o
+same-words command items None = refl
+same-words command items (Some words) = words-at (are_words words) where
+  words-at : (b : Bool) → is_same command (if b then Some (record { words = words; directory = directory_of items; environment = environment_of items }) else None) ≡ (b && same_command command (record { words = words; directory = []; environment = [] }))
+  words-at true = refl
+  words-at false = refl
+
+-- whether a table's DiscardCommand is the same goes by the property of this name alone
+same-tells : (command : Command) (items : List Property) → is_same command (discard_of items) ≡ tells command (find_property (codes "DiscardCommand") items)
+same-tells command items = same-words command items (values_of (codes "DiscardCommand") (codes "LISTofARRAY8") items)
+
+-- Tables
+
+-- a list that doesn't set the command brings none
+pub set-clear : (command : Command) (list items : List Property) → sets_discard command list ≡ false → is_same command (discard_of items) ≡ false → is_same command (discard_of (set_all items list)) ≡ false
+set-clear command list items s c =
+    same-tells command (set_all items list) ∙ ap (λ (o : Option Property). tells command o) (find-all (codes "DiscardCommand") list items) ∙ clear (last-either (codes "DiscardCommand") list (find_property (codes "DiscardCommand") items)) where
+      clear : (last_named (codes "DiscardCommand") list (find_property (codes "DiscardCommand") items) ≡ last_named (codes "DiscardCommand") list None)
+          ⊎ (last_named (codes "DiscardCommand") list (find_property (codes "DiscardCommand") items) ≡ find_property (codes "DiscardCommand") items)
+          → tells command (last_named (codes "DiscardCommand") list (find_property (codes "DiscardCommand") items)) ≡ false
+      clear (inl k) =
+          ap (λ (o : Option Property). tells command o) k ∙ sym (ap (λ (o : Option Property). tells command o) (find-all (codes "DiscardCommand") list [])) ∙ sym (same-tells command (set_all [] list)) ∙ s
+      clear (inr k) = ap (λ (o : Option Property). tells command o) k ∙ sym (same-tells command items) ∙ c
+
+pub table-clear : (command : Command) (list items : List Property) → sets_discard command list ≡ false → is_same command (discard_of items) ≡ false → is_same command (discard_of (set_table list items)) ≡ false
+table-clear command list items s c = table-at (is_full (set_all items list)) where
+  table-at : (b : Bool) → is_same command (discard_of (cond b items (set_all items list))) ≡ false
+  table-at true = c
+  table-at false = set-clear command list items s c
+
+-- what is deleted brings no command
+find-kept : (test : Property → Bool) (name : List ℕ) (items : List Property) → ((p q : Property) → p.name ≡ q.name → test p ≡ test q) → (find_property name (filter test items) ≡ find_property name items) ⊎ (find_property name (filter test items) ≡ None)
+find-kept test name [] t = inl refl
+find-kept test name (p ∷ items) t = kept-at (test p) refl (find-kept test name items t) where
+  none : (qs : List Property) → test p ≡ false → is_named name p ≡ true → find_property name (filter test qs) ≡ None
+  none [] e n = refl
+  none (q ∷ qs) e n = none-at (test q) refl (none qs e n) where
+    none-at : (b : Bool) → test q ≡ b → find_property name (filter test qs) ≡ None → find_property name (cond b (q ∷ filter test qs) (filter test qs)) ≡ None
+    none-at false k r = r
+    none-at true k r = named-at (is_named name q) refl where
+      named-at : (b : Bool) → is_named name q ≡ b → cond b (Some q) (find_property name (filter test qs)) ≡ None
+      named-at false j = r
+      named-at true j =
+          let x : p.name ≡ q.name = sym (same_text name p.name (sym n)) ∙ same_text name q.name (sym j) in
+          absurd (clash (test p) (test q) (t p q x) e k) where
+            clash : (a b : Bool) → a ≡ b → a ≡ false → b ≡ true → ⊥
+            clash a b e f g = grind arith
+
+  kept-at : (b : Bool) → test p ≡ b → (find_property name (filter test items) ≡ find_property name items) ⊎ (find_property name (filter test items) ≡ None)
+      → (find_property name (cond b (p ∷ filter test items) (filter test items)) ≡ cond (is_named name p) (Some p) (find_property name items)) ⊎ (find_property name (cond b (p ∷ filter test items) (filter test items)) ≡ None)
+  kept-at true e (inl k) = inl (ap (λ (o : Option Property). cond (is_named name p) (Some p) o) k)
+  kept-at true e (inr k) = here (is_named name p) k where
+    here : (b : Bool) → find_property name (filter test items) ≡ None → (cond b (Some p) (find_property name (filter test items)) ≡ cond b (Some p) (find_property name items)) ⊎ (cond b (Some p) (find_property name (filter test items)) ≡ None)
+    here true k = inl refl
+    here false k = inr k
+  kept-at false e (inr k) = inr k
+  kept-at false e (inl k) = gone (is_named name p) refl where
+    gone : (b : Bool) → is_named name p ≡ b → (find_property name (filter test items) ≡ cond b (Some p) (find_property name items)) ⊎ (find_property name (filter test items) ≡ None)
+    gone true n = inr (none items e n)
+    gone false n = inl k
+
+pub without-clear : (command : Command) (gone : List (List ℕ)) (items : List Property) → is_same command (discard_of items) ≡ false → is_same command (discard_of (without_names gone items)) ≡ false
+without-clear command gone items c =
+    same-tells command (without_names gone items) ∙ clear (find-kept (λ p. not (list_any (λ name. is_named name p) gone)) (codes "DiscardCommand") items (λ p q e. ap (λ (x : List ℕ). not (list_any (λ name. bytes_eq name x) gone)) e)) where
+      clear : (find_property (codes "DiscardCommand") (without_names gone items) ≡ find_property (codes "DiscardCommand") items) ⊎ (find_property (codes "DiscardCommand") (without_names gone items) ≡ None)
+          → tells command (find_property (codes "DiscardCommand") (without_names gone items)) ≡ false
+      clear (inl k) = ap (λ (o : Option Property). tells command o) k ∙ sym (same-tells command items) ∙ c
+      clear (inr k) = ap (λ (o : Option Property). tells command o) k
+
+-- Books
+
+or-joined : (x y : Bool) → x ≡ false → y ≡ false → (x || y) ≡ false
+or-joined true y e f = e
+or-joined false y e f = f
+
+any-cons : (command : Command) (o : Option Command) (xs : List Command) → list_any (same_command command) (cons_option o xs) ≡ (is_same command o || list_any (same_command command) xs)
+any-cons command None xs = refl
+any-cons command (Some other) xs = refl
+
+-- a book names no command that is no entry's
+pub names-none : (command : Command) (entries : List Entry) → AllByRecursion (λ entry. is_same command (discard_of entry.table) ≡ false) entries → list_any (same_command command) (discards entries) ≡ false
+names-none command [] a = refl
+names-none command (entry ∷ entries) a =
+    any-cons command (discard_of entry.table) (discards entries) ∙ or-joined (is_same command (discard_of entry.table)) (list_any (same_command command) (discards entries)) a.0 (names-none command entries a.1)
+
+pub none-names : (command : Command) (entries : List Entry) → list_any (same_command command) (discards entries) ≡ false → AllByRecursion (λ entry. is_same command (discard_of entry.table) ≡ false) entries
+none-names command [] e = tt
+none-names command (entry ∷ entries) e =
+    let p : (is_same command (discard_of entry.table) ≡ false) × (list_any (same_command command) (discards entries) ≡ false) =
+    or-none (is_same command (discard_of entry.table)) (list_any (same_command command) (discards entries)) (sym (any-cons command (discard_of entry.table) (discards entries)) ∙ e) in
+    (p.0, none-names command entries p.1)
+
+-- the table with which an ID begins
+pub first-clear : (command : Command) (book : Book) (id : List ℕ) → names book command ≡ false → is_same command (discard_of (first_table book id)) ≡ false
+first-clear command book id e = found book.entries (none-names command book.entries e) where
+  found : (entries : List Entry) → AllByRecursion (λ entry. is_same command (discard_of entry.table) ≡ false) entries → is_same command (discard_of (table_in (find (is_of id) entries))) ≡ false
+  found [] a = same-tells command []
+  found (entry ∷ entries) a = found-at (is_of id entry) (found entries a.1) where
+    found-at : (b : Bool) → is_same command (discard_of (table_in (find (is_of id) entries))) ≡ false → is_same command (discard_of (table_in (cond b (Some entry) (find (is_of id) entries)))) ≡ false
+    found-at true k = a.0
+    found-at false k = k
+
+-- Commands that are the same
+
+pub same-by : (a b : Command) (o : Option Command) → same_command a b ≡ true → is_same a o ≡ is_same b o
+same-by a b None s = refl
+same-by a b (Some c) s = command_equiv.congr a b c s
+
+pub among-by : (a b : Command) (list : List Command) → same_command a b ≡ true → is_among a list ≡ is_among b list
+among-by a b [] s = refl
+among-by a b (c ∷ list) s = ap (λ (x : Bool). x || is_among a list) (command_equiv.congr a b c s) ∙ ap (λ (x : Bool). same_command b c || x) (among-by a b list s)
+
+-- a command that passes a test which the same ones pass
+pub among-kept : (gone list : List Command) (command : Command) → is_among command gone ≡ false → is_among command list ≡ true → is_among command (filter (λ c. not (is_among c gone)) list) ≡ true
+among-kept gone [] command n e = e
+among-kept gone (c ∷ list) command n e = kept-at (same_command command c) (is_among c gone) refl refl e (among-kept gone list command n) where
+  kept-at : (b a : Bool) → same_command command c ≡ b → is_among c gone ≡ a → (b || is_among command list) ≡ true → (is_among command list ≡ true → is_among command (filter (λ x. not (is_among x gone)) list) ≡ true)
+      → is_among command (cond (not a) (c ∷ filter (λ x. not (is_among x gone)) list) (filter (λ x. not (is_among x gone)) list)) ≡ true
+  kept-at true true s t f g = absurd (differ (among-by command c gone s ∙ t) n)
+  kept-at true false s t f g = ap (λ (x : Bool). x || is_among command (filter (λ x. not (is_among x gone)) list)) s
+  kept-at false true s t f g = g f
+  kept-at false false s t f g = ap (λ (x : Bool). same_command command c || x) (g f) ∙ or-true (same_command command c)
+
+-- a command that is kept was there, and isn't among those that are gone
+pub kept-among : (gone list : List Command) (command : Command) → is_among command (filter (λ c. not (is_among c gone)) list) ≡ true → (is_among command list ≡ true) × (is_among command gone ≡ false)
+kept-among gone [] command e = absurd (grind arith)
+kept-among gone (c ∷ list) command e = kept-at (is_among c gone) refl e (kept-among gone list command) where
+  kept-at : (a : Bool) → is_among c gone ≡ a → is_among command (cond (not a) (c ∷ filter (λ x. not (is_among x gone)) list) (filter (λ x. not (is_among x gone)) list)) ≡ true
+      → (is_among command (filter (λ x. not (is_among x gone)) list) ≡ true → (is_among command list ≡ true) × (is_among command gone ≡ false)) → ((same_command command c || is_among command list) ≡ true) × (is_among command gone ≡ false)
+  kept-at true t f g = let k : (is_among command list ≡ true) × (is_among command gone ≡ false) = g f in (ap (λ (x : Bool). same_command command c || x) k.0 ∙ or-true (same_command command c), k.1)
+  kept-at false t f g =
+      or-either (same_command command c) (is_among command (filter (λ x. not (is_among x gone)) list))
+      (λ s. (ap (λ (x : Bool). x || is_among command list) s, among-by command c gone s ∙ t))
+      (λ s. let k : (is_among command list ≡ true) × (is_among command gone ≡ false) = g s in (ap (λ (x : Bool). same_command command c || x) k.0 ∙ or-true (same_command command c), k.1)) f

@@ -1,0 +1,85 @@
+-- Worked sessions, of which the definitions compute what is noted. Each begins with the empty book.
+use Rattle.std.specs.Prelude.{List, None, Some, [], codes, false, take, true, ◌++◌, ◌∷◌, ◌≡◌}
+use Rattle.sm_world.specs.declared.events.Order.TheVariants.{Checkpoint, Shutdown}
+use Rattle.sm_world.specs.declared.events.SaveKind.TheVariants.{Both}
+use Rattle.sm_world.specs.declared.events.SaveStyle.TheVariants.{Errors}
+use Rattle.sm_world.specs.declared.events.Dialog.TheVariants.{Normal}
+use Rattle.checkpoint_records.specs.Books.{empty_book}
+use Rattle.xsmp_messages.specs.declared.message.XsmpMessage.TheVariants.{InteractDone, InteractRequest, SaveYourself, SaveYourselfPhase2Request, SaveYourselfRequest, SetProperties}
+use Rattle.session_model.specs.declared.events.SessionEvent.{SessionEvent}
+use Rattle.session_model.specs.declared.events.SessionEvent.TheVariants.{Left, Operator}
+use Rattle.session_model.specs.Rules.{opened, run}
+use Rattle.session_model.specs.Examples.{asks_all, discards_by, entry_1, first_book, keeping, log_in_and_save, logs_in, removes, saved, says, sets}
+use Rattle.session_notes.specs.Notes.{Given, Heard, Note, entries, notes}
+use Rattle.session_notes.specs.Watching.{has_answered, has_token, is_to_save, requests, was_asked}
+use Rattle.session_notes.specs.Keeping.{book_in, id_in, is_discarded, new_ids, snapshot_in}
+
+-- what is noted after these events
+abbrev pub notes_after : List SessionEvent → List Note
+notes_after events = notes (entries (run (opened empty_book) events))
+
+-- two clients that save with any dialog, and both ask for the token
+abbrev pub two_ask : List SessionEvent
+two_ask = log_in_and_save (1 ∷ 2 ∷ []) ++ asks_all ∷ says 1 (InteractRequest Normal) ∷ says 2 (InteractRequest Normal) ∷ []
+
+-- the first of them has the token, and the request of the other is open
+abbrev pub TheTokenIsNoted : Type 0
+TheTokenIsNoted = (has_token 1 (notes_after two_ask) ≡ true) × (has_token 2 (notes_after two_ask) ≡ false) × (requests (notes_after two_ask) ≡ 2 ∷ [])
+
+-- the token goes on where its holder gives it back, and where it leaves
+abbrev pub TheTokenGoesOn : Type 0
+TheTokenGoesOn =
+    (has_token 1 (notes_after (two_ask ++ says 1 (InteractDone false) ∷ [])) ≡ false)
+    × (has_token 2 (notes_after (two_ask ++ says 1 (InteractDone false) ∷ [])) ≡ true)
+    × (has_token 2 (notes_after (two_ask ++ Left 1 ∷ [])) ≡ true)
+
+-- a request that is answered by an Error isn't noted, and none is open
+abbrev pub ARefusedRequestIsNotNoted : Type 0
+ARefusedRequestIsNotNoted =
+    take 2 (notes_after (log_in_and_save (1 ∷ []) ++ says 1 (SaveYourselfRequest Both false Errors false true) ∷ says 1 (InteractRequest Normal) ∷ []))
+    ≡ Given 1 (SaveYourself Both false Errors false) ∷ Heard 1 (SaveYourselfRequest Both false Errors false true) ∷ []
+
+-- one that has the token cancels a shutdown
+abbrev pub one_cancels : List SessionEvent
+one_cancels = log_in_and_save (1 ∷ 2 ∷ []) ++ Operator Shutdown ∷ says 1 (InteractRequest Normal) ∷ says 2 (InteractRequest Normal) ∷ says 1 (InteractDone true) ∷ []
+
+-- nobody has the token or asks for it then, and nobody is to save
+abbrev pub ACancelledShutdownIsNoted : Type 0
+ACancelledShutdownIsNoted =
+    (has_token 1 (notes_after one_cancels) ≡ false) × (requests (notes_after one_cancels) ≡ [])
+    × (was_asked 2 (notes_after one_cancels) ≡ false) × (is_to_save 2 (notes_after one_cancels) ≡ false)
+
+-- a checkpoint of two clients, of which one wants the second phase
+abbrev pub one_wants_two : List SessionEvent
+one_wants_two = log_in_and_save (1 ∷ 2 ∷ []) ++ Operator Checkpoint ∷ says 1 SaveYourselfPhase2Request ∷ []
+
+-- both are to save until both have, and one has answered
+abbrev pub AnswersAreNoted : Type 0
+AnswersAreNoted =
+    (is_to_save 1 (notes_after one_wants_two) ≡ true) × (has_answered 1 (notes_after one_wants_two) ≡ true)
+    × (is_to_save 2 (notes_after one_wants_two) ≡ true) × (has_answered 2 (notes_after one_wants_two) ≡ false)
+    × (is_to_save 2 (notes_after (one_wants_two ++ saved 2 ∷ saved 1 ∷ [])) ≡ false)
+
+-- a new client that says what it keeps, and saves
+abbrev pub one_saves : List SessionEvent
+one_saves = logs_in 1 ++ says 1 (SetProperties (keeping (codes "a"))) ∷ saved 1 ∷ []
+
+-- its ID is a new one, its snapshot is what it said, and both stand in the book
+abbrev pub ASaveIsNoted : Type 0
+ASaveIsNoted =
+    (id_in 1 (notes_after one_saves) ≡ Some (codes "smd-00000001-00000001")) × (new_ids empty_book (notes_after one_saves) ≡ codes "smd-00000001-00000001" ∷ [])
+    × (snapshot_in empty_book 1 (notes_after one_saves) ≡ Some (keeping (codes "a"))) × (book_in empty_book (notes_after one_saves) ≡ first_book (entry_1 (codes "a") ∷ []) [])
+
+-- the snapshot is gone as the client is asked to save again
+abbrev pub AnOldSnapshotIsGone : Type 0
+AnOldSnapshotIsGone = snapshot_in empty_book 1 (notes_after (one_saves ++ Operator Checkpoint ∷ [])) ≡ None
+
+-- a save takes the place of another
+abbrev pub one_saves_again : List SessionEvent
+one_saves_again = one_saves ++ Operator Checkpoint ∷ sets 1 (discards_by (codes "b")) ∷ saved 1 ∷ []
+
+-- the old state is discarded, until the client names it again
+abbrev pub ADiscardIsNoted : Type 0
+ADiscardIsNoted =
+    (is_discarded (removes (codes "a")) (notes_after one_saves_again) ≡ true) × (is_discarded (removes (codes "b")) (notes_after one_saves_again) ≡ false)
+    × (is_discarded (removes (codes "a")) (notes_after (one_saves_again ++ sets 1 (discards_by (codes "a")) ∷ [])) ≡ false)

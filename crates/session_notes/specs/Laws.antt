@@ -1,0 +1,79 @@
+-- Laws of every run, said of what is seen from outside alone. Each holds of each front of what is seen: at every moment, also
+-- in the middle of the answer to one event, whatever comes from outside. A message that came last counts as accepted until an Error
+-- stands behind it.
+use Rattle.std.specs.Prelude.{List, Some, [], false, true, ℕ, ◌+◌, ◌++◌, ◌||◌, ◌∷◌, ◌≡◌, ◌⊎◌}
+use Rattle.std.specs.List.{AllByRecursion, Contains, IsDistinct}
+use Rattle.std.specs.Str.{bytes_eq}
+use Rattle.sm_world.specs.declared.commands.Command.{Command}
+use Rattle.checkpoint_records.specs.declared.records.Book.{Book}
+use Rattle.checkpoint_records.specs.declared.records.Entry.{Entry as Kept}
+use Rattle.checkpoint_records.specs.Books.{names}
+use Rattle.checkpoint_records.specs.Rules.{KeepsRules}
+use Rattle.discard_ledger.specs.Discards.{is_among}
+use Rattle.xsmp_messages.specs.declared.message.XsmpMessage.TheVariants.{Interact, SaveYourselfPhase2}
+use Rattle.session_model.specs.declared.events.SessionEvent.{SessionEvent}
+use Rattle.session_model.specs.declared.events.Act.TheVariants.{Commit, Say}
+use Rattle.session_model.specs.Moves.{History, all_acts}
+use Rattle.session_model.specs.Rules.{opened, run}
+use Rattle.session_notes.specs.Notes.{Did, Entry, Note, acts_in, came_in, entries, notes}
+use Rattle.session_notes.specs.Keeping.{IsOfRun, book_in, id_in, is_discarded, is_started, new_ids, snapshot_in}
+use Rattle.session_notes.specs.Watching.{has_answered, has_token, is_to_save, requests}
+
+-- Somebody who watches has seen this so far, the oldest first: a run over this book shows it, and then goes on.
+pub record IsSeen (book : Book) (seen : List Entry) : Type 0 where
+  pub events : List SessionEvent
+  pub later : List Entry
+  pub parts : seen ++ later ≡ entries (run (opened book) events)
+
+-- each event is seen
+abbrev pub AllEventsAreSeen : Type 0
+AllEventsAreSeen = (book : Book) (events : List SessionEvent) → came_in (entries (run (opened book) events)) ≡ events
+
+-- all that the manager does is seen
+abbrev pub AllActsAreSeen : Type 0
+AllActsAreSeen = (h : History) → acts_in (entries h) ≡ all_acts h
+
+-- one connection has the token at most
+abbrev pub OneHasTheToken : Type 0
+OneHasTheToken = (book : Book) (seen : List Entry) (c d : ℕ) → IsSeen book seen → has_token c (notes seen) ≡ true → has_token d (notes seen) ≡ true → c ≡ d
+
+-- each Interact goes to the first whose request is open
+abbrev pub TheFirstIsServed : Type 0
+TheFirstIsServed = (book : Book) (seen : List Entry) (c : ℕ) → IsSeen book (seen ++ Did (Say c Interact) ∷ []) → (others : List ℕ) × (requests (notes seen) ≡ c ∷ others)
+
+-- where one is told to save in the second phase, all that are to save have answered
+abbrev pub TheSecondPhaseWaits : Type 0
+TheSecondPhaseWaits = (book : Book) (seen : List Entry) (c d : ℕ) → IsSeen book (seen ++ Did (Say c SaveYourselfPhase2) ∷ []) → is_to_save d (notes seen) ≡ true → has_answered d (notes seen) ≡ true
+
+-- Every new ID is of the run, whose epoch is one above that of the opened book, and the book that stands then is of this epoch
+-- too. So a later run, which opens such a book, gives IDs of a larger epoch.
+abbrev pub NewIdsAreOfTheRun : Type 0
+NewIdsAreOfTheRun =
+    (book : Book) (seen : List Entry) → IsSeen book seen → AllByRecursion (λ id. IsOfRun (book.epoch + 1) id × ((book_in book (notes seen)).epoch ≡ book.epoch + 1)) (new_ids book (notes seen))
+
+-- no two new IDs are alike
+abbrev pub NewIdsDiffer : Type 0
+NewIdsDiffer = (book : Book) (seen : List Entry) → IsSeen book seen → IsDistinct bytes_eq (new_ids book (notes seen))
+
+-- a client has saved this with success: it is the client's ID and snapshot
+pub record IsSaved (book : Book) (notes : List Note) (entry : Kept) : Type 0 where
+  pub conn : ℕ
+  pub id : id_in conn notes ≡ Some entry.id
+  pub table : snapshot_in book conn notes ≡ Some entry.table
+
+-- each entry of a book that is written stood in the book before, or a client has saved it with success
+abbrev pub EntriesWereSaved : Type 0
+EntriesWereSaved =
+    (book written : Book) (seen : List Entry) → IsSeen book (seen ++ Did (Commit written) ∷ []) → AllByRecursion (λ entry. Contains (book_in book (notes seen)).entries entry ⊎ IsSaved book (notes seen) entry) written.entries
+
+-- Once a command was started to discard a state, the book that stands doesn't name it, until somebody sets it as his DiscardCommand
+-- again. This asks that the opened book keeps the rules.
+abbrev pub DiscardedStatesAreNotNamed : Type 0
+DiscardedStatesAreNotNamed =
+    (book : Book) (seen : List Entry) (command : Command) → KeepsRules book → IsSeen book seen → is_discarded command (notes seen) ≡ true → names (book_in book (notes seen)) command ≡ false
+
+-- A command that is pending stays pending in the next book, or this book names it, or it was started between the two.
+abbrev pub PendingIsNotLost : Type 0
+PendingIsNotLost =
+    (book written : Book) (seen : List Entry) (command : Command) → IsSeen book (seen ++ Did (Commit written) ∷ []) → is_among command (book_in book (notes seen)).pending ≡ true
+    → (is_among command written.pending || names written command || is_started command (notes seen)) ≡ true

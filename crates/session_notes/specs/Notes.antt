@@ -1,0 +1,78 @@
+-- What somebody sees and notes who watches a session from outside: what comes, and what the manager does about it. He
+-- knows neither phases nor rounds.
+use Rattle.std.specs.Prelude.{List, [], cond, map, reverse, ℕ, ◌++◌, ◌==◌, ◌∷◌}
+use Rattle.sm_world.specs.declared.commands.Command.{Command}
+use Rattle.checkpoint_records.specs.declared.records.Book.{Book}
+use Rattle.xsmp_messages.specs.declared.message.XsmpMessage.{XsmpMessage}
+use Rattle.session_model.specs.declared.events.SessionEvent.{SessionEvent}
+use Rattle.session_model.specs.declared.events.SessionEvent.TheVariants.{Left, Said}
+use Rattle.session_model.specs.declared.events.Act.{Act}
+use Rattle.session_model.specs.declared.events.Act.TheVariants.{Blame, Commit, Say, Shut, Start}
+use Rattle.session_model.specs.Moves.{Cause, History, Move, Opened, Outside, Tried, acts_of, ◌▷◌}
+
+-- What is seen
+
+pub data Entry : Type 0 where
+  -- this came from outside
+  Came : SessionEvent → Entry
+  -- the manager did this
+  Did : Act → Entry
+  -- the manager started a command. An act alone doesn't say why, and of two starts of one command only the one that discards a
+  -- state says that nobody needs this state any more.
+  Launched : Cause → Command → Entry
+
+-- What is seen of a move. How rounds begin and end is not seen.
+abbrev pub entries_of : Move → List Entry
+entries_of (Outside event) = Came event ∷ []
+entries_of (Tried cause command) = Launched cause command ∷ []
+entries_of m = map Did (acts_of m)
+
+-- all that is seen of a history, the oldest first
+abbrev pub entries : History → List Entry
+entries (Opened book) = []
+entries (m ▷ h) = entries h ++ entries_of m
+
+-- what came from outside, among what is seen
+abbrev pub came_in : List Entry → List SessionEvent
+came_in [] = []
+came_in (Came event ∷ seen) = event ∷ came_in seen
+came_in (Did act ∷ seen) = came_in seen
+came_in (Launched cause command ∷ seen) = came_in seen
+
+-- the acts among what is seen
+abbrev pub acts_in : List Entry → List Act
+acts_in [] = []
+acts_in (Came event ∷ seen) = acts_in seen
+acts_in (Did act ∷ seen) = act ∷ acts_in seen
+acts_in (Launched cause command ∷ seen) = Start command ∷ acts_in seen
+
+-- What is noted
+
+pub data Note : Type 0 where
+  -- a message of this connection was accepted
+  Heard : ℕ → XsmpMessage → Note
+  -- the connection was sent a message
+  Given : ℕ → XsmpMessage → Note
+  -- the connection is gone: the outside ended it, or it was shut
+  Gone : ℕ → Note
+  -- a book was written
+  Wrote : Book → Note
+  -- a command was started, for this cause
+  Started : Cause → Command → Note
+
+-- What is noted of entries, both the latest first. A message is refused where the entry directly behind it is an Error to its
+-- connection, and isn't noted then.
+abbrev pub noted : List Entry → List Note
+noted [] = []
+noted (Did (Blame c error) ∷ Came (Said d m sequence frame) ∷ seen) = cond (d == c) (noted seen) (Heard d m ∷ noted seen)
+noted (Came (Said c m sequence frame) ∷ seen) = Heard c m ∷ noted seen
+noted (Came (Left c) ∷ seen) = Gone c ∷ noted seen
+noted (Did (Say c m) ∷ seen) = Given c m ∷ noted seen
+noted (Did (Shut c) ∷ seen) = Gone c ∷ noted seen
+noted (Did (Commit book) ∷ seen) = Wrote book ∷ noted seen
+noted (Launched cause command ∷ seen) = Started cause command ∷ noted seen
+noted (entry ∷ seen) = noted seen
+
+-- what is noted of entries, which stand the oldest first, as they are seen; the notes stand the latest first
+abbrev pub notes : List Entry → List Note
+notes seen = noted (reverse seen)

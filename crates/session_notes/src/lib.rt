@@ -1,0 +1,13 @@
+//! What an outsider may rely on: laws of every run of the session that speak of nothing but what is
+//! seen from outside, message by message and book by book.
+#![tactic(auto)]
+
+mod laws;
+mod sessions;
+
+pub use laws::{
+    all_acts_are_seen, all_events_are_seen, discarded_states_are_not_named, entries_were_saved,
+    new_ids_are_of_the_run, new_ids_differ, one_has_the_token, pending_is_not_lost,
+    the_first_is_served, the_second_phase_waits,
+};
+pub use sessions::notes_compute;
