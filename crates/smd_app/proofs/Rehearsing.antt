@@ -1,13 +1,21 @@
 -- A run on a world in memory, and its trace.
-use Rattle.std.proofs.Common.{◌≡◌, ℕ, true, false, List, [], Option, Some, Ok, Err, refl, sym, ◌∙◌, ap, subst}
+use Rattle.std.proofs.Common.{◌≡◌, inl, inr, ℕ, ◌==◌, IsTrue, true, false, List, [], length, slice_index, Option, Some, Result, Ok, Err, refl, sym, ◌∙◌, ap, subst, arith}
 use Rattle.std.proofs.lemmas.Bool.{false≢true}
 use Rattle.sm_world.specs.Effects.{heard}
-use Rattle.sm_world.specs.Outside.{adds, Added}
+use Rattle.sm_world.specs.Outside.{adds, Added, Outside}
 use Rattle.sm_world.specs.declared.effects.Effect.{Effect}
 use Rattle.sm_world.specs.declared.events.Event.{Event}
-use Rattle.session_engine.specs.Carries.{Serves, items}
-use Rattle.session_engine.specs.declared.fault.ServeFault.TheVariants.{Spent}
-use Rattle.smd_app.specs.Rehearsals.{Rehearses, rehearsal_cookie}
+use Rattle.checkpoint_records.specs.Books.{empty_book}
+use Rattle.checkpoint_records.specs.declared.records.Book.{Book}
+use Rattle.checkpoint_slots.specs.Causes.{IsSettled}
+use Rattle.checkpoint_slots.specs.Recovery.{Recovers}
+use Rattle.checkpoint_slots.proofs.Once.{recovers-once}
+use Rattle.session_engine.specs.Carries.{Opens, Rests, Serves}
+use Rattle.session_engine.specs.Doing.{items}
+use Rattle.session_engine.specs.Session.{Serving}
+use Rattle.session_engine.specs.declared.fault.ServeFault.{ServeFault}
+use Rattle.session_engine.specs.declared.fault.ServeFault.TheVariants.{Damaged, Spent, WrongSize}
+use Rattle.smd_app.specs.Rehearsals.{IsBlank, Rehearses, rehearsal_cookie}
 use Rattle.smd_app.specs.Trace.{text}
 use Rattle.smd_app.proofs.Heard.{run, ended_run, spent_run}
 
@@ -16,27 +24,79 @@ all_effects : (old new : Option (List Effect)) (shown effects : List Effect) →
 all_effects old new shown effects begins added is_shown =
     let same : Some shown ≡ Some effects = is_shown ∙ (added ∙ ap (λ told. adds told effects) begins) in cc
 
-pub finished_run : (old new : Option (List Effect)) (coming : Option (List Event)) (events : List Event) (turns : ℕ) (shown : List Effect) (trace : List ℕ) → old ≡ Some [] → coming ≡ Some events → Added old new (Serves rehearsal_cookie coming turns (Ok tt)) → Some shown ≡ new → trace ≡ text (items shown) → Rehearses events turns (record { trace = trace; finished = true })
-finished_run old new coming events turns shown trace begins is_coming run_added is_shown is_trace =
-    let P : Option (List Event) → Type 0 = λ told. Serves rehearsal_cookie told turns (Ok tt) run_added.effects in
+
+-- A store of which nobody wrote a byte
+
+blank_recovers : (file : List ℕ) → IsBlank file → Recovers file (Ok empty_book)
+blank_recovers file blank = rw (blank.first, blank.second) refl
+
+same_byte : (x y : ℕ) → IsTrue (x == y) → x ≡ y
+same_byte x y e = grind (arith, e)
+
+-- a world that was just made with it
+pub record IsFresh (old : Outside) (file : List ℕ) : Type 0 where
+  pub blank : IsBlank file
+  pub told : old.told ≡ Some []
+  pub first : old.first ≡ Some file
+  pub size : old.size ≡ 16777280
+
+fresh_settled : (old : Outside) (file : List ℕ) → IsFresh old file → IsSettled old file
+fresh_settled old file fresh = record {
+  began = file;
+  effects = [];
+  first = fresh.first;
+  told = fresh.told;
+  size = refl;
+  reads = λ i within. refl;
+  left = λ i byte within e. same_byte byte (slice_index file i) e;
+}
+
+ok_book : (one two : Book) → ◌≡◌ {A = Result Book ℕ} (Ok one) (Ok two) → one ≡ two
+ok_book one two e = cc
+
+-- a run over it is one over the book of nobody
+opens_blank : (old new : Outside) (file : List ℕ) (turns : ℕ) (answer : Result (Unit {0}) ServeFault) → IsFresh old file → (opens : Opens old new (λ opening current effects. Serves rehearsal_cookie opening current old.coming turns answer effects)) → Added old.told new.told (Serves rehearsal_cookie empty_book opens.current old.coming turns answer)
+opens_blank old new file turns answer fresh opens =
+    let found = opens.recovered file (fresh_settled old file fresh) in
+    let same : opens.book ≡ empty_book = ok_book opens.book empty_book (recovers-once file (Ok opens.book) (Ok empty_book) found.1.recovers (blank_recovers file fresh.blank)) in
+    rw (sym same) opens.adds
+
+-- what the recovery of it can't answer
+pub never_wrong : (old new : Outside) (file : List ℕ) (turns size : ℕ) → IsFresh old file → Serving rehearsal_cookie turns old new (Err (WrongSize size)) → ⊥
+never_wrong old new file turns size fresh (inl rests) = rests.cause.1 (rests.cause.0 ∙ (rests.kept file fresh.first ∙ fresh.size))
+never_wrong old new file turns size fresh (inr opens) = opens.adds.holds.runs.opened
+
+pub never_damaged : (old new : Outside) (file : List ℕ) (turns at : ℕ) → IsFresh old file → Serving rehearsal_cookie turns old new (Err (Damaged at)) → ⊥
+never_damaged old new file turns at fresh (inl rests) = no_damage (recovers-once file (Err at) (Ok empty_book) (rests.cause.1 file (fresh_settled old file fresh)) (blank_recovers file fresh.blank))
+  where
+    no_damage : ◌≡◌ {A = Result Book ℕ} (Err at) (Ok empty_book) → ⊥
+    no_damage e = cc
+never_damaged old new file turns at fresh (inr opens) = opens.adds.holds.runs.opened
+
+pub finished_run : (old new : Outside) (events : List Event) (turns : ℕ) (shown : List Effect) (trace : List ℕ) (file : List ℕ) → IsFresh old file → old.coming ≡ Some events → Serving rehearsal_cookie turns old new (Ok tt) → Some shown ≡ new.told → trace ≡ text (items shown) → Rehearses events turns (record { trace = trace; finished = true })
+finished_run old new events turns shown trace file fresh is_coming opens is_shown is_trace =
+    let run_added = opens_blank old new file turns (Ok tt) fresh opens in
+    let P : Option (List Event) → Type 0 = λ told. Serves rehearsal_cookie empty_book opens.current told turns (Ok tt) run_added.effects in
     let serves = subst P is_coming run_added.holds in
-    let same : shown ≡ run_added.effects = all_effects old new shown run_added.effects begins run_added.added is_shown in
-    let ended = ended_run turns events (heard run_added.effects) serves.brought serves.in_turns (serves.carries.ended refl) in
+    let same : shown ≡ run_added.effects = all_effects old.told new.told shown run_added.effects fresh.told run_added.added is_shown in
+    let ended = ended_run turns events (heard run_added.effects) serves.brought serves.in_turns (serves.runs.carries.ended refl) in
     record {
       ended = sym ended.within;
-      whole = λ e. is_trace ∙ ap text (ap items same ∙ (serves.in_order refl ∙ sym ended.same));
+      whole = λ e. is_trace ∙ ap text (ap items same ∙ (serves.runs.in_order refl ∙ sym ended.same));
       cut = λ e. absurd (false≢true (sym e));
     }
 
-pub spent_turns : (old new : Option (List Effect)) (coming : Option (List Event)) (events : List Event) (turns : ℕ) (shown : List Effect) (trace : List ℕ) → old ≡ Some [] → coming ≡ Some events → Added old new (Serves rehearsal_cookie coming turns (Err Spent)) → Some shown ≡ new → trace ≡ text (items shown) → Rehearses events turns (record { trace = trace; finished = false })
-spent_turns old new coming events turns shown trace begins is_coming run_added is_shown is_trace =
-    let P : Option (List Event) → Type 0 = λ told. Serves rehearsal_cookie told turns (Err Spent) run_added.effects in
+pub spent_turns : (old new : Outside) (events : List Event) (turns : ℕ) (shown : List Effect) (trace : List ℕ) (file : List ℕ) → IsFresh old file → old.coming ≡ Some events → Serving rehearsal_cookie turns old new (Err Spent) → Some shown ≡ new.told → trace ≡ text (items shown) → Rehearses events turns (record { trace = trace; finished = false })
+spent_turns old new events turns shown trace file fresh is_coming (inl rests) is_shown is_trace = absurd rests.cause
+spent_turns old new events turns shown trace file fresh is_coming (inr opens) is_shown is_trace =
+    let run_added = opens_blank old new file turns (Err Spent) fresh opens in
+    let P : Option (List Event) → Type 0 = λ told. Serves rehearsal_cookie empty_book opens.current told turns (Err Spent) run_added.effects in
     let serves = subst P is_coming run_added.holds in
-    let same : shown ≡ run_added.effects = all_effects old new shown run_added.effects begins run_added.added is_shown in
+    let same : shown ≡ run_added.effects = all_effects old.told new.told shown run_added.effects fresh.told run_added.added is_shown in
     let spent = serves.spent refl in
     let cut = spent_run turns events (heard run_added.effects) serves.brought spent.0 spent.1 in
     record {
       ended = sym cut.unended;
       whole = λ e. absurd (false≢true e);
-      cut = λ e. (cut.few, is_trace ∙ ap text (ap items same ∙ (serves.in_order refl ∙ ap run cut.same)));
+      cut = λ e. (cut.few, is_trace ∙ ap text (ap items same ∙ (serves.runs.in_order refl ∙ ap run cut.same)));
     }

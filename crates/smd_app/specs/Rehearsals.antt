@@ -1,5 +1,5 @@
 -- A rehearsal: a script's events, and then End, are run on a world in memory, whose store has no book yet.
-use Rattle.std.specs.Prelude.{◌≡◌, ℕ, ◌≤◌, Bool, true, false, List, [], ◌∷◌, ◌++◌, length, take}
+use Rattle.std.specs.Prelude.{◌≡◌, ℕ, ◌≤◌, Bool, true, false, List, [], ◌∷◌, ◌++◌, length, slice_index, take}
 use Rattle.sm_world.specs.declared.events.Event.{Event}
 use Rattle.sm_world.specs.declared.events.Event.TheVariants.{End}
 use Rattle.checkpoint_records.specs.Books.{empty_book}
@@ -14,6 +14,12 @@ use Rattle.smd_app.specs.declared.rehearsal.Rehearsal.{Rehearsal}
 -- the cookie of each rehearsal
 abbrev pub rehearsal_cookie : Cookie
 rehearsal_cookie = record { 0 = 0 ∷ 1 ∷ 2 ∷ 3 ∷ 4 ∷ 5 ∷ 6 ∷ 7 ∷ 8 ∷ 9 ∷ 10 ∷ 11 ∷ 12 ∷ 13 ∷ 14 ∷ 15 ∷ [] }
+
+-- the store of each rehearsal: a file of the right size, no gate of which is open
+pub record IsBlank (file : List ℕ) : Type 0 where
+  pub size : length file ≡ 16777280
+  pub first : slice_index file 0 ≡ 0
+  pub second : slice_index file 32 ≡ 0
 
 -- what is read as the script: of one that is too long, one byte more than it can have
 abbrev pub script_of : List ℕ → List ℕ

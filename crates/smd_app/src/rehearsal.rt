@@ -1,7 +1,7 @@
 ghost use Rattle.std.specs.Prelude.{◌≡◌, length, IfOk};
 ghost use Rattle.std.specs.List.{AllByRecursion};
 ghost use Rattle.sm_world.specs.Events.{HasPieceSize};
-ghost use Rattle.smd_app.specs.Rehearsals.{Rehearses};
+ghost use Rattle.smd_app.specs.Rehearsals.{IsBlank, Rehearses};
 
 use crate::trace::trace_text;
 use ice_cookie::Cookie;
@@ -26,7 +26,7 @@ pub struct Rehearsal {
 
 /// A store that nothing was written to: its bytes are 0.
 fn blank_store(alloc: Global) -> Result<Octets, NoMemory>
-    ensures { IfOk result (λ store. length store ≡ 16777280) }
+    ensures { IfOk result IsBlank }
 {
     Ok(Octets::from_vec(vec![in alloc; 0; STORE_LEN]?))
 }
