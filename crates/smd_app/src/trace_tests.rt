@@ -187,14 +187,16 @@ fn expanded_all(alloc: Global, text: &str, words: &[(&str, &str)]) -> Result<Str
     Ok(text)
 }
 
-/// The digits of a name. Another word stays as it is.
-fn digits<'a>(names: &[(&'a str, &'a str)], word: &'a str) -> &'a str {
+/// Appends the digits of a name. Another word is appended as it is.
+fn put_name(out: &mut String, names: &[(&str, &str)], word: &str) -> Result<(), Fail> {
     for (name, hex) in names {
         if *name == word {
-            return hex;
+            out.push_str(hex)?;
+            return Ok(());
         }
     }
-    word
+    out.push_str(word)?;
+    Ok(())
 }
 
 /// Appends the digits of the number of an ID, which stand behind the front of all IDs, and the
@@ -210,8 +212,21 @@ fn put_number(alloc: Global, out: &mut String, number: &str) -> Result<(), Fail>
     Ok(())
 }
 
-/// Appends bytes: parts with `+` between them, each of which is a name, an ID (`#` and its number)
-/// or digits.
+/// Appends a part of bytes: a name, an ID (`#` and its number) or digits.
+fn put_part(
+    alloc: Global,
+    out: &mut String,
+    names: &[(&str, &str)],
+    part: &str,
+) -> Result<(), Fail> {
+    if let Some(number) = part.strip_prefix('#') {
+        put_name(out, names, "SMD")?;
+        return put_number(alloc, out, number);
+    }
+    put_name(out, names, part)
+}
+
+/// Appends bytes: parts with `+` between them.
 fn put_bytes(
     alloc: Global,
     out: &mut String,
@@ -219,13 +234,7 @@ fn put_bytes(
     bytes: &str,
 ) -> Result<(), Fail> {
     for part in bytes.split('+') {
-        match part.strip_prefix('#') {
-            Some(number) => {
-                out.push_str(digits(names, "SMD"))?;
-                put_number(alloc, out, number)?;
-            }
-            None => out.push_str(digits(names, part))?,
-        }
+        put_part(alloc, out, names, part)?;
     }
     Ok(())
 }
