@@ -4,14 +4,24 @@
 mod fault;
 mod identity;
 mod laws;
+#[cfg(test)]
+mod orders_tests;
+#[cfg(test)]
+mod phases_tests;
 mod program;
 mod rehearsal;
+#[cfg(test)]
+mod rounds_tests;
 #[cfg(test)]
 mod rows;
 mod script;
 #[cfg(test)]
+mod session_tests;
+#[cfg(test)]
 mod tests;
 mod trace;
+#[cfg(test)]
+mod trace_tests;
 
 pub use identity::Identity;
 pub use laws::statuses_exclude_each_other;
