@@ -4,6 +4,7 @@ pub mod Connections
 pub mod Adding
 pub mod Performing
 pub mod Storing
+pub mod Counting
 pub mod Inner
 pub mod Following
 pub mod Showing

@@ -225,12 +225,12 @@ performs_deed current effect act deed = record {
   saves = λ first before book stands n. one_front effect n (λ zs. (file : List ℕ) → Image first (before ++ zs) file → IsSaved book (act ∷ []) (deeds zs) file)
       (λ file image. record { front = []; rest = act ∷ []; parts = refl; same = refl; recovers = (stands.images file (rw (append-nil before) at image)).recovers })
       (λ file image. record {
-      front = act ∷ [];
-      rest = [];
-      parts = refl;
-      same = rw deed.done.does refl;
-      recovers = rw (deed.keeps book) ((stands_quiet current book first before effect deed.quiet stands).images file image).recovers;
-    });
+        front = act ∷ [];
+        rest = [];
+        parts = refl;
+        same = rw deed.done.does refl;
+        recovers = rw (deed.keeps book) ((stands_quiet current book first before effect deed.quiet stands).images file image).recovers;
+      });
   leaves = λ first before book stands. rw (deed.keeps book) (stands_quiet current book first before effect deed.quiet stands);
   counts = omega (arith, deed.uncounted);
   worn = λ e. absurd cc;

@@ -8,6 +8,7 @@ pub mod Machine
 pub mod Doing
 pub mod Starting
 pub mod Saved
+pub mod Counted
 pub mod Carries
 pub mod Session
 pub mod Places

@@ -17,7 +17,7 @@ mod shell;
 pub use acts::Act;
 pub use answers::{Answer, Outcome};
 pub use fault::ServeFault;
-pub use laws::at_most_64_live;
+pub use laws::{at_most_64_live, checkpoints_are_in_their_place};
 pub use messages::Message;
 pub use session::{Session, Stepped, serve};
 

@@ -138,12 +138,7 @@ impl Shell {
 
     /// Writes a checkpoint: it is spelled before the disk is touched, and stands in the store once
     /// its gate is lifted.
-    fn commit<W: Disk>(
-        &mut self,
-        world: &mut W,
-        store: Steady,
-        book: &Book,
-    ) -> Result<Steady, Halt>
+    fn commit<W: Disk>(&mut self, world: &mut W, store: Steady, book: &Book) -> Result<Steady, Halt>
         requires size { (W.outside world.old).size ≡ 16777280 }
         requires rules { KeepsRules book.now }
         ensures done { Added (W.outside world.old).told (W.outside world.new).told (Performs store (Commits book.now ∷ []) result) }
