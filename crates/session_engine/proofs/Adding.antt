@@ -1,13 +1,11 @@
 -- One act after the other: what their effects do, and the cause of a halt.
-use Rattle.std.proofs.Common.{◌≡◌, inl, inr, arith, Bool, true, false, List, [], ◌∷◌, ◌++◌, map, Option, Result, Ok, Err, is_ok, refl, sym, ◌∙◌, ap, append_assoc}
+use Rattle.std.proofs.Common.{◌≡◌, inl, inr, arith, List, [], ◌∷◌, ◌++◌, map, refl, sym, ◌∙◌, ap, append_assoc}
 use Rattle.std.proofs.lemmas.List.{append-nil, map-append}
-use Rattle.std.proofs.lemmas.Bool.{false≢true}
 use Rattle.std.proofs.lemmas.Grind.{flat_map-append}
 use Rattle.sm_world.specs.Effects.{event_of, deed_of, file_of}
-use Rattle.sm_world.specs.Outside.{adds, on_ok, Added, NotFallen}
+use Rattle.sm_world.specs.Outside.{NotFallen}
 use Rattle.sm_world.specs.declared.effects.Effect.{Effect}
 use Rattle.sm_world.specs.declared.failures.Faults.{Faults}
-use Rattle.sm_world.proofs.Adding.{adds-adds, adds-none}
 use Rattle.session_engine.specs.Acts.{deed_in}
 use Rattle.session_engine.specs.Doing.{Going, item_of}
 use Rattle.session_engine.specs.Causes.{IsCaused, HasCause, fault_of}

@@ -1,5 +1,5 @@
 -- What a run was brought, and what is still to come.
-use Rattle.std.proofs.Common.{◌≡◌, ℕ, zero, suc, ◌+◌, List, [], ◌∷◌, ◌++◌, length, drop, Option, Some, None, Result, Ok, refl, sym, ◌∙◌, ap, arith, length-append}
+use Rattle.std.proofs.Common.{◌≡◌, ℕ, zero, suc, List, [], ◌∷◌, ◌++◌, length, drop, Option, Some, None, Ok, refl, sym, ◌∙◌, ap, arith, length-append}
 use Rattle.sm_world.specs.Events.{next_of}
 use Rattle.sm_world.specs.Outside.{TakesNext}
 use Rattle.sm_world.specs.declared.events.Event.{Event}

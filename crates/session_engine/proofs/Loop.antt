@@ -1,10 +1,8 @@
 -- The engine's loop: what one turn adds to the effects of a run, whether the world tells them or not.
-use Rattle.std.proofs.Common.{◌≡◌, ◌≢◌, ◌⊎◌, inl, inr, ℕ, zero, suc, ◌+◌, ◌<◌, ◌≤◌, Bool, true, false, List, [], ◌∷◌, ◌++◌, length, take, drop, Option, Some, None, Result, Ok, Err, IsOk, IsErrOf, refl, sym, ◌∙◌, ap, subst, append_assoc, arith}
+use Rattle.std.proofs.Common.{◌≡◌, inl, inr, ℕ, zero, suc, ◌<◌, ◌≤◌, true, false, List, [], ◌∷◌, ◌++◌, length, take, drop, Option, Result, Ok, Err, refl, sym, ◌∙◌, ap, subst, append_assoc, arith}
 use Rattle.std.proofs.lemmas.Bool.{false≢true}
-use Rattle.std.proofs.lemmas.List.{append-nil}
-use Rattle.sm_world.specs.Crash.{Image}
 use Rattle.sm_world.specs.Disk.{HasToldSize}
-use Rattle.sm_world.specs.Effects.{deeds, heard, published}
+use Rattle.sm_world.specs.Effects.{heard}
 use Rattle.sm_world.specs.Outside.{Added, Outside, TakesNext, adds}
 use Rattle.sm_world.specs.declared.effects.Effect.{Effect}
 use Rattle.sm_world.specs.declared.effects.Effect.TheVariants.{Heard}
@@ -21,12 +19,12 @@ use Rattle.checkpoint_slots.proofs.Once.{only-file, recovers-once, settled-stand
 use Rattle.ice_cookie.specs.declared.cookies.Cookie.{Cookie}
 use Rattle.session_model.specs.Readings as of
 use Rattle.session_model.specs.declared.marks.Marks.{Marks}
-use Rattle.session_engine.specs.Acts.{book_after, deeds_in, has_finish}
-use Rattle.session_engine.specs.Carries.{Brought, FailsOr, IsRecovered, IsUnopened, KeepsItsWord, Opens, Rests, Runs, Serves, is_whole, script}
+use Rattle.session_engine.specs.Acts.{deeds_in, has_finish}
+use Rattle.session_engine.specs.Carries.{IsRecovered, IsUnopened, KeepsItsWord, Opens, Rests, Serves, is_whole, script}
 use Rattle.session_engine.specs.Causes.{IsNotWorn, IsOfRun, fault_of, opening_fault_of}
 use Rattle.session_engine.specs.Machine.{Machine, acts_of, after_all, opening_acts, start, step}
-use Rattle.session_engine.specs.Saved.{IsSaved, Performs}
-use Rattle.session_engine.specs.Session.{IsCut, Serving, StandsFor, Starts, StepsTo, kept}
+use Rattle.session_engine.specs.Saved.{Performs}
+use Rattle.session_engine.specs.Session.{Serving, StandsFor, Starts, StepsTo}
 use Rattle.session_engine.specs.Shown.{Carried, IsShown, Shows, all_cut}
 use Rattle.session_engine.specs.declared.engine.Engine.{Engine}
 use Rattle.session_engine.specs.declared.fault.Halt.{Halt}
@@ -39,7 +37,7 @@ use Rattle.session_engine.specs.declared.session.Stepped.TheVariants.{Goes, Fini
 use Rattle.session_engine.proofs.Adding.{never_spent}
 use Rattle.session_engine.proofs.Brought.{BroughtSoFar, brought_is, brought_more, brought_none, brought_nothing, length-more}
 use Rattle.session_engine.proofs.Running.{after_all-more, heard-more, none_is_heard}
-use Rattle.session_engine.proofs.Sessions.{halt_of_run, runs_cut_short, runs_end, runs_over, runs_unopened, stands_begin, stands_more, the_fault}
+use Rattle.session_engine.proofs.Sessions.{halt_of_run, ok_is_no_fault, runs_cut_short, runs_end, runs_over, runs_unopened, stands_begin, stands_more, the_fault}
 
 -- The loop
 
@@ -181,7 +179,7 @@ loop_ends cookie turns n old now between later session event stepped marks is in
           runs = step.holds.1.0;
           brought = rw is_heard (brought_is old.coming between.coming (heard es ++ event ∷ []) (brought_more old.coming now.coming between.coming (heard es) event held.adds.holds.brought takes));
           in_turns = omega (arith, ap length is_heard, length-more (heard es) event, held.adds.holds.count);
-          spent = λ e. absurd cc;
+          spent = λ e. absurd (ok_is_no_fault Spent e);
         };
       };
     }

@@ -1,11 +1,10 @@
 -- Acts that are done one after another: what was done, and what the store has at each point.
-use Rattle.std.proofs.Common.{◌≡◌, inl, inr, arith, ℕ, ◌+◌, ◌-◌, ◌<◌, ◌≤◌, zero, suc, Bool, true, false, List, [], ◌∷◌, ◌++◌, length, take, drop, map, Option, Result, Ok, Err, IfOk, IsErrOf, is_ok, refl, sym, ◌∙◌, ap, subst, append_assoc, IsTrue}
+use Rattle.std.proofs.Common.{◌≡◌, inl, inr, arith, ℕ, ◌+◌, ◌-◌, ◌≤◌, zero, suc, Bool, true, false, List, [], ◌∷◌, ◌++◌, length, take, Option, Result, Ok, Err, IfOk, IsErrOf, is_ok, refl, sym, ◌∙◌, ap, subst, append_assoc}
 use Rattle.std.proofs.Math.Seq.{take-append-add}
 use Rattle.std.proofs.lemmas.List.{append-nil, take-append-le}
 use Rattle.std.proofs.lemmas.Bool.{cases_lt, false≢true}
 use Rattle.std.proofs.lemmas.Grind.{flat_map-append}
-use Rattle.std.specs.List.{AllByRecursion}
-use Rattle.sm_world.specs.Crash.{Image, LeavesStore, cell_of, readable}
+use Rattle.sm_world.specs.Crash.{Image, LeavesStore}
 use Rattle.sm_world.specs.Effects.{Deed, deed_of, deeds}
 use Rattle.sm_world.specs.Outside.{Added, adds, on_ok}
 use Rattle.sm_world.specs.declared.commands.Command.{Command}
@@ -14,10 +13,9 @@ use Rattle.sm_world.specs.declared.effects.Effect.TheVariants.{Started}
 use Rattle.sm_world.proofs.Adding.{adds-adds, adds-none}
 use Rattle.sm_world.proofs.Cells.{quiet_cells, same_images}
 use Rattle.checkpoint_records.specs.declared.records.Book.{Book}
-use Rattle.checkpoint_slots.specs.Recovery.{Recovers}
-use Rattle.checkpoint_slots.specs.Turns.{SteadyFile, SteadyStands, next_generation}
+use Rattle.checkpoint_slots.specs.Turns.{SteadyStands, next_generation}
 use Rattle.checkpoint_slots.specs.declared.turn.Current.{Current}
-use Rattle.session_engine.specs.Acts.{book_after, book_with, commits_in, commits_by, deed_in, deeds_in, kind_of}
+use Rattle.session_engine.specs.Acts.{book_after, book_with, commits_in, deed_in, deeds_in}
 use Rattle.session_engine.specs.Causes.{IsNotWorn}
 use Rattle.session_engine.specs.Doing.{CarriesOut, Going}
 use Rattle.session_engine.specs.Saved.{IsSaved, Leaves, Performs, Saves, WearsOut}

@@ -1,21 +1,20 @@
 -- What a session stands for, from event to event: the theorem about the engine, on lists alone.
-use Rattle.std.proofs.Common.{◌≡◌, inl, inr, ℕ, zero, suc, ◌+◌, Bool, true, false, List, [], ◌∷◌, ◌++◌, take, drop, map, Option, Result, Ok, Err, IsOk, IsErrOf, is_ok, refl, sym, ◌∙◌, ap, arith, append_assoc}
-use Rattle.std.proofs.lemmas.List.{append-nil, take-append-drop}
+use Rattle.std.proofs.Common.{◌≡◌, ℕ, true, false, List, [], ◌∷◌, ◌++◌, take, drop, map, Option, Result, Ok, Err, IsOk, IsErrOf, refl, sym, ◌∙◌, ap, arith, append_assoc}
+use Rattle.std.proofs.lemmas.List.{append-nil}
 use Rattle.std.proofs.lemmas.Bool.{false≢true}
 use Rattle.std.proofs.lemmas.Grind.{flat_map-append}
 use Rattle.sm_world.specs.Crash.{Image}
-use Rattle.sm_world.specs.Effects.{deed_of, deeds, heard}
+use Rattle.sm_world.specs.Effects.{deeds, heard}
 use Rattle.sm_world.specs.declared.effects.Effect.{Effect}
 use Rattle.sm_world.specs.declared.effects.Effect.TheVariants.{Heard}
 use Rattle.sm_world.specs.declared.events.Event.{Event}
 use Rattle.checkpoint_records.specs.declared.records.Book.{Book}
-use Rattle.checkpoint_slots.specs.Turns.{SteadyStands, next_generation}
+use Rattle.checkpoint_slots.specs.Turns.{SteadyStands}
 use Rattle.checkpoint_slots.specs.declared.turn.Current.{Current}
 use Rattle.ice_cookie.specs.declared.cookies.Cookie.{Cookie}
 use Rattle.session_engine.specs.Acts.{book_after, commits_in, deed_in, deeds_in, has_finish}
-use Rattle.session_engine.specs.Carries.{Carries as CarriesWith, IsCurrent as IsCurrentWith, Keeps as KeepsWith, Runs as RunsWith, is_whole}
+use Rattle.session_engine.specs.Carries.{IsCurrent as IsCurrentWith, Keeps as KeepsWith, Runs as RunsWith, is_whole}
 use Rattle.session_engine.specs.Causes.{IsOfRun, fault_of}
-use Rattle.session_engine.specs.Doing.{CarriesOut, items}
 use Rattle.session_engine.specs.Machine.{Did, Machine, acts_of, after_all, step}
 use Rattle.session_engine.specs.Saved.{IsSaved, Performs, WearsOut}
 use Rattle.session_engine.specs.Session.{StandsFor as StandsForWith}
@@ -57,6 +56,9 @@ worn_halt WantsMemory e = absurd cc
 
 pub the_fault : (one other : ServeFault) → ◌≡◌ {A = Result (Unit {0}) ServeFault} (Err one) (Err other) → one ≡ other
 the_fault one other e = cc
+
+pub ok_is_no_fault : (fault : ServeFault) → ◌≡◌ {A = Result (Unit {0}) ServeFault} (Ok tt) (Err fault) → ⊥
+ok_is_no_fault fault e = cc
 
 fault_is_no_ok : (fault : ServeFault) → IsOk {T = Unit {0}} (Err fault) → ⊥
 fault_is_no_ok fault e = false≢true e
@@ -187,7 +189,7 @@ module _ (cookie : Cookie) (opening : Book) where
     keeps = keeps_more current session es ds event (Ok next) held performs;
     is_current = λ e first before stands file image. ((store_more current session next es ds event held performs first before stands).images file image).recovers;
     opened = tt;
-    worn = λ e. absurd cc;
+    worn = λ e. absurd (ok_is_no_fault Worn e);
   }
 
   worn_more : (current : Option Current) (session : Session) (es ds : List Effect) (event : Event) → StandsFor current session es → heard ds ≡ [] → WearsOut session.store (acts_at es event) ds → WearsOut current (script (heard (es ++ Heard event ∷ ds))) (es ++ Heard event ∷ ds)

@@ -1,28 +1,25 @@
 -- A commit: its effects are the store's, and swap the old checkpoint for the new one.
-use Rattle.std.proofs.Common.{◌≡◌, ◌⊎◌, inl, inr, arith, ℕ, ◌+◌, ◌<◌, ◌≤◌, ◌^◌, zero, suc, false, List, [], ◌∷◌, ◌++◌, length, take, Option, Some, None, Result, Ok, Err, IfOk, refl, sym, ◌∙◌, ap, subst, append_assoc}
-use Rattle.std.proofs.lemmas.List.{append-nil, take_all}
+use Rattle.std.proofs.Common.{◌≡◌, ◌⊎◌, inl, inr, arith, ℕ, ◌<◌, ◌≤◌, ◌^◌, zero, suc, List, [], ◌∷◌, ◌++◌, length, take, Option, Some, Result, Ok, Err, refl, sym, ◌∙◌, ap, subst, append_assoc}
+use Rattle.std.proofs.lemmas.List.{take_all}
 use Rattle.std.proofs.lemmas.Bool.{cases_lt, false≢true}
-use Rattle.std.proofs.lemmas.Grind.{flat_map-append}
 use Rattle.std.specs.List.{AllByRecursion}
 use Rattle.sm_world.specs.Crash.{Image}
-use Rattle.sm_world.specs.Effects.{deed_of, deeds, event_of, file_of, heard, published}
+use Rattle.sm_world.specs.Effects.{deeds, heard, published}
 use Rattle.sm_world.specs.Outside.{Added, adds}
 use Rattle.sm_world.specs.declared.effects.Effect.{Effect}
 use Rattle.sm_world.specs.declared.effects.Effect.TheVariants.{Heard, Sent, Shut, Started, Wrote, Torn, Synced, SyncFailed, Published, Printed}
 use Rattle.sm_world.proofs.Adding.{adds-adds, adds-none}
-use Rattle.checkpoint_records.specs.Rules.{KeepsRules}
 use Rattle.checkpoint_records.specs.declared.records.Book.{Book}
 use Rattle.checkpoint_slots.specs.Causes.{IsSpellFault}
 use Rattle.checkpoint_slots.specs.Recovery.{Recovers, slot_bytes}
-use Rattle.checkpoint_slots.specs.Turns.{ClosedStands, Closes, FilledStands, Fills, IsNext, IsOfStore, Lifts, SteadyStands, Swap, next_generation, target}
+use Rattle.checkpoint_slots.specs.Turns.{Closes, FilledStands, Fills, IsNext, IsOfStore, Lifts, SteadyStands, next_generation, target}
 use Rattle.checkpoint_slots.specs.declared.fault.StoreFault.{StoreFault}
 use Rattle.checkpoint_slots.specs.declared.fault.StoreFault.TheVariants.{WrongSize, Damaged, DiskFault, Worn as IsWorn, NoMemory}
 use Rattle.checkpoint_slots.specs.declared.turn.Current.{Current}
 use Rattle.session_engine.specs.Causes.{commit_halt_of}
-use Rattle.session_engine.specs.Doing.{item_of, items}
+use Rattle.session_engine.specs.Doing.{items}
 use Rattle.session_engine.specs.Saved.{IsSaved, Performs}
 use Rattle.session_engine.specs.declared.acts.Act.TheVariants.{Commit}
-use Rattle.session_engine.specs.declared.fault.Halt.{Halt}
 use Rattle.session_engine.specs.declared.fault.Halt.TheVariants.{Disk}
 use Rattle.session_engine.proofs.Adding.{still}
 use Rattle.session_engine.proofs.Performing.{fronts_two, performs_none, saved_still}

@@ -1,5 +1,5 @@
 -- What a crash leaves, counted: the checkpoints of a script in their order, and which of them may stand once so many deeds are done.
-use Rattle.std.specs.Prelude.{◌≡◌, ℕ, zero, suc, ◌+◌, ◌≤◌, List, [], ◌∷◌, length, Ok}
+use Rattle.std.specs.Prelude.{ℕ, zero, suc, ◌+◌, ◌≤◌, List, [], ◌∷◌, length, Ok}
 use Rattle.std.specs.List.{flat_map}
 use Rattle.sm_world.specs.Effects.{Deed}
 use Rattle.checkpoint_records.specs.declared.records.Book.{Book}

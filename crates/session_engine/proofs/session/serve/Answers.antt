@@ -1,7 +1,6 @@
-use Rattle.std.proofs.Common.{◌≡◌, ◌+◌, ◌≤◌, refl, sym, ◌∙◌, arith}
+use Rattle.std.proofs.Common.{◌+◌, refl, ◌∙◌, arith}
 use Rattle.sm_world.proofs.Adding.{fallen_never}
-use Rattle.session_engine.specs.Session.{Serving}
-use Rattle.session_engine.specs.declared.fault.ServeFault.TheVariants.{Spent, Worn}
+use Rattle.session_engine.specs.declared.fault.ServeFault.TheVariants.{Spent}
 use Rattle.session_engine.proofs.Loop.{keeps_word, loop_begins, loop_cut_short, loop_ends, loop_goes_on, loop_over, loop_silent, loop_unopened, shown_in}
 use Rattle.session_engine.proofs.session.serve.Goals as goal
 

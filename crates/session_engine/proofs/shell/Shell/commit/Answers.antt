@@ -1,4 +1,4 @@
-use Rattle.std.proofs.Common.{rules, ◌<◌, ◌^◌, ◌∙◌}
+use Rattle.std.proofs.Common.{rules, ◌∙◌}
 use Rattle.checkpoint_slots.specs.Turns.{IsNext}
 use Rattle.session_engine.proofs.Storing.{told_commit, told_unclosed, told_unfilled, told_unlifted, told_unspelled}
 use Rattle.session_engine.proofs.shell.Shell.commit.Goals as goal
