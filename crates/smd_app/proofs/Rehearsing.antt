@@ -1,6 +1,7 @@
 -- A run on a world in memory, and its trace.
-use Rattle.std.proofs.Common.{◌≡◌, inl, inr, ℕ, ◌==◌, IsTrue, true, false, List, [], length, slice_index, Option, Some, Result, Ok, Err, refl, sym, ◌∙◌, ap, subst, arith}
+use Rattle.std.proofs.Common.{◌≡◌, inl, inr, ℕ, ◌==◌, IsTrue, true, false, List, [], length, replicate, slice_index, ◌<◌, Option, Some, Result, Ok, Err, refl, sym, ◌∙◌, ap, subst, arith}
 use Rattle.std.proofs.lemmas.Bool.{false≢true}
+use Rattle.std.proofs.lemmas.List.{get_or-replicate, length-replicate}
 use Rattle.sm_world.specs.Effects.{heard}
 use Rattle.sm_world.specs.Outside.{adds, Added, Outside}
 use Rattle.sm_world.specs.declared.effects.Effect.{Effect}
@@ -26,6 +27,17 @@ all_effects old new shown effects begins added is_shown =
 
 
 -- A store of which nobody wrote a byte
+
+zero_at : (n i : ℕ) (xs : List ℕ) → xs ≡ replicate n 0 → i < n → slice_index xs i ≡ 0
+zero_at n i xs e h = ap (λ (ys : List ℕ). slice_index ys i) e ∙ get_or-replicate n i 0 0 h
+
+-- so many zeros are such a store
+pub blank_of : (n : ℕ) (xs : List ℕ) → n ≡ 16777280 → xs ≡ replicate n 0 → IsBlank xs
+blank_of n xs size e = record {
+  size = ap (λ (ys : List ℕ). length ys) e ∙ (length-replicate n 0 ∙ size);
+  first = zero_at n 0 xs e (omega (arith, size));
+  second = zero_at n 32 xs e (omega (arith, size));
+}
 
 blank_recovers : (file : List ℕ) → IsBlank file → Recovers file (Ok empty_book)
 blank_recovers file blank = rw (blank.first, blank.second) refl

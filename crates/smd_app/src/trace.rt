@@ -1,5 +1,5 @@
 ghost use Rattle.std.specs.Prelude.{◌≡◌, ◌++◌, IfOk, OnOk};
-ghost use Rattle.session_engine.specs.Carries.{item_of, items};
+ghost use Rattle.session_engine.specs.Doing.{item_of, items};
 ghost use Rattle.control_lines.specs.Traces.{whole_line};
 ghost use Rattle.smd_app.specs.Trace.{text};
 

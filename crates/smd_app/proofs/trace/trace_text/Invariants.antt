@@ -1,5 +1,5 @@
 use Rattle.std.proofs.Common.{◌≡◌, take}
-use Rattle.session_engine.specs.Carries.{items}
+use Rattle.session_engine.specs.Doing.{items}
 use Rattle.smd_app.specs.Trace.{text}
 use Rattle.smd_app.proofs.trace.trace_text.Given as goal
 
