@@ -1,0 +1,4 @@
+use Rattle.client_callbacks.proofs.saying.register.Goals as goal
+
+pub say-requires : goal.say-requires
+say-requires g c = ?

@@ -1,0 +1,7 @@
+pub mod Messages
+pub mod Answers
+pub mod Received
+pub mod Listening
+pub mod Script
+pub mod Doing
+pub mod Running

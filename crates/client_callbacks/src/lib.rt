@@ -1,0 +1,17 @@
+//! A client that joins a session, and leaves what it saves and why it closes to its callbacks.
+#![tactic(auto)]
+
+mod callbacks;
+mod ends;
+mod joiner;
+mod messages;
+mod received;
+mod saying;
+mod taking;
+mod talk;
+#[cfg(test)]
+mod tests;
+
+pub use callbacks::{Cancels, Dies, Saves};
+pub use ends::{ClientEnd, JoinFault};
+pub use joiner::{Join, Joiner};
