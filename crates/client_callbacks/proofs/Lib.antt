@@ -1,2 +1,4 @@
+pub mod ActLaws
 pub mod DoingLaws
 pub mod Short
+pub mod SpeakLaws

@@ -1,12 +1,14 @@
 //! A client that joins a session, and leaves what it saves and why it closes to its callbacks.
 #![tactic(auto)]
 
+mod acting;
 mod callbacks;
 mod ends;
 mod joiner;
 mod messages;
 mod received;
 mod saying;
+mod speaking;
 mod taking;
 mod talk;
 #[cfg(test)]
