@@ -1,4 +1,5 @@
 pub mod ActLaws
 pub mod DoingLaws
 pub mod Short
+pub mod Shortness
 pub mod SpeakLaws

@@ -51,10 +51,10 @@ impl<S: Saves, D: Dies, C: Cancels> Joiner<S, D, C> {
             Err(NoMemory) => return Err(Failure::NoMemory),
         }
         if arrival.counts.saves == 1 {
-            return match close(alloc, peer, Array8List::new(alloc)) {
-                Ok(()) => Ok(arrival.stands(Place::Over(Ok(ClientEnd::Closed)))),
-                Err(failure) => Err(failure),
-            };
+            match close(alloc, peer, Array8List::new(alloc)) {
+                Ok(()) => return Ok(arrival.stands(Place::Over(Ok(ClientEnd::Closed)))),
+                Err(failure) => return Err(failure),
+            }
         }
         Ok(Talk {
             place: Place::Speaking(joined, client),
