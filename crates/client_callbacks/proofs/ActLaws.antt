@@ -34,7 +34,7 @@ use Rattle.client_callbacks.specs.Listening.{is_listening}
 use Rattle.client_callbacks.specs.Received.{received_of}
 use Rattle.client_callbacks.specs.Script.{Entry, Says, AsksSave, AsksReasons, TellsCancelled, Notes, Step, acted, after_answer, after_cancel, after_save, again_line, arrived, completed, frame_taken, opening_took, speaking_took, answer_line, answer_messages, cancel_line, closes, die_line, owed_messages, save_line, stage_again}
 use Rattle.client_callbacks.specs.declared.messages.Message.{Message}
-use Rattle.client_callbacks.specs.declared.ends.ClientEnd.TheVariants.{Closed, Died}
+use Rattle.client_callbacks.specs.declared.ends.Ending.TheVariants.{Closed, Died}
 use Rattle.client_callbacks.specs.declared.received.Received.{Received}
 use Rattle.client_callbacks.specs.declared.talk.Arrival.{Arrival}
 use Rattle.client_callbacks.specs.declared.talk.Counts.{Counts}
@@ -160,7 +160,7 @@ module _ {S D C : Type 0} (answers : S → SaveAsk → SaveAnswer → S → Type
   because : List (List ℕ) → Replies
   because reasons = record { first = unasked.first; again = unasked.again; reasons = reasons }
 
-  pub act_died : (old new : Desk S D C) (a : Arrival) (joined : Joined) (client : ClientState) (reasons : List (List ℕ)) (result : Result Talk Failure) → DoesIn old new (die_line reasons) (failure_in result) → IfOk result (λ talk. talk ≡ record { place = Over (Ok Died); counts = a.counts }) → Takes answers gives hears old new (λ r. acted a joined r client Die) result
+  pub act_died : (old new : Desk S D C) (a : Arrival) (joined : Joined) (client : ClientState) (reasons : List (List ℕ)) (result : Result Talk Failure) → DoesIn old new (die_line reasons) (failure_in result) → IfOk result (λ talk. talk ≡ record { place = Over Died; counts = a.counts }) → Takes answers gives hears old new (λ r. acted a joined r client Die) result
   unfolding because
   act_died old new a joined client reasons result does stands = record { replies = because reasons; does = does; next = stands }
 
@@ -171,7 +171,7 @@ module _ {S D C : Type 0} (answers : S → SaveAsk → SaveAnswer → S → Type
   act_uncancelled old new a joined client failure does = record { replies = unasked; does = does; next = tt }
 
   -- the last save is complete
-  pub completed_last : (first last : Outside) (old new : List (List ℕ)) (callbacks : Callbacks S D C) (a : Arrival) (joined : Joined) (client : ClientState) (test : Bool) (result : Result Talk Failure) → test ≡ true → new ≡ old ++ codes "saved" ∷ [] → Sends first last (closes [] ∷ []) (failure_in result) → IfOk result (λ talk. talk ≡ record { place = Over (Ok Closed); counts = a.counts }) → Takes answers gives hears (desk first old callbacks) (desk last new callbacks) (λ r. completed a joined client test) result
+  pub completed_last : (first last : Outside) (old new : List (List ℕ)) (callbacks : Callbacks S D C) (a : Arrival) (joined : Joined) (client : ClientState) (test : Bool) (result : Result Talk Failure) → test ≡ true → new ≡ old ++ codes "saved" ∷ [] → Sends first last (closes [] ∷ []) (failure_in result) → IfOk result (λ talk. talk ≡ record { place = Over Closed; counts = a.counts }) → Takes answers gives hears (desk first old callbacks) (desk last new callbacks) (λ r. completed a joined client test) result
   completed_last first last old new callbacks a joined client test result is_last noted sends stands = rw is_last (record {
     replies = unasked;
     does =

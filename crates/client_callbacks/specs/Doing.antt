@@ -175,7 +175,7 @@ module _ {S D C : Type 0} (answers : S → SaveAsk → SaveAnswer → S → Type
   -- A frame was taken, where the splitter holds one.
   pub record TakesHeld (old new : Desk S D C) (talk : Talk) (before after : Standing) (result : Result Talk Failure) : Type 0 where
     pub frames : List WholeFrame
-    pub cuts : IsOk result → (more : List ℕ) → cut (fed before more) ≡ cut_behind frames (cut (fed after more))
+    pub cuts : (more : List ℕ) → cut (fed before more) ≡ cut_behind frames (cut (fed after more))
     pub takes : TakesFrames old new talk frames result
 
   -- The frames were taken that a piece completes.

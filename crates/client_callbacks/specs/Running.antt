@@ -8,6 +8,9 @@ use Rattle.client_machine.specs.declared.saves.SaveAsk.{SaveAsk}
 use Rattle.client_callbacks.specs.Doing.{Desk, Does}
 use Rattle.client_callbacks.specs.Script.{Came, is_over, run_after, script, start}
 use Rattle.client_callbacks.specs.declared.ends.ClientEnd.{ClientEnd}
+use Rattle.client_callbacks.specs.declared.ends.ClientEnd.TheVariants.{Died as HasDied, Closed as HasClosed, StreamEnded as HasStreamEnded}
+use Rattle.client_callbacks.specs.declared.ends.Ending.{Ending}
+use Rattle.client_callbacks.specs.declared.ends.Ending.TheVariants.{Died, Closed, StreamEnded, Refused as IsRefused, Malformed as IsMalformed}
 use Rattle.client_callbacks.specs.declared.ends.JoinFault.{JoinFault}
 use Rattle.client_callbacks.specs.declared.ends.JoinFault.TheVariants.{LinkFault, Refused, Malformed, Spent, NoMemory}
 use Rattle.client_callbacks.specs.declared.talk.Place.{Place}
@@ -17,6 +20,14 @@ use Rattle.client_callbacks.specs.declared.talk.Place.TheVariants.{Over}
 abbrev pub fault_of : Failure → JoinFault
 fault_of Failed = LinkFault
 fault_of OutOfMemory = NoMemory
+
+-- the answer of a run that the manager or the stream's end brought to its end
+abbrev pub answer_of : Ending → Result ClientEnd JoinFault
+answer_of Died = Ok HasDied
+answer_of Closed = Ok HasClosed
+answer_of (StreamEnded phase) = Ok (HasStreamEnded phase)
+answer_of (IsRefused class) = Err (Refused class)
+answer_of (IsMalformed at) = Err (Malformed at)
 
 -- what cut a run short, if anything did
 abbrev pub failure_of : Result ClientEnd JoinFault → Option Failure
@@ -30,7 +41,7 @@ abbrev pub IsAnswer : Result ClientEnd JoinFault → Place → ℕ → ℕ → T
 IsAnswer (Err LinkFault) place heard turns = Unit {0}
 IsAnswer (Err NoMemory) place heard turns = Unit {0}
 IsAnswer (Err Spent) place heard turns = (heard ≡ turns) × (is_over place ≡ false)
-IsAnswer answer place heard turns = place ≡ Over answer
+IsAnswer answer place heard turns = (ending : Ending) × (place ≡ Over ending) × (answer ≡ answer_of ending)
 
 module _ {S D C : Type 0} (answers : S → SaveAsk → SaveAnswer → S → Type 0) (gives : D → List (List ℕ) → D → Type 0) (hears : C → C → Type 0) where
   -- The client's script was followed for what was received and for what the callbacks said.

@@ -36,10 +36,7 @@ use Rattle.client_machine.specs.declared.saves.Stage.{Stage}
 use Rattle.client_machine.specs.declared.saves.Stage.TheVariants.{First, Second, Talking, TalkingTwo}
 use Rattle.client_callbacks.specs.Answers.{Replies, unasked}
 use Rattle.client_callbacks.specs.Received.{received_of}
-use Rattle.client_callbacks.specs.declared.ends.ClientEnd.{ClientEnd}
-use Rattle.client_callbacks.specs.declared.ends.ClientEnd.TheVariants.{Died, Closed, StreamEnded}
-use Rattle.client_callbacks.specs.declared.ends.JoinFault.{JoinFault}
-use Rattle.client_callbacks.specs.declared.ends.JoinFault.TheVariants.{Refused, Malformed}
+use Rattle.client_callbacks.specs.declared.ends.Ending.TheVariants.{Died, Closed, StreamEnded, Refused, Malformed}
 use Rattle.client_callbacks.specs.declared.messages.Message.{Message}
 use Rattle.client_callbacks.specs.declared.messages.Message.TheVariants.{Ice, Xsmp}
 use Rattle.client_callbacks.specs.declared.received.Received.{Received}
@@ -125,7 +122,7 @@ joined_moved a joined c (Ends answer) = saying (answer_of answer) a.counts Stopp
 
 -- a fatal Error ends the client without an answer
 abbrev pub refused : Arrival → ℕ → Step
-refused a class = doing [] a.counts (Over (Err (Refused class)))
+refused a class = doing [] a.counts (Over (Refused class))
 
 abbrev pub unless_fatal : Arrival → Option ℕ → Step → Step
 unless_fatal a None step = step
@@ -189,7 +186,7 @@ after_cancel c = after_owed (is_owing c.phase) c
 
 -- one more save is complete, be it the last that the client waits for or not
 abbrev pub completed : Arrival → Joined → ClientState → Bool → Step
-completed a joined c true = doing (Notes (codes "saved") ∷ Says (closes []) ∷ []) a.counts (Over (Ok Closed))
+completed a joined c true = doing (Notes (codes "saved") ∷ Says (closes []) ∷ []) a.counts (Over Closed)
 completed a joined c false = doing (Notes (codes "saved") ∷ []) (record a.counts { saves = a.counts.saves - 1 }) (Speaking joined c)
 
 abbrev pub die_line : List (List ℕ) → List Entry
@@ -201,7 +198,7 @@ acted a joined r c Nothing = doing [] a.counts (Speaking joined c)
 acted a joined r c (Registered id) = doing (Notes (codes "id " ++ id) ∷ []) a.counts (Speaking joined c)
 acted a joined r c (Again message) = saying (Xsmp message ∷ []) a.counts (Speaking joined c)
 acted a joined r c (Save ask) = doing (save_line ask r) a.counts (Speaking joined (after_save ask r c))
-acted a joined r c Die = doing (die_line r.reasons) a.counts (Over (Ok Died))
+acted a joined r c Die = doing (die_line r.reasons) a.counts (Over Died)
 acted a joined r c Cancelled = doing (cancel_line c) a.counts (Speaking joined (after_cancel c))
 acted a joined r c Complete = completed a joined c (a.counts.saves == 1)
 acted a joined r c (Properties list) = doing [] a.counts (Speaking joined c)
@@ -231,7 +228,7 @@ arrived counts bytes = record {
 
 -- The stream can't be read on from here.
 abbrev pub malformed : Counts → ℕ → Step
-malformed counts at = doing [] counts (Over (Err (Malformed at)))
+malformed counts at = doing [] counts (Over (Malformed at))
 
 -- a message of XSMP under an opcode that nobody has
 abbrev pub stray : Arrival → Place → Step
@@ -300,8 +297,8 @@ phase_at (Over answer) = Dead
 
 -- A header that states too much can't be taken.
 abbrev pub oversize_at : Counts → Place → Place
-oversize_at counts (Opening opener previous) = Over (Err (Malformed counts.at))
-oversize_at counts (Speaking joined c) = Over (Err (Malformed counts.at))
+oversize_at counts (Opening opener previous) = Over (Malformed counts.at)
+oversize_at counts (Speaking joined c) = Over (Malformed counts.at)
 oversize_at counts place = place
 
 abbrev pub cut_off : Bool → Talk → Talk
@@ -317,7 +314,7 @@ piece_taken run bytes rs = turn_of (frames_taken run.talk (cut (fed run.standing
 
 -- the stream's end
 abbrev pub ended : Run → Turn
-ended run = record { line = []; next = record run { talk = record run.talk { place = Over (Ok (StreamEnded (phase_at run.talk.place))) } } }
+ended run = record { line = []; next = record run { talk = record run.talk { place = Over (StreamEnded (phase_at run.talk.place)) } } }
 
 abbrev pub turn : Run → List ℕ → List Replies → Turn
 turn run [] rs = ended run

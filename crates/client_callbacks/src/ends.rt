@@ -1,4 +1,8 @@
+ghost use Rattle.std.specs.Prelude.{◌≡◌};
+ghost use Rattle.client_callbacks.specs.Running.{answer_of, fault_of};
+
 use client_machine::ClientPhase;
+use sm_world::Failure;
 use thiserror::Error;
 
 /// How a client's run ended.
@@ -10,6 +14,21 @@ pub enum ClientEnd {
     Closed,
     /// The stream ended, when the client was in this phase.
     StreamEnded { phase: ClientPhase },
+}
+
+/// What brought a run to its end, where nothing cut it short.
+#[derive(Clone, Copy, Debug, PartialEq, Eq)]
+pub enum Ending {
+    /// The client was told to die, and closed.
+    Died,
+    /// The last save is complete, and the client closed.
+    Closed,
+    /// The stream ended, when the client was in this phase.
+    StreamEnded(ClientPhase),
+    /// An Error of this class is fatal.
+    Refused(u16),
+    /// The frame that begins at this byte can't be read.
+    Malformed(u64),
 }
 
 /// Why a client's run ended otherwise.
@@ -30,4 +49,29 @@ pub enum JoinFault {
     Spent,
     #[error("out of memory")]
     NoMemory,
+}
+
+impl Ending {
+    /// The answer of the run.
+    pub fn answer(self) -> Result<ClientEnd, JoinFault>
+        ensures { result ≡ answer_of self }
+    {
+        match self {
+            Ending::Died => Ok(ClientEnd::Died),
+            Ending::Closed => Ok(ClientEnd::Closed),
+            Ending::StreamEnded(phase) => Ok(ClientEnd::StreamEnded { phase }),
+            Ending::Refused(class) => Err(JoinFault::Refused { class }),
+            Ending::Malformed(at) => Err(JoinFault::Malformed { at }),
+        }
+    }
+}
+
+/// The fault of a run that a failure cut short.
+pub fn fault(failure: Failure) -> JoinFault
+    ensures { result ≡ fault_of failure }
+{
+    match failure {
+        Failure::Failed => JoinFault::LinkFault,
+        Failure::NoMemory => JoinFault::NoMemory,
+    }
 }

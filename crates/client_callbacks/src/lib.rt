@@ -7,6 +7,7 @@ mod ends;
 mod joiner;
 mod messages;
 mod received;
+mod running;
 mod saying;
 mod speaking;
 mod taking;

@@ -2,7 +2,7 @@ ghost use Rattle.std.specs.Prelude.{◌≡◌, ◌-◌};
 
 use crate::acting::{note, note_id};
 use crate::callbacks::{Cancels, Dies, Saves};
-use crate::ends::ClientEnd;
+use crate::ends::Ending;
 use crate::joiner::Joiner;
 use crate::messages::Message;
 use crate::received::{Received, receive};
@@ -52,7 +52,7 @@ impl<S: Saves, D: Dies, C: Cancels> Joiner<S, D, C> {
         }
         if arrival.counts.saves == 1 {
             match close(alloc, peer, Array8List::new(alloc)) {
-                Ok(()) => return Ok(arrival.stands(Place::Over(Ok(ClientEnd::Closed)))),
+                Ok(()) => return Ok(arrival.stands(Place::Over(Ending::Closed))),
                 Err(failure) => return Err(failure),
             }
         }
@@ -91,7 +91,7 @@ impl<S: Saves, D: Dies, C: Cancels> Joiner<S, D, C> {
                 Err(failure) => Err(failure),
             },
             ClientAct::Die => match self.die(alloc, peer, lines) {
-                Ok(()) => Ok(arrival.stands(Place::Over(Ok(ClientEnd::Died)))),
+                Ok(()) => Ok(arrival.stands(Place::Over(Ending::Died))),
                 Err(failure) => Err(failure),
             },
             ClientAct::Cancelled => match self.cancel(alloc, peer, lines, client) {
@@ -183,8 +183,8 @@ impl<S: Saves, D: Dies, C: Cancels> Joiner<S, D, C> {
                 place: Place::Stopped,
                 counts,
             }),
-            Place::Over(answer) => Ok(Talk {
-                place: Place::Over(answer),
+            Place::Over(ending) => Ok(Talk {
+                place: Place::Over(ending),
                 counts,
             }),
         }

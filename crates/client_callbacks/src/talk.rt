@@ -1,8 +1,8 @@
-ghost use Rattle.std.specs.Prelude.{◌≡◌, ◌≤◌, length, not, true};
+ghost use Rattle.std.specs.Prelude.{◌≡◌, ◌≤◌, length, true, false, MatchOption};
 ghost use Rattle.client_callbacks.specs.Script.{arrived, is_over, phase_at, oversize_at, malformed, refused};
 ghost use Rattle.client_callbacks.specs.Listening.{is_listening};
 
-use crate::ends::{ClientEnd, JoinFault};
+use crate::ends::Ending;
 use client_machine::{Client, ClientPhase};
 use ice_setup::{AnyOpener, Joined, Offending};
 use ice_values::Array8;
@@ -17,7 +17,7 @@ pub enum Place {
     /// The client has refused a message of ICE for good, and takes nothing more.
     Stopped,
     /// The run is at its end.
-    Over(Result<ClientEnd, JoinFault>),
+    Over(Ending),
 }
 
 /// What is counted of a run.
@@ -86,14 +86,14 @@ impl Arrival {
     pub fn malformed(self) -> Talk
         ensures { result ≡ (malformed self.counts self.at).next }
     {
-        self.stands(Place::Over(Err(JoinFault::Malformed { at: self.at })))
+        self.stands(Place::Over(Ending::Malformed(self.at)))
     }
 
     /// An Error of this class is fatal.
     pub fn refused(self, class: u16) -> Talk
         ensures { result ≡ (refused self class).next }
     {
-        self.stands(Place::Over(Err(JoinFault::Refused { class })))
+        self.stands(Place::Over(Ending::Refused(class)))
     }
 }
 
@@ -107,6 +107,18 @@ impl Talk {
             Place::Speaking(_, _) => true,
             Place::Stopped => false,
             Place::Over(_) => false,
+        }
+    }
+
+    /// How the run ended, if it is at its end.
+    pub fn end(&self) -> Option<Ending>
+        ensures { MatchOption result (is_over self.now.place ≡ false) (λ ending. self.now.place ≡ Place.Over ending) }
+    {
+        match &self.place {
+            Place::Opening(_, _) => None,
+            Place::Speaking(_, _) => None,
+            Place::Stopped => None,
+            Place::Over(ending) => Some(*ending),
         }
     }
 
@@ -127,20 +139,19 @@ impl Talk {
         requires { is_listening self.place ≡ true }
         ensures { result ≡ record self { place = oversize_at self.counts self.place } }
     {
-        let at = self.counts.at;
         Talk {
-            place: Place::Over(Err(JoinFault::Malformed { at })),
+            place: Place::Over(Ending::Malformed(self.counts.at)),
             counts: self.counts,
         }
     }
 
     /// The stream has ended.
     pub fn ended(self) -> Talk
-        ensures { result ≡ record self { place = Place.Over (Ok (ClientEnd.StreamEnded (phase_at self.place))) } }
+        ensures { result ≡ record self { place = Place.Over (Ending.StreamEnded (phase_at self.place)) } }
     {
         let phase = self.phase();
         Talk {
-            place: Place::Over(Ok(ClientEnd::StreamEnded { phase })),
+            place: Place::Over(Ending::StreamEnded(phase)),
             counts: self.counts,
         }
     }
