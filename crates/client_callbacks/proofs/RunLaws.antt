@@ -1,29 +1,39 @@
 -- Frames one after another, pieces one after another.
-use Rattle.std.proofs.Common.{◌≡◌, ℕ, ◌+◌, ◌-◌, ◌<◌, ◌≤◌, arith, Bool, true, false, List, [], ◌∷◌, ◌++◌, length, take, drop, Option, None, Some, Result, Ok, Err, inl, inr, refl, sym, ◌∙◌, ap, subst, append_assoc, append-nil}
+use Rattle.std.proofs.Common.{◌≡◌, ℕ, ◌+◌, ◌-◌, ◌<◌, ◌≤◌, arith, Bool, true, false, List, [], ◌∷◌, ◌++◌, length, take, drop, Option, None, Some, Result, Ok, Err, inl, inr, refl, sym, ◌∙◌, ap, subst, append_assoc, append-nil, length-append}
 use Rattle.std.specs.Prelude.{IfOk, IsOk}
 use Rattle.std.proofs.lemmas.Bool.{false≢true}
-use Rattle.std.proofs.lemmas.List.{length-drop, take_all}
+use Rattle.std.proofs.lemmas.List.{length-drop, length-take, take_all}
 use Rattle.std.proofs.lemmas.Bool.Decides.{nat_tests}
 use Rattle.sm_world.specs.declared.failures.Failure.{Failure}
-use Rattle.sm_world.specs.declared.failures.Failure.TheVariants.{NoMemory}
+use Rattle.sm_world.specs.declared.failures.Failure.TheVariants.{Failed, NoMemory}
 use Rattle.sm_world.specs.declared.effects.Effect.TheVariants.{Heard}
-use Rattle.sm_world.specs.Outside.{Outside, adds, of_ok, NotFallen}
+use Rattle.sm_world.specs.Outside.{Outside, UsesLinks, adds, NotFallen}
 use Rattle.sm_world.proofs.Adding.{never_fallen}
-use Rattle.ice_framing.specs.Frames.{Cut, IsOversize, IsPartial, Standing, behind as cut_behind, cut, fed, is_oversize, uncut, unit_limit, units}
+use Rattle.ice_framing.specs.Frames.{Cut, IsOversize, IsPartial, Standing, beginning, behind as cut_behind, cut, fed, is_oversize, uncut, unit_limit, units}
 use Rattle.ice_framing.specs.declared.cutting.WholeFrame.{WholeFrame}
 use Rattle.ice_framing.proofs.Cuts.{cut-oversize, cut-partial, fed-nil}
 use Rattle.client_peer.specs.Peers.{received}
+use Rattle.ice_cookie.specs.declared.cookies.Cookie.{Cookie}
+use Rattle.ice_messages.specs.declared.message.IceMessage.TheVariants.{ByteOrder}
+use Rattle.ice_values.specs.declared.numbers.Endian.TheVariants.{Lsb}
 use Rattle.client_machine.specs.declared.saves.SaveAnswer.{SaveAnswer}
 use Rattle.client_machine.specs.declared.saves.SaveAsk.{SaveAsk}
 use Rattle.client_callbacks.specs.Answers.{Replies}
-use Rattle.client_callbacks.specs.Doing.{Callbacks, Desk, desk, Does, Follows, HasShortId, IsCaused, IsFed, IsRun, Takes, TakesFrames, TakesHeld, TakesPiece, TakesTurn, failure_in}
+use Rattle.client_callbacks.specs.Doing.{Callbacks, Sends, Desk, desk, Does, Follows, HasShortId, IsCaused, IsFed, IsRun, Takes, TakesFrames, TakesHeld, TakesPiece, TakesTurn, failure_in}
 use Rattle.client_callbacks.specs.Listening.{is_listening}
-use Rattle.client_callbacks.specs.Script.{Came, Entry, Hears, Run, Step, Turn, behind, cut_off, ended, frame_at, frame_taken, frames_taken, is_over, oversize_at, piece_taken, reply, run_after, script_from, stays, turn, turn_of}
+use Rattle.client_callbacks.specs.Script.{Came, Entry, Hears, Run, Step, Turn, behind, cut_off, ended, frame_at, frame_taken, frames_taken, is_over, oversize_at, piece_taken, reply, run_after, Says, script, script_from, start, stays, turn, turn_of}
+use Rattle.client_callbacks.specs.Running.{IsAnswer, Joins, answer_of, failure_of, fault_of}
+use Rattle.client_callbacks.specs.declared.ends.ClientEnd.{ClientEnd}
+use Rattle.client_callbacks.specs.declared.ends.Ending.{Ending}
+use Rattle.client_callbacks.specs.declared.ends.Ending.TheVariants.{Died, Closed, StreamEnded, Refused, Malformed}
+use Rattle.client_callbacks.specs.declared.ends.JoinFault.{JoinFault}
+use Rattle.client_callbacks.specs.declared.ends.JoinFault.TheVariants.{Spent}
+use Rattle.client_callbacks.specs.declared.messages.Message.TheVariants.{Ice}
 use Rattle.client_callbacks.specs.declared.talk.Counts.{Counts}
 use Rattle.client_callbacks.specs.declared.talk.Place.{Place}
 use Rattle.client_callbacks.specs.declared.talk.Place.TheVariants.{Opening, Over, Speaking, Stopped}
 use Rattle.client_callbacks.specs.declared.talk.Talk.{Talk}
-use Rattle.client_callbacks.proofs.DoingLaws.{does_cut, does_more, does_never, does_none}
+use Rattle.client_callbacks.proofs.DoingLaws.{does_cut, does_more, does_none, sends_does}
 
 -- the part of a slice from a place on
 pub from_place : (n : ℕ) (xs : List ℕ) → take (length xs - n) (drop n xs) ≡ drop n xs
@@ -32,6 +42,20 @@ from_place n xs = take_all (length xs - n) (drop n xs) (omega (arith, length-dro
 pub none_left : (bytes : List ℕ) → length bytes ≡ 0 → bytes ≡ []
 none_left [] none = refl
 none_left (b ∷ bytes) none = absurd (omega arith)
+
+pub some_taken : (n : ℕ) (xs : List ℕ) → n ≤ length xs → (n ≡ 0 → ⊥) → length (take n xs) ≡ 0 → ⊥
+some_taken n xs within some none = some (omega (arith, length-take n xs, within, none))
+
+pub none_taken : (n : ℕ) (xs : List ℕ) → n ≡ 0 → take n xs ≡ []
+none_taken n xs none = rw none refl
+
+-- what a call of the links does to the counts
+pub links_counts : {A : Type 0} (old new : Outside) (result : Result A Failure) → UsesLinks old new result → NotFallen old.faults new.faults
+links_counts old new result uses = record { disk = omega (arith, uses.disk); links = uses.links; spawner = omega (arith, uses.spawner); console = omega (arith, uses.console) }
+
+pub links_cause : {A : Type 0} (old new : Outside) (failure : Failure) → UsesLinks {A = A} old new (Err failure) → IsCaused old.faults new.faults (Some failure)
+links_cause old new Failed uses = uses.cause refl
+links_cause old new NoMemory uses = tt
 
 -- ---- one who takes no frames
 
@@ -76,6 +100,43 @@ within_not at within = grind (arith, nat_tests)
 over_is : (at : Standing) → IsOversize at → is_oversize at ≡ true
 over_is at much = grind (arith, nat_tests)
 
+-- ---- the script of receives one after another
+
+script_over : (run : Run) (cames : List Came) → is_over run.talk.place ≡ true → script_from run cames ≡ []
+script_over run [] over = refl
+script_over run (came ∷ more) over = rw over refl
+
+over_deaf : (place : Place) → is_over place ≡ true → is_listening place ≡ false
+over_deaf (Opening opener previous) over = absurd cc
+over_deaf (Speaking joined c) over = absurd cc
+over_deaf Stopped over = absurd cc
+over_deaf (Over ending) over = refl
+
+over_turn : (run : Run) (bytes : List ℕ) (rs : List Replies) → is_over run.talk.place ≡ true → is_over (turn run bytes rs).next.talk.place ≡ true
+over_turn run [] rs over = refl
+over_turn run (b ∷ bytes) rs over =
+    let c : Cut = cut (fed run.standing (b ∷ bytes)) in
+    let deaf : is_listening run.talk.place ≡ false = over_deaf run.talk.place over in
+    ap (λ (s : Step). is_over (cut_off (is_oversize c.standing) s.next).place) (deaf_frames run.talk c.frames rs deaf) ∙ (ap (λ (t : Talk). is_over t.place) (deaf_cut (is_oversize c.standing) run.talk deaf) ∙ over)
+
+over_after : (run : Run) (cames : List Came) → is_over run.talk.place ≡ true → is_over (run_after run cames).talk.place ≡ true
+over_after run [] over = over
+over_after run (came ∷ more) over = over_after (turn run came.bytes came.replies).next more (over_turn run came.bytes came.replies over)
+
+script_append : (run : Run) (xs ys : List Came) → script_from run (xs ++ ys) ≡ script_from run xs ++ script_from (run_after run xs) ys
+script_append run [] ys = refl
+script_append run (x ∷ xs) ys = by (script_append (turn run x.bytes x.replies).next xs ys) (is_over run.talk.place) refl
+  where
+    by : script_from (turn run x.bytes x.replies).next (xs ++ ys) ≡ script_from (turn run x.bytes x.replies).next xs ++ script_from (run_after (turn run x.bytes x.replies).next xs) ys → (b : Bool) → is_over run.talk.place ≡ b → script_from run ((x ∷ xs) ++ ys) ≡ script_from run (x ∷ xs) ++ script_from (run_after run (x ∷ xs)) ys
+    by later true over = script_over run (x ∷ (xs ++ ys)) over ∙ (sym (script_over (run_after run (x ∷ xs)) ys (over_after run (x ∷ xs) over)) ∙ ap (λ (es : List Entry). es ++ script_from (run_after run (x ∷ xs)) ys) (sym (script_over run (x ∷ xs) over)))
+    by later false going =
+        let t : Turn = turn run x.bytes x.replies in
+        rw going (ap (λ (es : List Entry). Hears x.bytes ∷ es) (ap (λ (es : List Entry). t.line ++ es) later ∙ sym (append_assoc t.line (script_from t.next xs) (script_from (run_after t.next xs) ys))))
+
+run_append : (run : Run) (xs ys : List Came) → run_after run (xs ++ ys) ≡ run_after (run_after run xs) ys
+run_append run [] ys = refl
+run_append run (x ∷ xs) ys = run_append (turn run x.bytes x.replies).next xs ys
+
 module _ {S D C : Type 0} (answers : S → SaveAsk → SaveAnswer → S → Type 0) (gives : D → List (List ℕ) → D → Type 0) (hears : C → C → Type 0) where
   abbrev FramesIn : Desk S D C → Desk S D C → Talk → List WholeFrame → Result Talk Failure → Type 0
   FramesIn old new t frames result = TakesFrames answers gives hears old new t frames result
@@ -117,8 +178,12 @@ module _ {S D C : Type 0} (answers : S → SaveAsk → SaveAnswer → S → Type
   pub held_none : (d : Desk S D C) (t : Talk) (at : Standing) → TakesHeld answers gives hears d d t at at (Ok t)
   held_none d t at = record { frames = []; cuts = λ more. refl; takes = no_frame d t }
 
-  pub held_one : (old new : Desk S D C) (t : Talk) (at after : Standing) (frame : WholeFrame) (result : Result Talk Failure) → ((more : List ℕ) → cut (fed at more) ≡ cut_behind (frame ∷ []) (cut (fed after more))) → Takes answers gives hears old new (frame_taken t frame) result → TakesHeld answers gives hears old new t at after result
-  held_one old new t at after frame result first takes = record { frames = frame ∷ []; cuts = first; takes = one_frame old new t frame result takes }
+  pub held_one : (old new : Desk S D C) (t : Talk) (at without after : Standing) (frame : WholeFrame) (result : Result Talk Failure) → after ≡ without → ((more : List ℕ) → cut (fed at more) ≡ cut_behind (frame ∷ []) (cut (fed without more))) → Takes answers gives hears old new (frame_taken t frame) result → TakesHeld answers gives hears old new t at after result
+  held_one old new t at without after frame result same first takes = record {
+    frames = frame ∷ [];
+    cuts = subst (λ (to : Standing). (more : List ℕ) → cut (fed at more) ≡ cut_behind (frame ∷ []) (cut (fed to more))) (sym same) first;
+    takes = one_frame old new t frame result takes;
+  }
 
   -- ---- a piece
 
@@ -244,3 +309,92 @@ module _ {S D C : Type 0} (answers : S → SaveAsk → SaveAnswer → S → Type
   turn_taken old middle new lines callbacks run (b ∷ bytes) before after talk result some going told counts stands feeds takes =
       let same : PieceIn (desk middle lines callbacks) new run (b ∷ bytes) after result = rw (stands, feeds) at takes in
       turn_by old middle new lines callbacks run (b ∷ bytes) same.replies after result (subst (λ (t : Talk). is_over t.place ≡ false) stands going) told counts same.does same.next
+
+  -- ---- a run
+
+  -- In the middle of a run: what was received, and that the script for it was followed.
+  pub record Under (old now : Desk S D C) (cookie : Cookie) (previous : List ℕ) (saves heard : ℕ) (splitter : Standing) (talk : Talk) : Type 0 where
+    pub cames : List Came
+    pub many : length cames ≡ heard
+    pub does : Does answers gives hears old now (script cookie previous saves cames) None
+    pub runs : IsRun (run_after (start cookie previous saves) cames) splitter talk
+    pub going : is_over talk.place ≡ false
+    pub short : HasShortId talk.place
+
+  pub under_begun : (old new : Outside) (lines : List (List ℕ)) (callbacks : Callbacks S D C) (cookie : Cookie) (previous : List ℕ) (saves : ℕ) (splitter : Standing) (talk : Talk) → Sends old new (Ice (ByteOrder Lsb) ∷ []) None → talk ≡ (start cookie previous saves).talk → splitter ≡ beginning → length previous ≤ 512 → Under (desk old lines callbacks) (desk new lines callbacks) cookie previous saves 0 splitter talk
+  under_begun old new lines callbacks cookie previous saves splitter talk sends stands fresh short = record {
+    cames = [];
+    many = refl;
+    does = sends_does answers gives hears old new lines callbacks (Ice (ByteOrder Lsb) ∷ []) None sends;
+    runs = record { talks = stands; feeds = λ listens. rw fresh (record { same = refl; partial = omega arith; within = omega arith }) };
+    going = ap (λ (t : Talk). is_over t.place) stands;
+    short = subst (λ (t : Talk). HasShortId t.place) (sym stands) short;
+  }
+
+  pub not_begun : (old new : Outside) (lines : List (List ℕ)) (callbacks : Callbacks S D C) (cookie : Cookie) (previous : List ℕ) (saves turns : ℕ) (failure : Failure) (answer : Result ClientEnd JoinFault) → Sends old new (Ice (ByteOrder Lsb) ∷ []) (Some failure) → answer ≡ Err (fault_of failure) → Joins answers gives hears cookie previous saves turns (desk old lines callbacks) (desk new lines callbacks) answer
+  not_begun old new lines callbacks cookie previous saves turns Failed answer sends is_fault = rw is_fault (record { cames = []; does = sends_does answers gives hears old new lines callbacks (Ice (ByteOrder Lsb) ∷ []) (Some Failed) sends; answer = tt; in_turns = omega arith })
+  not_begun old new lines callbacks cookie previous saves turns NoMemory answer sends is_fault = rw is_fault (record { cames = []; does = sends_does answers gives hears old new lines callbacks (Ice (ByteOrder Lsb) ∷ []) (Some NoMemory) sends; answer = tt; in_turns = omega arith })
+
+  -- the script with what one more turn brought
+  turned : (old now later : Desk S D C) (cookie : Cookie) (previous : List ℕ) (saves : ℕ) (xs ys : List Came) (failure : Option Failure) → Does answers gives hears old now (script cookie previous saves xs) None → Does answers gives hears now later (script_from (run_after (start cookie previous saves) xs) ys) failure → Does answers gives hears old later (script cookie previous saves (xs ++ ys)) failure
+  turned old now later cookie previous saves xs ys failure one two =
+      subst (λ (es : List Entry). Does answers gives hears old later es failure) (ap (λ (es : List Entry). Says (Ice (ByteOrder Lsb)) ∷ es) (sym (script_append (start cookie previous saves) xs ys)))
+      (does_more answers gives hears old now later (script cookie previous saves xs) (script_from (run_after (start cookie previous saves) xs) ys) failure one two)
+
+  pub under_more : (old now later : Desk S D C) (cookie : Cookie) (previous : List ℕ) (saves heard next : ℕ) (splitter after : Standing) (talk last : Talk) → next ≡ heard + 1 → (under : Under old now cookie previous saves heard splitter talk) → TurnIn now later (run_after (start cookie previous saves) under.cames) after (Ok last) → is_over last.place ≡ false → HasShortId last.place → Under old later cookie previous saves next after last
+  under_more old now later cookie previous saves heard next splitter after talk last is_next under takes going short = record {
+    cames = under.cames ++ takes.cames;
+    many = omega (arith, length-append under.cames takes.cames, under.many, takes.one refl, is_next);
+    does = turned old now later cookie previous saves under.cames takes.cames None under.does takes.does;
+    runs = subst (λ (run : Run). IsRun run after last) (sym (run_append (start cookie previous saves) under.cames takes.cames)) takes.next;
+    going = going;
+    short = short;
+  }
+
+  -- the client is at its end
+  whole : (ending : Ending) → failure_of (answer_of ending) ≡ None
+  whole Died = refl
+  whole Closed = refl
+  whole (StreamEnded phase) = refl
+  whole (Refused class) = refl
+  whole (Malformed at) = refl
+
+  ended_so : (ending : Ending) (place : Place) (heard turns : ℕ) → place ≡ Over ending → IsAnswer (answer_of ending) place heard turns
+  ended_so Died place heard turns over = (Died, over, refl)
+  ended_so Closed place heard turns over = (Closed, over, refl)
+  ended_so (StreamEnded phase) place heard turns over = (StreamEnded phase, over, refl)
+  ended_so (Refused class) place heard turns over = (Refused class, over, refl)
+  ended_so (Malformed at) place heard turns over = (Malformed at, over, refl)
+
+  pub joins_ended : (old now later : Desk S D C) (cookie : Cookie) (previous : List ℕ) (saves heard turns : ℕ) (splitter after : Standing) (talk last : Talk) (ending : Ending) (answer : Result ClientEnd JoinFault) → heard < turns → (under : Under old now cookie previous saves heard splitter talk) → TurnIn now later (run_after (start cookie previous saves) under.cames) after (Ok last) → last.place ≡ Over ending → answer ≡ answer_of ending → Joins answers gives hears cookie previous saves turns old later answer
+  joins_ended old now later cookie previous saves heard turns splitter after talk last ending answer few under takes over is_answer =
+      let cames : List Came = under.cames ++ takes.cames in
+      let stands : (run_after (start cookie previous saves) cames).talk.place ≡ Over ending = ap (λ (run : Run). run.talk.place) (run_append (start cookie previous saves) under.cames takes.cames) ∙ (ap (λ (t : Talk). t.place) (sym takes.next.talks) ∙ over) in
+      rw is_answer (record {
+        cames = cames;
+        does = rw (whole ending) (turned old now later cookie previous saves under.cames takes.cames None under.does takes.does);
+        answer = ended_so ending (run_after (start cookie previous saves) cames).talk.place (length cames) turns stands;
+        in_turns = omega (arith, length-append under.cames takes.cames, under.many, takes.one refl, few);
+      })
+
+  pub joins_failed : (old now later : Desk S D C) (cookie : Cookie) (previous : List ℕ) (saves heard turns : ℕ) (splitter after : Standing) (talk : Talk) (failure : Failure) (answer : Result ClientEnd JoinFault) → heard < turns → (under : Under old now cookie previous saves heard splitter talk) → TurnIn now later (run_after (start cookie previous saves) under.cames) after (Err failure) → answer ≡ Err (fault_of failure) → Joins answers gives hears cookie previous saves turns old later answer
+  joins_failed old now later cookie previous saves heard turns splitter after talk Failed answer few under takes is_fault = rw is_fault (record {
+    cames = under.cames ++ takes.cames;
+    does = turned old now later cookie previous saves under.cames takes.cames (Some Failed) under.does takes.does;
+    answer = tt;
+    in_turns = omega (arith, length-append under.cames takes.cames, under.many, takes.few, few);
+  })
+  joins_failed old now later cookie previous saves heard turns splitter after talk NoMemory answer few under takes is_fault = rw is_fault (record {
+    cames = under.cames ++ takes.cames;
+    does = turned old now later cookie previous saves under.cames takes.cames (Some NoMemory) under.does takes.does;
+    answer = tt;
+    in_turns = omega (arith, length-append under.cames takes.cames, under.many, takes.few, few);
+  })
+
+  pub joins_spent : (old now : Desk S D C) (cookie : Cookie) (previous : List ℕ) (saves heard turns : ℕ) (splitter : Standing) (talk : Talk) → heard ≡ turns → Under old now cookie previous saves heard splitter talk → Joins answers gives hears cookie previous saves turns old now (Err Spent)
+  joins_spent old now cookie previous saves heard turns splitter talk all under = record {
+    cames = under.cames;
+    does = under.does;
+    answer = (under.many ∙ all, subst (λ (t : Talk). is_over t.place ≡ false) under.runs.talks under.going);
+    in_turns = omega (arith, under.many, all);
+  }

@@ -7,6 +7,7 @@ ghost use Rattle.client_callbacks.specs.Script.{start};
 ghost use Rattle.client_callbacks.specs.declared.messages.Message.TheVariants.{Ice};
 
 use crate::callbacks::{Cancels, Dies, Saves};
+use crate::ends::{ClientEnd, JoinFault, fault};
 use crate::joiner::{Join, Joiner};
 use crate::messages::Message;
 use crate::saying::say;
@@ -183,5 +184,47 @@ impl<S: Saves, D: Dies, C: Cancels> Joiner<S, D, C> {
             return Ok(talk);
         }
         self.take_piece(alloc, peer, lines, splitter, talk, &room[..count])
+    }
+
+    /// Joins the session behind a peer that is connected, and follows it to the client's end: at most
+    /// so many receives (XSMP, chapter 8; ICE, chapter 6). The noted lines grow. Nothing more is sent
+    /// after an answer.
+    pub fn run<P: Peer>(
+        &mut self,
+        alloc: Global,
+        peer: &mut P,
+        join: &mut Join,
+        turns: u64,
+    ) -> Result<ClientEnd, JoinFault>
+        requires saves { 1 ≤ join.old.saves }
+        requires previous { length join.old.previous ≤ 512 }
+        ensures joins { Joins S.answers D.gives C.hears join.old.cookie join.old.previous join.old.saves turns (desk (P.outside peer.old) join.old.lines self.old) (desk (P.outside peer.new) join.new.lines self.new) result }
+        ensures kept { join.new ≡ record join.old { lines = join.new.lines } }
+    {
+        let Begun {
+            mut talk,
+            mut splitter,
+            mut room,
+        } = match begin(alloc, peer, join) {
+            Ok(begun) => begun,
+            Err(failure) => return Err(fault(failure)),
+        };
+        for _ in 0..turns {
+            talk = match self.take_turn(
+                alloc,
+                peer,
+                &mut join.lines,
+                &mut splitter,
+                &mut room,
+                talk,
+            ) {
+                Ok(talk) => talk,
+                Err(failure) => return Err(fault(failure)),
+            };
+            if let Some(ending) = talk.end() {
+                return ending.answer();
+            }
+        }
+        Err(JoinFault::Spent)
     }
 }

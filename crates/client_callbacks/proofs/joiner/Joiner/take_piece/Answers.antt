@@ -18,10 +18,10 @@ returns-clause-takes g c =
     all_taken g.S.Saves.answers g.D.Dies.gives g.C.Cancels.hears _ _ c.args.talk c.loop-left.talk c.args.splitter.now c.loop-left.splitter c.args.piece.now c.loop-left.left.now c.loop-left.invariant (none_left c.loop-left.left.now none)
 
 pub returns-then-not-is_listening-clause-takes : goal.returns-then-not-is_listening-clause-takes
-returns-then-not-is_listening-clause-takes g c = deaf_taken g.S.Saves.answers g.D.Dies.gives g.C.Cancels.hears _ _ c.args.talk c.loop-left.talk c.args.splitter.now c.loop-left.splitter c.args.piece.now c.loop-left.left.now c.loop-left.invariant ?
+returns-then-not-is_listening-clause-takes g c = deaf_taken g.S.Saves.answers g.D.Dies.gives g.C.Cancels.hears _ _ c.args.talk c.loop-left.talk c.args.splitter.now c.loop-left.splitter c.args.piece.now c.loop-left.left.now c.loop-left.invariant (sym c.if-not-is_listening.ensures)
 
 pub returns-in-Err-clause-takes : goal.returns-in-Err-clause-takes
-returns-in-Err-clause-takes g c = cut_taken g.S.Saves.answers g.D.Dies.gives g.C.Cancels.hears _ _ c.args.talk c.loop-left.talk c.cut_off.result c.args.splitter.now c.loop-left.splitter c.feed.new.self c.args.piece.now c.loop-left.left.now c.loop-left.invariant c.in-Err.ensures.oversize.0 ? c.cut_off.ensures
+returns-in-Err-clause-takes g c = cut_taken g.S.Saves.answers g.D.Dies.gives g.C.Cancels.hears _ _ c.args.talk c.loop-left.talk c.cut_off.result c.args.splitter.now c.loop-left.splitter c.feed.new.self c.args.piece.now c.loop-left.left.now c.loop-left.invariant c.in-Err.ensures.oversize.0 (sym c.if-not-is_listening.ensures) c.cut_off.ensures
 
 pub returns-in-Err-take_held-clause-takes : goal.returns-in-Err-take_held-clause-takes
 returns-in-Err-take_held-clause-takes g c = fails g.S.Saves.answers g.D.Dies.gives g.C.Cancels.hears _ _ _ c.args.talk c.loop-left.talk c.args.splitter.now c.loop-left.splitter c.feed.new.self c.take_held.new.splitter c.args.piece.now c.loop-left.left.now (drop c.in-Ok.count c.loop-left.left.now) c.in-Err-take_held.failure c.loop-left.invariant c.in-Ok.ensures.frames c.in-Err-take_held.ensures.takes
