@@ -28,6 +28,7 @@ use Rattle.client_callbacks.specs.declared.ends.Ending.{Ending}
 use Rattle.client_callbacks.specs.declared.ends.Ending.TheVariants.{Died, Closed, StreamEnded, Refused, Malformed}
 use Rattle.client_callbacks.specs.declared.ends.JoinFault.{JoinFault}
 use Rattle.client_callbacks.specs.declared.ends.JoinFault.TheVariants.{Spent}
+use Rattle.client_callbacks.specs.declared.joiner.Join.{Join}
 use Rattle.client_callbacks.specs.declared.messages.Message.TheVariants.{Ice}
 use Rattle.client_callbacks.specs.declared.talk.Counts.{Counts}
 use Rattle.client_callbacks.specs.declared.talk.Place.{Place}
@@ -136,6 +137,17 @@ script_append run (x ∷ xs) ys = by (script_append (turn run x.bytes x.replies)
 run_append : (run : Run) (xs ys : List Came) → run_after run (xs ++ ys) ≡ run_after (run_after run xs) ys
 run_append run [] ys = refl
 run_append run (x ∷ xs) ys = run_append (turn run x.bytes x.replies).next xs ys
+
+-- room that a call wrote to is as long as it was
+pub room_kept : (len : ℕ) (new items : List ℕ) → length new ≡ 4096 → length items ≡ 4096 → len ≡ 4096 → length (take len (new ++ drop (length new) items)) ≡ 4096
+room_kept len new items is_new is_old is_len = omega (arith, length-take len (new ++ drop (length new) items), length-append new (drop (length new) items), length-drop (length new) items, is_new, is_old, is_len)
+
+pub faulted : (fault : JoinFault) (failure : Failure) → fault ≡ fault_of failure → ◌≡◌ {A = Result ClientEnd JoinFault} (Err fault) (Err (fault_of failure))
+faulted fault failure same = ap (λ (f : JoinFault). let r : Result ClientEnd JoinFault = Err f in r) same
+
+-- nothing of what a client joins with changes but its lines
+pub kept_lines : (now first : Join) (lines : List (List ℕ)) → now ≡ record first { lines = now.lines } → ◌≡◌ {A = Join} (record now { lines = lines }) (record first { lines = lines })
+kept_lines now first lines kept = ap (λ (j : Join). let k : Join = record j { lines = lines } in k) kept
 
 module _ {S D C : Type 0} (answers : S → SaveAsk → SaveAnswer → S → Type 0) (gives : D → List (List ℕ) → D → Type 0) (hears : C → C → Type 0) where
   abbrev FramesIn : Desk S D C → Desk S D C → Talk → List WholeFrame → Result Talk Failure → Type 0

@@ -38,6 +38,7 @@ impl<F: FnMut(SaveAsk) -> SaveAnswer> Saves for F {
 /// always be called and gives at most 16 reasons of at most 1,024 bytes.
 pub trait Dies {
     ghost lawful: { Self → Type 0 };
+
     ghost gives: { Self → List (List ℕ) → Self → Type 0 };
 
     /// The reasons, which the manager may show.
@@ -61,6 +62,7 @@ impl<F: FnMut() -> Array8List> Dies for F {
 /// What hears that a save was cancelled. Every closure is one that may always be called.
 pub trait Cancels {
     ghost lawful: { Self → Type 0 };
+
     ghost hears: { Self → Self → Type 0 };
 
     /// What was saved is void.

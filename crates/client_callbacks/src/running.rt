@@ -82,7 +82,11 @@ fn begin<P: Peer>(alloc: Global, peer: &mut P, join: &Join) -> Result<Begun, Fai
         Ok(begun) => begun,
         Err(NoMemory) => return Err(Failure::NoMemory),
     };
-    match say(alloc, peer, &Message::Ice(IceMessage::ByteOrder(Endian::Lsb))) {
+    match say(
+        alloc,
+        peer,
+        &Message::Ice(IceMessage::ByteOrder(Endian::Lsb)),
+    ) {
         Ok(()) => Ok(begun),
         Err(failure) => Err(failure),
     }

@@ -77,11 +77,7 @@ pub fn refuse<P: Peer>(alloc: Global, peer: &mut P, offending: Offending) -> Res
 }
 
 /// Registers with the ID that the client had in an earlier session, or with none.
-pub fn register<P: Peer>(
-    alloc: Global,
-    peer: &mut P,
-    previous: Array8,
-) -> Result<Client, Failure>
+pub fn register<P: Peer>(alloc: Global, peer: &mut P, previous: Array8) -> Result<Client, Failure>
     requires { length previous ≤ 512 }
     ensures sends { Sends (P.outside peer.old) (P.outside peer.new) (XsmpSaid (RegisterClient previous) ∷ []) (failure_in result) }
     ensures client { IfOk result (λ client. client ≡ registering previous) }
@@ -157,11 +153,7 @@ pub fn say_save<P: Peer>(
 }
 
 /// Answers the save that was cancelled, where the client owes that.
-pub fn say_owed<P: Peer>(
-    alloc: Global,
-    peer: &mut P,
-    mut client: Client,
-) -> Result<Client, Failure>
+pub fn say_owed<P: Peer>(alloc: Global, peer: &mut P, mut client: Client) -> Result<Client, Failure>
     ensures sends { Sends (P.outside peer.old) (P.outside peer.new) (owed_messages (is_owing client.phase)) (failure_in result) }
     ensures client { IfOk result (λ after. after ≡ after_owed (is_owing client.phase) client) }
 {
