@@ -98,7 +98,7 @@ behind-behind front frames c = ap (λ (all : List WholeFrame). let b : Cut = rec
 within_not : (at : Standing) → units at ≤ unit_limit → is_oversize at ≡ false
 within_not at within = grind (arith, nat_tests)
 
-over_is : (at : Standing) → IsOversize at → is_oversize at ≡ true
+pub over_is : (at : Standing) → IsOversize at → is_oversize at ≡ true
 over_is at much = grind (arith, nat_tests)
 
 -- ---- the script of receives one after another

@@ -3,5 +3,6 @@ pub mod Answers
 pub mod Received
 pub mod Listening
 pub mod Script
+pub mod Laws
 pub mod Doing
 pub mod Running
