@@ -7,9 +7,9 @@ ghost use Rattle.client_callbacks.specs.Answers.{AreFew};
 use client_machine::{SaveAnswer, SaveAsk};
 use ice_values::Array8List;
 
-/// What saves a client's state, or talks to the user about it. Every closure is one that may be
-/// called on every SaveAsk and gives lawful answers alone: at most 128 properties of at most 16,384
-/// bytes, as XSMP spells them, and a step that has its place at the stage (XSMP, chapter 7).
+/// What saves a client's state, or talks to the user about it. A closure is one where it may be called
+/// on every SaveAsk and gives lawful answers alone: at most 128 properties of at most 16,384 bytes, as
+/// XSMP spells them, and a step that has its place at the stage (XSMP, chapter 7).
 pub trait Saves {
     /// That it may be called, now and after each call.
     ghost lawful: { Self → Type 0 };
@@ -34,8 +34,8 @@ impl<F: FnMut(SaveAsk) -> SaveAnswer> Saves for F {
     }
 }
 
-/// What tells the user why a client closes when it is told to die. Every closure is one that may
-/// always be called and gives at most 16 reasons of at most 1,024 bytes.
+/// What says why a client closes when it is told to die (XSMP, chapter 7: ConnectionClosed). A closure
+/// is one where it may always be called and gives at most 16 reasons of at most 1,024 bytes.
 pub trait Dies {
     ghost lawful: { Self → Type 0 };
 
@@ -59,7 +59,8 @@ impl<F: FnMut() -> Array8List> Dies for F {
     }
 }
 
-/// What hears that a save was cancelled. Every closure is one that may always be called.
+/// What hears that a save was cancelled (XSMP, chapter 7: ShutdownCancelled). A closure is one where it
+/// may always be called.
 pub trait Cancels {
     ghost lawful: { Self → Type 0 };
 
