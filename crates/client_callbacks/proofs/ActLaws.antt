@@ -32,7 +32,7 @@ use Rattle.client_callbacks.specs.Answers.{Replies, unasked}
 use Rattle.client_callbacks.specs.Doing.{Answered, Callbacks, Desk, desk, Does, Follows, MayAct, Saved, Sends, Speaks, Takes, failure_in}
 use Rattle.client_callbacks.specs.Listening.{is_listening}
 use Rattle.client_callbacks.specs.Received.{received_of}
-use Rattle.client_callbacks.specs.Script.{Entry, Says, AsksSave, AsksReasons, TellsCancelled, Notes, Step, acted, after_answer, after_cancel, after_save, again_line, arrived, completed, frame_taken, opening_took, speaking_took, answer_line, answer_messages, cancel_line, closes, die_line, owed_messages, save_line, stage_again}
+use Rattle.client_callbacks.specs.Script.{Entry, Says, AsksSave, AsksReasons, TellsCancelled, Notes, Step, acted, after_answer, after_cancel, again_line, arrived, completed, frame_taken, opening_took, speaking_took, answer_line, answer_messages, cancel_line, closes, die_line, owed_messages, stage_again}
 use Rattle.client_callbacks.specs.declared.messages.Message.{Message}
 use Rattle.client_callbacks.specs.declared.ends.Ending.TheVariants.{Closed, Died}
 use Rattle.client_callbacks.specs.declared.received.Received.{Received}

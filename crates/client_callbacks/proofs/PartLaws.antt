@@ -1,12 +1,12 @@
 -- A piece may come in two parts.
-use Rattle.std.proofs.Common.{◌≡◌, ℕ, Bool, true, false, List, [], ◌∷◌, ◌++◌, length, drop, refl, sym, ◌∙◌, ap, subst, arith, append_assoc}
+use Rattle.std.proofs.Common.{◌≡◌, ℕ, Bool, true, false, List, [], ◌∷◌, ◌++◌, length, refl, sym, ◌∙◌, ap, subst, arith, append_assoc}
 use Rattle.std.proofs.lemmas.Bool.Decides.{nat_tests}
 use Rattle.ice_framing.specs.Frames.{Cut, IsOversize, Standing, behind as cut_behind, cut, fed, is_oversize, uncut}
 use Rattle.ice_framing.specs.declared.cutting.WholeFrame.{WholeFrame}
 use Rattle.ice_framing.proofs.Cuts.{cut-fed, cut-oversize, fed-fed, oversize-fed}
 use Rattle.client_callbacks.specs.Answers.{Replies}
 use Rattle.client_callbacks.specs.Laws.{ComesInParts, both}
-use Rattle.client_callbacks.specs.Script.{Entry, Run, Step, Turn, behind, cut_off, frame_taken, frames_taken, oversize_at, piece_taken, turn_of}
+use Rattle.client_callbacks.specs.Script.{Entry, Step, Turn, behind, cut_off, frame_taken, frames_taken, oversize_at, piece_taken, turn_of}
 use Rattle.client_callbacks.specs.declared.talk.Counts.{Counts}
 use Rattle.client_callbacks.specs.declared.talk.Place.{Place}
 use Rattle.client_callbacks.specs.declared.talk.Place.TheVariants.{Opening, Over, Speaking, Stopped}

@@ -1,6 +1,6 @@
 -- Frames one after another, pieces one after another.
-use Rattle.std.proofs.Common.{◌≡◌, ℕ, ◌+◌, ◌-◌, ◌<◌, ◌≤◌, arith, Bool, true, false, List, [], ◌∷◌, ◌++◌, length, take, drop, Option, None, Some, Result, Ok, Err, inl, inr, refl, sym, ◌∙◌, ap, subst, append_assoc, append-nil, length-append}
-use Rattle.std.specs.Prelude.{IfOk, IsOk}
+use Rattle.std.proofs.Common.{◌≡◌, ℕ, ◌+◌, ◌-◌, ◌<◌, ◌≤◌, arith, Bool, true, false, List, [], ◌∷◌, ◌++◌, length, take, drop, Option, None, Some, Result, Ok, Err, refl, sym, ◌∙◌, ap, subst, append_assoc, append-nil, length-append}
+use Rattle.std.specs.Prelude.{IfOk}
 use Rattle.std.proofs.lemmas.Bool.{false≢true}
 use Rattle.std.proofs.lemmas.List.{length-drop, length-take, take_all}
 use Rattle.std.proofs.lemmas.Bool.Decides.{nat_tests}
@@ -8,7 +8,6 @@ use Rattle.sm_world.specs.declared.failures.Failure.{Failure}
 use Rattle.sm_world.specs.declared.failures.Failure.TheVariants.{Failed, NoMemory}
 use Rattle.sm_world.specs.declared.effects.Effect.TheVariants.{Heard}
 use Rattle.sm_world.specs.Outside.{Outside, UsesLinks, adds, NotFallen}
-use Rattle.sm_world.proofs.Adding.{never_fallen}
 use Rattle.ice_framing.specs.Frames.{Cut, IsOversize, IsPartial, Standing, beginning, behind as cut_behind, cut, fed, is_oversize, uncut, unit_limit, units}
 use Rattle.ice_framing.specs.declared.cutting.WholeFrame.{WholeFrame}
 use Rattle.ice_framing.proofs.Cuts.{cut-oversize, cut-partial, fed-nil}
@@ -19,7 +18,7 @@ use Rattle.ice_values.specs.declared.numbers.Endian.TheVariants.{Lsb}
 use Rattle.client_machine.specs.declared.saves.SaveAnswer.{SaveAnswer}
 use Rattle.client_machine.specs.declared.saves.SaveAsk.{SaveAsk}
 use Rattle.client_callbacks.specs.Answers.{Replies}
-use Rattle.client_callbacks.specs.Doing.{Callbacks, Sends, Desk, desk, Does, Follows, HasShortId, IsCaused, IsFed, IsRun, Takes, TakesFrames, TakesHeld, TakesPiece, TakesTurn, failure_in}
+use Rattle.client_callbacks.specs.Doing.{Callbacks, Sends, Desk, desk, Does, HasShortId, IsCaused, IsFed, IsRun, Takes, TakesFrames, TakesHeld, TakesPiece, TakesTurn, failure_in}
 use Rattle.client_callbacks.specs.Listening.{is_listening}
 use Rattle.client_callbacks.specs.Script.{Came, Entry, Hears, Run, Step, Turn, behind, cut_off, ended, frame_at, frame_taken, frames_taken, is_over, oversize_at, piece_taken, reply, run_after, Says, script, script_from, start, stays, turn, turn_of}
 use Rattle.client_callbacks.specs.Running.{IsAnswer, Joins, answer_of, failure_of, fault_of}

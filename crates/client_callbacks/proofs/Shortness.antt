@@ -1,5 +1,5 @@
 -- A client that will register has a short previous ID, whatever frames come.
-use Rattle.std.proofs.Common.{◌≡◌, ℕ, Bool, true, false, List, Option, None, Some, Result, Ok, Err, ◌==◌}
+use Rattle.std.proofs.Common.{ℕ, Bool, true, false, List, Option, None, Some, Result, Ok, Err, ◌==◌}
 use Rattle.std.specs.Prelude.{IfOk}
 use Rattle.sm_world.specs.declared.failures.Failure.{Failure}
 use Rattle.ice_framing.specs.declared.cutting.WholeFrame.{WholeFrame}

@@ -1,5 +1,5 @@
 -- What a frame of the manager is to a client.
-use Rattle.std.specs.Prelude.{ℕ, ◌+◌, ◌*◌, ◌%◌, ◌^◌, ◌-◌, Bool, false, List, length, drop, slice_index, min, Option, None, Some, Result, Ok, Err, ◌==◌, if◌then◌else◌}
+use Rattle.std.specs.Prelude.{ℕ, ◌+◌, ◌*◌, Bool, false, List, length, drop, slice_index, Option, None, Some, Result, Ok, Err, ◌==◌, if◌then◌else◌}
 use Rattle.ice_values.specs.Numbers.{number}
 use Rattle.ice_values.specs.declared.numbers.Endian.{Endian}
 use Rattle.ice_values.specs.declared.refusals.DecodeRefusal.{DecodeRefusal}

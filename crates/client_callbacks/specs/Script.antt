@@ -1,5 +1,5 @@
 -- The client's script: what it does about the frames of its manager, given what its callbacks say.
-use Rattle.std.specs.Prelude.{ℕ, ◌+◌, ◌-◌, ◌%◌, ◌^◌, min, Bool, true, false, List, [], ◌∷◌, ◌++◌, map, length, drop, slice_index, Option, None, Some, Result, Ok, Err, ◌==◌, if◌then◌else◌, codes}
+use Rattle.std.specs.Prelude.{ℕ, ◌+◌, ◌-◌, ◌%◌, ◌^◌, min, Bool, true, false, List, [], ◌∷◌, ◌++◌, map, length, drop, slice_index, Option, None, Some, ◌==◌, if◌then◌else◌, codes}
 use Rattle.ice_cookie.specs.declared.cookies.Cookie.{Cookie}
 use Rattle.ice_values.specs.Fields.{ErrorFields}
 use Rattle.ice_values.specs.declared.numbers.Endian.TheVariants.{Lsb}
@@ -15,12 +15,11 @@ use Rattle.ice_setup.specs.Errors.{blame}
 use Rattle.ice_setup.specs.Opener.{opened}
 use Rattle.ice_setup.specs.declared.errors.Offending.{Offending}
 use Rattle.ice_setup.specs.declared.opener.AnyOpener.{AnyOpener}
-use Rattle.ice_setup.specs.declared.opener.AnyOpener.TheVariants.{OpenOrder as AtOrder, OpenSetup as AtSetup, OpenProtocol as AtProtocol, Joined as AtJoined}
+use Rattle.ice_setup.specs.declared.opener.AnyOpener.TheVariants.{OpenOrder as AtOrder, Joined as AtJoined}
 use Rattle.ice_setup.specs.declared.opener.Joined.{Joined}
 use Rattle.ice_setup.specs.declared.opener.OpenMoved.{OpenMoved}
 use Rattle.ice_setup.specs.declared.opener.OpenMoved.TheVariants.{Goes, Ends}
-use Rattle.xsmp_messages.specs.declared.message.XsmpMessage.{XsmpMessage}
-use Rattle.xsmp_messages.specs.declared.message.XsmpMessage.TheVariants.{Error as XsmpError, RegisterClient, SetProperties, SaveYourselfDone, ConnectionClosed}
+use Rattle.xsmp_messages.specs.declared.message.XsmpMessage.TheVariants.{Error as XsmpError, RegisterClient, SetProperties, ConnectionClosed}
 use Rattle.client_machine.specs.Asking.{after_asked, requested}
 use Rattle.client_machine.specs.Phases.{ClientState, is_owing}
 use Rattle.client_machine.specs.Saves.{at_stage, first_ask, step_request}

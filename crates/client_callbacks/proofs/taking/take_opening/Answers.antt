@@ -1,4 +1,4 @@
-use Rattle.std.proofs.Common.{refl, sym}
+use Rattle.std.proofs.Common.{refl}
 use Rattle.client_callbacks.specs.Script.{malformed}
 use Rattle.client_callbacks.proofs.SpeakLaws.{speaks_silent}
 use Rattle.client_callbacks.proofs.taking.take_opening.Goals as goal

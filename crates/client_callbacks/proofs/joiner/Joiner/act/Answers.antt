@@ -1,5 +1,5 @@
 use Rattle.std.proofs.Common.{Err, Ok, refl}
-use Rattle.client_callbacks.proofs.ActLaws.{act_cancelled, act_died, act_saved, act_uncancelled, act_unsaved, takes_noted, takes_said, takes_silent, takes_unnoted}
+use Rattle.client_callbacks.proofs.ActLaws.{act_cancelled, act_died, act_saved, act_uncancelled, takes_noted, takes_said, takes_silent, takes_unnoted}
 use Rattle.client_callbacks.proofs.joiner.Joiner.act.Goals as goal
 
 pub returns-in-Nothing : goal.returns-in-Nothing

@@ -1,4 +1,4 @@
-use Rattle.std.proofs.Common.{Err, Ok, refl}
+use Rattle.std.proofs.Common.{Err, Ok}
 use Rattle.client_callbacks.proofs.ActLaws.{completed_last, completed_one, not_one, one, takes_unnoted}
 use Rattle.client_callbacks.proofs.joiner.Joiner.complete.Goals as goal
 

@@ -1,8 +1,5 @@
-use Rattle.std.proofs.Common.{rules, ◌+◌, ap, refl, sym, ◌∙◌}
-use Rattle.sm_world.specs.declared.failures.Failure.{Failure}
+use Rattle.std.proofs.Common.{rules, ◌+◌, refl}
 use Rattle.client_callbacks.specs.Script.{run_after, start}
-use Rattle.client_callbacks.specs.declared.ends.JoinFault.{JoinFault}
-use Rattle.client_callbacks.specs.declared.joiner.Join.{Join}
 use Rattle.client_callbacks.proofs.RunLaws.{faulted, joins_ended, joins_failed, joins_spent, kept_lines, not_begun, room_kept, under_begun, under_more}
 use Rattle.client_callbacks.proofs.joiner.Joiner.run.Goals as goal
 

@@ -1,4 +1,4 @@
-use Rattle.std.proofs.Common.{rules, ◌≡◌, ℕ, List, [], drop, length, refl, sym, subst}
+use Rattle.std.proofs.Common.{rules, ◌≡◌, ℕ, List, drop, length, sym, subst}
 use Rattle.client_callbacks.specs.Doing.{desk}
 use Rattle.client_callbacks.proofs.RunLaws.{Middle, all_taken, at_begin, cut_taken, deaf_taken, fails, from_place, goes_on, none_left}
 use Rattle.client_callbacks.proofs.joiner.Joiner.take_piece.Goals as goal
