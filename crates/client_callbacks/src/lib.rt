@@ -1,0 +1,22 @@
+//! A client that joins a session, and leaves what it saves and why it closes to its callbacks.
+#![tactic(auto)]
+
+mod acting;
+mod callbacks;
+mod ends;
+mod joiner;
+mod laws;
+mod messages;
+mod received;
+mod running;
+mod saying;
+mod speaking;
+mod taking;
+mod talk;
+#[cfg(test)]
+mod tests;
+
+pub use callbacks::{Cancels, Dies, Saves};
+pub use ends::{ClientEnd, JoinFault};
+pub use joiner::{Join, Joiner};
+pub use laws::pieces_make_no_difference;
