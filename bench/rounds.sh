@@ -1,7 +1,7 @@
 #!/bin/sh
 # Times many checkpoints of 8 and of 64 clients in `smd rehearse`. Each client says how it is started
 # again, so each checkpoint is written with as many entries as there are clients. It prints what one
-# round takes in a run of few rounds and in one of ten times as many, without what the logins take, and
+# round takes in a run of few rounds and in one of five times as many, without what the logins take, and
 # fails where a round takes more than twice as long behind many rounds as behind few.
 # Usage: bench/rounds.sh [PROGRAM]. Without a program, that which `tools/build` builds.
 set -eu
@@ -12,8 +12,8 @@ import sys
 import tempfile
 import time
 
-FEW = 100
-MANY = 1000
+FEW = 1000
+MANY = 5000
 REGISTER = "01010000010000000000000000000000"
 SAVED = "0108010000000000"
 
