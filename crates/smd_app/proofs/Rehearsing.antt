@@ -25,7 +25,6 @@ all_effects : (old new : Option (List Effect)) (shown effects : List Effect) →
 all_effects old new shown effects begins added is_shown =
     let same : Some shown ≡ Some effects = is_shown ∙ (added ∙ ap (λ told. adds told effects) begins) in cc
 
-
 -- A store of which nobody wrote a byte
 
 zero_at : (n i : ℕ) (xs : List ℕ) → xs ≡ replicate n 0 → i < n → slice_index xs i ≡ 0

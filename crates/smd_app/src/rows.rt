@@ -1,102 +1,7 @@
-//! Whole traces of the set-up, with names for the bytes that come often.
+//! Whole traces of the set-up.
 
-use crate::tests::{expect_answer, rehearsed};
-use sm_world::NoMemory;
-use std::alloc::Global;
-use std::process::Abort;
+use crate::trace_tests::expect_trace;
 use std::test::Fail;
-
-/// The names of bytes: the two orders, the messages of a client up to its ProtocolSetup, and the
-/// manager's answers. A name with an M at its end is written most significant byte first.
-const NAMED: [(&str, &str); 13] = [
-    ("BO", "0001000000000000"),
-    ("BOM", "0001010000000000"),
-    (
-        "CS",
-        "0002010106000000000000000000000003004d49540000000300312e30000000\
-         12004d49542d4d414749432d434f4f4b49452d3101000000",
-    ),
-    (
-        "CSM",
-        "0002010100000006000000000000000000034d49540000000003312e30000000\
-         00124d49542d4d414749432d434f4f4b49452d3100010000",
-    ),
-    ("AQ", "00030000010000000000000000000000"),
-    (
-        "AR",
-        "00040000030000001000000000000000000102030405060708090a0b0c0d0e0f",
-    ),
-    (
-        "ARM",
-        "00040000000000030010000000000000000102030405060708090a0b0c0d0e0f",
-    ),
-    ("CR", "00060000020000000300736d640000000300312e30000000"),
-    (
-        "PS",
-        "00070101070000000101000000000000040058534d50000003004d4954000000\
-         0300312e3000000012004d49542d4d414749432d434f4f4b49452d3101000000",
-    ),
-    ("PR", "00080001020000000300736d640000000300312e30000000"),
-    ("PI", "0009000000000000"),
-    ("RC", "01010000010000000000000000000000"),
-    (
-        "REJECTED",
-        "000004000300000004010000030000000e00636f6f6b69652072656675736564",
-    ),
-];
-
-/// The hex digits of a name. Another word stays as it is.
-fn digits(word: &str) -> &str {
-    for (name, hex) in NAMED {
-        if name == word {
-            return hex;
-        }
-    }
-    word
-}
-
-/// A line of a trace, in which names stand for their bytes.
-fn spell_line(out: &mut Vec<u8>, line: &str) -> Result<(), NoMemory> {
-    let mut is_first = true;
-    for word in line.split(' ') {
-        if !is_first {
-            out.push(b' ')?;
-        }
-        out.extend_from_slice(digits(word).as_bytes())?;
-        is_first = false;
-    }
-    out.push(b'\n')?;
-    Ok(())
-}
-
-/// A trace whose lines are parted by ` / `, line by line, and then the end of its run.
-fn spell_trace(alloc: Global, row: &str) -> Result<Vec<u8>, NoMemory> {
-    let mut out = Vec::new(alloc);
-    for line in row.split(" / ") {
-        spell_line(&mut out, line)?;
-    }
-    out.extend_from_slice(b"end\n|")?;
-    Ok(out)
-}
-
-/// The lines of a trace that were heard.
-fn spell_script(alloc: Global, row: &str) -> Result<Vec<u8>, NoMemory> {
-    let mut out = Vec::new(alloc);
-    for line in row.split(" / ") {
-        if !line.starts_with("sent") && !line.starts_with("shut") {
-            spell_line(&mut out, line)?;
-        }
-    }
-    Ok(out)
-}
-
-/// Expects of what was heard in a trace that the whole trace is printed.
-fn expect_trace(rt: &(impl Abort + Alloc<A = Global>), row: &str) -> Result<(), Fail> {
-    let script = spell_script(rt.alloc(), row)?;
-    let trace = spell_trace(rt.alloc(), row)?;
-    let answer = rehearsed(rt.alloc(), "rehearse", script.as_slice(), 99)?;
-    expect_answer(rt, &answer, 0, trace.as_slice())
-}
 
 #[test]
 fn a_client_with_the_cookie_gets_in(rt: HostRuntime) -> Result<(), Fail> {
@@ -107,7 +12,7 @@ fn a_client_with_the_cookie_gets_in(rt: HostRuntime) -> Result<(), Fail> {
         "join 1 / sent 1 BO / piece 1 BOM / piece 1 CSM / sent 1 AQ / piece 1 ARM / sent 1 CR",
         // It registers, gets an ID, and is asked to save for the first time.
         "join 1 / sent 1 BO / piece 1 BO / piece 1 CS / sent 1 AQ / piece 1 AR / sent 1 CR / \
-         piece 1 PS / sent 1 AQ / piece 1 AR / sent 1 PR / piece 1 RC / \
+         piece 1 PS / sent 1 AQ / piece 1 AR / sent 1 PR / piece 1 REG / \
          sent 1 010200000400000015000000736d642d30303030303030312d30303030303030\
          3100000000000000 / sent 1 01030000010000000100000000000000",
         // One that isn't registered and wants to close is shut.
@@ -126,10 +31,10 @@ fn a_client_without_it_does_not(rt: HostRuntime) -> Result<(), Fail> {
         // The last byte differs, and a proof of 15 bytes.
         "join 1 / sent 1 BO / piece 1 BO / piece 1 CS / sent 1 AQ / \
          piece 1 00040000030000001000000000000000000102030405060708090a0b0c0d0eff / \
-         sent 1 REJECTED / shut 1",
+         sent 1 000004000300000004010000030000000e00636f6f6b69652072656675736564 / shut 1",
         "join 1 / sent 1 BO / piece 1 BO / piece 1 CS / sent 1 AQ / \
          piece 1 00040000030000000f00000000000000000102030405060708090a0b0c0d0e00 / \
-         sent 1 REJECTED / shut 1",
+         sent 1 000004000300000004010000030000000e00636f6f6b69652072656675736564 / shut 1",
         // No version of ICE that the manager speaks.
         "join 1 / sent 1 BO / piece 1 BO / \
          piece 1 0002010106000000000000000000000003004d49540000000300312e30000000\
@@ -157,7 +62,7 @@ fn a_connected_client_stays_after_an_error(rt: HostRuntime) -> Result<(), Fail> 
         // A major opcode that nobody has.
         "join 1 / sent 1 BO / piece 1 BO / piece 1 CS / sent 1 AQ / piece 1 AR / sent 1 CR / \
          piece 1 PS / sent 1 AQ / piece 1 AR / sent 1 PR / piece 1 0509000000000000 / \
-         sent 1 000000000200000009000000060000000500000000000000 / piece 1 PI / \
+         sent 1 000000000200000009000000060000000500000000000000 / piece 1 0009000000000000 / \
          sent 1 000a000000000000",
         // A header that states too much ends the connection all the same. Under the client's opcode
         // for XSMP the Error is one of XSMP.
