@@ -1,12 +1,11 @@
 -- What a part of a stream brings, against what is noted of it: a frame that is noted is heard by the session, or refused by an Error.
 use Rattle.std.proofs.Common.{◌≡◌, ◌⊎◌, inl, inr, ℕ, Bool, true, false, cond, not, ◌&&◌, ◌||◌, ◌==◌, List, [], ◌∷◌, Option, Some, None, Result, Ok, Err, nat_lt, slice_index, drop, refl, sym, ◌∙◌, ap, subst, arith, if◌then◌else◌}
-use Rattle.std.specs.Option.{is_some, option_map}
+use Rattle.std.specs.Option.{option_map}
 use Rattle.ice_values.specs.Fields.{ErrorFields}
 use Rattle.ice_values.specs.Numbers.{number}
 use Rattle.ice_values.specs.declared.severity.Severity.TheVariants.{FatalToConnection}
 use Rattle.ice_values.specs.declared.class.ErrorClass.{ErrorClass}
 use Rattle.ice_values.specs.declared.class.ErrorClass.TheVariants.{BadState, BadMajor, BadMinor as NoMinor, BadLength as NoLength, BadValue as NoValue}
-use Rattle.ice_values.specs.declared.numbers.Endian.{Endian}
 use Rattle.ice_values.specs.declared.numbers.Endian.TheVariants.{Lsb}
 use Rattle.ice_values.specs.declared.refusals.DecodeRefusal.{DecodeRefusal}
 use Rattle.ice_values.specs.declared.refusals.DecodeRefusal.TheVariants.{BadMinor, BadLength, BadValue, NoMemory}
@@ -24,7 +23,7 @@ use Rattle.ice_setup.specs.declared.states.Moved.{Moved}
 use Rattle.ice_setup.specs.declared.states.Moved.TheVariants.{Goes, Ends, Close, Ask}
 use Rattle.xsmp_messages.specs.Reading.{decode_at}
 use Rattle.xsmp_messages.specs.declared.message.XsmpMessage.{XsmpMessage}
-use Rattle.session_engine.specs.Answers.{named_in, stated_order, going, speaks_xsmp, refused, outcome_of, message_outcome, first_outcome, read_outcome, xsmp_outcome, later_outcome, frame_outcome, is_opcode, outcome, error_about}
+use Rattle.session_engine.specs.Answers.{named_in, stated_order, going, speaks_xsmp, refused, outcome_of, first_outcome, read_outcome, xsmp_outcome, later_outcome, frame_outcome, is_opcode, outcome, error_about}
 use Rattle.session_engine.specs.Streams.{Part, Whole, TooMuch}
 use Rattle.session_engine.specs.declared.answers.Answer.{Answer}
 use Rattle.session_engine.specs.declared.answers.Answer.TheVariants.{Stays, Begins, Closes, Speaks, Asks}

@@ -5,4 +5,5 @@ pub mod Points
 pub mod Told
 pub mod Steps
 pub mod Fronts
+pub mod Script
 pub mod Passing

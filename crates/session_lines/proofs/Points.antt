@@ -1,8 +1,8 @@
 -- What the laws ask at each point of a line, and that nothing but a message or a book of the session can break them.
-use Rattle.std.proofs.Common.{◌≡◌, refl, ℕ, Bool, true, false, cond, not, ◌&&◌, ◌||◌, ◌==◌, List, [], ◌∷◌, ◌++◌, Result, Ok, Err, eqb, sym, ap, subst, ◌∙◌, slice_index}
+use Rattle.std.proofs.Common.{◌≡◌, refl, ℕ, Bool, true, false, cond, ◌&&◌, ◌||◌, ◌==◌, List, [], ◌∷◌, ◌++◌, Result, Ok, Err, eqb, sym, ap, subst, ◌∙◌, slice_index}
 use Rattle.std.specs.Prelude.{reverse}
 use Rattle.std.specs.List.{AllByRecursion}
-use Rattle.std.proofs.lemmas.List.{append_assoc, append-nil, reverse-append}
+use Rattle.std.proofs.lemmas.List.{append_assoc, reverse-append}
 use Rattle.sm_world.specs.declared.commands.Command.{Command}
 use Rattle.sm_world.specs.declared.events.Event.{Event}
 use Rattle.sm_world.specs.declared.events.Event.TheVariants.{Gone as HasGone}
@@ -14,12 +14,11 @@ use Rattle.xsmp_messages.specs.Reading.{decode_at}
 use Rattle.xsmp_messages.specs.declared.message.XsmpMessage.{XsmpMessage}
 use Rattle.xsmp_messages.specs.declared.message.XsmpMessage.TheVariants.{Error as XsmpError, InteractDone}
 use Rattle.session_engine.specs.Streams.{Part, TooMuch, Whole}
-use Rattle.session_engine.specs.declared.acts.Act.{Act}
 use Rattle.session_engine.specs.declared.acts.Act.TheVariants.{Commit, Finish, Print, Say, Shut, Start}
 use Rattle.session_engine.specs.declared.messages.Message.{Message}
 use Rattle.session_engine.specs.declared.messages.Message.TheVariants.{Ice, Xsmp}
 use Rattle.session_model.specs.declared.events.Act.TheVariants.{Say as SaysXsmp}
-use Rattle.session_notes.specs.Notes.{Did, Given, Gone, Heard, Note}
+use Rattle.session_notes.specs.Notes.{Did, Gone, Heard, Note}
 use Rattle.session_notes.specs.Watching.{has_token}
 use Rattle.session_notes.proofs.Fine.{IdsHold, IsDue, OneHas}
 use Rattle.session_notes.proofs.Tests.{and-after}

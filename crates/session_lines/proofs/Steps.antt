@@ -1,11 +1,10 @@
 -- The machine goes on: behind each part and each event the line shows it, and the laws hold.
 use Rattle.std.proofs.Common.{◌≡◌, ◌⊎◌, refl, ℕ, Bool, true, false, cond, not, ◌&&◌, ◌||◌, ◌==◌, eqb, List, [], ◌∷◌, ◌++◌, map, Option, Some, None, sym, ap, subst, ◌∙◌, if◌then◌else◌, inl, inr, arith}
 use Rattle.std.specs.Option.{is_some}
-use Rattle.std.proofs.lemmas.List.{append-nil, map-append}
+use Rattle.std.proofs.lemmas.List.{map-append}
 use Rattle.std.proofs.lemmas.Bool.{cases_eq}
 use Rattle.sm_world.specs.declared.events.Event.{Event}
 use Rattle.sm_world.specs.declared.events.Event.TheVariants.{Joined, Piece, Gone as HasGone, Operator, Tick, End}
-use Rattle.ice_values.specs.Fields.{ErrorFields}
 use Rattle.ice_values.specs.declared.numbers.Endian.TheVariants.{Lsb}
 use Rattle.ice_cookie.specs.declared.cookies.Cookie.{Cookie}
 use Rattle.ice_messages.specs.declared.message.IceMessage.{IceMessage}
@@ -13,7 +12,7 @@ use Rattle.ice_messages.specs.declared.message.IceMessage.TheVariants.{ByteOrder
 use Rattle.checkpoint_records.specs.declared.records.Book.{Book}
 use Rattle.xsmp_messages.specs.declared.message.XsmpMessage.{XsmpMessage}
 use Rattle.xsmp_messages.specs.declared.message.XsmpMessage.TheVariants.{Error as XsmpError}
-use Rattle.session_model.specs.Moves.{Blamed, History, Opened, Outside, ◌▷◌}
+use Rattle.session_model.specs.Moves.{Outside, ◌▷◌}
 use Rattle.session_model.specs.Phases.{is_bound}
 use Rattle.session_model.specs.Readings as of
 use Rattle.session_model.specs.Rules.{taken}
@@ -21,10 +20,10 @@ use Rattle.session_model.specs.declared.events.SessionEvent.{SessionEvent}
 use Rattle.session_model.specs.declared.events.SessionEvent.TheVariants.{Joined as HasJoined, Ready, Said, Left, Operator as Ordered}
 use Rattle.session_engine.specs.Acts.{acts_for_all, says}
 use Rattle.session_engine.specs.Answers.{outcome, sequence_after}
-use Rattle.session_engine.specs.Machine.{Connection, Does as DoesAct, Entry, Machine, Step, Took as TookPart, acts_since, answered, asked, behind, brought, changed, connection_of, counted, departs, does, fed_on, fed_with, gone_for, greeted, greeting, join_for, joined, joining, noted as with_setup, part_for, part_taken, parted, parts_taken, piece_for, stays, step, told, without}
+use Rattle.session_engine.specs.Machine.{Connection, Does as DoesAct, Entry, Machine, Step, Took as TookPart, acts_since, answered, asked, behind, changed, connection_of, counted, departs, does, fed_on, fed_with, gone_for, greeted, greeting, join_for, joined, joining, noted as with_setup, part_for, part_taken, parted, parts_taken, piece_for, step, told}
 use Rattle.session_engine.specs.Streams.{Part, new_parts}
 use Rattle.session_engine.specs.declared.acts.Act.{Act}
-use Rattle.session_engine.specs.declared.acts.Act.TheVariants.{Finish, Say, Shut}
+use Rattle.session_engine.specs.declared.acts.Act.TheVariants.{Say, Shut}
 use Rattle.session_engine.specs.declared.answers.Answer.{Answer}
 use Rattle.session_engine.specs.declared.answers.Answer.TheVariants.{Stays, Begins, Closes, Speaks, Asks}
 use Rattle.session_engine.specs.declared.answers.Outcome.{Outcome}
@@ -37,7 +36,7 @@ use Rattle.session_notes.proofs.Tests.{own}
 use Rattle.session_lines.specs.Lines.{Comes, Does, Seen, Took, given_in, heard_in, is_error, is_open, noted, seen_of}
 use Rattle.session_lines.proofs.Frames.{FitsAnswer, FitsSaid, fits-part}
 use Rattle.session_lines.proofs.Points.{Holds, along, along-append, holds-blamed, holds-comes, holds-finish, holds-ice, holds-shut, holds-took}
-use Rattle.session_lines.proofs.Told.{At, Blames, Notes, Open, Reached, open-changed, open-without, told-at}
+use Rattle.session_lines.proofs.Told.{At, Blames, Notes, Open, Reached, open-changed, open-without, told-at, turned-eq}
 use Rattle.session_lines.proofs.Wire.{wire}
 
 -- the line shows the machine
@@ -130,8 +129,8 @@ speaks-at : (book : Book) (m : Machine) (c : ℕ) (part : Part) (message : XsmpM
 speaks-at book m c part message sequence frame seen e at =
     step-told book m (Said c message sequence frame) (Took c part ∷ seen) at.reached (ap (λ (ns : List Note). ns ++ noted seen) e ∙ ap (λ (ns : List Note). Heard c message ∷ ns) at.notes)
     (λ d error.
-        ap (λ (ns : List Note). cond (true && c == d) (noted seen) ([] ++ (ns ++ noted seen))) e ∙ ap (λ (ns : List Note). cond (c == d) ns (Heard c message ∷ ns)) at.notes
-        ∙ sym (wire-cond (c == d) (noted_of m.session) (Heard c message ∷ noted_of m.session)))
+    ap (λ (ns : List Note). cond (true && c == d) (noted seen) ([] ++ (ns ++ noted seen))) e ∙ ap (λ (ns : List Note). cond (c == d) ns (Heard c message ∷ ns)) at.notes
+    ∙ sym (wire-cond (c == d) (noted_of m.session) (Heard c message ∷ noted_of m.session)))
     at.live (holds-took book c part seen at.holds)
 
 asks-at : (book : Book) (m : Machine) (c : ℕ) (part : Part) (b : Bool) (seen : List Seen) → heard_in c part ≡ [] → AtMachine book m seen → AtStep book (asked m c b) (Took c part ∷ seen)
@@ -186,12 +185,9 @@ greeted-at book c s seen at =
     (sym (ap (λ (xs : List Seen). along seen xs) (map-append seen_of s.line (map DoesAct greets)) ∙ along-append (map seen_of s.line) (map seen_of (map DoesAct greets)) seen ∙ ap (λ (xs : List Seen). along line xs) (seen-does greets)))
     (greeting-at book s.next c (connection_of c s.next.connections) line at)
 
-turned : (q c : ℕ) → eqb c q ≡ eqb q c
-turned q c = elim (cases_eq q c) [ inl e ↦ same c q (sym e) ∙ sym (same q c e) | inr apart ↦ other c q (λ e. apart (sym e)) ∙ sym (other q c apart) ]
-
 open-joined : (cookie : Cookie) (c : ℕ) (seen : List Seen) (ks : List Connection) → connection_of c ks ≡ None → Open seen ks → Open (Comes (Joined c) ∷ seen) (ks ++ joined cookie c ∷ [])
 open-joined cookie c seen ks none o q =
-    ap (λ (b : Bool). b || is_open q seen) (turned q c) ∙ ap (λ (b : Bool). eqb q c || b) (o q)
+    ap (λ (b : Bool). b || is_open q seen) (turned-eq q c) ∙ ap (λ (b : Bool). eqb q c || b) (o q)
     ∙ sym (ap (λ (k : Option Connection). is_some k) (connection_of-append q ks (joined cookie c) none) ∙ either (eqb q c) (connection_of q ks)) where
       either : (b : Bool) (k : Option Connection) → is_some (if◌then◌else◌ {A = Option Connection} b (Some (joined cookie c)) k) ≡ (b || is_some k)
       either true k = refl

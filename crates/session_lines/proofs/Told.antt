@@ -1,5 +1,5 @@
 -- The session is told of an event: the line goes on by what it does, and the notes of the line are those of the session.
-use Rattle.std.proofs.Common.{◌≡◌, refl, ℕ, Bool, true, false, cond, not, ◌&&◌, ◌||◌, ◌==◌, eqb, List, [], ◌∷◌, ◌++◌, map, length, Option, Some, None, sym, ap, subst, ◌∙◌, if◌then◌else◌, inl, inr, arith}
+use Rattle.std.proofs.Common.{◌≡◌, refl, ℕ, Bool, true, false, cond, not, ◌&&◌, ◌==◌, eqb, List, [], ◌∷◌, ◌++◌, map, Option, Some, None, sym, ap, subst, ◌∙◌, if◌then◌else◌, inl, inr, arith}
 use Rattle.std.specs.Option.{option_map, is_some}
 use Rattle.std.specs.List.{flat_map, AllByRecursion}
 use Rattle.std.proofs.lemmas.List.{append_assoc, append-nil}
@@ -16,20 +16,18 @@ use Rattle.session_model.specs.Books.{opening_moves}
 use Rattle.session_model.specs.Rules.{opened, run, taken}
 use Rattle.session_engine.specs.Acts.{acts_for_all}
 use Rattle.session_engine.specs.Machine.{Connection, acts_since, changed, connection_of, connections_after, connections_through, opening_acts, unset_on, without}
-use Rattle.session_engine.specs.declared.acts.Act.{Act}
 use Rattle.session_engine.specs.declared.acts.Act.TheVariants.{Commit, Finish, Print, Say, Shut, Start}
-use Rattle.session_engine.specs.declared.messages.Message.{Message}
 use Rattle.session_engine.specs.declared.messages.Message.TheVariants.{Xsmp}
 use Rattle.session_engine.proofs.Connections.{same, other, connection_of-changed, connection_of-without}
 use Rattle.session_engine.proofs.Following.{since-is}
-use Rattle.session_notes.specs.Notes.{Did, Entry, Given, Gone, Note, Wrote, entries, entries_of, notes as notes_of}
+use Rattle.session_notes.specs.Notes.{Did, Entry, Given, Gone, Note, Wrote, entries, entries_of}
 use Rattle.session_notes.specs.Laws.{IsSeen}
-use Rattle.session_notes.proofs.Seen.{latest, noted_of, notes-are}
+use Rattle.session_notes.proofs.Seen.{noted_of, notes-are}
 use Rattle.session_notes.proofs.Settled as settled
 use Rattle.session_notes.proofs.Fine.{IdsHold, IsDue, IsOwed, OneHas}
 use Rattle.session_lines.specs.Lines.{Does, Seen, Took, given_in, heard_in, is_error, is_open, noted}
 use Rattle.session_lines.proofs.Own.{AllOwn, IsAnswer, all-answers, is_fault, own-opening}
-use Rattle.session_lines.proofs.Points.{Due, Holds, Kept, along, holds-blamed, holds-finish, holds-print, holds-shut, holds-start}
+use Rattle.session_lines.proofs.Points.{Holds, Kept, along, holds-blamed, holds-finish, holds-print, holds-shut, holds-start}
 use Rattle.session_lines.proofs.Wire as wired
 use Rattle.session_lines.proofs.Wire.{IsOld, wire}
 
@@ -117,7 +115,7 @@ gone-at : (b : Bool) (k : Option Connection) → is_some (if◌then◌else◌ {A
 gone-at true k = refl
 gone-at false k = refl
 
-turned-eq : (q c : ℕ) → eqb c q ≡ eqb q c
+pub turned-eq : (q c : ℕ) → eqb c q ≡ eqb q c
 turned-eq q c = elim (cases_eq q c) [ inl e ↦ same c q (sym e) ∙ sym (same q c e) | inr apart ↦ other c q (λ e. apart (sym e)) ∙ sym (other q c apart) ]
 
 -- a connection is gone
@@ -185,9 +183,9 @@ pub told-at : (book : Book) (event : SessionEvent) (ks : List Connection) (h : H
 told-at book event ks h seen r n b o k =
     let a = all-answers event h in
     let e : acts_since h (taken event h) ≡ acts_by a.moves =
-        since-is h (taken event h) (acts_by a.moves) (ap (λ (g : History). all_acts g) a.is ∙ acts-onto a.moves (Outside event ▷ h) ∙ ap (λ (xs : List SessionAct). xs ++ acts_by a.moves) (append-nil (all_acts h))) in
+    since-is h (taken event h) (acts_by a.moves) (ap (λ (g : History). all_acts g) a.is ∙ acts-onto a.moves (Outside event ▷ h) ∙ ap (λ (xs : List SessionAct). xs ++ acts_by a.moves) (append-nil (all_acts h))) in
     let at : At book (connections_through (acts_by a.moves) ks) (onto (Outside event ▷ h) a.moves) (along seen (line_by a.moves)) =
-        answer-at book a.moves (Outside event ▷ h) ks seen a.answer (subst (λ (g : History). Reached book g) a.is (reached-more book event h r)) n b o k in
+    answer-at book a.moves (Outside event ▷ h) ks seen a.answer (subst (λ (g : History). Reached book g) a.is (reached-more book event h r)) n b o k in
     subst (λ (acts : List SessionAct). At book (connections_through acts ks) (taken event h) (along seen (map Does (acts_for_all acts)))) (sym e)
     (subst (λ (g : History). At book (connections_through (acts_by a.moves) ks) g (along seen (line_by a.moves))) (sym a.is) at)
 
@@ -208,6 +206,6 @@ opened-at book =
     let moves : List Move = opening_moves book in
     let reached : Reached book (opened book) = record { events = []; is = refl } in
     let at : At book (connections_through (acts_by moves) []) (opened book) (along [] (line_by moves)) =
-        own-at book moves (Opened book) [] [] (own-opening book) reached refl (λ q. refl) (kept-there book (Opened book) [] (seen-front book moves (Opened book) reached) refl) in
+    own-at book moves (Opened book) [] [] (own-opening book) reached refl (λ q. refl) (kept-there book (Opened book) [] (seen-front book moves (Opened book) reached) refl) in
     subst (λ (acts : List SessionAct). At book [] (opened book) (along [] (map Does (acts_for_all acts)))) (sym (acts-onto moves (Opened book)))
     (subst (λ (ks : List Connection). At book ks (opened book) (along [] (line_by moves))) (through-none (acts_by moves)) at)

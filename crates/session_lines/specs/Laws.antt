@@ -1,25 +1,35 @@
 -- Laws of every line, said of what is seen on the wire alone: they are those of what is seen of a session. Each holds of each front
 -- of a line: at every moment, also in the middle of what is done about one event, whatever comes. A frame that was taken last counts
 -- as accepted until an Error stands behind it.
-use Rattle.std.specs.Prelude.{List, Some, [], true, ℕ, ◌+◌, ◌++◌, ◌∷◌, ◌≡◌, ◌⊎◌}
+use Rattle.std.specs.Prelude.{List, false, true, ℕ, ◌+◌, ◌++◌, ◌∷◌, ◌≡◌, ◌⊎◌}
 use Rattle.std.specs.List.{AllByRecursion, Contains, IsDistinct}
 use Rattle.std.specs.Str.{bytes_eq}
 use Rattle.sm_world.specs.declared.events.Event.{Event}
 use Rattle.ice_cookie.specs.declared.cookies.Cookie.{Cookie}
 use Rattle.checkpoint_records.specs.declared.records.Book.{Book}
 use Rattle.xsmp_messages.specs.declared.message.XsmpMessage.TheVariants.{Interact, SaveYourselfPhase2}
+use Rattle.session_engine.specs.Acts.{has_finish}
+use Rattle.session_engine.specs.Machine.{script_of}
 use Rattle.session_engine.specs.declared.acts.Act.TheVariants.{Commit, Say}
 use Rattle.session_engine.specs.declared.messages.Message.TheVariants.{Xsmp}
 use Rattle.session_notes.specs.Keeping.{IsOfRun, book_in, new_ids}
 use Rattle.session_notes.specs.Laws.{IsSaved}
 use Rattle.session_notes.specs.Watching.{has_answered, has_token, is_to_save, requests}
-use Rattle.session_lines.specs.Lines.{Does, Seen, line, notes}
+use Rattle.session_lines.specs.Lines.{Does, Seen, acts_in, events_in, line, notes}
 
 -- Somebody who watches has seen this so far, the oldest first: a run with this cookie over this book shows it, and then goes on.
 pub record IsSeen (cookie : Cookie) (book : Book) (seen : List Seen) : Type 0 where
   pub events : List Event
   pub later : List Seen
   pub parts : seen ++ later ≡ line cookie book events
+
+-- all that the manager does is seen: the acts of a line are those of the script
+abbrev pub AllActsAreSeen : Type 0
+AllActsAreSeen = (cookie : Cookie) (book : Book) (events : List Event) → acts_in (line cookie book events) ≡ script_of cookie book events
+
+-- each event is seen, unless one before it ended the run
+abbrev pub AllEventsAreSeen : Type 0
+AllEventsAreSeen = (cookie : Cookie) (book : Book) (events : List Event) → has_finish (script_of cookie book events) ≡ false → events_in (line cookie book events) ≡ events
 
 -- one connection has the token at most
 abbrev pub OneHasTheToken : List Seen → Type 0

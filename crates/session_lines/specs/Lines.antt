@@ -1,5 +1,6 @@
 -- What somebody sees who watches the wire of the session manager, and what he notes of it.
 use Rattle.std.specs.Prelude.{Bool, List, Ok, Err, Result, [], cond, false, if◌then◌else◌, map, not, reverse, slice_index, true, ℕ, ◌&&◌, ◌++◌, ◌==◌, ◌||◌, ◌∷◌}
+use Rattle.std.specs.List.{flat_map}
 use Rattle.sm_world.specs.declared.events.Event.{Event}
 use Rattle.sm_world.specs.declared.events.Event.TheVariants.{Gone as HasGone, Joined}
 use Rattle.ice_values.specs.declared.refusals.DecodeRefusal.{DecodeRefusal}
@@ -40,6 +41,24 @@ line_from m (event ∷ events) = Comes event ∷ (map seen_of (step m event).lin
 -- all that is seen of a run, the oldest first: the opening acts, and then the events with what they bring
 abbrev pub line : Cookie → Book → List Event → List Seen
 line cookie book events = map Does (opening_acts book) ++ line_from (start cookie book) events
+
+-- the events among what is seen
+abbrev pub event_of : Seen → List Event
+event_of (Comes event) = event ∷ []
+event_of (Took c part) = []
+event_of (Does act) = []
+
+abbrev pub events_in : List Seen → List Event
+events_in seen = flat_map event_of seen
+
+-- the acts among what is seen
+abbrev pub act_of : Seen → List Act
+act_of (Comes event) = []
+act_of (Took c part) = []
+act_of (Does act) = act ∷ []
+
+abbrev pub acts_in : List Seen → List Act
+acts_in seen = flat_map act_of seen
 
 -- What is noted
 

@@ -1,35 +1,30 @@
 -- What was done in a run, against the line of what was heard.
-use Rattle.std.specs.Prelude.{Err, List, Ok, Option, Result, [], take, ℕ, ◌++◌, ◌∷◌, ◌≡◌}
-use Rattle.std.specs.List.{flat_map}
+use Rattle.std.specs.Prelude.{Err, List, Ok, Result, [], take, ℕ, ◌++◌, ◌∷◌, ◌≡◌}
 use Rattle.sm_world.specs.Effects.{Deed, deeds, heard}
 use Rattle.sm_world.specs.Outside.{Outside}
 use Rattle.sm_world.specs.declared.effects.Effect.{Effect}
 use Rattle.sm_world.specs.declared.events.Event.{Event}
 use Rattle.ice_cookie.specs.declared.cookies.Cookie.{Cookie}
 use Rattle.checkpoint_records.specs.declared.records.Book.{Book}
-use Rattle.session_engine.specs.Acts.{deed_in}
+use Rattle.session_engine.specs.Acts.{deeds_in}
 use Rattle.session_engine.specs.Carries.{FailsOr, IsOnScript, Opens}
 use Rattle.session_engine.specs.Session.{Serving}
 use Rattle.session_engine.specs.declared.fault.ServeFault.{ServeFault}
 use Rattle.session_lines.specs.Laws.{KeepsLaws}
-use Rattle.session_lines.specs.Lines.{Comes, Does, Seen, Took, line}
-
-abbrev pub deed_of : Seen → List Deed
-deed_of (Comes event) = []
-deed_of (Took c part) = []
-deed_of (Does act) = deed_in act
+use Rattle.session_lines.specs.Lines.{Seen, act_of, acts_in, events_in, line}
 
 -- what follows is nothing, or begins with a deed
 abbrev pub IsNextDeed : List Seen → Type 0
 IsNextDeed [] = Unit {0}
-IsNextDeed (entry ∷ later) = (deed : Deed) × (deed_of entry ≡ deed ∷ [])
+IsNextDeed (entry ∷ later) = (deed : Deed) × (deeds_in (act_of entry) ≡ deed ∷ [])
 
--- A front of the line of these events, which has exactly these deeds and ends before the first deed that is missing.
+-- A front of the line of these events, which has all of them and exactly these deeds, and ends before the first deed that is missing.
 pub record IsDone (cookie : Cookie) (book : Book) (events : List Event) (done : List Deed) : Type 0 where
   pub front : List Seen
   pub later : List Seen
   pub parts : front ++ later ≡ line cookie book events
-  pub same : flat_map deed_of front ≡ done
+  pub came : events_in front ≡ events
+  pub same : deeds_in (acts_in front) ≡ done
   pub next : IsNextDeed later
 
 -- at each point of a run what was done is a front of the line of what was heard

@@ -1,5 +1,15 @@
-ghost use Rattle.session_lines.specs.Laws.{Always, OneHasTheToken, TheFirstIsServed, TheSecondPhaseWaits, NewIdsAreOfTheRun, NewIdsDiffer, EntriesWereSaved};
+ghost use Rattle.session_lines.specs.Laws.{AllActsAreSeen, AllEventsAreSeen, Always, OneHasTheToken, TheFirstIsServed, TheSecondPhaseWaits, NewIdsAreOfTheRun, NewIdsDiffer, EntriesWereSaved};
 ghost use Rattle.session_lines.specs.Runs.{WhatWasDoneIsAFront, EveryRunKeepsTheLaws};
+
+/// Does nothing: its contract is a law of every line. All that the manager does is seen.
+pub fn all_acts_are_seen()
+    ensures { AllActsAreSeen }
+{}
+
+/// Does nothing: its contract is a law of every line. Each event is seen, unless one before it ended the run.
+pub fn all_events_are_seen()
+    ensures { AllEventsAreSeen }
+{}
 
 /// Does nothing: its contract is a law of each front of every line. One connection has the token at most.
 pub fn one_has_the_token()
