@@ -1,0 +1,126 @@
+-- What the laws ask at each point of a line, and that nothing but a message or a book of the session can break them.
+use Rattle.std.proofs.Common.{◌≡◌, refl, ℕ, Bool, true, false, cond, ◌&&◌, ◌||◌, ◌==◌, List, [], ◌∷◌, ◌++◌, Result, Ok, Err, eqb, sym, ap, subst, ◌∙◌, slice_index}
+use Rattle.std.specs.Prelude.{reverse}
+use Rattle.std.specs.List.{AllByRecursion}
+use Rattle.std.proofs.lemmas.List.{append_assoc, reverse-append}
+use Rattle.sm_world.specs.declared.commands.Command.{Command}
+use Rattle.sm_world.specs.declared.events.Event.{Event}
+use Rattle.sm_world.specs.declared.events.Event.TheVariants.{Gone as HasGone}
+use Rattle.ice_values.specs.Fields.{ErrorFields}
+use Rattle.ice_values.specs.declared.refusals.DecodeRefusal.{DecodeRefusal}
+use Rattle.ice_messages.specs.declared.message.IceMessage.{IceMessage}
+use Rattle.checkpoint_records.specs.declared.records.Book.{Book}
+use Rattle.xsmp_messages.specs.Reading.{decode_at}
+use Rattle.xsmp_messages.specs.declared.message.XsmpMessage.{XsmpMessage}
+use Rattle.xsmp_messages.specs.declared.message.XsmpMessage.TheVariants.{Error as XsmpError, InteractDone}
+use Rattle.session_engine.specs.Streams.{Part, TooMuch, Whole}
+use Rattle.session_engine.specs.declared.acts.Act.TheVariants.{Commit, Finish, Print, Say, Shut, Start}
+use Rattle.session_engine.specs.declared.messages.Message.{Message}
+use Rattle.session_engine.specs.declared.messages.Message.TheVariants.{Ice, Xsmp}
+use Rattle.session_model.specs.declared.events.Act.TheVariants.{Say as SaysXsmp}
+use Rattle.session_notes.specs.Notes.{Did, Gone, Heard, Note}
+use Rattle.session_notes.specs.Watching.{has_token}
+use Rattle.session_notes.proofs.Fine.{IdsHold, IsDue, OneHas}
+use Rattle.session_notes.proofs.Tests.{and-after}
+use Rattle.session_lines.specs.Lines.{Comes, Does, Seen, Took, given_in, heard_as, heard_in, is_error, is_open, noted}
+use Rattle.session_lines.proofs.Wire.{IsOld}
+
+-- what holds of the notes at each point
+abbrev pub Kept : Book → List Note → Type 0
+Kept book n = OneHas n × IdsHold book n
+
+-- what an entry asks of the notes before it
+abbrev pub Due : Book → List Note → Seen → Type 0
+Due book n (Does (Say c (Xsmp message))) = IsDue n (Did (SaysXsmp c message))
+Due book n (Does (Commit written)) = AllByRecursion (IsOld book n) written.entries
+Due book n entry = Unit {0}
+
+-- it is so at each point of a line, which stands the latest first
+abbrev pub Holds : Book → List Seen → Type 0
+Holds book [] = Kept book []
+Holds book (entry ∷ seen) = Kept book (noted (entry ∷ seen)) × (Due book (noted seen) entry × Holds book seen)
+
+pub kept-top : (book : Book) (seen : List Seen) → Holds book seen → Kept book (noted seen)
+kept-top book [] h = h
+kept-top book (entry ∷ seen) h = h.0
+
+-- What notes keep
+
+-- nobody gets the token by what is said
+token-before : (c : ℕ) (m : XsmpMessage) (d : ℕ) (n : List Note) → has_token d (Heard c m ∷ n) ≡ true → has_token d n ≡ true
+token-before c (InteractDone cancel) d n e = and-after (eqb c d) (has_token d n) e
+token-before c m d n e = e
+
+kept-read : (book : Book) (c : ℕ) (read : Result XsmpMessage DecodeRefusal) (n : List Note) → Kept book n → Kept book (heard_as c read ++ n)
+kept-read book c (Ok m) n k = (λ a b e f. k.0 a b (token-before c m a n e) (token-before c m b n f), k.1)
+kept-read book c (Err refusal) n k = k
+
+kept-either : (book : Book) (b : Bool) (c : ℕ) (read : Result XsmpMessage DecodeRefusal) (n : List Note) → Kept book n → Kept book (cond b [] (heard_as c read) ++ n)
+kept-either book true c read n k = k
+kept-either book false c read n k = kept-read book c read n k
+
+kept-heard : (book : Book) (c : ℕ) (part : Part) (n : List Note) → Kept book n → Kept book (heard_in c part ++ n)
+kept-heard book c (Whole frame) n k = kept-either book (slice_index frame.bytes 0 == 0 || slice_index frame.bytes 1 == 0) c (decode_at frame.endian frame.bytes) n k
+kept-heard book c (TooMuch header) n k = k
+
+kept-gone : (book : Book) (c : ℕ) (n : List Note) → Kept book n → Kept book (Gone c ∷ n)
+kept-gone book c n k = (λ a b e f. k.0 a b (and-after (eqb c a) (has_token a n) e) (and-after (eqb c b) (has_token b n) f), k.1)
+
+kept-cond : (book : Book) (b : Bool) (n o : List Note) → Kept book n → Kept book o → Kept book (cond b n o)
+kept-cond book true n o k l = k
+kept-cond book false n o k l = l
+
+-- a message of which nothing is noted
+kept-said : (book : Book) (c : ℕ) (message : Message) (seen : List Seen) → given_in c message ≡ [] → Holds book seen → Kept book (noted (Does (Say c message) ∷ seen))
+kept-said book c message [] e h = subst (λ (xs : List Note). Kept book (xs ++ [])) (sym e) h
+kept-said book c message (Took d part ∷ seen) e h =
+    kept-cond book (is_error message && d == c) (noted seen) (given_in c message ++ (heard_in d part ++ noted seen)) (kept-top book seen h.1.1)
+    (subst (λ (xs : List Note). Kept book (xs ++ (heard_in d part ++ noted seen))) (sym e) h.0)
+kept-said book c message (entry ∷ seen) e h = subst (λ (xs : List Note). Kept book (xs ++ noted (entry ∷ seen))) (sym e) h.0
+
+-- One entry more
+
+pub holds-comes : (book : Book) (event : Event) (seen : List Seen) → Holds book seen → Holds book (Comes event ∷ seen)
+holds-comes book (HasGone c) seen h = (kept-cond book (is_open c seen) (Gone c ∷ noted seen) (noted seen) (kept-gone book c (noted seen) (kept-top book seen h)) (kept-top book seen h), (tt, h))
+holds-comes book event seen h = (kept-top book seen h, (tt, h))
+
+pub holds-took : (book : Book) (c : ℕ) (part : Part) (seen : List Seen) → Holds book seen → Holds book (Took c part ∷ seen)
+holds-took book c part seen h = (kept-heard book c part (noted seen) (kept-top book seen h), (tt, h))
+
+pub holds-ice : (book : Book) (c : ℕ) (message : IceMessage) (seen : List Seen) → Holds book seen → Holds book (Does (Say c (Ice message)) ∷ seen)
+holds-ice book c message seen h = (kept-said book c (Ice message) seen refl h, (tt, h))
+
+pub holds-blamed : (book : Book) (c : ℕ) (error : ErrorFields) (seen : List Seen) → Holds book seen → Holds book (Does (Say c (Xsmp (XsmpError error))) ∷ seen)
+holds-blamed book c error seen h = (kept-said book c (Xsmp (XsmpError error)) seen refl h, (tt, h))
+
+pub holds-shut : (book : Book) (c : ℕ) (seen : List Seen) → Holds book seen → Holds book (Does (Shut c) ∷ seen)
+holds-shut book c seen h = (kept-gone book c (noted seen) (kept-top book seen h), (tt, h))
+
+pub holds-start : (book : Book) (command : Command) (seen : List Seen) → Holds book seen → Holds book (Does (Start command) ∷ seen)
+holds-start book command seen h = (kept-top book seen h, (tt, h))
+
+pub holds-print : (book : Book) (text : List ℕ) (seen : List Seen) → Holds book seen → Holds book (Does (Print text) ∷ seen)
+holds-print book text seen h = (kept-top book seen h, (tt, h))
+
+pub holds-finish : (book : Book) (seen : List Seen) → Holds book seen → Holds book (Does Finish ∷ seen)
+holds-finish book seen h = (kept-top book seen h, (tt, h))
+
+-- Lines
+
+-- what is seen after more, the latest first
+abbrev pub along : List Seen → List Seen → List Seen
+along seen [] = seen
+along seen (entry ∷ more) = along (entry ∷ seen) more
+
+pub along-append : (xs ys seen : List Seen) → along seen (xs ++ ys) ≡ along (along seen xs) ys
+along-append [] ys seen = refl
+along-append (x ∷ xs) ys seen = along-append xs ys (x ∷ seen)
+
+pub along-is : (xs seen : List Seen) → along seen xs ≡ reverse xs ++ seen
+along-is [] seen = refl
+along-is (x ∷ xs) seen = along-is xs (x ∷ seen) ∙ sym (append_assoc (reverse xs) (x ∷ []) seen) ∙ ap (λ (ys : List Seen). ys ++ seen) (sym (reverse-append (x ∷ []) xs))
+
+-- the points of a line are those of each of its fronts
+pub holds-front : (book : Book) (later seen : List Seen) → Holds book (later ++ seen) → Holds book seen
+holds-front book [] seen h = h
+holds-front book (entry ∷ later) seen h = holds-front book later seen h.1.1

@@ -1,0 +1,5 @@
+use Rattle.session_lines.proofs.Fronts.{laws-hold}
+use Rattle.session_lines.proofs.laws.the_first_is_served.Goals as goal
+
+pub returns : goal.returns
+returns c = λ cookie book seen s. (laws-hold cookie book seen s).the_first_is_served

@@ -1,0 +1,72 @@
+-- Laws of every line, said of what is seen on the wire alone: they are those of what is seen of a session. Each holds of each front
+-- of a line: at every moment, also in the middle of what is done about one event, whatever comes. A frame that was taken last counts
+-- as accepted until an Error stands behind it.
+use Rattle.std.specs.Prelude.{List, false, true, ℕ, ◌+◌, ◌++◌, ◌∷◌, ◌≡◌, ◌⊎◌}
+use Rattle.std.specs.List.{AllByRecursion, Contains, IsDistinct}
+use Rattle.std.specs.Str.{bytes_eq}
+use Rattle.sm_world.specs.declared.events.Event.{Event}
+use Rattle.ice_cookie.specs.declared.cookies.Cookie.{Cookie}
+use Rattle.checkpoint_records.specs.declared.records.Book.{Book}
+use Rattle.xsmp_messages.specs.declared.message.XsmpMessage.TheVariants.{Interact, SaveYourselfPhase2}
+use Rattle.session_engine.specs.Acts.{has_finish}
+use Rattle.session_engine.specs.Machine.{script_of}
+use Rattle.session_engine.specs.declared.acts.Act.TheVariants.{Commit, Say}
+use Rattle.session_engine.specs.declared.messages.Message.TheVariants.{Xsmp}
+use Rattle.session_notes.specs.Keeping.{IsOfRun, book_in, new_ids}
+use Rattle.session_notes.specs.Laws.{IsSaved}
+use Rattle.session_notes.specs.Watching.{has_answered, has_token, is_to_save, requests}
+use Rattle.session_lines.specs.Lines.{Does, Seen, acts_in, events_in, line, notes}
+
+-- Somebody who watches has seen this so far, the oldest first: a run with this cookie over this book shows it, and then goes on.
+pub record IsSeen (cookie : Cookie) (book : Book) (seen : List Seen) : Type 0 where
+  pub events : List Event
+  pub later : List Seen
+  pub parts : seen ++ later ≡ line cookie book events
+
+-- all that the manager does is seen: the acts of a line are those of the script
+abbrev pub AllActsAreSeen : Type 0
+AllActsAreSeen = (cookie : Cookie) (book : Book) (events : List Event) → acts_in (line cookie book events) ≡ script_of cookie book events
+
+-- each event is seen, unless one before it ended the run
+abbrev pub AllEventsAreSeen : Type 0
+AllEventsAreSeen = (cookie : Cookie) (book : Book) (events : List Event) → has_finish (script_of cookie book events) ≡ false → events_in (line cookie book events) ≡ events
+
+-- one connection has the token at most
+abbrev pub OneHasTheToken : List Seen → Type 0
+OneHasTheToken seen = (c d : ℕ) → has_token c (notes seen) ≡ true → has_token d (notes seen) ≡ true → c ≡ d
+
+-- each Interact went to the first whose request was open
+abbrev pub TheFirstIsServed : List Seen → Type 0
+TheFirstIsServed seen = (c : ℕ) (before after : List Seen) → before ++ Does (Say c (Xsmp Interact)) ∷ after ≡ seen → (others : List ℕ) × (requests (notes before) ≡ c ∷ others)
+
+-- where one was told to save in the second phase, all that were to save had answered
+abbrev pub TheSecondPhaseWaits : List Seen → Type 0
+TheSecondPhaseWaits seen =
+    (c d : ℕ) (before after : List Seen) → before ++ Does (Say c (Xsmp SaveYourselfPhase2)) ∷ after ≡ seen → is_to_save d (notes before) ≡ true → has_answered d (notes before) ≡ true
+
+-- Every new ID is of the run, whose epoch is one above that of the opened book, and the book that stands then is of this epoch too.
+abbrev pub NewIdsAreOfTheRun : Book → List Seen → Type 0
+NewIdsAreOfTheRun book seen = AllByRecursion (λ id. IsOfRun (book.epoch + 1) id × ((book_in book (notes seen)).epoch ≡ book.epoch + 1)) (new_ids book (notes seen))
+
+-- no two new IDs are alike
+abbrev pub NewIdsDiffer : Book → List Seen → Type 0
+NewIdsDiffer book seen = IsDistinct bytes_eq (new_ids book (notes seen))
+
+-- each entry of a book that was written stood in the book before, or a client had saved it with success
+abbrev pub EntriesWereSaved : Book → List Seen → Type 0
+EntriesWereSaved book seen =
+    (written : Book) (before after : List Seen) → before ++ Does (Commit written) ∷ after ≡ seen
+    → AllByRecursion (λ entry. Contains (book_in book (notes before)).entries entry ⊎ IsSaved book (notes before) entry) written.entries
+
+-- all of these laws
+pub record KeepsLaws (book : Book) (seen : List Seen) : Type 0 where
+  pub one_has_the_token : OneHasTheToken seen
+  pub the_first_is_served : TheFirstIsServed seen
+  pub the_second_phase_waits : TheSecondPhaseWaits seen
+  pub new_ids_are_of_the_run : NewIdsAreOfTheRun book seen
+  pub new_ids_differ : NewIdsDiffer book seen
+  pub entries_were_saved : EntriesWereSaved book seen
+
+-- this holds of each front of every line
+abbrev pub Always : (Book → List Seen → Type 0) → Type 0
+Always Holds = (cookie : Cookie) (book : Book) (seen : List Seen) → IsSeen cookie book seen → Holds book seen

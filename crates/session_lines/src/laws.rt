@@ -1,0 +1,52 @@
+ghost use Rattle.session_lines.specs.Laws.{AllActsAreSeen, AllEventsAreSeen, Always, OneHasTheToken, TheFirstIsServed, TheSecondPhaseWaits, NewIdsAreOfTheRun, NewIdsDiffer, EntriesWereSaved};
+ghost use Rattle.session_lines.specs.Runs.{WhatWasDoneIsAFront, EveryRunKeepsTheLaws};
+
+/// Does nothing: its contract is a law of every line. All that the manager does is seen.
+pub fn all_acts_are_seen()
+    ensures { AllActsAreSeen }
+{}
+
+/// Does nothing: its contract is a law of every line. Each event is seen, unless one before it ended the run.
+pub fn all_events_are_seen()
+    ensures { AllEventsAreSeen }
+{}
+
+/// Does nothing: its contract is a law of each front of every line. One connection has the token at most.
+pub fn one_has_the_token()
+    ensures { Always (λ book seen. OneHasTheToken seen) }
+{}
+
+/// Does nothing: its contract is a law of each front of every line. Each Interact goes to the first whose request is open.
+pub fn the_first_is_served()
+    ensures { Always (λ book seen. TheFirstIsServed seen) }
+{}
+
+/// Does nothing: its contract is a law of each front of every line. The second phase begins where all that are to save have answered.
+pub fn the_second_phase_waits()
+    ensures { Always (λ book seen. TheSecondPhaseWaits seen) }
+{}
+
+/// Does nothing: its contract is a law of each front of every line. Each new ID is of the epoch of the run, and so is the book that stands then.
+pub fn new_ids_are_of_the_run()
+    ensures { Always NewIdsAreOfTheRun }
+{}
+
+/// Does nothing: its contract is a law of each front of every line. No two new IDs are alike.
+pub fn new_ids_differ()
+    ensures { Always NewIdsDiffer }
+{}
+
+/// Does nothing: its contract is a law of each front of every line. Each entry of a book that is written stood in the book before, or was saved by its client.
+pub fn entries_were_saved()
+    ensures { Always EntriesWereSaved }
+{}
+
+/// Does nothing: its contract is a law of every run. At each point what was done is a front of the line of what was heard.
+pub fn what_was_done_is_a_front_of_the_line()
+    ensures { WhatWasDoneIsAFront }
+{}
+
+/// Does nothing: its contract is a law of every call that serves. At each point what it did keeps the laws.
+pub fn every_run_keeps_the_laws()
+    ensures { EveryRunKeepsTheLaws }
+{}

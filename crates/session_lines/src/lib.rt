@@ -1,0 +1,11 @@
+//! What somebody may rely on who watches the wire: the laws of what is seen of a session, said of the
+//! frames that the manager takes and of what it does.
+#![tactic(auto)]
+
+mod laws;
+
+pub use laws::{
+    all_acts_are_seen, all_events_are_seen, entries_were_saved, every_run_keeps_the_laws,
+    new_ids_are_of_the_run, new_ids_differ, one_has_the_token, the_first_is_served,
+    the_second_phase_waits, what_was_done_is_a_front_of_the_line,
+};
