@@ -22,4 +22,6 @@ pub use messages::Message;
 pub use session::{Session, Stepped, serve};
 
 #[cfg(test)]
+mod store_tests;
+#[cfg(test)]
 mod tests;

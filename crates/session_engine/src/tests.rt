@@ -1,4 +1,4 @@
-ghost use Rattle.std.specs.Prelude.{IfOk, ◌≤◌, length};
+ghost use Rattle.std.specs.Prelude.{◌≡◌, IfOk, ◌≤◌, length};
 ghost use Rattle.std.specs.List.{AllByRecursion};
 ghost use Rattle.sm_world.specs.Events.{HasPieceSize};
 
@@ -12,7 +12,10 @@ use std::fmt::Write;
 use std::process::Abort;
 use std::test::Fail;
 
-const COOKIE: Cookie = Cookie([7; 16]);
+pub const COOKIE: Cookie = Cookie([7; 16]);
+
+/// How many bytes a store has.
+const STORE_LEN: usize = 16_777_280;
 
 /// A ByteOrder and a Ping.
 const CLIENT: [u8; 16] = [0, 1, 0, 0, 0, 0, 0, 0, 0, 9, 0, 0, 0, 0, 0, 0];
@@ -34,7 +37,15 @@ const STATUS_PRINTED: &str =
     99, 111, 114, 100, 115, 32, 48, 44, 32, 112, 101, 110, 100, 105, 110, 103, 32, \
     48, 44, 32, 101, 112, 111, 99, 104, 32, 49, 44, 32, 105, 100, 108, 101, 10] }) ";
 
-/// Ends the test where other things were done than these. What was heard doesn't count.
+/// A store that nothing was written to: its bytes are 0.
+pub fn blank_store(alloc: Global) -> Result<Octets, NoMemory>
+    ensures { IfOk result (λ store. length store ≡ 16777280) }
+{
+    Ok(Octets::from_vec(vec![in alloc; 0; STORE_LEN]?))
+}
+
+/// Ends the test where other things were done than these. What was heard doesn't count, nor does
+/// what became of the store.
 fn expect_done(
     rt: &(impl Abort + Alloc<A = Global>),
     effects: &[Effect],
@@ -44,6 +55,8 @@ fn expect_done(
     for effect in effects {
         match effect {
             Effect::Heard(_) => {}
+            Effect::Wrote(_, _) => {}
+            Effect::Synced => {}
             _ => write!(text, "{effect:?} ")?,
         }
     }
@@ -87,7 +100,8 @@ fn byte_by_byte(alloc: Global, bytes: &[u8]) -> Result<EventList, NoMemory>
 fn steady_world(alloc: Global, events: EventList) -> Result<SteadyWorld, NoMemory>
     requires { AllByRecursion HasPieceSize events }
 {
-    SteadyWorld::new(alloc, events, Octets::new(alloc), Octets::new(alloc))
+    let store = blank_store(alloc)?;
+    SteadyWorld::new(alloc, events, Octets::new(alloc), store)
 }
 
 /// Serves to the end.
@@ -144,18 +158,19 @@ fn what_follows_a_wrong_first_frame_is_dropped(rt: HostRuntime) -> Result<(), Fa
 fn a_refused_call_is_a_fault(rt: HostRuntime) -> Result<(), Fail> {
     let alloc = rt.alloc();
     let mut failing = NumberList::new(alloc);
-    failing.push(2)?;
+    // The store is opened by nine calls, and the tenth hears that the connection joined.
+    failing.push(11)?;
     let events = at_once(alloc, &CLIENT)?;
     let mut world = MemWorld::new(
         alloc,
         events,
         Octets::new(alloc),
-        Octets::new(alloc),
+        blank_store(alloc)?,
         failing,
     )?;
     let served = serve(alloc, &mut world, COOKIE, 9);
     assert_eq!(rt; served, Err(ServeFault::LinkFault));
-    assert_eq!(rt; world.effects().len(), 1);
+    assert_eq!(rt; world.effects().len(), 7);
     Ok(())
 }
 
