@@ -137,6 +137,9 @@ seen-behind : (was more : List Deed) (event : Event) (first front : List Seen) �
 seen-behind was more event first front e f =
     seen-append first (Comes event ∷ front) ∙ ap (λ (ds : List Deed). ds ++ deeds_seen front) e ∙ ap (λ (ds : List Deed). was ++ ds) f
 
+parts-behind : (event : Event) (first front later tail whole : List Seen) → front ++ later ≡ tail → whole ≡ first ++ Comes event ∷ tail → (first ++ Comes event ∷ front) ++ later ≡ whole
+parts-behind event first front later tail whole e f = append_assoc first (Comes event ∷ front) later ∙ ap (λ (xs : List Seen). first ++ Comes event ∷ xs) e ∙ sym f
+
 -- behind an event before which all was done
 done-behind : (cookie : Cookie) (book : Book) (events : List Event) (event : Event) (more : List Deed) → has_finish (script_of cookie book events) ≡ false
     → IsPrefix (deeds_in (script_of cookie book events) ++ more) (deeds_in (script_of cookie book (events ++ event ∷ []))) → IsDone cookie book (events ++ event ∷ []) (deeds_in (script_of cookie book events) ++ more)
@@ -152,7 +155,7 @@ done-behind cookie book events event more unfinished (rest, e) =
     record {
       front = first ++ Comes event ∷ cut.front;
       later = cut.later;
-      parts = append_assoc first (Comes event ∷ cut.front) cut.later ∙ ap (λ (xs : List Seen). first ++ Comes event ∷ xs) cut.parts ∙ sym whole;
+      parts = parts-behind event first cut.front cut.later tail (line cookie book (events ++ event ∷ [])) cut.parts whole;
       came = events-behind events event first cut.front (events-line cookie book events unfinished) (cut-deaf tail more (events-step (step m event).line) cut);
       same = seen-behind was more event first cut.front (deeds-line cookie book events) cut.same;
       next = cut.next;
