@@ -7,3 +7,4 @@ pub mod Steps
 pub mod Fronts
 pub mod Script
 pub mod Passing
+pub mod Computed

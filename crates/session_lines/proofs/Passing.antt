@@ -128,6 +128,18 @@ done-first cookie book done (rest, e) =
 left-same : (xs ys zs : List Deed) → xs ++ ys ≡ xs ++ zs → ys ≡ zs
 left-same xs ys zs e = sym (drop-append_seam xs ys) ∙ ap (λ (ds : List Deed). drop (length xs) ds) e ∙ drop-append_seam xs zs
 
+-- what is seen of an event and a part of what it brings, behind what was seen before
+events-behind : (events : List Event) (event : Event) (first front : List Seen) → events_in first ≡ events → events_in front ≡ [] → events_in (first ++ Comes event ∷ front) ≡ events ++ event ∷ []
+events-behind events event first front e f =
+    flat_map-append event_of first (Comes event ∷ front) ∙ ap (λ (xs : List Event). xs ++ event ∷ events_in front) e ∙ ap (λ (xs : List Event). events ++ event ∷ xs) f
+
+seen-behind : (was more : List Deed) (event : Event) (first front : List Seen) → deeds_seen first ≡ was → deeds_seen front ≡ more → deeds_seen (first ++ Comes event ∷ front) ≡ was ++ more
+seen-behind was more event first front e f =
+    seen-append first (Comes event ∷ front) ∙ ap (λ (ds : List Deed). ds ++ deeds_seen front) e ∙ ap (λ (ds : List Deed). was ++ ds) f
+
+parts-behind : (event : Event) (first front later tail whole : List Seen) → front ++ later ≡ tail → whole ≡ first ++ Comes event ∷ tail → (first ++ Comes event ∷ front) ++ later ≡ whole
+parts-behind event first front later tail whole e f = append_assoc first (Comes event ∷ front) later ∙ ap (λ (xs : List Seen). first ++ Comes event ∷ xs) e ∙ sym f
+
 -- behind an event before which all was done
 done-behind : (cookie : Cookie) (book : Book) (events : List Event) (event : Event) (more : List Deed) → has_finish (script_of cookie book events) ≡ false
     → IsPrefix (deeds_in (script_of cookie book events) ++ more) (deeds_in (script_of cookie book (events ++ event ∷ []))) → IsDone cookie book (events ++ event ∷ []) (deeds_in (script_of cookie book events) ++ more)
@@ -138,14 +150,14 @@ done-behind cookie book events event more unfinished (rest, e) =
     let was : List Deed = deeds_in (script_of cookie book events) in
     let whole : line cookie book (events ++ event ∷ []) ≡ first ++ step_line m event = line-more cookie book events event unfinished in
     let all : deeds_in (script_of cookie book (events ++ event ∷ [])) ≡ was ++ deeds_seen tail =
-    sym (deeds-line cookie book (events ++ event ∷ [])) ∙ ap (λ (xs : List Seen). deeds_seen xs) whole ∙ seen-append first (step_line m event) ∙ ap (λ (ds : List Deed). ds ++ deeds_seen tail) (deeds-line cookie book events) in
+    sym (deeds-line cookie book (events ++ event ∷ [])) ∙ ap (λ (xs : List Seen). deeds_seen xs) whole ∙ seen-behind was (deeds_seen tail) event first tail (deeds-line cookie book events) refl in
     let cut : Cut tail more = cut-at tail more rest (left-same was (more ++ rest) (deeds_seen tail) (sym (append_assoc was more rest) ∙ e ∙ all)) in
     record {
       front = first ++ Comes event ∷ cut.front;
       later = cut.later;
-      parts = append_assoc first (Comes event ∷ cut.front) cut.later ∙ ap (λ (xs : List Seen). first ++ Comes event ∷ xs) cut.parts ∙ sym whole;
-      came = flat_map-append event_of first (Comes event ∷ cut.front) ∙ ap (λ (xs : List Event). xs ++ event ∷ events_in cut.front) (events-line cookie book events unfinished) ∙ ap (λ (xs : List Event). events ++ event ∷ xs) (cut-deaf tail more (events-step (step m event).line) cut);
-      same = seen-append first (Comes event ∷ cut.front) ∙ ap (λ (ds : List Deed). ds ++ deeds_seen cut.front) (deeds-line cookie book events) ∙ ap (λ (ds : List Deed). was ++ ds) cut.same;
+      parts = parts-behind event first cut.front cut.later tail (line cookie book (events ++ event ∷ [])) cut.parts whole;
+      came = events-behind events event first cut.front (events-line cookie book events unfinished) (cut-deaf tail more (events-step (step m event).line) cut);
+      same = seen-behind was more event first cut.front (deeds-line cookie book events) cut.same;
       next = cut.next;
     }
 
