@@ -36,7 +36,7 @@ line-holds cookie book events =
     subst (λ (xs : List Seen). Holds book xs) (sym (along-append (map Does (opening_acts book)) (line_from (start cookie book) events) []))
     (run-holds book (start cookie book) events (along [] (map Does (opening_acts book))) (opened-at book))
 
-turned-is : (xs : List Seen) → along [] xs ≡ reverse xs
+pub turned-is : (xs : List Seen) → along [] xs ≡ reverse xs
 turned-is xs = along-is xs [] ∙ append-nil (reverse xs)
 
 front-holds : (cookie : Cookie) (book : Book) (seen : List Seen) → IsSeen cookie book seen → Holds book (along [] seen)

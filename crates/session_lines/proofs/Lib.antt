@@ -7,4 +7,5 @@ pub mod Steps
 pub mod Fronts
 pub mod Script
 pub mod Passing
+pub mod Crashes
 pub mod Computed

@@ -25,13 +25,13 @@ use Rattle.session_lines.proofs.Script.{acts-line, events-does, events-line, eve
 
 -- Deeds
 
-abbrev deeds_seen : List Seen → List Deed
+abbrev pub deeds_seen : List Seen → List Deed
 deeds_seen seen = deeds_in (acts_in seen)
 
 seen-append : (xs ys : List Seen) → deeds_seen (xs ++ ys) ≡ deeds_seen xs ++ deeds_seen ys
 seen-append xs ys = ap (λ (acts : List Act). deeds_in acts) (flat_map-append act_of xs ys) ∙ flat_map-append deed_in (acts_in xs) (acts_in ys)
 
-seen-more : (entry : Seen) (seen : List Seen) → deeds_seen (entry ∷ seen) ≡ deeds_in (act_of entry) ++ deeds_seen seen
+pub seen-more : (entry : Seen) (seen : List Seen) → deeds_seen (entry ∷ seen) ≡ deeds_in (act_of entry) ++ deeds_seen seen
 seen-more entry seen = flat_map-append deed_in (act_of entry) (acts_in seen)
 
 -- an entry does one deed at most
@@ -55,11 +55,11 @@ record Cut (seen : List Seen) (done : List Deed) : Type 0 where
   same : deeds_seen front ≡ done
   next : IsNextDeed later
 
-none-done : (done rest : List Deed) → done ++ rest ≡ [] → [] ≡ done
+pub none-done : (done rest : List Deed) → done ++ rest ≡ [] → [] ≡ done
 none-done [] rest e = refl
 none-done (d ∷ done) rest e = absurd (grind arith)
 
-first-same : (d e : Deed) (ds es : List Deed) → d ∷ ds ≡ e ∷ es → d ≡ e
+pub first-same : (d e : Deed) (ds es : List Deed) → d ∷ ds ≡ e ∷ es → d ≡ e
 first-same d e ds es k = cc
 
 cut-more : (entry : Seen) (seen : List Seen) (before done : List Deed) → deeds_in (act_of entry) ≡ before → Cut seen done → Cut (entry ∷ seen) (before ++ done)
@@ -125,7 +125,7 @@ done-first cookie book done (rest, e) =
     let none : events_in (line cookie book []) ≡ [] = flat_map-append event_of (map Does (opening_acts book)) [] ∙ ap (λ (xs : List Event). xs ++ []) (events-does (opening_acts book)) in
     record { front = cut.front; later = cut.later; parts = cut.parts; came = cut-deaf (line cookie book []) done none cut; same = cut.same; next = cut.next }
 
-left-same : (xs ys zs : List Deed) → xs ++ ys ≡ xs ++ zs → ys ≡ zs
+pub left-same : (xs ys zs : List Deed) → xs ++ ys ≡ xs ++ zs → ys ≡ zs
 left-same xs ys zs e = sym (drop-append_seam xs ys) ∙ ap (λ (ds : List Deed). drop (length xs) ds) e ∙ drop-append_seam xs zs
 
 -- what is seen of an event and a part of what it brings, behind what was seen before

@@ -1,4 +1,5 @@
 pub mod Lines
 pub mod Laws
 pub mod Runs
+pub mod Files
 pub mod Examples

@@ -1,5 +1,6 @@
 ghost use Rattle.session_lines.specs.Laws.{AllActsAreSeen, AllEventsAreSeen, Always, OneHasTheToken, TheFirstIsServed, TheSecondPhaseWaits, NewIdsAreOfTheRun, NewIdsDiffer, EntriesWereSaved};
 ghost use Rattle.session_lines.specs.Runs.{WhatWasDoneIsAFront, EveryRunKeepsTheLaws};
+ghost use Rattle.session_lines.specs.Files.{FilesKeepUp};
 
 /// Does nothing: its contract is a law of every line. All that the manager does is seen.
 pub fn all_acts_are_seen()
@@ -49,4 +50,10 @@ pub fn what_was_done_is_a_front_of_the_line()
 /// Does nothing: its contract is a law of every call that serves. At each point what it did keeps the laws.
 pub fn every_run_keeps_the_laws()
     ensures { EveryRunKeepsTheLaws }
+{}
+
+/// Does nothing: its contract is a law of every run. Once a new ID was given, no file that a crash could leave has a book of an
+/// older epoch, so no later run gives this ID again.
+pub fn files_keep_up_with_new_ids()
+    ensures { FilesKeepUp }
 {}

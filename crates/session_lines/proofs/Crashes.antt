@@ -1,0 +1,181 @@
+-- The files that a crash could leave keep up with the new IDs.
+use Rattle.std.proofs.Common.{◌≡◌, refl, ℕ, Bool, true, false, cond, ◌&&◌, ◌||◌, ◌==◌, ◌+◌, List, [], ◌∷◌, ◌++◌, Result, Ok, Err, sym, ap, subst, ◌∙◌, drop, slice_index, arith}
+use Rattle.std.specs.Prelude.{◌≢◌}
+use Rattle.std.specs.List.{AllByRecursion}
+use Rattle.sm_world.specs.Effects.{Deed}
+use Rattle.sm_world.specs.declared.events.Event.TheVariants.{Gone as HasGone}
+use Rattle.ice_values.specs.declared.refusals.DecodeRefusal.{DecodeRefusal}
+use Rattle.checkpoint_records.specs.declared.records.Book.{Book}
+use Rattle.checkpoint_slots.proofs.Once.{recovers-once}
+use Rattle.xsmp_messages.specs.Reading.{decode_at}
+use Rattle.xsmp_messages.specs.declared.message.XsmpMessage.{XsmpMessage}
+use Rattle.xsmp_messages.specs.declared.message.XsmpMessage.TheVariants.{Error as XsmpError}
+use Rattle.session_engine.specs.Acts.{book_after, book_with, deeds_in}
+use Rattle.session_engine.specs.Streams.{Part, TooMuch, Whole}
+use Rattle.session_engine.specs.declared.acts.Act.{Act}
+use Rattle.session_engine.specs.declared.acts.Act.TheVariants.{Commit, Finish, Print, Say, Shut, Start}
+use Rattle.session_engine.specs.declared.messages.Message.{Message}
+use Rattle.session_engine.specs.declared.messages.Message.TheVariants.{Ice, Xsmp}
+use Rattle.session_notes.specs.Keeping.{IsOfRun, book_in, new_ids}
+use Rattle.session_notes.specs.Notes.{Gone, Note}
+use Rattle.session_lines.specs.Files.{FilesKeepUp}
+use Rattle.session_lines.specs.Lines.{Comes, Does, Seen, Took, act_of, acts_in, given_in, heard_as, heard_in, is_error, is_open, line, noted, notes}
+use Rattle.session_lines.proofs.Fronts.{laws-hold, turned-is}
+use Rattle.session_lines.proofs.Passing.{deeds_seen, left-same, none-done, seen-more}
+use Rattle.session_lines.proofs.Points.{along}
+use Rattle.session_lines.proofs.Script.{acts-line}
+
+-- Notes that change neither the book that stands nor the new IDs
+
+abbrev Same : Book → List Note → List Note → Type 0
+Same book n o = (book_in book n ≡ book_in book o) × (new_ids book n ≡ new_ids book o)
+
+same-cond : (book : Book) (b : Bool) (n o p : List Note) → Same book n p → Same book o p → Same book (cond b n o) p
+same-cond book true n o p s t = s
+same-cond book false n o p s t = t
+
+same-read : (book : Book) (c : ℕ) (read : Result XsmpMessage DecodeRefusal) (n : List Note) → Same book (heard_as c read ++ n) n
+same-read book c (Ok m) n = (refl, refl)
+same-read book c (Err refusal) n = (refl, refl)
+
+same-either : (book : Book) (b : Bool) (c : ℕ) (read : Result XsmpMessage DecodeRefusal) (n : List Note) → Same book (cond b [] (heard_as c read) ++ n) n
+same-either book true c read n = (refl, refl)
+same-either book false c read n = same-read book c read n
+
+same-heard : (book : Book) (c : ℕ) (part : Part) (n : List Note) → Same book (heard_in c part ++ n) n
+same-heard book c (Whole frame) n = same-either book (slice_index frame.bytes 0 == 0 || slice_index frame.bytes 1 == 0) c (decode_at frame.endian frame.bytes) n
+same-heard book c (TooMuch header) n = (refl, refl)
+
+same-gone : (book : Book) (c : ℕ) (seen : List Seen) → Same book (noted (Comes (HasGone c) ∷ seen)) (noted seen)
+same-gone book c seen = same-cond book (is_open c seen) (Gone c ∷ noted seen) (noted seen) (noted seen) (refl, refl) (refl, refl)
+
+-- The book that stands is that of the last commit
+
+book-given : (book : Book) (c : ℕ) (message : Message) (n : List Note) → book_in book (given_in c message ++ n) ≡ book_in book n
+book-given book c (Ice message) n = refl
+book-given book c (Xsmp (XsmpError error)) n = refl
+book-given book c (Xsmp message) n = refl
+
+book-cond : (book : Book) (b : Bool) (n o p : List Note) → book_in book n ≡ book_in book p → book_in book o ≡ book_in book p → book_in book (cond b n o) ≡ book_in book p
+book-cond book true n o p s t = s
+book-cond book false n o p s t = t
+
+book-said : (book : Book) (c : ℕ) (message : Message) (seen : List Seen) → book_in book (noted (Does (Say c message) ∷ seen)) ≡ book_in book (noted seen)
+book-said book c message [] = book-given book c message []
+book-said book c message (Took d part ∷ seen) =
+    let heard : List Note = heard_in d part ++ noted seen in
+    book-cond book (is_error message && d == c) (noted seen) (given_in c message ++ heard) heard (sym (same-heard book d part (noted seen)).0) (book-given book c message heard)
+book-said book c message (entry ∷ seen) = book-given book c message (noted (entry ∷ seen))
+
+book-one : (book : Book) (entry : Seen) (seen : List Seen) → book_in book (noted (entry ∷ seen)) ≡ book_after (book_in book (noted seen)) (act_of entry)
+book-one book (Comes (HasGone c)) seen = (same-gone book c seen).0
+book-one book (Comes event) seen = refl
+book-one book (Took c part) seen = (same-heard book c part (noted seen)).0
+book-one book (Does (Say c message)) seen = book-said book c message seen
+book-one book (Does (Shut c)) seen = refl
+book-one book (Does (Start command)) seen = refl
+book-one book (Does (Commit written)) seen = refl
+book-one book (Does (Print text)) seen = refl
+book-one book (Does Finish) seen = refl
+
+after-append : (book : Book) (acts more : List Act) → book_after book (acts ++ more) ≡ book_after (book_after book acts) more
+after-append book [] more = refl
+after-append book (act ∷ acts) more = after-append (book_with book act) acts more
+
+book-along : (book : Book) (more seen : List Seen) → book_in book (noted (along seen more)) ≡ book_after (book_in book (noted seen)) (acts_in more)
+book-along book [] seen = refl
+book-along book (entry ∷ more) seen =
+    book-along book more (entry ∷ seen) ∙ ap (λ (b : Book). book_after b (acts_in more)) (book-one book entry seen) ∙ sym (after-append (book_in book (noted seen)) (act_of entry) (acts_in more))
+
+-- Without a deed no ID is new
+
+none-later : (xs ys : List Deed) → xs ++ ys ≡ [] → ys ≡ []
+none-later [] ys e = e
+none-later (x ∷ xs) ys e = absurd (grind arith)
+
+no-deed : (deed : Deed) (ds : List Deed) → deed ∷ ds ≡ [] → ⊥
+no-deed deed ds e = grind arith
+
+ids-one : (book : Book) (entry : Seen) (seen : List Seen) → deeds_in (act_of entry) ≡ [] → new_ids book (noted (entry ∷ seen)) ≡ new_ids book (noted seen)
+ids-one book (Comes (HasGone c)) seen e = (same-gone book c seen).1
+ids-one book (Comes event) seen e = refl
+ids-one book (Took c part) seen e = (same-heard book c part (noted seen)).1
+ids-one book (Does (Say c message)) seen e = absurd (no-deed _ _ e)
+ids-one book (Does act) seen e = refl
+
+ids-along : (book : Book) (more seen : List Seen) → deeds_seen more ≡ [] → new_ids book (noted (along seen more)) ≡ new_ids book (noted seen)
+ids-along book [] seen e = refl
+ids-along book (entry ∷ more) seen e =
+    let k : deeds_in (act_of entry) ++ deeds_seen more ≡ [] = sym (seen-more entry more) ∙ e in
+    ids-along book more (entry ∷ seen) (none-later (deeds_in (act_of entry)) (deeds_seen more) k) ∙ ids-one book entry seen (sym (none-done (deeds_in (act_of entry)) (deeds_seen more) k))
+
+first-seen : (x y : Seen) (xs ys : List Seen) → x ∷ xs ≡ y ∷ ys → x ≡ y
+first-seen x y xs ys e = cc
+
+-- two fronts of a line with the same deeds have the same new IDs
+same-ids : (book : Book) (xs ys vs ws seen : List Seen) → xs ++ vs ≡ ys ++ ws → deeds_seen xs ≡ deeds_seen ys → new_ids book (noted (along seen xs)) ≡ new_ids book (noted (along seen ys))
+same-ids book [] ys vs ws seen e d = sym (ids-along book ys seen (sym d))
+same-ids book (x ∷ xs) [] vs ws seen e d = ids-along book (x ∷ xs) seen d
+same-ids book (x ∷ xs) (y ∷ ys) vs ws seen e d =
+    let s : x ≡ y = first-seen x y (xs ++ vs) (ys ++ ws) e in
+    let t : deeds_seen xs ≡ deeds_seen ys = left-same (deeds_in (act_of x)) (deeds_seen xs) (deeds_seen ys) (sym (seen-more x xs) ∙ d ∙ seen-more y ys ∙ ap (λ (z : Seen). deeds_in (act_of z) ++ deeds_seen ys) (sym s)) in
+    same-ids book xs ys vs ws (x ∷ seen) (ap (λ (zs : List Seen). drop 1 zs) e) t ∙ ap (λ (z : Seen). new_ids book (noted (along (z ∷ seen) ys))) s
+
+-- The front that was saved
+
+-- a front of what is seen has exactly these acts
+record ActsAt (seen : List Seen) (acts : List Act) : Type 0 where
+  front : List Seen
+  later : List Seen
+  parts : front ++ later ≡ seen
+  same : acts_in front ≡ acts
+
+first-act : (a b : Act) (acts more : List Act) → a ∷ acts ≡ b ∷ more → a ≡ b
+first-act a b acts more e = cc
+
+acts-more : (entry : Seen) (seen : List Seen) (acts : List Act) → ActsAt seen acts → ActsAt (entry ∷ seen) (act_of entry ++ acts)
+acts-more entry seen acts at = record {
+  front = entry ∷ at.front;
+  later = at.later;
+  parts = ap (λ (xs : List Seen). entry ∷ xs) at.parts;
+  same = ap (λ (xs : List Act). act_of entry ++ xs) at.same;
+}
+
+acts-at : (seen : List Seen) (acts rest : List Act) → acts ++ rest ≡ acts_in seen → ActsAt seen acts
+acts-at seen [] rest e = record { front = []; later = seen; parts = refl; same = refl }
+acts-at [] (act ∷ acts) rest e = absurd (grind arith)
+acts-at (Comes event ∷ seen) (act ∷ acts) rest e = acts-more (Comes event) seen (act ∷ acts) (acts-at seen (act ∷ acts) rest e)
+acts-at (Took c part ∷ seen) (act ∷ acts) rest e = acts-more (Took c part) seen (act ∷ acts) (acts-at seen (act ∷ acts) rest e)
+acts-at (Does first ∷ seen) (act ∷ acts) rest e =
+    subst (λ (a : Act). ActsAt (Does first ∷ seen) (a ∷ acts)) (sym (first-act act first (acts ++ rest) (acts_in seen) e))
+    (acts-more (Does first) seen acts (acts-at seen acts rest (ap (λ (xs : List Act). drop 1 xs) e)))
+
+-- Files
+
+-- where some ID is new, what holds with each holds
+with-one : (Holds : List ℕ → Type 0) (Claim : Type 0) (ids : List (List ℕ)) → ids ≢ [] → AllByRecursion (λ id. Holds id × Claim) ids → Claim
+with-one Holds Claim [] some all = absurd (some refl)
+with-one Holds Claim (id ∷ ids) some all = all.0.1
+
+same-book : (one two : Book) (r s : Result Book ℕ) → r ≡ s → r ≡ Ok one → s ≡ Ok two → one ≡ two
+same-book one two r s e f g = cc
+
+book-turned : (book : Book) (front : List Seen) → book_in book (notes front) ≡ book_after book (acts_in front)
+book-turned book front = ap (λ (xs : List Seen). book_in book (noted xs)) (sym (turned-is front)) ∙ book-along book front []
+
+ids-turned : (book : Book) (xs ys vs ws : List Seen) → xs ++ vs ≡ ys ++ ws → deeds_seen xs ≡ deeds_seen ys → new_ids book (notes xs) ≡ new_ids book (notes ys)
+ids-turned book xs ys vs ws e d =
+    ap (λ (zs : List Seen). new_ids book (noted zs)) (sym (turned-is xs)) ∙ same-ids book xs ys vs ws [] e d ∙ ap (λ (zs : List Seen). new_ids book (noted zs)) (turned-is ys)
+
+pub files-keep-up : FilesKeepUp
+files-keep-up cookie book saved events done file s recovered seen later parts same some =
+    let at : ActsAt (line cookie book events) s.front = acts-at (line cookie book events) s.front s.rest (s.parts ∙ sym (acts-line cookie book events)) in
+    let deeds : deeds_seen seen ≡ deeds_seen at.front = same ∙ sym s.same ∙ ap (λ (acts : List Act). deeds_in acts) (sym at.same) in
+    let ids : new_ids book (notes seen) ≡ new_ids book (notes at.front) = ids-turned book seen at.front later at.later (parts ∙ sym at.parts) deeds in
+    let epoch : (book_in book (notes at.front)).epoch ≡ book.epoch + 1 =
+    with-one (IsOfRun (book.epoch + 1)) ((book_in book (notes at.front)).epoch ≡ book.epoch + 1) (new_ids book (notes at.front)) (λ none. some (ids ∙ none))
+    (laws-hold cookie book at.front (record { events = events; later = at.later; parts = at.parts })).new_ids_are_of_the_run in
+    let is : saved ≡ book_in book (notes at.front) =
+    same-book saved (book_after book s.front) (Ok saved) (Ok (book_after book s.front)) (recovers-once file (Ok saved) (Ok (book_after book s.front)) recovered s.recovers) refl refl
+    ∙ ap (λ (acts : List Act). book_after book acts) (sym at.same) ∙ sym (book-turned book at.front) in
+    ap (λ (b : Book). b.epoch) is ∙ epoch
