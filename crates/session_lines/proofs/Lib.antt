@@ -1,3 +1,4 @@
+pub mod LaterRuns
 pub mod Own
 pub mod Frames
 pub mod Wire

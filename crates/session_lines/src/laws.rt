@@ -1,6 +1,6 @@
 ghost use Rattle.session_lines.specs.Laws.{AllActsAreSeen, AllEventsAreSeen, Always, OneHasTheToken, TheFirstIsServed, TheSecondPhaseWaits, NewIdsAreOfTheRun, NewIdsDiffer, EntriesWereSaved};
 ghost use Rattle.session_lines.specs.Runs.{WhatWasDoneIsAFront, EveryRunKeepsTheLaws};
-ghost use Rattle.session_lines.specs.Files.{FilesKeepUp};
+ghost use Rattle.session_lines.specs.Files.{FilesKeepUp, LaterRunsGiveOtherIds};
 
 /// Does nothing: its contract is a law of every line. All that the manager does is seen.
 pub fn all_acts_are_seen()
@@ -53,7 +53,13 @@ pub fn every_run_keeps_the_laws()
 {}
 
 /// Does nothing: its contract is a law of every run. Once a new ID was given, no file that a crash could leave has a book of an
-/// older epoch, so no later run gives this ID again.
+/// older epoch.
 pub fn files_keep_up_with_new_ids()
     ensures { FilesKeepUp }
+{}
+
+/// Does nothing: its contract is a law of every two runs. The later one, over a book of a later epoch, gives none of the IDs
+/// that were new in the first.
+pub fn later_runs_give_other_ids()
+    ensures { LaterRunsGiveOtherIds }
 {}

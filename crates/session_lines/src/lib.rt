@@ -7,7 +7,8 @@ mod worked;
 
 pub use laws::{
     all_acts_are_seen, all_events_are_seen, entries_were_saved, every_run_keeps_the_laws,
-    files_keep_up_with_new_ids, new_ids_are_of_the_run, new_ids_differ, one_has_the_token,
-    the_first_is_served, the_second_phase_waits, what_was_done_is_a_front_of_the_line,
+    files_keep_up_with_new_ids, later_runs_give_other_ids, new_ids_are_of_the_run, new_ids_differ,
+    one_has_the_token, the_first_is_served, the_second_phase_waits,
+    what_was_done_is_a_front_of_the_line,
 };
 pub use worked::notes_compute;
