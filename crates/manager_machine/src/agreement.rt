@@ -101,7 +101,7 @@ impl Core {
     {
         self.kill_each(end.registered.as_slice())?;
         self.close_each(end.others.as_slice())?;
-        self.start_each(&end.commands)?;
+        self.start_each(Reason::End, &end.commands)?;
         Ok(())
     }
 

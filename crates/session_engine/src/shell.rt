@@ -178,7 +178,7 @@ impl Shell {
         match act {
             Act::Say(to, message) => hand_on(self.send(world, *to, message), store),
             Act::Shut(conn) => hand_on(self.shut(world, *conn), store),
-            Act::Start(command) => hand_on(self.start(world, command), store),
+            Act::Start(_reason, command) => hand_on(self.start(world, command), store),
             Act::Commit(book) => self.commit(world, store, book),
             Act::Print(text) => hand_on(self.print(world, text.as_slice()), store),
             Act::Finish => Ok(store),

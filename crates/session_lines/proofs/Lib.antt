@@ -1,5 +1,4 @@
 pub mod LaterRuns
-pub mod Own
 pub mod Frames
 pub mod Wire
 pub mod Points

@@ -26,7 +26,7 @@ use Rattle.session_notes.proofs.Seen.{noted_of, notes-are}
 use Rattle.session_notes.proofs.Settled as settled
 use Rattle.session_notes.proofs.Fine.{IdsHold, IsDue, IsOwed, OneHas}
 use Rattle.session_lines.specs.Lines.{Does, Seen, Took, given_in, heard_in, is_error, is_open, noted}
-use Rattle.session_lines.proofs.Own.{AllOwn, IsAnswer, all-answers, is_fault, own-opening}
+use Rattle.session_model.proofs.Own.{AllOwn, IsAnswer, all-answers, is_fault, own-opening}
 use Rattle.session_lines.proofs.Points.{Holds, Kept, along, holds-blamed, holds-finish, holds-print, holds-shut, holds-start}
 use Rattle.session_lines.proofs.Wire as wired
 use Rattle.session_lines.proofs.Wire.{IsOld, wire}
