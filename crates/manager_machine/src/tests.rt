@@ -3,7 +3,7 @@ ghost use Rattle.std.specs.Prelude.{IfOk};
 ghost use Rattle.ice_values.specs.declared.numbers.Endian.TheVariants.{Lsb};
 ghost use Rattle.xsmp_messages.specs.Messages.{Spells};
 
-use crate::{Act, Manager, SessionEvent};
+use crate::{Act, Manager, Reason, SessionEvent};
 use checkpoint_records::Book;
 use ice_values::{Array8List, EncodeRefusal, Endian, Property, PropertyList};
 use sm_world::{Conn, Dialog, NoMemory, Octets, Order};

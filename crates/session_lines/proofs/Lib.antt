@@ -1,6 +1,5 @@
 pub mod LaterRuns
 pub mod Frames
-pub mod Wire
 pub mod Points
 pub mod Told
 pub mod Steps
