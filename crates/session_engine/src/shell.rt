@@ -144,6 +144,7 @@ impl Shell {
         ensures done { Added (W.outside world.old).told (W.outside world.new).told (Performs store (Commits book.now ∷ []) result) }
         ensures alone { HearsNone (W.outside world.old) (W.outside world.new) result }
     {
+        // The proof needs that the epoch has 32 bits.
         let _epoch = book.epoch;
         let (store, body) = match store.spell(self.alloc, book) {
             Ok(spelled) => spelled,

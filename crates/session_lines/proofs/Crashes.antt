@@ -247,7 +247,7 @@ saved-at cookie book saved events done file s recovered =
       parts = at.parts;
       same = ap (λ (acts : List Act). deeds_in acts) at.same ∙ s.same;
       is = same-book saved (book_after book s.front) (Ok saved) (Ok (book_after book s.front)) (recovers-once file (Ok saved) (Ok (book_after book s.front)) recovered s.recovers) refl refl
-        ∙ ap (λ (acts : List Act). book_after book acts) (sym at.same) ∙ sym (book-turned book at.front);
+          ∙ ap (λ (acts : List Act). book_after book acts) (sym at.same) ∙ sym (book-turned book at.front);
     }
 
 pub files-keep-up : FilesKeepUp
