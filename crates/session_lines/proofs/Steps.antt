@@ -31,7 +31,6 @@ use Rattle.session_engine.specs.declared.messages.Message.{Message}
 use Rattle.session_engine.specs.declared.messages.Message.TheVariants.{Ice, Xsmp}
 use Rattle.session_engine.proofs.Connections.{same, other, connection_of-append}
 use Rattle.session_notes.specs.Notes.{Gone, Heard, Note}
-use Rattle.session_notes.proofs.Seen.{noted_of}
 use Rattle.session_notes.proofs.Tests.{own}
 use Rattle.session_lines.specs.Lines.{Comes, Does, Seen, Took, given_in, heard_in, is_error, is_open, noted, seen_of}
 use Rattle.session_lines.proofs.Frames.{FitsAnswer, FitsSaid, fits-part}
