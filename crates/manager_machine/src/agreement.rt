@@ -11,6 +11,7 @@ use checkpoint_records::EntryList;
 use round_agreement::Round;
 use session_books::{last_commands, next_entries};
 use session_clients::Clients;
+use session_model::Reason;
 use sm_world::{CommandList, Conn, ConnList, NoMemory};
 use std::alloc::Global;
 use xsmp_messages::XsmpMessage;
@@ -101,7 +102,7 @@ impl Core {
     {
         self.kill_each(end.registered.as_slice())?;
         self.close_each(end.others.as_slice())?;
-        self.start_each(&end.commands)?;
+        self.start_each(Reason::End, &end.commands)?;
         Ok(())
     }
 

@@ -1,34 +1,38 @@
 ghost use Rattle.std.specs.Prelude.{◌≡◌, [], false, IfOk, OnOk};
 ghost use Rattle.discard_ledger.specs.Discards.{without_commands};
 ghost use Rattle.session_model.specs.Books.{issue as issue_moves, with_entries};
-ghost use Rattle.session_model.specs.Moves.{Cause as AnyCause, Committed as HasCommitted, Discard as AsDiscard, Finished as HasFinished, Printed as HasPrinted, Respawn as AsRespawn, Tried as HasTried, tried_each};
+ghost use Rattle.session_model.specs.Moves.{Committed as HasCommitted, Discard as AsDiscard, Finished as HasFinished, Printed as HasPrinted, Respawn as AsRespawn, Tried as HasTried, tried_each};
 ghost use Rattle.session_state.specs.Session.{moved, moved_all, reading_in};
-ghost use Rattle.manager_machine.specs.Kept.{is_respawn};
+ghost use Rattle.manager_machine.specs.Kept.{cause_for};
 
 use crate::counts::count_more;
 use crate::inner::Core;
 use checkpoint_records::{Book, EntryList, copy_book};
 use discard_ledger::Ledger;
 use ice_values::Array8;
-use session_model::Act;
+use session_model::{Act, Reason};
 use sm_world::{Command, CommandList, Duplicate, NoMemory, Octets};
 use std::mem;
 
 impl Core {
-    /// Starts a command, for any cause but that a client departed.
-    pub(crate) fn start(&mut self, command: Command) -> Result<(), NoMemory>
-        ensures { OnOk result ((cause : AnyCause) → is_respawn cause ≡ false → self.new ≡ moved (HasTried cause command) self.old) }
+    /// Starts a command for this reason, though no client departed.
+    pub(crate) fn start(&mut self, reason: Reason, command: Command) -> Result<(), NoMemory>
+        ensures { OnOk result (self.new ≡ moved (HasTried (cause_for reason) command) self.old) }
     {
-        self.act(Act::Start(command))?;
+        self.act(Act::Start(reason, command))?;
         Ok(())
     }
 
-    /// Starts copies of these commands, for any cause but that a client departed.
-    pub(crate) fn start_each(&mut self, commands: &CommandList) -> Result<(), NoMemory>
-        ensures { OnOk result ((cause : AnyCause) → is_respawn cause ≡ false → self.new ≡ moved_all (tried_each cause commands.now) self.old) }
+    /// Starts copies of these commands for this reason, though no client departed.
+    pub(crate) fn start_each(
+        &mut self,
+        reason: Reason,
+        commands: &CommandList,
+    ) -> Result<(), NoMemory>
+        ensures { OnOk result (self.new ≡ moved_all (tried_each (cause_for reason) commands.now) self.old) }
     {
         for command in commands.as_slice() {
-            self.start(command.copy()?)?;
+            self.start(reason, command.copy()?)?;
         }
         Ok(())
     }
@@ -38,7 +42,7 @@ impl Core {
         ensures { OnOk result (self.new ≡ moved (HasTried (AsRespawn id) command) self.old) }
     {
         count_more(&mut self.counts, id)?;
-        self.act(Act::Start(command))?;
+        self.act(Act::Start(Reason::Restart, command))?;
         Ok(())
     }
 
@@ -103,7 +107,7 @@ impl Core {
             return Ok(());
         }
         let book = self.book_without(commands)?;
-        self.start_each(commands)?;
+        self.start_each(Reason::Discard, commands)?;
         self.commit(book)?;
         Ok(())
     }

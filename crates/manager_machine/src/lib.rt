@@ -36,4 +36,4 @@ mod waits;
 pub use events::Acts;
 pub use faults::TakeFault;
 pub use manager::Manager;
-pub use session_model::{Act, SessionEvent};
+pub use session_model::{Act, Reason, SessionEvent};

@@ -10,7 +10,7 @@ use ice_values::Array8;
 use interact_queue::InteractQueue;
 use restart_plan::plan;
 use session_clients::Clients;
-use session_model::Marks;
+use session_model::{Marks, Reason};
 use sm_world::{Duplicate, NoMemory};
 use std::alloc::Global;
 
@@ -73,7 +73,7 @@ impl Core {
         let book = raised(&self.book)?;
         self.commit(book)?;
         self.issue(&pending)?;
-        self.start_each(&restarts)?;
+        self.start_each(Reason::Restart, &restarts)?;
         Ok(())
     }
 }

@@ -10,7 +10,7 @@ ghost use Rattle.manager_machine.specs.Order.{InOrder};
 use crate::inner::Core;
 use crate::replies::{Again, Forgetting, Reply};
 use ice_values::ErrorBody;
-use session_model::SessionEvent;
+use session_model::{Reason, SessionEvent};
 use sm_world::{Command, Conn, ConnList, NoMemory, Octets, Order};
 use xsmp_messages::XsmpMessage;
 
@@ -66,7 +66,7 @@ impl Core {
         ensures { OnOk result (self.new ≡ moved_all (resigned command) self.old) }
     {
         match command {
-            Some(command) => self.start(command),
+            Some(command) => self.start(Reason::Resign, command),
             None => Ok(()),
         }
     }

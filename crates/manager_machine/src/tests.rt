@@ -3,7 +3,7 @@ ghost use Rattle.std.specs.Prelude.{IfOk};
 ghost use Rattle.ice_values.specs.declared.numbers.Endian.TheVariants.{Lsb};
 ghost use Rattle.xsmp_messages.specs.Messages.{Spells};
 
-use crate::{Act, Manager, SessionEvent};
+use crate::{Act, Manager, Reason, SessionEvent};
 use checkpoint_records::Book;
 use ice_values::{Array8List, EncodeRefusal, Endian, Property, PropertyList};
 use sm_world::{Conn, Dialog, NoMemory, Octets, Order};
@@ -77,6 +77,15 @@ fn put_to(out: &mut Octets, conn: Conn, text: &[u8]) -> Result<(), NoMemory> {
     out.append(text)
 }
 
+fn reason_text(reason: Reason) -> &'static [u8] {
+    match reason {
+        Reason::Restart => b"Restart",
+        Reason::Discard => b"Discard",
+        Reason::Resign => b"Resign",
+        Reason::End => b"End",
+    }
+}
+
 fn put_act(out: &mut Octets, act: &Act) -> Result<(), NoMemory> {
     match act {
         Act::Say(conn, message) => {
@@ -86,8 +95,8 @@ fn put_act(out: &mut Octets, act: &Act) -> Result<(), NoMemory> {
         Act::Blame(conn, _) => put_to(out, *conn, b"Error"),
         Act::Unset(conn) => put_to(out, *conn, b"Unset"),
         Act::Shut(conn) => put_to(out, *conn, b"Shut"),
-        Act::Start(command) => {
-            out.append(b"Start")?;
+        Act::Start(reason, command) => {
+            out.append(reason_text(*reason))?;
             put_words(out, command.words.as_slice())
         }
         Act::Commit(book) => put_book(out, book),
@@ -503,7 +512,7 @@ fn a_client_is_started_again(rt: HostRuntime) -> Result<(), Fail> {
         &rt,
         &mut desk,
         &steps,
-        b"Start c|1 smd-00000001-00000001|ok|1 Shut|Start c|",
+        b"Restart c|1 smd-00000001-00000001|ok|1 Shut|Restart c|",
     )
 }
 
@@ -520,7 +529,7 @@ fn an_old_state_is_discarded(rt: HostRuntime) -> Result<(), Fail> {
         &rt,
         &mut desk,
         &[Step::Discards(1, b'e'), Step::Checkpoint, Step::Saved(1)],
-        b"ok|1 SaveYourself|Commit *-|1 SaveComplete|Start d|Commit *|",
+        b"ok|1 SaveYourself|Commit *-|1 SaveComplete|Discard d|Commit *|",
     )
 }
 

@@ -24,7 +24,7 @@ use Rattle.session_engine.specs.Answers.{speaks_xsmp, without_xsmp}
 use Rattle.session_engine.specs.Machine.{Connection, connection_of, changed, without, joined, counted, unset_on, connections_after, connections_through, acts_since}
 use Rattle.session_engine.specs.Shown.{Agrees, is_speaking}
 use Rattle.session_engine.proofs.Connections.{same, other, connection_of-changed, connection_of-without, connection_of-append}
-use Rattle.session_engine.proofs.Inner.{IsInner, kept-taken}
+use Rattle.session_model.proofs.Inner.{IsInner, kept-taken}
 
 -- ---- numbers
 

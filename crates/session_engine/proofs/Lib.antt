@@ -5,7 +5,6 @@ pub mod Adding
 pub mod Performing
 pub mod Storing
 pub mod Counting
-pub mod Inner
 pub mod Following
 pub mod Showing
 pub mod Outcomes

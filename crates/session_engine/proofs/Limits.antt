@@ -33,7 +33,7 @@ use Rattle.session_engine.proofs.Opening.{opened_live, opened_phase}
 use Rattle.session_engine.proofs.Answering.{agrees-for}
 use Rattle.session_engine.proofs.Connections.{same, length-changed}
 use Rattle.session_engine.proofs.Following.{agrees-changed, agrees-joined, agrees-left, agrees-ordered, agrees-said, agrees-told, since-is}
-use Rattle.session_engine.proofs.Inner.{IsInner, kept-replied}
+use Rattle.session_model.proofs.Inner.{IsInner, kept-replied}
 use Rattle.session_engine.proofs.Outcomes.{fits-part}
 
 -- ---- the session and the connections agree whatever came

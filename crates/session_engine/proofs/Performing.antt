@@ -21,6 +21,7 @@ use Rattle.session_engine.specs.Doing.{CarriesOut, Going}
 use Rattle.session_engine.specs.Saved.{IsSaved, Leaves, Performs, Saves, WearsOut}
 use Rattle.session_engine.specs.Starting.{Launches, handed_on}
 use Rattle.session_engine.specs.declared.acts.Act.{Act}
+use Rattle.session_model.specs.declared.events.Reason.{Reason}
 use Rattle.session_engine.specs.declared.acts.Act.TheVariants.{Commit, Finish, Start}
 use Rattle.session_engine.specs.declared.fault.Halt.{Halt}
 use Rattle.session_engine.specs.declared.fault.Halt.TheVariants.{Links, Console, Disk, Worn, NoMemory}
@@ -252,13 +253,13 @@ told_deed current effect act deed old new (Ok x) able added = record { effects =
 told_deed current effect act deed old new (Err halt) able added = record { effects = []; added = added; holds = performs_none current (act ∷ []) halt (not_worn_too halt able) }
 
 -- a command that was tried
-pub told_start : (current : Option Current) (command : Command) (old new : Option (List Effect)) (result : Result (Unit {0}) Halt) → IsNotWorn result → Launches old new command result → Added old new (Performs current (Start command ∷ []) (handed_on current result))
-told_start current command old new (Ok x) able launches = record {
+pub told_start : (current : Option Current) (reason : Reason) (command : Command) (old new : Option (List Effect)) (result : Result (Unit {0}) Halt) → IsNotWorn result → Launches old new command result → Added old new (Performs current (Start reason command ∷ []) (handed_on current result))
+told_start current reason command old new (Ok x) able launches = record {
   effects = Started command launches.0 ∷ [];
   added = launches.1;
-  holds = performs_deed current (Started command launches.0) (Start command) (record { done = record { deaf = refl; quiet = refl; does = refl; shows = refl }; quiet = tt; keeps = λ book. refl; uncounted = refl });
+  holds = performs_deed current (Started command launches.0) (Start reason command) (record { done = record { deaf = refl; quiet = refl; does = refl; shows = refl }; quiet = tt; keeps = λ book. refl; uncounted = refl });
 }
-told_start current command old new (Err halt) able launches = record { effects = []; added = launches ∙ sym (adds-none old); holds = performs_none current (Start command ∷ []) halt (not_worn_too halt able) }
+told_start current reason command old new (Err halt) able launches = record { effects = []; added = launches ∙ sym (adds-none old); holds = performs_none current (Start reason command ∷ []) halt (not_worn_too halt able) }
 
 pub told_finish : (current : Option Current) (old : Option (List Effect)) → Added old old (Performs current (Finish ∷ []) (Ok current))
 told_finish current old = record { effects = []; added = sym (adds-none old); holds = performs_finish current }

@@ -22,7 +22,7 @@ pub has_finish-append : (xs ys : List Act) → has_finish (xs ++ ys) ≡ (if has
 has_finish-append [] ys = refl
 has_finish-append (Say conn message ∷ xs) ys = has_finish-append xs ys
 has_finish-append (Shut conn ∷ xs) ys = has_finish-append xs ys
-has_finish-append (Start command ∷ xs) ys = has_finish-append xs ys
+has_finish-append (Start reason command ∷ xs) ys = has_finish-append xs ys
 has_finish-append (Commit book ∷ xs) ys = has_finish-append xs ys
 has_finish-append (Print text ∷ xs) ys = has_finish-append xs ys
 has_finish-append (Finish ∷ xs) ys = refl

@@ -22,7 +22,7 @@ pub data Kind : Type 0 where
 abbrev pub kind_of : Act → Kind
 kind_of (Say conn message) = Shown (Sends conn (spelled message))
 kind_of (Shut conn) = Shown (Shuts conn)
-kind_of (Start command) = Shown (Starts command)
+kind_of (Start reason command) = Shown (Starts command)
 kind_of (Commit book) = Saved book
 kind_of (Print text) = Shown (Prints (text ++ 10 ∷ []))
 kind_of Finish = Hidden
@@ -67,7 +67,7 @@ commits_in (act ∷ acts) = commits_by (kind_of act) + commits_in acts
 abbrev pub is_finish : Act → Bool
 is_finish (Say conn message) = false
 is_finish (Shut conn) = false
-is_finish (Start command) = false
+is_finish (Start reason command) = false
 is_finish (Commit book) = false
 is_finish (Print text) = false
 is_finish Finish = true
@@ -80,7 +80,7 @@ has_finish (act ∷ acts) = if is_finish act then true else has_finish acts
 abbrev pub CanBeDone : Act → Type 0
 CanBeDone (Say conn message) = ¬ (IsTooLong message)
 CanBeDone (Shut conn) = Unit {0}
-CanBeDone (Start command) = Unit {0}
+CanBeDone (Start reason command) = Unit {0}
 CanBeDone (Commit book) = KeepsRules book
 CanBeDone (Print text) = Unit {0}
 CanBeDone Finish = Unit {0}
@@ -97,7 +97,7 @@ acts_for (SaysXsmp conn message) = Say conn (Xsmp message) ∷ []
 acts_for (Blame conn error) = Say conn (Xsmp (XsmpError error)) ∷ []
 acts_for (Unset conn) = []
 acts_for (ShutsConn conn) = Shut conn ∷ []
-acts_for (StartsCommand command) = Start command ∷ []
+acts_for (StartsCommand reason command) = Start reason command ∷ []
 acts_for (Commits book) = Commit book ∷ []
 acts_for (PrintsLine text) = Print text ∷ []
 acts_for Finishes = Finish ∷ []

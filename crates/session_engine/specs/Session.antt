@@ -12,7 +12,7 @@ use Rattle.session_engine.specs.Acts.{book_after, commits_in, deeds_in, has_fini
 use Rattle.session_engine.specs.Carries.{FailsOr, IsOnScript, Keeps, Opens, Runs, Serves, run, script}
 use Rattle.session_engine.specs.Doing.{items}
 use Rattle.session_engine.specs.Machine.{after_all, start}
-use Rattle.session_engine.specs.Shown.{Shows, all_cut}
+use Rattle.session_engine.specs.Shown.{IsShown, Shows, all_cut}
 use Rattle.session_engine.specs.declared.fault.Halt.{Halt}
 use Rattle.session_engine.specs.declared.fault.ServeFault.{ServeFault}
 use Rattle.session_engine.specs.declared.fault.ServeFault.TheVariants.{Spent}
@@ -46,6 +46,11 @@ kept (Err halt) = Err halt
 abbrev pub Starts : Cookie → Outside → Outside → Result Session ServeFault → Type 0
 Starts cookie old new (Ok session) = Opens old new (λ opening current effects. StandsFor cookie opening current session effects × (heard effects ≡ []))
 Starts cookie old new (Err fault) = FailsOr old new (λ opening current effects. IsCut cookie opening current fault effects × (heard effects ≡ [])) fault
+
+-- a session that goes on shows a machine
+abbrev pub ShowsOn : Stepped → Type 0
+ShowsOn (Goes next) = IsShown all_cut next.engine
+ShowsOn (Finished marks) = Unit {0}
 
 -- what a step makes of a session, where these are the effects with the event and what the step added
 abbrev pub StepsTo : Cookie → Book → Option Current → Result Stepped ServeFault → List Effect → Type 0

@@ -1,5 +1,6 @@
 use crate::messages::Message;
 use checkpoint_records::Book;
+use session_model::Reason;
 use sm_world::{Command, Conn, Octets};
 
 /// One thing that the manager does.
@@ -9,8 +10,8 @@ pub enum Act {
     Say(Conn, Message),
     /// Closes a connection.
     Shut(Conn),
-    /// Starts a command.
-    Start(Command),
+    /// Starts a command, for this reason, which the outside isn't told.
+    Start(Reason, Command),
     /// Writes the book to the store.
     Commit(Book),
     /// Prints a line, which is given without its newline.

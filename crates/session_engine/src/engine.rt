@@ -103,7 +103,7 @@ impl Engine {
                 self.live.leave(closed);
                 self.acts.push(Act::Shut(closed))
             }
-            SessionAct::Start(command) => self.acts.push(Act::Start(command)),
+            SessionAct::Start(reason, command) => self.acts.push(Act::Start(reason, command)),
             SessionAct::Commit(book) => self.acts.push(Act::Commit(book)),
             SessionAct::Print(text) => self.acts.push(Act::Print(text)),
             SessionAct::Finish => self.acts.push(Act::Finish),

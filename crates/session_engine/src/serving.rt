@@ -43,7 +43,7 @@ fn ends(act: &Act) -> bool
     match act {
         Act::Say(_, _) => false,
         Act::Shut(_) => false,
-        Act::Start(_) => false,
+        Act::Start(_reason, _command) => false,
         Act::Commit(_) => false,
         Act::Print(_) => false,
         Act::Finish => true,

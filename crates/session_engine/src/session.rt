@@ -13,7 +13,7 @@ ghost use Rattle.session_model.specs.Readings as of;
 ghost use Rattle.session_engine.specs.Causes.{HasCause, HearsNone};
 ghost use Rattle.session_engine.specs.Machine.{Machine, opening_acts, start as begun};
 ghost use Rattle.session_engine.specs.Saved.{Performs};
-ghost use Rattle.session_engine.specs.Session.{Starts, StandsFor, StepsTo, Serving, kept};
+ghost use Rattle.session_engine.specs.Session.{ShowsOn, Starts, StandsFor, StepsTo, Serving, kept};
 ghost use Rattle.session_engine.specs.Shown.{IsShown, Shows, all_cut};
 
 use crate::engine::Engine;
@@ -56,6 +56,8 @@ impl Session {
         ensures starts { Starts cookie (W.outside world.old) (W.outside world.new) result }
         ensures coming { (W.outside world.new).coming ≡ (W.outside world.old).coming }
         ensures size { IfOk result (λ session. (W.outside world.new).size ≡ 16777280) }
+        // So it can be stepped on.
+        ensures shown { IfOk result (λ session. IsShown all_cut session.engine) }
         ensures counts { NotFallen (W.outside world.old).faults (W.outside world.new).faults }
         ensures cause { IfErr result (HasCause (W.outside world.old).faults (W.outside world.new).faults) }
     {
@@ -84,6 +86,8 @@ impl Session {
         ensures steps { (cookie : Cookie) (opening : AnyBook) (current : Option Current) (effects : List Effect) → StandsFor cookie opening current self effects → Added (W.outside world.old).told (W.outside world.new).told (λ added. (heard added ≡ []) × StepsTo cookie opening current result (effects ++ Heard event ∷ added)) }
         ensures coming { (W.outside world.new).coming ≡ (W.outside world.old).coming }
         ensures kept { (W.outside world.new).size ≡ (W.outside world.old).size }
+        // A session that goes on can be stepped on.
+        ensures shown { IfOk result ShowsOn }
         ensures counts { NotFallen (W.outside world.old).faults (W.outside world.new).faults }
         ensures cause { IfErr result (HasCause (W.outside world.old).faults (W.outside world.new).faults) }
     {

@@ -144,6 +144,7 @@ impl Shell {
         ensures done { Added (W.outside world.old).told (W.outside world.new).told (Performs store (Commits book.now ∷ []) result) }
         ensures alone { HearsNone (W.outside world.old) (W.outside world.new) result }
     {
+        // The proof needs that the epoch has 32 bits.
         let _epoch = book.epoch;
         let (store, body) = match store.spell(self.alloc, book) {
             Ok(spelled) => spelled,
@@ -178,7 +179,7 @@ impl Shell {
         match act {
             Act::Say(to, message) => hand_on(self.send(world, *to, message), store),
             Act::Shut(conn) => hand_on(self.shut(world, *conn), store),
-            Act::Start(command) => hand_on(self.start(world, command), store),
+            Act::Start(_reason, command) => hand_on(self.start(world, command), store),
             Act::Commit(book) => self.commit(world, store, book),
             Act::Print(text) => hand_on(self.print(world, text.as_slice()), store),
             Act::Finish => Ok(store),

@@ -643,10 +643,15 @@ fn a_login_starts_what_the_book_has(rt: HostRuntime) -> Result<(), Fail> {
 
 // A session without `serve`
 
-/// What a session over the world's store is after its first event.
+/// What a session over the world's store is after somebody joined and this event came.
 fn stepped(alloc: Global, world: &mut MemWorld, event: Event) -> Result<Stepped, ServeFault> {
-    match Session::start(alloc, world, COOKIE) {
-        Ok(session) => session.step(alloc, world, event),
+    let session = match Session::start(alloc, world, COOKIE) {
+        Ok(session) => session,
+        Err(fault) => return Err(fault),
+    };
+    match session.step(alloc, world, Event::Joined(1)) {
+        Ok(Stepped::Goes(next)) => next.step(alloc, world, event),
+        Ok(Stepped::Finished(marks)) => Ok(Stepped::Finished(marks)),
         Err(fault) => Err(fault),
     }
 }
@@ -655,7 +660,7 @@ fn stepped(alloc: Global, world: &mut MemWorld, event: Event) -> Result<Stepped,
 fn a_session_goes_from_event_to_event(rt: HostRuntime) -> Result<(), Fail> {
     let alloc = rt.alloc();
     let mut world = world_of(alloc, &[], blank_store(alloc)?, &[])?;
-    match stepped(alloc, &mut world, Event::Joined(1))? {
+    match stepped(alloc, &mut world, Event::Joined(2))? {
         Stepped::Goes(session) => {
             assert_eq!(rt; session.book().epoch, 1);
             assert_eq!(rt; session.marks().begun, 0);

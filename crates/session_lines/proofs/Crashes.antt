@@ -1,28 +1,36 @@
 -- The files that a crash could leave keep up with the new IDs.
 use Rattle.std.proofs.Common.{◌≡◌, refl, ℕ, Bool, true, false, cond, ◌&&◌, ◌||◌, ◌==◌, ◌+◌, List, [], ◌∷◌, ◌++◌, Result, Ok, Err, sym, ap, subst, ◌∙◌, drop, slice_index, arith}
-use Rattle.std.specs.Prelude.{◌≢◌}
+use Rattle.std.specs.Prelude.{take, ◌≢◌}
 use Rattle.std.specs.List.{AllByRecursion}
-use Rattle.sm_world.specs.Effects.{Deed}
+use Rattle.sm_world.specs.Effects.{Deed, deeds, heard}
+use Rattle.sm_world.specs.declared.commands.Command.{Command}
+use Rattle.sm_world.specs.declared.events.Event.{Event}
 use Rattle.sm_world.specs.declared.events.Event.TheVariants.{Gone as HasGone}
 use Rattle.ice_values.specs.declared.refusals.DecodeRefusal.{DecodeRefusal}
 use Rattle.checkpoint_records.specs.declared.records.Book.{Book}
+use Rattle.checkpoint_records.specs.Books.{names}
 use Rattle.checkpoint_slots.proofs.Once.{recovers-once}
 use Rattle.xsmp_messages.specs.Reading.{decode_at}
 use Rattle.xsmp_messages.specs.declared.message.XsmpMessage.{XsmpMessage}
 use Rattle.xsmp_messages.specs.declared.message.XsmpMessage.TheVariants.{Error as XsmpError}
+use Rattle.checkpoint_slots.specs.Recovery.{Recovers}
+use Rattle.ice_cookie.specs.declared.cookies.Cookie.{Cookie}
 use Rattle.session_engine.specs.Acts.{book_after, book_with, deeds_in}
+use Rattle.session_engine.specs.Machine.{script_of}
+use Rattle.session_engine.specs.Saved.{IsSaved}
 use Rattle.session_engine.specs.Streams.{Part, TooMuch, Whole}
 use Rattle.session_engine.specs.declared.acts.Act.{Act}
 use Rattle.session_engine.specs.declared.acts.Act.TheVariants.{Commit, Finish, Print, Say, Shut, Start}
 use Rattle.session_engine.specs.declared.messages.Message.{Message}
 use Rattle.session_engine.specs.declared.messages.Message.TheVariants.{Ice, Xsmp}
-use Rattle.session_notes.specs.Keeping.{IsOfRun, book_in, new_ids}
+use Rattle.session_notes.specs.Keeping.{IsOfRun, book_in, is_discarded, new_ids}
 use Rattle.session_notes.specs.Notes.{Gone, Note}
-use Rattle.session_lines.specs.Files.{FilesKeepUp}
+use Rattle.session_lines.specs.Files.{EveryFileIsSafe, FilesForgetDiscards, FilesKeepUp}
 use Rattle.session_lines.specs.Lines.{Comes, Does, Seen, Took, act_of, acts_in, given_in, heard_as, heard_in, is_error, is_open, line, noted, notes}
 use Rattle.session_lines.proofs.Fronts.{laws-hold, turned-is}
-use Rattle.session_lines.proofs.Passing.{deeds_seen, left-same, none-done, seen-more}
-use Rattle.session_lines.proofs.Points.{along}
+use Rattle.session_lines.specs.Runs.{IsDone, IsNextDeed}
+use Rattle.session_lines.proofs.Passing.{deeds_seen, done-is, left-same, none-done, seen-more}
+use Rattle.session_lines.proofs.Points.{along, discarded-before}
 use Rattle.session_lines.proofs.Script.{acts-line}
 
 -- Notes that change neither the book that stands nor the new IDs
@@ -73,7 +81,7 @@ book-one book (Comes event) seen = refl
 book-one book (Took c part) seen = (same-heard book c part (noted seen)).0
 book-one book (Does (Say c message)) seen = book-said book c message seen
 book-one book (Does (Shut c)) seen = refl
-book-one book (Does (Start command)) seen = refl
+book-one book (Does (Start reason command)) seen = refl
 book-one book (Does (Commit written)) seen = refl
 book-one book (Does (Print text)) seen = refl
 book-one book (Does Finish) seen = refl
@@ -121,6 +129,56 @@ same-ids book (x ∷ xs) (y ∷ ys) vs ws seen e d =
     let t : deeds_seen xs ≡ deeds_seen ys = left-same (deeds_in (act_of x)) (deeds_seen xs) (deeds_seen ys) (sym (seen-more x xs) ∙ d ∙ seen-more y ys ∙ ap (λ (z : Seen). deeds_in (act_of z) ++ deeds_seen ys) (sym s)) in
     same-ids book xs ys vs ws (x ∷ seen) (ap (λ (zs : List Seen). drop 1 zs) e) t ∙ ap (λ (z : Seen). new_ids book (noted (along (z ∷ seen) ys))) s
 
+-- Without a deed no state is discarded
+
+discarded-cond : (command : Command) (b : Bool) (n o p : List Note) → (is_discarded command n ≡ true → is_discarded command p ≡ true) → (is_discarded command o ≡ true → is_discarded command p ≡ true)
+    → is_discarded command (cond b n o) ≡ true → is_discarded command p ≡ true
+discarded-cond command true n o p s t e = s e
+discarded-cond command false n o p s t e = t e
+
+discarded-read : (command : Command) (c : ℕ) (read : Result XsmpMessage DecodeRefusal) (n : List Note) → is_discarded command (heard_as c read ++ n) ≡ true → is_discarded command n ≡ true
+discarded-read command c (Ok m) n e = discarded-before command c m n e
+discarded-read command c (Err refusal) n e = e
+
+discarded-either : (command : Command) (b : Bool) (c : ℕ) (read : Result XsmpMessage DecodeRefusal) (n : List Note) → is_discarded command (cond b [] (heard_as c read) ++ n) ≡ true → is_discarded command n ≡ true
+discarded-either command true c read n e = e
+discarded-either command false c read n e = discarded-read command c read n e
+
+discarded-heard : (command : Command) (c : ℕ) (part : Part) (n : List Note) → is_discarded command (heard_in c part ++ n) ≡ true → is_discarded command n ≡ true
+discarded-heard command c (Whole frame) n e = discarded-either command (slice_index frame.bytes 0 == 0 || slice_index frame.bytes 1 == 0) c (decode_at frame.endian frame.bytes) n e
+discarded-heard command c (TooMuch header) n e = e
+
+discarded-one : (command : Command) (entry : Seen) (seen : List Seen) → deeds_in (act_of entry) ≡ [] → is_discarded command (noted (entry ∷ seen)) ≡ true → is_discarded command (noted seen) ≡ true
+discarded-one command (Comes (HasGone c)) seen d e = discarded-cond command (is_open c seen) (Gone c ∷ noted seen) (noted seen) (noted seen) (λ k. k) (λ k. k) e
+discarded-one command (Comes event) seen d e = e
+discarded-one command (Took c part) seen d e = discarded-heard command c part (noted seen) e
+discarded-one command (Does (Say c message)) seen d e = absurd (no-deed _ _ d)
+discarded-one command (Does (Start reason other)) seen d e = absurd (no-deed _ _ d)
+discarded-one command (Does act) seen d e = e
+
+discarded-along : (command : Command) (more seen : List Seen) → deeds_seen more ≡ [] → is_discarded command (noted (along seen more)) ≡ true → is_discarded command (noted seen) ≡ true
+discarded-along command [] seen d e = e
+discarded-along command (entry ∷ more) seen d e =
+    let k : deeds_in (act_of entry) ++ deeds_seen more ≡ [] = sym (seen-more entry more) ∙ d in
+    discarded-one command entry seen (sym (none-done (deeds_in (act_of entry)) (deeds_seen more) k)) (discarded-along command more (entry ∷ seen) (none-later (deeds_in (act_of entry)) (deeds_seen more) k) e)
+
+-- the first of what follows is a deed
+next-deed : (entry : Seen) (later whole : List Seen) → whole ≡ entry ∷ later → IsNextDeed whole → (deed : Deed) × (deeds_in (act_of entry) ≡ deed ∷ [])
+next-deed entry later whole e next = subst IsNextDeed e next
+
+-- Of two fronts of a line with the same deeds the one that goes up to the next deed is the longer one: what is discarded there is so in
+-- the other.
+discarded-back : (command : Command) (xs ys vs ws seen : List Seen) → xs ++ vs ≡ ys ++ ws → deeds_seen xs ≡ deeds_seen ys → IsNextDeed ws
+    → is_discarded command (noted (along seen ys)) ≡ true → is_discarded command (noted (along seen xs)) ≡ true
+discarded-back command [] ys vs ws seen e d next is = discarded-along command ys seen (sym d) is
+discarded-back command (x ∷ xs) [] vs ws seen e d next is =
+    let first : (deed : Deed) × (deeds_in (act_of x) ≡ deed ∷ []) = next-deed x (xs ++ vs) ws (sym e) next in
+    absurd (no-deed first.0 (deeds_seen xs) (ap (λ (ds : List Deed). ds ++ deeds_seen xs) (sym first.1) ∙ sym (seen-more x xs) ∙ d))
+discarded-back command (x ∷ xs) (y ∷ ys) vs ws seen e d next is =
+    let s : x ≡ y = first-seen x y (xs ++ vs) (ys ++ ws) e in
+    let t : deeds_seen xs ≡ deeds_seen ys = left-same (deeds_in (act_of x)) (deeds_seen xs) (deeds_seen ys) (sym (seen-more x xs) ∙ d ∙ seen-more y ys ∙ ap (λ (z : Seen). deeds_in (act_of z) ++ deeds_seen ys) (sym s)) in
+    discarded-back command xs ys vs ws (x ∷ seen) (ap (λ (zs : List Seen). drop 1 zs) e) t next (subst (λ (z : Seen). is_discarded command (noted (along (z ∷ seen) ys)) ≡ true) (sym s) is)
+
 -- The front that was saved
 
 -- a front of what is seen has exactly these acts
@@ -163,19 +221,56 @@ same-book one two r s e f g = cc
 book-turned : (book : Book) (front : List Seen) → book_in book (notes front) ≡ book_after book (acts_in front)
 book-turned book front = ap (λ (xs : List Seen). book_in book (noted xs)) (sym (turned-is front)) ∙ book-along book front []
 
+discarded-turned : (command : Command) (xs ys vs ws : List Seen) → xs ++ vs ≡ ys ++ ws → deeds_seen xs ≡ deeds_seen ys → IsNextDeed ws → is_discarded command (notes ys) ≡ true → is_discarded command (notes xs) ≡ true
+discarded-turned command xs ys vs ws e d next is =
+    subst (λ (zs : List Seen). is_discarded command (noted zs) ≡ true) (turned-is xs)
+    (discarded-back command xs ys vs ws [] e d next (subst (λ (zs : List Seen). is_discarded command (noted zs) ≡ true) (sym (turned-is ys)) is))
+
 ids-turned : (book : Book) (xs ys vs ws : List Seen) → xs ++ vs ≡ ys ++ ws → deeds_seen xs ≡ deeds_seen ys → new_ids book (notes xs) ≡ new_ids book (notes ys)
 ids-turned book xs ys vs ws e d =
     ap (λ (zs : List Seen). new_ids book (noted zs)) (sym (turned-is xs)) ∙ same-ids book xs ys vs ws [] e d ∙ ap (λ (zs : List Seen). new_ids book (noted zs)) (turned-is ys)
 
+-- the front of the line behind which a file's checkpoint stands
+record SavedAt (cookie : Cookie) (book saved : Book) (events : List Event) (done : List Deed) : Type 0 where
+  front : List Seen
+  later : List Seen
+  parts : front ++ later ≡ line cookie book events
+  same : deeds_seen front ≡ done
+  is : saved ≡ book_in book (notes front)
+
+saved-at : (cookie : Cookie) (book saved : Book) (events : List Event) (done : List Deed) (file : List ℕ) → IsSaved book (script_of cookie book events) done file → Recovers file (Ok saved) → SavedAt cookie book saved events done
+saved-at cookie book saved events done file s recovered =
+    let at : ActsAt (line cookie book events) s.front = acts-at (line cookie book events) s.front s.rest (s.parts ∙ sym (acts-line cookie book events)) in
+    record {
+      front = at.front;
+      later = at.later;
+      parts = at.parts;
+      same = ap (λ (acts : List Act). deeds_in acts) at.same ∙ s.same;
+      is = same-book saved (book_after book s.front) (Ok saved) (Ok (book_after book s.front)) (recovers-once file (Ok saved) (Ok (book_after book s.front)) recovered s.recovers) refl refl
+          ∙ ap (λ (acts : List Act). book_after book acts) (sym at.same) ∙ sym (book-turned book at.front);
+    }
+
 pub files-keep-up : FilesKeepUp
 files-keep-up cookie book saved events done file s recovered seen later parts same some =
-    let at : ActsAt (line cookie book events) s.front = acts-at (line cookie book events) s.front s.rest (s.parts ∙ sym (acts-line cookie book events)) in
-    let deeds : deeds_seen seen ≡ deeds_seen at.front = same ∙ sym s.same ∙ ap (λ (acts : List Act). deeds_in acts) (sym at.same) in
-    let ids : new_ids book (notes seen) ≡ new_ids book (notes at.front) = ids-turned book seen at.front later at.later (parts ∙ sym at.parts) deeds in
+    let at : SavedAt cookie book saved events done = saved-at cookie book saved events done file s recovered in
+    let ids : new_ids book (notes seen) ≡ new_ids book (notes at.front) = ids-turned book seen at.front later at.later (parts ∙ sym at.parts) (same ∙ sym at.same) in
     let epoch : (book_in book (notes at.front)).epoch ≡ book.epoch + 1 =
     with-one (IsOfRun (book.epoch + 1)) ((book_in book (notes at.front)).epoch ≡ book.epoch + 1) (new_ids book (notes at.front)) (λ none. some (ids ∙ none))
     (laws-hold cookie book at.front (record { events = events; later = at.later; parts = at.parts })).new_ids_are_of_the_run in
-    let is : saved ≡ book_in book (notes at.front) =
-    same-book saved (book_after book s.front) (Ok saved) (Ok (book_after book s.front)) (recovers-once file (Ok saved) (Ok (book_after book s.front)) recovered s.recovers) refl refl
-    ∙ ap (λ (acts : List Act). book_after book acts) (sym at.same) ∙ sym (book-turned book at.front) in
-    ap (λ (b : Book). b.epoch) is ∙ epoch
+    ap (λ (b : Book). b.epoch) at.is ∙ epoch
+
+pub files-forget : FilesForgetDiscards
+files-forget cookie book saved events done file rules s recovered seen later parts same next command is =
+    let at : SavedAt cookie book saved events done = saved-at cookie book saved events done file s recovered in
+    let there : is_discarded command (notes at.front) ≡ true = discarded-turned command at.front seen at.later later (at.parts ∙ sym parts) (at.same ∙ sym same) next is in
+    ap (λ (b : Book). names b command) at.is ∙ (laws-hold cookie book at.front (record { events = events; later = at.later; parts = at.parts })).discarded_states_are_not_named rules command there
+
+pub every-file : EveryFileIsSafe
+every-file cookie book saved first left answer effects word n image recovered =
+    let done : IsDone cookie book (heard (take n effects)) (deeds (take n effects)) = done-is cookie book effects word.carries.on_script n in
+    let s : IsSaved book (script_of cookie book (heard (take n effects))) (deeds (take n effects)) left = word.keeps.saved n left image in
+    record {
+      done = done;
+      ids = λ some. files-keep-up cookie book saved (heard (take n effects)) (deeds (take n effects)) left s recovered done.front done.later done.parts done.same some;
+      discards = λ rules command is. files-forget cookie book saved (heard (take n effects)) (deeds (take n effects)) left rules s recovered done.front done.later done.parts done.same done.next command is;
+    }

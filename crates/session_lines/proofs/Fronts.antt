@@ -10,6 +10,7 @@ use Rattle.session_engine.specs.Acts.{has_finish}
 use Rattle.session_engine.specs.Machine.{Machine, acts_of, opening_acts, start, step}
 use Rattle.session_engine.specs.declared.acts.Act.TheVariants.{Commit, Say}
 use Rattle.session_engine.specs.declared.messages.Message.TheVariants.{Xsmp}
+use Rattle.session_notes.proofs.Settled.{none-named-by_rules}
 use Rattle.session_lines.specs.Laws.{IsSeen, KeepsLaws}
 use Rattle.session_lines.specs.Lines.{Comes, Does, Seen, line, line_from, noted, notes, seen_of}
 use Rattle.session_lines.proofs.Points.{Due, Holds, along, along-append, along-is, holds-front, kept-top}
@@ -59,7 +60,9 @@ laws-hold cookie book seen s =
       one_has_the_token = k.0;
       the_first_is_served = λ c before after e. due-at book seen before after (Does (Say c (Xsmp Interact))) e h;
       the_second_phase_waits = λ c d before after e. due-at book seen before after (Does (Say c (Xsmp SaveYourselfPhase2))) e h d;
-      new_ids_are_of_the_run = k.1.0;
-      new_ids_differ = k.1.1;
-      entries_were_saved = λ written before after e. due-at book seen before after (Does (Commit written)) e h;
+      new_ids_are_of_the_run = k.1.0.0;
+      new_ids_differ = k.1.0.1;
+      entries_were_saved = λ written before after e. (due-at book seen before after (Does (Commit written)) e h).0;
+      discarded_states_are_not_named = λ rules command e. k.1.1 (none-named-by_rules book rules) command e;
+      pending_is_not_lost = λ written command before after e p. (due-at book seen before after (Does (Commit written)) e h).1 command p;
     }

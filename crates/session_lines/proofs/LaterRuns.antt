@@ -1,13 +1,12 @@
 -- Runs over books of later epochs give other IDs.
-use Rattle.std.proofs.Common.{◌≡◌, ℕ, List, ◌+◌, ◌<◌, ◌≤◌, ◌^◌, sym, ◌∙◌, arith}
+use Rattle.std.proofs.Common.{◌≡◌, ℕ, List, ◌+◌, ◌<◌, ◌^◌, sym, ◌∙◌, arith}
 use Rattle.std.specs.List.{AllByRecursion, Contains}
 use Rattle.checkpoint_records.specs.declared.records.Book.{Book}
 use Rattle.session_model.proofs.Ids.{same-epoch}
 use Rattle.session_notes.specs.Keeping.{IsOfRun, book_in, new_ids}
 use Rattle.session_notes.proofs.Tests.{contains-all}
 use Rattle.session_lines.specs.Files.{LaterRunsGiveOtherIds}
-use Rattle.session_lines.specs.Laws.{IsSeen}
-use Rattle.session_lines.specs.Lines.{Seen, notes}
+use Rattle.session_lines.specs.Lines.{notes}
 use Rattle.session_lines.proofs.Fronts.{laws-hold}
 
 below-epoch : (e f : ℕ) → e < f → f < 2 ^ 32 → e < 2 ^ 32

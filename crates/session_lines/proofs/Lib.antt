@@ -1,7 +1,5 @@
 pub mod LaterRuns
-pub mod Own
 pub mod Frames
-pub mod Wire
 pub mod Points
 pub mod Told
 pub mod Steps

@@ -1,7 +1,6 @@
 -- What the laws ask at each point of a line, and that nothing but a message or a book of the session can break them.
 use Rattle.std.proofs.Common.{◌≡◌, refl, ℕ, Bool, true, false, cond, ◌&&◌, ◌||◌, ◌==◌, List, [], ◌∷◌, ◌++◌, Result, Ok, Err, eqb, sym, ap, subst, ◌∙◌, slice_index}
 use Rattle.std.specs.Prelude.{reverse}
-use Rattle.std.specs.List.{AllByRecursion}
 use Rattle.std.proofs.lemmas.List.{append_assoc, reverse-append}
 use Rattle.sm_world.specs.declared.commands.Command.{Command}
 use Rattle.sm_world.specs.declared.events.Event.{Event}
@@ -12,27 +11,27 @@ use Rattle.ice_messages.specs.declared.message.IceMessage.{IceMessage}
 use Rattle.checkpoint_records.specs.declared.records.Book.{Book}
 use Rattle.xsmp_messages.specs.Reading.{decode_at}
 use Rattle.xsmp_messages.specs.declared.message.XsmpMessage.{XsmpMessage}
-use Rattle.xsmp_messages.specs.declared.message.XsmpMessage.TheVariants.{Error as XsmpError, InteractDone}
+use Rattle.xsmp_messages.specs.declared.message.XsmpMessage.TheVariants.{Error as XsmpError, InteractDone, SetProperties}
 use Rattle.session_engine.specs.Streams.{Part, TooMuch, Whole}
-use Rattle.session_engine.specs.declared.acts.Act.TheVariants.{Commit, Finish, Print, Say, Shut, Start}
+use Rattle.session_engine.specs.declared.acts.Act.TheVariants.{Commit, Finish, Print, Say, Shut}
 use Rattle.session_engine.specs.declared.messages.Message.{Message}
 use Rattle.session_engine.specs.declared.messages.Message.TheVariants.{Ice, Xsmp}
-use Rattle.session_model.specs.declared.events.Act.TheVariants.{Say as SaysXsmp}
+use Rattle.session_model.specs.declared.events.Act.TheVariants.{Commit as Commits, Say as SaysXsmp}
 use Rattle.session_notes.specs.Notes.{Did, Gone, Heard, Note}
+use Rattle.session_notes.specs.Keeping.{is_discarded, sets_discard}
 use Rattle.session_notes.specs.Watching.{has_token}
-use Rattle.session_notes.proofs.Fine.{IdsHold, IsDue, OneHas}
+use Rattle.session_notes.proofs.Fine.{DiscardsHold, IdsHold, IsDue, IsOwed, OneHas}
 use Rattle.session_notes.proofs.Tests.{and-after}
 use Rattle.session_lines.specs.Lines.{Comes, Does, Seen, Took, given_in, heard_as, heard_in, is_error, is_open, noted}
-use Rattle.session_lines.proofs.Wire.{IsOld}
 
 -- what holds of the notes at each point
 abbrev pub Kept : Book → List Note → Type 0
-Kept book n = OneHas n × IdsHold book n
+Kept book n = OneHas n × (IdsHold book n × DiscardsHold book n)
 
 -- what an entry asks of the notes before it
 abbrev pub Due : Book → List Note → Seen → Type 0
 Due book n (Does (Say c (Xsmp message))) = IsDue n (Did (SaysXsmp c message))
-Due book n (Does (Commit written)) = AllByRecursion (IsOld book n) written.entries
+Due book n (Does (Commit written)) = IsOwed book n (Did (Commits written))
 Due book n entry = Unit {0}
 
 -- it is so at each point of a line, which stands the latest first
@@ -51,8 +50,13 @@ token-before : (c : ℕ) (m : XsmpMessage) (d : ℕ) (n : List Note) → has_tok
 token-before c (InteractDone cancel) d n e = and-after (eqb c d) (has_token d n) e
 token-before c m d n e = e
 
+-- nor is a state discarded by it
+pub discarded-before : (command : Command) (c : ℕ) (m : XsmpMessage) (n : List Note) → is_discarded command (Heard c m ∷ n) ≡ true → is_discarded command n ≡ true
+discarded-before command c (SetProperties list) n e = and-after (sets_discard command list) (is_discarded command n) e
+discarded-before command c m n e = e
+
 kept-read : (book : Book) (c : ℕ) (read : Result XsmpMessage DecodeRefusal) (n : List Note) → Kept book n → Kept book (heard_as c read ++ n)
-kept-read book c (Ok m) n k = (λ a b e f. k.0 a b (token-before c m a n e) (token-before c m b n f), k.1)
+kept-read book c (Ok m) n k = (λ a b e f. k.0 a b (token-before c m a n e) (token-before c m b n f), (k.1.0, λ u command e. k.1.1 u command (discarded-before command c m n e)))
 kept-read book c (Err refusal) n k = k
 
 kept-either : (book : Book) (b : Bool) (c : ℕ) (read : Result XsmpMessage DecodeRefusal) (n : List Note) → Kept book n → Kept book (cond b [] (heard_as c read) ++ n)
@@ -95,9 +99,6 @@ holds-blamed book c error seen h = (kept-said book c (Xsmp (XsmpError error)) se
 
 pub holds-shut : (book : Book) (c : ℕ) (seen : List Seen) → Holds book seen → Holds book (Does (Shut c) ∷ seen)
 holds-shut book c seen h = (kept-gone book c (noted seen) (kept-top book seen h), (tt, h))
-
-pub holds-start : (book : Book) (command : Command) (seen : List Seen) → Holds book seen → Holds book (Does (Start command) ∷ seen)
-holds-start book command seen h = (kept-top book seen h, (tt, h))
 
 pub holds-print : (book : Book) (text : List ℕ) (seen : List Seen) → Holds book seen → Holds book (Does (Print text) ∷ seen)
 holds-print book text seen h = (kept-top book seen h, (tt, h))

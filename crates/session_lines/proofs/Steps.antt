@@ -31,13 +31,11 @@ use Rattle.session_engine.specs.declared.messages.Message.{Message}
 use Rattle.session_engine.specs.declared.messages.Message.TheVariants.{Ice, Xsmp}
 use Rattle.session_engine.proofs.Connections.{same, other, connection_of-append}
 use Rattle.session_notes.specs.Notes.{Gone, Heard, Note}
-use Rattle.session_notes.proofs.Seen.{noted_of}
 use Rattle.session_notes.proofs.Tests.{own}
 use Rattle.session_lines.specs.Lines.{Comes, Does, Seen, Took, given_in, heard_in, is_error, is_open, noted, seen_of}
 use Rattle.session_lines.proofs.Frames.{FitsAnswer, FitsSaid, fits-part}
 use Rattle.session_lines.proofs.Points.{Holds, along, along-append, holds-blamed, holds-comes, holds-finish, holds-ice, holds-shut, holds-took}
 use Rattle.session_lines.proofs.Told.{At, Blames, Notes, Open, Reached, open-changed, open-without, told-at, turned-eq}
-use Rattle.session_lines.proofs.Wire.{wire}
 
 -- the line shows the machine
 abbrev pub AtMachine : Book → Machine → List Seen → Type 0
@@ -120,17 +118,12 @@ begins-said book m c part message seen f at =
     (subst (λ (xs : List Seen). AtStep book (told m (Ready c)) (along (Took c part ∷ seen) xs)) (sym (seen-does (says c message)))
     (step-told book m (Ready c) (after_said c part message seen) s.reached s.notes (said-blames m c part message seen f at.notes) s.live s.holds))
 
-wire-cond : (b : Bool) (x y : List Note) → wire (cond b x y) ≡ cond b (wire x) (wire y)
-wire-cond true x y = refl
-wire-cond false x y = refl
-
 -- the session hears a message
 speaks-at : (book : Book) (m : Machine) (c : ℕ) (part : Part) (message : XsmpMessage) (sequence : ℕ) (frame : List ℕ) (seen : List Seen) → heard_in c part ≡ Heard c message ∷ [] → AtMachine book m seen → AtStep book (told m (Said c message sequence frame)) (Took c part ∷ seen)
 speaks-at book m c part message sequence frame seen e at =
     step-told book m (Said c message sequence frame) (Took c part ∷ seen) at.reached (ap (λ (ns : List Note). ns ++ noted seen) e ∙ ap (λ (ns : List Note). Heard c message ∷ ns) at.notes)
     (λ d error.
-    ap (λ (ns : List Note). cond (true && c == d) (noted seen) ([] ++ (ns ++ noted seen))) e ∙ ap (λ (ns : List Note). cond (c == d) ns (Heard c message ∷ ns)) at.notes
-    ∙ sym (wire-cond (c == d) (noted_of m.session) (Heard c message ∷ noted_of m.session)))
+    ap (λ (ns : List Note). cond (true && c == d) (noted seen) ([] ++ (ns ++ noted seen))) e ∙ ap (λ (ns : List Note). cond (c == d) ns (Heard c message ∷ ns)) at.notes)
     at.live (holds-took book c part seen at.holds)
 
 asks-at : (book : Book) (m : Machine) (c : ℕ) (part : Part) (b : Bool) (seen : List Seen) → heard_in c part ≡ [] → AtMachine book m seen → AtStep book (asked m c b) (Took c part ∷ seen)

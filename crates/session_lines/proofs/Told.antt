@@ -1,7 +1,7 @@
 -- The session is told of an event: the line goes on by what it does, and the notes of the line are those of the session.
 use Rattle.std.proofs.Common.{◌≡◌, refl, ℕ, Bool, true, false, cond, not, ◌&&◌, ◌==◌, eqb, List, [], ◌∷◌, ◌++◌, map, Option, Some, None, sym, ap, subst, ◌∙◌, if◌then◌else◌, inl, inr, arith}
 use Rattle.std.specs.Option.{option_map, is_some}
-use Rattle.std.specs.List.{flat_map, AllByRecursion}
+use Rattle.std.specs.List.{flat_map}
 use Rattle.std.proofs.lemmas.List.{append_assoc, append-nil}
 use Rattle.std.proofs.lemmas.Bool.{cases_eq}
 use Rattle.ice_values.specs.Fields.{ErrorFields}
@@ -11,7 +11,7 @@ use Rattle.xsmp_messages.specs.declared.message.XsmpMessage.TheVariants.{Error a
 use Rattle.session_model.specs.declared.events.Act.{Act as SessionAct}
 use Rattle.session_model.specs.declared.events.Act.TheVariants.{Commit as Commits, Say as SaysXsmp, Shut as ShutsConn, Unset as Ends}
 use Rattle.session_model.specs.declared.events.SessionEvent.{SessionEvent}
-use Rattle.session_model.specs.Moves.{Agreed, Began, Blamed, Cancelled, Closed, Committed, Finished, Gave, History, Move, Opened, Outside, Over, Printed, Tried, Unset, acts_of, all_acts, onto, ◌▷◌}
+use Rattle.session_model.specs.Moves.{Agreed, Began, Blamed, Cancelled, Closed, Committed, Finished, Gave, History, Move, Opened, Outside, Over, Printed, Tried, Unset, acts_of, all_acts, onto, reason_of, ◌▷◌}
 use Rattle.session_model.specs.Books.{opening_moves}
 use Rattle.session_model.specs.Rules.{opened, run, taken}
 use Rattle.session_engine.specs.Acts.{acts_for_all}
@@ -20,16 +20,14 @@ use Rattle.session_engine.specs.declared.acts.Act.TheVariants.{Commit, Finish, P
 use Rattle.session_engine.specs.declared.messages.Message.TheVariants.{Xsmp}
 use Rattle.session_engine.proofs.Connections.{same, other, connection_of-changed, connection_of-without}
 use Rattle.session_engine.proofs.Following.{since-is}
-use Rattle.session_notes.specs.Notes.{Did, Entry, Given, Gone, Note, Wrote, entries, entries_of}
+use Rattle.session_notes.specs.Notes.{Did, Entry, Given, Gone, Note, Started, Wrote, entries, entries_of}
 use Rattle.session_notes.specs.Laws.{IsSeen}
 use Rattle.session_notes.proofs.Seen.{noted_of, notes-are}
 use Rattle.session_notes.proofs.Settled as settled
-use Rattle.session_notes.proofs.Fine.{IdsHold, IsDue, IsOwed, OneHas}
+use Rattle.session_notes.proofs.Fine.{IsDue, IsOwed}
 use Rattle.session_lines.specs.Lines.{Does, Seen, Took, given_in, heard_in, is_error, is_open, noted}
-use Rattle.session_lines.proofs.Own.{AllOwn, IsAnswer, all-answers, is_fault, own-opening}
-use Rattle.session_lines.proofs.Points.{Holds, Kept, along, holds-blamed, holds-finish, holds-print, holds-shut, holds-start}
-use Rattle.session_lines.proofs.Wire as wired
-use Rattle.session_lines.proofs.Wire.{IsOld, wire}
+use Rattle.session_model.proofs.Own.{AllOwn, IsAnswer, all-answers, is_fault, own-opening}
+use Rattle.session_lines.proofs.Points.{Holds, Kept, along, holds-blamed, holds-finish, holds-print, holds-shut}
 
 -- Histories of runs
 
@@ -60,22 +58,20 @@ seen-front book moves h r = record { events = r.events; later = more_of moves; p
 
 -- the notes of the line are those of the session
 abbrev pub Notes : List Seen → History → Type 0
-Notes seen h = noted seen ≡ wire (noted_of h)
+Notes seen h = noted seen ≡ noted_of h
 
 kept-there : (book : Book) (h : History) (seen : List Seen) → IsSeen book (entries h) → Notes seen h → Kept book (noted seen)
 kept-there book h seen s e =
-    subst (λ (n : List Note). Kept book n) (sym e)
-    (wired.one-has (noted_of h) (subst OneHas (notes-are h) (settled.one-has book (entries h) s)), wired.ids-hold book (noted_of h) (subst (IdsHold book) (notes-are h) (settled.ids-hold book (entries h) s)))
+    subst (λ (n : List Note). Kept book n) (notes-are h ∙ sym e)
+    (settled.one-has book (entries h) s, (settled.ids-hold book (entries h) s, settled.discards-hold book (entries h) s))
 
 due-there : (book : Book) (c : ℕ) (m : XsmpMessage) (h : History) (seen : List Seen) → IsSeen book (entries (Gave c m ▷ h)) → Notes seen h → IsDue (noted seen) (Did (SaysXsmp c m))
 due-there book c m h seen s e =
-    subst (λ (n : List Note). IsDue n (Did (SaysXsmp c m))) (sym e)
-    (wired.is-due c m (noted_of h) (subst (λ (n : List Note). IsDue n (Did (SaysXsmp c m))) (notes-are h) (settled.is-due book (entries h) (Did (SaysXsmp c m)) s)))
+    subst (λ (n : List Note). IsDue n (Did (SaysXsmp c m))) (notes-are h ∙ sym e) (settled.is-due book (entries h) (Did (SaysXsmp c m)) s)
 
-owed-there : (book written : Book) (h : History) (seen : List Seen) → IsSeen book (entries (Committed written ▷ h)) → Notes seen h → AllByRecursion (IsOld book (noted seen)) written.entries
+owed-there : (book written : Book) (h : History) (seen : List Seen) → IsSeen book (entries (Committed written ▷ h)) → Notes seen h → IsOwed book (noted seen) (Did (Commits written))
 owed-there book written h seen s e =
-    subst (λ (n : List Note). AllByRecursion (IsOld book n) written.entries) (sym e)
-    (wired.all-old book (noted_of h) written.entries (subst (λ (n : List Note). IsOwed book n (Did (Commits written))) (notes-are h) (settled.is-owed book (entries h) (Did (Commits written)) s)).0)
+    subst (λ (n : List Note). IsOwed book n (Did (Commits written))) (notes-are h ∙ sym e) (settled.is-owed book (entries h) (Did (Commits written)) s)
 
 -- A message of the session
 
@@ -154,7 +150,10 @@ own-at book (Began conns wanted ∷ moves) h ks seen own r n o k = own-at book m
 own-at book (Over ∷ moves) h ks seen own r n o k = own-at book moves (Over ▷ h) ks seen own.1 r n o k
 own-at book (Cancelled ∷ moves) h ks seen own r n o k = own-at book moves (Cancelled ▷ h) ks seen own.1 r n o k
 own-at book (Agreed ∷ moves) h ks seen own r n o k = own-at book moves (Agreed ▷ h) ks seen own.1 r n o k
-own-at book (Tried cause command ∷ moves) h ks seen own r n o k = own-at book moves (Tried cause command ▷ h) ks (Does (Start command) ∷ seen) own.1 r n o (holds-start book command seen k)
+own-at book (Tried cause command ∷ moves) h ks seen own r n o k =
+    let s : IsSeen book (entries (Tried cause command ▷ h)) = seen-front book moves (Tried cause command ▷ h) r in
+    let e : Notes (Does (Start (reason_of cause) command) ∷ seen) (Tried cause command ▷ h) = ap (λ (ns : List Note). Started (reason_of cause) command ∷ ns) n in
+    own-at book moves (Tried cause command ▷ h) ks (Does (Start (reason_of cause) command) ∷ seen) own.1 r e o (kept-there book (Tried cause command ▷ h) (Does (Start (reason_of cause) command) ∷ seen) s e, (tt, k))
 own-at book (Committed written ∷ moves) h ks seen own r n o k =
     let s : IsSeen book (entries (Committed written ▷ h)) = seen-front book moves (Committed written ▷ h) r in
     let e : Notes (Does (Commit written) ∷ seen) (Committed written ▷ h) = ap (λ (ns : List Note). Wrote written ∷ ns) n in
@@ -164,7 +163,7 @@ own-at book (Finished ∷ moves) h ks seen own r n o k = own-at book moves (Fini
 
 -- an Error of the session is noted on the line as in the session
 abbrev pub Blames : List Seen → History → Type 0
-Blames seen h = (c : ℕ) (error : ErrorFields) → noted (Does (Say c (Xsmp (XsmpError error))) ∷ seen) ≡ wire (noted_of (Blamed c error ▷ h))
+Blames seen h = (c : ℕ) (error : ErrorFields) → noted (Does (Say c (Xsmp (XsmpError error))) ∷ seen) ≡ noted_of (Blamed c error ▷ h)
 
 answer-at : (book : Book) (moves : List Move) (h : History) (ks : List Connection) (seen : List Seen) → IsAnswer moves → Reached book (onto h moves) → Notes seen h → Blames seen h → Open seen ks → Holds book seen
     → At book (connections_through (acts_by moves) ks) (onto h moves) (along seen (line_by moves))

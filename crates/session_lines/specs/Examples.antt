@@ -1,5 +1,6 @@
 -- Worked fronts of lines, of which the definitions compute what is noted. In all of them the messages of XSMP have major opcode 1.
-use Rattle.std.specs.Prelude.{[], true, ℕ, ◌∷◌, ◌≡◌}
+use Rattle.std.specs.Prelude.{[], false, true, ℕ, ◌∷◌, ◌≡◌}
+use Rattle.sm_world.specs.declared.commands.Command.{Command}
 use Rattle.sm_world.specs.declared.events.Dialog.TheVariants.{Normal}
 use Rattle.sm_world.specs.declared.events.Event.TheVariants.{Gone as HasGone, Joined}
 use Rattle.ice_values.specs.Fields.{ErrorFields}
@@ -7,8 +8,10 @@ use Rattle.ice_values.specs.declared.numbers.Endian.TheVariants.{Lsb}
 use Rattle.ice_messages.specs.declared.message.IceMessage.TheVariants.{Error as IceError}
 use Rattle.xsmp_messages.specs.declared.message.XsmpMessage.TheVariants.{Error as XsmpError, Interact, InteractRequest}
 use Rattle.session_engine.specs.Streams.{Whole}
-use Rattle.session_engine.specs.declared.acts.Act.TheVariants.{Say, Shut}
+use Rattle.session_engine.specs.declared.acts.Act.TheVariants.{Say, Shut, Start}
 use Rattle.session_engine.specs.declared.messages.Message.TheVariants.{Ice, Xsmp}
+use Rattle.session_model.specs.declared.events.Reason.TheVariants.{Discard, Restart}
+use Rattle.session_notes.specs.Keeping.{is_discarded}
 use Rattle.session_notes.specs.Notes.{Given, Gone, Heard}
 use Rattle.session_notes.specs.Watching.{has_token}
 use Rattle.session_lines.specs.Lines.{Comes, Does, Seen, Took, notes}
@@ -36,6 +39,13 @@ APingIsNotNoted = notes (frame 1 0 9 0 ∷ []) ≡ []
 -- the token is given, and is gone with its connection
 abbrev pub TheTokenIsNoted : Type 0
 TheTokenIsNoted = (has_token 1 (notes (asks 1 ∷ Does (Say 1 (Xsmp Interact)) ∷ [])) ≡ true) × (notes (Does (Say 1 (Xsmp Interact)) ∷ Does (Shut 1) ∷ []) ≡ Gone 1 ∷ Given 1 Interact ∷ [])
+
+-- a command that was started to discard a state is noted so, and one that was started for another reason isn't
+abbrev pub removes : Command
+removes = record { words = (114 ∷ 109 ∷ []) ∷ []; directory = []; environment = [] }
+
+abbrev pub ADiscardIsNoted : Type 0
+ADiscardIsNoted = (is_discarded removes (notes (Does (Start Discard removes) ∷ [])) ≡ true) × (is_discarded removes (notes (Does (Start Restart removes) ∷ [])) ≡ false)
 
 -- only a connection that is open can end
 abbrev pub AnEndIsNotedOnce : Type 0

@@ -1,17 +1,25 @@
 -- What a crash leaves of the store, and what later runs give, against what was seen.
-use Rattle.std.specs.Prelude.{List, Ok, [], ℕ, ◌+◌, ◌++◌, ◌<◌, ◌^◌, ◌≡◌, ◌≢◌}
+use Rattle.std.specs.Prelude.{List, Ok, Result, [], false, take, true, ℕ, ◌+◌, ◌++◌, ◌<◌, ◌^◌, ◌≡◌, ◌≢◌}
 use Rattle.std.specs.List.{Contains}
-use Rattle.sm_world.specs.Effects.{Deed}
+use Rattle.sm_world.specs.Crash.{Image}
+use Rattle.sm_world.specs.Effects.{Deed, deeds, heard}
+use Rattle.sm_world.specs.declared.commands.Command.{Command}
+use Rattle.sm_world.specs.declared.effects.Effect.{Effect}
 use Rattle.sm_world.specs.declared.events.Event.{Event}
 use Rattle.ice_cookie.specs.declared.cookies.Cookie.{Cookie}
 use Rattle.checkpoint_records.specs.declared.records.Book.{Book}
+use Rattle.checkpoint_records.specs.Books.{names}
+use Rattle.checkpoint_records.specs.Rules.{KeepsRules}
 use Rattle.checkpoint_slots.specs.Recovery.{Recovers}
 use Rattle.session_engine.specs.Acts.{deeds_in}
+use Rattle.session_engine.specs.Carries.{KeepsItsWord}
 use Rattle.session_engine.specs.Machine.{script_of}
 use Rattle.session_engine.specs.Saved.{IsSaved}
-use Rattle.session_notes.specs.Keeping.{new_ids}
+use Rattle.session_engine.specs.declared.fault.ServeFault.{ServeFault}
+use Rattle.session_notes.specs.Keeping.{is_discarded, new_ids}
 use Rattle.session_lines.specs.Laws.{IsSeen}
 use Rattle.session_lines.specs.Lines.{Seen, acts_in, line, notes}
+use Rattle.session_lines.specs.Runs.{IsDone, IsNextDeed}
 
 -- Once a new ID was given, each file that a crash could leave recovers to a book of the run's epoch, and to none of an older one.
 -- The next run has the epoch after that of its file, so it doesn't give this ID again.
@@ -19,6 +27,29 @@ abbrev pub FilesKeepUp : Type 0
 FilesKeepUp =
     (cookie : Cookie) (book saved : Book) (events : List Event) (done : List Deed) (file : List ℕ) → IsSaved book (script_of cookie book events) done file → Recovers file (Ok saved)
     → (seen later : List Seen) → seen ++ later ≡ line cookie book events → deeds_in (acts_in seen) ≡ done → new_ids book (notes seen) ≢ [] → saved.epoch ≡ book.epoch + 1
+
+-- Once a command was started to discard a state, no file that a crash could leave recovers to a book that names it, unless somebody
+-- has set it as his DiscardCommand again. What is seen goes up to the first deed that was not done. This asks that the opened book
+-- keeps the rules.
+abbrev pub FilesForgetDiscards : Type 0
+FilesForgetDiscards =
+    (cookie : Cookie) (book saved : Book) (events : List Event) (done : List Deed) (file : List ℕ) → KeepsRules book → IsSaved book (script_of cookie book events) done file → Recovers file (Ok saved)
+    → (seen later : List Seen) → seen ++ later ≡ line cookie book events → deeds_in (acts_in seen) ≡ done → IsNextDeed later
+    → (command : Command) → is_discarded command (notes seen) ≡ true → names saved command ≡ false
+
+-- The checkpoint of a file, against what was done in a run up to here.
+pub record IsSafe (cookie : Cookie) (book : Book) (effects : List Effect) (saved : Book) : Type 0 where
+  pub done : IsDone cookie book (heard effects) (deeds effects)
+  -- where an ID was new, the checkpoint is of the run's epoch
+  pub ids : new_ids book (notes done.front) ≢ [] → saved.epoch ≡ book.epoch + 1
+  -- it names no state that was discarded and not set again
+  pub discards : KeepsRules book → (command : Command) → is_discarded command (notes done.front) ≡ true → names saved command ≡ false
+
+-- So it is at each point of every run that keeps its word, with each file that a crash could leave.
+abbrev pub EveryFileIsSafe : Type 0
+EveryFileIsSafe =
+    (cookie : Cookie) (book saved : Book) (first left : List ℕ) (answer : Result (Unit {0}) ServeFault) (effects : List Effect) → KeepsItsWord cookie book first answer effects
+    → (n : ℕ) → Image first (take n effects) left → Recovers left (Ok saved) → IsSafe cookie book (take n effects) saved
 
 -- A run over a book of a later epoch gives none of the IDs that were new in this one. A run is over a book whose epoch has one after it.
 abbrev pub LaterRunsGiveOtherIds : Type 0

@@ -1,18 +1,22 @@
 -- Laws of every line, said of what is seen on the wire alone: they are those of what is seen of a session. Each holds of each front
 -- of a line: at every moment, also in the middle of what is done about one event, whatever comes. A frame that was taken last counts
 -- as accepted until an Error stands behind it.
-use Rattle.std.specs.Prelude.{List, false, true, ℕ, ◌+◌, ◌++◌, ◌∷◌, ◌≡◌, ◌⊎◌}
+use Rattle.std.specs.Prelude.{List, false, true, ℕ, ◌+◌, ◌++◌, ◌||◌, ◌∷◌, ◌≡◌, ◌⊎◌}
 use Rattle.std.specs.List.{AllByRecursion, Contains, IsDistinct}
 use Rattle.std.specs.Str.{bytes_eq}
+use Rattle.sm_world.specs.declared.commands.Command.{Command}
 use Rattle.sm_world.specs.declared.events.Event.{Event}
 use Rattle.ice_cookie.specs.declared.cookies.Cookie.{Cookie}
 use Rattle.checkpoint_records.specs.declared.records.Book.{Book}
+use Rattle.checkpoint_records.specs.Books.{names}
+use Rattle.checkpoint_records.specs.Rules.{KeepsRules}
+use Rattle.discard_ledger.specs.Discards.{is_among}
 use Rattle.xsmp_messages.specs.declared.message.XsmpMessage.TheVariants.{Interact, SaveYourselfPhase2}
 use Rattle.session_engine.specs.Acts.{has_finish}
 use Rattle.session_engine.specs.Machine.{script_of}
 use Rattle.session_engine.specs.declared.acts.Act.TheVariants.{Commit, Say}
 use Rattle.session_engine.specs.declared.messages.Message.TheVariants.{Xsmp}
-use Rattle.session_notes.specs.Keeping.{IsOfRun, book_in, new_ids}
+use Rattle.session_notes.specs.Keeping.{IsOfRun, book_in, is_discarded, is_started, new_ids}
 use Rattle.session_notes.specs.Laws.{IsSaved}
 use Rattle.session_notes.specs.Watching.{has_answered, has_token, is_to_save, requests}
 use Rattle.session_lines.specs.Lines.{Does, Seen, acts_in, events_in, line, notes}
@@ -58,6 +62,18 @@ EntriesWereSaved book seen =
     (written : Book) (before after : List Seen) → before ++ Does (Commit written) ∷ after ≡ seen
     → AllByRecursion (λ entry. Contains (book_in book (notes before)).entries entry ⊎ IsSaved book (notes before) entry) written.entries
 
+-- Once a command was started to discard a state, the book that stands doesn't name it, until somebody sets it as his DiscardCommand
+-- again. This asks that the opened book keeps the rules.
+abbrev pub DiscardedStatesAreNotNamed : Book → List Seen → Type 0
+DiscardedStatesAreNotNamed book seen = KeepsRules book → (command : Command) → is_discarded command (notes seen) ≡ true → names (book_in book (notes seen)) command ≡ false
+
+-- a command that was pending stayed pending in the next book, or this book names it, or it was started between the two to discard
+-- a state
+abbrev pub PendingIsNotLost : Book → List Seen → Type 0
+PendingIsNotLost book seen =
+    (written : Book) (command : Command) (before after : List Seen) → before ++ Does (Commit written) ∷ after ≡ seen → is_among command (book_in book (notes before)).pending ≡ true
+    → (is_among command written.pending || names written command || is_started command (notes before)) ≡ true
+
 -- all of these laws
 pub record KeepsLaws (book : Book) (seen : List Seen) : Type 0 where
   pub one_has_the_token : OneHasTheToken seen
@@ -66,6 +82,8 @@ pub record KeepsLaws (book : Book) (seen : List Seen) : Type 0 where
   pub new_ids_are_of_the_run : NewIdsAreOfTheRun book seen
   pub new_ids_differ : NewIdsDiffer book seen
   pub entries_were_saved : EntriesWereSaved book seen
+  pub discarded_states_are_not_named : DiscardedStatesAreNotNamed book seen
+  pub pending_is_not_lost : PendingIsNotLost book seen
 
 -- this holds of each front of every line
 abbrev pub Always : (Book → List Seen → Type 0) → Type 0

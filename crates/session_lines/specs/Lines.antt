@@ -14,10 +14,10 @@ use Rattle.session_engine.specs.Acts.{has_finish}
 use Rattle.session_engine.specs.Machine.{Entry, Does as DoesAct, Machine, Took as TookPart, acts_of, opening_acts, start, step}
 use Rattle.session_engine.specs.Streams.{Part, TooMuch, Whole}
 use Rattle.session_engine.specs.declared.acts.Act.{Act}
-use Rattle.session_engine.specs.declared.acts.Act.TheVariants.{Commit, Say, Shut}
+use Rattle.session_engine.specs.declared.acts.Act.TheVariants.{Commit, Say, Shut, Start}
 use Rattle.session_engine.specs.declared.messages.Message.{Message}
 use Rattle.session_engine.specs.declared.messages.Message.TheVariants.{Ice, Xsmp}
-use Rattle.session_notes.specs.Notes.{Given, Gone, Heard, Note, Wrote}
+use Rattle.session_notes.specs.Notes.{Given, Gone, Heard, Note, Started, Wrote}
 
 -- What is seen
 
@@ -93,13 +93,13 @@ is_error (Xsmp (XsmpError error)) = true
 is_error message = false
 
 -- What is noted of what is seen, both the latest first. A frame is refused where the entry directly behind it is an Error to its
--- connection, and isn't noted then. That a connection is gone is noted where it was open. The start of a command isn't noted, since
--- the wire doesn't show for which cause it is.
+-- connection, and isn't noted then. That a connection is gone is noted where it was open.
 abbrev pub noted : List Seen → List Note
 noted [] = []
 noted (Does (Say c message) ∷ Took d part ∷ seen) = cond (is_error message && d == c) (noted seen) (given_in c message ++ (heard_in d part ++ noted seen))
 noted (Does (Say c message) ∷ seen) = given_in c message ++ noted seen
 noted (Does (Shut c) ∷ seen) = Gone c ∷ noted seen
+noted (Does (Start reason command) ∷ seen) = Started reason command ∷ noted seen
 noted (Does (Commit book) ∷ seen) = Wrote book ∷ noted seen
 noted (Comes (HasGone c) ∷ seen) = cond (is_open c seen) (Gone c ∷ noted seen) (noted seen)
 noted (Took c part ∷ seen) = heard_in c part ++ noted seen

@@ -1,6 +1,6 @@
-ghost use Rattle.session_lines.specs.Laws.{AllActsAreSeen, AllEventsAreSeen, Always, OneHasTheToken, TheFirstIsServed, TheSecondPhaseWaits, NewIdsAreOfTheRun, NewIdsDiffer, EntriesWereSaved};
+ghost use Rattle.session_lines.specs.Laws.{AllActsAreSeen, AllEventsAreSeen, Always, OneHasTheToken, TheFirstIsServed, TheSecondPhaseWaits, NewIdsAreOfTheRun, NewIdsDiffer, EntriesWereSaved, DiscardedStatesAreNotNamed, PendingIsNotLost};
 ghost use Rattle.session_lines.specs.Runs.{WhatWasDoneIsAFront, EveryRunKeepsTheLaws};
-ghost use Rattle.session_lines.specs.Files.{FilesKeepUp, LaterRunsGiveOtherIds};
+ghost use Rattle.session_lines.specs.Files.{EveryFileIsSafe, FilesForgetDiscards, FilesKeepUp, LaterRunsGiveOtherIds};
 
 /// Does nothing: its contract is a law of every line. All that the manager does is seen.
 pub fn all_acts_are_seen()
@@ -42,6 +42,18 @@ pub fn entries_were_saved()
     ensures { Always EntriesWereSaved }
 {}
 
+/// Does nothing: its contract is a law of each front of every line. A state that was discarded isn't named by the book that stands,
+/// until somebody names it again.
+pub fn discarded_states_are_not_named()
+    ensures { Always DiscardedStatesAreNotNamed }
+{}
+
+/// Does nothing: its contract is a law of each front of every line. What is pending stays so, is named by the next book, or was
+/// started between.
+pub fn pending_is_not_lost()
+    ensures { Always PendingIsNotLost }
+{}
+
 /// Does nothing: its contract is a law of every run. At each point what was done is a front of the line of what was heard.
 pub fn what_was_done_is_a_front_of_the_line()
     ensures { WhatWasDoneIsAFront }
@@ -56,6 +68,18 @@ pub fn every_run_keeps_the_laws()
 /// older epoch.
 pub fn files_keep_up_with_new_ids()
     ensures { FilesKeepUp }
+{}
+
+/// Does nothing: its contract is a law of every run. Once a state was discarded, no file that a crash could leave has a book that names
+/// it, unless somebody has named it again.
+pub fn files_forget_discarded_states()
+    ensures { FilesForgetDiscards }
+{}
+
+/// Does nothing: its contract is a law of every run that keeps its word. At each point both laws of files hold of each file that a
+/// crash could leave.
+pub fn every_file_is_safe()
+    ensures { EveryFileIsSafe }
 {}
 
 /// Does nothing: its contract is a law of every two runs. The later one, over a book of a later epoch, gives none of the IDs

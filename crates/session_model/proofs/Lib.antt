@@ -26,3 +26,5 @@ pub mod Lawfuls
 pub mod Left
 pub mod Whole
 pub mod WholeReply
+pub mod Own
+pub mod Inner

@@ -18,6 +18,7 @@ use Rattle.session_model.specs.declared.events.SessionEvent.{SessionEvent}
 use Rattle.session_model.specs.declared.events.SessionEvent.TheVariants.{Joined, Left, Operator, Ready, Said}
 use Rattle.session_model.specs.declared.events.Act.{Act}
 use Rattle.session_model.specs.declared.events.Act.TheVariants.{Blame, Commit, Finish, Print, Say, Shut, Start}
+use Rattle.session_model.specs.declared.events.Reason.TheVariants.{Discard, End, Restart}
 use Rattle.checkpoint_records.specs.Rules.{client_id}
 use Rattle.session_model.specs.Moves.{all_acts}
 use Rattle.session_model.specs.Rules.{opened, run}
@@ -228,7 +229,7 @@ AnOldStateIsDiscarded =
     (Commit (first_book (entry_1 (codes "a") ∷ []) []) ∷ Say 1 SaveComplete
     ∷ prints (codes "ok") ∷ asks_for_save 1 ∷ Commit (first_book (entry_1 (codes "a") ∷ []) []) ∷ Say 1 SaveComplete
     ∷ prints (codes "ok") ∷ asks_for_save 1 ∷ Commit (first_book (entry_1 (codes "b") ∷ []) (removes (codes "a") ∷ [])) ∷ Say 1 SaveComplete
-    ∷ Start (removes (codes "a")) ∷ Commit (first_book (entry_1 (codes "b") ∷ []) []) ∷ [])
+    ∷ Start Discard (removes (codes "a")) ∷ Commit (first_book (entry_1 (codes "b") ∷ []) []) ∷ [])
 
 -- The next login
 
@@ -261,7 +262,7 @@ abbrev pub ExpectedEntriesStay : Type 0
 ExpectedEntriesStay =
     all_acts (run (opened last_book) (logs_in 7 ++ sets 7 (restarts (codes "c7")) ∷ saved 7 ∷ []))
     ≡ Commit (second_book last_entries)
-    ∷ map (λ n. Start (plain ((99 ∷ (48 + n) ∷ []) ∷ []))) (up_to 6)
+    ∷ map (λ n. Start Restart (plain ((99 ∷ (48 + n) ∷ []) ∷ []))) (up_to 6)
     ++ Say 7 (RegisterClientReply (codes "smd-00000002-00000001"))
     ∷ asks_for_save 7
     ∷ Commit (second_book (last_entries ++ entry_7 ∷ []))
@@ -276,7 +277,7 @@ ASessionIsTakenUp =
     (come_back ++ sets 5 (hints 3) ∷ logs_in 7 ++ sets 7 (restarts (codes "c7")) ∷ saved 7 ∷ Operator Shutdown
     ∷ map saved (1 ∷ 2 ∷ 3 ∷ 4 ∷ 5 ∷ 7 ∷ []) ++ map (λ c. says c (ConnectionClosed [])) (1 ∷ 2 ∷ 3 ∷ 4 ∷ 5 ∷ 7 ∷ [])))
     ≡ Commit (second_book last_entries)
-    ∷ map (λ n. Start (plain ((99 ∷ (48 + n) ∷ []) ∷ []))) (up_to 6)
+    ∷ map (λ n. Start Restart (plain ((99 ∷ (48 + n) ∷ []) ∷ []))) (up_to 6)
     ++ map (λ n. Say n (RegisterClientReply (client_id 1 n))) (up_to 5)
     ++ Say 7 (RegisterClientReply (codes "smd-00000002-00000001")) ∷ asks_for_save 7
     ∷ Commit (second_book (last_entries ++ entry_7 ∷ [])) ∷ Say 7 SaveComplete
@@ -284,6 +285,6 @@ ASessionIsTakenUp =
     ∷ map asks_for_shutdown (1 ∷ 2 ∷ 3 ∷ 4 ∷ 5 ∷ 7 ∷ [])
     ++ Commit (second_book (take 4 last_entries ++ drop 5 last_entries ++ entry_7 ∷ []))
     ∷ map (λ c. Say c Die) (1 ∷ 2 ∷ 3 ∷ 4 ∷ 5 ∷ 7 ∷ [])
-    ++ Start (plain (codes "s6" ∷ []))
+    ++ Start End (plain (codes "s6" ∷ []))
     ∷ map Shut (1 ∷ 2 ∷ 3 ∷ 4 ∷ 5 ∷ 7 ∷ [])
     ++ Finish ∷ []

@@ -8,6 +8,8 @@ use Rattle.round_agreement.specs.declared.wanted.Wanted.{Wanted}
 use Rattle.session_model.specs.declared.events.SessionEvent.{SessionEvent}
 use Rattle.session_model.specs.declared.events.SessionEvent.TheVariants.{Left}
 use Rattle.session_model.specs.declared.events.Act.{Act}
+use Rattle.session_model.specs.declared.events.Reason.{Reason}
+use Rattle.session_model.specs.declared.events.Reason.TheVariants.{Discard as ToDiscard, End as ToEnd, Resign as ToResign, Restart as ToRestart}
 use Rattle.session_model.specs.declared.events.Act.TheVariants.{Blame, Commit, Finish, Print, Say, Shut, Start, Unset as Unsets}
 
 -- why a command is started
@@ -22,6 +24,15 @@ pub data Cause : Type 0 where
   Resign : Cause
   -- the session ends
   End : Cause
+
+-- What of a cause is told to the outside. That a client is started again is one reason, whether the run began or the client
+-- departed.
+abbrev pub reason_of : Cause → Reason
+reason_of Restart = ToRestart
+reason_of (Respawn id) = ToRestart
+reason_of Discard = ToDiscard
+reason_of Resign = ToResign
+reason_of End = ToEnd
 
 pub data Move : Type 0 where
   -- something came from outside
@@ -69,7 +80,7 @@ acts_of (Gave c m) = Say c m ∷ []
 acts_of (Blamed c error) = Blame c error ∷ []
 acts_of (Unset c) = Unsets c ∷ []
 acts_of (Closed c) = Shut c ∷ []
-acts_of (Tried cause command) = Start command ∷ []
+acts_of (Tried cause command) = Start (reason_of cause) command ∷ []
 acts_of (Committed book) = Commit book ∷ []
 acts_of (Printed text) = Print text ∷ []
 acts_of Finished = Finish ∷ []

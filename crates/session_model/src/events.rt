@@ -19,6 +19,19 @@ pub enum SessionEvent {
     Operator(Order),
 }
 
+/// Why a command is started.
+#[derive(Clone, Copy, Debug, PartialEq, Eq)]
+pub enum Reason {
+    /// A client is started again: the run began, or the client departed and wants it at once.
+    Restart,
+    /// Nobody needs the state any more that the command discards.
+    Discard,
+    /// The operator had the client forgotten.
+    Resign,
+    /// The session ends.
+    End,
+}
+
 /// What the session does to the outside.
 #[derive(Drop)]
 pub enum Act {
@@ -30,8 +43,8 @@ pub enum Act {
     Unset(Conn),
     /// The connection is shut.
     Shut(Conn),
-    /// A command is started.
-    Start(Command),
+    /// A command is started, for this reason.
+    Start(Reason, Command),
     /// The book is written to the store.
     Commit(Book),
     /// A line is printed, which is given without its newline.

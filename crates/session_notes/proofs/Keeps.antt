@@ -9,7 +9,7 @@ use Rattle.checkpoint_records.specs.Books.{same_command, names}
 use Rattle.session_model.specs.declared.events.SessionEvent.{SessionEvent}
 use Rattle.session_model.specs.declared.events.SessionEvent.TheVariants.{Said, Left}
 use Rattle.session_model.specs.Phases.{is_shutdown}
-use Rattle.session_model.specs.Moves.{Move, Cause, Discard, Outside, Gave, Blamed, Closed, Began, Over, Cancelled, Agreed, Tried, Committed, History, ◌▷◌}
+use Rattle.session_model.specs.Moves.{Move, Cause, Discard, Outside, Gave, Blamed, Closed, Began, Over, Cancelled, Agreed, Tried, Committed, History, reason_of, ◌▷◌}
 use Rattle.session_model.specs.Readings as of
 use Rattle.session_model.proofs.Sound.{Sound, or-either}
 use Rattle.session_model.proofs.Ruled.{and-left, and-right, differ}
@@ -163,7 +163,7 @@ clear-heard : (event : SessionEvent) (h : History) → ClearTold h (noted_of h) 
 clear-heard (Said d m sequence frame) h t command e = clear-said d m sequence frame h (noted_of h) t command e
 clear-heard event h t command e = kept.clear-step command (Outside event) h tt (t command e)
 
-clear-tried : (cause : Cause) (other : Command) (h : History) (n : List Note) → Suits (Tried cause other) h → NoneNamed (of.book h) → ClearTold h n → ClearTold (Tried cause other ▷ h) (Started cause other ∷ n)
+clear-tried : (cause : Cause) (other : Command) (h : History) (n : List Note) → Suits (Tried cause other) h → NoneNamed (of.book h) → ClearTold h n → ClearTold (Tried cause other ▷ h) (Started (reason_of cause) other ∷ n)
 clear-tried Discard other h n s u t command e =
     kept.clear-step command (Tried Discard other) h tt (or-either (same_command command other) (is_discarded command n) (λ i. kept.clear-needless command other h i s u) (λ i. t command i) e)
 clear-tried cause other h n s u t command e = kept.clear-step command (Tried cause other) h tt (t command e)

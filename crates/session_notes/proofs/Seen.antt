@@ -4,9 +4,8 @@ use Rattle.std.specs.Prelude.{reverse, drop, ◌⊎◌}
 use Rattle.std.specs.List.{AllByRecursion}
 use Rattle.std.proofs.lemmas.List.{append-nil, reverse-append}
 use Rattle.session_model.specs.declared.events.Act.{Act}
-use Rattle.session_model.specs.declared.events.Act.TheVariants.{Start}
 use Rattle.session_model.specs.Moves.{Move, Outside, Gave, Blamed, Unset, Closed, Tried, Committed, Printed, Finished, History, Opened, acts_of, all_acts, ◌▷◌}
-use Rattle.session_notes.specs.Notes.{Did, Entry, Note, Came, Launched, acts_in, entries_of, entries, noted, notes}
+use Rattle.session_notes.specs.Notes.{Did, Entry, Note, Came, acts_in, entries_of, entries, noted, notes}
 
 -- A list of one item at most
 
@@ -15,7 +14,7 @@ IsOne ys = (ys ≡ []) ⊎ ((y : Entry) × (ys ≡ y ∷ []))
 
 pub one-of : (m : Move) → IsOne (entries_of m)
 one-of (Outside event) = inr (Came event, refl)
-one-of (Tried cause command) = inr (Launched cause command, refl)
+one-of (Tried cause command) = inr (_, refl)
 one-of (Gave c m) = inr (_, refl)
 one-of (Blamed c error) = inr (_, refl)
 one-of (Unset c) = inr (_, refl)
@@ -31,7 +30,6 @@ acts-append : (xs ys : List Entry) → acts_in (xs ++ ys) ≡ acts_in xs ++ acts
 acts-append [] ys = refl
 acts-append (Came event ∷ xs) ys = acts-append xs ys
 acts-append (Did act ∷ xs) ys = ap (λ (acts : List Act). act ∷ acts) (acts-append xs ys)
-acts-append (Launched cause command ∷ xs) ys = ap (λ (acts : List Act). Start command ∷ acts) (acts-append xs ys)
 
 acts-of : (m : Move) → acts_in (entries_of m) ≡ acts_of m
 acts-of (Outside event) = refl

@@ -37,6 +37,7 @@ use Rattle.session_model.proofs.Replied.{good-reply, good-opened, good-run}
 use Rattle.session_notes.specs.Notes.{Entry, notes}
 use Rattle.session_notes.specs.Keeping.{is_started}
 use Rattle.session_notes.specs.Laws.{IsSeen, IsSaved}
+use Rattle.session_model.proofs.Inner.{kept-opening, kept-taken}
 use Rattle.session_notes.proofs.Seen.{noted_of, AtEach, EachEntry, at-front, at-entry}
 use Rattle.session_notes.proofs.Steps.{is_at_work, has_replied, begun-first, works-member}
 use Rattle.session_notes.proofs.Told.{BeginsToSave, RestTold}
@@ -416,34 +417,15 @@ fine book events = fine-run events (opened book) (good-opened book) (fine-opened
 
 -- The book that was opened stays so
 
-opened-onto : (moves : List Move) (h : History) → opened_of (onto h moves) ≡ opened_of h
-opened-onto [] h = refl
-opened-onto (m ∷ moves) h = opened-onto moves (m ▷ h)
-
-opened-on : (n : ℕ) (h : History) (moves : List Move) → ((x : History) → opened_of (settle n x) ≡ opened_of x) → opened_of (go_on (λ x. settle n x) h moves) ≡ opened_of h
-opened-on n h [] k = refl
-opened-on n h (m ∷ moves) k = k (onto h (m ∷ moves)) ∙ opened-onto (m ∷ moves) h
-
-opened-settle : (n : ℕ) (h : History) → opened_of (settle n h) ≡ opened_of h
-opened-settle zero h = refl
-opened-settle (suc n) h = opened-on n h (rule (reading h)) (λ x. opened-settle n x)
-
-opened-finish : (b : Bool) (h : History) → opened_of (cond b (Finished ▷ h) h) ≡ opened_of h
-opened-finish true h = refl
-opened-finish false h = refl
-
 opened-taken : (event : SessionEvent) (h : History) → opened_of (taken event h) ≡ opened_of h
-opened-taken event h =
-    let answered_to : History = onto (Outside event ▷ h) (reply (reading h) event) in
-    let rested : History = settled answered_to in
-    opened-finish (of.is_ending rested && is_nil (of.live rested)) rested ∙ opened-settle (4 * length (of.waits answered_to) + 4) answered_to ∙ opened-onto (reply (reading h) event) (Outside event ▷ h)
+opened-taken event h = kept-taken (λ g. opened_of g ≡ opened_of h) (λ m g i e. e) event h refl
 
 opened-run : (events : List SessionEvent) (h : History) → opened_of (run h events) ≡ opened_of h
 opened-run [] h = refl
 opened-run (event ∷ events) h = opened-run events (taken event h) ∙ opened-taken event h
 
 opened-is : (book : Book) (events : List SessionEvent) → opened_of (run (opened book) events) ≡ book
-opened-is book events = opened-run events (opened book) ∙ opened-onto (opening_moves book) (Opened book)
+opened-is book events = opened-run events (opened book) ∙ kept-opening (λ h. opened_of h ≡ book) (λ m h i e. e) book refl
 
 -- The laws
 

@@ -9,7 +9,7 @@ use Rattle.checkpoint_records.specs.declared.records.Book.{Book}
 use Rattle.checkpoint_records.specs.Books.{same_command}
 use Rattle.checkpoint_records.specs.Rules.{client_id}
 use Rattle.discard_ledger.specs.Discards.{discard_of}
-use Rattle.session_model.specs.Moves.{Discard}
+use Rattle.session_model.specs.declared.events.Reason.TheVariants.{Discard}
 use Rattle.session_model.specs.Tables.{first_table, is_recorded, is_same}
 use Rattle.session_notes.specs.Notes.{Given, Gone, Heard, Note, Started, Wrote}
 use Rattle.session_notes.specs.Watching.{was_asked}

@@ -8,7 +8,8 @@ use Rattle.session_model.specs.declared.events.SessionEvent.{SessionEvent}
 use Rattle.session_model.specs.declared.events.SessionEvent.TheVariants.{Left, Said}
 use Rattle.session_model.specs.declared.events.Act.{Act}
 use Rattle.session_model.specs.declared.events.Act.TheVariants.{Blame, Commit, Say, Shut, Start}
-use Rattle.session_model.specs.Moves.{Cause, History, Move, Opened, Outside, Tried, acts_of, ◌▷◌}
+use Rattle.session_model.specs.declared.events.Reason.{Reason}
+use Rattle.session_model.specs.Moves.{History, Move, Opened, Outside, acts_of, ◌▷◌}
 
 -- What is seen
 
@@ -17,14 +18,10 @@ pub data Entry : Type 0 where
   Came : SessionEvent → Entry
   -- the manager did this
   Did : Act → Entry
-  -- the manager started a command. An act alone doesn't say why, and of two starts of one command only the one that discards a
-  -- state says that nobody needs this state any more.
-  Launched : Cause → Command → Entry
 
 -- What is seen of a move. How rounds begin and end is not seen.
 abbrev pub entries_of : Move → List Entry
 entries_of (Outside event) = Came event ∷ []
-entries_of (Tried cause command) = Launched cause command ∷ []
 entries_of m = map Did (acts_of m)
 
 -- all that is seen of a history, the oldest first
@@ -37,14 +34,12 @@ abbrev pub came_in : List Entry → List SessionEvent
 came_in [] = []
 came_in (Came event ∷ seen) = event ∷ came_in seen
 came_in (Did act ∷ seen) = came_in seen
-came_in (Launched cause command ∷ seen) = came_in seen
 
 -- the acts among what is seen
 abbrev pub acts_in : List Entry → List Act
 acts_in [] = []
 acts_in (Came event ∷ seen) = acts_in seen
 acts_in (Did act ∷ seen) = act ∷ acts_in seen
-acts_in (Launched cause command ∷ seen) = Start command ∷ acts_in seen
 
 -- What is noted
 
@@ -57,8 +52,8 @@ pub data Note : Type 0 where
   Gone : ℕ → Note
   -- a book was written
   Wrote : Book → Note
-  -- a command was started, for this cause
-  Started : Cause → Command → Note
+  -- a command was started, for this reason
+  Started : Reason → Command → Note
 
 -- What is noted of entries, both the latest first. A message is refused where the entry directly behind it is an Error to its
 -- connection, and isn't noted then.
@@ -70,7 +65,7 @@ noted (Came (Left c) ∷ seen) = Gone c ∷ noted seen
 noted (Did (Say c m) ∷ seen) = Given c m ∷ noted seen
 noted (Did (Shut c) ∷ seen) = Gone c ∷ noted seen
 noted (Did (Commit book) ∷ seen) = Wrote book ∷ noted seen
-noted (Launched cause command ∷ seen) = Started cause command ∷ noted seen
+noted (Did (Start reason command) ∷ seen) = Started reason command ∷ noted seen
 noted (entry ∷ seen) = noted seen
 
 -- what is noted of entries, which stand the oldest first, as they are seen; the notes stand the latest first

@@ -1,7 +1,6 @@
-use Rattle.std.proofs.Common.{refl, ◌∙◌, ap}
+use Rattle.std.proofs.Common.{◌∙◌, ap}
 use Rattle.restart_plan.specs.Restarts.{opening_restarts}
 use Rattle.session_model.specs.Books.{raised}
-use Rattle.session_model.specs.Moves.{Restart}
 use Rattle.session_state.specs.Session.{Session}
 use Rattle.manager_machine.proofs.Committing.{begun-by}
 use Rattle.manager_machine.proofs.inner.Core.begin_run.Goals as goal
@@ -12,4 +11,4 @@ returns c =
     (c.in_ok-book.ensures ∙ ap (λ (s : Session). raised s.book) c.self.view_is)
     (c.in_ok-pending.ensures ∙ ap (λ (s : Session). s.book.pending) c.self.view_is)
     (c.in_ok-restarts.ensures ∙ ap (λ (s : Session). opening_restarts s.book.entries) c.self.view_is)
-    c.in_ok-commit.ensures c.in_ok-issue.ensures (c.in_ok-start_each.ensures Restart refl)
+    c.in_ok-commit.ensures c.in_ok-issue.ensures c.in_ok-start_each.ensures

@@ -134,7 +134,7 @@ own-token : (o : Option ℕ) (r : Reading) → AllOwn (token_rule o r)
 own-token (Some c) r = (refl, tt)
 own-token None r = own-round r.rounds.running r
 
-own-rule : (r : Reading) → AllOwn (rule r)
+pub own-rule : (r : Reading) → AllOwn (rule r)
 own-rule r = own-token (next_holder r.token.is_held r.token.waiting) r
 
 -- Answers
@@ -217,7 +217,7 @@ own-ordered r (DropConn c) = own-cond (is_in c r.clients.live) (Printed (codes "
 own-ordered r (Forget id) = own-cond (r.run.is_ending || is_some r.rounds.running) (Printed (codes "busy") ∷ []) (forget_one r id (entry_of id r.store.book)) (tt, tt) (own-forget_one r id (entry_of id r.store.book))
 own-ordered r Status = (tt, tt)
 
-own-reply : (r : Reading) (event : SessionEvent) → IsAnswer (reply r event)
+pub own-reply : (r : Reading) (event : SessionEvent) → IsAnswer (reply r event)
 own-reply r (Joined c) = answer-cond (has_no_place r) (Closed c ∷ []) [] (tt, tt) tt
 own-reply r (Ready c) = tt
 own-reply r (Said c m sequence frame) = own-said r (record { conn = c; message = m; sequence = sequence; frame = frame }) m

@@ -1,0 +1,65 @@
+-- None of the session's own moves comes from outside: what they keep holds once an event is taken.
+use Rattle.std.proofs.Common.{ℕ, zero, suc, ◌+◌, ◌*◌, Bool, true, false, cond, ◌&&◌, List, [], ◌∷◌, length}
+use Rattle.std.specs.List.{AllByRecursion}
+use Rattle.checkpoint_records.specs.declared.records.Book.{Book}
+use Rattle.round_agreement.specs.Agreement.{is_nil}
+use Rattle.session_model.specs.declared.events.SessionEvent.{SessionEvent}
+use Rattle.session_model.specs.Moves.{Blamed, Finished, History, Move, Opened, Outside, onto, ◌▷◌}
+use Rattle.session_model.specs.Readings as of
+use Rattle.session_model.specs.Reading.{reading}
+use Rattle.session_model.specs.Books.{opening_moves}
+use Rattle.session_model.specs.Replies.{reply}
+use Rattle.session_model.specs.Rules.{go_on, opened, rule, settle, settled, taken}
+use Rattle.session_model.proofs.Own.{AllOwn, IsAnswer, IsOwn, own-opening, own-reply, own-rule}
+
+-- the session's own moves
+abbrev pub IsInner : Move → Type 0
+IsInner (Outside event) = ⊥
+IsInner m = Unit {0}
+
+abbrev pub AllInner : List Move → Type 0
+AllInner moves = AllByRecursion IsInner moves
+
+inner-own : (m : Move) → IsOwn m → IsInner m
+inner-own (Outside event) own = own
+inner-own m own = tt
+
+all-inner : (moves : List Move) → AllOwn moves → AllInner moves
+all-inner [] own = tt
+all-inner (m ∷ moves) own = (inner-own m own.0, all-inner moves own.1)
+
+inner-answer : (moves : List Move) → IsAnswer moves → AllInner moves
+inner-answer [] answer = tt
+inner-answer (Blamed c error ∷ moves) answer = (tt, all-inner moves answer)
+inner-answer (m ∷ moves) answer = all-inner (m ∷ moves) answer
+
+-- What each of the session's own moves keeps holds once an event is taken, where it held as the event came.
+module _ (P : History → Type 0) (keeps : (m : Move) (h : History) → IsInner m → P h → P (m ▷ h)) where
+  kept-onto : (moves : List Move) (h : History) → AllInner moves → P h → P (onto h moves)
+  kept-onto [] h inner p = p
+  kept-onto (m ∷ moves) h inner p = kept-onto moves (m ▷ h) inner.1 (keeps m h inner.0 p)
+
+  kept-on : (n : ℕ) (h : History) (moves : List Move) → AllInner moves → P h → ((g : History) → P g → P (settle n g)) → P (go_on (λ g. settle n g) h moves)
+  kept-on n h [] inner p further = p
+  kept-on n h (m ∷ moves) inner p further = further (onto h (m ∷ moves)) (kept-onto (m ∷ moves) h inner p)
+
+  kept-settle : (n : ℕ) (h : History) → P h → P (settle n h)
+  kept-settle zero h p = p
+  kept-settle (suc n) h p = kept-on n h (rule (reading h)) (all-inner (rule (reading h)) (own-rule (reading h))) p (λ g q. kept-settle n g q)
+
+  kept-finish : (b : Bool) (h : History) → P h → P (cond b (Finished ▷ h) h)
+  kept-finish true h p = keeps Finished h tt p
+  kept-finish false h p = p
+
+  pub kept-replied : (event : SessionEvent) (h : History) → P (onto (Outside event ▷ h) (reply (reading h) event)) → P (taken event h)
+  kept-replied event h p =
+      let replied : History = onto (Outside event ▷ h) (reply (reading h) event) in
+      let rested : History = settled replied in
+      kept-finish (of.is_ending rested && is_nil (of.live rested)) rested (kept-settle (4 * length (of.waits replied) + 4) replied p)
+
+  pub kept-taken : (event : SessionEvent) (h : History) → P (Outside event ▷ h) → P (taken event h)
+  kept-taken event h p = kept-replied event h (kept-onto (reply (reading h) event) (Outside event ▷ h) (inner-answer (reply (reading h) event) (own-reply (reading h) event)) p)
+
+  -- and so it holds once a book is opened
+  pub kept-opening : (book : Book) → P (Opened book) → P (opened book)
+  kept-opening book p = kept-onto (opening_moves book) (Opened book) (all-inner (opening_moves book) (own-opening book)) p
