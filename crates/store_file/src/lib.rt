@@ -1,0 +1,8 @@
+//! The store as a file, and small files that are replaced whole. What they hold is told to nobody;
+//! the faults are counted.
+#![tactic(auto)]
+
+mod disk;
+mod files;
+
+pub use disk::FileDisk;

@@ -1,0 +1,15 @@
+//! The clients and the operators over Unix sockets. Nobody is told what goes through them; their
+//! faults are counted.
+#![tactic(auto)]
+
+mod clients;
+mod doors;
+mod links;
+mod operators;
+mod outbox;
+mod paths;
+mod reading;
+mod sockets;
+mod sources;
+
+pub use links::SocketLinks;
