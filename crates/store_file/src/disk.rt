@@ -1,4 +1,4 @@
-ghost use Rattle.std.specs.Prelude.{◌≡◌, ◌≤◌, OnErr, IsErrOf};
+ghost use Rattle.std.specs.Prelude.{◌≡◌, ◌≤◌};
 ghost use Rattle.sm_world.specs.Outside.{Rose};
 ghost use Rattle.store_file.specs.Untold.{disk_outside};
 
@@ -76,6 +76,12 @@ impl Told for FileDisk {
 }
 
 impl Disk for FileDisk {
+    ghost use Rattle.std.specs.Prelude.{None};
+    ghost use Rattle.std.proofs.Common.{refl};
+    ghost use Rattle.sm_world.specs.Disk.{untold_size};
+
+    ghost sized = { λ disk first told. untold_size disk.size first None refl told };
+
     fn attach(&mut self, path: &str) -> Result<(), Failure> {
         match take_store(self.rt, path, self.new_size) {
             Ok((file, size)) => {
@@ -129,6 +135,4 @@ impl Disk for FileDisk {
             Err(error) => Err(self.failure(path, error)),
         }
     }
-
-    ghost sized = { λ disk first told. search };
 }

@@ -22,7 +22,11 @@ fn check(status: i32) -> io::Result<()> {
 }
 
 /// Binds a socket and listens on it, with the longest backlog that the system allows.
-fn listening<R: Files + Net>(rt: &R, socket: OwnedFd, addr: &SocketAddr) -> io::Result<UnixListener> {
+fn listening<R: Files + Net>(
+    rt: &R,
+    socket: OwnedFd,
+    addr: &SocketAddr,
+) -> io::Result<UnixListener> {
     rt.bind_unix(socket.as_fd(), addr)?;
     check(libc::net::listen(socket.as_raw_fd(), -1))?;
     let listener = net::UnixListener::from(socket);
@@ -57,7 +61,11 @@ fn private_listener<R: Files + Net>(rt: &R, path: &str) -> io::Result<UnixListen
 /// Listens at a name of Linux's abstract namespace, which has no permissions. The name is free again
 /// as soon as its process has ended.
 fn abstract_listener<R: Files + Net>(rt: &R, name: &str) -> io::Result<UnixListener> {
-    listening(rt, rt.unix_socket()?, &SocketAddr::from_abstract_name(name)?)
+    listening(
+        rt,
+        rt.unix_socket()?,
+        &SocketAddr::from_abstract_name(name)?,
+    )
 }
 
 /// Why the doors didn't open.

@@ -76,7 +76,7 @@ impl SocketLinks {
     /// Counts a fault, where the answer is one.
     fn count<T>(&mut self, answer: Result<T, Failure>) -> Result<T, Failure>
         ensures same { result ≡ answer }
-        ensures cause { IsErrOf result Failed → Rose self.old.faults self.new.faults }
+        ensures cause { IsErrOf result Failure.Failed → Rose self.old.faults self.new.faults }
         ensures not_fallen { self.old.faults ≤ self.new.faults }
     {
         if matches!(&answer, Err(Failure::Failed)) {
