@@ -4,10 +4,9 @@ ghost use Rattle.program_spawner.specs.Untold.{spawner_outside};
 
 use sm_world::{Command, NoMemory, Octets, Spawner, Told};
 use std::alloc::Global;
-use std::io;
 use std::io::ErrorKind;
-use std::process;
 use std::process::{Child, Stdio};
+use std::{io, process};
 
 /// Starts programs. That they are started is told to nobody; each that can't be is counted.
 ///
