@@ -2,5 +2,7 @@
 #![tactic(auto)]
 
 mod spawner;
+#[cfg(test)]
+mod tests;
 
 pub use spawner::ProgramSpawner;

@@ -81,6 +81,11 @@ impl ProgramSpawner {
             .retain_mut(|child| matches!(child.try_wait(), Ok(None)));
     }
 
+    /// How many programs were started and had not ended when leave was last taken.
+    pub fn running(&self) -> usize {
+        self.children.len()
+    }
+
     fn try_start(&mut self, command: &Command) -> io::Result<()>
         ensures same { self.new.faults ≡ self.old.faults }
     {

@@ -65,7 +65,7 @@ impl FileDisk {
         if error.kind() == ErrorKind::OutOfMemory {
             return Failure::NoMemory;
         }
-        let _ = eprintln!(self.rt; "smd: {path}: {error}");
+        let _ = eprintln!(self.rt; "smd: cannot use {path}: {error}");
         self.count_one();
         Failure::Failed
     }

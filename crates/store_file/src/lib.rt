@@ -4,5 +4,7 @@
 
 mod disk;
 mod files;
+#[cfg(test)]
+mod tests;
 
 pub use disk::FileDisk;

@@ -11,5 +11,7 @@ mod paths;
 mod reading;
 mod sockets;
 mod sources;
+#[cfg(test)]
+mod tests;
 
 pub use links::SocketLinks;
