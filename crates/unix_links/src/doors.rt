@@ -75,38 +75,51 @@ pub struct Refusal<'a> {
     pub error: io::Error,
 }
 
-/// The sockets at which clients and operators come in.
+/// The sockets at which clients and operators come in, and the files of two of them.
 #[derive(Drop)]
 pub struct Doors {
     clients: UnixListener,
     hidden: UnixListener,
     control: UnixListener,
+    clients_path: String,
+    control_path: String,
 }
 
 impl Doors {
     /// Opens the clients' two doors and the operators' one. The abstract name comes first: a living
     /// manager holds it, so a second one ends here and touches no file of the first.
-    pub fn open<'a, R: Files + Net>(
-        rt: &R,
+    pub fn open<'a>(
+        rt: HostRuntime,
         socket: &'a str,
         control: &'a str,
     ) -> Result<Doors, Refusal<'a>> {
-        let hidden = at(socket, abstract_listener(rt, socket))?;
-        let clients = at(socket, private_listener(rt, socket))?;
-        match private_listener(rt, control) {
+        let clients_path = at(socket, copied(rt, socket))?;
+        let control_path = at(control, copied(rt, control))?;
+        let hidden = at(socket, abstract_listener(&rt, socket))?;
+        let clients = at(socket, private_listener(&rt, socket))?;
+        match private_listener(&rt, control) {
             Ok(control) => Ok(Doors {
                 clients,
                 hidden,
                 control,
+                clients_path,
+                control_path,
             }),
             Err(error) => {
-                let _ = fs::remove_file(rt, socket);
+                let _ = fs::remove_file(&rt, socket);
                 Err(Refusal {
                     path: control,
                     error,
                 })
             }
         }
+    }
+
+    /// Removes the files. The abstract name must still be held then: else they could be those of the
+    /// next manager.
+    pub fn remove_files(&self, rt: &HostRuntime) {
+        let _ = fs::remove_file(rt, self.clients_path.as_str());
+        let _ = fs::remove_file(rt, self.control_path.as_str());
     }
 
     /// Has the system tell when somebody comes.
@@ -132,9 +145,13 @@ impl Doors {
     }
 }
 
-fn at(path: &str, listener: io::Result<UnixListener>) -> Result<UnixListener, Refusal<'_>> {
-    match listener {
-        Ok(listener) => Ok(listener),
+fn copied(rt: HostRuntime, path: &str) -> io::Result<String> {
+    Ok(path.to_string(rt.alloc())?)
+}
+
+fn at<T: Drop>(path: &str, outcome: io::Result<T>) -> Result<T, Refusal<'_>> {
+    match outcome {
+        Ok(found) => Ok(found),
         Err(error) => Err(Refusal { path, error }),
     }
 }

@@ -8,7 +8,6 @@ use crate::paths::path_fault;
 use crate::reading::refused;
 use crate::sockets::Sockets;
 use sm_world::{Conn, Event, Failure, Links, Told};
-use std::fs;
 
 /// The clients at a Unix socket, and the operators at another. What goes through them is told to
 /// nobody; each fault is counted.
@@ -43,15 +42,14 @@ impl SocketLinks {
         }
     }
 
-    /// Closes all sockets, and removes the files of the doors at these paths.
-    pub fn close(&mut self, socket: &str, control: &str)
+    /// Removes the sockets' files, and then closes all sockets.
+    pub fn close(&mut self)
         ensures untouched { links_outside self.new ≡ links_outside self.old }
     {
-        if self.sockets.is_some() {
-            self.sockets = None;
-            let _ = fs::remove_file(&self.rt, socket);
-            let _ = fs::remove_file(&self.rt, control);
+        if let Some(sockets) = &self.sockets {
+            sockets.remove_files();
         }
+        self.sockets = None;
     }
 
     fn open(&mut self, socket: &str, control: &str) -> Result<(), Failure>
@@ -61,7 +59,7 @@ impl SocketLinks {
             let _ = eprintln!(self.rt; "smd: cannot listen at {socket}: {fault}");
             return Err(Failure::Failed);
         }
-        match Doors::open(&self.rt, socket, control) {
+        match Doors::open(self.rt, socket, control) {
             Ok(doors) => {
                 self.sockets = Some(Sockets::new(self.rt, doors).map_err(refused)?);
                 Ok(())

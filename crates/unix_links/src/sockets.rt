@@ -229,6 +229,11 @@ impl Sockets {
         self.clients.shut(conn);
     }
 
+    /// Removes the files of the doors.
+    pub fn remove_files(&self) {
+        self.doors.remove_files(&self.rt);
+    }
+
     /// Sends a line to the operator whose order was the last event.
     pub fn answer(&mut self, line: &[u8]) {
         self.operators.answer(line);

@@ -2,10 +2,9 @@ use crate::SocketLinks;
 use sm_world::{Event, Failure, Links, Order};
 use std::io::{ErrorKind, Read, Write};
 use std::os::unix::net::{UnixListener, UnixStream};
-use std::process;
 use std::test::Fail;
 use std::time::Duration;
-use std::{env, fs, io};
+use std::{env, fs, io, process};
 
 /// The paths of a test's sockets.
 #[derive(Drop)]
@@ -83,7 +82,7 @@ fn clients_come_speak_and_go(rt: HostRuntime) -> Result<(), Fail> {
     assert!(rt; matches!(next(&mut links), Event::Joined(2)));
     assert_eq!(rt; links.shut(2), Ok(()));
     assert_eq!(rt; second.read(&mut answer)?, 0);
-    links.close(paths.socket.as_str(), paths.control.as_str());
+    links.close();
     assert_eq!(rt; fs::exists(&rt, paths.socket.as_str())?, false);
     assert_eq!(rt; fs::exists(&rt, paths.control.as_str())?, false);
     Ok(())
@@ -107,7 +106,7 @@ fn orders_are_answered_where_they_came_from(rt: HostRuntime) -> Result<(), Fail>
     let mut answer = [0u8; 14];
     second.read_exact(&mut answer)?;
     assert_eq!(rt; &answer, b"no connection\n");
-    links.close(paths.socket.as_str(), paths.control.as_str());
+    links.close();
     Ok(())
 }
 
@@ -116,7 +115,7 @@ fn a_quarter_of_a_second_is_told(rt: HostRuntime) -> Result<(), Fail> {
     let paths = room(rt, "ticks")?;
     let mut links = open(rt, &paths)?;
     assert!(rt; matches!(links.next(), Ok(Event::Tick(passed)) if passed >= 250));
-    links.close(paths.socket.as_str(), paths.control.as_str());
+    links.close();
     Ok(())
 }
 
@@ -131,7 +130,7 @@ fn who_does_not_read_is_dropped(rt: HostRuntime) -> Result<(), Fail> {
         assert_eq!(rt; links.send(1, bytes.as_slice()), Ok(()));
     }
     assert!(rt; matches!(next(&mut links), Event::Gone(1)));
-    links.close(paths.socket.as_str(), paths.control.as_str());
+    links.close();
     Ok(())
 }
 
@@ -140,7 +139,14 @@ fn bad_paths_are_refused(rt: HostRuntime) -> Result<(), Fail> {
     let paths = room(rt, "paths")?;
     let (socket, control) = (paths.socket.as_str(), paths.control.as_str());
     let long = format!(in rt.alloc(); "/tmp/{:0>103}", 0)?;
-    for bad in ["", "sock", "/tmp/a:b", "/tmp/a,b", "/no such folder/s", long.as_str()] {
+    for bad in [
+        "",
+        "sock",
+        "/tmp/a:b",
+        "/tmp/a,b",
+        "/no such folder/s",
+        long.as_str(),
+    ] {
         assert!(rt; refuses(rt, bad, control));
     }
     assert!(rt; refuses(rt, socket, "/no such folder/c"));
@@ -164,6 +170,6 @@ fn only_a_dead_socket_is_taken_over(rt: HostRuntime) -> Result<(), Fail> {
     assert!(rt; refuses(rt, socket, control));
     let _client = dial(rt, socket)?;
     assert!(rt; matches!(next(&mut links), Event::Joined(1)));
-    links.close(socket, control);
+    links.close();
     Ok(())
 }
