@@ -3,6 +3,8 @@
 #![tactic(auto)]
 
 mod identity;
+#[cfg(test)]
+mod tests;
 mod world;
 
 pub use identity::{host_name, random_cookie};
