@@ -14,7 +14,7 @@ world_outside world = record {
     disk = (disk_outside world.disk).faults.disk;
     links = (links_outside world.links).faults.links;
     spawner = (spawner_outside world.spawner).faults.spawner;
-    console = (console_outside world.console).faults.console
+    console = (console_outside world.console).faults.console;
   };
   size = (disk_outside world.disk).size;
   first = None;

@@ -1,11 +1,10 @@
 ghost use Rattle.std.specs.Prelude.{◌≤◌, IfOk, string_len};
 
 use ice_cookie::Cookie;
-use std::env;
 use std::env::VarError;
-use std::io;
 use std::io::ErrorKind;
 use std::random::RandomSource;
+use std::{env, io};
 
 /// How many bytes a host's name can have at most.
 const HOST_LIMIT: usize = 255;

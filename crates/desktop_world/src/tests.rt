@@ -1,158 +1,100 @@
 use crate::{DesktopWorld, host_name, random_cookie};
-use ice_cookie::Cookie;
-use session_engine::{ServeFault, serve};
-use sm_world::{Disk, Failure, Links};
-use std::io::{ErrorKind, Read, Write};
+use sm_world::{
+    Command, Console, Disk, Event, Failure, Links, Octets, OctetsList, PairList, Spawner,
+};
+use std::alloc::Global;
+use std::io::{Read, Write};
 use std::os::unix::net::UnixStream;
-use std::process::{Child, Command};
 use std::test::Fail;
 use std::time::Duration;
-use std::{env, fs, io, process, thread};
+use std::{env, fs, process, thread};
 
-/// The variable that tells a started test which paths begin how.
-const ROOM: &str = "DESKTOP_WORLD_ROOM";
-
-/// The paths of a test's session.
-#[derive(Drop)]
-struct Room {
-    start: String,
-    store: String,
-    authority: String,
-    socket: String,
-    control: String,
+fn path_of(rt: HostRuntime, name: &str) -> Result<String, Fail> {
+    let folder = env::temp_dir(&rt)?;
+    let id = process::id(rt.process());
+    Ok(format!(in rt.alloc(); "{}/world-{name}-{id}", folder.as_path().as_str())?)
 }
 
-fn room_at(rt: HostRuntime, start: &str) -> io::Result<Room> {
-    let alloc = rt.alloc();
-    Ok(Room {
-        start: start.to_string(alloc)?,
-        store: format!(in alloc; "{start}-store")?,
-        authority: format!(in alloc; "{start}-authority")?,
-        socket: format!(in alloc; "{start}-clients")?,
-        control: format!(in alloc; "{start}-orders")?,
+/// A shell that runs this script.
+fn shell(alloc: Global, script: &str) -> Result<Command, Failure> {
+    let mut words = OctetsList::new(alloc);
+    for word in ["sh", "-c", script] {
+        words.push(Octets::from_slice(alloc, word.as_bytes())?)?;
+    }
+    Ok(Command {
+        words,
+        directory: Octets::new(alloc),
+        environment: PairList::new(alloc),
     })
 }
 
-fn new_room(rt: HostRuntime, name: &str) -> io::Result<Room> {
-    let folder = env::temp_dir(&rt)?;
-    let id = process::id(rt.process());
-    let start = format!(in rt.alloc(); "{}/{name}-{id}", folder.as_path().as_str())?;
-    room_at(rt, start.as_str())
-}
-
-fn open(world: &mut DesktopWorld, room: &Room) -> Result<(), Failure> {
-    world.attach(room.store.as_str())?;
-    world.publish(room.authority.as_str(), b"who may join")?;
-    world.listen(room.socket.as_str(), room.control.as_str())
-}
-
-/// Runs a session there to its end.
-fn run(rt: HostRuntime, room: &Room) -> io::Result<Option<ServeFault>> {
-    let mut world = DesktopWorld::new(rt, host_name(&rt)?);
-    if open(&mut world, room).is_err() {
-        return Err(io::Error::from(ErrorKind::AddrInUse));
-    }
-    let ended = serve(rt.alloc(), &mut world, Cookie([7; 16]), u64::MAX);
-    world.close();
-    Ok(ended.err())
-}
-
-/// Starts this program with a session there.
-fn start(rt: HostRuntime, room: &Room) -> io::Result<Child> {
-    let mut command = Command::new(rt.alloc(), env::current_exe(&rt)?.as_str())?;
-    command.arg("tests::as_manager")?;
-    command.env(ROOM, room.start.as_str())?;
-    command.spawn(&rt)
-}
-
-/// A peer of a manager that may not listen yet. Its reads end after some seconds.
-fn dial(rt: HostRuntime, path: &str) -> io::Result<UnixStream> {
+/// Waits some seconds for a file with a whole line.
+fn line_of(rt: HostRuntime, path: &str) -> Result<String, Fail> {
     for _ in 0..500 {
-        if let Ok(stream) = UnixStream::connect(&rt, path) {
-            stream.set_read_timeout(Some(Duration::from_secs(20)))?;
-            return Ok(stream);
+        match fs::read_to_string(&rt, path) {
+            Ok(text) if text.ends_with("\n") => return Ok(text),
+            _ => thread::sleep(&rt, Duration::from_millis(20)),
         }
-        thread::sleep(&rt, Duration::from_millis(20));
     }
-    Err(io::Error::from(ErrorKind::NotFound))
+    Ok(String::new(rt.alloc()))
 }
 
-/// Says something and gives what comes back, which has so many bytes.
-fn ask(rt: HostRuntime, peer: &mut UnixStream, said: &[u8], count: usize) -> io::Result<Vec<u8>> {
-    peer.write_all(said)?;
-    let mut answer = vec![in rt.alloc(); 0u8; count]?;
-    peer.read_exact(answer.as_mut_slice())?;
-    Ok(answer)
+/// The next event that isn't a tick, and the end where there is none.
+fn next(world: &mut DesktopWorld) -> Event {
+    for _ in 0..100 {
+        match world.next() {
+            Ok(Event::Tick(_)) => {}
+            Ok(event) => return event,
+            Err(_) => break,
+        }
+    }
+    Event::End
 }
 
-/// The line that the next manager there answers to these orders.
-fn orders(rt: HostRuntime, room: &Room, said: &[u8], count: usize) -> io::Result<Vec<u8>> {
-    let mut operator = dial(rt, room.control.as_str())?;
-    ask(rt, &mut operator, said, count)
-}
-
-fn clear(rt: HostRuntime, room: &Room) {
-    let _ = fs::remove_file(&rt, room.store.as_str());
-    let _ = fs::remove_file(&rt, room.authority.as_str());
-}
-
-/// No test by itself: the others start it as their session.
 #[test]
-fn as_manager(rt: HostRuntime) -> Result<(), Fail> {
-    let Ok(start) = env::var(&rt, ROOM) else {
-        return Ok(());
+fn programs_know_where_the_manager_is(rt: HostRuntime) -> Result<(), Fail> {
+    let alloc = rt.alloc();
+    let (store, authority) = (path_of(rt, "store")?, path_of(rt, "authority")?);
+    let (socket, control) = (path_of(rt, "socket")?, path_of(rt, "control")?);
+    let mut world = DesktopWorld::new(rt, "host".to_string(alloc)?);
+    assert_eq!(rt; world.attach(store.as_str()), Ok(()));
+    assert_eq!(rt; world.size(), Ok(16_777_280));
+    assert_eq!(rt; world.publish(authority.as_str(), b"x"), Ok(()));
+    assert_eq!(rt; world.listen(socket.as_str(), control.as_str()), Ok(()));
+    let said = path_of(rt, "said")?;
+    let script = format!(in alloc; "echo $SESSION_MANAGER $ICEAUTHORITY >{said}")?;
+    let started = match shell(alloc, script.as_str()) {
+        Ok(command) => world.start(&command).ok(),
+        Err(_) => None,
     };
-    let room = room_at(rt, start.as_str())?;
-    assert_eq!(rt; run(rt, &room)?, None);
+    assert_eq!(rt; started, Some(true));
+    let wanted = format!(in alloc; "local/host:{socket} {authority}\n")?;
+    assert_eq!(rt; line_of(rt, said.as_str())?.as_str(), wanted.as_str());
+    world.close();
+    for path in [&store, &authority, &said] {
+        fs::remove_file(&rt, path.as_str())?;
+    }
+    assert_eq!(rt; fs::exists(&rt, socket.as_str())?, false);
     Ok(())
 }
 
 #[test]
-fn a_session_goes_on_after_a_kill(rt: HostRuntime) -> Result<(), Fail> {
-    let room = new_room(rt, "killed")?;
-    let mut first = start(rt, &room)?;
-    let mut client = dial(rt, room.socket.as_str())?;
-    // ByteOrder and Ping are answered by ByteOrder and PingReply.
-    let asked = b"\0\x01\0\0\0\0\0\0\0\x09\0\0\0\0\0\0";
-    let answer = ask(rt, &mut client, asked.as_slice(), 16)?;
-    assert_eq!(rt; answer.as_slice(), b"\0\x01\0\0\0\0\0\0\0\x0a\0\0\0\0\0\0".as_slice());
-    let line = b"connections 1, records 0, pending 0, epoch 1, idle\n";
-    assert_eq!(rt; orders(rt, &room, b"status\n", line.len())?.as_slice(), line.as_slice());
-    first.kill()?;
-    let _ = first.wait()?;
-    // What the dead one left is taken over.
-    let mut second = start(rt, &room)?;
-    let lines = b"bad order\nconnections 0, records 0, pending 0, epoch 2, idle\nok\n";
-    let said = b"nonsense\nstatus\nshutdown\n";
-    assert_eq!(rt; orders(rt, &room, said, lines.len())?.as_slice(), lines.as_slice());
-    assert!(rt; second.wait()?.success());
-    assert_eq!(rt; fs::exists(&rt, room.socket.as_str())?, false);
-    assert_eq!(rt; fs::exists(&rt, room.control.as_str())?, false);
-    clear(rt, &room);
-    Ok(())
-}
-
-#[test]
-fn a_second_manager_is_refused(rt: HostRuntime) -> Result<(), Fail> {
-    let room = new_room(rt, "second")?;
-    let mut first = start(rt, &room)?;
-    let line = b"connections 0, records 0, pending 0, epoch 1, idle\n";
-    assert_eq!(rt; orders(rt, &room, b"status\n", line.len())?.as_slice(), line.as_slice());
-    assert!(rt; run(rt, &room).is_err());
-    assert_eq!(rt; orders(rt, &room, b"status\nshutdown\n", line.len())?.as_slice(), line.as_slice());
-    assert!(rt; first.wait()?.success());
-    clear(rt, &room);
-    Ok(())
-}
-
-#[test]
-fn a_store_of_another_size_is_refused_untouched(rt: HostRuntime) -> Result<(), Fail> {
-    let room = new_room(rt, "small")?;
-    fs::write(&rt, room.store.as_str(), "small")?;
-    let ended = run(rt, &room)?;
-    assert_eq!(rt; ended, Some(ServeFault::WrongSize { size: 5 }));
-    assert_eq!(rt; fs::read_to_string(&rt, room.store.as_str())?.as_str(), "small");
-    clear(rt, &room);
+fn a_line_goes_to_the_operator_who_asked(rt: HostRuntime) -> Result<(), Fail> {
+    let (socket, control) = (path_of(rt, "clients")?, path_of(rt, "orders")?);
+    let mut world = DesktopWorld::new(rt, host_name(&rt)?);
+    assert_eq!(rt; world.listen(socket.as_str(), control.as_str()), Ok(()));
+    assert_eq!(rt; world.print(b"before\n"), Ok(()));
+    let mut operator = UnixStream::connect(&rt, control.as_str())?;
+    operator.set_read_timeout(Some(Duration::from_secs(10)))?;
+    operator.write_all(b"status\n")?;
+    assert!(rt; matches!(next(&mut world), Event::Operator(_)));
+    assert_eq!(rt; world.print(b"idle\n"), Ok(()));
+    assert!(rt; matches!(world.next(), Ok(Event::Tick(_))));
+    assert_eq!(rt; world.print(b"later\n"), Ok(()));
+    world.close();
+    let mut answer = String::new(rt.alloc());
+    let _count = operator.read_to_string(&mut answer)?;
+    assert_eq!(rt; answer.as_str(), "idle\n");
     Ok(())
 }
 

@@ -78,7 +78,9 @@ impl Disk for DesktopWorld {
 
     /// The file that is published is the programs' ICEAUTHORITY.
     fn publish(&mut self, path: &str, bytes: &[u8]) -> Result<(), Failure> {
-        let authority = path.to_string(*self.host.allocator()).map_err(NoMemory::from)?;
+        let authority = path
+            .to_string(*self.host.allocator())
+            .map_err(NoMemory::from)?;
         self.disk.publish(path, bytes)?;
         self.spawner.set_authority(authority);
         Ok(())
