@@ -39,8 +39,9 @@ fn named_control(rt: &HostRuntime) -> Result<String, Fault> {
 /// Gives the order of the words and prints the answer.
 fn run(rt: &HostRuntime, words: &[String], console: &mut StandardConsole) -> Result<(), Fault> {
     let request = read_request(rt.alloc(), words)?;
+    let control = request.control;
     let line = request.line.as_slice();
-    let stream = match request.control {
+    let stream = match control {
         Some(path) => send(rt, path, line)?,
         None => send(rt, named_control(rt)?.as_str(), line)?,
     };

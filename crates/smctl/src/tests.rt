@@ -62,7 +62,10 @@ fn the_line_of_the_answer_is_read(rt: HostRuntime) -> Result<(), Fail> {
     let _count = BufReader::new(rt.alloc(), &manager)?.read_line(&mut heard)?;
     (&manager).write_all(b"idle\nand more")?;
     let answer = receive(rt.alloc(), asking)?;
-    assert_eq!(rt; (heard.as_str(), answer.as_slice()), ("status\n", b"idle\n".as_slice()));
+    assert_eq!(rt;
+        (heard.as_str(), answer.as_slice()),
+        ("status\n", b"idle\n".as_slice())
+    );
     let cut = send(&rt, path.as_str(), b"status\n")?;
     let (manager, _address) = listener.accept()?;
     (&manager).write_all(b"id")?;
