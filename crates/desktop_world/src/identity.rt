@@ -1,4 +1,4 @@
-ghost use Rattle.std.specs.Prelude.{◌≤◌, IfOk, string_len};
+ghost use Rattle.std.specs.Prelude.{◌≤◌, IfOk, length, string_bytes};
 
 use ice_cookie::Cookie;
 use std::env::VarError;
@@ -19,7 +19,7 @@ pub fn random_cookie(rt: &HostRuntime) -> io::Result<Cookie> {
 /// The name under which programs find this host: the variable HOSTNAME. Where it is missing, empty,
 /// no text or longer than 255 bytes, the name is `localhost`.
 pub fn host_name(rt: &HostRuntime) -> io::Result<String>
-    ensures length { IfOk result (λ name. string_len name ≤ 255) }
+    ensures length { IfOk result (λ name. length (string_bytes name) ≤ 255) }
 {
     match env::var(rt, "HOSTNAME") {
         Ok(name) if !name.is_empty() && name.len() <= HOST_LIMIT => Ok(name),

@@ -8,6 +8,7 @@ use crate::paths::path_fault;
 use crate::reading::refused;
 use crate::sockets::Sockets;
 use sm_world::{Conn, Event, Failure, Links, Told};
+use std::io;
 
 /// The clients at a Unix socket, and the operators at another. What goes through them is told to
 /// nobody; each fault is counted.
@@ -60,15 +61,21 @@ impl SocketLinks {
             return Err(Failure::Failed);
         }
         match Doors::open(self.rt, socket, control) {
-            Ok(doors) => {
-                self.sockets = Some(Sockets::new(self.rt, doors).map_err(refused)?);
-                Ok(())
-            }
-            Err(Refusal { path, error }) => {
-                let _ = eprintln!(self.rt; "smd: cannot listen at {path}: {error}");
-                Err(refused(error))
-            }
+            Ok(doors) => match Sockets::new(self.rt, doors) {
+                Ok(sockets) => {
+                    self.sockets = Some(sockets);
+                    Ok(())
+                }
+                Err(error) => Err(self.report(socket, error)),
+            },
+            Err(Refusal { path, error }) => Err(self.report(path, error)),
         }
+    }
+
+    /// Tells the user why nobody listens at a path.
+    fn report(&self, path: &str, error: io::Error) -> Failure {
+        let _ = eprintln!(self.rt; "smd: cannot listen at {path}: {error}");
+        refused(error)
     }
 
     /// Counts a fault, where the answer is one.
