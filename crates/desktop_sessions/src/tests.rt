@@ -4,7 +4,7 @@ use session_engine::{ServeFault, serve};
 use sm_world::{Disk, Failure, Links};
 use std::io::{ErrorKind, Read, Write};
 use std::os::unix::net::UnixStream;
-use std::process::{Child, Command};
+use std::process::{Child, Command, Stdio};
 use std::test::Fail;
 use std::time::Duration;
 use std::{env, fs, io, process, thread};
@@ -62,6 +62,7 @@ fn start(rt: HostRuntime, room: &Room) -> io::Result<Child> {
     let mut command = Command::new(rt.alloc(), env::current_exe(&rt)?.as_str())?;
     command.arg("tests::as_manager")?;
     command.env(ROOM, room.start.as_str())?;
+    command.stdout(Stdio::null());
     command.spawn(&rt)
 }
 
