@@ -173,3 +173,42 @@ fn only_a_dead_socket_is_taken_over(rt: HostRuntime) -> Result<(), Fail> {
     links.close();
     Ok(())
 }
+
+#[test]
+fn ticks_come_while_a_client_speaks(rt: HostRuntime) -> Result<(), Fail> {
+    let paths = room(rt, "busy")?;
+    let mut links = open(rt, &paths)?;
+    let mut client = dial(rt, paths.socket.as_str())?;
+    let mut ticks = 0;
+    for _ in 0..10_000_000 {
+        if ticks == 2 {
+            break;
+        }
+        client.write_all(b"x")?;
+        if matches!(links.next(), Ok(Event::Tick(passed)) if passed >= 250) {
+            ticks += 1;
+        }
+    }
+    assert_eq!(rt; ticks, 2);
+    links.close();
+    Ok(())
+}
+
+#[test]
+fn a_client_with_much_to_say_lets_others_in(rt: HostRuntime) -> Result<(), Fail> {
+    let paths = room(rt, "flood")?;
+    let mut links = open(rt, &paths)?;
+    let mut first = dial(rt, paths.socket.as_str())?;
+    let mut second = dial(rt, paths.socket.as_str())?;
+    assert!(rt; matches!(next(&mut links), Event::Joined(1)));
+    assert!(rt; matches!(next(&mut links), Event::Joined(2)));
+    let many = vec![in rt.alloc(); b'a'; 100_000]?;
+    first.write_all(many.as_slice())?;
+    second.write_all(b"b")?;
+    let whole = &many[..65_536];
+    assert!(rt; is_piece(&next(&mut links), 1, whole));
+    assert!(rt; is_piece(&next(&mut links), 2, b"b"));
+    assert!(rt; is_piece(&next(&mut links), 1, &many[65_536..]));
+    links.close();
+    Ok(())
+}
