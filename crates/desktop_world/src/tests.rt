@@ -62,13 +62,15 @@ fn programs_know_where_the_manager_is(rt: HostRuntime) -> Result<(), Fail> {
     assert_eq!(rt; world.publish(authority.as_str(), b"x"), Ok(()));
     assert_eq!(rt; world.listen(socket.as_str(), control.as_str()), Ok(()));
     let said = path_of(rt, "said")?;
-    let script = format!(in alloc; "echo $SESSION_MANAGER $ICEAUTHORITY >{said}")?;
+    // None of our descriptors is the program's.
+    let ours = format!(in alloc; "$(ls -l /proc/$$/fd | grep -c -e eventpoll -e {store})")?;
+    let script = format!(in alloc; "echo $SESSION_MANAGER $ICEAUTHORITY {ours} >{said}")?;
     let started = match shell(alloc, script.as_str()) {
         Ok(command) => world.start(&command).ok(),
         Err(_) => None,
     };
     assert_eq!(rt; started, Some(true));
-    let wanted = format!(in alloc; "local/host:{socket} {authority}\n")?;
+    let wanted = format!(in alloc; "local/host:{socket} {authority} 0\n")?;
     assert_eq!(rt; line_of(rt, said.as_str())?.as_str(), wanted.as_str());
     world.close();
     for path in [&store, &authority, &said] {
