@@ -179,17 +179,15 @@ fn ticks_come_while_a_client_speaks(rt: HostRuntime) -> Result<(), Fail> {
     let paths = room(rt, "busy")?;
     let mut links = open(rt, &paths)?;
     let mut client = dial(rt, paths.socket.as_str())?;
-    let mut ticks = 0;
+    let mut ticked = false;
     for _ in 0..10_000_000 {
-        if ticks == 2 {
-            break;
-        }
         client.write_all(b"x")?;
         if matches!(links.next(), Ok(Event::Tick(passed)) if passed >= 250) {
-            ticks += 1;
+            ticked = true;
+            break;
         }
     }
-    assert_eq!(rt; ticks, 2);
+    assert!(rt; ticked);
     links.close();
     Ok(())
 }
