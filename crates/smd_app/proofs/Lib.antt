@@ -3,3 +3,4 @@ pub mod Heard
 pub mod Rehearsing
 pub mod Printing
 pub mod Excluding
+pub mod Wording

@@ -5,3 +5,4 @@ pub mod Rehearsals
 pub mod FaultLines
 pub mod Statuses
 pub mod Exclusions
+pub mod Words
