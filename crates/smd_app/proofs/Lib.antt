@@ -4,3 +4,5 @@ pub mod Rehearsing
 pub mod Printing
 pub mod Excluding
 pub mod Wording
+pub mod SessionLemmas
+pub mod Exercising

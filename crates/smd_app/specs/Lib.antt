@@ -6,3 +6,6 @@ pub mod FaultLines
 pub mod Statuses
 pub mod Exclusions
 pub mod Words
+pub mod Sessions
+pub mod Exercises
+pub mod Summaries

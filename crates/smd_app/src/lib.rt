@@ -1,6 +1,7 @@
 //! The session manager's top call: its words, its scripts and what it prints.
 #![tactic(auto)]
 
+mod exercise;
 mod fault;
 mod identity;
 mod laws;
@@ -15,13 +16,16 @@ mod rounds_tests;
 #[cfg(test)]
 mod rows;
 mod script;
+mod serving;
 #[cfg(test)]
 mod session_tests;
+mod summary;
 #[cfg(test)]
 mod tests;
 mod trace;
 #[cfg(test)]
 mod trace_tests;
+mod words;
 
 pub use identity::Identity;
 pub use laws::statuses_exclude_each_other;
