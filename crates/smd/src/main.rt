@@ -3,23 +3,29 @@
 
 ghost use Rattle.std.specs.Prelude.{◌≤◌, length};
 
+mod unserved;
+
+use crate::unserved::Unserved;
 use ice_cookie::Cookie;
+use program_frame::{OwnTexts, StandardConsole, read_words};
 use sm_world::Octets;
 use smd_app::{Identity, smd_main};
-use program_frame::{OwnTexts, StandardConsole, read_words};
 use std::alloc::Global;
 use std::process::ExitCode;
 
 const TEXTS: OwnTexts = OwnTexts {
     help: "smd, the session manager\n\n\
-        usage: smd rehearse < SCRIPT   shows what smd does at the events of a script\n\
+        usage: smd serve --socket P --control C --store F --authority A\n\
+        \x20                               serves a session; not on this machine yet\n\
+        \x20      smd rehearse < SCRIPT   shows what smd does at the events of a script\n\
+        \x20      smd exercise A N        saves eight clients N times in memory, and sums it up\n\
         \x20      smd --help              shows this\n\
         \x20      smd --version           shows the version\n",
     version: "smd 0.1.0\n",
     no_memory: "smd: no memory\n",
 };
 
-/// The identity for words that show none to anybody, as all words do today.
+/// An identity for a world in which nobody listens.
 fn nobody(alloc: Global) -> Identity
     ensures { length result.host ≤ 255 }
 {
@@ -32,8 +38,8 @@ fn nobody(alloc: Global) -> Identity
 fn main(rt: HostRuntime) -> ExitCode {
     let alloc = rt.alloc();
     let words = read_words(&rt);
-    let mut world = StandardConsole::new(rt);
-    let status = match TEXTS.begin(words, &mut world) {
+    let mut world = Unserved::new(StandardConsole::new(rt));
+    let status = match TEXTS.begin(words, &mut world.console) {
         Ok(words) => smd_main(alloc, words.as_slice(), &mut world, nobody(alloc), u64::MAX),
         Err(status) => status,
     };

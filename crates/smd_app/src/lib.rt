@@ -16,6 +16,8 @@ mod rounds_tests;
 #[cfg(test)]
 mod rows;
 mod script;
+#[cfg(test)]
+mod serve_tests;
 mod serving;
 #[cfg(test)]
 mod session_tests;

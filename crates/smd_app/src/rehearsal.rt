@@ -24,7 +24,7 @@ pub struct Rehearsal {
 }
 
 /// A store that nothing was written to: its bytes are 0.
-fn blank_store(alloc: Global) -> Result<Octets, NoMemory>
+pub fn blank_store(alloc: Global) -> Result<Octets, NoMemory>
     ensures { IfOk result IsBlank }
 {
     Ok(Octets::from_vec(vec![in alloc; 0; STORE_LEN]?))
