@@ -13,6 +13,7 @@ const TEXTS: OwnTexts = OwnTexts {
         usage: smd serve --socket P --control C --store F --authority A\n\
         \x20                               runs the session of a desktop\n\
         \x20      smd rehearse < SCRIPT   shows what smd does at the events of a script\n\
+        \x20      smd exercise A N        saves eight clients N times in memory, and sums it up\n\
         \x20      smd --help              shows this\n\
         \x20      smd --version           shows the version\n",
     version: "smd 0.1.0\n",

@@ -1,8 +1,0 @@
-use Rattle.std.proofs.Common.{map, string_bytes}
-use Rattle.std.proofs.lemmas.Bool.{false≢true}
-use Rattle.smd_app.proofs.Printing.{bad_words}
-use Rattle.smd_app.proofs.program.run_words.Goals as goal
-
-pub returns-else-are_one_word-clause-runs : goal.returns-else-are_one_word-clause-runs
-returns-else-are_one_word-clause-runs g c =
-    bad_words (map string_bytes c.args.words.now) (g.W.Told.outside c.args.world.now) c.args.turns (λ are. false≢true (c.if-are_one_word.ensures.1 are))
