@@ -6,9 +6,11 @@ failed=0
 smd_id=
 
 room=$(mktemp -d) || exit 1
+# For what syncs ten thousand times: a RAM disk, where there is one.
+quick=$(mktemp -d -p /dev/shm 2> /dev/null || mktemp -d -p "$room") || exit 1
 # The mark by which whatever was started from here is found again, also what smd started.
 export PEERS_ROOM=$room
-export HOSTNAME
+export HOSTNAME PYTHONDONTWRITEBYTECODE=1
 HOSTNAME=$(uname -n)
 
 # The processes that bear the mark.
@@ -27,10 +29,12 @@ clear_room() {
   send_all TERM
   within 5 nobody_left || send_all KILL
   within 5 nobody_left
-  rm -rf "$room"
+  rm -rf "$room" "$quick"
 }
 trap clear_room EXIT
 trap 'exit 1' HUP INT TERM
+# What is made by a relative path lies in the room too.
+cd "$room" || exit 1
 
 # within SECONDS WORD..: whether the words hold before so many seconds have passed.
 within() {

@@ -3,7 +3,7 @@
 # Each direction of a trace by itself, since both sides speak at once; what differs from run to run is left out.
 plain_trace() {
   for way in in out; do
-    grep "^$way " "$at/shown" | sed -E 's/(Reply proof)=.+/\1=../; s/(SetProperties) .*/\1 ../'
+    grep "^$way " "$at/shown" | sed -E 's/(Reply proof)=.+/\1=../; s/(=\[[0-9a-f]+:[0-9a-f]+):.+/\1:..]/'
   done
 }
 
