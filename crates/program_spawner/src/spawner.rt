@@ -1,5 +1,4 @@
-ghost use Rattle.std.specs.Prelude.{◌≡◌, ◌≤◌, Ok, false};
-ghost use Rattle.sm_world.specs.Outside.{Rose};
+ghost use Rattle.std.specs.Prelude.{◌≡◌};
 ghost use Rattle.program_spawner.specs.Untold.{spawner_outside};
 
 use sm_world::{Command, NoMemory, Octets, Spawner, Told};

@@ -1,5 +1,4 @@
-ghost use Rattle.std.specs.Prelude.{◌≡◌, ◌≤◌, IsErrOf, IfOk};
-ghost use Rattle.sm_world.specs.Events.{HasPieceSize};
+ghost use Rattle.std.specs.Prelude.{◌≡◌, ◌≤◌, IsErrOf};
 ghost use Rattle.sm_world.specs.Outside.{Rose};
 ghost use Rattle.unix_links.specs.Untold.{links_outside};
 
