@@ -22,8 +22,13 @@ def say(*words):
     print("  ", *words, flush=True)
 
 
+def answer_held(client, left):
+    """Answers what has come to a client that saves again and again."""
+    while client.held:
+        answer(client, left)
+
+
 def answer(client, left):
-    """Takes one message of a client that saves again and again."""
     _, minor, _, body = client.next()
     if minor == xsmp.SAVE:
         xsmp.save(client, [b"true"])
@@ -40,17 +45,17 @@ def crowd(manager, count=64, saves=157):
     manager.start()
     left = {manager.join()[0]: saves for _ in range(count)}
     waits = selectors.DefaultSelector()
+    began = time.monotonic()
     for client in left:
         waits.register(client.socket, selectors.EVENT_READ, client)
-    began = time.monotonic()
+        answer_held(client, left)
     while any(left.values()):
         ready = waits.select(30)
         if not ready:
             raise TimeoutError("nobody is asked to save")
         for key, _ in ready:
             answer(key.data, left)
-            while key.data.held:
-                answer(key.data, left)
+            answer_held(key.data, left)
     say("%d rounds of %d clients in %.1f seconds" % (count * saves, count, time.monotonic() - began))
     manager.expect("status", "connections %d, records %d, pending 0, epoch 1, idle" % (count, count))
     for client in left:
