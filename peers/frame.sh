@@ -13,10 +13,11 @@ export PEERS_ROOM=$room TMPDIR=$room
 export HOSTNAME PYTHONDONTWRITEBYTECODE=1
 HOSTNAME=$(uname -n)
 
-# The processes that bear the mark.
-marked() {
-  env -u PEERS_ROOM grep -lzx "PEERS_ROOM=$room" /proc/[0-9]*/environ 2> /dev/null | cut -d / -f 3
-}
+# The processes that bear the mark, without those that look for it.
+marked() (
+  unset PEERS_ROOM
+  grep -lzx "PEERS_ROOM=$room" /proc/[0-9]*/environ 2> /dev/null | cut -d / -f 3
+)
 
 nobody_left() { [ -z "$(marked)" ]; }
 

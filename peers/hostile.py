@@ -4,6 +4,7 @@
 Each test runs a manager of its own in the folder. It ends with 0 where all was as it has to be.
 """
 import random
+import re
 import selectors
 import signal
 import sys
@@ -207,6 +208,22 @@ def noted(clients):
     return int(numbers.pop())
 
 
+def opened(manager, epoch):
+    """The epoch of a manager that has opened the checkpoint of eight clients, later than the one before."""
+    line = manager.order("status")
+    found = re.fullmatch("connections 0, records 8, pending 0, epoch ([0-9]+), idle", line)
+    if not found or int(found[1]) <= epoch:
+        raise ValueError("%s, behind epoch %d" % (line, epoch))
+    return int(found[1])
+
+
+def kill_opening(manager):
+    """Kills a manager that is at its start, which may not listen yet."""
+    manager.begin()
+    time.sleep(random.uniform(0, 0.05))
+    manager.kill()
+
+
 def killed(manager, times=200):
     """A manager that is killed at any moment during rounds opens its store again each time."""
     random.seed(11)
@@ -216,16 +233,18 @@ def killed(manager, times=200):
     round_of(clients, 1)
     # A few rounds long, however fast the machine is.
     most = 5 * (time.monotonic() - began)
-    number = rounds_until_killed(manager, clients, 1, most)
+    epoch, number = 1, rounds_until_killed(manager, clients, 1, most)
     for turn in range(times):
+        if turn % 4 == 0:
+            kill_opening(manager)
         manager.start()
-        manager.expect("status", "connections 0, records 8, pending 0, epoch %d, idle" % (turn + 2))
+        epoch = opened(manager, epoch)
         clients = [manager.join(own)[0] for own in owns]
         found = noted(clients)
         if found not in (number, number + 1):
             raise ValueError("round %d was complete, and the checkpoint is of round %d" % (number, found))
         number = rounds_until_killed(manager, clients, found, most)
-    say("killed %d times in %d rounds" % (times + 1, number))
+    say("killed %d times in %d rounds, and %d times at its start" % (times + 1, number, (times + 3) // 4))
     manager.start()
     manager.shutdown()
 
