@@ -9,14 +9,15 @@ room=$(mktemp -d) || exit 1
 # For what syncs ten thousand times: a RAM disk, where there is one.
 quick=$(mktemp -d -p /dev/shm 2> /dev/null || mktemp -d -p "$room") || exit 1
 # The mark by which whatever was started from here is found again, also what smd started.
-export PEERS_ROOM=$room
+export PEERS_ROOM=$room TMPDIR=$room
 export HOSTNAME PYTHONDONTWRITEBYTECODE=1
 HOSTNAME=$(uname -n)
 
-# The processes that bear the mark.
-marked() {
-  env -u PEERS_ROOM grep -lzx "PEERS_ROOM=$room" /proc/[0-9]*/environ 2> /dev/null | cut -d / -f 3
-}
+# The processes that bear the mark, without those that look for it.
+marked() (
+  unset PEERS_ROOM
+  grep -lzx "PEERS_ROOM=$room" /proc/[0-9]*/environ 2> /dev/null | cut -d / -f 3
+)
 
 nobody_left() { [ -z "$(marked)" ]; }
 

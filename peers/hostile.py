@@ -4,6 +4,7 @@
 Each test runs a manager of its own in the folder. It ends with 0 where all was as it has to be.
 """
 import random
+import re
 import selectors
 import signal
 import sys
@@ -22,8 +23,13 @@ def say(*words):
     print("  ", *words, flush=True)
 
 
+def answer_held(client, left):
+    """Answers what has come to a client that saves again and again."""
+    while client.held:
+        answer(client, left)
+
+
 def answer(client, left):
-    """Takes one message of a client that saves again and again."""
     _, minor, _, body = client.next()
     if minor == xsmp.SAVE:
         xsmp.save(client, [b"true"])
@@ -40,17 +46,17 @@ def crowd(manager, count=64, saves=157):
     manager.start()
     left = {manager.join()[0]: saves for _ in range(count)}
     waits = selectors.DefaultSelector()
+    began = time.monotonic()
     for client in left:
         waits.register(client.socket, selectors.EVENT_READ, client)
-    began = time.monotonic()
+        answer_held(client, left)
     while any(left.values()):
         ready = waits.select(30)
         if not ready:
             raise TimeoutError("nobody is asked to save")
         for key, _ in ready:
             answer(key.data, left)
-            while key.data.held:
-                answer(key.data, left)
+            answer_held(key.data, left)
     say("%d rounds of %d clients in %.1f seconds" % (count * saves, count, time.monotonic() - began))
     manager.expect("status", "connections %d, records %d, pending 0, epoch 1, idle" % (count, count))
     for client in left:
@@ -202,6 +208,22 @@ def noted(clients):
     return int(numbers.pop())
 
 
+def opened(manager, epoch):
+    """The epoch of a manager that has opened the checkpoint of eight clients, later than the one before."""
+    line = manager.order("status")
+    found = re.fullmatch("connections 0, records 8, pending 0, epoch ([0-9]+), idle", line)
+    if not found or int(found[1]) <= epoch:
+        raise ValueError("%s, behind epoch %d" % (line, epoch))
+    return int(found[1])
+
+
+def kill_opening(manager):
+    """Kills a manager that is at its start, which may not listen yet."""
+    manager.begin()
+    time.sleep(random.uniform(0, 0.05))
+    manager.kill()
+
+
 def killed(manager, times=200):
     """A manager that is killed at any moment during rounds opens its store again each time."""
     random.seed(11)
@@ -211,16 +233,18 @@ def killed(manager, times=200):
     round_of(clients, 1)
     # A few rounds long, however fast the machine is.
     most = 5 * (time.monotonic() - began)
-    number = rounds_until_killed(manager, clients, 1, most)
+    epoch, number = 1, rounds_until_killed(manager, clients, 1, most)
     for turn in range(times):
+        if turn % 4 == 0:
+            kill_opening(manager)
         manager.start()
-        manager.expect("status", "connections 0, records 8, pending 0, epoch %d, idle" % (turn + 2))
+        epoch = opened(manager, epoch)
         clients = [manager.join(own)[0] for own in owns]
         found = noted(clients)
         if found not in (number, number + 1):
             raise ValueError("round %d was complete, and the checkpoint is of round %d" % (number, found))
         number = rounds_until_killed(manager, clients, found, most)
-    say("killed %d times in %d rounds" % (times + 1, number))
+    say("killed %d times in %d rounds, and %d times at its start" % (times + 1, number, (times + 3) // 4))
     manager.start()
     manager.shutdown()
 

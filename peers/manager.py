@@ -14,8 +14,8 @@ class Manager:
             os.path.join(room, name) for name in ("socket", "control", "store", "authority")
         ]
 
-    def start(self, seconds=30):
-        """Gives back once smd has printed where it listens."""
+    def begin(self):
+        """Starts smd and doesn't wait for anything."""
         paths = ["--socket", self.socket, "--control", self.control, "--store", self.store, "--authority", self.authority]
         self.process = subprocess.Popen(
             [self.smd, "serve", *paths],
@@ -23,6 +23,10 @@ class Manager:
             stdout=subprocess.PIPE,
             env={**os.environ, "HOSTNAME": os.uname().nodename},
         )
+
+    def start(self, seconds=30):
+        """Gives back once smd has printed where it listens."""
+        self.begin()
         if not select.select([self.process.stdout], [], [], seconds)[0]:
             raise TimeoutError("smd printed nothing")
         line = os.read(self.process.stdout.fileno(), 4096)
