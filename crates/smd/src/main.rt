@@ -4,9 +4,9 @@
 ghost use Rattle.std.specs.Prelude.{◌≤◌, length};
 
 use ice_cookie::Cookie;
-use sm_world::{Console, Octets};
+use sm_world::Octets;
 use smd_app::{Identity, smd_main};
-use standard_console::{OwnTexts, StandardConsole, read_words};
+use program_frame::{OwnTexts, StandardConsole, read_words};
 use std::alloc::Global;
 use std::process::ExitCode;
 
@@ -16,6 +16,7 @@ const TEXTS: OwnTexts = OwnTexts {
         \x20      smd --help              shows this\n\
         \x20      smd --version           shows the version\n",
     version: "smd 0.1.0\n",
+    no_memory: "smd: no memory\n",
 };
 
 /// The identity for words that show none to anybody, as all words do today.
@@ -28,26 +29,13 @@ fn nobody(alloc: Global) -> Identity
     }
 }
 
-/// The status of a run with these words.
-fn answer(alloc: Global, words: &[String], world: &mut StandardConsole) -> u8 {
-    match TEXTS.answer(words) {
-        Some(text) if world.print(text.as_bytes()).is_ok() => 0,
-        Some(_) => 6,
-        None => smd_main(alloc, words, world, nobody(alloc), u64::MAX),
-    }
-}
-
 fn main(rt: HostRuntime) -> ExitCode {
     let alloc = rt.alloc();
     let words = read_words(&rt);
     let mut world = StandardConsole::new(rt);
-    let status = match words {
-        Ok(words) => answer(alloc, words.as_slice(), &mut world),
-        // Nothing else keeps the words from being read.
-        Err(_) => {
-            let _ = world.print(b"smd: no memory\n");
-            10
-        }
+    let status = match TEXTS.begin(words, &mut world) {
+        Ok(words) => smd_main(alloc, words.as_slice(), &mut world, nobody(alloc), u64::MAX),
+        Err(status) => status,
     };
     ExitCode::from(status)
 }

@@ -3,7 +3,7 @@ use Rattle.std.specs.Prelude.{ℕ, List, ◌++◌, codes, Option, Some, None}
 use Rattle.std.specs.Fmt.{decimal}
 use Rattle.sm_world.specs.declared.failures.Failure.{Failure}
 use Rattle.sm_world.specs.declared.failures.Failure.TheVariants.{Failed, NoMemory as DeviceMemory}
-use Rattle.control_lines.specs.Printing.{line}
+use Rattle.program_frame.specs.Printing.{line}
 use Rattle.smd_app.specs.declared.script.ScriptFault.{ScriptFault}
 use Rattle.smd_app.specs.declared.script.ScriptFault.TheVariants.{BadLine as FirstBadLine, NoMemory as ScriptMemory}
 use Rattle.smd_app.specs.declared.fault.Fault.{Fault}

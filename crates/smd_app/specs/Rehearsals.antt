@@ -6,7 +6,7 @@ use Rattle.checkpoint_records.specs.Books.{empty_book}
 use Rattle.ice_cookie.specs.declared.cookies.Cookie.{Cookie}
 use Rattle.session_engine.specs.Carries.{script, run}
 use Rattle.session_engine.specs.Acts.{has_finish}
-use Rattle.control_lines.specs.Input.{front}
+use Rattle.program_frame.specs.Input.{front}
 use Rattle.smd_app.specs.Script.{ScriptSays}
 use Rattle.smd_app.specs.Trace.{text}
 use Rattle.smd_app.specs.declared.rehearsal.Rehearsal.{Rehearsal}

@@ -3,7 +3,7 @@ use Rattle.std.specs.Prelude.{◌≡◌, ℕ, List, [], ◌∷◌, codes, Result
 use Rattle.sm_world.specs.Outside.{Outside, Rose}
 use Rattle.sm_world.specs.declared.effects.Effect.{Effect}
 use Rattle.sm_world.specs.declared.events.Event.{Event}
-use Rattle.control_lines.specs.Programs.{RunsAs, AnswersAs, status_by, line_by}
+use Rattle.program_frame.specs.Programs.{RunsAs, AnswersAs, status_by, line_by}
 use Rattle.smd_app.specs.FaultLines.{fault_line, fault_status}
 use Rattle.smd_app.specs.Rehearsals.{script_of, Finishes, Outlasts, whole_trace, first_trace}
 use Rattle.smd_app.specs.Script.{IsFirstBad}

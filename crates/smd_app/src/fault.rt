@@ -1,11 +1,9 @@
 ghost use Rattle.std.specs.Prelude.{◌≡◌};
-ghost use Rattle.sm_world.specs.Outside.{Added, NotFallen};
-ghost use Rattle.control_lines.specs.Printing.{Tries};
 ghost use Rattle.smd_app.specs.FaultLines.{console_fault, script_fault, fault_status, fault_line};
-ghost use Rattle.smd_app.specs.declared.fault.Fault.TheVariants.{Console as ConsoleFault, NoMemory as OutOfMemory};
+ghost use Rattle.smd_app.specs.declared.fault.Fault.TheVariants.{NoMemory as OutOfMemory};
 
 use crate::script::ScriptFault;
-use control_lines::try_line;
+use program_frame::{ProgramFault, try_line, try_numbered};
 use sm_world::{Console, Failure, NoMemory};
 use std::alloc::Global;
 
@@ -50,10 +48,12 @@ impl From<ScriptFault> for Fault {
     }
 }
 
-impl Fault {
-    pub fn status(self) -> u8
-        ensures { result ≡ fault_status self }
-    {
+impl ProgramFault for Fault {
+    ghost status_of = { fault_status };
+
+    ghost line_of = { fault_line };
+
+    fn status(self) -> u8 {
         match self {
             Fault::BadWords => 1,
             Fault::Console => 6,
@@ -63,19 +63,12 @@ impl Fault {
         }
     }
 
-    /// Prints the line of the fault, once. A refusal changes nothing more.
-    pub fn report<W: Console>(self, alloc: Global, world: &mut W)
-        ensures tried { Added (W.outside world.old).told (W.outside world.new).told (Tries (fault_line self)) }
-        ensures counts { NotFallen (W.outside world.old).faults (W.outside world.new).faults }
-        ensures silent { self ≡ ConsoleFault → W.outside world.new ≡ W.outside world.old }
-    {
+    fn report<W: Console>(self, alloc: Global, world: &mut W) {
         match self {
             Fault::BadWords => try_line(world, b"smd: bad words\n"),
             Fault::Console => {}
             Fault::BadLine(number) => {
-                if let Ok(line) = format!(in alloc; "smd: bad script line {number}\n") {
-                    try_line(world, line.as_bytes());
-                }
+                try_numbered(alloc, world, "smd: bad script line ", number);
             }
             Fault::Spent => try_line(world, b"smd: turns spent\n"),
             Fault::NoMemory => try_line(world, b"smd: no memory\n"),

@@ -6,7 +6,7 @@ use crate::fault::Fault;
 use crate::identity::Identity;
 use crate::rehearsal::run_in_memory;
 use crate::script::{SCRIPT_LIMIT, read_script};
-use control_lines::{are_one_word, read_input};
+use program_frame::{are_one_word, conclude, read_input};
 use sm_world::Console;
 use std::alloc::Global;
 
@@ -61,11 +61,6 @@ pub fn smd_main<W: Console>(
 {
     // No words ask for it yet: a rehearsal has a cookie of its own.
     drop(identity);
-    match run_words(alloc, words, world, turns) {
-        Ok(()) => 0,
-        Err(fault) => {
-            fault.report(alloc, world);
-            fault.status()
-        }
-    }
+    let ending = run_words(alloc, words, world, turns);
+    conclude(alloc, world, ending)
 }

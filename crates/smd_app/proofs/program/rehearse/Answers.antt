@@ -1,6 +1,6 @@
 use Rattle.std.proofs.Common.{◌+◌}
-use Rattle.control_lines.proofs.InputLemmas.{err_is}
-use Rattle.control_lines.proofs.ProgramLemmas.{took}
+use Rattle.program_frame.proofs.InputLemmas.{err_is}
+use Rattle.program_frame.proofs.ProgramLemmas.{took}
 use Rattle.smd_app.proofs.Printing.{read_refused, script_refused, run_refused, print_refused, run_ended, run_spent}
 use Rattle.smd_app.specs.declared.script.TheConstants.{SCRIPT_LIMIT}
 use Rattle.smd_app.proofs.program.rehearse.Goals as goal

@@ -1,4 +1,4 @@
-use Rattle.control_lines.proofs.InputLemmas.{err_is}
+use Rattle.program_frame.proofs.InputLemmas.{err_is}
 use Rattle.smd_app.proofs.ScriptLemmas.{still_refused}
 use Rattle.smd_app.proofs.script.take_line.Goals as goal
 
