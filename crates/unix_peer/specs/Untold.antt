@@ -1,7 +1,7 @@
 -- What a real client's outside tells: how often its connection and files failed, and its console, and nothing else.
 use Rattle.std.specs.Prelude.{None}
 use Rattle.sm_world.specs.Outside.{Outside}
-use Rattle.standard_console.specs.Untold.{console_outside}
+use Rattle.program_frame.specs.Untold.{console_outside}
 use Rattle.unix_peer.specs.declared.peer.UnixPeer.{UnixPeer}
 
 abbrev pub peer_outside : UnixPeer → Outside

@@ -1,12 +1,12 @@
 ghost use Rattle.std.specs.Prelude.{◌≡◌};
 ghost use Rattle.sm_world.specs.declared.failures.Failure.TheVariants.{Failed as HasFailed};
-ghost use Rattle.standard_console.specs.Untold.{CountsFault};
+ghost use Rattle.program_frame.specs.Untold.{CountsFault};
 ghost use Rattle.unix_peer.specs.Untold.{peer_outside};
 
 use crate::reading::{read_file, read_some};
 use client_peer::{FILE_LIMIT, Peer};
 use sm_world::{Console, Failure, Octets, Told};
-use standard_console::StandardConsole;
+use program_frame::StandardConsole;
 use std::io::{ErrorKind, Write};
 use std::os::unix::net::UnixStream;
 

@@ -1,0 +1,79 @@
+ghost use Rattle.std.specs.Prelude.{◌≡◌, ◌≤◌, length, [], false, pos};
+ghost use Rattle.client_callbacks.specs.Answers.{AreFew};
+ghost use Rattle.client_machine.specs.Saves.{IsLawful};
+ghost use Rattle.smclient_app.specs.Joining.{JoinsBy, Ran};
+ghost use Rattle.smclient_app.specs.Rules.{Remembers};
+
+use crate::rules;
+use client_callbacks::{Cancels, ClientEnd, Dies, Join, JoinFault, Joiner, Saves};
+use client_machine::{SaveAnswer, SaveAsk, Stage};
+use client_peer::Peer;
+use client_words::Choices;
+use ice_values::Array8List;
+use std::alloc::Global;
+
+/// Runs a client with these callbacks, and hands the one that saves back.
+fn follow<P: Peer, S: Saves + Drop, D: Dies + Drop, C: Cancels + Drop>(
+    alloc: Global,
+    peer: &mut P,
+    join: &mut Join,
+    turns: u64,
+    callbacks: (S, D, C),
+    answer: &mut Result<ClientEnd, JoinFault>,
+) -> S
+    requires save { S.lawful callbacks.0 }
+    requires die { D.lawful callbacks.1 }
+    requires cancelled { C.lawful callbacks.2 }
+    requires saves { 1 ≤ join.old.saves }
+    requires previous { length join.old.previous ≤ 512 }
+    ensures ran { Ran S.answers D.gives C.hears (P.outside peer.old) (P.outside peer.new) join.old join.new.lines turns (record { save = callbacks.0; die = callbacks.1; cancelled = callbacks.2 }) result answer.new }
+    ensures kept { join.new ≡ record join.old { lines = join.new.lines } }
+{
+    let (save, die, cancelled) = callbacks;
+    let mut joiner = Joiner::new(save, die, cancelled);
+    *answer = joiner.run(alloc, peer, join, turns);
+    let (save, _die, _cancelled) = joiner.parts();
+    save
+}
+
+/// Joins a session behind a peer that is connected, as the words say, and notes what happens in the
+/// lines of `join`. A client that wants for memory while it saves tells the manager that it couldn't,
+/// and the call tells that memory was wanting whatever else happened.
+pub fn join_session<P: Peer>(
+    alloc: Global,
+    peer: &mut P,
+    choices: &Choices<'_>,
+    join: &mut Join,
+    turns: u64,
+) -> Result<ClientEnd, JoinFault>
+    requires saves { 1 ≤ join.old.saves }
+    requires previous { length join.old.previous ≤ 512 }
+    requires program { length choices.now.program.now ≤ 512 }
+    ensures joins { JoinsBy choices.now (P.outside peer.old) (P.outside peer.new) join.old join.new.lines turns result }
+    ensures kept { join.new ≡ record join.old { lines = join.new.lines } }
+{
+    let mut talked = false;
+    let mut missing = 0i32;
+    let mut answer = Err(JoinFault::NoMemory);
+    {
+        let save = |ask: SaveAsk| -> SaveAnswer
+            requires { length choices.now.program.now ≤ 512 }
+            ensures lawful { IsLawful ask result }
+            ensures remembers { Remembers choices.now talked.entry missing.entry ask result talked.exit missing.exit }
+        {
+            let answer = rules::answer(alloc, choices, ask, talked, &mut missing);
+            talked = ask.stage == Stage::Talking;
+            answer
+        };
+        let die = || -> Array8List
+            ensures few { AreFew result }
+            ensures none { result ≡ [] }
+        { Array8List::new(alloc) };
+        let _save = follow(alloc, peer, join, turns, (save, die, || {}), &mut answer);
+    }
+    if missing == 0 {
+        answer
+    } else {
+        Err(JoinFault::NoMemory)
+    }
+}
