@@ -48,7 +48,7 @@ IsEarly choices old new Malformed = ⊥
 -- what a client joins with: the cookie of the file, and what the words give
 pub record IsReady (choices : Choices) (files : Option (List (List ℕ × List ℕ))) (join : Join) : Type 0 where
   pub file : FileIs files choices.authority.now (λ bytes. HasCookie choices.socket.now bytes join.cookie)
-  pub join : join ≡ record { cookie = join.cookie; previous = choices.id.now; saves = choices.saves; lines = [] }
+  pub is : join ≡ record { cookie = join.cookie; previous = choices.id.now; saves = choices.saves; lines = [] }
 
 -- a client that remembers this, in a world that tells these effects and counts
 abbrev pub at_desk : List Effect → Faults → List (List ℕ) → Bool → Desk Bool (Unit {0}) (Unit {0})

@@ -1,5 +1,5 @@
-ghost use Rattle.std.specs.Prelude.{◌≡◌, ◌∷◌, IsTrue, find, length, option_map, IfErr, IfOk};
-ghost use Rattle.smclient_app.specs.Entries.{lets_in, ends_in, HasCookie, IsEntryRefusal};
+ghost use Rattle.std.specs.Prelude.{◌≡◌, ◌∷◌, IsTrue, find, length, option_copied, IfErr, IfOk, IfSome};
+ghost use Rattle.smclient_app.specs.Entries.{lets_in, HasCookie, IsEntryRefusal};
 
 use ice_cookie::{AuthorityEntry, AuthorityRefusal, Cookie, read_authority};
 use std::alloc::Global;
@@ -33,13 +33,14 @@ fn cookie_of(proof: &[u8]) -> Cookie
     Cookie(bytes)
 }
 
-/// The cookie of the first entry that is so.
-fn first_cookie(entries: &[AuthorityEntry], end: &[u8]) -> Option<Cookie>
-    ensures { option_map (λ cookie. cookie.0) result ≡ option_map (λ entry. entry.proof) (find (lets_in end.now) entries.now) }
+/// The first entry that is so.
+fn first_entry<'a>(entries: &'a [AuthorityEntry], end: &[u8]) -> Option<&'a AuthorityEntry>
+    ensures first { option_copied result ≡ find (lets_in end.now) entries.now }
+    ensures whole { IfSome result (λ entry. length entry.now.proof ≡ 16) }
 {
     for entry in entries {
         if is_for(entry, end) {
-            return Some(cookie_of(entry.proof.as_slice()));
+            return Some(entry);
         }
     }
     None
@@ -61,8 +62,8 @@ pub fn read_cookie(alloc: Global, bytes: &[u8], socket: &str) -> Result<Cookie, 
         Ok(end) => end,
         Err(_) => return Err(EntryRefusal::NoMemory),
     };
-    match first_cookie(entries.as_slice(), end.as_bytes()) {
-        Some(cookie) => Ok(cookie),
+    match first_entry(entries.as_slice(), end.as_bytes()) {
+        Some(entry) => Ok(cookie_of(entry.proof.as_slice())),
         None => Err(EntryRefusal::NoEntry),
     }
 }

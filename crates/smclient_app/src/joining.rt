@@ -59,7 +59,7 @@ pub fn join_session<P: Peer>(
         let save = |ask: SaveAsk| -> SaveAnswer
             requires { length choices.now.program.now ≤ 512 }
             ensures lawful { IsLawful ask result }
-            ensures remembers { Remembers choices.now talked.entry missing.entry ask result talked.exit missing.exit }
+            ensures remembers { Remembers choices.entry.now talked.entry missing.entry ask result talked.exit missing.exit }
         {
             let answer = rules::answer(alloc, choices, ask, talked, &mut missing);
             talked = ask.stage == Stage::Talking;
