@@ -36,7 +36,7 @@ answers_in (Err Spent) choices talked ask answer after h = h
 answers_in (Err NoMemory) choices talked ask answer after h = (inl h.0, h.1)
 
 module _ {S D C : Type 0} (answers : S → SaveAsk → SaveAnswer → S → Type 0) (gives : D → List (List ℕ) → D → Type 0) (hears : C → C → Type 0) (choices_of : S → Choices) (talked_of : S → Bool) (missing_of : S → ℤ) (sound : (f : S) (ask : SaveAsk) (answer : SaveAnswer) (g : S) → answers f ask answer g → (choices_of g ≡ choices_of f) × Remembers (choices_of f) (talked_of f) (missing_of f) ask answer (talked_of g) (missing_of g)) (silent : (d : D) (reasons : List (List ℕ)) (e : D) → gives d reasons e → reasons ≡ []) where
-  image : Callbacks S D C → Memory
+  abbrev image : Callbacks S D C → Memory
   image c = remembers (talked_of c.save)
 
   stays_missing : (entries : List Entry) (old new : Callbacks S D C) → missing_of old.save ≡ pos 1 → Follows answers gives hears entries old new → missing_of new.save ≡ pos 1
@@ -81,7 +81,7 @@ module _ {S D C : Type 0} (answers : S → SaveAsk → SaveAnswer → S → Type
   strict result (Notes line ∷ more) old new choices is follows none = strict result more old new choices is follows none
 
   module _ (old new : Outside) (join : Join) (lines : List (List ℕ)) (turns : ℕ) (callbacks : Callbacks S D C) (save : S) (result : Result ClientEnd JoinFault) (ran : Ran answers gives hears old new join lines turns callbacks save result) (choices : Choices) (is : choices_of callbacks.save ≡ choices) (begins : talked_of callbacks.save ≡ false) where
-    last : Callbacks S D C
+    abbrev last : Callbacks S D C
     last = record { save = save; die = ran.die; cancelled = ran.cancelled }
 
     -- Memory wasn't wanting, and the client's answers are those of the words.

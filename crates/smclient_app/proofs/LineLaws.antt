@@ -1,5 +1,5 @@
 -- Lines that are printed one after the other.
-use Rattle.std.proofs.Common.{◌≡◌, ℕ, ◌+◌, ◌<◌, ◌≤◌, List, [], ◌∷◌, ◌++◌, length, take, drop, slice_index_or, map, Option, Result, Ok, Err, IsErrOf, refl, sym, ◌∙◌, ap}
+use Rattle.std.proofs.Common.{◌≡◌, ℕ, ◌+◌, ◌<◌, ◌≤◌, List, [], ◌∷◌, ◌++◌, length, take, drop, slice_index_or, map, Option, Result, Ok, Err, IsErrOf, IsOk, refl, sym, ◌∙◌, ap, arith}
 use Rattle.std.proofs.lemmas.List.{append-nil, map-append, take-append-drop, take_all, take_more}
 use Rattle.sm_world.specs.Outside.{Outside, Added, adds, on_ok, NotFallen, Rose, UsesConsole}
 use Rattle.sm_world.specs.declared.effects.Effect.{Effect}
@@ -42,9 +42,16 @@ one_printed all k l old mid new inside is so_far told counts =
     })
 
 -- some of the lines were printed
-pub some_printed : (all : List (List ℕ)) (k : ℕ) (result : Result (Unit {0}) Failure) (old new : Outside) → PrintedSoFar (take k all) old new → (result ≡ Ok tt → drop k all ≡ []) → Added old.told new.told (PrintsFirst all result)
+pub some_printed : (all : List (List ℕ)) (k : ℕ) (result : Result (Unit {0}) Failure) (old new : Outside) → PrintedSoFar (take k all) old new → (IsOk result → drop k all ≡ []) → Added old.told new.told (PrintsFirst all result)
 some_printed all k result old new so_far none = record {
   effects = map Printed (map line (take k all));
   added = so_far.told;
   holds = record { done = take k all; left = drop k all; parts = take-append-drop k all; all = none; printed = refl };
+}
+
+-- a line that was refused
+pub unprinted : (lines : List (List ℕ)) (old mid new : Outside) → PrintedSoFar lines old mid → new.told ≡ adds mid.told [] → NotFallen mid.faults new.faults → PrintedSoFar lines old new
+unprinted lines old mid new so_far told counts = record {
+  told = told ∙ (adds-none mid.told ∙ so_far.told);
+  counts = fallen_never old.faults mid.faults new.faults so_far.counts counts;
 }

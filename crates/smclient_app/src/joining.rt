@@ -1,12 +1,9 @@
 ghost use Rattle.std.specs.Prelude.{◌≡◌, ◌≤◌, length, [], false, pos};
 ghost use Rattle.client_callbacks.specs.Answers.{AreFew};
-ghost use Rattle.client_machine.specs.Saves.{IsLawful};
 ghost use Rattle.smclient_app.specs.Joining.{JoinsBy, Ran};
-ghost use Rattle.smclient_app.specs.Rules.{Remembers};
 
-use crate::rules;
+use crate::rules::Saver;
 use client_callbacks::{Cancels, ClientEnd, Dies, Join, JoinFault, Joiner, Saves};
-use client_machine::{SaveAnswer, SaveAsk, Stage};
 use client_peer::Peer;
 use client_words::Choices;
 use ice_values::Array8List;
@@ -18,18 +15,19 @@ fn follow<P: Peer, S: Saves + Drop, D: Dies + Drop, C: Cancels + Drop>(
     peer: &mut P,
     join: &mut Join,
     turns: u64,
-    callbacks: (S, D, C),
+    save: S,
+    others: (D, C),
     answer: &mut Result<ClientEnd, JoinFault>,
 ) -> S
-    requires save { S.lawful callbacks.0 }
-    requires die { D.lawful callbacks.1 }
-    requires cancelled { C.lawful callbacks.2 }
+    requires save { S.lawful save }
+    requires die { D.lawful others.0 }
+    requires cancelled { C.lawful others.1 }
     requires saves { 1 ≤ join.old.saves }
     requires previous { length join.old.previous ≤ 512 }
-    ensures ran { Ran S.answers D.gives C.hears (P.outside peer.old) (P.outside peer.new) join.old join.new.lines turns (record { save = callbacks.0; die = callbacks.1; cancelled = callbacks.2 }) result answer.new }
+    ensures ran { Ran S.answers D.gives C.hears (P.outside peer.old) (P.outside peer.new) join.old join.new.lines turns (record { save = save; die = others.0; cancelled = others.1 }) result answer.new }
     ensures kept { join.new ≡ record join.old { lines = join.new.lines } }
 {
-    let (save, die, cancelled) = callbacks;
+    let (die, cancelled) = others;
     let mut joiner = Joiner::new(save, die, cancelled);
     *answer = joiner.run(alloc, peer, join, turns);
     let (save, _die, _cancelled) = joiner.parts();
@@ -52,26 +50,27 @@ pub fn join_session<P: Peer>(
     ensures joins { JoinsBy choices.now (P.outside peer.old) (P.outside peer.new) join.old join.new.lines turns result }
     ensures kept { join.new ≡ record join.old { lines = join.new.lines } }
 {
-    let mut talked = false;
-    let mut missing = 0i32;
+    let saver = Saver {
+        alloc,
+        choices,
+        talked: false,
+        missing: 0,
+    };
+    let die = || -> Array8List
+        ensures few { AreFew result }
+        ensures none { result ≡ [] }
+    { Array8List::new(alloc) };
     let mut answer = Err(JoinFault::NoMemory);
-    {
-        let save = |ask: SaveAsk| -> SaveAnswer
-            requires { length choices.now.program.now ≤ 512 }
-            ensures lawful { IsLawful ask result }
-            ensures remembers { Remembers choices.entry.now talked.entry missing.entry ask result talked.exit missing.exit }
-        {
-            let answer = rules::answer(alloc, choices, ask, talked, &mut missing);
-            talked = ask.stage == Stage::Talking;
-            answer
-        };
-        let die = || -> Array8List
-            ensures few { AreFew result }
-            ensures none { result ≡ [] }
-        { Array8List::new(alloc) };
-        let _save = follow(alloc, peer, join, turns, (save, die, || {}), &mut answer);
-    }
-    if missing == 0 {
+    let saver = follow(
+        alloc,
+        peer,
+        join,
+        turns,
+        saver,
+        (die, || {}),
+        &mut answer,
+    );
+    if saver.missing == 0 {
         answer
     } else {
         Err(JoinFault::NoMemory)

@@ -3,6 +3,7 @@ ghost use Rattle.client_machine.specs.Saves.{IsLawful};
 ghost use Rattle.client_machine.specs.declared.saves.Stage.TheVariants.{First};
 ghost use Rattle.smclient_app.specs.Rules.{answer_by, gives_up, own_properties, set_by, step_by};
 
+use client_callbacks::Saves;
 use client_machine::{SaveAnswer, SaveAsk, Stage, Step};
 use client_words::Choices;
 use ice_values::{Array8, Array8List, Property, PropertyList};
@@ -83,31 +84,53 @@ fn set(
     }
 }
 
-/// How the client answers in a save, as its words say. `talked` says whether the ask before this one
-/// was whether the client has talked to the user. Where there is no memory the answer is that it
-/// couldn't save, and `missing` becomes 1.
-pub fn answer(
-    alloc: Global,
-    choices: &Choices<'_>,
-    ask: SaveAsk,
-    talked: bool,
-    missing: &mut i32,
-) -> SaveAnswer
-    requires { length choices.now.program.now ≤ 512 }
-    ensures lawful { IsLawful ask result }
-    ensures says { ((result ≡ answer_by choices.now talked ask) × (missing.new ≡ missing.old)) ⊎ ((result ≡ gives_up) × (missing.new ≡ pos 1)) }
-{
-    match set(alloc, choices, ask.stage, talked) {
-        Ok(set) => SaveAnswer {
-            set,
-            step: step(choices, ask, talked),
-        },
-        Err(NoMemory) => {
-            *missing = 1;
-            SaveAnswer {
-                set: PropertyList::new(alloc),
-                step: Step::Done(false),
+/// What answers in the saves of a client, as its words say.
+#[derive(Drop)]
+pub struct Saver<'a, 'w> {
+    pub alloc: Global,
+    pub choices: &'a Choices<'w>,
+    /// Whether the last ask was whether the client has talked to the user.
+    pub talked: bool,
+    /// 1 where memory was wanting at some ask.
+    pub missing: i32,
+}
+
+impl Saver<'_, '_> {
+    /// How the client answers. Where there is no memory the answer is that it couldn't save.
+    fn say(&mut self, ask: SaveAsk) -> SaveAnswer
+        requires { length self.old.choices.now.program.now ≤ 512 }
+        ensures lawful { IsLawful ask result }
+        ensures choices { self.new.choices ≡ self.old.choices }
+        ensures talked { self.new.talked ≡ self.old.talked }
+        ensures says { ((result ≡ answer_by self.old.choices.now self.old.talked ask) × (self.new.missing ≡ self.old.missing)) ⊎ ((result ≡ gives_up) × (self.new.missing ≡ pos 1)) }
+    {
+        match set(self.alloc, self.choices, ask.stage, self.talked) {
+            Ok(set) => SaveAnswer {
+                set,
+                step: step(self.choices, ask, self.talked),
+            },
+            Err(NoMemory) => {
+                self.missing = 1;
+                SaveAnswer {
+                    set: PropertyList::new(self.alloc),
+                    step: Step::Done(false),
+                }
             }
         }
+    }
+}
+
+impl Saves for Saver<'_, '_> {
+    ghost use Rattle.std.specs.Prelude.{◌≡◌, ◌≤◌, length};
+    ghost use Rattle.smclient_app.specs.Rules.{Remembers};
+
+    ghost lawful = { λ s. length s.choices.now.program.now ≤ 512 };
+
+    ghost answers = { λ s ask answer t. (t.choices ≡ s.choices) × Remembers s.choices.now s.talked s.missing ask answer t.talked t.missing };
+
+    fn answer(&mut self, ask: SaveAsk) -> SaveAnswer {
+        let answer = self.say(ask);
+        self.talked = ask.stage == Stage::Talking;
+        answer
     }
 }
