@@ -61,15 +61,7 @@ pub fn join_session<P: Peer>(
         ensures none { result ≡ [] }
     { Array8List::new(alloc) };
     let mut answer = Err(JoinFault::NoMemory);
-    let saver = follow(
-        alloc,
-        peer,
-        join,
-        turns,
-        saver,
-        (die, || {}),
-        &mut answer,
-    );
+    let saver = follow(alloc, peer, join, turns, saver, (die, || {}), &mut answer);
     if saver.missing == 0 {
         answer
     } else {

@@ -11,12 +11,7 @@ use sm_world::{Dialog, NoMemory, SaveStyle};
 use std::alloc::Global;
 
 /// A property with this one value.
-fn property(
-    alloc: Global,
-    name: &[u8],
-    kind: &[u8],
-    value: &[u8],
-) -> Result<Property, NoMemory>
+fn property(alloc: Global, name: &[u8], kind: &[u8], value: &[u8]) -> Result<Property, NoMemory>
     ensures { IfOk result (λ p. p ≡ record { name = name.now; kind = kind.now; values = value.now ∷ [] }) }
 {
     let name = Array8::from_slice(alloc, name)?;
@@ -33,12 +28,7 @@ fn own_set(alloc: Global, program: &str) -> Result<PropertyList, NoMemory>
     let mut set = PropertyList::new(alloc);
     let program = program.as_bytes();
     set.push(property(alloc, b"Program", b"ARRAY8", program)?)?;
-    set.push(property(
-        alloc,
-        b"RestartCommand",
-        b"LISTofARRAY8",
-        program,
-    )?)?;
+    set.push(property(alloc, b"RestartCommand", b"LISTofARRAY8", program)?)?;
     Ok(set)
 }
 

@@ -5,8 +5,8 @@ ghost use Rattle.unix_peer.specs.Untold.{peer_outside};
 
 use crate::reading::{read_file, read_some};
 use client_peer::{FILE_LIMIT, Peer};
-use sm_world::{Console, Failure, Octets, Told};
 use program_frame::StandardConsole;
+use sm_world::{Console, Failure, Octets, Told};
 use std::io::{ErrorKind, Write};
 use std::os::unix::net::UnixStream;
 
