@@ -51,7 +51,7 @@ opened_in [] = 0
 opened_in (effect ∷ effects) = opened_by effect + opened_in effects
 
 abbrev pub summary : ℕ → ℕ → ℕ → List ℕ
-summary events bytes commits = line (codes "exercise: " ++ (decimal events ++ (codes " events, " ++ (decimal bytes ++ (codes " bytes sent, " ++ (decimal commits ++ codes " commits"))))))
+summary events bytes commits = codes "exercise: " ++ (decimal events ++ (codes " events, " ++ (decimal bytes ++ (codes " bytes sent, " ++ (decimal commits ++ line (codes " commits"))))))
 
 -- The summary of the run of these events: how many came, how many bytes were sent, and how often a gate was opened by the effects of the run.
 pub record IsSummary (events : List Event) (text : List ℕ) : Type 0 where
