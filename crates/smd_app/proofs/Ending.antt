@@ -12,6 +12,7 @@ use Rattle.session_engine.specs.Causes.{HasCause}
 use Rattle.session_engine.specs.declared.fault.ServeFault.{ServeFault}
 use Rattle.session_engine.specs.declared.fault.ServeFault.TheVariants.{Damaged as IsDamaged, WrongSize as HasWrongSize, DiskFault, LinkFault, ConsoleFault, Worn as IsWorn, Spent as HasSpent, NoMemory as WantsMemory}
 use Rattle.sm_world.specs.declared.events.Event.{Event}
+use Rattle.smd_app.specs.Exercises.{exercise_events}
 use Rattle.smd_app.specs.FaultLines.{fault_line, fault_status, served}
 use Rattle.smd_app.specs.Rehearsals.{script_of}
 use Rattle.smd_app.specs.Sessions.{IsOfDisk, IsOfEdge, Opened, OpensOr, IsSession, HasServed, WasCutShort, RunsSession}
@@ -132,7 +133,7 @@ task_still Rehearse identity turns old mid new ending effects later run =
     (λ input texts. rehearsed_still old.faults.console mid new (script_of input) turns texts ending later)
     run
 task_still (Exercise pattern rounds) identity turns old mid new ending effects later run =
-    record { texts = run.texts; printed = run.printed; holds = exercised_still old.faults.console mid new _ turns run.texts ending later run.holds }
+    record { texts = run.texts; printed = run.printed; holds = exercised_still old.faults.console mid new (exercise_events pattern rounds) turns run.texts ending later run.holds }
 task_still (Serve places) identity turns old mid new ending effects later (inl cut) = inl (cut_still identity places old mid new ending effects later cut)
 task_still (Serve places) identity turns old mid new ending effects later (inr served_so) = inr (served_still identity places turns old mid new ending effects later served_so)
 

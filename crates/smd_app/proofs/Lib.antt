@@ -7,3 +7,4 @@ pub mod Excluding
 pub mod Wording
 pub mod SessionLemmas
 pub mod Exercising
+pub mod Counting

@@ -80,7 +80,7 @@ kept_since identity places old mid new behind kept = λ first told. kept first (
 unopened_since : (identity : Identity) (places : Places) (old mid : Outside) (size : ℕ) (fault : ServeFault) → Behind identity places old mid → IsUnopened mid size fault → IsUnopened old size fault
 unopened_since identity places old mid size (WrongSize n) behind cause = cause
 unopened_since identity places old mid size (Damaged at) behind cause = (cause.0, (λ file settled. cause.1 file (still_settled identity places old mid behind file settled)))
-unopened_since identity places old mid size Worn behind (told, book, current, recovered, last) = (told, (book, current, (λ file settled. recovered file (still_settled identity places old mid behind file settled)), last))
+unopened_since identity places old mid size Worn behind cause = (cause.0, (cause.1.0, cause.1.1, (λ file settled. cause.1.2 file (still_settled identity places old mid behind file settled)), cause.1.3))
 unopened_since identity places old mid size DiskFault behind cause = cause
 unopened_since identity places old mid size NoMemory behind cause = cause
 unopened_since identity places old mid size LinkFault behind cause = cause
@@ -128,7 +128,7 @@ caused_since old mid new (Err NoMemory) counts cause = cause
 
 -- What is added to a told list is one list.
 
-tail_of : List Effect → List Effect
+abbrev tail_of : List Effect → List Effect
 tail_of [] = []
 tail_of (x ∷ xs) = xs
 

@@ -176,9 +176,9 @@ fn put_epochs(alloc: Global, out: &mut String, world: &MemWorld, first: usize) -
         return Ok(());
     }
     write!(out, " ")?;
-    put_epoch(alloc, out, world.crash_file(alloc, first, Choice::AsWritten)?)?;
-    put_epoch(alloc, out, world.crash_file(alloc, first, Choice::AsSynced)?)?;
-    put_epoch(alloc, out, world.crash_file(alloc, first, Choice::Filled(0xa5))?)
+    put_epoch(alloc, out, world.crash_file(first, Choice::AsWritten)?)?;
+    put_epoch(alloc, out, world.crash_file(first, Choice::AsSynced)?)?;
+    put_epoch(alloc, out, world.crash_file(first, Choice::Filled(0xa5))?)
 }
 
 #[test]

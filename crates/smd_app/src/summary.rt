@@ -85,7 +85,8 @@ fn tally_of(effects: &[Effect]) -> Result<Tally, NoMemory>
         commits: 0,
     };
     for effect in effects {
-        tally = tally.with(effect)?;
+        let next = tally.with(effect)?;
+        tally = next;
     }
     Ok(tally)
 }
