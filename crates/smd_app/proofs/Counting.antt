@@ -8,15 +8,15 @@ use Rattle.session_engine.specs.Machine.{Item}
 use Rattle.smd_app.specs.Summaries.{came_by, sent_by, came_in, sent_in}
 
 came-append : (xs ys : List Item) → came_in (xs ++ ys) ≡ came_in xs + came_in ys
-came-append [] ys = refl
+came-append [] ys = omega arith
 came-append (x ∷ xs) ys = let rest = came-append xs ys in omega (arith, rest)
 
 sent-append : (xs ys : List Item) → sent_in (xs ++ ys) ≡ sent_in xs + sent_in ys
-sent-append [] ys = refl
+sent-append [] ys = omega arith
 sent-append (x ∷ xs) ys = let rest = sent-append xs ys in omega (arith, rest)
 
 came-one : (xs : List Effect) (e : Effect) → came_in (items (xs ++ e ∷ [])) ≡ came_in (items xs) + came_in (item_of e)
-came-one [] e = ap came_in (append-nil (item_of e))
+came-one [] e = let same : came_in (item_of e ++ []) ≡ came_in (item_of e) = ap came_in (append-nil (item_of e)) in omega (arith, same)
 came-one (x ∷ xs) e =
     let a : came_in (item_of x ++ items (xs ++ e ∷ [])) ≡ came_in (item_of x) + came_in (items (xs ++ e ∷ [])) = came-append (item_of x) (items (xs ++ e ∷ [])) in
     let b : came_in (items (xs ++ e ∷ [])) ≡ came_in (items xs) + came_in (item_of e) = came-one xs e in
@@ -24,7 +24,7 @@ came-one (x ∷ xs) e =
     omega (arith, a, b, c)
 
 sent-one : (xs : List Effect) (e : Effect) → sent_in (items (xs ++ e ∷ [])) ≡ sent_in (items xs) + sent_in (item_of e)
-sent-one [] e = ap sent_in (append-nil (item_of e))
+sent-one [] e = let same : sent_in (item_of e ++ []) ≡ sent_in (item_of e) = ap sent_in (append-nil (item_of e)) in omega (arith, same)
 sent-one (x ∷ xs) e =
     let a : sent_in (item_of x ++ items (xs ++ e ∷ [])) ≡ sent_in (item_of x) + sent_in (items (xs ++ e ∷ [])) = sent-append (item_of x) (items (xs ++ e ∷ [])) in
     let b : sent_in (items (xs ++ e ∷ [])) ≡ sent_in (items xs) + sent_in (item_of e) = sent-one xs e in

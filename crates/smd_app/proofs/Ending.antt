@@ -1,8 +1,9 @@
 -- The line of an ending, and what the ending says.
-use Rattle.std.proofs.Common.{◌≡◌, inl, inr, ℕ, List, [], ◌∷◌, Option, Some, None, Result, Ok, Err, IfErr, refl, sym, ◌∙◌, ap, subst}
+use Rattle.std.proofs.Common.{◌≡◌, ◌⊎◌, codes, inl, inr, ℕ, List, [], ◌∷◌, Option, Some, None, Result, Ok, Err, IfErr, refl, sym, ◌∙◌, ap, subst}
 use Rattle.sm_world.specs.Disk.{KeepsToldSize}
 use Rattle.sm_world.specs.Outside.{Outside, Added, Rose}
 use Rattle.sm_world.specs.declared.effects.Effect.{Effect}
+use Rattle.sm_world.proofs.Adding.{adds-none}
 use Rattle.program_frame.specs.Printing.{Tries, OnlyPrints}
 use Rattle.program_frame.specs.Programs.{status_by, line_by}
 use Rattle.program_frame.proofs.ProgramLemmas.{runs_still, concluded}
@@ -17,7 +18,7 @@ use Rattle.smd_app.specs.FaultLines.{fault_line, fault_status, served}
 use Rattle.smd_app.specs.Rehearsals.{script_of}
 use Rattle.smd_app.specs.Sessions.{IsOfDisk, IsOfEdge, Opened, OpensOr, IsSession, HasServed, WasCutShort, RunsSession}
 use Rattle.smd_app.specs.Statuses.{Ending, HasRehearsed, HasExercised, RunsExercise, RunsTask, DoesTask, DoesNothing, Runs, Answers}
-use Rattle.smd_app.specs.Words.{Places, Task, Rehearse, Exercise, Serve, Means}
+use Rattle.smd_app.specs.Words.{Places, Task, Rehearse, Exercise, Serve, AreServe, AreExercise, Means}
 use Rattle.smd_app.specs.declared.fault.Fault.{Fault}
 use Rattle.smd_app.specs.declared.fault.Fault.TheVariants.{BadWords, Damaged, WrongSize, Disk, Links, Console, BadLine, Worn, Spent, NoMemory}
 use Rattle.smd_app.specs.declared.identity.Identity.{Identity}
@@ -151,3 +152,13 @@ answers words identity old mid new turns status ending runs line prints silent n
 -- What was done is what the words ask for.
 pub does : (words : List (List ℕ)) (identity : Identity) (turns : ℕ) (old new : Outside) (ending : Ending) (task : Task) → Means words task → Added old.told new.told (RunsTask task identity turns old new ending) → Added old.told new.told (Runs words identity turns old new ending)
 does words identity turns old new ending task means ran = record { effects = ran.effects; added = ran.added; holds = inl (record { task = task; means = means; ran = ran.holds }) }
+
+-- Nothing was done.
+pub does_nothing : (words : List (List ℕ)) (identity : Identity) (turns : ℕ) (old new : Outside) (ending : Ending) → ((((task : Task) → Means words task → ⊥) × (ending ≡ Err BadWords)) ⊎ (ending ≡ Err NoMemory)) → Added old.told old.told (Runs words identity turns old new ending)
+does_nothing words identity turns old new ending cause = record { effects = []; added = sym (adds-none old.told); holds = inr (record { cause = cause; none = refl }) }
+
+-- words that ask for none of the three
+pub means_none : (words : List (List ℕ)) → (words ≡ codes "rehearse" ∷ [] → ⊥) → ((places : Places) → AreServe words places → ⊥) → ((pattern rounds : ℕ) → AreExercise words pattern rounds → ⊥) → (task : Task) → Means words task → ⊥
+means_none words one two three Rehearse means = one means
+means_none words one two three (Exercise pattern rounds) means = three pattern rounds means
+means_none words one two three (Serve places) means = two places means

@@ -30,7 +30,7 @@ sent_in [] = 0
 sent_in (item ∷ shown) = sent_by item + sent_in shown
 
 abbrev pub summary : ℕ → ℕ → ℕ → List ℕ
-summary events bytes commits = line (codes "exercise: " ++ (decimal events ++ (codes " events, " ++ (decimal bytes ++ (codes " bytes sent, " ++ (decimal commits ++ codes " commits"))))))
+summary events bytes commits = codes "exercise: " ++ (decimal events ++ (codes " events, " ++ (decimal bytes ++ (codes " bytes sent, " ++ (decimal commits ++ line (codes " commits"))))))
 
 -- The summary of the run of these events: how many came, how many bytes were sent, and how many checkpoints the machine committed.
 abbrev pub IsSummary : List Event → List ℕ → Type 0

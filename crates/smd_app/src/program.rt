@@ -70,12 +70,12 @@ fn run_words<W: Disk + Links + Spawner + Console>(
     if are_one_word(words, "rehearse") {
         return rehearse(alloc, world, turns);
     }
-    if let Some(paths) = read_paths(words) {
-        return serve_session(alloc, world, identity, &paths, turns);
-    }
-    match read_exercise(alloc, words)? {
-        Some(exercise) => run_exercise(alloc, world, exercise, turns),
-        None => Err(Fault::BadWords),
+    match read_paths(words) {
+        Some(paths) => serve_session(alloc, world, identity, &paths, turns),
+        None => match read_exercise(alloc, words)? {
+            Some(exercise) => run_exercise(alloc, world, exercise, turns),
+            None => Err(Fault::BadWords),
+        },
     }
 }
 

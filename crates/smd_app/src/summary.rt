@@ -92,14 +92,16 @@ fn tally_of(effects: &[Effect]) -> Result<Tally, NoMemory>
     Ok(tally)
 }
 
+fn line_of(alloc: Global, events: u64, bytes: u64, commits: u64) -> Result<String, NoMemory>
+    ensures { IfOk result (λ text. string_bytes text ≡ summary events bytes commits) }
+{
+    Ok(format!(in alloc; "exercise: {events} events, {bytes} bytes sent, {commits} commits\n")?)
+}
+
 /// The line that sums up a run with these effects.
 pub fn summary_line(alloc: Global, effects: &[Effect]) -> Result<String, NoMemory>
     ensures { IfOk result (λ text. string_bytes text ≡ summary (came_in (items effects.now)) (sent_in (items effects.now)) (opened_in effects.now)) }
 {
-    let Tally {
-        events,
-        bytes,
-        commits,
-    } = tally_of(effects)?;
-    Ok(format!(in alloc; "exercise: {events} events, {bytes} bytes sent, {commits} commits\n")?)
+    let tally = tally_of(effects)?;
+    line_of(alloc, tally.events, tally.bytes, tally.commits)
 }
