@@ -11,13 +11,14 @@ use Rattle.sm_world.proofs.Adding.{adds-none}
 use Rattle.program_frame.specs.Programs.{RunsAs}
 use Rattle.program_frame.proofs.InputLemmas.{rose_since}
 use Rattle.program_frame.proofs.ProgramLemmas.{Took as TookWithin, ran as ran_with, ran_unread}
+use Rattle.checkpoint_slots.specs.Turns.{opened_in}
 use Rattle.session_engine.specs.Doing.{items}
 use Rattle.smd_app.specs.Faults.{IsScriptFault}
 use Rattle.smd_app.specs.FaultLines.{console_fault, script_fault}
-use Rattle.smd_app.specs.Rehearsals.{script_of, ends_within, Rehearses}
+use Rattle.smd_app.specs.Rehearsals.{script_of, ends_within, Rehearses, whole_run}
 use Rattle.smd_app.specs.Script.{ScriptSays}
 use Rattle.smd_app.specs.Statuses.{Ending, HasRehearsed, HasExercised, RunsExercise}
-use Rattle.smd_app.specs.Summaries.{came_in, sent_in, opened_in, summary}
+use Rattle.smd_app.specs.Summaries.{came_in, sent_in, summary}
 use Rattle.smd_app.specs.Trace.{text}
 use Rattle.smd_app.specs.declared.fault.Fault.{Fault}
 use Rattle.smd_app.specs.declared.fault.Fault.TheVariants.{Console, BadLine, Spent, NoMemory}
@@ -106,13 +107,15 @@ exercise_spent old events turns rehearsal rehearses unfinished =
 -- and printed
 pub exercise_ended : (old new : Outside) (events : List Event) (turns : ℕ) (rehearsal : Rehearsal) (shown : List Effect) (printed : List ℕ) → Rehearses events turns rehearsal → rehearsal.finished ≡ true → Some shown ≡ (steady_outside rehearsal.world).told → printed ≡ summary (came_in (items shown)) (sent_in (items shown)) (opened_in shown) → new.told ≡ adds old.told (Printed printed ∷ []) → Added old.told new.told (RunsExercise old.faults.console new.faults.console events turns (Ok tt))
 exercise_ended old new events turns rehearsal shown printed rehearses finished is_shown is_printed told =
-    let whole = ap items (same_effects events turns rehearsal shown rehearses is_shown) ∙ rehearses.whole finished in
+    let same : shown ≡ rehearses.effects = same_effects events turns rehearsal shown rehearses is_shown in
+    let whole = ap items same ∙ rehearses.whole finished in
+    let opens = ap opened_in same ∙ rehearses.opens finished in
     record {
       effects = Printed printed ∷ [];
       added = told;
       holds = record {
         texts = printed ∷ [];
         printed = refl;
-        holds = (sym rehearses.ended ∙ finished, (printed, record { effects = shown; shown = whole; is = is_printed ∙ ap (λ run. summary (came_in run) (sent_in run) (opened_in shown)) whole }, refl));
+        holds = (sym rehearses.ended ∙ finished, (printed, is_printed ∙ (ap (λ run. summary (came_in run) (sent_in run) (opened_in shown)) whole ∙ ap (summary (came_in (whole_run events)) (sent_in (whole_run events))) opens), refl));
       };
     }

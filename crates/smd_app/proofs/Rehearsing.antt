@@ -12,6 +12,7 @@ use Rattle.checkpoint_records.specs.declared.records.Book.{Book}
 use Rattle.checkpoint_slots.specs.Causes.{IsSettled}
 use Rattle.checkpoint_slots.specs.Recovery.{Recovers}
 use Rattle.checkpoint_slots.proofs.Once.{recovers-once}
+use Rattle.session_engine.specs.Acts.{commits_in}
 use Rattle.session_engine.specs.Carries.{Opens, Rests, Serves}
 use Rattle.session_engine.specs.Session.{Serving}
 use Rattle.session_engine.specs.declared.fault.ServeFault.{ServeFault}
@@ -89,6 +90,7 @@ finished_run old world events turns file fresh is_coming opens =
       told = run_added.added ∙ ap (λ told. adds told run_added.effects) fresh.told;
       ended = sym ended.within;
       whole = λ e. serves.runs.in_order refl ∙ sym ended.same;
+      opens = λ e. serves.runs.opens refl ∙ ap commits_in (sym ended.acts);
       cut = λ e. absurd (false≢true (sym e));
     }
 
@@ -105,5 +107,6 @@ spent_turns old world events turns file fresh is_coming (inr opens) =
       told = run_added.added ∙ ap (λ told. adds told run_added.effects) fresh.told;
       ended = sym cut.unended;
       whole = λ e. absurd (false≢true e);
+      opens = λ e. absurd (false≢true e);
       cut = λ e. (cut.few, serves.runs.in_order refl ∙ ap run cut.same);
     }

@@ -1,7 +1,8 @@
 ghost use Rattle.std.specs.Prelude.{◌≡◌, ◌+◌, IfOk, ℕ, string_bytes};
 ghost use Rattle.sm_world.specs.declared.effects.Effect.TheVariants.{Wrote};
+ghost use Rattle.checkpoint_slots.specs.Turns.{opened_by, opened_in};
 ghost use Rattle.session_engine.specs.Doing.{item_of, items};
-ghost use Rattle.smd_app.specs.Summaries.{came_in, sent_in, opened_by, opened_in, summary};
+ghost use Rattle.smd_app.specs.Summaries.{came_in, sent_in, summary};
 
 use sm_world::{Effect, NoMemory};
 use std::alloc::Global;

@@ -1,6 +1,6 @@
 use Rattle.std.proofs.Common.{◌+◌, ◌∙◌, sym, ap}
 use Rattle.sm_world.specs.declared.effects.Effect.TheVariants.{Wrote}
-use Rattle.smd_app.specs.Summaries.{opened_by}
+use Rattle.checkpoint_slots.specs.Turns.{opened_by}
 use Rattle.smd_app.proofs.summary.Tally.with.Goals as goal
 
 pub returns-in_ok-plus-in-Wrote-clause-commits : goal.returns-in_ok-plus-in-Wrote-clause-commits
