@@ -81,7 +81,7 @@ longest_path() {
   "$smd" serve --socket "$path" --control "$at/control" --store "$at/store" --authority "$at/authority" \
     < /dev/null > "$at/lines" 2>> "$at/said" &
   smd_id=$!
-  within 30 grep -qxF "SESSION_MANAGER=local/$HOSTNAME:$path" "$at/lines" && logs_out
+  within 30 grep -qsxF "SESSION_MANAGER=local/$HOSTNAME:$path" "$at/lines" && logs_out
 }
 
 # is_private NAME: whether the file is the user's alone.

@@ -1,4 +1,4 @@
-# A client on libSM: a whole session, and the next one over the same store.
+# Clients with a session: one on libSM, with the next login over the same store, and smclient.
 
 # Each direction of a trace by itself, since both sides speak at once; what differs from run to run is left out.
 plain_trace() {
@@ -28,4 +28,17 @@ libsm_session() {
   check "the libSM client saves again" within 20 has_lines 2 complete "$log"
   check "the second session logs out" logs_out
   check "its callbacks are what is written down" diff -u "$here/libsm_client.expected" "$log"
+}
+
+# joined WORD..: what smclient prints that ends well with these words.
+joined() {
+  timeout 20 "$smclient" --socket "$at/socket" --authority "$at/authority" "$@" > "$at/joined" && cat "$at/joined"
+}
+
+# The client of this repository.
+own_client() {
+  check "smd starts for smclient" start_smd "$room/own"
+  check "smclient saves" diff <(printf 'id smd-00000001-00000001\nsaved\n') <(joined)
+  check "smclient saves in the second phase" diff <(printf 'id smd-00000001-00000002\nsaved\n') <(joined --phase-two)
+  check "the session of smclient logs out" logs_out
 }

@@ -1,16 +1,7 @@
-#!/usr/bin/env python3
-"""A raw client of XSMP over a Unix socket: every byte that it sends is spelled here.
-
-As a program it registers, sets its properties and saves whenever it is asked to, until it is told to die:
-    xsmp.py [--id ID] [--log FILE]
-SESSION_MANAGER names the manager and ICEAUTHORITY the file with the cookie. It prints a line for each
-thing that happens, to the file where one is named.
-"""
-import argparse
+"""A raw client of XSMP over a Unix socket: every byte that it sends is spelled here."""
 import os
 import socket
 import struct
-import sys
 
 COOKIE_METHOD = b"MIT-MAGIC-COOKIE-1"
 OPCODE = 1
@@ -165,32 +156,3 @@ def save(client, words):
     client.set(b"Program", b"ARRAY8", [words[0]])
     client.set_command(b"RestartCommand", words)
     client.say(SAVED, second=1)
-
-
-def live(client, words, log):
-    """Answers the manager until it has the client die."""
-    lines = {SAVE: "save", COMPLETE: "complete", CANCELLED: "cancelled", DIE: "die"}
-    while True:
-        _, minor, _, _ = client.next()
-        print(lines.get(minor, "message %d" % minor), file=log, flush=True)
-        if minor == SAVE:
-            save(client, words)
-        elif minor == DIE:
-            return client.close()
-
-
-def main():
-    words = argparse.ArgumentParser()
-    words.add_argument("--id", default="")
-    words.add_argument("--log", default="/dev/stdout")
-    chosen = words.parse_args()
-    path = os.environ["SESSION_MANAGER"].split(":", 1)[1]
-    client, own = joined(path, os.environ["ICEAUTHORITY"], chosen.id.encode())
-    with open(chosen.log, "a") as log:
-        print("id", own.decode(), file=log, flush=True)
-        again = [sys.executable, os.path.abspath(__file__), "--id", own.decode(), "--log", os.path.abspath(chosen.log)]
-        live(client, [os.fsencode(it) for it in again], log)
-
-
-if __name__ == "__main__":
-    main()
