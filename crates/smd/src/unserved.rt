@@ -4,7 +4,9 @@ ghost use Rattle.sm_world.specs.Disk.{untold_size};
 ghost use Rattle.smd.specs.Unserved.{unserved_outside};
 
 use program_frame::StandardConsole;
-use sm_world::{Command, Conn, Console, Disk, Event, Failed, Failure, Links, NoMemory, Spawner, Told};
+use sm_world::{
+    Command, Conn, Console, Disk, Event, Failed, Failure, Links, NoMemory, Spawner, Told,
+};
 
 /// A world that has the console of the program, and no store, sockets or programs yet: each call on
 /// these fails.
