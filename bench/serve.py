@@ -86,7 +86,7 @@ def pings(smd, driver):
     for count in (1, 8, 64):
         bare = bare_echo(driver, count)
         rate = with_clients(smd, None, count, lambda _, clients: driven(driver, "ping", clients))
-        print("%d clients: %.0f trips a second, %.2f times what a bare echo makes" % (count, rate, rate / bare))
+        print("%d clients: %.0f trips a second, %.2g times what a bare echo makes" % (count, rate, rate / bare))
 
 
 def rounds(smd, driver, folder, name):
@@ -94,7 +94,7 @@ def rounds(smd, driver, folder, name):
         bare = bare_commits(folder, 200 * count)
         rate = with_clients(smd, folder, count, lambda _, clients: driven(driver, "round", clients))
         print(
-            "%d clients, store on %s: %.0f rounds a second, %.2f times the bare commits there"
+            "%d clients, store on %s: %.0f rounds a second, %.2g times the bare commits there"
             % (count, name, rate, rate / bare)
         )
 
