@@ -3,9 +3,7 @@ use crate::{
     effect_line, has_line, lines_say_one_list, next_line, put_hex, read_bytes, read_conn, read_hex,
     read_number, read_order, read_script_line, split_once, started_line,
 };
-use sm_world::{
-    Command, Effect, Event, NoMemory, Octets, OctetsList, Order, PairList,
-};
+use sm_world::{Command, Effect, Event, NoMemory, Octets, OctetsList, Order, PairList};
 use std::alloc::Global;
 use std::process::Abort;
 use std::test::Fail;

@@ -39,10 +39,12 @@ second_sized bits c false e = rw (e) tt
 
 round_sized : (pattern t : ℕ) → AllByRecursion HasPieceSize (round_events pattern t)
 round_sized pattern t =
-    let bits = (pattern + t) % 256 in
-    (tt, sized-append (each (first_answer bits) 8) (each (second_answer bits) 8)
-        (sized-each (first_answer bits) 8 (λ c. first_sized bits c (wants_two bits c) refl))
-        (sized-each (second_answer bits) 8 (λ c. second_sized bits c (wants_two bits c) refl)))
+    let bits = (pattern + t) % 256 in (
+      tt,
+      sized-append (each (first_answer bits) 8) (each (second_answer bits) 8)
+          (sized-each (first_answer bits) 8 (λ c. first_sized bits c (wants_two bits c) refl))
+          (sized-each (second_answer bits) 8 (λ c. second_sized bits c (wants_two bits c) refl)),
+    )
 
 done_sized : (c : ℕ) → AllByRecursion HasPieceSize (sends save_done c)
 done_sized c = ((omega arith, omega arith), tt)
@@ -61,6 +63,6 @@ all_sized pattern rounds =
 pub script_sized : (pattern rounds : ℕ) (none logins played whole : List Event) → none ≡ [] → logins ≡ none ++ each login_events 8 → played ≡ logins ++ each (round_events pattern) rounds → whole ≡ played ++ ending_events → AllByRecursion HasPieceSize whole
 script_sized pattern rounds none logins played whole is_none first second third =
     let same : whole ≡ exercise_events pattern rounds = third
-        ∙ (ap (λ events. events ++ ending_events) (second ∙ ap (λ events. events ++ each (round_events pattern) rounds) (first ∙ ap (λ events. events ++ each login_events 8) is_none))
-        ∙ append_assoc (each login_events 8) (each (round_events pattern) rounds) ending_events) in
+    ∙ (ap (λ events. events ++ ending_events) (second ∙ ap (λ events. events ++ each (round_events pattern) rounds) (first ∙ ap (λ events. events ++ each login_events 8) is_none))
+    ∙ append_assoc (each login_events 8) (each (round_events pattern) rounds) ending_events) in
     subst (AllByRecursion HasPieceSize) (sym same) (all_sized pattern rounds)

@@ -34,16 +34,17 @@ fits_network host socket few short =
 
 fits : (identity : Identity) (socket : List ℕ) → length identity.host ≤ 255 → length socket ≤ 4096 → length identity.cookie.0 ≡ 16 → HaveSpelling (session_entry identity socket (codes "ICE") ∷ session_entry identity socket (codes "XSMP") ∷ [])
 fits identity socket few short size =
-    let network_fits = fits_network identity.host socket few short in
-    (record { protocol = omega arith; details = omega arith; network = network_fits; name = omega arith; proof = omega (arith, size) },
-     (record { protocol = omega arith; details = omega arith; network = network_fits; name = omega arith; proof = omega (arith, size) }, tt))
+    let network_fits = fits_network identity.host socket few short in (
+      record { protocol = omega arith; details = omega arith; network = network_fits; name = omega arith; proof = omega (arith, size) },
+      (record { protocol = omega arith; details = omega arith; network = network_fits; name = omega arith; proof = omega (arith, size) }, tt),
+    )
 
 -- no field of its entries is too long
 pub never_long : (identity : Identity) (socket : List ℕ) (one two : AuthorityEntry) (none first both : List AuthorityEntry) → length identity.host ≤ 255 → length socket ≤ 4096 → length one.proof ≡ 16 → one ≡ session_entry identity socket (codes "ICE") → two ≡ session_entry identity socket (codes "XSMP") → none ≡ [] → first ≡ none ++ one ∷ [] → both ≡ first ++ two ∷ [] → HaveSpelling both
 never_long identity socket one two none first both few short size is_one is_two is_none is_first is_both =
     let same : both ≡ session_entry identity socket (codes "ICE") ∷ session_entry identity socket (codes "XSMP") ∷ [] = is_both
-        ∙ (ap (λ xs. xs ++ two ∷ []) (is_first ∙ ap (λ xs. xs ++ one ∷ []) is_none)
-        ∙ (ap (λ x. x ∷ two ∷ []) is_one ∙ ap (λ x. session_entry identity socket (codes "ICE") ∷ x ∷ []) is_two)) in
+    ∙ (ap (λ xs. xs ++ two ∷ []) (is_first ∙ ap (λ xs. xs ++ one ∷ []) is_none)
+    ∙ (ap (λ x. x ∷ two ∷ []) is_one ∙ ap (λ x. session_entry identity socket (codes "ICE") ∷ x ∷ []) is_two)) in
     subst HaveSpelling (sym same) (fits identity socket few short (sym (ap (λ entry. length entry.proof) is_one) ∙ size))
 
 -- From the world behind the set-up to the one before it

@@ -15,19 +15,23 @@ const CLIENTS: u32 = 8;
 const BYTE_ORDER: &[u8] = b"\0\x01\0\0\0\0\0\0";
 
 /// ConnectionSetup, with one version and the method of the cookie.
-const CONNECTION_SETUP: &[u8] = b"\0\x02\x01\x01\x06\0\0\0\0\0\0\0\0\0\0\0\x03\0MIT\0\0\0\x03\01.0\0\0\0\x12\0MIT-MAGIC-COOKIE-1\x01\0\0\0";
+const CONNECTION_SETUP: &[u8] =
+    b"\0\x02\x01\x01\x06\0\0\0\0\0\0\0\0\0\0\0\x03\0MIT\0\0\0\x03\01.0\0\0\0\x12\0MIT-MAGIC-COOKIE-1\x01\0\0\0";
 
 /// AuthenticationReply, with the cookie of each rehearsal.
-const AUTHENTICATION_REPLY: &[u8] = b"\0\x04\0\0\x03\0\0\0\x10\0\0\0\0\0\0\0\0\x01\x02\x03\x04\x05\x06\x07\x08\x09\x0a\x0b\x0c\x0d\x0e\x0f";
+const AUTHENTICATION_REPLY: &[u8] =
+    b"\0\x04\0\0\x03\0\0\0\x10\0\0\0\0\0\0\0\0\x01\x02\x03\x04\x05\x06\x07\x08\x09\x0a\x0b\x0c\x0d\x0e\x0f";
 
 /// ProtocolSetup for XSMP, with opcode 1 and the method of the cookie.
-const PROTOCOL_SETUP: &[u8] = b"\0\x07\x01\0\x07\0\0\0\x01\x01\0\0\0\0\0\0\x04\0XSMP\0\0\x03\0MIT\0\0\0\x03\01.0\0\0\0\x12\0MIT-MAGIC-COOKIE-1\x01\0\0\0";
+const PROTOCOL_SETUP: &[u8] =
+    b"\0\x07\x01\0\x07\0\0\0\x01\x01\0\0\0\0\0\0\x04\0XSMP\0\0\x03\0MIT\0\0\0\x03\01.0\0\0\0\x12\0MIT-MAGIC-COOKIE-1\x01\0\0\0";
 
 /// RegisterClient, without a previous ID.
 const REGISTER_CLIENT: &[u8] = b"\x01\x01\0\0\x01\0\0\0\0\0\0\0\0\0\0\0";
 
 /// SetProperties with the RestartCommand `c`.
-const SET_RESTART_COMMAND: &[u8] = b"\x01\x0c\0\0\x08\0\0\0\x01\0\0\0\0\0\0\0\x0e\0\0\0RestartCommand\0\0\0\0\0\0\x0c\0\0\0LISTofARRAY8\x01\0\0\0\0\0\0\0\x01\0\0\0c\0\0\0";
+const SET_RESTART_COMMAND: &[u8] =
+    b"\x01\x0c\0\0\x08\0\0\0\x01\0\0\0\0\0\0\0\x0e\0\0\0RestartCommand\0\0\0\0\0\0\x0c\0\0\0LISTofARRAY8\x01\0\0\0\0\0\0\0\x01\0\0\0c\0\0\0";
 
 /// SaveYourselfDone, with success.
 const SAVE_DONE: &[u8] = b"\x01\x08\x01\0\0\0\0\0";
@@ -99,7 +103,11 @@ fn push_first_answers(alloc: Global, events: &mut EventList, bits: u8) -> Result
 {
     for count in 0..CLIENTS {
         let conn = count + 1;
-        let answer = if is_second(bits, conn) { PHASE_TWO } else { SAVE_DONE };
+        let answer = if is_second(bits, conn) {
+            PHASE_TWO
+        } else {
+            SAVE_DONE
+        };
         push_piece(alloc, events, conn, answer)?;
     }
     Ok(())

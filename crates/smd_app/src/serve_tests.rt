@@ -90,7 +90,10 @@ fn expect_session(
     let mut world = world_of(alloc, script, store, 0)?;
     assert_eq!(rt; status_of(alloc, &mut world, WORDS, 99)?, wanted.0);
     let texts = printed(alloc, world.effects())?;
-    assert_eq!(rt; str::from_utf8(texts.as_slice())?, str::from_utf8(wanted.1)?);
+    assert_eq!(rt;
+        str::from_utf8(texts.as_slice())?,
+        str::from_utf8(wanted.1)?
+    );
     Ok(())
 }
 
@@ -119,7 +122,11 @@ fn a_store_that_is_none_is_refused(rt: HostRuntime) -> Result<(), Fail> {
     expect_session(&rt, b"", Octets::new(alloc), (3, line))?;
     let mut worn = blank_store(alloc)?;
     put(&mut worn, 0, b"\xa5");
-    put(&mut worn, 64, b"\xff\xff\xff\xff\xff\xff\xff\xff\x10\0\0\0\0\0\0\0");
+    put(
+        &mut worn,
+        64,
+        b"\xff\xff\xff\xff\xff\xff\xff\xff\x10\0\0\0\0\0\0\0",
+    );
     put(&mut worn, 80, b"\x01\0\0\0\x01\0\0\0");
     let line = b"SESSION_MANAGER=local/h:/s\n|smd: store worn\n|";
     expect_session(&rt, b"", worn, (8, line))
@@ -133,9 +140,13 @@ fn the_file_comes_before_the_line_and_the_line_before_the_session(
     let mut world = world_of(alloc, b"", blank_store(alloc)?, 0)?;
     assert_eq!(rt; status_of(alloc, &mut world, WORDS, 0)?, 9);
     let is_begun = match world.effects() {
-        [Effect::Published(path, bytes), Effect::Printed(_), Effect::Wrote(0, _), Effect::Synced, ..] => {
-            path.as_slice() == b"/a".as_slice() && bytes.as_slice() == AUTHORITY
-        }
+        [
+            Effect::Published(path, bytes),
+            Effect::Printed(_),
+            Effect::Wrote(0, _),
+            Effect::Synced,
+            ..
+        ] => { path.as_slice() == b"/a".as_slice() && bytes.as_slice() == AUTHORITY }
         _ => false,
     };
     assert!(rt; is_begun);
@@ -152,12 +163,14 @@ fn put_failure(alloc: Global, out: &mut String, number: u64) -> Result<(), Fail>
 }
 
 #[test]
-fn each_call_may_fail(rt: HostRuntime) -> Result<(), Fail> {
+fn each_call_before_the_session_may_fail(rt: HostRuntime) -> Result<(), Fail> {
     let mut found = String::new(rt.alloc());
-    for number in 0..70 {
+    // The store is taken, the file published, the sockets opened, the line printed; then the session
+    // asks for the store's size.
+    for number in [1, 2, 3, 4, 5] {
         put_failure(rt.alloc(), &mut found, number)?;
     }
-    assert_eq!(rt; found.as_str(), "");
+    assert_eq!(rt; found.as_str(), " 4/1 4/1 5/2 6/1 4/3");
     Ok(())
 }
 
@@ -187,23 +200,23 @@ fn a_crash_of_the_opening_leaves_the_old_book_or_the_new(rt: HostRuntime) -> Res
     let mut world = world_of(alloc, b"", blank_store(alloc)?, 0)?;
     assert_eq!(rt; status_of(alloc, &mut world, WORDS, 0)?, 9);
     let mut found = String::new(alloc);
-    for first in 0..9 {
+    // Behind the file and the line the three steps of a commit begin; the last opens the gate.
+    for first in [5, 7, 8] {
         put_epochs(alloc, &mut found, &world, first)?;
     }
-    // The file, the line, and the three steps of a commit, of which the last opens the gate.
-    assert_eq!(rt; found.as_str(), " 000 000 000 000 000 000 000 101 111");
+    assert_eq!(rt; found.as_str(), " 000 101 111");
     Ok(())
 }
 
+/// These words end with this status, over a world whose store has no bytes and without a turn.
 fn expect_words(
     rt: &(impl Abort + Alloc<A = Global>),
     words: &str,
-    turns: u64,
     wanted: u8,
 ) -> Result<(), Fail> {
     let alloc = rt.alloc();
-    let mut world = world_of(alloc, b"", blank_store(alloc)?, 0)?;
-    assert_eq!(rt; status_of(alloc, &mut world, words, turns)?, wanted, "{words}");
+    let mut world = world_of(alloc, b"", Octets::new(alloc), 0)?;
+    assert_eq!(rt; status_of(alloc, &mut world, words, 0)?, wanted, "{words}");
     Ok(())
 }
 
@@ -220,21 +233,32 @@ fn words_of_a_session(rt: HostRuntime) -> Result<(), Fail> {
         "--socket /s --control /c --store /f --authority /a serve",
     ];
     for words in bad {
-        expect_words(&rt, words, 0, 1)?;
+        expect_words(&rt, words, 1)?;
     }
-    expect_words(&rt, "serve --authority /a --store /f --control /c --socket /s", 0, 9)
+    expect_words(
+        &rt,
+        "serve --authority /a --store /f --control /c --socket /s",
+        3,
+    )
 }
 
 #[test]
 fn words_of_an_exercise(rt: HostRuntime) -> Result<(), Fail> {
     let bad = [
-        "exercise", "exercise 0", "exercise 0 0", "exercise 0 1001", "exercise 00 1",
-        "exercise 0 01", "exercise 18446744073709551616 1", "exercise x 1", "exercise 0 1 1",
+        "exercise",
+        "exercise 0",
+        "exercise 0 0",
+        "exercise 0 1001",
+        "exercise 00 1",
+        "exercise 0 01",
+        "exercise 18446744073709551616 1",
+        "exercise x 1",
+        "exercise 0 1 1",
     ];
     for words in bad {
-        expect_words(&rt, words, 0, 1)?;
+        expect_words(&rt, words, 1)?;
     }
-    expect_words(&rt, "exercise 18446744073709551615 1000", 0, 9)
+    expect_words(&rt, "exercise 18446744073709551615 1000", 9)
 }
 
 fn expect_path(rt: &(impl Abort + Alloc<A = Global>), count: u32, wanted: u8) -> Result<(), Fail> {
@@ -243,12 +267,12 @@ fn expect_path(rt: &(impl Abort + Alloc<A = Global>), count: u32, wanted: u8) ->
     for _ in 0..count {
         words.push('s')?;
     }
-    expect_words(rt, words.as_str(), 0, wanted)
+    expect_words(rt, words.as_str(), wanted)
 }
 
 #[test]
 fn the_longest_path(rt: HostRuntime) -> Result<(), Fail> {
-    expect_path(&rt, 4096, 9)?;
+    expect_path(&rt, 4096, 3)?;
     expect_path(&rt, 4097, 1)
 }
 

@@ -82,13 +82,7 @@ fn path_of<'a>(words: &'a [String], name: &str) -> Option<&'a str>
     ensures { MatchOption result ((value : List ℕ) → ¬ (HasPath (pairs_of (drop 1 (map string_bytes words.now))) name.now value)) (λ value. HasPath (pairs_of (drop 1 (map string_bytes words.now))) name.now value.now) }
 {
     match value_of(words, name) {
-        Some(value) => {
-            if is_path(value) {
-                Some(value)
-            } else {
-                None
-            }
-        }
+        Some(value) => { if is_path(value) { Some(value) } else { None } }
         None => None,
     }
 }
