@@ -1,11 +1,11 @@
 -- What is counted of effects, one after the other.
-use Rattle.std.proofs.Common.{◌≡◌, ℕ, ◌+◌, ◌<◌, List, [], ◌∷◌, ◌++◌, length, take, get_or, refl, sym, ◌∙◌, ap, arith}
+use Rattle.std.proofs.Common.{◌≡◌, ℕ, ◌+◌, ◌<◌, List, [], ◌∷◌, ◌++◌, length, take, get_or, sym, ◌∙◌, ap, arith}
 use Rattle.std.proofs.lemmas.List.{append-nil, take_more}
 use Rattle.sm_world.specs.declared.effects.Effect.{Effect}
 use Rattle.checkpoint_slots.specs.Turns.{opened_by, opened_in}
 use Rattle.session_engine.specs.Doing.{item_of, items}
 use Rattle.session_engine.specs.Machine.{Item}
-use Rattle.smd_app.specs.Summaries.{came_by, sent_by, came_in, sent_in}
+use Rattle.smd_app.specs.Summaries.{came_in, sent_in}
 
 came-append : (xs ys : List Item) → came_in (xs ++ ys) ≡ came_in xs + came_in ys
 came-append [] ys = omega arith

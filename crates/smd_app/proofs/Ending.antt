@@ -1,6 +1,5 @@
 -- The line of an ending, and what the ending says.
-use Rattle.std.proofs.Common.{◌≡◌, ◌⊎◌, codes, inl, inr, ℕ, List, [], ◌∷◌, Option, Some, None, Result, Ok, Err, IfErr, refl, sym, ◌∙◌, ap, subst}
-use Rattle.sm_world.specs.Disk.{KeepsToldSize}
+use Rattle.std.proofs.Common.{◌≡◌, ◌⊎◌, codes, inl, inr, ℕ, List, [], ◌∷◌, None, Result, Ok, Err, IfErr, refl, sym, ◌∙◌, ap, subst}
 use Rattle.sm_world.specs.Outside.{Outside, Added, Rose}
 use Rattle.sm_world.specs.declared.effects.Effect.{Effect}
 use Rattle.sm_world.proofs.Adding.{adds-none}
@@ -16,8 +15,8 @@ use Rattle.sm_world.specs.declared.events.Event.{Event}
 use Rattle.smd_app.specs.Exercises.{exercise_events}
 use Rattle.smd_app.specs.FaultLines.{fault_line, fault_status, served}
 use Rattle.smd_app.specs.Rehearsals.{script_of}
-use Rattle.smd_app.specs.Sessions.{IsOfDisk, IsOfEdge, Opened, OpensOr, IsSession, HasServed, WasCutShort, RunsSession}
-use Rattle.smd_app.specs.Statuses.{Ending, HasRehearsed, HasExercised, RunsExercise, RunsTask, DoesTask, DoesNothing, Runs, Answers}
+use Rattle.smd_app.specs.Sessions.{IsOfDisk, IsOfEdge, Opened, OpensOr, HasServed, WasCutShort}
+use Rattle.smd_app.specs.Statuses.{Ending, HasRehearsed, HasExercised, RunsTask, Runs, Answers}
 use Rattle.smd_app.specs.Words.{Places, Task, Rehearse, Exercise, Serve, AreServe, AreExercise, Means}
 use Rattle.smd_app.specs.declared.fault.Fault.{Fault}
 use Rattle.smd_app.specs.declared.fault.Fault.TheVariants.{BadWords, Damaged, WrongSize, Disk, Links, Console, BadLine, Worn, Spent, NoMemory}

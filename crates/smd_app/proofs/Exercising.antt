@@ -1,5 +1,5 @@
 -- Events that are added one after the other.
-use Rattle.std.proofs.Common.{◌≡◌, ℕ, zero, suc, ◌+◌, ◌%◌, ◌≤◌, Bool, true, false, List, [], ◌∷◌, ◌++◌, refl, sym, ◌∙◌, ap, arith, append_assoc, add-one, subst}
+use Rattle.std.proofs.Common.{◌≡◌, ℕ, zero, suc, ◌+◌, ◌%◌, Bool, true, false, List, [], ◌∷◌, ◌++◌, refl, sym, ◌∙◌, ap, arith, append_assoc, add-one, subst}
 use Rattle.std.specs.List.{AllByRecursion}
 use Rattle.sm_world.specs.Events.{HasPieceSize}
 use Rattle.sm_world.specs.declared.events.Event.{Event}

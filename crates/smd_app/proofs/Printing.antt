@@ -1,5 +1,5 @@
 -- What was printed, and how a run ended.
-use Rattle.std.proofs.Common.{◌≡◌, inl, inr, ℕ, ◌+◌, ◌≤◌, true, false, List, [], ◌∷◌, length, map, Option, Some, None, Result, Ok, Err, IfErr, refl, sym, ◌∙◌, ap, subst}
+use Rattle.std.proofs.Common.{◌≡◌, ℕ, ◌+◌, true, false, List, [], ◌∷◌, map, Option, Some, Ok, Err, refl, sym, ◌∙◌, ap}
 use Rattle.sm_world.specs.Outside.{Outside, Added, Rose, UsesConsole, adds}
 use Rattle.sm_world.specs.Worlds.{steady_outside}
 use Rattle.sm_world.specs.declared.effects.Effect.{Effect}
@@ -15,13 +15,12 @@ use Rattle.checkpoint_slots.specs.Turns.{opened_in}
 use Rattle.session_engine.specs.Doing.{items}
 use Rattle.smd_app.specs.Faults.{IsScriptFault}
 use Rattle.smd_app.specs.FaultLines.{console_fault, script_fault}
-use Rattle.smd_app.specs.Rehearsals.{script_of, ends_within, Rehearses, whole_run}
+use Rattle.smd_app.specs.Rehearsals.{script_of, Rehearses, whole_run}
 use Rattle.smd_app.specs.Script.{ScriptSays}
 use Rattle.smd_app.specs.Statuses.{Ending, HasRehearsed, HasExercised, RunsExercise}
 use Rattle.smd_app.specs.Summaries.{came_in, sent_in, summary}
 use Rattle.smd_app.specs.Trace.{text}
-use Rattle.smd_app.specs.declared.fault.Fault.{Fault}
-use Rattle.smd_app.specs.declared.fault.Fault.TheVariants.{Console, BadLine, Spent, NoMemory}
+use Rattle.smd_app.specs.declared.fault.Fault.TheVariants.{BadLine, Spent, NoMemory}
 use Rattle.smd_app.specs.declared.rehearsal.Rehearsal.{Rehearsal}
 use Rattle.smd_app.specs.declared.script.ScriptFault.{ScriptFault}
 use Rattle.smd_app.specs.declared.script.ScriptFault.TheVariants.{BadLine as FirstBadLine, NoMemory as ScriptMemory}

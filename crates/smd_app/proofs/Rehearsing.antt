@@ -13,7 +13,7 @@ use Rattle.checkpoint_slots.specs.Causes.{IsSettled}
 use Rattle.checkpoint_slots.specs.Recovery.{Recovers}
 use Rattle.checkpoint_slots.proofs.Once.{recovers-once}
 use Rattle.session_engine.specs.Acts.{commits_in}
-use Rattle.session_engine.specs.Carries.{Opens, Rests, Serves}
+use Rattle.session_engine.specs.Carries.{Opens, Serves}
 use Rattle.session_engine.specs.Session.{Serving}
 use Rattle.session_engine.specs.declared.fault.ServeFault.{ServeFault}
 use Rattle.session_engine.specs.declared.fault.ServeFault.TheVariants.{Damaged, Spent, WrongSize}

@@ -1,6 +1,5 @@
 -- What a session adds to a world, seen from where the call began.
-use Rattle.std.proofs.Common.{◌≡◌, inl, inr, ℕ, ◌+◌, ◌≤◌, List, [], ◌∷◌, ◌++◌, length, Option, Some, Result, Ok, Err, IfErr, refl, sym, ◌∙◌, ap, subst, arith, codes, length-append}
-use Rattle.std.specs.List.{AllByRecursion}
+use Rattle.std.proofs.Common.{◌≡◌, inl, inr, ℕ, ◌≤◌, List, [], ◌∷◌, ◌++◌, length, Option, Some, Result, Ok, Err, IfErr, refl, sym, ◌∙◌, ap, subst, arith, codes, length-append}
 use Rattle.sm_world.specs.Crash.{cell_of}
 use Rattle.sm_world.specs.Disk.{KeepsToldSize}
 use Rattle.sm_world.specs.Outside.{Outside, Added, NotFallen, adds}
@@ -22,7 +21,7 @@ use Rattle.session_engine.specs.Session.{Serving}
 use Rattle.session_engine.specs.declared.fault.ServeFault.{ServeFault}
 use Rattle.session_engine.specs.declared.fault.ServeFault.TheVariants.{Damaged, WrongSize, DiskFault, LinkFault, ConsoleFault, Worn, Spent, NoMemory}
 use Rattle.smd_app.specs.FaultLines.{served}
-use Rattle.smd_app.specs.Sessions.{network, session_entry, handing_out, announcing, SetsUp, Opened, OpensOr, IsSession, HasServed, RunsSession}
+use Rattle.smd_app.specs.Sessions.{network, session_entry, handing_out, announcing, SetsUp, Opened, OpensOr, RunsSession}
 use Rattle.smd_app.specs.Words.{Places}
 use Rattle.smd_app.specs.declared.identity.Identity.{Identity}
 

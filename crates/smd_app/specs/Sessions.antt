@@ -18,7 +18,7 @@ use Rattle.session_engine.specs.declared.fault.ServeFault.{ServeFault}
 use Rattle.smd_app.specs.FaultLines.{served}
 use Rattle.smd_app.specs.Words.{Places}
 use Rattle.smd_app.specs.declared.fault.Fault.{Fault}
-use Rattle.smd_app.specs.declared.fault.Fault.TheVariants.{BadWords, Damaged, WrongSize, Disk, Links, Console, BadLine, Worn, Spent, NoMemory}
+use Rattle.smd_app.specs.declared.fault.Fault.TheVariants.{Disk, Links, Console, NoMemory}
 use Rattle.smd_app.specs.declared.identity.Identity.{Identity}
 
 -- the address of a session, as its clients know it

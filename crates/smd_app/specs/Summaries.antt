@@ -1,7 +1,7 @@
 -- The summary of an exercise.
 use Rattle.std.specs.Prelude.{◌≡◌, ℕ, ◌+◌, List, [], ◌∷◌, ◌++◌, length, codes}
 use Rattle.std.specs.Fmt.{decimal}
-use Rattle.sm_world.specs.Effects.{Deed, Sends, Shuts, Starts, Prints}
+use Rattle.sm_world.specs.Effects.{Sends, Shuts, Starts, Prints}
 use Rattle.sm_world.specs.declared.events.Event.{Event}
 use Rattle.program_frame.specs.Printing.{line}
 use Rattle.session_engine.specs.Acts.{commits_in}

@@ -1,4 +1,4 @@
-use Rattle.std.proofs.Common.{Err, refl, sym, subst, ap, ◌∙◌}
+use Rattle.std.proofs.Common.{Err, refl, sym, ◌∙◌}
 use Rattle.sm_world.proofs.Adding.{adds-none}
 use Rattle.program_frame.proofs.InputLemmas.{err_is}
 use Rattle.smd_app.proofs.Printing.{exercise_quiet, exercise_refused, exercise_spent, exercise_ended}

@@ -1,6 +1,5 @@
 use Rattle.std.proofs.Common.{Ok, Err}
 use Rattle.smd_app.proofs.SessionLemmas.{served_behind}
-use Rattle.smd_app.specs.Words.{Places}
 use Rattle.smd_app.proofs.serving.serve_session.Goals as goal
 
 pub returns-in-Ok-clause-runs : goal.returns-in-Ok-clause-runs
