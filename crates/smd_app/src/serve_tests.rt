@@ -195,16 +195,14 @@ fn put_epochs(alloc: Global, out: &mut String, world: &MemWorld, first: usize) -
 }
 
 #[test]
-fn a_crash_of_the_opening_leaves_the_old_book_or_the_new(rt: HostRuntime) -> Result<(), Fail> {
+fn a_crash_at_the_gate_leaves_the_old_book_or_the_new(rt: HostRuntime) -> Result<(), Fail> {
     let alloc = rt.alloc();
     let mut world = world_of(alloc, b"", blank_store(alloc)?, 0)?;
     assert_eq!(rt; status_of(alloc, &mut world, WORDS, 0)?, 9);
     let mut found = String::new(alloc);
-    // Behind the file and the line the three steps of a commit begin; the last opens the gate.
-    for first in [5, 7, 8] {
-        put_epochs(alloc, &mut found, &world, first)?;
-    }
-    assert_eq!(rt; found.as_str(), " 000 101 111");
+    // The file, the line, two steps of the commit, and the byte that opens the gate, not yet synced.
+    put_epochs(alloc, &mut found, &world, 7)?;
+    assert_eq!(rt; found.as_str(), " 101");
     Ok(())
 }
 
