@@ -138,12 +138,12 @@ fn who_does_not_read_is_dropped(rt: HostRuntime) -> Result<(), Fail> {
 fn bad_paths_are_refused(rt: HostRuntime) -> Result<(), Fail> {
     let paths = room(rt, "paths")?;
     let (socket, control) = (paths.socket.as_str(), paths.control.as_str());
-    let long = format!(in rt.alloc(); "/tmp/{:0>103}", 0)?;
+    let long = format!(in rt.alloc(); "/run/{:0>103}", 0)?;
     for bad in [
         "",
         "sock",
-        "/tmp/a:b",
-        "/tmp/a,b",
+        "/run/a:b",
+        "/run/a,b",
         "/no such folder/s",
         long.as_str(),
     ] {
