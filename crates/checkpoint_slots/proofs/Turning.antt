@@ -1,7 +1,8 @@
 -- What each call of a turn keeps, by the effects of its put.
-use Rattle.std.proofs.Common.{◌≡◌, ◌+◌, ◌<◌, ◌≤◌, ◌^◌, ◌⊎◌, ◌++◌, ◌∷◌, [], ℕ, List, length, take, slice_index, ap, sym, subst, ◌∙◌, inl, inr, arith}
+use Rattle.std.proofs.Common.{◌≡◌, ◌+◌, ◌<◌, Bool, true, false, ◌&&◌, refl, ◌≤◌, ◌^◌, ◌⊎◌, ◌++◌, ◌∷◌, [], ℕ, List, length, nat_eq, take, slice_index, ap, sym, subst, ◌∙◌, inl, inr, arith}
 use Rattle.std.specs.Prelude.{Option, Some, Ok, Err}
 use Rattle.std.specs.List.{AllByRecursion}
+use Rattle.std.specs.Str.{bytes_eq}
 use Rattle.std.proofs.lemmas.Grind.{same_number_lists}
 use Rattle.std.proofs.lemmas.List.{get_or-take, length-take-le}
 use Rattle.sm_world.specs.Crash.{Image}
@@ -15,10 +16,11 @@ use Rattle.checkpoint_slots.specs.declared.layout.Slot.TheVariants.{First, Secon
 use Rattle.checkpoint_slots.specs.declared.turn.Current.{Current}
 use Rattle.checkpoint_slots.specs.Layout.{gate_at, slot_of, start_of}
 use Rattle.checkpoint_slots.specs.Recovery.{Recovers, slot_bytes}
-use Rattle.checkpoint_slots.specs.Turns.{ClosedFile, ClosedStands, Closes, FilledFile, FilledStands, Fills, IsNext, IsOfStore, IsPut, Lifts, SteadyFile, SteadyStands, Swap, done, next_generation, nothing, target, tore, unsynced, wrote}
+use Rattle.checkpoint_slots.specs.Turns.{ClosedFile, ClosedStands, Closes, FilledFile, FilledStands, Fills, IsNext, IsOfStore, IsPut, Lifts, SteadyFile, SteadyStands, Swap, done, next_generation, nothing, opened_in, target, tore, unsynced, wrote}
 use Rattle.checkpoint_slots.proofs.Puts.{put-front}
 use Rattle.checkpoint_slots.proofs.Images.{agree-before, done-bytes, every-after, file_before, image-before, old-or-new}
 use Rattle.checkpoint_slots.proofs.Files.{close-file, fill-file, slot-byte, slot-length}
+use Rattle.checkpoint_slots.proofs.Bodies.{body-length}
 use Rattle.checkpoint_slots.proofs.Lifted.{lift-file}
 
 pub put-store : (at : ℕ) (bytes : List ℕ) {added : List Effect} → IsPut at bytes added → AllByRecursion IsOfStore added
@@ -142,6 +144,21 @@ module _ (current : Option Current) (first : List ℕ) (effects : List Effect) (
         every-after (FilledFile current book next) first effects stands.1 (gate_at (target current)) (165 ∷ []) (Wrote (gate_at (target current)) (165 ∷ []) ∷ Synced ∷ []) done (SteadyFile (Some (record { slot = target current; generation = next_generation current })) next)
         (λ file image. lifted-now (Wrote (gate_at (target current)) (165 ∷ []) ∷ Synced ∷ []) done file image (done-byte first effects (gate_at (target current)) 165 file (subst (λ (n : ℕ). gate_at (target current) < n) (sym stands.1.size) (gate-within (target current))) image))
 
+-- How often a gate is opened
+
+never_both : (b : Bool) → (b && false) ≡ false
+never_both true = refl
+never_both false = refl
+
+-- more than one byte is not the one byte of an open gate
+no-gate : (bytes : List ℕ) → 2 ≤ length bytes → bytes_eq bytes (165 ∷ []) ≡ false
+no-gate [] two = absurd (omega (arith, two))
+no-gate (x ∷ []) two = absurd (omega (arith, two))
+no-gate (x ∷ y ∷ more) two = never_both (nat_eq x 165)
+
+opens-none : (at : ℕ) (bytes : List ℕ) → bytes_eq bytes (165 ∷ []) ≡ false → opened_in (Wrote at bytes ∷ Synced ∷ []) ≡ 0
+opens-none at bytes other = rw other refl
+
 -- The calls, by what their put answered
 
 abbrev pub IsDone : ℕ → List ℕ → List Effect → Type 0
@@ -152,6 +169,7 @@ closes current added p = record {
   store = put-store (gate_at (target current)) (0 ∷ []) p.0;
   swap = λ first effects book next stands. close-swap current first effects book added p.0 next stands;
   turn = λ first effects book stands. subst (λ (es : List Effect). ClosedStands current book first (effects ++ es)) (sym p.1) (close-stands current first effects book stands);
+  opens = ap opened_in p.1;
 }
 
 pub closes-not : (current : Option Current) (fault : StoreFault) (added : List Effect) → IsPut (gate_at (target current)) (0 ∷ []) added → Closes current (Err fault) added
@@ -159,6 +177,7 @@ closes-not current fault added put = record {
   store = put-store (gate_at (target current)) (0 ∷ []) put;
   swap = λ first effects book next stands. close-swap current first effects book added put next stands;
   turn = λ first effects book stands. tt;
+  opens = tt;
 }
 
 module _ (current : Option Current) (body : List ℕ) (short : length body ≤ 8388608) where
@@ -178,6 +197,7 @@ module _ (current : Option Current) (body : List ℕ) (short : length body ≤ 8
     swap = fills-swap added p.0;
     turn = λ first effects book next stands is e.
         subst (λ (es : List Effect). FilledStands current book next first (effects ++ es)) (sym (p.1 ∙ ap (λ (bytes : List ℕ). Wrote (start_of (target current)) bytes ∷ Synced ∷ []) e)) (fill-stands current first effects book next is stands (short-body next e));
+    opens = λ next e. ap opened_in p.1 ∙ opens-none (start_of (target current)) body (no-gate body (omega (arith, ap length e, body-length (next_generation current) next)));
   }
 
   pub fills-not : (fault : StoreFault) (added : List Effect) → IsPut (start_of (target current)) body added → Fills current body (Err fault) added
@@ -185,6 +205,7 @@ module _ (current : Option Current) (body : List ℕ) (short : length body ≤ 8
     store = put-store (start_of (target current)) body put;
     swap = fills-swap added put;
     turn = λ first effects book next stands is e. tt;
+    opens = λ next e. tt;
   }
 
 pub lifts : (current : Option Current) (steady : Current) (added : List Effect) → (next_generation current < 2 ^ 64 → steady ≡ record { slot = target current; generation = next_generation current }) → IsDone (gate_at (target current)) (165 ∷ []) added → Lifts current (Ok (Some steady)) added
@@ -194,6 +215,7 @@ lifts current steady added e p = record {
   turn = λ first effects book next stands.
       subst (λ (c : Current). SteadyStands (Some c) next first (effects ++ added)) (sym (e stands.0.generation))
       (subst (λ (es : List Effect). SteadyStands (Some (record { slot = target current; generation = next_generation current })) next first (effects ++ es)) (sym p.1) (lift-stands current first effects book next stands));
+  opens = ap opened_in p.1;
 }
 
 pub lifts-not : (current : Option Current) (fault : StoreFault) (added : List Effect) → IsPut (gate_at (target current)) (165 ∷ []) added → Lifts current (Err fault) added
@@ -201,6 +223,7 @@ lifts-not current fault added put = record {
   store = put-store (gate_at (target current)) (165 ∷ []) put;
   swap = λ first effects book next stands. lift-swap current first effects book next stands added put;
   turn = λ first effects book next stands. tt;
+  opens = tt;
 }
 
 -- what is known of the effects that were added goes on to what it implies

@@ -1,6 +1,7 @@
 -- What a turn of the store stands for, and what its calls keep.
-use Rattle.std.specs.Prelude.{IfOk, IsTrue, List, None, Ok, Option, Result, Some, [], length, slice_index, take, ℕ, ◌++◌, ◌+◌, ◌<◌, ◌^◌, ◌≡◌, ◌≤◌, ◌⊎◌, ◌∷◌}
+use Rattle.std.specs.Prelude.{IfOk, IsTrue, List, None, Ok, Option, Result, Some, [], length, slice_index, take, if◌then◌else◌, ℕ, ◌++◌, ◌+◌, ◌<◌, ◌^◌, ◌≡◌, ◌≤◌, ◌⊎◌, ◌∷◌}
 use Rattle.std.specs.List.{AllByRecursion}
+use Rattle.std.specs.Str.{bytes_eq}
 use Rattle.sm_world.specs.Crash.{Image, cell_of, readable}
 use Rattle.sm_world.specs.declared.effects.Effect.{Effect}
 use Rattle.sm_world.specs.declared.effects.Effect.TheVariants.{Heard, Printed, Published, Sent, Shut, Started, SyncFailed, Synced, Torn, Wrote}
@@ -81,6 +82,24 @@ IsOfStore SyncFailed = Unit {0}
 IsOfStore (Published path bytes) = ⊥
 IsOfStore (Printed text) = ⊥
 
+-- the one byte a5 (165) was written, which opens the gate of a slot: with it a checkpoint stands
+abbrev pub opened_by : Effect → ℕ
+opened_by (Heard event) = 0
+opened_by (Sent conn bytes) = 0
+opened_by (Shut conn) = 0
+opened_by (Started command succeeded) = 0
+opened_by (Wrote at bytes) = if bytes_eq bytes (165 ∷ []) then 1 else 0
+opened_by (Torn at n) = 0
+opened_by Synced = 0
+opened_by SyncFailed = 0
+opened_by (Published path bytes) = 0
+opened_by (Printed text) = 0
+
+-- how often a gate was opened
+abbrev pub opened_in : List Effect → ℕ
+opened_in [] = 0
+opened_in (effect ∷ effects) = opened_by effect + opened_in effects
+
 -- the effects that one write and one sync may add
 pub data IsPut (at : ℕ) (bytes : List ℕ) : List Effect → Type 0 where
   nothing : IsPut at bytes []
@@ -94,14 +113,17 @@ pub record Closes (current : Option Current) (result : Result (Option Current) S
   pub store : AllByRecursion IsOfStore added
   pub swap : (first : List ℕ) (effects : List Effect) (book next : Book) → SteadyStands current book first effects → Swap first effects added book next
   pub turn : (first : List ℕ) (effects : List Effect) (book : Book) → SteadyStands current book first effects → IfOk result (λ closed. ClosedStands closed book first (effects ++ added))
+  pub opens : IfOk result (λ closed. opened_in added ≡ 0)
 
 pub record Fills (current : Option Current) (body : List ℕ) (result : Result (Option Current) StoreFault) (added : List Effect) : Type 0 where
   pub store : AllByRecursion IsOfStore added
   pub swap : (first : List ℕ) (effects : List Effect) (book next : Book) → ClosedStands current book first effects → IsNext current next → body ≡ slot_bytes (next_generation current) next → Swap first effects added book next
   pub turn : (first : List ℕ) (effects : List Effect) (book next : Book) → ClosedStands current book first effects → IsNext current next → body ≡ slot_bytes (next_generation current) next
       → IfOk result (λ filled. FilledStands filled book next first (effects ++ added))
+  pub opens : (next : Book) → body ≡ slot_bytes (next_generation current) next → IfOk result (λ filled. opened_in added ≡ 0)
 
 pub record Lifts (current : Option Current) (result : Result (Option Current) StoreFault) (added : List Effect) : Type 0 where
   pub store : AllByRecursion IsOfStore added
   pub swap : (first : List ℕ) (effects : List Effect) (book next : Book) → FilledStands current book next first effects → Swap first effects added book next
   pub turn : (first : List ℕ) (effects : List Effect) (book next : Book) → FilledStands current book next first effects → IfOk result (λ steady. SteadyStands steady next first (effects ++ added))
+  pub opens : IfOk result (λ steady. opened_in added ≡ 1)

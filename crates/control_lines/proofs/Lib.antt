@@ -4,7 +4,4 @@ pub mod Meanings
 pub mod Refusals
 pub mod Again
 pub mod Listing
-pub mod InputLemmas
-pub mod WordLemmas
-pub mod ProgramLemmas
 pub mod FirstBad

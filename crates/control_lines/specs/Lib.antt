@@ -5,6 +5,3 @@ pub mod Orders
 pub mod Script
 pub mod Traces
 pub mod Laws
-pub mod Input
-pub mod Printing
-pub mod Programs

@@ -1,7 +1,6 @@
 //! The lines that people read and write: the operator's orders, scripts and traces.
 #![tactic(auto)]
 
-mod console;
 mod fields;
 mod laws;
 mod lines;
@@ -10,9 +9,7 @@ mod script;
 #[cfg(test)]
 mod tests;
 mod trace;
-mod words;
 
-pub use console::{read_input, try_line};
 pub use fields::{put_hex, read_bytes, read_conn, read_hex, read_number};
 pub use laws::{
     a_line_gives_one_event, a_line_says_its_event, a_line_says_one_order, lines_say_one_list,
@@ -21,4 +18,3 @@ pub use lines::{next_line, split_once};
 pub use orders::{OrderRefusal, read_order};
 pub use script::read_script_line;
 pub use trace::{effect_line, has_line, started_line};
-pub use words::are_one_word;

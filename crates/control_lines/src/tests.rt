@@ -1,13 +1,9 @@
 use crate::{
     OrderRefusal, a_line_gives_one_event, a_line_says_its_event, a_line_says_one_order,
-    are_one_word, effect_line, has_line, lines_say_one_list, next_line, put_hex, read_bytes,
-    read_conn, read_hex, read_input, read_number, read_order, read_script_line, split_once,
-    started_line, try_line,
+    effect_line, has_line, lines_say_one_list, next_line, put_hex, read_bytes, read_conn, read_hex,
+    read_number, read_order, read_script_line, split_once, started_line,
 };
-use sm_world::{
-    Command, Effect, Event, EventList, MemWorld, NoMemory, NumberList, Octets, OctetsList, Order,
-    PairList, SteadyWorld,
-};
+use sm_world::{Command, Effect, Event, NoMemory, Octets, OctetsList, Order, PairList};
 use std::alloc::Global;
 use std::process::Abort;
 use std::test::Fail;
@@ -217,59 +213,10 @@ fn numbers_of_connections(rt: HostRuntime) -> Result<(), Fail> {
 }
 
 #[test]
-fn the_input_is_read_to_its_end_or_to_the_limit(rt: HostRuntime) -> Result<(), Fail> {
-    let alloc = rt.alloc();
-    for (limit, want) in [(0, ""), (4, "line"), (6, "line\n1"), (99, "line\n1")] {
-        let input = Octets::from_slice(alloc, b"line\n1")?;
-        let events = EventList::new(alloc);
-        let mut world = SteadyWorld::new(alloc, events, input, Octets::new(alloc))?;
-        let read = read_input(alloc, &mut world, limit)?;
-        assert_eq!(rt; str::from_utf8(read.as_slice())?, want, "limit {limit}");
-    }
-    Ok(())
-}
-
-/// A world without input whose second call fails.
-fn failing_world(alloc: Global) -> Result<MemWorld, NoMemory> {
-    let mut failing = NumberList::new(alloc);
-    failing.push(2)?;
-    let events = EventList::new(alloc);
-    let input = Octets::new(alloc);
-    MemWorld::new(alloc, events, input, Octets::new(alloc), failing)
-}
-
-#[test]
-fn a_refused_line_is_not_tried_again(rt: HostRuntime) -> Result<(), Fail> {
-    let mut world = failing_world(rt.alloc())?;
-    try_line(&mut world, b"one\n");
-    try_line(&mut world, b"two\n");
-    assert_eq!(rt; world.effects().len(), 1);
-    let first = world.effects().first();
-    assert!(rt;
-        matches!(first, Some(Effect::Printed(text)) if text.as_slice() == b"one\n".as_slice())
-    );
-    Ok(())
-}
-
-#[test]
 fn laws_can_be_called(_rt: HostRuntime) -> Result<(), Fail> {
     a_line_says_one_order();
     a_line_gives_one_event();
     lines_say_one_list();
     a_line_says_its_event();
-    Ok(())
-}
-
-#[test]
-fn one_word_of_a_command_line(rt: HostRuntime) -> Result<(), Fail> {
-    let alloc = rt.alloc();
-    let mut words = Vec::new(alloc);
-    assert!(rt; !are_one_word(words.as_slice(), "status"));
-    words.push("status".to_string(alloc)?)?;
-    assert!(rt; are_one_word(words.as_slice(), "status"));
-    assert!(rt; !are_one_word(words.as_slice(), "statu"));
-    assert!(rt; !are_one_word(words.as_slice(), ""));
-    words.push("status".to_string(alloc)?)?;
-    assert!(rt; !are_one_word(words.as_slice(), "status"));
     Ok(())
 }

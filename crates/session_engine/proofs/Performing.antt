@@ -9,11 +9,11 @@ use Rattle.sm_world.specs.Effects.{Deed, deed_of, deeds}
 use Rattle.sm_world.specs.Outside.{Added, adds, on_ok}
 use Rattle.sm_world.specs.declared.commands.Command.{Command}
 use Rattle.sm_world.specs.declared.effects.Effect.{Effect}
-use Rattle.sm_world.specs.declared.effects.Effect.TheVariants.{Started}
+use Rattle.sm_world.specs.declared.effects.Effect.TheVariants.{Heard, Sent, Shut, Started, Wrote, Torn, Synced, SyncFailed, Published, Printed}
 use Rattle.sm_world.proofs.Adding.{adds-adds, adds-none}
 use Rattle.sm_world.proofs.Cells.{quiet_cells, same_images}
 use Rattle.checkpoint_records.specs.declared.records.Book.{Book}
-use Rattle.checkpoint_slots.specs.Turns.{SteadyStands, next_generation}
+use Rattle.checkpoint_slots.specs.Turns.{SteadyStands, next_generation, opened_by, opened_in}
 use Rattle.checkpoint_slots.specs.declared.turn.Current.{Current}
 use Rattle.session_engine.specs.Acts.{book_after, book_with, commits_in, deed_in, deeds_in}
 use Rattle.session_engine.specs.Causes.{IsNotWorn}
@@ -34,6 +34,23 @@ book_after-append b (x ∷ xs) ys = book_after-append (book_with b x) xs ys
 pub commits_in-append : (xs ys : List Act) → commits_in (xs ++ ys) ≡ commits_in xs + commits_in ys
 commits_in-append [] ys = omega arith
 commits_in-append (x ∷ xs) ys = omega (arith, commits_in-append xs ys)
+
+pub opened_in-append : (es ds : List Effect) → opened_in (es ++ ds) ≡ opened_in es + opened_in ds
+opened_in-append [] ds = omega arith
+opened_in-append (e ∷ es) ds = omega (arith, opened_in-append es ds)
+
+-- an effect that leaves the store opens no gate
+unopened : (effect : Effect) → LeavesStore effect → opened_by effect ≡ 0
+unopened (Heard event) leaves = refl
+unopened (Sent conn bytes) leaves = refl
+unopened (Shut conn) leaves = refl
+unopened (Started command succeeded) leaves = refl
+unopened (Wrote at bytes) leaves = absurd leaves
+unopened (Torn at n) leaves = refl
+unopened Synced leaves = refl
+unopened SyncFailed leaves = refl
+unopened (Published path bytes) leaves = refl
+unopened (Printed text) leaves = refl
 
 -- A front of the first acts is one of all.
 pub saved_before : (b : Book) (xs ys : List Act) (done : List Deed) (file : List ℕ) → IsSaved b xs done file → IsSaved b (xs ++ ys) done file
@@ -139,6 +156,8 @@ performs_then current next xs ys answer es ds one two =
           rw (book_after-append book xs ys, sym (append_assoc before es ds)) (leaves first (before ++ es) (book_after book xs) (one.leaves first before book stands))) two.leaves;
       counts = ok_map (λ last. next_generation last ≡ next_generation next + commits_in ys) (λ last. next_generation last ≡ next_generation current + commits_in (xs ++ ys)) answer (λ last counts.
           omega (arith, counts, one.counts, commits_in-append xs ys)) two.counts;
+      opens = ok_map (λ last. opened_in ds ≡ commits_in ys) (λ last. opened_in (es ++ ds) ≡ commits_in (xs ++ ys)) answer (λ last opens.
+          omega (arith, opens, one.opens, opened_in-append es ds, commits_in-append xs ys)) two.opens;
       worn = λ e. worn_behind current next xs ys es ds done one.counts (two.worn e);
     }
 
@@ -149,6 +168,7 @@ performs_stopped current xs ys halt es one = record {
   saves = λ first before book stands n file image. saved_before book xs ys (deeds (take n es)) file (one.saves first before book stands n file image);
   leaves = tt;
   counts = tt;
+  opens = tt;
   worn = λ e. worn_before current xs ys es (one.worn e);
 }
 
@@ -184,6 +204,7 @@ performs_none current acts halt able = record {
   saves = saved_still current acts;
   leaves = tt;
   counts = tt;
+  opens = tt;
   worn = λ e. absurd (not_worn halt able e);
 }
 
@@ -194,6 +215,7 @@ performs_nothing current = record {
   saves = saved_still current [];
   leaves = λ first before book stands. rw (append-nil before) stands;
   counts = omega arith;
+  opens = refl;
   worn = λ e. absurd cc;
 }
 
@@ -232,6 +254,7 @@ performs_deed current effect act deed = record {
       });
   leaves = λ first before book stands. rw (deed.keeps book) (stands_quiet current book first before effect deed.quiet stands);
   counts = omega (arith, deed.uncounted);
+  opens = omega (arith, unopened effect deed.quiet, deed.uncounted);
   worn = λ e. absurd cc;
 }
 
@@ -242,6 +265,7 @@ performs_finish current = record {
   saves = saved_still current (Finish ∷ []);
   leaves = λ first before book stands. rw (append-nil before) stands;
   counts = omega arith;
+  opens = refl;
   worn = λ e. absurd cc;
 }
 

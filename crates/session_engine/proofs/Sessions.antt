@@ -9,7 +9,7 @@ use Rattle.sm_world.specs.declared.effects.Effect.{Effect}
 use Rattle.sm_world.specs.declared.effects.Effect.TheVariants.{Heard}
 use Rattle.sm_world.specs.declared.events.Event.{Event}
 use Rattle.checkpoint_records.specs.declared.records.Book.{Book}
-use Rattle.checkpoint_slots.specs.Turns.{SteadyStands}
+use Rattle.checkpoint_slots.specs.Turns.{SteadyStands, opened_in}
 use Rattle.checkpoint_slots.specs.declared.turn.Current.{Current}
 use Rattle.ice_cookie.specs.declared.cookies.Cookie.{Cookie}
 use Rattle.session_engine.specs.Acts.{book_after, commits_in, deed_in, deeds_in, has_finish}
@@ -27,7 +27,7 @@ use Rattle.session_engine.specs.declared.fault.ServeFault.{ServeFault}
 use Rattle.session_engine.specs.declared.fault.ServeFault.TheVariants.{Worn}
 use Rattle.session_engine.specs.declared.session.Session.{Session}
 use Rattle.session_engine.proofs.Opening.{opened_unfinished}
-use Rattle.session_engine.proofs.Performing.{book_after-append, commits_in-append, saved_behind, stands_quiet, whole_done}
+use Rattle.session_engine.proofs.Performing.{book_after-append, commits_in-append, opened_in-append, saved_behind, stands_quiet, whole_done}
 use Rattle.session_engine.proofs.Running as of
 
 -- a halt cuts the run short
@@ -115,6 +115,7 @@ module _ (cookie : Cookie) (opening : Book) where
         keeps = opening_keeps current (Ok session.store) es performs;
         store = λ first before stands. rw scripts (performs.leaves first before opening stands);
         counts = rw scripts performs.counts;
+        opens = rw scripts performs.opens;
       }
 
   pub runs_unopened : (current : Option Current) (halt : Halt) (es : List Effect) → Performs current (of.opening_acts cookie opening) (Err halt) es → Runs current (Err (fault_of halt)) es
@@ -127,6 +128,7 @@ module _ (cookie : Cookie) (opening : Book) where
     in_order = λ e. absurd (halt_cuts halt e);
     keeps = opening_keeps current (Err halt) es performs;
     is_current = λ e. absurd (halt_cuts halt e);
+    opens = λ e. absurd (halt_cuts halt e);
     opened = halt_of_run halt;
     worn = λ e. rw (opening_script es performs.out.going.deaf) (performs.worn (worn_halt halt e));
   }
@@ -162,6 +164,11 @@ module _ (cookie : Cookie) (opening : Book) where
       rw (of.script-more cookie opening es ds event performs.out.going.deaf held.unfinished, book_after-append opening (script (heard es)) (acts_at es event), places before es ds event)
       (performs.leaves first ((before ++ es) ++ Heard event ∷ []) (book_after opening (script (heard es))) (stands_heard current session es event held first before stands))
 
+  -- how often a gate was opened, with what was done about one event more
+  opens_more : (current : Option Current) (session : Session) (next : Option Current) (es ds : List Effect) (event : Event) → StandsFor current session es → Performs session.store (acts_at es event) (Ok next) ds → opened_in (es ++ Heard event ∷ ds) ≡ commits_in (script (heard (es ++ Heard event ∷ ds)))
+  opens_more current session next es ds event held performs =
+      omega (arith, performs.opens, held.opens, opened_in-append es (Heard event ∷ ds), ap commits_in (of.script-more cookie opening es ds event performs.out.going.deaf held.unfinished), commits_in-append (script (heard es)) (acts_at es event))
+
   -- the run goes on
   pub stands_more : (current : Option Current) (session next : Session) (es ds : List Effect) (event : Event) → StandsFor current session es → Performs session.store (acts_at es event) (Ok next.store) ds → Shows all_cut next.engine (step (after_all start (heard es)) event).next → has_finish (acts_at es event) ≡ false → StandsFor current next (es ++ Heard event ∷ ds)
   stands_more current session next es ds event held performs shows goes =
@@ -175,6 +182,7 @@ module _ (cookie : Cookie) (opening : Book) where
         keeps = keeps_more current session es ds event (Ok next.store) held performs;
         store = store_more current session next.store es ds event held performs;
         counts = omega (arith, performs.counts, held.counts, ap commits_in (of.script-more cookie opening es ds event deaf held.unfinished), commits_in-append (script (heard es)) (acts_at es event));
+        opens = opens_more current session next.store es ds event held performs;
       }
 
   -- the machine's own end
@@ -188,6 +196,7 @@ module _ (cookie : Cookie) (opening : Book) where
     in_order = λ e. of.shown-more cookie opening es ds event performs.out held.unfinished held.in_order;
     keeps = keeps_more current session es ds event (Ok next) held performs;
     is_current = λ e first before stands file image. ((store_more current session next es ds event held performs first before stands).images file image).recovers;
+    opens = λ e. opens_more current session next es ds event held performs;
     opened = tt;
     worn = λ e. absurd (ok_is_no_fault Worn e);
   }
@@ -213,6 +222,7 @@ module _ (cookie : Cookie) (opening : Book) where
     in_order = λ e. absurd (halt_cuts halt e);
     keeps = keeps_more current session es ds event (Err halt) held performs;
     is_current = λ e. absurd (halt_cuts halt e);
+    opens = λ e. absurd (halt_cuts halt e);
     opened = halt_of_run halt;
     worn = λ e. worn_more current session es ds event held performs.out.going.deaf (performs.worn (worn_halt halt e));
   }
@@ -224,6 +234,7 @@ module _ (cookie : Cookie) (opening : Book) where
     in_order = λ e. held.in_order;
     keeps = held.keeps;
     is_current = λ e first before stands file image. ((held.store first before stands).images file image).recovers;
+    opens = λ e. held.opens;
     opened = opened;
     worn = λ e. absurd (able (the_fault fault Worn e));
   }

@@ -22,7 +22,7 @@ use Rattle.session_engine.specs.Saved.{IsSaved, Performs}
 use Rattle.session_engine.specs.declared.acts.Act.TheVariants.{Commit}
 use Rattle.session_engine.specs.declared.fault.Halt.TheVariants.{Disk}
 use Rattle.session_engine.proofs.Adding.{still}
-use Rattle.session_engine.proofs.Performing.{fronts_two, performs_none, saved_still}
+use Rattle.session_engine.proofs.Performing.{fronts_two, opened_in-append, performs_none, saved_still}
 
 -- Effects of the store alone, at each of which every file that a crash may leave has the old checkpoint or the new one.
 pub record Swaps (current : Option Current) (book : Book) (es : List Effect) : Type 0 where
@@ -116,6 +116,7 @@ performs_refused current book es swaps =
       saves = saves_swap current book es swaps;
       leaves = tt;
       counts = tt;
+      opens = tt;
       worn = λ e. absurd cc;
     }
 
@@ -133,6 +134,7 @@ performs_commit current next book body cs fs ls is_next is_body closes fills lif
       saves = saves_swap current book ((cs ++ fs) ++ ls) swaps;
       leaves = λ first before opening stands. rw (sym (append_assoc before (cs ++ fs) ls)) (lifts.turn first (before ++ (cs ++ fs)) opening book (filled_stands current book body cs fs is_next is_body closes fills first before opening stands));
       counts = rw is (omega arith);
+      opens = omega (arith, opened_in-append (cs ++ fs) ls, opened_in-append cs fs, closes.opens, fills.opens book is_body, lifts.opens);
       worn = λ e. absurd cc;
     }
 
@@ -151,6 +153,7 @@ told_unspelled current book IsWorn old cause = record {
     saves = saved_still current (Commit book ∷ []);
     leaves = tt;
     counts = tt;
+    opens = tt;
     worn = λ e. record { front = []; rest = []; book = book; parts = refl; same = refl; last = omega (arith, cause) };
   };
 }

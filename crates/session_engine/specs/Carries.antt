@@ -11,10 +11,10 @@ use Rattle.sm_world.specs.declared.events.Event.{Event}
 use Rattle.checkpoint_records.specs.declared.records.Book.{Book}
 use Rattle.checkpoint_slots.specs.Causes.{IsSettled}
 use Rattle.checkpoint_slots.specs.Recovery.{Recovers}
-use Rattle.checkpoint_slots.specs.Turns.{SteadyFile, SteadyStands}
+use Rattle.checkpoint_slots.specs.Turns.{SteadyFile, SteadyStands, opened_in}
 use Rattle.checkpoint_slots.specs.declared.turn.Current.{Current}
 use Rattle.ice_cookie.specs.declared.cookies.Cookie.{Cookie}
-use Rattle.session_engine.specs.Acts.{book_after, deeds_in, has_finish}
+use Rattle.session_engine.specs.Acts.{book_after, commits_in, deeds_in, has_finish}
 use Rattle.session_engine.specs.Causes.{IsOfRun}
 use Rattle.session_engine.specs.Doing.{items}
 use Rattle.session_engine.specs.Machine.{Item, script_of, run_of}
@@ -97,6 +97,8 @@ module _ (cookie : Cookie) (opening : Book) where
     pub keeps : (first : List ℕ) (before : List Effect) → SteadyStands current opening first before → Keeps first before effects
     -- where no fault cut the run short, the last checkpoint is in the store
     pub is_current : is_whole answer ≡ true → (first : List ℕ) (before : List Effect) → SteadyStands current opening first before → (file : List ℕ) → Image first (before ++ effects) file → IsCurrent effects file
+    -- and a gate of the store was opened for each of the machine's commits
+    pub opens : is_whole answer ≡ true → opened_in effects ≡ commits_in (script (heard effects))
     -- no fault of the recovery comes any more
     pub opened : IfErr answer IsOfRun
     -- the store is worn where a commit found no number more

@@ -5,7 +5,7 @@ use Rattle.sm_world.specs.Effects.{Deed, deeds}
 use Rattle.sm_world.specs.declared.effects.Effect.{Effect}
 use Rattle.checkpoint_records.specs.declared.records.Book.{Book}
 use Rattle.checkpoint_slots.specs.Recovery.{Recovers}
-use Rattle.checkpoint_slots.specs.Turns.{SteadyStands, next_generation}
+use Rattle.checkpoint_slots.specs.Turns.{SteadyStands, next_generation, opened_in}
 use Rattle.checkpoint_slots.specs.declared.turn.Current.{Current}
 use Rattle.session_engine.specs.Acts.{book_after, commits_in, deeds_in}
 use Rattle.session_engine.specs.Doing.{CarriesOut}
@@ -49,4 +49,5 @@ pub record Performs (current : Option Current) (acts : List Act) (answer : Resul
   pub saves : Saves current acts effects
   pub leaves : IfOk answer (Leaves current acts effects)
   pub counts : IfOk answer (λ next. next_generation next ≡ next_generation current + commits_in acts)
+  pub opens : IfOk answer (λ next. opened_in effects ≡ commits_in acts)
   pub worn : IsErrOf answer Worn → WearsOut current acts effects

@@ -4,7 +4,7 @@ use Rattle.sm_world.specs.Effects.{heard, deeds}
 use Rattle.sm_world.specs.Outside.{Outside}
 use Rattle.sm_world.specs.declared.effects.Effect.{Effect}
 use Rattle.checkpoint_records.specs.declared.records.Book.{Book}
-use Rattle.checkpoint_slots.specs.Turns.{SteadyStands, next_generation}
+use Rattle.checkpoint_slots.specs.Turns.{SteadyStands, next_generation, opened_in}
 use Rattle.checkpoint_slots.specs.declared.turn.Current.{Current}
 use Rattle.ice_cookie.specs.declared.cookies.Cookie.{Cookie}
 use Rattle.session_model.specs.Readings as of
@@ -31,6 +31,7 @@ pub record StandsFor (cookie : Cookie) (opening : Book) (current : Option Curren
   pub keeps : (first : List ℕ) (before : List Effect) → SteadyStands current opening first before → Keeps cookie opening first before effects
   pub store : (first : List ℕ) (before : List Effect) → SteadyStands current opening first before → SteadyStands session.store (book_after opening (script cookie opening (heard effects))) first (before ++ effects)
   pub counts : next_generation session.store ≡ next_generation current + commits_in (script cookie opening (heard effects))
+  pub opens : opened_in effects ≡ commits_in (script cookie opening (heard effects))
 
 -- A device, the store or the memory cut the run short, and not the number of its turns.
 pub record IsCut (cookie : Cookie) (opening : Book) (current : Option Current) (fault : ServeFault) (effects : List Effect) : Type 0 where

@@ -1,53 +1,51 @@
 //! `smd`, the session manager.
 #![tactic(auto)]
 
-ghost use Rattle.std.specs.Prelude.{◌≤◌, length};
-
-use ice_cookie::Cookie;
+use desktop_world::{DesktopWorld, host_name, random_cookie};
+use program_frame::{OwnTexts, StandardConsole, read_words};
 use sm_world::{Console, Octets};
 use smd_app::{Identity, smd_main};
-use standard_console::{OwnTexts, StandardConsole, read_words};
-use std::alloc::Global;
+use std::io;
 use std::process::ExitCode;
 
 const TEXTS: OwnTexts = OwnTexts {
     help: "smd, the session manager\n\n\
-        usage: smd rehearse < SCRIPT   shows what smd does at the events of a script\n\
+        usage: smd serve --socket P --control C --store F --authority A\n\
+        \x20                               runs the session of a desktop\n\
+        \x20      smd rehearse < SCRIPT   shows what smd does at the events of a script\n\
+        \x20      smd exercise A N        saves eight clients N times in memory, and sums it up\n\
         \x20      smd --help              shows this\n\
         \x20      smd --version           shows the version\n",
     version: "smd 0.1.0\n",
+    no_memory: "smd: no memory\n",
 };
 
-/// The identity for words that show none to anybody, as all words do today.
-fn nobody(alloc: Global) -> Identity
-    ensures { length result.host ≤ 255 }
-{
-    Identity {
-        cookie: Cookie([0; 16]),
-        host: Octets::new(alloc),
-    }
-}
-
-/// The status of a run with these words.
-fn answer(alloc: Global, words: &[String], world: &mut StandardConsole) -> u8 {
-    match TEXTS.answer(words) {
-        Some(text) if world.print(text.as_bytes()).is_ok() => 0,
-        Some(_) => 6,
-        None => smd_main(alloc, words, world, nobody(alloc), u64::MAX),
-    }
+/// The status of a run with these words on this desktop.
+fn run(rt: HostRuntime, words: &[String]) -> io::Result<u8> {
+    let host = host_name(&rt)?;
+    let identity = Identity {
+        cookie: random_cookie(&rt)?,
+        host: Octets::from_vec(Vec::from_slice(rt.alloc(), host.as_bytes())?),
+    };
+    let mut world = DesktopWorld::new(rt, host);
+    let status = smd_main(rt.alloc(), words, &mut world, identity, u64::MAX);
+    world.close();
+    Ok(status)
 }
 
 fn main(rt: HostRuntime) -> ExitCode {
-    let alloc = rt.alloc();
     let words = read_words(&rt);
-    let mut world = StandardConsole::new(rt);
-    let status = match words {
-        Ok(words) => answer(alloc, words.as_slice(), &mut world),
-        // Nothing else keeps the words from being read.
-        Err(_) => {
-            let _ = world.print(b"smd: no memory\n");
-            10
-        }
+    let mut console = StandardConsole::new(rt);
+    let status = match TEXTS.begin(words, &mut console) {
+        Ok(words) => match run(rt, words.as_slice()) {
+            Ok(status) => status,
+            // Neither the host's name nor a cookie is refused for another reason.
+            Err(_) => {
+                let _ = console.print(TEXTS.no_memory.as_bytes());
+                10
+            }
+        },
+        Err(status) => status,
     };
     ExitCode::from(status)
 }

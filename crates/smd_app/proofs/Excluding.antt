@@ -4,23 +4,23 @@ use Rattle.std.specs.List.{AllByRecursion}
 use Rattle.std.proofs.lemmas.Bool.{false≢true}
 use Rattle.sm_world.specs.declared.events.Event.{Event}
 use Rattle.control_lines.specs.Lines.{lines_of}
-use Rattle.control_lines.specs.Script.{SayAll}
+use Rattle.control_lines.specs.Script.{Gives, SayAll}
 use Rattle.control_lines.proofs.FirstBad.{BadAt, same_place, none_bad}
 use Rattle.control_lines.proofs.Meanings.{one_list}
 use Rattle.smd_app.specs.Exclusions.{FitsOnce}
 use Rattle.smd_app.specs.Rehearsals.{ends_within}
-use Rattle.smd_app.specs.Script.{IsTaken, Takes, ScriptSays, IsFirstBad}
+use Rattle.smd_app.specs.Script.{ScriptSays, IsFirstBad}
 use Rattle.smd_app.specs.declared.script.TheConstants.{SCRIPT_LIMIT}
 
--- the line gives something that is taken
+-- the line is skipped, or it says an event
 abbrev IsGood : List ℕ → Type 0
-IsGood line = (given : Option Event) × Takes line given
+IsGood line = (given : Option Event) × Gives line given
 
-all_good : (lines : List (List ℕ)) (events : List Event) → SayAll lines events → AllByRecursion IsTaken events → AllByRecursion IsGood lines
-all_good [] events say taken = tt
-all_good (line ∷ lines) events (inl skipped) taken = ((None, skipped.0), all_good lines events skipped.1 taken)
-all_good (line ∷ lines) [] (inr says) taken = elim says [ ]
-all_good (line ∷ lines) (event ∷ events) (inr says) taken = ((Some event, (says.0, taken.0)), all_good lines events says.1 taken.1)
+all_good : (lines : List (List ℕ)) (events : List Event) → SayAll lines events → AllByRecursion IsGood lines
+all_good [] events say = tt
+all_good (line ∷ lines) events (inl skipped) = ((None, skipped.0), all_good lines events skipped.1)
+all_good (line ∷ lines) [] (inr says) = elim says [ ]
+all_good (line ∷ lines) (event ∷ events) (inr says) = ((Some event, says.0), all_good lines events says.1)
 
 bad_at : (bytes : List ℕ) (n : ℕ) → IsFirstBad bytes n → BadAt IsGood (SCRIPT_LIMIT < length bytes) (lines_of bytes) n
 bad_at bytes n first = record {
@@ -29,7 +29,7 @@ bad_at bytes n first = record {
   others = first.others;
   parts = first.lines;
   number = first.number;
-  all_good = all_good first.good first.events first.all_good.say first.all_good.taken;
+  all_good = all_good first.good first.events first.all_good;
   bad = elim first.bad [
     | inl none ↦ inl (λ given. none given.0 given.1)
     | inr last ↦ inr last
@@ -41,10 +41,10 @@ same_bad bytes n k one other = same_place IsGood (SCRIPT_LIMIT < length bytes) (
 
 never_both : (bytes : List ℕ) (events : List Event) (n : ℕ) → ScriptSays bytes events → IsFirstBad bytes n → ⊥
 never_both bytes events n says bad =
-    none_bad IsGood (SCRIPT_LIMIT < length bytes) (lines_of bytes) n (all_good (lines_of bytes) events says.all.say says.all.taken) (λ long. omega (arith, long, says.within)) (bad_at bytes n bad)
+    none_bad IsGood (SCRIPT_LIMIT < length bytes) (lines_of bytes) n (all_good (lines_of bytes) events says.all) (λ long. omega (arith, long, says.within)) (bad_at bytes n bad)
 
 same_script : (bytes : List ℕ) (events others : List Event) → ScriptSays bytes events → ScriptSays bytes others → events ≡ others
-same_script bytes events others one other = one_list (lines_of bytes) events others one.all.say other.all.say
+same_script bytes events others one other = one_list (lines_of bytes) events others one.all other.all
 
 pub fits_once : (bytes : List ℕ) (turns : ℕ) → FitsOnce bytes turns
 fits_once bytes turns = record {

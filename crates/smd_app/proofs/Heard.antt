@@ -8,7 +8,7 @@ use Rattle.sm_world.specs.declared.events.Event.TheVariants.{End}
 use Rattle.checkpoint_records.specs.Books.{empty_book}
 use Rattle.session_engine.specs.Carries.{next_events}
 use Rattle.session_engine.specs.Acts.{deeds_in, has_finish}
-use Rattle.session_engine.specs.Machine.{Machine, Came, Did, Item, acts_of, start as start_with, step, script_from, run_from}
+use Rattle.session_engine.specs.Machine.{Machine, Came, Did, Item, acts_of, opening_acts, start as start_with, step, script_from, run_from}
 use Rattle.session_engine.specs.declared.acts.Act.{Act}
 use Rattle.session_engine.specs.Carries.{script as script_with, run as run_with}
 use Rattle.session_engine.proofs.Running.{has_finish-append}
@@ -79,6 +79,7 @@ past_events (suc n) (event ∷ events) many =
 pub record Ended (turns : ℕ) (events hs : List Event) : Type 0 where
   pub within : ends_within turns events ≡ true
   pub same : run (with_end events) ≡ run hs
+  pub acts : script (with_end events) ≡ script hs
 
 ended_at : (turns : ℕ) (events hs rest : List Event) → with_end events ≡ hs ++ rest → length hs ≤ turns → has_finish (script hs) ≡ true → Ended turns events hs
 ended_at turns events hs rest parts few finishes =
@@ -87,6 +88,7 @@ ended_at turns events hs rest parts few finishes =
     record {
       within = ap (λ es. has_finish (script es)) first ∙ (ap has_finish (script_stops start hs (take (turns - length hs) rest) finishes) ∙ finishes);
       same = ap run parts ∙ run_stops start hs rest finishes;
+      acts = ap script parts ∙ ap (λ acts. opening_acts empty_book ++ acts) (script_stops start hs rest finishes);
     }
 
 ended_past : (turns : ℕ) (events hs more : List Event) → hs ≡ with_end events ++ more → length events + 1 ≤ turns → Ended turns events hs
@@ -95,6 +97,7 @@ ended_past turns events hs more parts many =
     record {
       within = ap (λ es. has_finish (script es)) all ∙ end_finishes start events;
       same = sym (ap run parts ∙ run_stops start (with_end events) more (end_finishes start events));
+      acts = sym (ap script parts ∙ ap (λ acts. opening_acts empty_book ++ acts) (script_stops start (with_end events) more (end_finishes start events)));
     }
 
 pub ended_run : (turns : ℕ) (events hs : List Event) → hs ≡ next_events (length hs) events → length hs ≤ turns → has_finish (script hs) ≡ true → Ended turns events hs

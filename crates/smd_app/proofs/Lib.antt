@@ -2,4 +2,9 @@ pub mod ScriptLemmas
 pub mod Heard
 pub mod Rehearsing
 pub mod Printing
+pub mod Ending
 pub mod Excluding
+pub mod Wording
+pub mod SessionLemmas
+pub mod Exercising
+pub mod Counting

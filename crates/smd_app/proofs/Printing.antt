@@ -1,22 +1,26 @@
 -- What was printed, and how a run ended.
-use Rattle.std.proofs.Common.{◌≡◌, ℕ, ◌+◌, true, false, List, [], ◌∷◌, map, Ok, Err, refl, sym, ◌∙◌, ap, subst}
+use Rattle.std.proofs.Common.{◌≡◌, ℕ, ◌+◌, true, false, List, [], ◌∷◌, map, Option, Some, Ok, Err, refl, sym, ◌∙◌, ap}
 use Rattle.sm_world.specs.Outside.{Outside, Added, Rose, UsesConsole, adds}
+use Rattle.sm_world.specs.Worlds.{steady_outside}
+use Rattle.sm_world.specs.declared.effects.Effect.{Effect}
 use Rattle.sm_world.specs.declared.effects.Effect.TheVariants.{Printed}
 use Rattle.sm_world.specs.declared.events.Event.{Event}
 use Rattle.sm_world.specs.declared.failures.Failure.{Failure}
 use Rattle.sm_world.specs.declared.failures.Failure.TheVariants.{Failed, NoMemory as DeviceMemory}
 use Rattle.sm_world.proofs.Adding.{adds-none}
-use Rattle.control_lines.specs.Printing.{Tries}
-use Rattle.control_lines.specs.Programs.{status_by, line_by}
-use Rattle.control_lines.proofs.InputLemmas.{rose_since}
-use Rattle.control_lines.proofs.ProgramLemmas.{Took as TookWithin, ran as ran_with, ran_unread, reported as reported_with}
+use Rattle.program_frame.specs.Programs.{RunsAs}
+use Rattle.program_frame.proofs.InputLemmas.{rose_since}
+use Rattle.program_frame.proofs.ProgramLemmas.{Took as TookWithin, ran as ran_with, ran_unread}
+use Rattle.checkpoint_slots.specs.Turns.{opened_in}
+use Rattle.session_engine.specs.Doing.{items}
 use Rattle.smd_app.specs.Faults.{IsScriptFault}
-use Rattle.smd_app.specs.FaultLines.{fault_line, fault_status, console_fault, script_fault}
-use Rattle.smd_app.specs.Rehearsals.{script_of, Rehearses}
+use Rattle.smd_app.specs.FaultLines.{console_fault, script_fault}
+use Rattle.smd_app.specs.Rehearsals.{script_of, Rehearses, whole_run}
 use Rattle.smd_app.specs.Script.{ScriptSays}
-use Rattle.smd_app.specs.Statuses.{AreRehearse, Ending, HasEnding, Runs, Answers}
-use Rattle.smd_app.specs.declared.fault.Fault.{Fault}
-use Rattle.smd_app.specs.declared.fault.Fault.TheVariants.{BadWords, Console, BadLine, Spent, NoMemory}
+use Rattle.smd_app.specs.Statuses.{Ending, HasRehearsed, HasExercised, RunsExercise}
+use Rattle.smd_app.specs.Summaries.{came_in, sent_in, summary}
+use Rattle.smd_app.specs.Trace.{text}
+use Rattle.smd_app.specs.declared.fault.Fault.TheVariants.{BadLine, Spent, NoMemory}
 use Rattle.smd_app.specs.declared.rehearsal.Rehearsal.{Rehearsal}
 use Rattle.smd_app.specs.declared.script.ScriptFault.{ScriptFault}
 use Rattle.smd_app.specs.declared.script.ScriptFault.TheVariants.{BadLine as FirstBadLine, NoMemory as ScriptMemory}
@@ -26,67 +30,91 @@ use Rattle.smd_app.specs.declared.script.TheConstants.{SCRIPT_LIMIT}
 abbrev pub Took : Outside → Outside → List ℕ → Type 0
 Took old mid bytes = TookWithin (SCRIPT_LIMIT + 1) old mid bytes
 
--- a run that printed these texts after its script was read
-ran : (words : List (List ℕ)) (old mid new : Outside) (turns : ℕ) (bytes : List ℕ) (texts : List (List ℕ)) (ending : Ending) → Took old mid bytes → new.told ≡ adds mid.told (map Printed texts) → HasEnding words old.faults.console new.faults.console bytes turns texts ending → Added old.told new.told (Runs words old new turns ending)
-ran words old mid new turns bytes texts ending =
-    ran_with (SCRIPT_LIMIT + 1) (λ read printed. HasEnding words old.faults.console new.faults.console read turns printed ending) old mid new bytes texts
+-- A rehearsal ended so.
+abbrev pub Rehearsed : Outside → Outside → ℕ → Ending → List Effect → Type 0
+Rehearsed old new turns ending effects = RunsAs old.input (λ input texts. HasRehearsed old.faults.console new.faults.console (script_of input) turns texts ending) effects
 
-refused : (words : List (List ℕ)) (before after : ℕ) (bytes : List ℕ) (turns : ℕ) (failure : Failure) → AreRehearse words → (failure ≡ Failed → Rose before after) → HasEnding words before after bytes turns [] (Err (console_fault failure))
-refused words before after bytes turns Failed are rose = (are, rose refl, refl)
-refused words before after bytes turns DeviceMemory are rose = (are, refl)
+-- a run that printed these texts after its script was read
+ran : (old mid new : Outside) (turns : ℕ) (bytes : List ℕ) (texts : List (List ℕ)) (ending : Ending) → Took old mid bytes → new.told ≡ adds mid.told (map Printed texts) → HasRehearsed old.faults.console new.faults.console bytes turns texts ending → Added old.told new.told (Rehearsed old new turns ending)
+ran old mid new turns bytes texts ending =
+    ran_with (SCRIPT_LIMIT + 1) (λ read printed. HasRehearsed old.faults.console new.faults.console read turns printed ending) old mid new bytes texts
+
+refused : (before after : ℕ) (bytes : List ℕ) (turns : ℕ) (failure : Failure) → (failure ≡ Failed → Rose before after) → HasRehearsed before after bytes turns [] (Err (console_fault failure))
+refused before after bytes turns Failed rose = (rose refl, refl)
+refused before after bytes turns DeviceMemory rose = refl
 
 -- the console's input was refused
-pub read_refused : (words : List (List ℕ)) (old new : Outside) (turns : ℕ) (failure : Failure) → AreRehearse words → new.told ≡ old.told → UsesConsole {A = List ℕ} old new (Err failure) → Added old.told new.told (Runs words old new turns (Err (console_fault failure)))
-read_refused words old new turns failure are told uses =
-    ran_unread (λ input texts. HasEnding words old.faults.console new.faults.console (script_of input) turns texts (Err (console_fault failure))) old new told
-    (λ input. refused words old.faults.console new.faults.console (script_of input) turns failure are (λ e. uses.cause (ap Err e)))
+pub read_refused : (old new : Outside) (turns : ℕ) (failure : Failure) → new.told ≡ old.told → UsesConsole {A = List ℕ} old new (Err failure) → Added old.told new.told (Rehearsed old new turns (Err (console_fault failure)))
+read_refused old new turns failure told uses =
+    ran_unread (λ input texts. HasRehearsed old.faults.console new.faults.console (script_of input) turns texts (Err (console_fault failure))) old new told
+    (λ input. refused old.faults.console new.faults.console (script_of input) turns failure (λ e. uses.cause (ap Err e)))
 
 -- the script has a bad line, or memory was wanting
-pub script_refused : (words : List (List ℕ)) (old mid : Outside) (turns : ℕ) (bytes : List ℕ) (cause : ScriptFault) → AreRehearse words → Took old mid bytes → IsScriptFault bytes cause → Added old.told mid.told (Runs words old mid turns (Err (script_fault cause)))
-script_refused words old mid turns bytes (FirstBadLine n) are taken bad = ran words old mid mid turns bytes [] (Err (BadLine n)) taken (sym (adds-none mid.told)) (are, bad, refl)
-script_refused words old mid turns bytes ScriptMemory are taken bad = ran words old mid mid turns bytes [] (Err NoMemory) taken (sym (adds-none mid.told)) (are, refl)
+pub script_refused : (old mid : Outside) (turns : ℕ) (bytes : List ℕ) (cause : ScriptFault) → Took old mid bytes → IsScriptFault bytes cause → Added old.told mid.told (Rehearsed old mid turns (Err (script_fault cause)))
+script_refused old mid turns bytes (FirstBadLine n) taken bad = ran old mid mid turns bytes [] (Err (BadLine n)) taken (sym (adds-none mid.told)) (bad, refl)
+script_refused old mid turns bytes ScriptMemory taken bad = ran old mid mid turns bytes [] (Err NoMemory) taken (sym (adds-none mid.told)) refl
 
 -- memory was wanting for the run
-pub run_refused : (words : List (List ℕ)) (old mid : Outside) (turns : ℕ) (bytes : List ℕ) → AreRehearse words → Took old mid bytes → Added old.told mid.told (Runs words old mid turns (Err NoMemory))
-run_refused words old mid turns bytes are taken = ran words old mid mid turns bytes [] (Err NoMemory) taken (sym (adds-none mid.told)) (are, refl)
+pub run_refused : (old mid : Outside) (turns : ℕ) (bytes : List ℕ) → Took old mid bytes → Added old.told mid.told (Rehearsed old mid turns (Err NoMemory))
+run_refused old mid turns bytes taken = ran old mid mid turns bytes [] (Err NoMemory) taken (sym (adds-none mid.told)) refl
 
 -- the trace was refused
-pub print_refused : (words : List (List ℕ)) (old mid new : Outside) (turns : ℕ) (bytes : List ℕ) (failure : Failure) → AreRehearse words → Took old mid bytes → new.told ≡ adds mid.told [] → UsesConsole {A = Unit {0}} mid new (Err failure) → Added old.told new.told (Runs words old new turns (Err (console_fault failure)))
-print_refused words old mid new turns bytes failure are taken told uses =
-    ran words old mid new turns bytes [] (Err (console_fault failure)) taken told
-    (refused words old.faults.console new.faults.console bytes turns failure are (λ e. rose_since old.faults.console mid.faults.console new.faults.console taken.console (uses.cause (ap Err e))))
+pub print_refused : (old mid new : Outside) (turns : ℕ) (bytes : List ℕ) (failure : Failure) → Took old mid bytes → new.told ≡ adds mid.told [] → UsesConsole {A = Unit {0}} mid new (Err failure) → Added old.told new.told (Rehearsed old new turns (Err (console_fault failure)))
+print_refused old mid new turns bytes failure taken told uses =
+    ran old mid new turns bytes [] (Err (console_fault failure)) taken told
+    (refused old.faults.console new.faults.console bytes turns failure (λ e. rose_since old.faults.console mid.faults.console new.faults.console taken.console (uses.cause (ap Err e))))
 
-pub run_ended : (words : List (List ℕ)) (old mid new : Outside) (turns : ℕ) (bytes shown : List ℕ) (events : List Event) (rehearsal : Rehearsal) → AreRehearse words → Took old mid bytes → ScriptSays bytes events → Rehearses events turns rehearsal → rehearsal.finished ≡ true → shown ≡ rehearsal.trace → new.told ≡ adds mid.told (Printed shown ∷ []) → Added old.told new.told (Runs words old new turns (Ok tt))
-run_ended words old mid new turns bytes shown events rehearsal are taken says rehearses finished is_shown told =
-    ran words old mid new turns bytes (shown ∷ []) (Ok tt) taken told
-    (are, (events, record { says = says; ended = sym rehearses.ended ∙ finished }, ap (λ text. text ∷ []) (is_shown ∙ rehearses.whole finished)))
+same_shown : (xs ys : List Effect) → Some xs ≡ Some ys → xs ≡ ys
+same_shown xs ys e = cc
 
-pub run_spent : (words : List (List ℕ)) (old mid new : Outside) (turns : ℕ) (bytes shown : List ℕ) (events : List Event) (rehearsal : Rehearsal) → AreRehearse words → Took old mid bytes → ScriptSays bytes events → Rehearses events turns rehearsal → rehearsal.finished ≡ false → shown ≡ rehearsal.trace → new.told ≡ adds mid.told (Printed shown ∷ []) → Added old.told new.told (Runs words old new turns (Err Spent))
-run_spent words old mid new turns bytes shown events rehearsal are taken says rehearses unfinished is_shown told =
+-- what the world behind the run shows
+pub same_effects : (events : List Event) (turns : ℕ) (rehearsal : Rehearsal) (shown : List Effect) → (rehearses : Rehearses events turns rehearsal) → Some shown ≡ (steady_outside rehearsal.world).told → shown ≡ rehearses.effects
+same_effects events turns rehearsal shown rehearses is = same_shown shown rehearses.effects (is ∙ rehearses.told)
+
+pub run_ended : (old mid new : Outside) (turns : ℕ) (bytes printed trace : List ℕ) (shown : List Effect) (events : List Event) (rehearsal : Rehearsal) → Took old mid bytes → ScriptSays bytes events → Rehearses events turns rehearsal → rehearsal.finished ≡ true → printed ≡ trace → trace ≡ text (items shown) → Some shown ≡ (steady_outside rehearsal.world).told → new.told ≡ adds mid.told (Printed printed ∷ []) → Added old.told new.told (Rehearsed old new turns (Ok tt))
+run_ended old mid new turns bytes printed trace shown events rehearsal taken says rehearses finished is_printed is_trace is_shown told =
+    ran old mid new turns bytes (printed ∷ []) (Ok tt) taken told
+    (events, record { says = says; ended = sym rehearses.ended ∙ finished }, ap (λ lines. lines ∷ []) (is_printed ∙ (is_trace ∙ ap text (ap items (same_effects events turns rehearsal shown rehearses is_shown) ∙ rehearses.whole finished))))
+
+pub run_spent : (old mid new : Outside) (turns : ℕ) (bytes printed trace : List ℕ) (shown : List Effect) (events : List Event) (rehearsal : Rehearsal) → Took old mid bytes → ScriptSays bytes events → Rehearses events turns rehearsal → rehearsal.finished ≡ false → printed ≡ trace → trace ≡ text (items shown) → Some shown ≡ (steady_outside rehearsal.world).told → new.told ≡ adds mid.told (Printed printed ∷ []) → Added old.told new.told (Rehearsed old new turns (Err Spent))
+run_spent old mid new turns bytes printed trace shown events rehearsal taken says rehearses unfinished is_printed is_trace is_shown told =
     let cut = rehearses.cut unfinished in
-    ran words old mid new turns bytes (shown ∷ []) (Err Spent) taken told
-    (are, (events, record { says = says; heard = cut.0; unended = sym rehearses.ended ∙ unfinished }, ap (λ text. text ∷ []) (is_shown ∙ cut.1)))
+    ran old mid new turns bytes (printed ∷ []) (Err Spent) taken told
+    (events, record { says = says; heard = cut.0; unended = sym rehearses.ended ∙ unfinished }, ap (λ lines. lines ∷ []) (is_printed ∙ (is_trace ∙ ap text (ap items (same_effects events turns rehearsal shown rehearses is_shown) ∙ cut.1))))
 
--- other words
-pub bad_words : (words : List (List ℕ)) (old : Outside) (turns : ℕ) → (AreRehearse words → ⊥) → Added old.told old.told (Runs words old old turns (Err BadWords))
-bad_words words old turns others =
-    ran_unread (λ input texts. HasEnding words old.faults.console old.faults.console (script_of input) turns texts (Err BadWords)) old old refl (λ input. (others, refl))
+-- Exercises
 
--- The line of a fault changes nothing of what the fault says.
-still_holds : (words : List (List ℕ)) (before after later : ℕ) (bytes : List ℕ) (turns : ℕ) (texts : List (List ℕ)) (fault : Fault) → (fault ≡ Console → later ≡ after) → HasEnding words before after bytes turns texts (Err fault) → HasEnding words before later bytes turns texts (Err fault)
-still_holds words before after later bytes turns texts BadWords silent holds = holds
-still_holds words before after later bytes turns texts Console silent holds =
-    let P : ℕ → Type 0 = Rose before in (holds.0, subst P (sym (silent refl)) holds.1, holds.2)
-still_holds words before after later bytes turns texts (BadLine n) silent holds = holds
-still_holds words before after later bytes turns texts Spent silent holds = holds
-still_holds words before after later bytes turns texts NoMemory silent holds = holds
+-- nothing was printed
+pub exercise_quiet : (old new : Option (List Effect)) (before after : ℕ) (events : List Event) (turns : ℕ) (ending : Ending) → new ≡ adds old [] → HasExercised before after events turns [] ending → Added old new (RunsExercise before after events turns ending)
+exercise_quiet old new before after events turns ending told holds = record { effects = []; added = told; holds = record { texts = []; printed = refl; holds = holds } }
 
--- a run that ended with a fault, and then the fault's line
-pub reported : (words : List (List ℕ)) (old mid new : Outside) (turns status : ℕ) (fault : Fault) → Added old.told mid.told (Runs words old mid turns (Err fault)) → Added mid.told new.told (Tries (fault_line fault)) → (fault ≡ Console → new ≡ mid) → status ≡ fault_status fault → Added old.told new.told (Answers words old new turns status)
-reported words old mid new turns status fault runs line silent number =
-    reported_with old.input
-    (λ ending input texts. HasEnding words old.faults.console mid.faults.console (script_of input) turns texts ending)
-    (λ ending input texts. HasEnding words old.faults.console new.faults.console (script_of input) turns texts ending)
-    (status_by fault_status) (line_by fault_line) old.told mid.told new.told status (Err fault) runs line
-    (λ input texts holds. still_holds words old.faults.console mid.faults.console new.faults.console (script_of input) turns texts fault (λ e. ap (λ outside. outside.faults.console) (silent e)) holds)
-    number
+exercise_unprinted : (before after : ℕ) (events : List Event) (turns : ℕ) (failure : Failure) → (failure ≡ Failed → Rose before after) → HasExercised before after events turns [] (Err (console_fault failure))
+exercise_unprinted before after events turns Failed rose = (rose refl, refl)
+exercise_unprinted before after events turns DeviceMemory rose = refl
+
+-- the summary was refused
+pub exercise_refused : (old new : Outside) (events : List Event) (turns : ℕ) (failure : Failure) → new.told ≡ adds old.told [] → UsesConsole {A = Unit {0}} old new (Err failure) → Added old.told new.told (RunsExercise old.faults.console new.faults.console events turns (Err (console_fault failure)))
+exercise_refused old new events turns failure told uses =
+    exercise_quiet old.told new.told old.faults.console new.faults.console events turns (Err (console_fault failure)) told
+    (exercise_unprinted old.faults.console new.faults.console events turns failure (λ e. uses.cause (ap Err e)))
+
+pub exercise_spent : (old : Outside) (events : List Event) (turns : ℕ) (rehearsal : Rehearsal) → Rehearses events turns rehearsal → rehearsal.finished ≡ false → Added old.told old.told (RunsExercise old.faults.console old.faults.console events turns (Err Spent))
+exercise_spent old events turns rehearsal rehearses unfinished =
+    exercise_quiet old.told old.told old.faults.console old.faults.console events turns (Err Spent) (sym (adds-none old.told))
+    ((rehearses.cut unfinished).0, sym rehearses.ended ∙ unfinished, refl)
+
+-- and printed
+pub exercise_ended : (old new : Outside) (events : List Event) (turns : ℕ) (rehearsal : Rehearsal) (shown : List Effect) (printed : List ℕ) → Rehearses events turns rehearsal → rehearsal.finished ≡ true → Some shown ≡ (steady_outside rehearsal.world).told → printed ≡ summary (came_in (items shown)) (sent_in (items shown)) (opened_in shown) → new.told ≡ adds old.told (Printed printed ∷ []) → Added old.told new.told (RunsExercise old.faults.console new.faults.console events turns (Ok tt))
+exercise_ended old new events turns rehearsal shown printed rehearses finished is_shown is_printed told =
+    let same : shown ≡ rehearses.effects = same_effects events turns rehearsal shown rehearses is_shown in
+    let whole = ap items same ∙ rehearses.whole finished in
+    let opens = ap opened_in same ∙ rehearses.opens finished in
+    record {
+      effects = Printed printed ∷ [];
+      added = told;
+      holds = record {
+        texts = printed ∷ [];
+        printed = refl;
+        holds = (sym rehearses.ended ∙ finished, (printed, is_printed ∙ (ap (λ run. summary (came_in run) (sent_in run) (opened_in shown)) whole ∙ ap (summary (came_in (whole_run events)) (sent_in (whole_run events))) opens), refl));
+      };
+    }

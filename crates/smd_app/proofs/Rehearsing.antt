@@ -3,27 +3,22 @@ use Rattle.std.proofs.Common.{◌≡◌, inl, inr, ℕ, ◌==◌, IsTrue, true, 
 use Rattle.std.proofs.lemmas.Bool.{false≢true}
 use Rattle.std.proofs.lemmas.List.{get_or-replicate, length-replicate}
 use Rattle.sm_world.specs.Effects.{heard}
+use Rattle.sm_world.specs.Worlds.{steady_outside}
+use Rattle.sm_world.specs.declared.steady.SteadyWorld.{SteadyWorld}
 use Rattle.sm_world.specs.Outside.{adds, Added, Outside}
-use Rattle.sm_world.specs.declared.effects.Effect.{Effect}
 use Rattle.sm_world.specs.declared.events.Event.{Event}
 use Rattle.checkpoint_records.specs.Books.{empty_book}
 use Rattle.checkpoint_records.specs.declared.records.Book.{Book}
 use Rattle.checkpoint_slots.specs.Causes.{IsSettled}
 use Rattle.checkpoint_slots.specs.Recovery.{Recovers}
 use Rattle.checkpoint_slots.proofs.Once.{recovers-once}
-use Rattle.session_engine.specs.Carries.{Opens, Rests, Serves}
-use Rattle.session_engine.specs.Doing.{items}
+use Rattle.session_engine.specs.Acts.{commits_in}
+use Rattle.session_engine.specs.Carries.{Opens, Serves}
 use Rattle.session_engine.specs.Session.{Serving}
 use Rattle.session_engine.specs.declared.fault.ServeFault.{ServeFault}
 use Rattle.session_engine.specs.declared.fault.ServeFault.TheVariants.{Damaged, Spent, WrongSize}
 use Rattle.smd_app.specs.Rehearsals.{IsBlank, Rehearses, rehearsal_cookie}
-use Rattle.smd_app.specs.Trace.{text}
 use Rattle.smd_app.proofs.Heard.{run, ended_run, spent_run}
-
--- all effects of a world that began with none
-all_effects : (old new : Option (List Effect)) (shown effects : List Effect) → old ≡ Some [] → new ≡ adds old effects → Some shown ≡ new → shown ≡ effects
-all_effects old new shown effects begins added is_shown =
-    let same : Some shown ≡ Some effects = is_shown ∙ (added ∙ ap (λ told. adds told effects) begins) in cc
 
 -- A store of which nobody wrote a byte
 
@@ -84,30 +79,34 @@ never_damaged old new file turns at fresh (inl rests) = no_damage (recovers-once
     no_damage e = cc
 never_damaged old new file turns at fresh (inr opens) = opens.adds.holds.runs.opened
 
-pub finished_run : (old new : Outside) (events : List Event) (turns : ℕ) (shown : List Effect) (trace : List ℕ) (file : List ℕ) → IsFresh old file → old.coming ≡ Some events → Serving rehearsal_cookie turns old new (Ok tt) → Some shown ≡ new.told → trace ≡ text (items shown) → Rehearses events turns (record { trace = trace; finished = true })
-finished_run old new events turns shown trace file fresh is_coming opens is_shown is_trace =
-    let run_added = opens_blank old new file turns (Ok tt) fresh opens in
+pub finished_run : (old : Outside) (world : SteadyWorld) (events : List Event) (turns : ℕ) (file : List ℕ) → IsFresh old file → old.coming ≡ Some events → Serving rehearsal_cookie turns old (steady_outside world) (Ok tt) → Rehearses events turns (record { world = world; finished = true })
+finished_run old world events turns file fresh is_coming opens =
+    let run_added = opens_blank old (steady_outside world) file turns (Ok tt) fresh opens in
     let P : Option (List Event) → Type 0 = λ told. Serves rehearsal_cookie empty_book opens.current told turns (Ok tt) run_added.effects in
     let serves = subst P is_coming run_added.holds in
-    let same : shown ≡ run_added.effects = all_effects old.told new.told shown run_added.effects fresh.told run_added.added is_shown in
     let ended = ended_run turns events (heard run_added.effects) serves.brought serves.in_turns (serves.runs.carries.ended refl) in
     record {
+      effects = run_added.effects;
+      told = run_added.added ∙ ap (λ told. adds told run_added.effects) fresh.told;
       ended = sym ended.within;
-      whole = λ e. is_trace ∙ ap text (ap items same ∙ (serves.runs.in_order refl ∙ sym ended.same));
+      whole = λ e. serves.runs.in_order refl ∙ sym ended.same;
+      opens = λ e. serves.runs.opens refl ∙ ap commits_in (sym ended.acts);
       cut = λ e. absurd (false≢true (sym e));
     }
 
-pub spent_turns : (old new : Outside) (events : List Event) (turns : ℕ) (shown : List Effect) (trace : List ℕ) (file : List ℕ) → IsFresh old file → old.coming ≡ Some events → Serving rehearsal_cookie turns old new (Err Spent) → Some shown ≡ new.told → trace ≡ text (items shown) → Rehearses events turns (record { trace = trace; finished = false })
-spent_turns old new events turns shown trace file fresh is_coming (inl rests) is_shown is_trace = absurd rests.cause
-spent_turns old new events turns shown trace file fresh is_coming (inr opens) is_shown is_trace =
-    let run_added = opens_blank old new file turns (Err Spent) fresh opens in
+pub spent_turns : (old : Outside) (world : SteadyWorld) (events : List Event) (turns : ℕ) (file : List ℕ) → IsFresh old file → old.coming ≡ Some events → Serving rehearsal_cookie turns old (steady_outside world) (Err Spent) → Rehearses events turns (record { world = world; finished = false })
+spent_turns old world events turns file fresh is_coming (inl rests) = absurd rests.cause
+spent_turns old world events turns file fresh is_coming (inr opens) =
+    let run_added = opens_blank old (steady_outside world) file turns (Err Spent) fresh opens in
     let P : Option (List Event) → Type 0 = λ told. Serves rehearsal_cookie empty_book opens.current told turns (Err Spent) run_added.effects in
     let serves = subst P is_coming run_added.holds in
-    let same : shown ≡ run_added.effects = all_effects old.told new.told shown run_added.effects fresh.told run_added.added is_shown in
     let spent = serves.spent refl in
     let cut = spent_run turns events (heard run_added.effects) serves.brought spent.0 spent.1 in
     record {
+      effects = run_added.effects;
+      told = run_added.added ∙ ap (λ told. adds told run_added.effects) fresh.told;
       ended = sym cut.unended;
       whole = λ e. absurd (false≢true e);
-      cut = λ e. (cut.few, is_trace ∙ ap text (ap items same ∙ (serves.runs.in_order refl ∙ ap run cut.same)));
+      opens = λ e. absurd (false≢true e);
+      cut = λ e. (cut.few, serves.runs.in_order refl ∙ ap run cut.same);
     }

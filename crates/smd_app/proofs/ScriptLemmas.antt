@@ -1,52 +1,32 @@
 -- The lines of a script, one after the other.
-use Rattle.std.proofs.Common.{◌≡◌, ℕ, ◌+◌, ◌<◌, ◌≤◌, List, [], ◌∷◌, ◌++◌, length, Option, Some, None, sym, ◌∙◌, ap, arith, append_assoc, length-append}
+use Rattle.std.proofs.Common.{◌≡◌, ℕ, ◌+◌, ◌<◌, ◌≤◌, List, [], ◌∷◌, ◌++◌, length, sym, ◌∙◌, ap, arith, append_assoc, length-append}
 use Rattle.std.specs.List.{AllByRecursion}
 use Rattle.sm_world.specs.Events.{HasPieceSize}
 use Rattle.sm_world.specs.declared.events.Event.{Event}
 use Rattle.control_lines.specs.Lines.{lines_of}
-use Rattle.control_lines.specs.Script.{Gives, IsRefusal}
-use Rattle.control_lines.specs.declared.orders.OrderRefusal.{OrderRefusal}
-use Rattle.control_lines.specs.declared.orders.OrderRefusal.TheVariants.{BadLine, NoMemory}
+use Rattle.control_lines.specs.Script.{SayAll}
 use Rattle.control_lines.proofs.Listing.{SayAll-append, SayAll-sized}
 use Rattle.smd_app.specs.declared.script.TheConstants.{SCRIPT_LIMIT}
-use Rattle.smd_app.specs.Script.{IsTaken, Takes, SayTaken}
-
-taken-append : (xs ys : List Event) → AllByRecursion IsTaken xs → AllByRecursion IsTaken ys → AllByRecursion IsTaken (xs ++ ys)
-taken-append [] ys front back = back
-taken-append (x ∷ xs) ys front back = (front.0, taken-append xs ys front.1 back)
-
--- what a line gives that is taken
-takes_given : (line : List ℕ) (given : Option Event) → Takes line given → Gives line given
-takes_given line None takes = takes
-takes_given line (Some event) takes = takes.0
-
--- a line without a meaning gives nothing that is taken
-pub still_refused : (line : List ℕ) (refusal : OrderRefusal) → IsRefusal (Gives line) refusal → IsRefusal (Takes line) refusal
-still_refused line BadLine none = λ given takes. none given (takes_given line given takes)
-still_refused line NoMemory none = none
 
 -- In the middle of a script: the lines so far say the events so far.
 pub record Reading (script left : List ℕ) (events : List Event) (n : ℕ) : Type 0 where
   pub good : List (List ℕ)
   pub lines : lines_of script ≡ good ++ lines_of left
-  pub all : SayTaken good events
+  pub all : SayAll good events
   pub number : n ≡ length good
   pub few : n + length left ≤ length script
   pub within : left ≡ [] → length script ≤ SCRIPT_LIMIT
 
 -- one more line was read
-pub next_reading : (script left line rest : List ℕ) (events said more : List Event) (n : ℕ) → Reading script left events n → lines_of left ≡ line ∷ lines_of rest → length rest < length left → SayTaken (line ∷ []) said → more ≡ events ++ said → (rest ≡ [] → length script ≤ SCRIPT_LIMIT) → Reading script rest more (n + 1)
+pub next_reading : (script left line rest : List ℕ) (events said more : List Event) (n : ℕ) → Reading script left events n → lines_of left ≡ line ∷ lines_of rest → length rest < length left → SayAll (line ∷ []) said → more ≡ events ++ said → (rest ≡ [] → length script ≤ SCRIPT_LIMIT) → Reading script rest more (n + 1)
 next_reading script left line rest events said more n reading first shorter says is_more within = record {
   good = reading.good ++ line ∷ [];
   lines = reading.lines ∙ (ap (λ ls. reading.good ++ ls) first ∙ sym (append_assoc reading.good (line ∷ []) (lines_of rest)));
-  all = rw is_more (record {
-    say = SayAll-append reading.good (line ∷ []) events said reading.all.say says.say;
-    taken = taken-append events said reading.all.taken says.taken;
-  });
+  all = rw is_more (SayAll-append reading.good (line ∷ []) events said reading.all says);
   number = omega (arith, reading.number, length-append reading.good (line ∷ []));
   few = omega (arith, reading.few);
   within = within;
 }
 
 pub all_read : (script left : List ℕ) (events : List Event) (n : ℕ) → Reading script left events n → AllByRecursion HasPieceSize events
-all_read script left events n reading = SayAll-sized reading.good events reading.all.say
+all_read script left events n reading = SayAll-sized reading.good events reading.all

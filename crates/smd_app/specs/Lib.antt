@@ -5,3 +5,7 @@ pub mod Rehearsals
 pub mod FaultLines
 pub mod Statuses
 pub mod Exclusions
+pub mod Words
+pub mod Sessions
+pub mod Exercises
+pub mod Summaries

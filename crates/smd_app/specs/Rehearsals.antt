@@ -1,12 +1,18 @@
 -- A rehearsal: a script's events, and then End, are run on a world in memory, whose store has no book yet.
-use Rattle.std.specs.Prelude.{◌≡◌, ℕ, ◌≤◌, Bool, true, false, List, [], ◌∷◌, ◌++◌, length, slice_index, take}
+use Rattle.std.specs.Prelude.{◌≡◌, ℕ, ◌≤◌, Bool, true, false, List, [], ◌∷◌, ◌++◌, length, slice_index, take, Some}
+use Rattle.sm_world.specs.Worlds.{steady_outside}
+use Rattle.sm_world.specs.declared.effects.Effect.{Effect}
 use Rattle.sm_world.specs.declared.events.Event.{Event}
 use Rattle.sm_world.specs.declared.events.Event.TheVariants.{End}
 use Rattle.checkpoint_records.specs.Books.{empty_book}
+use Rattle.checkpoint_slots.specs.Turns.{opened_in}
 use Rattle.ice_cookie.specs.declared.cookies.Cookie.{Cookie}
 use Rattle.session_engine.specs.Carries.{script, run}
-use Rattle.session_engine.specs.Acts.{has_finish}
-use Rattle.control_lines.specs.Input.{front}
+use Rattle.session_engine.specs.Acts.{commits_in, has_finish}
+use Rattle.session_engine.specs.Doing.{items}
+use Rattle.session_engine.specs.declared.acts.Act.{Act}
+use Rattle.session_engine.specs.Machine.{Item}
+use Rattle.program_frame.specs.Input.{front}
 use Rattle.smd_app.specs.Script.{ScriptSays}
 use Rattle.smd_app.specs.Trace.{text}
 use Rattle.smd_app.specs.declared.rehearsal.Rehearsal.{Rehearsal}
@@ -44,16 +50,30 @@ pub record Outlasts (bytes : List ℕ) (turns : ℕ) (events : List Event) : Typ
   pub heard : turns ≤ length events
   pub unended : ends_within turns events ≡ false
 
+-- what the whole run shows, and what the first events show, as many as there were turns
+abbrev pub whole_run : List Event → List Item
+whole_run events = run rehearsal_cookie empty_book (with_end events)
+
+abbrev pub first_run : ℕ → List Event → List Item
+first_run turns events = run rehearsal_cookie empty_book (take turns events)
+
+-- all that the machine does in the whole run
+abbrev pub whole_script : List Event → List Act
+whole_script events = script rehearsal_cookie empty_book (with_end events)
+
 -- the lines of the whole run
 abbrev pub whole_trace : List Event → List ℕ
-whole_trace events = text (run rehearsal_cookie empty_book (with_end events))
+whole_trace events = text (whole_run events)
 
--- the lines for the first events, as many as there were turns
+-- the lines for the first events
 abbrev pub first_trace : ℕ → List Event → List ℕ
-first_trace turns events = text (run rehearsal_cookie empty_book (take turns events))
+first_trace turns events = text (first_run turns events)
 
--- whether the run came to its end, and its lines
+-- whether the run came to its end, what the effects show that were added to a new world, and how often they open a gate of its store
 pub record Rehearses (events : List Event) (turns : ℕ) (rehearsal : Rehearsal) : Type 0 where
+  pub effects : List Effect
+  pub told : (steady_outside rehearsal.world).told ≡ Some effects
   pub ended : rehearsal.finished ≡ ends_within turns events
-  pub whole : rehearsal.finished ≡ true → rehearsal.trace ≡ whole_trace events
-  pub cut : rehearsal.finished ≡ false → (turns ≤ length events) × (rehearsal.trace ≡ first_trace turns events)
+  pub whole : rehearsal.finished ≡ true → items effects ≡ whole_run events
+  pub opens : rehearsal.finished ≡ true → opened_in effects ≡ commits_in (whole_script events)
+  pub cut : rehearsal.finished ≡ false → (turns ≤ length events) × (items effects ≡ first_run turns events)

@@ -1,11 +1,10 @@
 ghost use Rattle.std.specs.Prelude.{◌≡◌};
-ghost use Rattle.sm_world.specs.Outside.{Added, NotFallen};
-ghost use Rattle.control_lines.specs.Printing.{Tries};
-ghost use Rattle.smd_app.specs.FaultLines.{console_fault, script_fault, fault_status, fault_line};
-ghost use Rattle.smd_app.specs.declared.fault.Fault.TheVariants.{Console as ConsoleFault, NoMemory as OutOfMemory};
+ghost use Rattle.smd_app.specs.FaultLines.{console_fault, disk_fault, link_fault, script_fault, served_fault, fault_status, fault_line};
+ghost use Rattle.smd_app.specs.declared.fault.Fault.TheVariants.{NoMemory as OutOfMemory};
 
 use crate::script::ScriptFault;
-use control_lines::try_line;
+use program_frame::{ProgramFault, try_line, try_numbered};
+use session_engine::ServeFault;
 use sm_world::{Console, Failure, NoMemory};
 use std::alloc::Global;
 
@@ -14,8 +13,18 @@ use std::alloc::Global;
 #[derive(Clone, Copy, Debug, PartialEq, Eq)]
 pub enum Fault {
     BadWords,
+    /// The store is damaged at this byte.
+    Damaged(u64),
+    /// The store has this size, which is no store's.
+    WrongSize(u64),
+    Disk,
+    Links,
     Console,
+    /// This line of the script, counted from 1, is the first that isn't of the grammar.
     BadLine(u64),
+    /// The store has no number for one checkpoint more.
+    Worn,
+    /// So many events were heard as were granted.
     Spent,
     NoMemory,
 }
@@ -50,33 +59,77 @@ impl From<ScriptFault> for Fault {
     }
 }
 
+impl From<ServeFault> for Fault {
+    ghost from_gives = { λ cause fault. fault ≡ served_fault cause };
+
+    fn from(fault: ServeFault) -> Fault {
+        match fault {
+            ServeFault::Damaged { at } => Fault::Damaged(at),
+            ServeFault::WrongSize { size } => Fault::WrongSize(size),
+            ServeFault::DiskFault => Fault::Disk,
+            ServeFault::LinkFault => Fault::Links,
+            ServeFault::ConsoleFault => Fault::Console,
+            ServeFault::Worn => Fault::Worn,
+            ServeFault::Spent => Fault::Spent,
+            ServeFault::NoMemory => Fault::NoMemory,
+        }
+    }
+}
+
 impl Fault {
-    pub fn status(self) -> u8
-        ensures { result ≡ fault_status self }
+    /// Why a call on the disk did nothing.
+    pub fn of_disk(failure: Failure) -> Fault
+        ensures { result ≡ disk_fault failure }
     {
+        match failure {
+            Failure::Failed => Fault::Disk,
+            Failure::NoMemory => Fault::NoMemory,
+        }
+    }
+
+    /// Why a call on the links did nothing.
+    pub fn of_links(failure: Failure) -> Fault
+        ensures { result ≡ link_fault failure }
+    {
+        match failure {
+            Failure::Failed => Fault::Links,
+            Failure::NoMemory => Fault::NoMemory,
+        }
+    }
+}
+
+impl ProgramFault for Fault {
+    ghost status_of = { fault_status };
+
+    ghost line_of = { fault_line };
+
+    fn status(self) -> u8 {
         match self {
             Fault::BadWords => 1,
+            Fault::Damaged(_) => 2,
+            Fault::WrongSize(_) => 3,
+            Fault::Disk => 4,
+            Fault::Links => 5,
             Fault::Console => 6,
             Fault::BadLine(_) => 7,
+            Fault::Worn => 8,
             Fault::Spent => 9,
             Fault::NoMemory => 10,
         }
     }
 
-    /// Prints the line of the fault, once. A refusal changes nothing more.
-    pub fn report<W: Console>(self, alloc: Global, world: &mut W)
-        ensures tried { Added (W.outside world.old).told (W.outside world.new).told (Tries (fault_line self)) }
-        ensures counts { NotFallen (W.outside world.old).faults (W.outside world.new).faults }
-        ensures silent { self ≡ ConsoleFault → W.outside world.new ≡ W.outside world.old }
-    {
+    fn report<W: Console>(self, alloc: Global, world: &mut W) {
         match self {
             Fault::BadWords => try_line(world, b"smd: bad words\n"),
+            Fault::Damaged(at) => try_numbered(alloc, world, "smd: store damaged at ", at),
+            Fault::WrongSize(size) => try_numbered(alloc, world, "smd: store has size ", size),
+            Fault::Disk => try_line(world, b"smd: disk fault\n"),
+            Fault::Links => try_line(world, b"smd: link fault\n"),
             Fault::Console => {}
             Fault::BadLine(number) => {
-                if let Ok(line) = format!(in alloc; "smd: bad script line {number}\n") {
-                    try_line(world, line.as_bytes());
-                }
+                try_numbered(alloc, world, "smd: bad script line ", number);
             }
+            Fault::Worn => try_line(world, b"smd: store worn\n"),
             Fault::Spent => try_line(world, b"smd: turns spent\n"),
             Fault::NoMemory => try_line(world, b"smd: no memory\n"),
         }

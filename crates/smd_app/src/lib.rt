@@ -1,6 +1,7 @@
 //! The session manager's top call: its words, its scripts and what it prints.
 #![tactic(auto)]
 
+mod exercise;
 mod fault;
 mod identity;
 mod laws;
@@ -16,12 +17,17 @@ mod rounds_tests;
 mod rows;
 mod script;
 #[cfg(test)]
+mod serve_tests;
+mod serving;
+#[cfg(test)]
 mod session_tests;
+mod summary;
 #[cfg(test)]
 mod tests;
 mod trace;
 #[cfg(test)]
 mod trace_tests;
+mod words;
 
 pub use identity::Identity;
 pub use laws::statuses_exclude_each_other;

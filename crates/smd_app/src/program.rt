@@ -1,24 +1,32 @@
 ghost use Rattle.std.specs.Prelude.{ℕ, List, length, map, string_bytes, ◌≤◌};
 ghost use Rattle.sm_world.specs.Outside.{Added, NotFallen};
-ghost use Rattle.smd_app.specs.Statuses.{AreRehearse, Runs, Answers};
+ghost use Rattle.smd_app.specs.Exercises.{exercise_events};
+ghost use Rattle.smd_app.specs.Statuses.{Runs, Answers, RunsTask, RunsExercise};
+ghost use Rattle.smd_app.specs.Words.{Rehearse};
 
+use crate::exercise::exercise_script;
 use crate::fault::Fault;
 use crate::identity::Identity;
 use crate::rehearsal::run_in_memory;
 use crate::script::{SCRIPT_LIMIT, read_script};
-use control_lines::{are_one_word, read_input};
-use sm_world::Console;
+use crate::serving::serve_session;
+use crate::summary::summary_line;
+use crate::trace::trace_text;
+use crate::words::{Exercise, read_exercise, read_paths};
+use program_frame::{are_one_word, conclude, read_input};
+use sm_world::{Console, Disk, Links, Spawner};
 use std::alloc::Global;
 
 /// Runs the events of a script on a world in memory and prints the trace.
 fn rehearse<W: Console>(alloc: Global, world: &mut W, turns: u64) -> Result<(), Fault>
-    ensures runs { (words : List (List ℕ)) → AreRehearse words → Added (W.outside world.old).told (W.outside world.new).told (Runs words (W.outside world.old) (W.outside world.new) turns result) }
+    ensures runs { (identity : Identity) → Added (W.outside world.old).told (W.outside world.new).told (RunsTask Rehearse identity turns (W.outside world.old) (W.outside world.new) result) }
     ensures counts { NotFallen (W.outside world.old).faults (W.outside world.new).faults }
 {
     let script = read_input(alloc, world, SCRIPT_LIMIT + 1)?;
     let events = read_script(alloc, script.as_slice())?;
     let rehearsal = run_in_memory(alloc, events, turns)?;
-    world.print(rehearsal.trace.as_slice())?;
+    let trace = trace_text(alloc, rehearsal.world.effects())?;
+    world.print(trace.as_slice())?;
     if rehearsal.finished {
         Ok(())
     } else {
@@ -26,28 +34,62 @@ fn rehearse<W: Console>(alloc: Global, world: &mut W, turns: u64) -> Result<(), 
     }
 }
 
+/// Runs the events of an exercise on a world in memory and prints the summary.
+fn run_exercise<W: Console>(
+    alloc: Global,
+    world: &mut W,
+    exercise: Exercise,
+    turns: u64,
+) -> Result<(), Fault>
+    requires { exercise.rounds ≤ 1000 }
+    ensures runs { Added (W.outside world.old).told (W.outside world.new).told (RunsExercise (W.outside world.old).faults.console (W.outside world.new).faults.console (exercise_events exercise.pattern exercise.rounds) turns result) }
+    ensures counts { NotFallen (W.outside world.old).faults (W.outside world.new).faults }
+{
+    let events = exercise_script(alloc, exercise)?;
+    let rehearsal = run_in_memory(alloc, events, turns)?;
+    if !rehearsal.finished {
+        return Err(Fault::Spent);
+    }
+    let summary = summary_line(alloc, rehearsal.world.effects())?;
+    world.print(summary.as_bytes())?;
+    Ok(())
+}
+
 /// Runs what the words ask for.
-fn run_words<W: Console>(
+fn run_words<W: Disk + Links + Spawner + Console>(
     alloc: Global,
     words: &[String],
     world: &mut W,
+    identity: &Identity,
     turns: u64,
 ) -> Result<(), Fault>
-    ensures runs { Added (W.outside world.old).told (W.outside world.new).told (Runs (map string_bytes words.now) (W.outside world.old) (W.outside world.new) turns result) }
+    requires { length identity.now.host ≤ 255 }
+    ensures runs { Added (W.outside world.old).told (W.outside world.new).told (Runs (map string_bytes words.now) identity.now turns (W.outside world.old) (W.outside world.new) result) }
     ensures counts { NotFallen (W.outside world.old).faults (W.outside world.new).faults }
 {
     if are_one_word(words, "rehearse") {
-        rehearse(alloc, world, turns)
-    } else {
-        Err(Fault::BadWords)
+        return rehearse(alloc, world, turns);
+    }
+    match read_paths(words) {
+        Some(paths) => serve_session(alloc, world, identity, &paths, turns),
+        None => match read_exercise(alloc, words)? {
+            Some(exercise) => run_exercise(alloc, world, exercise, turns),
+            None => Err(Fault::BadWords),
+        },
     }
 }
 
-/// Runs `smd` with these words, which leave out the program's name. The words are `rehearse`: a
-/// script is read from the console, and the trace of its run is printed. At most `turns` events
-/// are taken. The answer is the program's status. The identity is what `smd` shows of itself to its
-/// clients; a rehearsal asks for none.
-pub fn smd_main<W: Console>(
+/// Runs `smd` with these words, which leave out the program's name. At most `turns` events are
+/// taken. The words are one of these:
+///
+/// - `serve` and `--socket P`, `--control C`, `--store F` and `--authority A`, in any order, each
+///   value of 1 to 4,096 bytes: the session is served on these sockets, over this store, and shows
+///   itself by this identity, whose cookie clients find in the file A.
+/// - `rehearse`: a script is read from the console, and the trace of its run is printed.
+/// - `exercise A N`: eight clients log in, save N times, and leave; a summary is printed.
+///
+/// The answer is the program's status.
+pub fn smd_main<W: Disk + Links + Spawner + Console>(
     alloc: Global,
     words: &[String],
     world: &mut W,
@@ -55,17 +97,10 @@ pub fn smd_main<W: Console>(
     turns: u64,
 ) -> u8
     requires { length identity.host ≤ 255 }
-    // What each status says of the script, and all that is printed at it.
-    ensures answers { Added (W.outside world.old).told (W.outside world.new).told (Answers (map string_bytes words.now) (W.outside world.old) (W.outside world.new) turns result) }
+    // What each status says of the words, of what they ask for, and of all that was done and printed at it.
+    ensures answers { Added (W.outside world.old).told (W.outside world.new).told (Answers (map string_bytes words.now) identity (W.outside world.old) (W.outside world.new) turns result) }
     ensures counts { NotFallen (W.outside world.old).faults (W.outside world.new).faults }
 {
-    // No words ask for it yet: a rehearsal has a cookie of its own.
-    drop(identity);
-    match run_words(alloc, words, world, turns) {
-        Ok(()) => 0,
-        Err(fault) => {
-            fault.report(alloc, world);
-            fault.status()
-        }
-    }
+    let ending = run_words(alloc, words, world, &identity, turns);
+    conclude(alloc, world, ending)
 }

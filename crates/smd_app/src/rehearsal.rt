@@ -3,7 +3,6 @@ ghost use Rattle.std.specs.List.{AllByRecursion};
 ghost use Rattle.sm_world.specs.Events.{HasPieceSize};
 ghost use Rattle.smd_app.specs.Rehearsals.{IsBlank, Rehearses};
 
-use crate::trace::trace_text;
 use ice_cookie::Cookie;
 use session_engine::{ServeFault, serve};
 use sm_world::{EventList, NoMemory, Octets, SteadyWorld};
@@ -15,17 +14,17 @@ const REHEARSAL_COOKIE: Cookie = Cookie([0, 1, 2, 3, 4, 5, 6, 7, 8, 9, 10, 11, 1
 /// How many bytes a store has.
 const STORE_LEN: usize = 16_777_280;
 
-/// What a run on a world in memory shows.
-#[derive(Debug, Drop)]
+/// A run on a world in memory.
+#[derive(Drop)]
 pub struct Rehearsal {
-    /// Its trace, line by line.
-    pub trace: Octets,
-    /// Whether it came to its own end within the turns.
+    /// The world behind the run.
+    pub world: SteadyWorld,
+    /// Whether the run came to its own end within the turns.
     pub finished: bool,
 }
 
 /// A store that nothing was written to: its bytes are 0.
-fn blank_store(alloc: Global) -> Result<Octets, NoMemory>
+pub fn blank_store(alloc: Global) -> Result<Octets, NoMemory>
     ensures { IfOk result IsBlank }
 {
     Ok(Octets::from_vec(vec![in alloc; 0; STORE_LEN]?))
@@ -51,6 +50,5 @@ pub fn run_in_memory(alloc: Global, events: EventList, turns: u64) -> Result<Reh
         Err(ServeFault::LinkFault) => unreachable!(),
         Err(ServeFault::ConsoleFault) => unreachable!(),
     };
-    let trace = trace_text(alloc, world.effects())?;
-    Ok(Rehearsal { trace, finished })
+    Ok(Rehearsal { world, finished })
 }

@@ -2,8 +2,8 @@ ghost use Rattle.std.specs.Prelude.{◌≡◌, List, [], ◌∷◌, ◌++◌, If
 ghost use Rattle.std.specs.List.{AllByRecursion};
 ghost use Rattle.sm_world.specs.Events.{HasPieceSize};
 ghost use Rattle.sm_world.specs.declared.events.Event.{Event};
-ghost use Rattle.control_lines.specs.Script.{IsRefusal};
-ghost use Rattle.smd_app.specs.Script.{ScriptSays, SayTaken, Takes};
+ghost use Rattle.control_lines.specs.Script.{Gives, IsRefusal, SayAll};
+ghost use Rattle.smd_app.specs.Script.{ScriptSays};
 ghost use Rattle.smd_app.specs.Faults.{IsScriptFault};
 
 use control_lines::{OrderRefusal, next_line, read_script_line};
@@ -23,8 +23,8 @@ pub enum ScriptFault {
 
 /// Adds the event that a line says to those before it, and nothing for a line that is skipped.
 fn take_line(alloc: Global, events: &mut EventList, line: &[u8]) -> Result<(), OrderRefusal>
-    ensures taken { OnOk result ((said : List Event) × SayTaken (line.now ∷ []) said × (events.new ≡ events.old ++ said)) }
-    ensures refused { IfErr result (IsRefusal (Takes line.now)) }
+    ensures taken { OnOk result ((said : List Event) × SayAll (line.now ∷ []) said × (events.new ≡ events.old ++ said)) }
+    ensures refused { IfErr result (IsRefusal (Gives line.now)) }
 {
     match read_script_line(alloc, line)? {
         None => Ok(()),

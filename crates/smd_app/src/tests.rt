@@ -24,7 +24,7 @@ fn nobody(alloc: Global) -> Identity
     }
 }
 
-fn printed(alloc: Global, effects: &[Effect]) -> Result<Vec<u8>, NoMemory> {
+pub fn printed(alloc: Global, effects: &[Effect]) -> Result<Vec<u8>, NoMemory> {
     let mut text = Vec::new(alloc);
     for effect in effects {
         match effect {
@@ -39,7 +39,7 @@ fn printed(alloc: Global, effects: &[Effect]) -> Result<Vec<u8>, NoMemory> {
 }
 
 /// The words, which are parted by single spaces; no words for an empty text.
-fn split_words(alloc: Global, text: &str) -> Result<Vec<String>, Fail> {
+pub fn split_words(alloc: Global, text: &str) -> Result<Vec<String>, Fail> {
     let mut words = Vec::new(alloc);
     if text.is_empty() {
         return Ok(words);

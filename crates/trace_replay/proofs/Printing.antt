@@ -1,14 +1,14 @@
 -- What was printed, and how a run ended.
-use Rattle.std.proofs.Common.{◌≡◌, ℕ, ◌+◌, List, [], ◌∷◌, map, Ok, Err, refl, sym, ap, subst}
+use Rattle.std.proofs.Common.{◌≡◌, ℕ, ◌+◌, List, [], ◌∷◌, map, None, Ok, Err, refl, sym, ap, subst}
 use Rattle.sm_world.specs.Outside.{Outside, Added, Rose, UsesConsole, adds}
 use Rattle.sm_world.specs.declared.effects.Effect.TheVariants.{Printed}
 use Rattle.sm_world.specs.declared.failures.Failure.{Failure}
 use Rattle.sm_world.specs.declared.failures.Failure.TheVariants.{Failed, NoMemory as DeviceMemory}
 use Rattle.sm_world.proofs.Adding.{adds-none}
-use Rattle.control_lines.specs.Printing.{Tries}
-use Rattle.control_lines.specs.Programs.{status_by, line_by}
-use Rattle.control_lines.proofs.InputLemmas.{rose_since}
-use Rattle.control_lines.proofs.ProgramLemmas.{Took as TookWithin, ran as ran_with, ran_unread, reported as reported_with}
+use Rattle.program_frame.specs.Printing.{Tries}
+use Rattle.program_frame.specs.Programs.{status_by, line_by}
+use Rattle.program_frame.proofs.InputLemmas.{rose_since}
+use Rattle.program_frame.proofs.ProgramLemmas.{Took as TookWithin, ran as ran_with, ran_unread, runs_still, concluded}
 use Rattle.trace_replay.specs.Faults.{fault_line, fault_status, console_fault}
 use Rattle.trace_replay.specs.Shows.{IsShown, IsMalformed}
 use Rattle.trace_replay.specs.Statuses.{AreShow, trace_of, Ending, HasEnding, Runs, Answers}
@@ -58,20 +58,22 @@ pub bad_words : (words : List (List ℕ)) (old : Outside) → (AreShow words →
 bad_words words old others =
     ran_unread (λ input texts. HasEnding words old.faults.console old.faults.console (trace_of input) texts (Err BadWords)) old old refl (λ input. (others, refl))
 
--- The line of a fault changes nothing of what the fault says.
-still_holds : (words : List (List ℕ)) (before after later : ℕ) (bytes : List ℕ) (texts : List (List ℕ)) (fault : Fault) → (fault ≡ Console → later ≡ after) → HasEnding words before after bytes texts (Err fault) → HasEnding words before later bytes texts (Err fault)
-still_holds words before after later bytes texts BadWords silent holds = holds
-still_holds words before after later bytes texts (Malformed at) silent holds = holds
-still_holds words before after later bytes texts Console silent holds =
+-- What an ending says isn't changed by its line.
+still_holds : (words : List (List ℕ)) (before after later : ℕ) (bytes : List ℕ) (texts : List (List ℕ)) (ending : Ending) → (line_by fault_line ending ≡ None → later ≡ after) → HasEnding words before after bytes texts ending → HasEnding words before later bytes texts ending
+still_holds words before after later bytes texts (Ok x) silent holds = holds
+still_holds words before after later bytes texts (Err BadWords) silent holds = holds
+still_holds words before after later bytes texts (Err (Malformed at)) silent holds = holds
+still_holds words before after later bytes texts (Err Console) silent holds =
     let P : ℕ → Type 0 = Rose before in (holds.0, subst P (sym (silent refl)) holds.1, holds.2)
-still_holds words before after later bytes texts NoMemory silent holds = holds
+still_holds words before after later bytes texts (Err NoMemory) silent holds = holds
 
--- a run that ended with a fault, and then the fault's line
-pub reported : (words : List (List ℕ)) (old mid new : Outside) (status : ℕ) (fault : Fault) → Added old.told mid.told (Runs words old mid (Err fault)) → Added mid.told new.told (Tries (fault_line fault)) → (fault ≡ Console → new ≡ mid) → status ≡ fault_status fault → Added old.told new.told (Answers words old new status)
-reported words old mid new status fault runs line silent number =
-    reported_with old.input
-    (λ ending input texts. HasEnding words old.faults.console mid.faults.console (trace_of input) texts ending)
-    (λ ending input texts. HasEnding words old.faults.console new.faults.console (trace_of input) texts ending)
-    (status_by fault_status) (line_by fault_line) old.told mid.told new.told status (Err fault) runs line
-    (λ input texts holds. still_holds words old.faults.console mid.faults.console new.faults.console (trace_of input) texts fault (λ e. ap (λ outside. outside.faults.console) (silent e)) holds)
+-- a run, and then the line of its ending
+pub answers : (words : List (List ℕ)) (old mid new : Outside) (status : ℕ) (ending : Ending) → Added old.told mid.told (Runs words old mid ending) → Added mid.told new.told (Tries (line_by fault_line ending)) → (line_by fault_line ending ≡ None → new ≡ mid) → status ≡ status_by fault_status ending → Added old.told new.told (Answers words old new status)
+answers words old mid new status ending runs line silent number =
+    concluded (Runs words old mid) (Runs words old new) (status_by fault_status) (line_by fault_line) old.told mid.told new.told status ending runs line
+    (λ effects. runs_still old.input
+    (λ input texts. HasEnding words old.faults.console mid.faults.console (trace_of input) texts ending)
+    (λ input texts. HasEnding words old.faults.console new.faults.console (trace_of input) texts ending)
+    effects
+    (λ input texts. still_holds words old.faults.console mid.faults.console new.faults.console (trace_of input) texts ending (λ e. ap (λ outside. outside.faults.console) (silent e))))
     number

@@ -3,7 +3,7 @@ use Rattle.std.specs.Prelude.{ℕ, List, ◌++◌, codes, Option, Some, None}
 use Rattle.std.specs.Fmt.{decimal}
 use Rattle.sm_world.specs.declared.failures.Failure.{Failure}
 use Rattle.sm_world.specs.declared.failures.Failure.TheVariants.{Failed, NoMemory as DeviceMemory}
-use Rattle.control_lines.specs.Printing.{line}
+use Rattle.program_frame.specs.Printing.{line}
 use Rattle.trace_replay.specs.declared.fault.Fault.{Fault}
 use Rattle.trace_replay.specs.declared.fault.Fault.TheVariants.{BadWords, Malformed, Console, NoMemory}
 

@@ -2,8 +2,8 @@
 use Rattle.std.specs.Prelude.{◌≡◌, ℕ, ◌+◌, List, [], ◌∷◌, codes, Result, Ok, Err}
 use Rattle.sm_world.specs.Outside.{Outside, Rose}
 use Rattle.sm_world.specs.declared.effects.Effect.{Effect}
-use Rattle.control_lines.specs.Input.{front}
-use Rattle.control_lines.specs.Programs.{RunsAs, AnswersAs, status_by, line_by}
+use Rattle.program_frame.specs.Input.{front}
+use Rattle.program_frame.specs.Programs.{RunsAs, AnswersAs, status_by, line_by}
 use Rattle.trace_replay.specs.Faults.{fault_line, fault_status}
 use Rattle.trace_replay.specs.Shows.{IsShown, IsMalformed}
 use Rattle.trace_replay.specs.declared.fault.Fault.{Fault}

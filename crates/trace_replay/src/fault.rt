@@ -1,10 +1,8 @@
 ghost use Rattle.std.specs.Prelude.{◌≡◌};
-ghost use Rattle.sm_world.specs.Outside.{Added, NotFallen};
-ghost use Rattle.control_lines.specs.Printing.{Tries};
 ghost use Rattle.trace_replay.specs.Faults.{console_fault, fault_status, fault_line};
-ghost use Rattle.trace_replay.specs.declared.fault.Fault.TheVariants.{Console as ConsoleFault, NoMemory as OutOfMemory};
+ghost use Rattle.trace_replay.specs.declared.fault.Fault.TheVariants.{NoMemory as OutOfMemory};
 
-use control_lines::try_line;
+use program_frame::{ProgramFault, try_line, try_numbered};
 use sm_world::{Console, Failure, NoMemory};
 use std::alloc::Global;
 
@@ -37,10 +35,12 @@ impl From<NoMemory> for Fault {
     }
 }
 
-impl Fault {
-    pub fn status(self) -> u8
-        ensures { result ≡ fault_status self }
-    {
+impl ProgramFault for Fault {
+    ghost status_of = { fault_status };
+
+    ghost line_of = { fault_line };
+
+    fn status(self) -> u8 {
         match self {
             Fault::BadWords => 1,
             Fault::Malformed(_) => 3,
@@ -49,19 +49,10 @@ impl Fault {
         }
     }
 
-    /// Prints the line of the fault, once. A refusal changes nothing more.
-    pub fn report<C: Console>(self, alloc: Global, console: &mut C)
-        ensures tried { Added (C.outside console.old).told (C.outside console.new).told (Tries (fault_line self)) }
-        ensures counts { NotFallen (C.outside console.old).faults (C.outside console.new).faults }
-        ensures silent { self ≡ ConsoleFault → C.outside console.new ≡ C.outside console.old }
-    {
+    fn report<C: Console>(self, alloc: Global, console: &mut C) {
         match self {
             Fault::BadWords => try_line(console, b"smtrace: bad words\n"),
-            Fault::Malformed(at) => {
-                if let Ok(line) = format!(in alloc; "malformed at {at}\n") {
-                    try_line(console, line.as_bytes());
-                }
-            }
+            Fault::Malformed(at) => try_numbered(alloc, console, "malformed at ", at),
             Fault::Console => {}
             Fault::NoMemory => try_line(console, b"smtrace: no memory\n"),
         }

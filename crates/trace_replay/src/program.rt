@@ -4,7 +4,7 @@ ghost use Rattle.trace_replay.specs.Statuses.{AreShow, Runs, Answers};
 
 use crate::fault::Fault;
 use crate::showing::{ShowAnswer, show_within};
-use control_lines::{are_one_word, read_input};
+use program_frame::{are_one_word, conclude, read_input};
 use sm_world::Console;
 use std::alloc::Global;
 
@@ -47,11 +47,6 @@ pub fn smtrace_main<C: Console>(alloc: Global, words: &[String], console: &mut C
     ensures answers { Added (C.outside console.old).told (C.outside console.new).told (Answers (map string_bytes words.now) (C.outside console.old) (C.outside console.new) result) }
     ensures counts { NotFallen (C.outside console.old).faults (C.outside console.new).faults }
 {
-    match run_words(alloc, words, console) {
-        Ok(()) => 0,
-        Err(fault) => {
-            fault.report(alloc, console);
-            fault.status()
-        }
-    }
+    let ending = run_words(alloc, words, console);
+    conclude(alloc, console, ending)
 }

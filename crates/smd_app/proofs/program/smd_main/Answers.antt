@@ -1,7 +1,7 @@
 use Rattle.std.proofs.Common.{map, string_bytes}
-use Rattle.smd_app.proofs.Printing.{reported}
+use Rattle.smd_app.proofs.Ending.{answers}
 use Rattle.smd_app.proofs.program.smd_main.Goals as goal
 
-pub returns-in-Err-clause-answers : goal.returns-in-Err-clause-answers
-returns-in-Err-clause-answers g c =
-    reported (map string_bytes c.args.words.now) (g.W.Told.outside c.args.world.now) (g.W.Told.outside c.run_words.new.world) (g.W.Told.outside c.report.new.world) c.args.turns c.status.result c.in-Err.fault c.in-Err.ensures.runs c.report.ensures.tried c.report.ensures.silent c.status.ensures
+pub returns-clause-answers : goal.returns-clause-answers
+returns-clause-answers g c =
+    answers (map string_bytes c.args.words.now) c.args.identity (g.W.Told.outside c.args.world.now) (g.W.Told.outside c.run_words-ending.new.world) (g.W.Told.outside c.conclude.new.world) c.args.turns c.conclude.result c.run_words-ending.result c.run_words-ending.ensures.runs c.conclude.ensures.tried c.conclude.ensures.prints c.conclude.ensures.silent c.conclude.ensures.status

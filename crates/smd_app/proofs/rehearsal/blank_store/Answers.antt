@@ -1,5 +1,4 @@
-use Rattle.std.proofs.Common.{refl, sym, subst}
-use Rattle.smd_app.specs.Rehearsals.{IsBlank}
+use Rattle.std.proofs.Common.{refl}
 use Rattle.smd_app.proofs.Rehearsing.{blank_of}
 use Rattle.smd_app.proofs.rehearsal.blank_store.Goals as goal
 

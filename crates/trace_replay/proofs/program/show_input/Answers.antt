@@ -1,6 +1,6 @@
 use Rattle.std.proofs.Common.{◌+◌}
-use Rattle.control_lines.proofs.InputLemmas.{err_is}
-use Rattle.control_lines.proofs.ProgramLemmas.{took}
+use Rattle.program_frame.proofs.InputLemmas.{err_is}
+use Rattle.program_frame.proofs.ProgramLemmas.{took}
 use Rattle.trace_replay.proofs.Printing.{read_refused, no_memory, malformed, print_refused, text_printed}
 use Rattle.trace_replay.specs.declared.program.TheConstants.{TRACE_LIMIT}
 use Rattle.trace_replay.proofs.program.show_input.Goals as goal

@@ -1,7 +1,7 @@
 use Rattle.std.proofs.Common.{map, string_bytes}
-use Rattle.trace_replay.proofs.Printing.{reported}
+use Rattle.trace_replay.proofs.Printing.{answers}
 use Rattle.trace_replay.proofs.program.smtrace_main.Goals as goal
 
-pub returns-in-Err-clause-answers : goal.returns-in-Err-clause-answers
-returns-in-Err-clause-answers g c =
-    reported (map string_bytes c.args.words.now) (g.C.Told.outside c.args.console.now) (g.C.Told.outside c.run_words.new.console) (g.C.Told.outside c.report.new.console) c.status.result c.in-Err.fault c.in-Err.ensures.runs c.report.ensures.tried c.report.ensures.silent c.status.ensures
+pub returns-clause-answers : goal.returns-clause-answers
+returns-clause-answers g c =
+    answers (map string_bytes c.args.words.now) (g.C.Told.outside c.args.console.now) (g.C.Told.outside c.run_words-ending.new.console) (g.C.Told.outside c.conclude.new.world) c.conclude.result c.run_words-ending.result c.run_words-ending.ensures.runs c.conclude.ensures.tried c.conclude.ensures.silent c.conclude.ensures.status

@@ -1,0 +1,11 @@
+//! The words of `smclient`, by `clap`.
+#![tactic(auto)]
+
+mod choices;
+mod command;
+mod reading;
+#[cfg(test)]
+mod tests;
+
+pub use choices::Choices;
+pub use reading::{WordsRefusal, read_choices};

@@ -1,0 +1,5 @@
+//! Whole sessions over real sockets, files and programs, as tests.
+#![tactic(auto)]
+
+#[cfg(test)]
+mod tests;

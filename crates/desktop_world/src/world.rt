@@ -1,0 +1,130 @@
+ghost use Rattle.std.specs.Prelude.{◌≡◌};
+ghost use Rattle.desktop_world.specs.Untold.{world_outside};
+
+use checkpoint_slots::STORE_BYTES;
+use program_frame::StandardConsole;
+use program_spawner::ProgramSpawner;
+use sm_world::{
+    Command, Conn, Console, Disk, Event, Failed, Failure, Links, NoMemory, Spawner, Told,
+};
+use store_file::FileDisk;
+use unix_links::SocketLinks;
+
+/// The outside of a session manager on a desktop. What happens there is told to nobody; each fault is
+/// counted.
+///
+/// It learns what the programs of the session are to know from the calls that are made of it: where the
+/// manager listens, and where the authority file lies. A line that is printed after an order was heard,
+/// and before the next event is asked for, goes to the order's operator too.
+#[derive(Drop)]
+pub struct DesktopWorld {
+    host: String,
+    disk: FileDisk,
+    links: SocketLinks,
+    spawner: ProgramSpawner,
+    console: StandardConsole,
+}
+
+impl DesktopWorld {
+    /// Nothing is opened yet. Programs find the manager under this name of the host.
+    pub fn new(rt: HostRuntime, host: String) -> DesktopWorld {
+        DesktopWorld {
+            host,
+            disk: FileDisk::new(rt, STORE_BYTES),
+            links: SocketLinks::new(rt),
+            spawner: ProgramSpawner::new(rt),
+            console: StandardConsole::new(rt),
+        }
+    }
+
+    /// Closes the sockets and removes their files.
+    pub fn close(&mut self)
+        ensures untouched { world_outside self.new ≡ world_outside self.old }
+    {
+        self.links.close();
+    }
+}
+
+impl Told for DesktopWorld {
+    ghost outside = { world_outside };
+}
+
+impl Disk for DesktopWorld {
+    ghost use Rattle.std.specs.Prelude.{None};
+    ghost use Rattle.std.proofs.Common.{refl};
+    ghost use Rattle.sm_world.specs.Disk.{untold_size};
+
+    ghost sized = { λ world first told. untold_size world.disk.size first None refl told };
+
+    fn attach(&mut self, path: &str) -> Result<(), Failure> {
+        self.disk.attach(path)
+    }
+
+    fn size(&mut self) -> Result<u64, Failure> {
+        self.disk.size()
+    }
+
+    fn read_at(&mut self, at: u64, into: &mut [u8]) -> Result<(), Failure> {
+        self.disk.read_at(at, into)
+    }
+
+    fn write_at(&mut self, at: u64, bytes: &[u8]) -> Result<(), Failed> {
+        self.disk.write_at(at, bytes)
+    }
+
+    fn sync(&mut self) -> Result<(), Failed> {
+        self.disk.sync()
+    }
+
+    /// The file that is published is the programs' ICEAUTHORITY.
+    fn publish(&mut self, path: &str, bytes: &[u8]) -> Result<(), Failure> {
+        let authority = path
+            .to_string(*self.host.allocator())
+            .map_err(NoMemory::from)?;
+        self.disk.publish(path, bytes)?;
+        self.spawner.set_authority(authority);
+        Ok(())
+    }
+}
+
+impl Links for DesktopWorld {
+    /// The programs' SESSION_MANAGER names this socket.
+    fn listen(&mut self, socket: &str, control: &str) -> Result<(), Failure> {
+        let alloc = *self.host.allocator();
+        let names = format!(in alloc; "local/{}:{socket}", self.host).map_err(NoMemory::from)?;
+        self.links.listen(socket, control)?;
+        self.spawner.set_session_manager(names);
+        Ok(())
+    }
+
+    /// Takes leave of the programs that have ended, too.
+    fn next(&mut self) -> Result<Event, Failure> {
+        self.spawner.reap();
+        self.links.next()
+    }
+
+    fn send(&mut self, to: Conn, bytes: &[u8]) -> Result<(), Failure> {
+        self.links.send(to, bytes)
+    }
+
+    fn shut(&mut self, to: Conn) -> Result<(), Failure> {
+        self.links.shut(to)
+    }
+}
+
+impl Spawner for DesktopWorld {
+    fn start(&mut self, command: &Command) -> Result<bool, NoMemory> {
+        self.spawner.start(command)
+    }
+}
+
+impl Console for DesktopWorld {
+    fn read(&mut self, into: &mut [u8]) -> Result<usize, Failure> {
+        self.console.read(into)
+    }
+
+    fn print(&mut self, bytes: &[u8]) -> Result<(), Failure> {
+        self.links.answer(bytes);
+        self.console.print(bytes)
+    }
+}

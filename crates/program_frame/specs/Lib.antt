@@ -1,0 +1,5 @@
+pub mod Untold
+pub mod Input
+pub mod Printing
+pub mod Programs
+pub mod Own

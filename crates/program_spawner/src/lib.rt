@@ -1,0 +1,8 @@
+//! The programs of the session. That they are started is told to nobody; the faults are counted.
+#![tactic(auto)]
+
+mod spawner;
+#[cfg(test)]
+mod tests;
+
+pub use spawner::ProgramSpawner;

@@ -1,0 +1,4 @@
+pub mod Following
+pub mod RuleLaws
+pub mod LineLaws
+pub mod ProgramLaws

@@ -1,0 +1,6 @@
+pub mod Entries
+pub mod Rules
+pub mod Joining
+pub mod Lines
+pub mod Faults
+pub mod Statuses

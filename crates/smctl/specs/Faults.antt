@@ -1,0 +1,26 @@
+-- The faults of the program: their statuses and lines.
+use Rattle.std.specs.Prelude.{ℕ, List, codes, Option, Some, None}
+use Rattle.control_lines.specs.declared.orders.OrderRefusal.{OrderRefusal}
+use Rattle.control_lines.specs.declared.orders.OrderRefusal.TheVariants.{BadLine, NoMemory as OrderMemory}
+use Rattle.program_frame.specs.Printing.{line}
+use Rattle.smctl.specs.declared.fault.Fault.{Fault}
+use Rattle.smctl.specs.declared.fault.Fault.TheVariants.{BadWords, NoControl, Link, Console, NoMemory}
+
+abbrev pub order_fault : OrderRefusal → Fault
+order_fault BadLine = BadWords
+order_fault OrderMemory = NoMemory
+
+abbrev pub fault_status : Fault → ℕ
+fault_status BadWords = 1
+fault_status NoControl = 1
+fault_status Link = 5
+fault_status Console = 6
+fault_status NoMemory = 10
+
+-- the line of each fault; the console's has none
+abbrev pub fault_line : Fault → Option (List ℕ)
+fault_line BadWords = Some (line (codes "smctl: bad words"))
+fault_line NoControl = Some (line (codes "smctl: no control socket"))
+fault_line Link = Some (line (codes "smctl: no answer"))
+fault_line Console = None
+fault_line NoMemory = Some (line (codes "smctl: no memory"))

@@ -1,0 +1,84 @@
+ghost use Rattle.std.specs.Prelude.{◌≡◌};
+ghost use Rattle.smctl.specs.Faults.{order_fault, fault_status, fault_line};
+ghost use Rattle.smctl.specs.declared.fault.Fault.TheVariants.{NoMemory as OutOfMemory};
+
+use control_lines::OrderRefusal;
+use program_frame::{ProgramFault, try_line};
+use sm_world::{Console, Failure, NoMemory};
+use std::alloc::Global;
+use std::io;
+use std::io::ErrorKind;
+
+/// Why there is no answer. Each has its status and, but for the console's fault, its line.
+#[derive(Clone, Copy, Debug, PartialEq, Eq)]
+pub enum Fault {
+    BadWords,
+    /// Neither the words nor the environment name the control socket.
+    NoControl,
+    /// The manager isn't reached, or goes before it answers.
+    Link,
+    Console,
+    NoMemory,
+}
+
+impl From<Failure> for Fault {
+    fn from(failure: Failure) -> Fault {
+        match failure {
+            Failure::Failed => Fault::Console,
+            Failure::NoMemory => Fault::NoMemory,
+        }
+    }
+}
+
+impl From<NoMemory> for Fault {
+    ghost from_gives = { λ _ fault. fault ≡ OutOfMemory };
+
+    fn from(_error: NoMemory) -> Fault {
+        Fault::NoMemory
+    }
+}
+
+impl From<OrderRefusal> for Fault {
+    ghost from_gives = { λ refusal fault. fault ≡ order_fault refusal };
+
+    fn from(refusal: OrderRefusal) -> Fault {
+        match refusal {
+            OrderRefusal::BadLine => Fault::BadWords,
+            OrderRefusal::NoMemory => Fault::NoMemory,
+        }
+    }
+}
+
+impl From<io::Error> for Fault {
+    fn from(error: io::Error) -> Fault {
+        match error.kind() {
+            ErrorKind::OutOfMemory => Fault::NoMemory,
+            _ => Fault::Link,
+        }
+    }
+}
+
+impl ProgramFault for Fault {
+    ghost status_of = { fault_status };
+
+    ghost line_of = { fault_line };
+
+    fn status(self) -> u8 {
+        match self {
+            Fault::BadWords | Fault::NoControl => 1,
+            Fault::Link => 5,
+            Fault::Console => 6,
+            Fault::NoMemory => 10,
+        }
+    }
+
+    fn report<W: Console>(self, _alloc: Global, world: &mut W) {
+        match self {
+            Fault::BadWords => try_line(world, b"smctl: bad words\n"),
+            Fault::NoControl => try_line(world, b"smctl: no control socket\n"),
+            Fault::Link => try_line(world, b"smctl: no answer\n"),
+            Fault::Console => {}
+            Fault::NoMemory => try_line(world, b"smctl: no memory\n"),
+        }
+    }
+}

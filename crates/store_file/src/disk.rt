@@ -1,0 +1,138 @@
+ghost use Rattle.std.specs.Prelude.{◌≡◌, ◌≤◌};
+ghost use Rattle.sm_world.specs.Outside.{Rose};
+ghost use Rattle.store_file.specs.Untold.{disk_outside};
+
+use crate::files::{replace, take_store};
+use sm_world::{Disk, Failed, Failure, Told};
+use std::fs::File;
+use std::io;
+use std::io::ErrorKind;
+use std::os::unix::fs::FileExt;
+
+/// The store in a file that no other process of ours takes, and small files beside it. What they hold
+/// is told to nobody; each fault is counted.
+///
+/// A missing store is made with zeros, and stands under its name only when it is whole on the disk.
+/// After a sync that failed nothing is read or written any more, since the system may have dropped
+/// what it couldn't write.
+#[derive(Drop)]
+pub struct FileDisk {
+    rt: HostRuntime,
+    file: Option<File>,
+    /// The size of a store that is made anew.
+    new_size: u64,
+    size: u64,
+    is_lost: bool,
+    faults: u64,
+}
+
+impl FileDisk {
+    /// A disk whose store isn't taken yet. A missing one will be made with this size.
+    pub fn new(rt: HostRuntime, new_size: u64) -> FileDisk {
+        FileDisk {
+            rt,
+            file: None,
+            new_size,
+            size: 0,
+            is_lost: false,
+            faults: 0,
+        }
+    }
+
+    /// The file, as long as it can be relied on.
+    fn good_file(&self) -> Option<&File> {
+        if self.is_lost {
+            None
+        } else {
+            self.file.as_ref()
+        }
+    }
+
+    fn count_one(&mut self)
+        ensures rose { Rose self.old.faults self.new.faults }
+        ensures not_fallen { self.old.faults ≤ self.new.faults }
+        ensures size { self.new.size ≡ self.old.size }
+    {
+        self.faults = self.faults.saturating_add(1);
+    }
+
+    /// The failure for an error at a path, which is counted where it isn't want of memory.
+    fn failure(&mut self, path: &str, error: io::Error) -> Failure
+        ensures cause { result ≡ Failure.Failed → Rose self.old.faults self.new.faults }
+        ensures not_fallen { self.old.faults ≤ self.new.faults }
+        ensures size { self.new.size ≡ self.old.size }
+    {
+        if error.kind() == ErrorKind::OutOfMemory {
+            return Failure::NoMemory;
+        }
+        let _ = eprintln!(self.rt; "smd: cannot use {path}: {error}");
+        self.count_one();
+        Failure::Failed
+    }
+}
+
+impl Told for FileDisk {
+    ghost outside = { disk_outside };
+}
+
+impl Disk for FileDisk {
+    ghost use Rattle.std.specs.Prelude.{None};
+    ghost use Rattle.std.proofs.Common.{refl};
+    ghost use Rattle.sm_world.specs.Disk.{untold_size};
+
+    ghost sized = { λ disk first told. untold_size disk.size first None refl told };
+
+    fn attach(&mut self, path: &str) -> Result<(), Failure> {
+        match take_store(self.rt, path, self.new_size) {
+            Ok((file, size)) => {
+                self.file = Some(file);
+                self.size = size;
+                self.is_lost = false;
+                Ok(())
+            }
+            Err(error) => Err(self.failure(path, error)),
+        }
+    }
+
+    fn size(&mut self) -> Result<u64, Failure> {
+        Ok(self.size)
+    }
+
+    fn read_at(&mut self, at: u64, into: &mut [u8]) -> Result<(), Failure> {
+        if let Some(file) = self.good_file() {
+            if file.read_exact_at(into, at).is_ok() {
+                return Ok(());
+            }
+        }
+        self.count_one();
+        Err(Failure::Failed)
+    }
+
+    fn write_at(&mut self, at: u64, bytes: &[u8]) -> Result<(), Failed> {
+        if let Some(file) = self.good_file() {
+            if file.write_all_at(bytes, at).is_ok() {
+                return Ok(());
+            }
+        }
+        self.count_one();
+        Err(Failed)
+    }
+
+    fn sync(&mut self) -> Result<(), Failed> {
+        if let Some(file) = self.good_file() {
+            if file.sync_data().is_ok() {
+                return Ok(());
+            }
+        }
+        self.is_lost = true;
+        self.count_one();
+        Err(Failed)
+    }
+
+    fn publish(&mut self, path: &str, bytes: &[u8]) -> Result<(), Failure> {
+        match replace(self.rt, path, bytes) {
+            Ok(()) => Ok(()),
+            Err(error) => Err(self.failure(path, error)),
+        }
+    }
+}

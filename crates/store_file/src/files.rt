@@ -1,0 +1,108 @@
+use std::fs::{File, OpenOptions, TryLockError};
+use std::io::{ErrorKind, Write};
+use std::os::unix::fs::OpenOptionsExt;
+use std::path::Path;
+use std::{fs, io, process};
+
+/// The mode of a file that is its owner's alone.
+const PRIVATE: u32 = 0o600;
+
+/// How many zeros are written at once.
+const CHUNK: usize = 65_536;
+
+/// Makes a file that is its owner's alone, in place of any that a crash left there.
+fn create_private(rt: HostRuntime, path: &str) -> io::Result<File> {
+    let _ = fs::remove_file(&rt, path);
+    let mut how = OpenOptions::new();
+    how.write(true).create_new(true);
+    how.mode(PRIVATE);
+    how.open(&rt, path)
+}
+
+/// A name beside a file, which no other process takes.
+fn name_beside(rt: HostRuntime, path: &str) -> io::Result<String> {
+    Ok(format!(in rt.alloc(); "{path}.new-{}", process::id(rt.process()))?)
+}
+
+/// Waits until the name of a file is on the disk.
+fn sync_folder(rt: HostRuntime, path: &str) -> io::Result<()> {
+    let folder = match Path::new(path).parent() {
+        Some(parent) if !parent.as_str().is_empty() => parent.as_str(),
+        _ => ".",
+    };
+    fs::open(&rt, folder)?.sync_all()
+}
+
+/// Writes a file of so many zeros beside the path, and then gives it the name. A file that has the
+/// name by then stays.
+fn fill_store(rt: HostRuntime, new: &str, path: &str, size: u64) -> io::Result<()> {
+    let mut file = create_private(rt, new)?;
+    let zeros = vec![in rt.alloc(); 0u8; CHUNK]?;
+    let chunk = CHUNK as u64;
+    for _ in 0..size / chunk {
+        file.write_all(zeros.as_slice())?;
+    }
+    file.write_all(&zeros[..(size % chunk) as usize])?;
+    file.sync_all()?;
+    match fs::hard_link(&rt, new, path) {
+        Err(error) if error.kind() == ErrorKind::AlreadyExists => Ok(()),
+        linked => linked,
+    }
+}
+
+/// Makes the store: it is whole, and on the disk, before its name stands.
+fn make_store(rt: HostRuntime, path: &str, size: u64) -> io::Result<()> {
+    let new = name_beside(rt, path)?;
+    let filled = fill_store(rt, new.as_str(), path, size);
+    let _ = fs::remove_file(&rt, new.as_str());
+    filled?;
+    sync_folder(rt, path)
+}
+
+fn open_store(rt: HostRuntime, path: &str, size: u64) -> io::Result<File> {
+    let mut how = OpenOptions::new();
+    how.read(true).write(true);
+    match how.open(&rt, path) {
+        Err(error) if error.kind() == ErrorKind::NotFound => {
+            make_store(rt, path, size)?;
+            how.open(&rt, path)
+        }
+        opened => opened,
+    }
+}
+
+/// Opens the store for us alone, and tells its size. A missing one is made with this size.
+pub fn take_store(rt: HostRuntime, path: &str, size: u64) -> io::Result<(File, u64)> {
+    let file = open_store(rt, path, size)?;
+    match file.try_lock() {
+        Ok(()) => {}
+        Err(TryLockError::WouldBlock) => return Err(io::Error::from(ErrorKind::ResourceBusy)),
+        Err(TryLockError::Error(error)) => return Err(error),
+    }
+    let found = file.metadata()?;
+    if !found.is_file() {
+        return Err(io::Error::from(ErrorKind::InvalidInput));
+    }
+    let size = found.len();
+    Ok((file, size))
+}
+
+fn write_new(rt: HostRuntime, new: &str, path: &str, bytes: &[u8]) -> io::Result<()> {
+    let mut file = create_private(rt, new)?;
+    file.write_all(bytes)?;
+    file.sync_all()?;
+    fs::rename(&rt, new, path)
+}
+
+/// Puts a new file, which is its owner's alone, in the place of a file. Whoever reads the file finds
+/// the old one or the new one, and never a part.
+pub fn replace(rt: HostRuntime, path: &str, bytes: &[u8]) -> io::Result<()> {
+    let new = name_beside(rt, path)?;
+    match write_new(rt, new.as_str(), path, bytes) {
+        Ok(()) => sync_folder(rt, path),
+        Err(error) => {
+            let _ = fs::remove_file(&rt, new.as_str());
+            Err(error)
+        }
+    }
+}

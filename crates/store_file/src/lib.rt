@@ -1,0 +1,10 @@
+//! The store as a file, and small files that are replaced whole. What they hold is told to nobody;
+//! the faults are counted.
+#![tactic(auto)]
+
+mod disk;
+mod files;
+#[cfg(test)]
+mod tests;
+
+pub use disk::FileDisk;

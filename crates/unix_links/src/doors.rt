@@ -1,0 +1,157 @@
+use crate::sources::Source;
+use mio::net::{UnixListener, UnixStream};
+use mio::{Interest, Registry};
+use std::fs::Files;
+use std::io::ErrorKind;
+use std::net::Net;
+use std::os::fd::{AsFd, AsRawFd, OwnedFd};
+use std::os::unix::fs::FileTypeExt;
+use std::os::unix::net;
+use std::os::unix::net::{SocketAddr, SocketAddrExt};
+use std::{fs, io};
+
+/// The mode of a socket that only its owner can connect to.
+const PRIVATE: u32 = 0o600;
+
+fn check(status: i32) -> io::Result<()> {
+    if status < 0 {
+        Err(io::Error::from_raw_os_error(os::errno()))
+    } else {
+        Ok(())
+    }
+}
+
+/// Binds a socket and listens on it, with the longest backlog that the system allows.
+fn listening<R: Files + Net>(
+    rt: &R,
+    socket: OwnedFd,
+    addr: &SocketAddr,
+) -> io::Result<UnixListener> {
+    rt.bind_unix(socket.as_fd(), addr)?;
+    check(libc::net::listen(socket.as_raw_fd(), -1))?;
+    let listener = net::UnixListener::from(socket);
+    listener.set_nonblocking(true)?;
+    Ok(UnixListener::from_std(listener))
+}
+
+/// Removes a socket on which nobody listens any more. One that is taken, and any other file, stays.
+fn make_way<R: Files + Net>(rt: &R, path: &str) -> io::Result<()> {
+    match fs::symlink_metadata(rt, path) {
+        Ok(found) if found.file_type().is_socket() => {}
+        Ok(_) => return Err(io::Error::from(ErrorKind::AlreadyExists)),
+        Err(error) if error.kind() == ErrorKind::NotFound => return Ok(()),
+        Err(error) => return Err(error),
+    }
+    match UnixStream::connect(rt, path) {
+        Err(error) if error.kind() == ErrorKind::ConnectionRefused => fs::remove_file(rt, path),
+        _ => Err(io::Error::from(ErrorKind::AddrInUse)),
+    }
+}
+
+/// Listens at a path, to which nobody but the owner can connect.
+fn private_listener<R: Files + Net>(rt: &R, path: &str) -> io::Result<UnixListener> {
+    let addr = SocketAddr::from_pathname(path)?;
+    make_way(rt, path)?;
+    let socket = rt.unix_socket()?;
+    // Linux gives the file the mode of the socket, so it never has another.
+    check(libc::fchmod(socket.as_raw_fd(), PRIVATE))?;
+    listening(rt, socket, &addr)
+}
+
+/// Listens at a name of Linux's abstract namespace, which has no permissions. The name is free again
+/// as soon as its process has ended.
+fn abstract_listener<R: Files + Net>(rt: &R, name: &str) -> io::Result<UnixListener> {
+    listening(
+        rt,
+        rt.unix_socket()?,
+        &SocketAddr::from_abstract_name(name)?,
+    )
+}
+
+/// Why the doors didn't open.
+#[derive(Drop)]
+pub struct Refusal<'a> {
+    pub path: &'a str,
+    pub error: io::Error,
+}
+
+/// The sockets at which clients and operators come in, and the files of two of them.
+#[derive(Drop)]
+pub struct Doors {
+    clients: UnixListener,
+    hidden: UnixListener,
+    control: UnixListener,
+    clients_path: String,
+    control_path: String,
+}
+
+impl Doors {
+    /// Opens the clients' two doors and the operators' one. The abstract name comes first: a living
+    /// manager holds it, so a second one ends here and touches no file of the first.
+    pub fn open<'a>(
+        rt: HostRuntime,
+        socket: &'a str,
+        control: &'a str,
+    ) -> Result<Doors, Refusal<'a>> {
+        let clients_path = at(socket, copied(rt, socket))?;
+        let control_path = at(control, copied(rt, control))?;
+        let hidden = at(socket, abstract_listener(&rt, socket))?;
+        let clients = at(socket, private_listener(&rt, socket))?;
+        match private_listener(&rt, control) {
+            Ok(control) => Ok(Doors {
+                clients,
+                hidden,
+                control,
+                clients_path,
+                control_path,
+            }),
+            Err(error) => {
+                let _ = fs::remove_file(&rt, socket);
+                Err(Refusal {
+                    path: control,
+                    error,
+                })
+            }
+        }
+    }
+
+    /// Removes the files. The abstract name must still be held then: else they could be those of the
+    /// next manager.
+    pub fn remove_files(&self, rt: &HostRuntime) {
+        let _ = fs::remove_file(rt, self.clients_path.as_str());
+        let _ = fs::remove_file(rt, self.control_path.as_str());
+    }
+
+    /// Has the system tell when somebody comes.
+    pub fn watch(&mut self, registry: &Registry) -> io::Result<()> {
+        let readable = Interest::READABLE;
+        registry.register(&mut self.clients, Source::Clients.token(), readable)?;
+        registry.register(&mut self.hidden, Source::Hidden.token(), readable)?;
+        registry.register(&mut self.control, Source::Control.token(), readable)
+    }
+
+    /// The next client at the door with a path.
+    pub fn next_client(&self) -> io::Result<UnixStream> {
+        Ok(self.clients.accept()?.0)
+    }
+
+    /// The next client at the door with an abstract name.
+    pub fn next_hidden(&self) -> io::Result<UnixStream> {
+        Ok(self.hidden.accept()?.0)
+    }
+
+    pub fn next_operator(&self) -> io::Result<UnixStream> {
+        Ok(self.control.accept()?.0)
+    }
+}
+
+fn copied(rt: HostRuntime, path: &str) -> io::Result<String> {
+    Ok(path.to_string(rt.alloc())?)
+}
+
+fn at<T: Drop>(path: &str, outcome: io::Result<T>) -> Result<T, Refusal<'_>> {
+    match outcome {
+        Ok(found) => Ok(found),
+        Err(error) => Err(Refusal { path, error }),
+    }
+}

@@ -1,0 +1,124 @@
+ghost use Rattle.std.specs.Prelude.{◌≡◌, ◌≤◌, IsErrOf};
+ghost use Rattle.sm_world.specs.Outside.{Rose};
+ghost use Rattle.unix_links.specs.Untold.{links_outside};
+
+use crate::doors::{Doors, Refusal};
+use crate::paths::path_fault;
+use crate::reading::refused;
+use crate::sockets::Sockets;
+use sm_world::{Conn, Event, Failure, Links, Told};
+use std::io;
+
+/// The clients at a Unix socket, and the operators at another. What goes through them is told to
+/// nobody; each fault is counted.
+///
+/// Connections have the numbers from 1 on. A client for which more than 1,048,576 bytes would wait is
+/// dropped, and then gone. There is a tick every 250 milliseconds, also while events come, and it
+/// carries the milliseconds since the last one.
+#[derive(Drop)]
+pub struct SocketLinks {
+    rt: HostRuntime,
+    sockets: Option<Sockets>,
+    faults: u64,
+}
+
+impl SocketLinks {
+    /// Nobody is listened to yet.
+    pub fn new(rt: HostRuntime) -> SocketLinks {
+        SocketLinks {
+            rt,
+            sockets: None,
+            faults: 0,
+        }
+    }
+
+    /// Sends a line to the operator whose order was the last event, where it was an order and its
+    /// operator is still there.
+    pub fn answer(&mut self, line: &[u8])
+        ensures untouched { links_outside self.new ≡ links_outside self.old }
+    {
+        if let Some(sockets) = &mut self.sockets {
+            sockets.answer(line);
+        }
+    }
+
+    /// Removes the sockets' files, and then closes all sockets.
+    pub fn close(&mut self)
+        ensures untouched { links_outside self.new ≡ links_outside self.old }
+    {
+        if let Some(sockets) = &self.sockets {
+            sockets.remove_files();
+        }
+        self.sockets = None;
+    }
+
+    fn open(&mut self, socket: &str, control: &str) -> Result<(), Failure>
+        ensures same { self.new.faults ≡ self.old.faults }
+    {
+        if let Some(fault) = path_fault(socket) {
+            let _ = eprintln!(self.rt; "smd: cannot listen at {socket}: {fault}");
+            return Err(Failure::Failed);
+        }
+        match Doors::open(self.rt, socket, control) {
+            Ok(doors) => match Sockets::new(self.rt, doors) {
+                Ok(sockets) => {
+                    self.sockets = Some(sockets);
+                    Ok(())
+                }
+                Err(error) => Err(self.report(socket, error)),
+            },
+            Err(Refusal { path, error }) => Err(self.report(path, error)),
+        }
+    }
+
+    /// Tells the user why nobody listens at a path.
+    fn report(&self, path: &str, error: io::Error) -> Failure {
+        let _ = eprintln!(self.rt; "smd: cannot listen at {path}: {error}");
+        refused(error)
+    }
+
+    /// Counts a fault, where the answer is one.
+    fn count<T>(&mut self, answer: Result<T, Failure>) -> Result<T, Failure>
+        ensures same { result ≡ answer }
+        ensures cause { IsErrOf result Failure.Failed → Rose self.old.faults self.new.faults }
+        ensures not_fallen { self.old.faults ≤ self.new.faults }
+    {
+        if matches!(&answer, Err(Failure::Failed)) {
+            self.faults = self.faults.saturating_add(1);
+        }
+        answer
+    }
+}
+
+impl Told for SocketLinks {
+    ghost outside = { links_outside };
+}
+
+impl Links for SocketLinks {
+    fn listen(&mut self, socket: &str, control: &str) -> Result<(), Failure> {
+        let answer = self.open(socket, control);
+        self.count(answer)
+    }
+
+    fn next(&mut self) -> Result<Event, Failure> {
+        let answer = match &mut self.sockets {
+            Some(sockets) => sockets.next(),
+            None => Err(Failure::Failed),
+        };
+        self.count(answer)
+    }
+
+    fn send(&mut self, to: Conn, bytes: &[u8]) -> Result<(), Failure> {
+        if let Some(sockets) = &mut self.sockets {
+            sockets.send(to, bytes)?;
+        }
+        Ok(())
+    }
+
+    fn shut(&mut self, to: Conn) -> Result<(), Failure> {
+        if let Some(sockets) = &mut self.sockets {
+            sockets.shut(to);
+        }
+        Ok(())
+    }
+}

@@ -1,0 +1,212 @@
+use crate::SocketLinks;
+use sm_world::{Event, Failure, Links, Order};
+use std::io::{ErrorKind, Read, Write};
+use std::os::unix::net::{UnixListener, UnixStream};
+use std::test::Fail;
+use std::time::Duration;
+use std::{env, fs, io, process};
+
+/// The paths of a test's sockets.
+#[derive(Drop)]
+struct Paths {
+    socket: String,
+    control: String,
+}
+
+fn room(rt: HostRuntime, name: &str) -> Result<Paths, Fail> {
+    let folder = env::temp_dir(&rt)?;
+    let folder = folder.as_path().as_str();
+    let id = process::id(rt.process());
+    Ok(Paths {
+        socket: format!(in rt.alloc(); "{folder}/{name}-{id}")?,
+        control: format!(in rt.alloc(); "{folder}/{name}-{id}-orders")?,
+    })
+}
+
+/// Links that listen there.
+fn open(rt: HostRuntime, paths: &Paths) -> io::Result<SocketLinks> {
+    let mut links = SocketLinks::new(rt);
+    match links.listen(paths.socket.as_str(), paths.control.as_str()) {
+        Ok(()) => Ok(links),
+        Err(_) => Err(io::Error::from(ErrorKind::AddrInUse)),
+    }
+}
+
+/// A peer, whose reads end after some seconds where nothing comes.
+fn dial(rt: HostRuntime, path: &str) -> Result<UnixStream, Fail> {
+    let stream = UnixStream::connect(&rt, path)?;
+    stream.set_read_timeout(Some(Duration::from_secs(10)))?;
+    Ok(stream)
+}
+
+/// The next event that isn't a tick, and the end where there is none.
+fn next(links: &mut SocketLinks) -> Event {
+    for _ in 0..100 {
+        match links.next() {
+            Ok(Event::Tick(_)) => {}
+            Ok(event) => return event,
+            Err(_) => break,
+        }
+    }
+    Event::End
+}
+
+fn is_piece(event: &Event, number: u32, text: &[u8]) -> bool {
+    match event {
+        Event::Piece(conn, bytes) => *conn == number && bytes.as_slice() == text,
+        _ => false,
+    }
+}
+
+fn refuses(rt: HostRuntime, socket: &str, control: &str) -> bool {
+    SocketLinks::new(rt).listen(socket, control) == Err(Failure::Failed)
+}
+
+#[test]
+fn clients_come_speak_and_go(rt: HostRuntime) -> Result<(), Fail> {
+    let paths = room(rt, "clients")?;
+    let mut links = open(rt, &paths)?;
+    let mut first = dial(rt, paths.socket.as_str())?;
+    assert!(rt; matches!(next(&mut links), Event::Joined(1)));
+    first.write_all(b"hello")?;
+    assert!(rt; is_piece(&next(&mut links), 1, b"hello"));
+    assert_eq!(rt; links.send(1, b"good day"), Ok(()));
+    let mut answer = [0u8; 8];
+    first.read_exact(&mut answer)?;
+    assert_eq!(rt; &answer, b"good day");
+    first.write_all(b"bye")?;
+    drop(first);
+    assert!(rt; is_piece(&next(&mut links), 1, b"bye"));
+    assert!(rt; matches!(next(&mut links), Event::Gone(1)));
+    let mut second = dial(rt, paths.socket.as_str())?;
+    assert!(rt; matches!(next(&mut links), Event::Joined(2)));
+    assert_eq!(rt; links.shut(2), Ok(()));
+    assert_eq!(rt; second.read(&mut answer)?, 0);
+    links.close();
+    assert_eq!(rt; fs::exists(&rt, paths.socket.as_str())?, false);
+    assert_eq!(rt; fs::exists(&rt, paths.control.as_str())?, false);
+    Ok(())
+}
+
+#[test]
+fn orders_are_answered_where_they_came_from(rt: HostRuntime) -> Result<(), Fail> {
+    let paths = room(rt, "orders")?;
+    let mut links = open(rt, &paths)?;
+    let mut first = dial(rt, paths.control.as_str())?;
+    let mut second = dial(rt, paths.control.as_str())?;
+    first.write_all(b"nonsense\nstatus\nshut")?;
+    assert!(rt; matches!(next(&mut links), Event::Operator(Order::Status)));
+    links.answer(b"idle\n");
+    second.write_all(b"drop 7\n")?;
+    assert!(rt; matches!(next(&mut links), Event::Operator(Order::DropConn(7))));
+    links.answer(b"no connection\n");
+    let mut answer = [0u8; 15];
+    first.read_exact(&mut answer)?;
+    assert_eq!(rt; &answer, b"bad order\nidle\n");
+    let mut answer = [0u8; 14];
+    second.read_exact(&mut answer)?;
+    assert_eq!(rt; &answer, b"no connection\n");
+    links.close();
+    Ok(())
+}
+
+#[test]
+fn a_quarter_of_a_second_is_told(rt: HostRuntime) -> Result<(), Fail> {
+    let paths = room(rt, "ticks")?;
+    let mut links = open(rt, &paths)?;
+    assert!(rt; matches!(links.next(), Ok(Event::Tick(passed)) if passed >= 250));
+    links.close();
+    Ok(())
+}
+
+#[test]
+fn who_does_not_read_is_dropped(rt: HostRuntime) -> Result<(), Fail> {
+    let paths = room(rt, "deaf")?;
+    let mut links = open(rt, &paths)?;
+    let _client = dial(rt, paths.socket.as_str())?;
+    assert!(rt; matches!(next(&mut links), Event::Joined(1)));
+    let bytes = vec![in rt.alloc(); 0u8; 65_536]?;
+    for _ in 0..32 {
+        assert_eq!(rt; links.send(1, bytes.as_slice()), Ok(()));
+    }
+    assert!(rt; matches!(next(&mut links), Event::Gone(1)));
+    links.close();
+    Ok(())
+}
+
+#[test]
+fn bad_paths_are_refused(rt: HostRuntime) -> Result<(), Fail> {
+    let paths = room(rt, "paths")?;
+    let (socket, control) = (paths.socket.as_str(), paths.control.as_str());
+    let long = format!(in rt.alloc(); "/run/{:0>103}", 0)?;
+    for bad in [
+        "",
+        "sock",
+        "/run/a:b",
+        "/run/a,b",
+        "/no such folder/s",
+        long.as_str(),
+    ] {
+        assert!(rt; refuses(rt, bad, control));
+    }
+    assert!(rt; refuses(rt, socket, "/no such folder/c"));
+    assert_eq!(rt; fs::exists(&rt, socket)?, false);
+    Ok(())
+}
+
+#[test]
+fn only_a_dead_socket_is_taken_over(rt: HostRuntime) -> Result<(), Fail> {
+    let paths = room(rt, "taken")?;
+    let (socket, control) = (paths.socket.as_str(), paths.control.as_str());
+    fs::write(&rt, socket, "mine")?;
+    assert!(rt; refuses(rt, socket, control));
+    assert_eq!(rt; fs::read_to_string(&rt, socket)?.as_str(), "mine");
+    fs::remove_file(&rt, socket)?;
+    let other = UnixListener::bind(&rt, socket)?;
+    assert!(rt; refuses(rt, socket, control));
+    // A listener that is gone leaves its file.
+    drop(other);
+    let mut links = open(rt, &paths)?;
+    assert!(rt; refuses(rt, socket, control));
+    let _client = dial(rt, socket)?;
+    assert!(rt; matches!(next(&mut links), Event::Joined(1)));
+    links.close();
+    Ok(())
+}
+
+#[test]
+fn ticks_come_while_a_client_speaks(rt: HostRuntime) -> Result<(), Fail> {
+    let paths = room(rt, "busy")?;
+    let mut links = open(rt, &paths)?;
+    let mut client = dial(rt, paths.socket.as_str())?;
+    let mut ticked = false;
+    for _ in 0..10_000_000 {
+        client.write_all(b"x")?;
+        if matches!(links.next(), Ok(Event::Tick(passed)) if passed >= 250) {
+            ticked = true;
+            break;
+        }
+    }
+    assert!(rt; ticked);
+    links.close();
+    Ok(())
+}
+
+#[test]
+fn a_client_with_much_to_say_lets_others_in(rt: HostRuntime) -> Result<(), Fail> {
+    let paths = room(rt, "flood")?;
+    let mut links = open(rt, &paths)?;
+    let mut first = dial(rt, paths.socket.as_str())?;
+    let mut second = dial(rt, paths.socket.as_str())?;
+    assert!(rt; matches!(next(&mut links), Event::Joined(1)));
+    assert!(rt; matches!(next(&mut links), Event::Joined(2)));
+    let many = vec![in rt.alloc(); b'a'; 100_000]?;
+    first.write_all(many.as_slice())?;
+    second.write_all(b"b")?;
+    let whole = &many[..65_536];
+    assert!(rt; is_piece(&next(&mut links), 1, whole));
+    assert!(rt; is_piece(&next(&mut links), 2, b"b"));
+    assert!(rt; is_piece(&next(&mut links), 1, &many[65_536..]));
+    links.close();
+    Ok(())
+}

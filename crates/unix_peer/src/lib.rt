@@ -1,0 +1,10 @@
+//! The outside of a real client: a connection over a Unix socket, the files of the system, and its
+//! standard input and output.
+#![tactic(auto)]
+
+mod peer;
+mod reading;
+#[cfg(test)]
+mod tests;
+
+pub use peer::UnixPeer;

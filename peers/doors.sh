@@ -1,0 +1,119 @@
+# What smd refuses at its start, and who can reach its files.
+
+# refuses STATUS WORD..: whether smd ends so with these words, and by itself.
+refuses() {
+  local wanted=$1
+  shift
+  timeout 20 "$smd" serve "$@" < /dev/null > "$room/refused" 2>&1
+  [ $? -eq "$wanted" ]
+}
+
+# refuses_path STATUS NAME PATH: the same, where all paths but this one are good.
+refuses_path() {
+  local words=()
+  for name in socket control store authority; do
+    words+=("--$name")
+    if [ "$name" = "$2" ]; then words+=("$3"); else words+=("$room/other/$name"); fi
+  done
+  refuses "$1" "${words[@]}"
+}
+
+# what_is FILE: all by which one sees that it is the same file.
+what_is() { stat -c '%d %i %s %a %y' "$1"; }
+
+# unharmed WORD..: whether the words hold, and the running smd's files are as before.
+unharmed() {
+  local before after
+  before=$(for name in socket control store authority; do what_is "$at/$name"; done)
+  "$@" || return 1
+  after=$(for name in socket control store authority; do what_is "$at/$name"; done)
+  [ "$before" = "$after" ] && answers 'connections 0, records 0, pending 0, epoch 1, idle' status
+}
+
+# untouched FILE WORD..: whether the words hold, and the file has the bytes that it had.
+untouched() {
+  local before
+  before=$(what_is "$1"; cat "$1")
+  "${@:2}" && [ "$(what_is "$1"; cat "$1")" = "$before" ]
+}
+
+second_managers() {
+  check "smd starts on its store" start_smd "$room/doors"
+  check "a second smd on the same store is refused" unharmed refuses_path 4 store "$at/store"
+  check "a socket that is taken is refused" unharmed refuses_path 5 socket "$at/socket"
+  check "a control socket that is taken is refused" unharmed refuses_path 5 control "$at/control"
+  check "smd ends at a shutdown without clients" logs_out
+  check "the sockets are gone at the end" test ! -e "$at/socket" -a ! -e "$at/control"
+}
+
+# The path of a file in the room whose name makes it so many bytes long.
+long_path() { printf '%s/%0*d' "$room" "$(($1 - ${#room} - 1))" 0; }
+
+bad_paths() {
+  local plain=$room/plain
+  echo "a plain file" > "$plain"
+  mkdir -p "$room/folder"
+  for path in relative "$room/a:b" "$room/a,b"; do
+    check "clients couldn't name the socket $path" refuses_path 5 socket "$path"
+  done
+  for path in "$(long_path 108)" "$room/none/socket" "$room/folder"; do
+    check "the socket $path is refused" refuses_path 5 socket "$path"
+    check "the control socket $path is refused" refuses_path 5 control "$path"
+  done
+  check "a plain file is no socket" untouched "$plain" refuses_path 5 socket "$plain"
+  check "a plain file is no control socket" untouched "$plain" refuses_path 5 control "$plain"
+  check "both sockets can't be one" refuses_path 5 control "$room/other/socket"
+  check "a store of another size is refused" untouched "$plain" refuses_path 3 store "$plain"
+  check "its size is told" grep -qx 'smd: store has size 13' "$room/refused"
+  check "a folder is no store" refuses_path 4 store "$room/folder"
+  check "a store in no folder is refused" refuses_path 4 store "$room/none/store"
+  check "an authority file in no folder is refused" refuses_path 4 authority "$room/none/authority"
+  check "an empty path is refused" refuses_path 1 socket ''
+  check "a missing word is refused" refuses 1 --socket "$room/other/socket"
+  check "nothing is left at the refused sockets" test ! -e "$room/other/socket" -a ! -e "$room/other/control"
+}
+
+longest_path() {
+  at=$room/longest
+  mkdir "$at"
+  local path
+  path=$(long_path 107)
+  "$smd" serve --socket "$path" --control "$at/control" --store "$at/store" --authority "$at/authority" \
+    < /dev/null > "$at/lines" 2>> "$at/said" &
+  smd_id=$!
+  within 30 grep -qsxF "SESSION_MANAGER=local/$HOSTNAME:$path" "$at/lines" && logs_out
+}
+
+# is_private NAME: whether the file is the user's alone.
+is_private() { [ "$(stat -c %a "$at/$1")" = 600 ]; }
+
+permissions() {
+  local before
+  before=$(umask)
+  umask 0
+  check "smd starts under an open umask" start_smd "$room/open"
+  umask "$before"
+  for name in socket control store authority; do
+    check "the $name is the user's alone" is_private "$name"
+  done
+  check "the session under an open umask ends" logs_out
+}
+
+# A stale socket of an smd that was killed.
+taken_over() {
+  check "smd starts to be killed" start_smd "$room/stale"
+  kill -KILL "$smd_id"
+  ends "$smd_id" 137 2> /dev/null
+  check "the killed smd leaves its sockets" test -S "$at/socket" -a -S "$at/control"
+  check "the next smd takes them over" start_smd "$room/stale"
+  check "the next smd ends well" logs_out
+}
+
+doors() {
+  mkdir -p "$room/other"
+  second_managers
+  bad_paths
+  check "a socket of 107 bytes is taken" longest_path
+  permissions
+  taken_over
+}

@@ -1,0 +1,19 @@
+# The packages of Debian that peers/check needs; where some are missing they are installed.
+needed='gcc libc6-dev libsm-dev libice-dev python3 xvfb gkrellm twm xterm'
+
+missing() {
+  for package in $needed; do
+    dpkg-query -W -f '${Status}\n' "$package" 2> /dev/null | grep -q ' installed$' || echo "$package"
+  done
+}
+
+has_lists() { [ -n "$(find /var/lib/apt/lists -name '*_Packages*' -print -quit 2> /dev/null)" ]; }
+
+install_packages() {
+  local packages
+  packages=$(missing)
+  [ -n "$packages" ] || return 0
+  export DEBIAN_FRONTEND=noninteractive
+  has_lists || apt-get update -q > /dev/null || return 1
+  apt-get install -y -q --no-install-recommends $packages > /dev/null
+}

@@ -1,0 +1,158 @@
+"""A raw client of XSMP over a Unix socket: every byte that it sends is spelled here."""
+import os
+import socket
+import struct
+
+COOKIE_METHOD = b"MIT-MAGIC-COOKIE-1"
+OPCODE = 1
+(ERROR, REGISTER, REGISTERED, SAVE, REQUEST, ASK_TALK, TALK, TALKED, SAVED, DIE, CANCELLED, CLOSED, SET, DELETE,
+ GET, PROPERTIES, ASK_TWO, TWO, COMPLETE) = range(19)
+BYTE_ORDER, SETUP, REQUIRED, REPLY, NEXT, CONNECTED, PROTOCOL, PROTOCOL_REPLY, PING, PONG = range(1, 11)
+
+
+def padded(data, unit):
+    return data + bytes(-len(data) % unit)
+
+
+def string(data):
+    return padded(struct.pack("<H", len(data)) + data, 4)
+
+
+def array8(data):
+    return padded(struct.pack("<I", len(data)) + data, 8)
+
+
+def many(items):
+    """A list with its count: of ARRAY8s, or of properties."""
+    return struct.pack("<II", len(items), 0) + b"".join(items)
+
+
+def message(major, minor, body=b"", second=0, third=0):
+    body = padded(body, 8)
+    return struct.pack("<BBBBI", major, minor, second, third, len(body) // 8) + body
+
+
+def read_array8(data, at=0):
+    length = struct.unpack_from("<I", data, at)[0]
+    return data[at + 4 : at + 4 + length], at + (4 + length + 7) // 8 * 8
+
+
+def cookie_at(authority, path):
+    """The cookie for ICE at the socket with this path."""
+    with open(authority, "rb") as file:
+        data = file.read()
+    at, fields = 0, []
+    while at < len(data):
+        length = struct.unpack_from(">H", data, at)[0]
+        fields.append(data[at + 2 : at + 2 + length])
+        at += 2 + length
+    for protocol, _, network, method, proof in zip(*[iter(fields)] * 5):
+        if protocol == b"ICE" and method == COOKIE_METHOD and network.endswith(b":" + os.fsencode(path)):
+            return proof
+    raise LookupError("no cookie for " + path)
+
+
+class Client:
+    """A connection to the manager, on which each answer has to come within some seconds."""
+
+    def __init__(self, path, seconds=30):
+        self.socket = socket.socket(socket.AF_UNIX)
+        self.socket.settimeout(seconds)
+        self.socket.connect(path)
+        self.held = b""
+
+    def send(self, data):
+        self.socket.sendall(data)
+
+    def say(self, minor, body=b"", second=0):
+        self.send(message(OPCODE, minor, body, second))
+
+    def bytes(self, count):
+        while len(self.held) < count:
+            more = self.socket.recv(65536)
+            if not more:
+                raise EOFError("the manager closed the connection")
+            self.held += more
+        taken, self.held = self.held[:count], self.held[count:]
+        return taken
+
+    def next(self):
+        """The next message: its major and minor opcode, its header and its body."""
+        head = self.bytes(8)
+        return head[0], head[1], head, self.bytes(8 * struct.unpack_from("<I", head, 4)[0])
+
+    def expect(self, minor, major=OPCODE):
+        found = self.next()
+        if found[:2] != (major, minor):
+            raise ValueError("expected %d, got %r" % (minor, found))
+        return found[3]
+
+    def set_up(self, cookie):
+        """The set-up of ICE and of XSMP, both with the cookie."""
+        for part in set_up_parts(cookie):
+            self.send(part)
+        for minor in (BYTE_ORDER, REQUIRED, CONNECTED, REQUIRED, PROTOCOL_REPLY):
+            self.expect(minor, 0)
+
+    def register(self, previous=b""):
+        self.say(REGISTER, array8(previous))
+        return read_array8(self.expect(REGISTERED))[0]
+
+    def set(self, name, kind, values):
+        values = many([array8(it) for it in values])
+        self.say(SET, many([array8(name) + array8(kind) + values]))
+
+    def set_command(self, name, words):
+        self.set(name, b"LISTofARRAY8", words)
+
+    def properties(self):
+        self.say(GET)
+        return read_properties(self.expect(PROPERTIES))
+
+    def ping(self):
+        self.send(message(0, PING))
+        self.expect(PONG, 0)
+
+    def close(self):
+        self.say(CLOSED, many([]))
+        self.socket.close()
+
+
+def set_up_parts(cookie):
+    names = string(COOKIE_METHOD) + struct.pack("<HH", 1, 0)
+    who = string(b"peer") + string(b"1.0")
+    proof = message(0, REPLY, struct.pack("<H", len(cookie)) + bytes(6) + cookie)
+    return [
+        message(0, BYTE_ORDER),
+        message(0, SETUP, bytes(8) + who + names, 1, 1),
+        proof,
+        message(0, PROTOCOL, bytes([1, 1]) + bytes(6) + string(b"XSMP") + who + names, OPCODE),
+        proof,
+    ]
+
+
+def read_properties(body):
+    found, at = {}, 8
+    for _ in range(struct.unpack_from("<I", body)[0]):
+        name, at = read_array8(body, at)
+        _, at = read_array8(body, at)
+        values, count = [], struct.unpack_from("<I", body, at)[0]
+        at += 8
+        for _ in range(count):
+            value, at = read_array8(body, at)
+            values.append(value)
+        found[name] = values
+    return found
+
+
+def joined(path, authority, previous=b"", seconds=30):
+    """A client that is registered, and its ID."""
+    client = Client(path, seconds)
+    client.set_up(cookie_at(authority, path))
+    return client, client.register(previous)
+
+
+def save(client, words):
+    client.set(b"Program", b"ARRAY8", [words[0]])
+    client.set_command(b"RestartCommand", words)
+    client.say(SAVED, second=1)

@@ -1,0 +1,19 @@
+# What tools/install and tools/uninstall share: the folder to install into, and what goes there.
+. "$(dirname "${BASH_SOURCE[0]}")/programs.sh"
+
+[ $# -eq 1 ] && [ -n "$1" ] || { echo "usage: tools/$(basename "$0") PREFIX" >&2; exit 2; }
+prefix=$1
+installed="smd smctl smtrace smclient"
+
+# each_file CALL: calls with the mode, the file of the repository and its place under the prefix.
+each_file() {
+  local name page
+  for name in $installed; do
+    "$1" 755 "crates/$name/out/$name" "bin/$name"
+  done
+  "$1" 755 session/smd-session bin/smd-session
+  "$1" 644 session/smd.desktop share/xsessions/smd.desktop
+  for page in "$top"/docs/man/*.1; do
+    "$1" 644 "docs/man/$(basename "$page")" "share/man/man1/$(basename "$page")"
+  done
+}
