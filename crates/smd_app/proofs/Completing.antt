@@ -25,7 +25,7 @@ use Rattle.session_engine.specs.declared.fault.ServeFault.TheVariants.{Damaged a
 use Rattle.smd_app.specs.Completeness.{NoneRose, CanServe, EndsWith, HasDoneAll, RehearsesWell, ExercisesWell, ServesWell, Completes, CallsComplete, WordsMeanOne}
 use Rattle.smd_app.specs.Exercises.{exercise_events}
 use Rattle.smd_app.specs.FaultLines.{fault_line, fault_status, served}
-use Rattle.smd_app.specs.Rehearsals.{script_of, ends_within, whole_trace, first_trace}
+use Rattle.smd_app.specs.Rehearsals.{script_of, Finishes, Outlasts, whole_trace, first_trace}
 use Rattle.smd_app.specs.Script.{ScriptSays}
 use Rattle.smd_app.specs.Sessions.{handing_out, announcing, Unopened, Opened, IsSession, HasServed, WasCutShort, IsOfDisk, IsOfEdge}
 use Rattle.smd_app.specs.Statuses.{Answers, Ending, HasRehearsed, HasExercised, RunsExercise, RunsTask, Runs, DoesTask}
@@ -99,15 +99,15 @@ ends_with own first effects ending status same closing = record {
 
 -- A run in memory
 
-rehearsed : (bytes : List ℕ) (events : List Event) (before after turns status : ℕ) (texts : List (List ℕ)) (first effects : List Effect) (ending : Ending) → ScriptSays bytes events → (Rose before after → ⊥) → ArePrinted texts first → HasRehearsed before after bytes turns texts ending → Closing ending first effects status → RehearsesWell events turns status effects
+rehearsed : (bytes : List ℕ) (events : List Event) (before after turns status : ℕ) (texts : List (List ℕ)) (first effects : List Effect) (ending : Ending) → ScriptSays bytes events → (Rose before after → ⊥) → ArePrinted texts first → HasRehearsed before after bytes turns texts ending → Closing ending first effects status → RehearsesWell bytes events turns status effects
 rehearsed bytes events before after turns status texts first effects (Ok x) says calm printed has closing =
     let same = (fits_once bytes turns).one_script has.0 events has.1.says says in
     let shown : first ≡ Printed (whole_trace events) ∷ [] = printed ∙ ap (map Printed) (has.2 ∙ ap (λ es. whole_trace es ∷ []) same) in
-    inl (closing.number, (subst (λ es. ends_within turns es ≡ true) same has.1.ended, ends_with _ first effects (Ok tt) status shown closing))
+    inl (closing.number, (subst (Finishes bytes turns) same has.1, ends_with _ first effects (Ok tt) status shown closing))
 rehearsed bytes events before after turns status texts first effects (Err Spent) says calm printed has closing =
     let same = (fits_once bytes turns).one_script has.0 events has.1.says says in
     let shown : first ≡ Printed (first_trace turns events) ∷ [] = printed ∙ ap (map Printed) (has.2 ∙ ap (λ es. first_trace turns es ∷ []) same) in
-    inr (inl (closing.number, (subst (λ es. turns ≤ length es) same has.1.heard, subst (λ es. ends_within turns es ≡ false) same has.1.unended, ends_with _ first effects (Err Spent) status shown closing)))
+    inr (inl (closing.number, (subst (Outlasts bytes turns) same has.1, ends_with _ first effects (Err Spent) status shown closing)))
 rehearsed bytes events before after turns status texts first effects (Err NoMemory) says calm printed has closing = inr (inr closing.number)
 rehearsed bytes events before after turns status texts first effects (Err Console) says calm printed has closing = absurd (calm has.0)
 rehearsed bytes events before after turns status texts first effects (Err (BadLine n)) says calm printed has closing = absurd ((fits_once bytes turns).said_or_bad events n says has.0)
@@ -165,7 +165,6 @@ one_more : (front rest : List Act) (book : Book) → commits_in front < commits_
 one_more [] rest book = omega arith
 one_more (act ∷ front) rest book = omega (arith, one_more front rest book)
 
--- the recovered book is the one that the file has
 module _ (identity : Identity) (places : Places) (old new : Outside) (turns status : ℕ) (file : List ℕ) (book : Book) (own effects : List Effect) (can : CanServe identity.cookie old file book (heard effects)) where
   abbrev begun : List Effect
   begun = handing_out identity places ++ (announcing identity places ++ own)
@@ -253,7 +252,7 @@ some_input input bytes (Some other) e is = sym is ∙ ap or_empty e
 completes : (task : Task) (identity : Identity) (old new : Outside) (turns status : ℕ) (first effects : List Effect) (ending : Ending) → NoneRose old.faults new.faults → RunsTask task identity turns old new ending first → Closing ending first effects status → Completes task identity old turns status effects
 completes Rehearse identity old new turns status first effects ending calm runs closing = λ input events told says.
     let same = some_input runs.input input old.input told runs.is_input in
-    rehearsed (script_of runs.input) events old.faults.console new.faults.console turns status runs.texts first effects ending (subst (λ (bytes : List ℕ). ScriptSays (script_of bytes) events) (sym same) says) calm.console runs.printed runs.holds closing
+    rehearsed (script_of input) events old.faults.console new.faults.console turns status runs.texts first effects ending says calm.console runs.printed (subst (λ (bytes : List ℕ). HasRehearsed old.faults.console new.faults.console (script_of bytes) turns runs.texts ending) same runs.holds) closing
 completes (Exercise pattern rounds) identity old new turns status first effects ending calm runs closing =
     exercised (exercise_events pattern rounds) old.faults.console new.faults.console turns status runs.texts first effects ending calm.console runs.printed runs.holds closing
 completes (Serve places) identity old new turns status first effects ending calm runs closing = λ file book can. elim runs [
@@ -271,8 +270,8 @@ complete words task identity old new turns status effects means calm answers = e
   | inl does ↦
       let same = mean_one words does.task task does.means means in
       completes task identity old new turns status answers.first effects answers.ending calm
-        (subst (λ (t : Task). RunsTask t identity turns old new answers.ending answers.first) same does.ran)
-        (record { last = answers.last; number = answers.number; parts = answers.parts; tried = answers.tried })
+      (subst (λ (t : Task). RunsTask t identity turns old new answers.ending answers.first) same does.ran)
+      (record { last = answers.last; number = answers.number; parts = answers.parts; tried = answers.tried })
   | inr nothing ↦ elim nothing.cause [
     | inl none ↦ absurd (none.0 task means)
     | inr memory ↦ lacking task identity old turns status effects (answers.number ∙ ap (status_by fault_status) memory)

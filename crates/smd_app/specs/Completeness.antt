@@ -1,4 +1,4 @@
--- Where nothing stands against a task, its call ends by itself, or at its last turn, with all done, or for want of memory.
+-- Where nothing stands against a task, its call ends at the machine's own end or behind its last turn, with all done, or for want of memory.
 use Rattle.std.specs.Prelude.{◌≡◌, ◌⊎◌, ℕ, ◌+◌, ◌<◌, ◌≤◌, ◌^◌, true, false, List, [], ◌∷◌, ◌++◌, length, Option, Some, Ok, Err, is_ok}
 use Rattle.sm_world.specs.Effects.{heard, deeds}
 use Rattle.sm_world.specs.Outside.{Outside, Rose}
@@ -18,7 +18,7 @@ use Rattle.session_engine.specs.Acts.{commits_in, deeds_in, has_finish}
 use Rattle.session_engine.specs.Carries.{Brought, script}
 use Rattle.smd_app.specs.Exercises.{exercise_events}
 use Rattle.smd_app.specs.FaultLines.{fault_line}
-use Rattle.smd_app.specs.Rehearsals.{script_of, ends_within, whole_trace, first_trace}
+use Rattle.smd_app.specs.Rehearsals.{script_of, ends_within, Finishes, Outlasts, whole_trace, first_trace}
 use Rattle.smd_app.specs.Script.{ScriptSays}
 use Rattle.smd_app.specs.Sessions.{handing_out, announcing}
 use Rattle.smd_app.specs.Statuses.{Answers, Ending}
@@ -51,7 +51,7 @@ pub record EndsWith (own : List Effect) (ending : Ending) (effects : List Effect
   pub parts : effects ≡ own ++ last
   pub tried : Tries (line_by fault_line ending) last
 
--- Some of the events to come were heard, and all was done that the machine does for them; it is at its end where the ending is no fault.
+-- The first of the events to come were heard, and all was done that the machine does for them; it is at its end where the ending is no fault.
 pub record HasDoneAll (identity : Identity) (places : Places) (coming : Option (List Event)) (book : Book) (turns : ℕ) (ending : Ending) (effects : List Effect) : Type 0 where
   pub own : List Effect
   pub all : EndsWith (handing_out identity places ++ (announcing identity places ++ own)) ending effects
@@ -60,28 +60,30 @@ pub record HasDoneAll (identity : Identity) (places : Places) (coming : Option (
   pub done : deeds own ≡ deeds_in (script identity.cookie book (heard own))
   pub finish : has_finish (script identity.cookie book (heard own)) ≡ is_ok ending
 
--- A run in memory ends within the turns, or there were as many events.
-abbrev pub RehearsesWell : List Event → ℕ → ℕ → List Effect → Type 0
-RehearsesWell events turns status effects =
+-- A rehearsal prints the trace of the whole run, or that for as many events as there were turns.
+abbrev pub RehearsesWell : List ℕ → List Event → ℕ → ℕ → List Effect → Type 0
+RehearsesWell bytes events turns status effects =
     EndsWell status
-      ((ends_within turns events ≡ true) × EndsWith (Printed (whole_trace events) ∷ []) (Ok tt) effects)
-      ((turns ≤ length events) × (ends_within turns events ≡ false) × EndsWith (Printed (first_trace turns events) ∷ []) (Err Spent) effects)
+    (Finishes bytes turns events × EndsWith (Printed (whole_trace events) ∷ []) (Ok tt) effects)
+    (Outlasts bytes turns events × EndsWith (Printed (first_trace turns events) ∷ []) (Err Spent) effects)
 
+-- An exercise prints the summary of the whole run, or nothing.
 abbrev pub ExercisesWell : List Event → ℕ → ℕ → List Effect → Type 0
 ExercisesWell events turns status effects =
     EndsWell status
-      ((ends_within turns events ≡ true) × ((text : List ℕ) × IsSummary events text × EndsWith (Printed text ∷ []) (Ok tt) effects))
-      ((turns ≤ length events) × (ends_within turns events ≡ false) × EndsWith [] (Err Spent) effects)
+    ((ends_within turns events ≡ true) × ((text : List ℕ) × IsSummary events text × EndsWith (Printed text ∷ []) (Ok tt) effects))
+    ((turns ≤ length events) × (ends_within turns events ≡ false) × EndsWith [] (Err Spent) effects)
 
+-- A session does all that the machine does for what it heard.
 abbrev pub ServesWell : Identity → Places → Option (List Event) → Book → ℕ → ℕ → List Effect → Type 0
 ServesWell identity places coming book turns status effects =
     EndsWell status
-      (HasDoneAll identity places coming book turns (Ok tt) effects)
-      (HasDoneAll identity places coming book turns (Err Spent) effects × (length (heard effects) ≡ turns))
+    (HasDoneAll identity places coming book turns (Ok tt) effects)
+    (HasDoneAll identity places coming book turns (Err Spent) effects × (length (heard effects) ≡ turns))
 
 -- What a call comes to: a rehearsal of a script that is well formed, an exercise, and a session whose store can serve.
 abbrev pub Completes : Task → Identity → Outside → ℕ → ℕ → List Effect → Type 0
-Completes Rehearse identity old turns status effects = (input : List ℕ) (events : List Event) → old.input ≡ Some input → ScriptSays (script_of input) events → RehearsesWell events turns status effects
+Completes Rehearse identity old turns status effects = (input : List ℕ) (events : List Event) → old.input ≡ Some input → ScriptSays (script_of input) events → RehearsesWell (script_of input) events turns status effects
 Completes (Exercise pattern rounds) identity old turns status effects = ExercisesWell (exercise_events pattern rounds) turns status effects
 Completes (Serve places) identity old turns status effects = (file : List ℕ) (book : Book) → CanServe identity.cookie old file book (heard effects) → ServesWell identity places old.coming book turns status effects
 
