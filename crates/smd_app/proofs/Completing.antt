@@ -1,11 +1,9 @@
 -- Completeness: each ending that says more than 0, 9 or 10 has a cause that isn't there.
-use Rattle.std.proofs.Common.{◌≡◌, ◌⊎◌, inl, inr, ℕ, ◌+◌, ◌<◌, ◌≤◌, ◌^◌, true, false, List, [], ◌∷◌, ◌++◌, drop, length, get_or, map, Option, Some, None, Result, Ok, Err, IfErr, refl, sym, ◌∙◌, ap, subst, arith, codes, append-nil, is_ok, is_some, IfSome}
-use Rattle.std.specs.Fmt.{decimal}
-use Rattle.std.specs.List.{flat_map}
+use Rattle.std.proofs.Common.{◌≡◌, ◌⊎◌, inl, inr, ℕ, ◌+◌, ◌<◌, true, false, List, [], ◌∷◌, ◌++◌, drop, length, get_or, map, Option, Some, None, Result, Ok, Err, refl, sym, ◌∙◌, ap, subst, arith, codes, append-nil, is_ok, is_some, IfSome}
 use Rattle.std.proofs.lemmas.Bool.{false≢true}
 use Rattle.std.proofs.lemmas.Fmt.{decimal_injective}
 use Rattle.std.proofs.lemmas.Grind.{flat_map-append}
-use Rattle.sm_world.specs.Effects.{event_of, heard, deeds}
+use Rattle.sm_world.specs.Effects.{event_of, heard}
 use Rattle.sm_world.specs.Outside.{Outside, Rose}
 use Rattle.sm_world.specs.declared.effects.Effect.{Effect}
 use Rattle.sm_world.specs.declared.effects.Effect.TheVariants.{Printed}
@@ -14,9 +12,9 @@ use Rattle.checkpoint_records.specs.declared.records.Book.{Book}
 use Rattle.checkpoint_slots.specs.Recovery.{Recovers}
 use Rattle.checkpoint_slots.proofs.Once.{recovers-once}
 use Rattle.program_frame.specs.Printing.{ArePrinted, Tries}
-use Rattle.program_frame.specs.Programs.{AnswersAs, RunsAs, status_by, line_by}
+use Rattle.program_frame.specs.Programs.{status_by, line_by}
 use Rattle.session_engine.specs.Acts.{commits_in, has_finish}
-use Rattle.session_engine.specs.Carries.{IsUnopened, is_whole, script}
+use Rattle.session_engine.specs.Carries.{is_whole, script}
 use Rattle.session_engine.specs.Saved.{WearsOut}
 use Rattle.session_engine.specs.declared.acts.Act.{Act}
 use Rattle.session_engine.specs.declared.acts.Act.TheVariants.{Commit}
@@ -27,9 +25,9 @@ use Rattle.smd_app.specs.Exercises.{exercise_events}
 use Rattle.smd_app.specs.FaultLines.{fault_line, fault_status, served}
 use Rattle.smd_app.specs.Rehearsals.{script_of, Finishes, Outlasts, whole_trace, first_trace}
 use Rattle.smd_app.specs.Script.{ScriptSays}
-use Rattle.smd_app.specs.Sessions.{handing_out, announcing, Unopened, Opened, IsSession, HasServed, WasCutShort, IsOfDisk, IsOfEdge}
-use Rattle.smd_app.specs.Statuses.{Answers, Ending, HasRehearsed, HasExercised, RunsExercise, RunsTask, Runs, DoesTask}
-use Rattle.smd_app.specs.Words.{Places, Task, Rehearse, Exercise, Serve, Means, AreServe, AreExercise, pairs_of, value_in}
+use Rattle.smd_app.specs.Sessions.{handing_out, announcing, Opened, IsSession, HasServed, WasCutShort, IsOfDisk, IsOfEdge}
+use Rattle.smd_app.specs.Statuses.{Ending, HasRehearsed, HasExercised, RunsTask}
+use Rattle.smd_app.specs.Words.{Places, Task, Rehearse, Exercise, Serve, AreServe, AreExercise, pairs_of, value_in}
 use Rattle.smd_app.specs.declared.fault.Fault.{Fault}
 use Rattle.smd_app.specs.declared.fault.Fault.TheVariants.{BadWords, Damaged, WrongSize, Disk, Links, Console, BadLine, Worn, Spent, NoMemory}
 use Rattle.smd_app.specs.declared.identity.Identity.{Identity}
