@@ -4,6 +4,7 @@ pub mod Rehearsing
 pub mod Printing
 pub mod Ending
 pub mod Excluding
+pub mod Completing
 pub mod Wording
 pub mod SessionLemmas
 pub mod Exercising

@@ -5,6 +5,7 @@ pub mod Rehearsals
 pub mod FaultLines
 pub mod Statuses
 pub mod Exclusions
+pub mod Completeness
 pub mod Words
 pub mod Sessions
 pub mod Exercises

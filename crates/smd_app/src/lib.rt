@@ -30,5 +30,5 @@ mod trace_tests;
 mod words;
 
 pub use identity::Identity;
-pub use laws::statuses_exclude_each_other;
+pub use laws::{calls_are_complete, statuses_exclude_each_other, words_mean_one_task};
 pub use program::smd_main;
