@@ -204,23 +204,35 @@ const SECOND: usize = 8_388_672;
 /// How many bytes of each slot are looked at. The gates stand in front of the first.
 const FRONT: usize = 4096;
 
+/// The first bytes, of which there may be fewer.
+fn front_of(bytes: &[u8], count: usize) -> &[u8] {
+    if bytes.len() < count {
+        return bytes;
+    }
+    &bytes[..count]
+}
+
+/// The bytes from a place on.
+fn from_place(bytes: &[u8], at: usize) -> &[u8] {
+    if bytes.len() < at {
+        return bytes;
+    }
+    &bytes[at..]
+}
+
 /// The fronts of both slots.
 fn folded(alloc: Global, store: &[u8]) -> Result<Octets, NoMemory> {
     let mut fronts = Octets::new(alloc);
-    if store.len() >= SECOND + FRONT {
-        fronts.append(&store[..FRONT])?;
-        fronts.append(&store[SECOND..SECOND + FRONT])?;
-    }
+    fronts.append(front_of(store, FRONT))?;
+    fronts.append(front_of(from_place(store, SECOND), FRONT))?;
     Ok(fronts)
 }
 
 /// A store with these fronts of its slots, and otherwise blank.
 fn unfolded(alloc: Global, fronts: &[u8]) -> Result<Octets, NoMemory> {
     let mut store = blank_store(alloc)?;
-    if fronts.len() >= FRONT {
-        put(&mut store, 0, &fronts[..FRONT]);
-        put(&mut store, SECOND, &fronts[FRONT..]);
-    }
+    put(&mut store, 0, front_of(fronts, FRONT));
+    put(&mut store, SECOND, from_place(fronts, FRONT));
     Ok(store)
 }
 
