@@ -269,8 +269,13 @@ fn login_fronts(rt: &(impl Abort + Alloc<A = Global>)) -> Result<MemWorld, Fail>
     let world = logged_in(rt)?;
     let first = folded(alloc, six_entries(alloc)?.as_slice())?;
     let numbers = NumberList::new(alloc);
-    let mut fronts =
-        MemWorld::new(alloc, EventList::new(alloc), Octets::new(alloc), first, numbers)?;
+    let mut fronts = MemWorld::new(
+        alloc,
+        EventList::new(alloc),
+        Octets::new(alloc),
+        first,
+        numbers,
+    )?;
     do_folded(&mut fronts, world.effects())?;
     let store = unfolded(alloc, fronts.file())?;
     assert!(rt; store.as_slice() == world.file());
