@@ -6,6 +6,8 @@ mod fault;
 mod identity;
 mod laws;
 #[cfg(test)]
+mod login_tests;
+#[cfg(test)]
 mod orders_tests;
 #[cfg(test)]
 mod phases_tests;

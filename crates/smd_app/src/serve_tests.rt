@@ -15,7 +15,7 @@ use std::fmt::Write;
 use std::process::Abort;
 use std::test::Fail;
 
-const WORDS: &str = "serve --socket /s --control /c --store /f --authority /a";
+pub const WORDS: &str = "serve --socket /s --control /c --store /f --authority /a";
 
 /// A client that logs in, saves once, and leaves at the logout.
 const SESSION: &[u8] = b"join 1
@@ -60,7 +60,7 @@ fn events_of(alloc: Global, script: &[u8]) -> Result<EventList, NoMemory>
 }
 
 /// A world with these events and this store, whose call of this number fails; none does for 0.
-fn world_of(
+pub fn world_of(
     alloc: Global,
     script: &[u8],
     store: Octets,
@@ -73,7 +73,7 @@ fn world_of(
 }
 
 /// The status of a call with these words.
-fn status_of(alloc: Global, world: &mut MemWorld, words: &str, turns: u64) -> Result<u8, Fail> {
+pub fn status_of(alloc: Global, world: &mut MemWorld, words: &str, turns: u64) -> Result<u8, Fail> {
     let words = split_words(alloc, words)?;
     let identity = somebody(alloc)?;
     Ok(smd_main(alloc, words.as_slice(), world, identity, turns))
@@ -105,7 +105,7 @@ idle\n|no shutdown\n|no connection\n|unknown\n|ok\n|";
     expect_session(&rt, script, blank_store(rt.alloc())?, (0, texts))
 }
 
-fn put(store: &mut Octets, at: usize, bytes: &[u8]) {
+pub fn put(store: &mut Octets, at: usize, bytes: &[u8]) {
     if bytes.len() <= store.len() && at <= store.len() - bytes.len() {
         store.overwrite(at, bytes);
     }

@@ -1,12 +1,14 @@
 //! Traces in short: what some lines and some bytes are called, and what is expected of a run.
 
 use crate::tests::{expect_answer, rehearsed};
+use control_lines::read_hex;
+use sm_world::Octets;
 use std::alloc::Global;
 use std::process::Abort;
 use std::test::Fail;
 
 /// The names of bytes. Bytes of client and manager have one name where they are the same.
-const NAMES: [(&str, &str); 46] = [
+const NAMES: [(&str, &str); 49] = [
     // The set-up. A name with an M at its end is written most significant byte first.
     ("BO", "0001000000000000"),
     ("BOM", "0001010000000000"),
@@ -95,6 +97,23 @@ const NAMES: [(&str, &str); 46] = [
         "Q2",
         "01000000510000000500000043415244380000000000000001000000000000000100000002000000",
     ),
+    // A restart command and a shutdown command of one word of two letters, and a hint, each up to its
+    // value.
+    (
+        "COMMAND",
+        "0e00000052657374617274436f6d6d616e640000000000000c0000004c495354\
+         6f66415252415938010000000000000002000000",
+    ),
+    (
+        "LASTLY",
+        "0f00000053687574646f776e436f6d6d616e6400000000000c0000004c495354\
+         6f66415252415938010000000000000002000000",
+    ),
+    (
+        "HINT",
+        "10000000526573746172745374796c6548696e74000000000500000043415244\
+         3800000000000000010000000000000001000000",
+    ),
     ("GET", "010e000000000000"),
     // The heads of Errors that can continue, behind which come the minor opcode and the number.
     ("STATE", "0100018001000000"),
@@ -105,7 +124,7 @@ const NAMES: [(&str, &str); 46] = [
 
 /// The first words of lines that stand for several lines, once for each of the fields behind the word.
 /// `@` is that field.
-const WORDS: [(&str, &str); 6] = [
+const WORDS: [(&str, &str); 8] = [
     // A new client that has saved for the first time, and one that is kept when it leaves.
     (
         "login",
@@ -116,6 +135,9 @@ const WORDS: [(&str, &str); 6] = [
         "register @ / sent @ SAVE / piece @ 010c00000f000000+KEEPS+DONE / sent @ COMPLETE",
     ),
     ("register", "enter @ / piece @ REG / sent @ REPLY+#@"),
+    // A client that comes back under the ID of its number in the first epoch, and one that leaves.
+    ("back", "enter @ / piece @ AGAIN+#@ / sent @ REPLY+#@"),
+    ("leave", "piece @ BYE / shut @"),
     // A client that has set up XSMP.
     (
         "enter",
@@ -285,12 +307,17 @@ fn spelled(alloc: Global, text: &str, names: &[(&str, &str)]) -> Result<String, 
     Ok(out)
 }
 
+/// Whether a line is of what the manager does.
+fn is_done(line: &str) -> bool {
+    line.starts_with("sent ") || line.starts_with("shut ") || line.starts_with("started ")
+}
+
 fn is_heard(line: &str) -> bool {
-    !line.starts_with("sent ") && !line.starts_with("shut ") && !line.starts_with("printed ")
+    !is_done(line) && !line.starts_with("printed ")
 }
 
 /// The lines of a trace that were heard.
-fn heard(alloc: Global, trace: &str) -> Result<String, Fail> {
+pub fn heard(alloc: Global, trace: &str) -> Result<String, Fail> {
     let mut out = String::new(alloc);
     for line in trace.split('\n') {
         if is_heard(line) {
@@ -302,9 +329,19 @@ fn heard(alloc: Global, trace: &str) -> Result<String, Fail> {
 }
 
 /// The trace that a text stands for.
-fn trace_of(alloc: Global, text: &str) -> Result<String, Fail> {
+pub fn trace_of(alloc: Global, text: &str) -> Result<String, Fail> {
     let text = expanded_all(alloc, text, &WORDS)?;
     spelled(alloc, text.as_str(), &NAMES)
+}
+
+/// The bytes that a text stands for.
+pub fn bytes_of(alloc: Global, text: &str) -> Result<Octets, Fail> {
+    let mut hex = String::new(alloc);
+    put_bytes(alloc, &mut hex, &NAMES, text)?;
+    match read_hex(alloc, hex.as_bytes())? {
+        Some(bytes) => Ok(bytes),
+        None => Ok(Octets::new(alloc)),
+    }
 }
 
 /// Expects of what is heard in a text that the whole text is printed, and then the end of the events,
