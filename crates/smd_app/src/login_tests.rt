@@ -116,15 +116,30 @@ fn a_login_by_its_words(rt: HostRuntime) -> Result<(), Fail> {
 
 // Each call failing in turn
 
-/// Appends what was done, line by line. A start that failed is shown as one, and a call of the disk that
-/// failed not at all.
+/// Whether this is the line by which the program says why it ends.
+fn is_report(effect: &Effect) -> bool {
+    match effect {
+        Effect::Printed(text) => text.as_slice().starts_with(b"smd: "),
+        _ => false,
+    }
+}
+
+/// Appends an effect, a start as if it had succeeded. A call of the disk that failed is nothing.
+fn put_effect(out: &mut String, effect: &Effect) -> Result<(), Fail> {
+    match effect {
+        Effect::Torn(_, _) => {}
+        Effect::SyncFailed => {}
+        Effect::Started(command, _) => write!(out, "{command:?}\n")?,
+        _ => write!(out, "{effect:?}\n")?,
+    }
+    Ok(())
+}
+
+/// Appends what was done, line by line, but for the line of a fault.
 fn put_done(out: &mut String, effects: &[Effect]) -> Result<(), Fail> {
     for effect in effects {
-        match effect {
-            Effect::Torn(_, _) => {}
-            Effect::SyncFailed => {}
-            Effect::Started(command, _) => write!(out, "{command:?}\n")?,
-            _ => write!(out, "{effect:?}\n")?,
+        if !is_report(effect) {
+            put_effect(out, effect)?;
         }
     }
     Ok(())
