@@ -1,5 +1,5 @@
-//! A login by the words of `serve`, over a store whose book has six entries: all that is done, and
-//! what a crash leaves of the store.
+//! A login by the words of `serve`, over a store whose book has six entries: all that is done, each call
+//! failing in turn, and what a crash leaves of the store.
 
 use crate::rehearsal::blank_store;
 use crate::serve_tests::{WORDS, put, status_of, world_of};
@@ -37,6 +37,12 @@ const LOGIN: &str = "printed SESSION_MANAGER=local/h:/s / started 6331 / started
 /// start. A commit closes a gate, fills its slot and opens the gate, with a sync (a dot) behind each.
 const DONE: &str = "plc.f.o.sssssshmhmmmmhmhmhmmmmhmhmhmmmmhmhmhmmmmhmhmhmmmmhmhhmhmmmmhmmhhc.f.o.m\
     hlmmmmmmhhhhhhc.f.o.mmmmmmshxhxhxhxhxhx";
+
+/// How the login ends where each of its calls fails, by its status, or an `s` where all was done but for
+/// one start. Then no call is left that could fail.
+const ENDINGS: &str = "4456 4444444 444444 ssssss \
+    555555555 555555555 555555555 555555555 555555555 5 5555555 555 5 5 444444 5 \
+    5 6 555555 555555 444444 555555 s 55 55 55 55 55 55 0";
 
 /// A store whose first slot has the book of six entries.
 fn six_entries(alloc: Global) -> Result<Octets, Fail> {
@@ -106,6 +112,103 @@ fn a_login_by_its_words(rt: HostRuntime) -> Result<(), Fail> {
     let done = letters(rt.alloc(), world.effects())?;
     assert_eq!(rt; str::from_utf8(done.as_slice())?, DONE);
     Ok(())
+}
+
+// Each call failing in turn
+
+/// Whether this is the line by which the program says why it ends.
+fn is_report(effect: &Effect) -> bool {
+    match effect {
+        Effect::Printed(text) => text.as_slice().starts_with(b"smd: "),
+        _ => false,
+    }
+}
+
+/// Appends an effect, a start as if it had succeeded. A call of the disk that failed is nothing.
+fn put_effect(out: &mut String, effect: &Effect) -> Result<(), Fail> {
+    match effect {
+        Effect::Torn(_, _) => {}
+        Effect::SyncFailed => {}
+        Effect::Started(command, _) => write!(out, "{command:?}\n")?,
+        _ => write!(out, "{effect:?}\n")?,
+    }
+    Ok(())
+}
+
+/// Appends what was done, line by line, but for the line of a fault.
+fn put_done(out: &mut String, effects: &[Effect]) -> Result<(), Fail> {
+    for effect in effects {
+        if !is_report(effect) {
+            put_effect(out, effect)?;
+        }
+    }
+    Ok(())
+}
+
+fn failed_starts(effects: &[Effect]) -> u64 {
+    let mut count: u64 = 0;
+    for effect in effects {
+        match effect {
+            Effect::Started(_, false) => count = count.saturating_add(1),
+            _ => {}
+        }
+    }
+    count
+}
+
+/// How a login ends that was done whole.
+fn letter_of_whole(effects: &[Effect]) -> u8 {
+    match failed_starts(effects) {
+        0 => b'0',
+        1 => b's',
+        _ => b'?',
+    }
+}
+
+/// How the login ends whose call of this number fails. What was done is a front of all that is done.
+fn ending(alloc: Global, number: u64, all: &str) -> Result<u8, Fail> {
+    let mut world = login_world(alloc, number)?;
+    let status = status_of(alloc, &mut world, WORDS, 99)?;
+    let mut done = String::new(alloc);
+    put_done(&mut done, world.effects())?;
+    if !all.starts_with(done.as_str()) {
+        return Ok(b'?');
+    }
+    if status != 0 {
+        return Ok(b'0' + status % 10);
+    }
+    if done.len() != all.len() {
+        return Ok(b'?');
+    }
+    Ok(letter_of_whole(world.effects()))
+}
+
+/// Expects of calls in a row, of which this is the first, how the login ends where each fails.
+fn expect_endings(
+    rt: &(impl Abort + Alloc<A = Global>),
+    first: u64,
+    want: &str,
+) -> Result<(), Fail> {
+    let world = logged_in(rt)?;
+    let mut all = String::new(rt.alloc());
+    put_done(&mut all, world.effects())?;
+    let mut found = Octets::new(rt.alloc());
+    let mut number = first;
+    for letter in want.as_bytes() {
+        if *letter == b' ' {
+            found.append(b" ")?;
+        } else {
+            found.append(&[ending(rt.alloc(), number, all.as_str())?])?;
+            number = number.saturating_add(1);
+        }
+    }
+    assert_eq!(rt; str::from_utf8(found.as_slice())?, want);
+    Ok(())
+}
+
+#[test]
+fn each_call_of_a_login_may_fail(rt: HostRuntime) -> Result<(), Fail> {
+    expect_endings(&rt, 1, ENDINGS)
 }
 
 // Crashes
