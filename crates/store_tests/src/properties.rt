@@ -1,11 +1,13 @@
 //! Tables and what is read from them, by cases written down by hand.
 
-use crate::{Hint, PropertyTable, SetRefusal, command_of, directory_of, environment_of, hint_of};
 use ice_values::{Array8List, Property, PropertyList};
 use sm_world::{Duplicate, NoMemory, Octets, PairList};
 use std::alloc::{Alloc, Global};
 use std::process::Abort;
 use std::test::Fail;
+use xsmp_properties::{
+    Hint, PropertyTable, SetRefusal, command_of, directory_of, environment_of, hint_of,
+};
 
 /// Values, each with a bar behind it.
 fn values(alloc: Global, text: &[u8]) -> Result<Array8List, NoMemory> {

@@ -1,6 +1,6 @@
 //! Books written down by hand.
 
-use crate::{Book, Entry, copy_book, names, same_command};
+use checkpoint_records::{Book, Entry, copy_book, names, same_command};
 use ice_values::{Array8List, Property, PropertyList};
 use sm_world::{Command, NoMemory, Octets, OctetsList, PairList};
 use std::alloc::{Alloc, Global};

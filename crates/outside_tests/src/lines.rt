@@ -1,4 +1,4 @@
-use crate::{
+use control_lines::{
     OrderRefusal, a_line_gives_one_event, a_line_says_its_event, a_line_says_one_order,
     effect_line, has_line, lines_say_one_list, next_line, put_hex, read_bytes, read_conn, read_hex,
     read_number, read_order, read_script_line, split_once, started_line,

@@ -2,7 +2,7 @@ ghost use Rattle.std.specs.Prelude.{IfOk};
 ghost use Rattle.std.specs.List.{AllByRecursion};
 ghost use Rattle.sm_world.specs.Events.{HasPieceSize};
 
-use crate::{
+use sm_world::{
     Command, Console, Duplicate, Event, EventList, Failure, Links, MemWorld, NoMemory, NumberList,
     Octets, OctetsList, Order, PairList, Spawner, SteadyWorld,
 };

@@ -1,6 +1,6 @@
 //! Books against bytes written down by hand.
 
-use crate::{Book, BookRefusal, Entry, read_book, spell_book};
+use checkpoint_records::{Book, BookRefusal, Entry, read_book, spell_book};
 use sm_world::{Command, NoMemory, Octets};
 use std::alloc::{Alloc, Global};
 use std::process::Abort;

@@ -1,6 +1,8 @@
 //! Authority files against bytes written down by hand.
 
-use crate::{AuthorityEntry, AuthorityList, AuthorityRefusal, authority_bytes, read_authority};
+use ice_cookie::{
+    AuthorityEntry, AuthorityList, AuthorityRefusal, authority_bytes, read_authority,
+};
 use sm_world::{NoMemory, Octets};
 use std::alloc::{Alloc, Global};
 use std::process::Abort;

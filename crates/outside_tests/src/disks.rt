@@ -2,7 +2,7 @@ ghost use Rattle.std.specs.Prelude.{◌≡◌, ◌≤◌, length, None, IfOk, On
 ghost use Rattle.sm_world.specs.Worlds.{mem_outside, steady_outside};
 ghost use Rattle.sm_world.specs.Outside.{Rose};
 
-use crate::{
+use sm_world::{
     Choice, Disk, EventList, Failed, Failure, MemWorld, NoMemory, NumberList, Octets, SteadyWorld,
     Told,
 };
@@ -140,7 +140,7 @@ fn worlds_in_memory_keep(rt: HostRuntime) -> Result<(), Fail> {
     assert_eq!(rt; world.unrecorded(), 0);
     let want = "[Wrote(0, Octets { bytes: [7, 8] }), Synced, \
         Published(Octets { bytes: [99, 111, 111, 107, 105, 101] }, Octets { bytes: [1] })]";
-    crate::tests::expect_shown(&rt, &world.effects(), want)
+    crate::worlds::expect_shown(&rt, &world.effects(), want)
 }
 
 /// Writes one byte and three bytes, each on its way to the disk by a sync, as a store does that opens
@@ -243,7 +243,7 @@ fn expect_failed_write(
     assert_eq!(rt; world.unrecorded(), 0);
     let file = world.crash_file(world.effects().len(), Choice::Filled(0xff))?;
     assert_eq!(rt; file.as_slice(), left);
-    crate::tests::expect_shown(rt, &world.effects(), want)
+    crate::worlds::expect_shown(rt, &world.effects(), want)
 }
 
 #[test]
@@ -259,7 +259,7 @@ fn a_failed_sync_is_recorded(rt: HostRuntime) -> Result<(), Fail> {
     assert_eq!(rt; world.sync(), Err(Failed));
     assert_eq!(rt; world.sync(), Ok(()));
     let want = "[Wrote(1, Octets { bytes: [7, 8] }), SyncFailed, Synced]";
-    crate::tests::expect_shown(&rt, &world.effects(), want)
+    crate::worlds::expect_shown(&rt, &world.effects(), want)
 }
 
 /// How many bytes a store of the session manager has.

@@ -1,7 +1,7 @@
 //! Values as the standards spell them (ICE, chapter 7: Compound Types; XSMP, chapter 10: Types),
 //! written down by hand.
 
-use crate::{
+use ice_values::{
     Array8, DecodeRefusal, Endian, Enumerated, ErrorClass, Spelled, Text16, ValueRefusal, Version,
     read_array8, read_array8_list, read_property, read_property_list, read_text16, read_version,
     value_at, write_array8, write_array8_list, write_property, write_property_list, write_text16,

@@ -1,11 +1,11 @@
 //! The manager's table of the set-up: every state against every message, and whole set-ups to the byte.
 
-use crate::{
+use ice_cookie::Cookie;
+use ice_messages::{IceMessage, decode_ice, encode_ice, minor};
+use ice_setup::{
     AnySetup, AwaitOrder, Moved, Offending, error_of, opcode_values, refusal, spelled_messages_fit,
     text_values, wrong_byte_values,
 };
-use ice_cookie::Cookie;
-use ice_messages::{IceMessage, decode_ice, encode_ice, minor};
 use ice_values::{Endian, Enumerated, ErrorBody, ErrorClass, Severity, Text16, read_card32};
 use sm_world::Octets;
 use std::alloc::Global;

@@ -1,10 +1,10 @@
 //! The client's table of the set-up: every state against every message, and whole openings to the
 //! byte.
 
-use crate::tests::{
+use crate::setup::{
     BEGUN, CONNECTED, COOKIE, MESSAGES, ORDER, REPLY, REQUIRED, bytes_of, spelled, write_answer,
 };
-use crate::{AnyOpener, OpenMoved, OpenOrder};
+use ice_setup::{AnyOpener, OpenMoved, OpenOrder};
 use ice_values::Endian;
 use std::alloc::{Alloc, Global};
 use std::process::Abort;

@@ -3,9 +3,9 @@
 ghost use Rattle.std.specs.Prelude.{IsTrue};
 ghost use Rattle.ice_values.specs.Frames.{IsFrame};
 
-use crate::{ice_line, xsmp_line};
 use ice_messages::decode_ice;
 use ice_values::{Endian, read_card32};
+use message_text::{ice_line, xsmp_line};
 use sm_world::Octets;
 use std::alloc::Global;
 use std::test::Fail;

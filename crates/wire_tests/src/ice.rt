@@ -1,6 +1,6 @@
 //! Each message as the standard spells it (ICE, chapter 7: Message Encoding), written down by hand.
 
-use crate::{
+use ice_messages::{
     IceMessage, an_encoded_message_is_decoded, cut_bytes_are_refused, decode_ice,
     decoding_is_exact, encode_ice,
 };

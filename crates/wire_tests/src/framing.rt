@@ -1,4 +1,4 @@
-use crate::{FRAME_LIMIT, Oversize, Remainder, Splitter, WholeFrameList, cut_pieces};
+use ice_framing::{FRAME_LIMIT, Oversize, Remainder, Splitter, WholeFrameList, cut_pieces};
 use ice_values::Endian;
 use sm_world::{NoMemory, Octets, OctetsList};
 use std::alloc::Global;

@@ -1,4 +1,4 @@
-use crate::Cookie;
+use ice_cookie::Cookie;
 use std::test::Fail;
 
 const COOKIE: Cookie = Cookie(*b"0123456789abcdef");

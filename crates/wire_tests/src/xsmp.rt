@@ -1,10 +1,6 @@
 //! Each message as the standard spells it (XSMP, chapter 10: Messages), written down by hand under
 //! major opcode 7.
 
-use crate::{
-    XsmpMessage, an_encoded_message_is_decoded, cut_bytes_are_refused, decode_xsmp,
-    decoding_is_exact, encode_xsmp,
-};
 use ice_values::{
     Array8List, DecodeRefusal, EncodeRefusal, Endian, Property, PropertyList, put_card32,
     read_card32,
@@ -13,6 +9,10 @@ use sm_world::{NoMemory, Octets, SaveKind, SaveStyle};
 use std::alloc::Global;
 use std::process::Abort;
 use std::test::Fail;
+use xsmp_messages::{
+    XsmpMessage, an_encoded_message_is_decoded, cut_bytes_are_refused, decode_xsmp,
+    decoding_is_exact, encode_xsmp,
+};
 
 struct Row {
     lsb: &'static [u8],
