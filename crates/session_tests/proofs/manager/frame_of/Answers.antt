@@ -2,7 +2,7 @@ use Rattle.std.proofs.Common.{◌++◌, List, ℕ, ap, subst, sym, ◌∙◌}
 use Rattle.ice_values.specs.declared.numbers.Endian.TheVariants.{Lsb}
 use Rattle.xsmp_messages.specs.Messages.{Spells, canon}
 use Rattle.xsmp_messages.proofs.Dispatch.{canon_spells}
-use Rattle.manager_machine.proofs.tests.frame_of.Goals as goal
+use Rattle.session_tests.proofs.manager.frame_of.Goals as goal
 
 pub returns : goal.returns
 returns c =

@@ -2,10 +2,10 @@
 ghost use Rattle.std.specs.Prelude.{◌≡◌, false};
 ghost use Rattle.session_clients.specs.Clients.{is_reply as is_reply_message};
 
-use crate::{command_anyway, entries_without, last_commands, next_entries};
 use checkpoint_records::{Book, Entry};
 use ice_values::{Array8, Array8List, Property, PropertyList};
 use round_agreement::{Round, Wanted};
+use session_books::{command_anyway, entries_without, last_commands, next_entries};
 use session_clients::Clients;
 use sm_world::{Command, Conn, ConnList, NoMemory, Octets, SaveKind, SaveStyle};
 use std::alloc::{Alloc, Global};

@@ -1,7 +1,7 @@
 //! Books and ledgers written down by hand.
 
-use crate::Ledger;
 use checkpoint_records::{Book, Entry};
+use discard_ledger::Ledger;
 use ice_values::{Array8List, Property, PropertyList};
 use sm_world::{Command, CommandList, NoMemory, Octets, PairList};
 use std::alloc::{Alloc, Global};

@@ -3,7 +3,7 @@ ghost use Rattle.std.specs.Prelude.{◌≡◌, [], ◌∷◌, true, false, IfOk}
 ghost use Rattle.round_agreement.specs.Agreement.{all_saving};
 ghost use Rattle.round_agreement.specs.declared.round.Step.TheVariants.{WantsTwo, SavingTwo, Done};
 
-use crate::{Round, Wanted};
+use round_agreement::{Round, Wanted};
 use sm_world::{Conn, ConnList, NoMemory, SaveKind, SaveStyle};
 use std::alloc::{Alloc, Global};
 use std::process::Abort;

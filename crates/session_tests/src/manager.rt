@@ -3,9 +3,9 @@ ghost use Rattle.std.specs.Prelude.{IfOk};
 ghost use Rattle.ice_values.specs.declared.numbers.Endian.TheVariants.{Lsb};
 ghost use Rattle.xsmp_messages.specs.Messages.{Spells};
 
-use crate::{Act, Manager, Reason, SessionEvent};
 use checkpoint_records::Book;
 use ice_values::{Array8List, EncodeRefusal, Endian, Property, PropertyList};
+use manager_machine::{Act, Manager, Reason, SessionEvent};
 use sm_world::{Conn, Dialog, NoMemory, Octets, Order};
 use std::alloc::{Alloc, Global};
 use std::process::Abort;

@@ -1,8 +1,8 @@
 //! Books written down by hand.
 
-use crate::{plan, respawn};
 use checkpoint_records::{Book, Entry};
 use ice_values::{Array8List, Property, PropertyList};
+use restart_plan::{plan, respawn};
 use sm_world::{Command, NoMemory, Octets};
 use std::alloc::{Alloc, Global};
 use std::process::Abort;

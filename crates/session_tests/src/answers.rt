@@ -1,7 +1,7 @@
 //! Errors, IDs and lines written down by hand.
 
-use crate::{Doing, Offence, Status, bad_state, bad_value, client_id, status_line};
 use ice_values::{ErrorBody, Severity};
+use session_answers::{Doing, Offence, Status, bad_state, bad_value, client_id, status_line};
 use sm_world::Octets;
 use std::alloc::{Alloc, Global};
 use std::process::Abort;

@@ -2,14 +2,14 @@
 ghost use Rattle.std.specs.Prelude.{◌≡◌, false};
 ghost use Rattle.session_clients.specs.Clients.{is_reply as is_reply_message};
 
-use crate::{
+use checkpoint_records::{Book, Entry};
+use ice_values::{Array8List, Property, PropertyList};
+use round_agreement::Wanted;
+use session_clients::{
     Clients, entry_of, first_table, given, is_bound, is_dying, is_first_saving, is_interacting,
     is_owing, is_recorded, is_reply, is_saving, is_shutdown, is_unregistered, may_interact,
     readied, said,
 };
-use checkpoint_records::{Book, Entry};
-use ice_values::{Array8List, Property, PropertyList};
-use round_agreement::Wanted;
 use session_model::Phase;
 use sm_world::{Conn, Dialog, NoMemory, Octets, SaveKind, SaveStyle};
 use std::alloc::{Alloc, Global};

@@ -1,7 +1,7 @@
 //! The token among a few connections, by cases written down by hand.
 ghost use Rattle.std.specs.Prelude.{◌≡◌, ◌<◌, [], ◌∷◌, Some, None, IfOk};
 
-use crate::InteractQueue;
+use interact_queue::InteractQueue;
 use sm_world::NoMemory;
 use std::alloc::Global;
 use std::test::Fail;
