@@ -31,4 +31,3 @@ pub use lists::{
 pub use memory::MemWorld;
 pub use outside::{Console, Links, Spawner, Told};
 pub use steady::SteadyWorld;
-
