@@ -1,6 +1,6 @@
 -- What each call of a turn keeps, by the effects of its put.
 use Rattle.std.proofs.Common.{◌≡◌, ◌+◌, ◌<◌, Bool, true, false, ◌&&◌, refl, ◌≤◌, ◌^◌, ◌⊎◌, ◌++◌, ◌∷◌, [], ℕ, List, length, nat_eq, take, slice_index, ap, sym, subst, ◌∙◌, inl, inr, arith}
-use Rattle.std.specs.Prelude.{Option, Some, Ok, Err}
+use Rattle.std.specs.Prelude.{Option, Some, Ok, Err, ◌≢◌}
 use Rattle.std.specs.List.{AllByRecursion}
 use Rattle.std.specs.Str.{bytes_eq}
 use Rattle.std.proofs.lemmas.Grind.{same_number_lists}
@@ -162,20 +162,28 @@ opens-none at bytes other = rw other refl
 -- The calls, by what their put answered
 
 abbrev pub IsDone : ℕ → List ℕ → List Effect → Type 0
-IsDone at bytes added = IsPut at bytes added × (added ≡ Wrote at bytes ∷ Synced ∷ [])
+IsDone at bytes added = added ≡ Wrote at bytes ∷ Synced ∷ []
+
+abbrev pub IsNotDone : ℕ → List ℕ → List Effect → Type 0
+IsNotDone at bytes added = IsPut at bytes added × (added ≢ Wrote at bytes ∷ Synced ∷ [])
+
+is-put : (at : ℕ) (bytes : List ℕ) {added : List Effect} → IsDone at bytes added → IsPut at bytes added
+is-put at bytes p = subst (λ (es : List Effect). IsPut at bytes es) (sym p) done
 
 pub closes : (current : Option Current) (added : List Effect) → IsDone (gate_at (target current)) (0 ∷ []) added → Closes current (Ok current) added
 closes current added p = record {
-  store = put-store (gate_at (target current)) (0 ∷ []) p.0;
-  swap = λ first effects book next stands. close-swap current first effects book added p.0 next stands;
-  turn = λ first effects book stands. subst (λ (es : List Effect). ClosedStands current book first (effects ++ es)) (sym p.1) (close-stands current first effects book stands);
-  opens = ap opened_in p.1;
+  puts = p;
+  store = put-store (gate_at (target current)) (0 ∷ []) (is-put (gate_at (target current)) (0 ∷ []) p);
+  swap = λ first effects book next stands. close-swap current first effects book added (is-put (gate_at (target current)) (0 ∷ []) p) next stands;
+  turn = λ first effects book stands. subst (λ (es : List Effect). ClosedStands current book first (effects ++ es)) (sym p) (close-stands current first effects book stands);
+  opens = ap opened_in p;
 }
 
-pub closes-not : (current : Option Current) (fault : StoreFault) (added : List Effect) → IsPut (gate_at (target current)) (0 ∷ []) added → Closes current (Err fault) added
+pub closes-not : (current : Option Current) (fault : StoreFault) (added : List Effect) → IsNotDone (gate_at (target current)) (0 ∷ []) added → Closes current (Err fault) added
 closes-not current fault added put = record {
-  store = put-store (gate_at (target current)) (0 ∷ []) put;
-  swap = λ first effects book next stands. close-swap current first effects book added put next stands;
+  puts = put;
+  store = put-store (gate_at (target current)) (0 ∷ []) put.0;
+  swap = λ first effects book next stands. close-swap current first effects book added put.0 next stands;
   turn = λ first effects book stands. tt;
   opens = tt;
 }
@@ -193,35 +201,39 @@ module _ (current : Option Current) (body : List ℕ) (short : length body ≤ 8
 
   pub fills : (added : List Effect) → IsDone (start_of (target current)) body added → Fills current body (Ok current) added
   fills added p = record {
-    store = put-store (start_of (target current)) body p.0;
-    swap = fills-swap added p.0;
+    puts = p;
+    store = put-store (start_of (target current)) body (is-put (start_of (target current)) body p);
+    swap = fills-swap added (is-put (start_of (target current)) body p);
     turn = λ first effects book next stands is e.
-        subst (λ (es : List Effect). FilledStands current book next first (effects ++ es)) (sym (p.1 ∙ ap (λ (bytes : List ℕ). Wrote (start_of (target current)) bytes ∷ Synced ∷ []) e)) (fill-stands current first effects book next is stands (short-body next e));
-    opens = λ next e. ap opened_in p.1 ∙ opens-none (start_of (target current)) body (no-gate body (omega (arith, ap length e, body-length (next_generation current) next)));
+        subst (λ (es : List Effect). FilledStands current book next first (effects ++ es)) (sym (p ∙ ap (λ (bytes : List ℕ). Wrote (start_of (target current)) bytes ∷ Synced ∷ []) e)) (fill-stands current first effects book next is stands (short-body next e));
+    opens = λ next e. ap opened_in p ∙ opens-none (start_of (target current)) body (no-gate body (omega (arith, ap length e, body-length (next_generation current) next)));
   }
 
-  pub fills-not : (fault : StoreFault) (added : List Effect) → IsPut (start_of (target current)) body added → Fills current body (Err fault) added
+  pub fills-not : (fault : StoreFault) (added : List Effect) → IsNotDone (start_of (target current)) body added → Fills current body (Err fault) added
   fills-not fault added put = record {
-    store = put-store (start_of (target current)) body put;
-    swap = fills-swap added put;
+    puts = put;
+    store = put-store (start_of (target current)) body put.0;
+    swap = fills-swap added put.0;
     turn = λ first effects book next stands is e. tt;
     opens = λ next e. tt;
   }
 
 pub lifts : (current : Option Current) (steady : Current) (added : List Effect) → (next_generation current < 2 ^ 64 → steady ≡ record { slot = target current; generation = next_generation current }) → IsDone (gate_at (target current)) (165 ∷ []) added → Lifts current (Ok (Some steady)) added
 lifts current steady added e p = record {
-  store = put-store (gate_at (target current)) (165 ∷ []) p.0;
-  swap = λ first effects book next stands. lift-swap current first effects book next stands added p.0;
+  puts = p;
+  store = put-store (gate_at (target current)) (165 ∷ []) (is-put (gate_at (target current)) (165 ∷ []) p);
+  swap = λ first effects book next stands. lift-swap current first effects book next stands added (is-put (gate_at (target current)) (165 ∷ []) p);
   turn = λ first effects book next stands.
       subst (λ (c : Current). SteadyStands (Some c) next first (effects ++ added)) (sym (e stands.0.generation))
-      (subst (λ (es : List Effect). SteadyStands (Some (record { slot = target current; generation = next_generation current })) next first (effects ++ es)) (sym p.1) (lift-stands current first effects book next stands));
-  opens = ap opened_in p.1;
+      (subst (λ (es : List Effect). SteadyStands (Some (record { slot = target current; generation = next_generation current })) next first (effects ++ es)) (sym p) (lift-stands current first effects book next stands));
+  opens = ap opened_in p;
 }
 
-pub lifts-not : (current : Option Current) (fault : StoreFault) (added : List Effect) → IsPut (gate_at (target current)) (165 ∷ []) added → Lifts current (Err fault) added
+pub lifts-not : (current : Option Current) (fault : StoreFault) (added : List Effect) → IsNotDone (gate_at (target current)) (165 ∷ []) added → Lifts current (Err fault) added
 lifts-not current fault added put = record {
-  store = put-store (gate_at (target current)) (165 ∷ []) put;
-  swap = λ first effects book next stands. lift-swap current first effects book next stands added put;
+  puts = put;
+  store = put-store (gate_at (target current)) (165 ∷ []) put.0;
+  swap = λ first effects book next stands. lift-swap current first effects book next stands added put.0;
   turn = λ first effects book next stands. tt;
   opens = tt;
 }
@@ -233,5 +245,5 @@ added-by f a = record { effects = a.effects; added = a.added; holds = f a.effect
 pub done-at : {at there : ℕ} (bytes : List ℕ) {added : List Effect} → at ≡ there → IsDone at bytes added → IsDone there bytes added
 done-at bytes {added = added} e p = subst (λ (place : ℕ). IsDone place bytes added) e p
 
-pub put-at : {at there : ℕ} (bytes : List ℕ) {added : List Effect} → at ≡ there → IsPut at bytes added → IsPut there bytes added
-put-at bytes {added = added} e p = subst (λ (place : ℕ). IsPut place bytes added) e p
+pub put-at : {at there : ℕ} (bytes : List ℕ) {added : List Effect} → at ≡ there → IsNotDone at bytes added → IsNotDone there bytes added
+put-at bytes {added = added} e p = subst (λ (place : ℕ). IsNotDone place bytes added) e p

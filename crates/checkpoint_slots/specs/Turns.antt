@@ -1,5 +1,5 @@
 -- What a turn of the store stands for, and what its calls keep.
-use Rattle.std.specs.Prelude.{IfOk, IsTrue, List, None, Ok, Option, Result, Some, [], length, slice_index, take, if◌then◌else◌, ℕ, ◌++◌, ◌+◌, ◌<◌, ◌^◌, ◌≡◌, ◌≤◌, ◌⊎◌, ◌∷◌}
+use Rattle.std.specs.Prelude.{Err, IfOk, IsTrue, List, None, Ok, Option, Result, Some, [], length, slice_index, take, if◌then◌else◌, ℕ, ◌++◌, ◌+◌, ◌<◌, ◌^◌, ◌≡◌, ◌≢◌, ◌≤◌, ◌⊎◌, ◌∷◌}
 use Rattle.std.specs.List.{AllByRecursion}
 use Rattle.std.specs.Str.{bytes_eq}
 use Rattle.sm_world.specs.Crash.{Image, cell_of, readable}
@@ -11,7 +11,7 @@ use Rattle.checkpoint_slots.specs.declared.fault.StoreFault.{StoreFault}
 use Rattle.checkpoint_slots.specs.declared.layout.Slot.{Slot}
 use Rattle.checkpoint_slots.specs.declared.layout.Slot.TheVariants.{First}
 use Rattle.checkpoint_slots.specs.declared.turn.Current.{Current}
-use Rattle.checkpoint_slots.specs.Layout.{gate_at, other, slot_of}
+use Rattle.checkpoint_slots.specs.Layout.{gate_at, other, slot_of, start_of}
 use Rattle.checkpoint_slots.specs.Recovery.{Recovers, chosen, generation_of, slot_bytes}
 
 -- At each of these effects, and before the first, every file that a crash may leave recovers to the old book or to the new one.
@@ -108,14 +108,21 @@ pub data IsPut (at : ℕ) (bytes : List ℕ) : List Effect → Type 0 where
   unsynced : IsPut at bytes (Wrote at bytes ∷ SyncFailed ∷ [])
   done : IsPut at bytes (Wrote at bytes ∷ Synced ∷ [])
 
+-- A call that puts these bytes at this place adds exactly one write of them and one sync, and where it fails less than both.
+abbrev pub Puts : {A E : Type 0} → ℕ → List ℕ → Result A E → List Effect → Type 0
+Puts at bytes (Ok x) added = added ≡ Wrote at bytes ∷ Synced ∷ []
+Puts at bytes (Err e) added = IsPut at bytes added × (added ≢ Wrote at bytes ∷ Synced ∷ [])
+
 -- What the calls keep by the effects that they add, whatever they answer.
 pub record Closes (current : Option Current) (result : Result (Option Current) StoreFault) (added : List Effect) : Type 0 where
+  pub puts : Puts (gate_at (target current)) (0 ∷ []) result added
   pub store : AllByRecursion IsOfStore added
   pub swap : (first : List ℕ) (effects : List Effect) (book next : Book) → SteadyStands current book first effects → Swap first effects added book next
   pub turn : (first : List ℕ) (effects : List Effect) (book : Book) → SteadyStands current book first effects → IfOk result (λ closed. ClosedStands closed book first (effects ++ added))
   pub opens : IfOk result (λ closed. opened_in added ≡ 0)
 
 pub record Fills (current : Option Current) (body : List ℕ) (result : Result (Option Current) StoreFault) (added : List Effect) : Type 0 where
+  pub puts : Puts (start_of (target current)) body result added
   pub store : AllByRecursion IsOfStore added
   pub swap : (first : List ℕ) (effects : List Effect) (book next : Book) → ClosedStands current book first effects → IsNext current next → body ≡ slot_bytes (next_generation current) next → Swap first effects added book next
   pub turn : (first : List ℕ) (effects : List Effect) (book next : Book) → ClosedStands current book first effects → IsNext current next → body ≡ slot_bytes (next_generation current) next
@@ -123,6 +130,7 @@ pub record Fills (current : Option Current) (body : List ℕ) (result : Result (
   pub opens : (next : Book) → body ≡ slot_bytes (next_generation current) next → IfOk result (λ filled. opened_in added ≡ 0)
 
 pub record Lifts (current : Option Current) (result : Result (Option Current) StoreFault) (added : List Effect) : Type 0 where
+  pub puts : Puts (gate_at (target current)) (165 ∷ []) result added
   pub store : AllByRecursion IsOfStore added
   pub swap : (first : List ℕ) (effects : List Effect) (book next : Book) → FilledStands current book next first effects → Swap first effects added book next
   pub turn : (first : List ℕ) (effects : List Effect) (book next : Book) → FilledStands current book next first effects → IfOk result (λ steady. SteadyStands steady next first (effects ++ added))

@@ -2,10 +2,9 @@ ghost use Rattle.std.specs.Prelude.{◌≡◌, ◌+◌, ◌++◌, replicate, ◌
 ghost use Rattle.byteorder.specs.Endian.{little_bytes};
 ghost use Rattle.sm_world.specs.Disk.{UsesDisk};
 ghost use Rattle.sm_world.specs.Outside.{Added};
-ghost use Rattle.sm_world.specs.declared.effects.Effect.TheVariants.{Wrote, Synced};
 ghost use Rattle.checkpoint_records.specs.Rules.{KeepsRules};
 ghost use Rattle.checkpoint_slots.specs.Recovery.{slot_bytes};
-ghost use Rattle.checkpoint_slots.specs.Turns.{Closes, Fills, IsPut, Lifts, next_generation, target as next_slot};
+ghost use Rattle.checkpoint_slots.specs.Turns.{Closes, Fills, Lifts, Puts, next_generation, target as next_slot};
 ghost use Rattle.checkpoint_slots.specs.Causes.{IsSpellFault};
 ghost use Rattle.checkpoint_slots.specs.declared.fault.StoreFault.TheVariants.{DiskFault as FaultOfDisk, Worn as IsWorn};
 
@@ -94,7 +93,7 @@ fn following(current: Option<Current>) -> Current
 /// Writes these bytes and waits until they are on the disk.
 fn put<D: Disk>(disk: &mut D, at: u64, bytes: &[u8]) -> Result<(), Failed>
     requires { at + length bytes.now ≤ (D.outside disk.old).size }
-    ensures effects { Added (D.outside disk.old).told (D.outside disk.new).told (λ added. IsPut at bytes.now added × OnOk result (added ≡ Wrote at bytes.now ∷ Synced ∷ [])) }
+    ensures effects { Added (D.outside disk.old).told (D.outside disk.new).told (Puts at bytes.now result) }
     ensures size { (D.outside disk.new).size ≡ (D.outside disk.old).size }
     ensures uses { UsesDisk (D.outside disk.old) (D.outside disk.new) (is_err result) }
 {

@@ -1,4 +1,4 @@
-ghost use Rattle.std.specs.Prelude.{◌≡◌, ◌+◌, ◌<◌, ◌≤◌, [], ◌∷◌, ◌++◌, false, is_some, Some, None, OnOk, MatchOption};
+ghost use Rattle.std.specs.Prelude.{◌≡◌, ◌+◌, ◌<◌, ◌≤◌, [], ◌∷◌, ◌++◌, false, is_some, Some, None, OnOk, OnErr, MatchOption};
 ghost use Rattle.interact_queue.specs.Queue.{is_in, is_holder, without, holder_without, next_holder};
 
 use sm_world::{Conn, NoMemory};
@@ -37,14 +37,19 @@ impl InteractQueue {
         }
     }
 
-    /// Makes room for so many more that ask. A refused call changes nothing of who waits.
+    /// Makes room for so many more that ask.
     pub fn reserve(&mut self, n: usize) -> Result<(), NoMemory>
         ensures room { OnOk result (n ≤ self.new.spare) }
         ensures spare { self.old.spare ≤ self.new.spare }
         ensures waiting { self.new.waiting ≡ self.old.waiting }
         ensures holder { self.new.holder ≡ self.old.holder }
+        ensures refused { OnErr result (self.new ≡ self.old) }
     {
-        self.waiting.reserve(n)?;
+        let waiting = self.waiting.len();
+        if n <= self.waiting.capacity() - waiting {
+            return Ok(());
+        }
+        self.waiting.reserve_exact(n.max(waiting))?;
         Ok(())
     }
 

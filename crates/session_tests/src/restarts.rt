@@ -3,7 +3,7 @@
 use checkpoint_records::{Book, Entry};
 use ice_values::{Array8List, Property, PropertyList};
 use restart_plan::{plan, respawn};
-use sm_world::{Command, NoMemory, Octets};
+use sm_world::{Command, CommandList, NoMemory, Octets};
 use std::alloc::{Alloc, Global};
 use std::process::Abort;
 use std::test::Fail;
@@ -66,24 +66,29 @@ fn all_but_those_with_the_hint_never_are_started(rt: HostRuntime) -> Result<(), 
     Ok(())
 }
 
+/// What is started as the client of this entry departs: its words, or nothing.
 fn respawns(
     rt: &(impl Abort + Alloc<A = Global>),
     program: &[u8],
     hint: u8,
     count: u32,
-    answer: bool,
+    words: &[u8],
 ) -> Result<(), Fail> {
     let alloc = rt.alloc();
     let entry = entry(alloc, program, hint)?;
-    assert_eq!(rt; respawn(alloc, &entry, count)?.is_some(), answer);
+    let mut commands = CommandList::new(alloc);
+    if let Some(command) = respawn(alloc, &entry, count)? {
+        commands.push(command)?;
+    }
+    assert_eq!(rt; words_of(alloc, commands.as_slice())?.as_slice(), words);
     Ok(())
 }
 
 #[test]
 fn a_client_is_started_again_five_times(rt: HostRuntime) -> Result<(), Fail> {
-    respawns(&rt, b"c", 2, 0, true)?;
-    respawns(&rt, b"c", 2, 4, true)?;
-    respawns(&rt, b"c", 2, 5, false)?;
-    respawns(&rt, b"c", 1, 0, false)?;
-    respawns(&rt, b"", 2, 0, false)
+    respawns(&rt, b"c", 2, 0, b"c|")?;
+    respawns(&rt, b"c", 2, 4, b"c|")?;
+    respawns(&rt, b"c", 2, 5, b"")?;
+    respawns(&rt, b"c", 1, 0, b"")?;
+    respawns(&rt, b"", 2, 0, b"")
 }

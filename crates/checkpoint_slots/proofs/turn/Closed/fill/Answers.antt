@@ -13,4 +13,4 @@ returns-in-Ok-clause-effects g c =
 pub returns-in-Err-clause-effects : goal.returns-in-Err-clause-effects
 returns-in-Err-clause-effects g c =
     let place : c.start.result ≡ start_of (target c.self.inside.current) = c.start.ensures ∙ ap start_of c.target.ensures in
-    rw (← c.self.view_is) (added-by (λ added p. fills-not c.self.inside.current c.args.body.now c.requires.room DiskFault added (put-at c.args.body.now place (rw (← c.as_slice.ensures) p.0))) c.in-Err.ensures.effects)
+    rw (← c.self.view_is) (added-by (λ added p. fills-not c.self.inside.current c.args.body.now c.requires.room DiskFault added (put-at c.args.body.now place (rw (← c.as_slice.ensures) p))) c.in-Err.ensures.effects)

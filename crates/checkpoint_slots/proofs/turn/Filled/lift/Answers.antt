@@ -13,4 +13,4 @@ returns-in-Ok-clause-effects g c =
 pub returns-in-Err-clause-effects : goal.returns-in-Err-clause-effects
 returns-in-Err-clause-effects g c =
     let place : c.gate.result ≡ gate_at (target c.self.inside.current) = c.gate.ensures ∙ ap gate_at c.target.ensures in
-    rw (← c.self.view_is) (added-by (λ added p. lifts-not c.self.inside.current DiskFault added (put-at (165 ∷ []) place p.0)) c.in-Err.ensures.effects)
+    rw (← c.self.view_is) (added-by (λ added p. lifts-not c.self.inside.current DiskFault added (put-at (165 ∷ []) place p)) c.in-Err.ensures.effects)
