@@ -48,7 +48,7 @@ alike-cond book d false n o p s t = t
 alike-message : (book : Book) (d c : ℕ) (m : XsmpMessage) (n : List Note) → (c ≡ d → ⊥) → Alike book d (Heard c m ∷ n) n
 alike-message book d c (SetProperties list) n a = record { id = refl; table = ap (λ (b : Bool). cond b (set_all (table_in book d n) list) (table_in book d n)) (other c d a) }
 alike-message book d c (DeleteProperties names) n a = record { id = refl; table = ap (λ (b : Bool). cond b (without_names names (table_in book d n)) (table_in book d n)) (other c d a) }
-alike-message book d c m n a = alike-same book d n
+alike-message book d c m n a = record { id = refl; table = refl }
 
 alike-read : (book : Book) (d c : ℕ) (read : Result XsmpMessage DecodeRefusal) (n : List Note) → (c ≡ d → ⊥) → Alike book d (heard_as c read ++ n) n
 alike-read book d c (Ok m) n a = alike-message book d c m n a

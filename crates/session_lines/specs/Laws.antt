@@ -16,6 +16,7 @@ use Rattle.session_engine.specs.Acts.{has_finish}
 use Rattle.session_engine.specs.Machine.{script_of}
 use Rattle.session_engine.specs.declared.acts.Act.TheVariants.{Commit, Say}
 use Rattle.session_engine.specs.declared.messages.Message.TheVariants.{Xsmp}
+use Rattle.session_model.specs.Tables.{is_recorded}
 use Rattle.session_notes.specs.Keeping.{IsOfRun, book_in, is_discarded, is_newcomer, is_started, new_ids}
 use Rattle.session_notes.specs.Laws.{IsFresh, IsOpenable, IsSaved}
 use Rattle.session_notes.specs.Watching.{has_answered, has_token, is_to_save, requests}
@@ -61,6 +62,11 @@ abbrev pub NewIdsAreFresh : Book → List Seen → Type 0
 NewIdsAreFresh book seen =
     IsOpenable book → (c : ℕ) (id : List ℕ) (before after : List Seen) → before ++ Does (Say c (Xsmp (RegisterClientReply id))) ∷ after ≡ seen → is_newcomer c (notes before) ≡ true → IsFresh book (notes before) id
 
+-- everybody else got a recorded ID
+abbrev pub OldIdsAreRecorded : Book → List Seen → Type 0
+OldIdsAreRecorded book seen =
+    (c : ℕ) (id : List ℕ) (before after : List Seen) → before ++ Does (Say c (Xsmp (RegisterClientReply id))) ∷ after ≡ seen → is_newcomer c (notes before) ≡ false → is_recorded id (book_in book (notes before)) ≡ true
+
 -- each entry of a book that was written stood in the book before, or a client had saved it with success
 abbrev pub EntriesWereSaved : Book → List Seen → Type 0
 EntriesWereSaved book seen =
@@ -87,6 +93,7 @@ pub record KeepsLaws (book : Book) (seen : List Seen) : Type 0 where
   pub new_ids_are_of_the_run : NewIdsAreOfTheRun book seen
   pub new_ids_differ : NewIdsDiffer book seen
   pub new_ids_are_fresh : NewIdsAreFresh book seen
+  pub old_ids_are_recorded : OldIdsAreRecorded book seen
   pub entries_were_saved : EntriesWereSaved book seen
   pub discarded_states_are_not_named : DiscardedStatesAreNotNamed book seen
   pub pending_is_not_lost : PendingIsNotLost book seen

@@ -1,4 +1,4 @@
-ghost use Rattle.session_lines.specs.Laws.{AllActsAreSeen, AllEventsAreSeen, Always, OneHasTheToken, TheFirstIsServed, TheSecondPhaseWaits, NewIdsAreOfTheRun, NewIdsDiffer, NewIdsAreFresh, EntriesWereSaved, DiscardedStatesAreNotNamed, PendingIsNotLost};
+ghost use Rattle.session_lines.specs.Laws.{AllActsAreSeen, AllEventsAreSeen, Always, OneHasTheToken, TheFirstIsServed, TheSecondPhaseWaits, NewIdsAreOfTheRun, NewIdsDiffer, NewIdsAreFresh, OldIdsAreRecorded, EntriesWereSaved, DiscardedStatesAreNotNamed, PendingIsNotLost};
 ghost use Rattle.session_lines.specs.Runs.{WhatWasDoneIsAFront, EveryRunKeepsTheLaws};
 ghost use Rattle.session_lines.specs.Others.{NotesOfOthersStay, OthersAreLeftAlone};
 ghost use Rattle.session_lines.specs.Files.{EveryFileIsSafe, FilesForgetDiscards, FilesKeepUp, LaterRunsGiveOtherIds};
@@ -42,6 +42,11 @@ pub fn new_ids_differ()
 /// book, that no connection had, and that nobody was given before.
 pub fn new_ids_are_fresh()
     ensures { Always NewIdsAreFresh }
+{}
+
+/// Does nothing: its contract is a law of each front of every line. Who asked for no new ID got one that the book had an entry of.
+pub fn old_ids_are_recorded()
+    ensures { Always OldIdsAreRecorded }
 {}
 
 /// Does nothing: its contract is a law of each front of every line. Each entry of a book that is written stood in the book before, or was saved by its client.

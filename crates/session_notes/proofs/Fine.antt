@@ -12,6 +12,7 @@ use Rattle.checkpoint_records.specs.Books.{names}
 use Rattle.discard_ledger.specs.Discards.{is_among}
 use Rattle.session_model.specs.declared.events.Act.TheVariants.{Commit, Say}
 use Rattle.session_model.specs.Phases.{is_member, is_dying}
+use Rattle.session_model.specs.Tables.{is_recorded}
 use Rattle.session_model.specs.Moves.{Move, Outside, Gave, Blamed, Unset, Closed, Tried, Committed, Printed, Finished, History, ◌▷◌}
 use Rattle.session_model.specs.Readings as of
 use Rattle.session_model.proofs.Pending.{all-more}
@@ -51,12 +52,12 @@ IdsHold book n = AllByRecursion (λ id. IsOfRun (book.epoch + 1) id × ((book_in
 abbrev pub DiscardsHold : Book → List Note → Type 0
 DiscardsHold book n = NoneNamed book → (command : Command) → is_discarded command n ≡ true → names (book_in book n) command ≡ false
 
--- what a book that is written and an ID that is given anew ask of the notes before them
+-- what a book that is written and an ID that is given ask of the notes before them
 abbrev pub IsOwed : Book → List Note → Entry → Type 0
 IsOwed book n (Did (Commit written)) =
     AllByRecursion (λ entry. Contains (book_in book n).entries entry ⊎ IsSaved book n entry) written.entries
     × ((command : Command) → is_among command (book_in book n).pending ≡ true → (is_among command written.pending || names written command || is_started command n) ≡ true)
-IsOwed book n (Did (Say c (RegisterClientReply id))) = IsOpenable book → is_newcomer c n ≡ true → IsFresh book n id
+IsOwed book n (Did (Say c (RegisterClientReply id))) = (is_newcomer c n ≡ false → is_recorded id (book_in book n) ≡ true) × (IsOpenable book → is_newcomer c n ≡ true → IsFresh book n id)
 IsOwed book n entry = Unit {0}
 
 -- who dies does so since a shutdown was agreed
@@ -98,7 +99,7 @@ saves-told h n (entry ∷ xs) k a = (told-at a.0, saves-told h n xs k a.1) where
   told-at (inr s) = inr (record { conn = s.conn; id = k.id s.conn ∙ s.id; table = k.saved s.going s.conn ∙ s.table })
 
 owed-given : (c : ℕ) (m : XsmpMessage) (h : History) → Suits (Gave c m) h → Keeps h (noted_of h) → IsOwed (kept.opened_of h) (noted_of h) (Did (Say c m))
-owed-given c (RegisterClientReply id) h s k = λ o w. next-fresh c id h (noted_of h) s.1 k.epoch k.book k.id (k.aged o) w
+owed-given c (RegisterClientReply id) h s k = (λ w. ap (λ (b : Book). is_recorded id b) k.book ∙ s.1.again w, λ o w. next-fresh c id h (noted_of h) s.1 k.epoch k.book k.id (k.aged o) w)
 owed-given c m h s k = tt
 
 owed-step : (m : Move) (h : History) → Suits m h → Keeps h (noted_of h) → AllByRecursion (IsOwed (kept.opened_of h) (noted_of h)) (entries_of m)

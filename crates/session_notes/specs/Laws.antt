@@ -72,6 +72,11 @@ abbrev pub NewIdsAreFresh : Type 0
 NewIdsAreFresh =
     (book : Book) (seen : List Entry) (c : ℕ) (id : List ℕ) → IsOpenable book → IsSeen book (seen ++ Did (Say c (RegisterClientReply id)) ∷ []) → is_newcomer c (notes seen) ≡ true → IsFresh book (notes seen) id
 
+-- Everybody else gets a recorded ID. So an ID is new exactly where the book that stands has no entry of it, as the history counts.
+abbrev pub OldIdsAreRecorded : Type 0
+OldIdsAreRecorded =
+    (book : Book) (seen : List Entry) (c : ℕ) (id : List ℕ) → IsSeen book (seen ++ Did (Say c (RegisterClientReply id)) ∷ []) → is_newcomer c (notes seen) ≡ false → is_recorded id (book_in book (notes seen)) ≡ true
+
 -- a client has saved this with success: it is the client's ID and snapshot
 pub record IsSaved (book : Book) (notes : List Note) (entry : Kept) : Type 0 where
   pub conn : ℕ
