@@ -26,7 +26,7 @@ use Rattle.session_model.specs.Phases.{is_interacting, is_first_saving, is_membe
 use Rattle.session_model.specs.Moves.{Move, Outside, Gave, Closed, Began, Over, Agreed, Tried, Committed, Finished, End, Restart, History, Opened, ◌▷◌, onto, gave_each, tried_each}
 use Rattle.session_model.specs.Readings as of
 use Rattle.session_model.specs.Reading.{Clients, reading}
-use Rattle.session_model.specs.Books.{next_book, issue, discarded, raised, opening_moves}
+use Rattle.session_model.specs.Books.{next_book, issue, discarded, raised}
 use Rattle.session_model.specs.Replies.{reply}
 use Rattle.session_model.specs.Rules.{last_command, ended, completed, agreement, wanting_two, over_rule, agreed_rule, running_rule, save_yourself, members_for, begin, begin_first, is_free, idle_rule, round_rule, token_rule, rule, go_on, settle, settled, taken, opened, run}
 use Rattle.session_model.proofs.Sound.{AreRegistered, or-true, or-either}
