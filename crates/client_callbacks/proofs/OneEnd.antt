@@ -91,6 +91,106 @@ both_left one other agree (inr none) second =
     let empty : other ≡ [] = subst (λ (es : List Entry). Agree es other) none agree in
     inl (none, empty)
 
+-- Of two that agree one did no more than the other.
+abbrev Longer : List Entry → List Entry → Type 0
+Longer xs ys = ((more : List Entry) × (ys ≡ xs ++ more)) ⊎ ((more : List Entry) × (xs ≡ ys ++ more))
+
+longer_by : (x y : Entry) (xs ys : List Entry) → x ≡ y → Longer xs ys → Longer (x ∷ xs) (y ∷ ys)
+longer_by x y xs ys same (inl longer) = inl (longer.0, ap (λ (e : Entry). e ∷ ys) (sym same) ∙ ap (λ (es : List Entry). x ∷ es) longer.1)
+longer_by x y xs ys same (inr longer) = inr (longer.0, ap (λ (e : Entry). e ∷ xs) same ∙ ap (λ (es : List Entry). y ∷ es) longer.1)
+
+-- Both did the same, and left nothing, or a message.
+abbrev DidTheSame : List Entry → List Entry → List Entry → List Entry → Type 0
+DidTheSame done left other others = (done ≡ other) × (((left ≡ []) × (others ≡ [])) ⊎ (IsUnsent left × IsUnsent others))
+
+did_same : (done left other others : List Entry) → Agree (done ++ left) (other ++ others) → effects_in done ≡ effects_in other → Stopped left → Stopped others → Longer done other → DidTheSame done left other others
+did_same done left other others agree same one two (inl longer) =
+    let parts = stopped_alike done left longer.0 others (subst (λ (es : List Entry). Agree (done ++ left) (es ++ others)) longer.1 agree) (same ∙ ap effects_in longer.1) one in
+    (sym (longer.1 ∙ (ap (λ (es : List Entry). done ++ es) parts.0 ∙ append-nil done)), both_left left others parts.1 one two)
+did_same done left other others agree same one two (inr longer) =
+    let parts = stopped_alike other others longer.0 left (subst (λ (es : List Entry). Agree (other ++ others) (es ++ left)) longer.1 (agree_sym (done ++ left) (other ++ others) agree)) (sym same ∙ ap effects_in longer.1) two in
+    (longer.1 ∙ (ap (λ (es : List Entry). other ++ es) parts.0 ∙ append-nil other), swapped (both_left others left parts.1 two one))
+  where
+    swapped : ((others ≡ []) × (left ≡ [])) ⊎ (IsUnsent others × IsUnsent left) → ((left ≡ []) × (others ≡ [])) ⊎ (IsUnsent left × IsUnsent others)
+    swapped (inl both) = inl (both.1, both.0)
+    swapped (inr both) = inr (both.1, both.0)
+
+-- ---- ends
+
+-- how a run ended that didn't want for memory
+data End (answer : Result ClientEnd JoinFault) (place : Place) (heard turns : ℕ) (left : List Entry) : Type 0 where
+  Ended : (ending : Ending) → place ≡ Over ending → answer ≡ answer_of ending → left ≡ [] → End answer place heard turns left
+  IsSpent : answer ≡ Err Spent → heard ≡ turns → is_over place ≡ false → left ≡ [] → End answer place heard turns left
+  Unsent : answer ≡ Err LinkFault → IsUnsent left → End answer place heard turns left
+  Unheard : answer ≡ Err LinkFault → heard < turns → is_over place ≡ false → left ≡ [] → End answer place heard turns left
+
+end_of : (answer : Result ClientEnd JoinFault) (place : Place) (heard turns : ℕ) (left : List Entry) → answer ≢ Err NoMemory → (failure_of answer ≡ None → left ≡ []) → IsAnswer answer place heard turns left → End answer place heard turns left
+end_of (Ok end) place heard turns left some none is = Ended is.0 is.1 is.2 (none refl)
+end_of (Err LinkFault) place heard turns left some none (inl unsent) = Unsent refl unsent
+end_of (Err LinkFault) place heard turns left some none (inr silent) = Unheard refl silent.1 silent.2 silent.0
+end_of (Err (Refused class)) place heard turns left some none is = Ended is.0 is.1 is.2 (none refl)
+end_of (Err (Malformed at)) place heard turns left some none is = Ended is.0 is.1 is.2 (none refl)
+end_of (Err Spent) place heard turns left some none is = IsSpent refl is.0 is.1 (none refl)
+end_of (Err NoMemory) place heard turns left some none is = absurd (some refl)
+
+stops : (answer : Result ClientEnd JoinFault) (place : Place) (heard turns : ℕ) (left : List Entry) → End answer place heard turns left → Stopped left
+stops answer place heard turns left (Ended ending over is none) = inr none
+stops answer place heard turns left (IsSpent is all going none) = inr none
+stops answer place heard turns left (Unsent is unsent) = inl unsent
+stops answer place heard turns left (Unheard is some going none) = inr none
+
+not_unsent : (left : List Entry) → left ≡ [] → IsUnsent left → ⊥
+not_unsent left none unsent = nothing unsent.0 unsent.1 (sym none ∙ unsent.2)
+  where
+    nothing : (message : Message) (more : List Entry) → [] ≡ Says message ∷ more → ⊥
+    nothing message more is = cc
+
+unsent_end : (answer : Result ClientEnd JoinFault) (place : Place) (heard turns : ℕ) (left : List Entry) → End answer place heard turns left → IsUnsent left → answer ≡ Err LinkFault
+unsent_end answer place heard turns left (Ended ending over is none) unsent = absurd (not_unsent left none unsent)
+unsent_end answer place heard turns left (IsSpent is all going none) unsent = absurd (not_unsent left none unsent)
+unsent_end answer place heard turns left (Unsent is some) unsent = is
+unsent_end answer place heard turns left (Unheard is some going none) unsent = absurd (not_unsent left none unsent)
+
+not_over : (place : Place) (ending : Ending) → place ≡ Over ending → is_over place ≡ false → ⊥
+not_over place ending over going = cc (ap is_over over, going)
+
+same_ending : (place : Place) (one other : Ending) → place ≡ Over one → place ≡ Over other → one ≡ other
+same_ending place one other first second = by (sym first ∙ second)
+  where
+    by : Over one ≡ Over other → one ≡ other
+    by same = cc
+
+-- the same place, and as many receives
+ends_same : (one other : Result ClientEnd JoinFault) (place : Place) (heard turns : ℕ) (left others : List Entry) → left ≡ [] → others ≡ [] → End one place heard turns left → End other place heard turns others → one ≡ other
+ends_same one other place heard turns left others none nothing (Ended ending over is empty) (Ended last ends so done) = is ∙ (ap answer_of (same_ending place ending last over ends) ∙ sym so)
+ends_same one other place heard turns left others none nothing (Ended ending over is empty) (IsSpent so all going done) = absurd (not_over place ending over going)
+ends_same one other place heard turns left others none nothing (Ended ending over is empty) (Unsent so unsent) = absurd (not_unsent others nothing unsent)
+ends_same one other place heard turns left others none nothing (Ended ending over is empty) (Unheard so some going done) = absurd (not_over place ending over going)
+ends_same one other place heard turns left others none nothing (IsSpent is all going empty) (Ended last ends so done) = absurd (not_over place last ends going)
+ends_same one other place heard turns left others none nothing (IsSpent is all going empty) (IsSpent so every still done) = is ∙ sym so
+ends_same one other place heard turns left others none nothing (IsSpent is all going empty) (Unsent so unsent) = absurd (not_unsent others nothing unsent)
+ends_same one other place heard turns left others none nothing (IsSpent is all going empty) (Unheard so some still done) = absurd (omega (arith, all, some))
+ends_same one other place heard turns left others none nothing (Unsent is unsent) end = absurd (not_unsent left none unsent)
+ends_same one other place heard turns left others none nothing (Unheard is some going empty) (Ended last ends so done) = absurd (not_over place last ends going)
+ends_same one other place heard turns left others none nothing (Unheard is some going empty) (IsSpent so all still done) = absurd (omega (arith, all, some))
+ends_same one other place heard turns left others none nothing (Unheard is some going empty) (Unsent so unsent) = absurd (not_unsent others nothing unsent)
+ends_same one other place heard turns left others none nothing (Unheard is some going empty) (Unheard so few still done) = is ∙ sym so
+
+behind : (first : Entry) (es fs : List Entry) → first ∷ es ≡ first ∷ fs → es ≡ fs
+behind first es fs is = cc
+
+-- two ends of one run
+ends_one : (cookie : Cookie) (previous : List ℕ) (saves turns : ℕ) (xs ys : List Came) (done left other others : List Entry) (one two : Result ClientEnd JoinFault) → done ++ left ≡ script cookie previous saves xs → other ++ others ≡ script cookie previous saves ys → heard_in done ≡ bytes_in xs → heard_in other ≡ bytes_in ys → End one (run_after (start cookie previous saves) xs).talk.place (length xs) turns left → End two (run_after (start cookie previous saves) ys).talk.place (length ys) turns others → DidTheSame done left other others → one ≡ two
+ends_one cookie previous saves turns xs ys done left other others one two parts whole hears_one hears_two first second (same, inr unsent) = unsent_end one (run_after (start cookie previous saves) xs).talk.place (length xs) turns left first unsent.0 ∙ sym (unsent_end two (run_after (start cookie previous saves) ys).talk.place (length ys) turns others second unsent.1)
+ends_one cookie previous saves turns xs ys done left other others one two parts whole hears_one hears_two first second (same, inl none) =
+    let begin : Run = start cookie previous saves in
+    let bytes : bytes_in xs ≡ bytes_in ys = sym hears_one ∙ (ap heard_in same ∙ hears_two) in
+    let scripts : script cookie previous saves xs ≡ script cookie previous saves ys = sym parts ∙ (ap (λ (es : List Entry). es ++ left) same ∙ (ap (λ (es : List Entry). other ++ es) (none.0 ∙ sym none.1) ∙ whole)) in
+    let after : run_after begin xs ≡ run_after begin ys = (scripts_agree begin xs ys bytes).1 (behind _ (script_from begin xs) (script_from begin ys) scripts) in
+    let many : length xs ≡ length ys = omega (arith, length-map xs (λ (came : Came). came.bytes), length-map ys (λ (came : Came). came.bytes), ap length bytes) in
+    let again : End two (run_after begin xs).talk.place (length xs) turns others = subst (λ (n : ℕ). End two (run_after begin xs).talk.place n turns others) (sym many) (subst (λ (run : Run). End two run.talk.place (length ys) turns others) (sym after) second) in
+    ends_same one two (run_after begin xs).talk.place (length xs) turns left others none.0 none.1 first again
+
 module _ {S D C : Type 0} (answers : S → SaveAsk → SaveAnswer → S → Type 0) (gives : D → List (List ℕ) → D → Type 0) (hears : C → C → Type 0) (say_one : SayOne answers gives hears) where
   abbrev FollowsIn : List Entry → Callbacks S D C → Callbacks S D C → Type 0
   FollowsIn entries old new = Follows answers gives hears entries old new
@@ -121,14 +221,6 @@ module _ {S D C : Type 0} (answers : S → SaveAsk → SaveAnswer → S → Type
       let says = say_one.reasons old.die reasons alike.0 one.0 two.0 one.1 two.1 in
       (ap AsksReasons says.0 ∙ sym alike.1, one.2 ∙ (ap (λ (d : D). let n : Callbacks S D C = record old { die = d } in n) says.1 ∙ sym two.2))
 
-  -- Of two that agree one did no more than the other.
-  abbrev Longer : List Entry → List Entry → Type 0
-  Longer xs ys = ((more : List Entry) × (ys ≡ xs ++ more)) ⊎ ((more : List Entry) × (xs ≡ ys ++ more))
-
-  longer_by : (x y : Entry) (xs ys : List Entry) → x ≡ y → Longer xs ys → Longer (x ∷ xs) (y ∷ ys)
-  longer_by x y xs ys same (inl longer) = inl (longer.0, ap (λ (e : Entry). e ∷ ys) (sym same) ∙ ap (λ (es : List Entry). x ∷ es) longer.1)
-  longer_by x y xs ys same (inr longer) = inr (longer.0, ap (λ (e : Entry). e ∷ xs) same ∙ ap (λ (es : List Entry). y ∷ es) longer.1)
-
   one_longer : (xs ys left others : List Entry) (old f g : Callbacks S D C) → Agree (xs ++ left) (ys ++ others) → FollowsIn xs old f → FollowsIn ys old g → Longer xs ys
   one_longer [] ys left others old f g agree one other = inl (ys, refl)
   one_longer (x ∷ xs) [] left others old f g agree one other = inr (x ∷ xs, refl)
@@ -145,109 +237,17 @@ module _ {S D C : Type 0} (answers : S → SaveAsk → SaveAnswer → S → Type
       tail_of : (y e : Entry) (ys es : List Entry) → y ∷ ys ≡ e ∷ es → ys ≡ es
       tail_of y e ys es same = cc
 
-  -- Both did the same, and left nothing, or a message.
-  abbrev DidTheSame : List Entry → List Entry → List Entry → List Entry → Type 0
-  DidTheSame done left other others = (done ≡ other) × (((left ≡ []) × (others ≡ [])) ⊎ (IsUnsent left × IsUnsent others))
-
-  did_same : (done left other others : List Entry) → Agree (done ++ left) (other ++ others) → effects_in done ≡ effects_in other → Stopped left → Stopped others → Longer done other → DidTheSame done left other others
-  did_same done left other others agree same one two (inl longer) =
-      let parts = stopped_alike done left longer.0 others (subst (λ (es : List Entry). Agree (done ++ left) (es ++ others)) longer.1 agree) (same ∙ ap effects_in longer.1) one in
-      (sym (longer.1 ∙ (ap (λ (es : List Entry). done ++ es) parts.0 ∙ append-nil done)), both_left left others parts.1 one two)
-  did_same done left other others agree same one two (inr longer) =
-      let parts = stopped_alike other others longer.0 left (subst (λ (es : List Entry). Agree (other ++ others) (es ++ left)) longer.1 (agree_sym (done ++ left) (other ++ others) agree)) (sym same ∙ ap effects_in longer.1) two in
-      (longer.1 ∙ (ap (λ (es : List Entry). other ++ es) parts.0 ∙ append-nil other), swapped (both_left others left parts.1 two one))
-    where
-      swapped : ((others ≡ []) × (left ≡ [])) ⊎ (IsUnsent others × IsUnsent left) → ((left ≡ []) × (others ≡ [])) ⊎ (IsUnsent left × IsUnsent others)
-      swapped (inl both) = inl (both.1, both.0)
-      swapped (inr both) = inr (both.1, both.0)
-
-  -- ---- ends
-
-  -- how a run ended that didn't want for memory
-  data End (answer : Result ClientEnd JoinFault) (place : Place) (heard turns : ℕ) (left : List Entry) : Type 0 where
-    Ended : (ending : Ending) → place ≡ Over ending → answer ≡ answer_of ending → left ≡ [] → End answer place heard turns left
-    IsSpent : answer ≡ Err Spent → heard ≡ turns → is_over place ≡ false → left ≡ [] → End answer place heard turns left
-    Unsent : answer ≡ Err LinkFault → IsUnsent left → End answer place heard turns left
-    Unheard : answer ≡ Err LinkFault → heard < turns → is_over place ≡ false → left ≡ [] → End answer place heard turns left
-
-  end_of : (answer : Result ClientEnd JoinFault) (place : Place) (heard turns : ℕ) (left : List Entry) → answer ≢ Err NoMemory → (failure_of answer ≡ None → left ≡ []) → IsAnswer answer place heard turns left → End answer place heard turns left
-  end_of (Ok end) place heard turns left some none is = Ended is.0 is.1 is.2 (none refl)
-  end_of (Err LinkFault) place heard turns left some none (inl unsent) = Unsent refl unsent
-  end_of (Err LinkFault) place heard turns left some none (inr silent) = Unheard refl silent.1 silent.2 silent.0
-  end_of (Err (Refused class)) place heard turns left some none is = Ended is.0 is.1 is.2 (none refl)
-  end_of (Err (Malformed at)) place heard turns left some none is = Ended is.0 is.1 is.2 (none refl)
-  end_of (Err Spent) place heard turns left some none is = IsSpent refl is.0 is.1 (none refl)
-  end_of (Err NoMemory) place heard turns left some none is = absurd (some refl)
-
-  stops : (answer : Result ClientEnd JoinFault) (place : Place) (heard turns : ℕ) (left : List Entry) → End answer place heard turns left → Stopped left
-  stops answer place heard turns left (Ended ending over is none) = inr none
-  stops answer place heard turns left (IsSpent is all going none) = inr none
-  stops answer place heard turns left (Unsent is unsent) = inl unsent
-  stops answer place heard turns left (Unheard is some going none) = inr none
-
-  not_unsent : (left : List Entry) → left ≡ [] → IsUnsent left → ⊥
-  not_unsent left none unsent = nothing unsent.0 unsent.1 (sym none ∙ unsent.2)
-    where
-      nothing : (message : Message) (more : List Entry) → [] ≡ Says message ∷ more → ⊥
-      nothing message more is = cc
-
-  unsent_end : (answer : Result ClientEnd JoinFault) (place : Place) (heard turns : ℕ) (left : List Entry) → End answer place heard turns left → IsUnsent left → answer ≡ Err LinkFault
-  unsent_end answer place heard turns left (Ended ending over is none) unsent = absurd (not_unsent left none unsent)
-  unsent_end answer place heard turns left (IsSpent is all going none) unsent = absurd (not_unsent left none unsent)
-  unsent_end answer place heard turns left (Unsent is some) unsent = is
-  unsent_end answer place heard turns left (Unheard is some going none) unsent = absurd (not_unsent left none unsent)
-
-  not_over : (place : Place) (ending : Ending) → place ≡ Over ending → is_over place ≡ false → ⊥
-  not_over place ending over going = cc (ap is_over over, going)
-
-  same_ending : (place : Place) (one other : Ending) → place ≡ Over one → place ≡ Over other → one ≡ other
-  same_ending place one other first second = by (sym first ∙ second)
-    where
-      by : Over one ≡ Over other → one ≡ other
-      by same = cc
-
-  -- the same place, and as many receives
-  ends_same : (one other : Result ClientEnd JoinFault) (place : Place) (heard turns : ℕ) (left others : List Entry) → left ≡ [] → others ≡ [] → End one place heard turns left → End other place heard turns others → one ≡ other
-  ends_same one other place heard turns left others none nothing (Ended ending over is empty) (Ended last ends so done) = is ∙ (ap answer_of (same_ending place ending last over ends) ∙ sym so)
-  ends_same one other place heard turns left others none nothing (Ended ending over is empty) (IsSpent so all going done) = absurd (not_over place ending over going)
-  ends_same one other place heard turns left others none nothing (Ended ending over is empty) (Unsent so unsent) = absurd (not_unsent others nothing unsent)
-  ends_same one other place heard turns left others none nothing (Ended ending over is empty) (Unheard so some going done) = absurd (not_over place ending over going)
-  ends_same one other place heard turns left others none nothing (IsSpent is all going empty) (Ended last ends so done) = absurd (not_over place last ends going)
-  ends_same one other place heard turns left others none nothing (IsSpent is all going empty) (IsSpent so every still done) = is ∙ sym so
-  ends_same one other place heard turns left others none nothing (IsSpent is all going empty) (Unsent so unsent) = absurd (not_unsent others nothing unsent)
-  ends_same one other place heard turns left others none nothing (IsSpent is all going empty) (Unheard so some still done) = absurd (omega (arith, all, some))
-  ends_same one other place heard turns left others none nothing (Unsent is unsent) end = absurd (not_unsent left none unsent)
-  ends_same one other place heard turns left others none nothing (Unheard is some going empty) (Ended last ends so done) = absurd (not_over place last ends going)
-  ends_same one other place heard turns left others none nothing (Unheard is some going empty) (IsSpent so all still done) = absurd (omega (arith, all, some))
-  ends_same one other place heard turns left others none nothing (Unheard is some going empty) (Unsent so unsent) = absurd (not_unsent others nothing unsent)
-  ends_same one other place heard turns left others none nothing (Unheard is some going empty) (Unheard so few still done) = is ∙ sym so
-
-  -- two ends of one run
-  ends_one : (cookie : Cookie) (previous : List ℕ) (saves turns : ℕ) (xs ys : List Came) (done left other others : List Entry) (one two : Result ClientEnd JoinFault) → done ++ left ≡ script cookie previous saves xs → other ++ others ≡ script cookie previous saves ys → heard_in done ≡ bytes_in xs → heard_in other ≡ bytes_in ys → End one (run_after (start cookie previous saves) xs).talk.place (length xs) turns left → End two (run_after (start cookie previous saves) ys).talk.place (length ys) turns others → DidTheSame done left other others → one ≡ two
-  ends_one cookie previous saves turns xs ys done left other others one two parts whole hears_one hears_two first second (same, inr unsent) = unsent_end one (run_after (start cookie previous saves) xs).talk.place (length xs) turns left first unsent.0 ∙ sym (unsent_end two (run_after (start cookie previous saves) ys).talk.place (length ys) turns others second unsent.1)
-  ends_one cookie previous saves turns xs ys done left other others one two parts whole hears_one hears_two first second (same, inl none) =
-      let begin : Run = start cookie previous saves in
-      let bytes : bytes_in xs ≡ bytes_in ys = sym hears_one ∙ (ap heard_in same ∙ hears_two) in
-      let scripts : script cookie previous saves xs ≡ script cookie previous saves ys = sym parts ∙ (ap (λ (es : List Entry). es ++ left) same ∙ (ap (λ (es : List Entry). other ++ es) (none.0 ∙ sym none.1) ∙ whole)) in
-      let after : run_after begin xs ≡ run_after begin ys = (scripts_agree begin xs ys bytes).1 (behind (script_from begin xs) (script_from begin ys) scripts) in
-      let many : length xs ≡ length ys = sym (length-map (λ (came : Came). came.bytes) xs) ∙ (ap length bytes ∙ length-map (λ (came : Came). came.bytes) ys) in
-      let again : End two (run_after begin xs).talk.place (length xs) turns others = subst (λ (n : ℕ). End two (run_after begin xs).talk.place n turns others) (sym many) (subst (λ (run : Run). End two run.talk.place (length ys) turns others) (sym after) second) in
-      ends_same one two (run_after begin xs).talk.place (length xs) turns left others none.0 none.1 first again
-    where
-      behind : (es fs : List Entry) → Says _ ∷ es ≡ Says _ ∷ fs → es ≡ fs
-      behind es fs is = cc
-
 pub one_end : {S D C : Type 0} (answers : S → SaveAsk → SaveAnswer → S → Type 0) (gives : D → List (List ℕ) → D → Type 0) (hears : C → C → Type 0) → HasOneEnd answers gives hears
 one_end answers gives hears say_one cookie previous saves turns old new before one other told first second some more =
-    let end_one = end_of answers gives hears say_one one (run_after (start cookie previous saves) first.cames).talk.place (length first.cames) turns first.does.left some first.does.none_left first.answer in
-    let end_two = end_of answers gives hears say_one other (run_after (start cookie previous saves) second.cames).talk.place (length second.cames) turns second.does.left more second.does.none_left second.answer in
+    let end_one = end_of one (run_after (start cookie previous saves) first.cames).talk.place (length first.cames) turns first.does.left some first.does.none_left first.answer in
+    let end_two = end_of other (run_after (start cookie previous saves) second.cames).talk.place (length second.cames) turns second.does.left more second.does.none_left second.answer in
     let same : effects_in first.does.done ≡ effects_in second.does.done = told_once before (effects_in first.does.done) (effects_in second.does.done) (ap (λ t. adds t (effects_in first.does.done)) (sym told) ∙ (sym first.does.told ∙ (second.does.told ∙ ap (λ t. adds t (effects_in second.does.done)) told))) in
     let bytes : bytes_in first.cames ≡ bytes_in second.cames = sym first.heard ∙ (same_heard first.does.done second.does.done same ∙ second.heard) in
     let begins : Agree (script cookie previous saves first.cames) (script cookie previous saves second.cames) = (_, _, refl, refl, λ is. (scripts_agree (start cookie previous saves) first.cames second.cames bytes).0) in
     let agree : Agree (first.does.done ++ first.does.left) (second.does.done ++ second.does.left) = subst (λ (es : List Entry). Agree es (second.does.done ++ second.does.left)) (sym first.does.parts) (subst (λ (es : List Entry). Agree (script cookie previous saves first.cames) es) (sym second.does.parts) begins) in
     let longer = one_longer answers gives hears say_one first.does.done second.does.done first.does.left second.does.left old.callbacks new.callbacks new.callbacks agree first.does.follows second.does.follows in
-    ends_one answers gives hears say_one cookie previous saves turns first.cames second.cames first.does.done first.does.left second.does.done second.does.left one other first.does.parts second.does.parts first.heard second.heard end_one end_two
-    (did_same answers gives hears say_one first.does.done first.does.left second.does.done second.does.left agree same (stops answers gives hears say_one one _ _ turns _ end_one) (stops answers gives hears say_one other _ _ turns _ end_two) longer)
+    ends_one cookie previous saves turns first.cames second.cames first.does.done first.does.left second.does.done second.does.left one other first.does.parts second.does.parts first.heard second.heard end_one end_two
+    (did_same first.does.done first.does.left second.does.done second.does.left agree same (stops one _ _ turns _ end_one) (stops other _ _ turns _ end_two) longer)
   where
     told_once : (before xs ys : List Effect) → ◌≡◌ {A = Option (List Effect)} (Some (before ++ xs)) (Some (before ++ ys)) → xs ≡ ys
     told_once before xs ys same = same_tail before xs ys cc
