@@ -213,8 +213,7 @@ one_more : (over : Bool) (run : Run) (bytes others : List ℕ) (one other : Turn
 one_more true run bytes others one other xs ys same turns rest = (refl, λ is. refl)
 one_more false run bytes others one other xs ys same turns rest =
     let more : List Entry = script_from one.next xs in
-    let later : List Entry = script_from other.next ys in
-    (
+    let later : List Entry = script_from other.next ys in (
       agree_one (Hears bytes) (Hears others) (one.line ++ more) (other.line ++ later) (ap Hears (sym same)) (λ is. agree_append one.line other.line more later turns.lines (λ l. (rest (turns.next l)).0)),
       λ is.
           let parts = agree_front one.line other.line more later turns.lines (tail_is (Hears bytes) (Hears others) (one.line ++ more) (other.line ++ later) is) in

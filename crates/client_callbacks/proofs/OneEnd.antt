@@ -234,6 +234,7 @@ module _ {S D C : Type 0} (answers : S → SaveAsk → SaveAnswer → S → Type
     where
       head_of : (y e : Entry) (ys es : List Entry) → y ∷ ys ≡ e ∷ es → y ≡ e
       head_of y e ys es same = cc
+
       tail_of : (y e : Entry) (ys es : List Entry) → y ∷ ys ≡ e ∷ es → ys ≡ es
       tail_of y e ys es same = cc
 

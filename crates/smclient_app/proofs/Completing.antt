@@ -117,7 +117,7 @@ module _ (words : List (List ℕ)) (cookie : Cookie) (old new : Outside) (turns 
       let both : joined.first ++ joined.after ≡ effects_in all ++ map Printed (map line (lines_in all)) = rw (said, lines) refl in
       let is : effects ≡ effects_in all ++ map Printed (map line (lines_in all)) = parts ∙ (ap (λ (es : List Effect). first ++ es) nothing ∙ (append-nil first ∙ (joined.parts ∙ both))) in
       let heards : heard effects ≡ map received (bytes_in joined.joins.cames) =
-          ap heard is ∙ (flat_map-append event_of (effects_in all) (map Printed (map line (lines_in all))) ∙ (ap (λ (events : List Event). heard (effects_in all) ++ events) (heard_printed (map line (lines_in all))) ∙ (append-nil (heard (effects_in all)) ∙ (heard_effects all ∙ ap (map received) (ap heard_in (sym done) ∙ joined.joins.heard)))))
+      ap heard is ∙ (flat_map-append event_of (effects_in all) (map Printed (map line (lines_in all))) ∙ (ap (λ (events : List Event). heard (effects_in all) ++ events) (heard_printed (map line (lines_in all))) ∙ (append-nil (heard (effects_in all)) ∙ (heard_effects all ∙ ap (map received) (ap heard_in (sym done) ∙ joined.joins.heard)))))
       in
       subst (λ (c : Cookie). ComesToItsEnd words c turns status effects) same (record {
         choices = choices;
