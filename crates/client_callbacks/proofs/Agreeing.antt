@@ -1,5 +1,5 @@
 -- Two scripts for the same receives differ only where the callbacks say otherwise.
-use Rattle.std.proofs.Common.{◌≡◌, ℕ, Bool, true, false, List, [], ◌∷◌, ◌++◌, map, drop, Option, None, Some, refl, sym, ◌∙◌, ap, subst, append_assoc, ◌==◌}
+use Rattle.std.proofs.Common.{◌≡◌, ℕ, Bool, true, false, List, [], ◌∷◌, ◌++◌, map, drop, Option, None, Some, refl, sym, ◌∙◌, ap, subst}
 use Rattle.std.specs.Prelude.{if◌then◌else◌}
 use Rattle.ice_framing.specs.Frames.{Cut, cut, fed, is_oversize}
 use Rattle.ice_framing.specs.declared.cutting.WholeFrame.{WholeFrame}
@@ -15,8 +15,7 @@ use Rattle.client_machine.specs.declared.saves.Stage.{Stage}
 use Rattle.client_callbacks.specs.Answers.{Replies}
 use Rattle.client_callbacks.specs.Doing.{bytes_in}
 use Rattle.client_callbacks.specs.Received.{received_of}
-use Rattle.client_callbacks.specs.Script.{Came, Entry, Hears, Says, AsksSave, AsksReasons, TellsCancelled, Notes, Run, Step, Turn, acted, after_again, after_answer, after_save, again_line, answer_line, answer_messages, arrived, closes, cut_off, die_line, frame_at, frame_taken, frames_taken, is_over, reply, run_after, save_line, script_from, speaking_took, stage_again, stays, turn, turn_of}
-use Rattle.client_callbacks.specs.declared.ends.Ending.TheVariants.{Died}
+use Rattle.client_callbacks.specs.Script.{Came, Entry, Hears, Says, AsksSave, AsksReasons, TellsCancelled, Notes, Run, Step, Turn, acted, after_again, after_answer, again_line, answer_line, answer_messages, arrived, closes, cut_off, die_line, frame_at, frame_taken, frames_taken, is_over, reply, run_after, script_from, speaking_took, stage_again, stays, turn}
 use Rattle.client_callbacks.specs.declared.received.Received.{Received}
 use Rattle.client_callbacks.specs.declared.received.Received.TheVariants.{Ice, Xsmp, Stray, Unspelled}
 use Rattle.client_callbacks.specs.declared.talk.Arrival.{Arrival}

@@ -92,7 +92,7 @@ module _ {S D C : Type 0} (answers : S → SaveAsk → SaveAnswer → S → Type
   abbrev CarriesIn : Desk S D C → Desk S D C → List Entry → Option Failure → Type 0
   CarriesIn old new all failure = CarriesOut answers gives hears old new all failure
 
-  follows-append : (xs ys : List Entry) (a b c : Callbacks S D C) → FollowsIn xs a b → FollowsIn ys b c → FollowsIn (xs ++ ys) a c
+  pub follows-append : (xs ys : List Entry) (a b c : Callbacks S D C) → FollowsIn xs a b → FollowsIn ys b c → FollowsIn (xs ++ ys) a c
   follows-append [] ys a b c one two = rw one at two
   follows-append (Hears bytes ∷ xs) ys a b c one two = follows-append xs ys a b c one two
   follows-append (Says message ∷ xs) ys a b c one two = follows-append xs ys a b c one two
@@ -113,7 +113,7 @@ module _ {S D C : Type 0} (answers : S → SaveAsk → SaveAnswer → S → Type
   does_never d all = record { done = []; left = all; parts = refl; none_left = λ e. absurd cc; told = sym (adds-none d.told); lines = sym (append-nil d.lines); follows = refl; counts = never_fallen d.faults; cause = tt }
 
   -- all of these, and then some of those
-  pub does_more : (a b c : Desk S D C) (xs ys : List Entry) (failure : Option Failure) → DoesIn a b xs None → DoesIn b c ys failure → DoesIn a c (xs ++ ys) failure
+  unfoldable pub does_more : (a b c : Desk S D C) (xs ys : List Entry) (failure : Option Failure) → DoesIn a b xs None → DoesIn b c ys failure → DoesIn a c (xs ++ ys) failure
   does_more a b c xs ys failure one two = record {
     done = xs ++ two.done;
     left = two.left;
@@ -186,7 +186,7 @@ module _ {S D C : Type 0} (answers : S → SaveAsk → SaveAnswer → S → Type
   }
 
   -- the same entries, told otherwise
-  pub does_as : (a b : Desk S D C) (xs ys : List Entry) (failure : Option Failure) → xs ≡ ys → DoesIn a b xs failure → DoesIn a b ys failure
+  unfoldable pub does_as : (a b : Desk S D C) (xs ys : List Entry) (failure : Option Failure) → xs ≡ ys → DoesIn a b xs failure → DoesIn a b ys failure
   does_as a b xs ys failure same does = record {
     done = does.done;
     left = does.left;
@@ -206,12 +206,15 @@ module _ {S D C : Type 0} (answers : S → SaveAsk → SaveAnswer → S → Type
   carries_never d all = record { does = does_never d all; unsent = λ e. absurd cc }
 
   pub carries_more : (a b c : Desk S D C) (xs ys : List Entry) (failure : Option Failure) → CarriesIn a b xs None → CarriesIn b c ys failure → CarriesIn a c (xs ++ ys) failure
+  unfolding does_more
   carries_more a b c xs ys failure one two = record { does = does_more a b c xs ys failure one.does two.does; unsent = two.unsent }
 
   pub carries_cut : (a b : Desk S D C) (xs ys : List Entry) (failure : Failure) → CarriesIn a b xs (Some failure) → CarriesIn a b (xs ++ ys) (Some failure)
+  unfolding does_cut
   carries_cut a b xs ys failure one = record { does = does_cut a b xs ys failure one.does; unsent = λ e. unsent-more one.does.left ys (one.unsent e) }
 
   pub carries_sent : (old new : Outside) (lines : List (List ℕ)) (callbacks : Callbacks S D C) (messages : List Message) (failure : Option Failure) → Sends old new messages failure → CarriesIn (desk old lines callbacks) (desk new lines callbacks) (map Says messages) failure
+  unfolding sends_does
   carries_sent old new lines callbacks messages failure sends = record { does = sends_does old new lines callbacks messages failure sends; unsent = λ e. unsent-said sends.left (sends.some_left e) }
 
   pub carries_asked : (outside : Outside) (lines : List (List ℕ)) (old new : Callbacks S D C) (entry : Entry) → effect_of entry ≡ [] → line_of entry ≡ [] → FollowsIn (entry ∷ []) old new → CarriesIn (desk outside lines old) (desk outside lines new) (entry ∷ []) None

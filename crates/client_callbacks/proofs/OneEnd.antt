@@ -1,5 +1,5 @@
 -- A run has one end at most, but for want of memory.
-use Rattle.std.proofs.Common.{◌≡◌, ◌≢◌, ◌⊎◌, inl, inr, ℕ, ◌<◌, arith, Bool, true, false, List, [], ◌∷◌, ◌++◌, length, Option, None, Some, Result, Ok, Err, refl, sym, ◌∙◌, ap, subst, append_assoc, append-nil}
+use Rattle.std.proofs.Common.{◌≡◌, ◌≢◌, ◌⊎◌, inl, inr, ℕ, ◌<◌, arith, false, List, [], ◌∷◌, ◌++◌, length, Option, None, Some, Result, Ok, Err, refl, sym, ◌∙◌, ap, subst, append_assoc, append-nil}
 use Rattle.std.proofs.lemmas.List.{length-map}
 use Rattle.std.proofs.lemmas.Grind.{flat_map-append}
 use Rattle.std.specs.List.{flat_map}
@@ -7,13 +7,12 @@ use Rattle.sm_world.specs.Outside.{adds}
 use Rattle.sm_world.specs.declared.effects.Effect.{Effect}
 use Rattle.sm_world.specs.declared.effects.Effect.TheVariants.{Heard}
 use Rattle.sm_world.specs.declared.events.Event.TheVariants.{Gone, Piece}
-use Rattle.sm_world.specs.declared.failures.Failure.{Failure}
 use Rattle.ice_cookie.specs.declared.cookies.Cookie.{Cookie}
 use Rattle.client_machine.specs.declared.saves.SaveAnswer.{SaveAnswer}
 use Rattle.client_machine.specs.declared.saves.SaveAsk.{SaveAsk}
-use Rattle.client_callbacks.specs.Doing.{Callbacks, Desk, Does, Follows, IsUnsent, bytes_in, effect_of, effects_in, heard_in, sent}
+use Rattle.client_callbacks.specs.Doing.{Callbacks, Follows, IsUnsent, bytes_in, effect_of, effects_in, heard_in, sent}
 use Rattle.client_callbacks.specs.Laws.{HasOneEnd, SayOne}
-use Rattle.client_callbacks.specs.Running.{IsAnswer, Joins, answer_of, failure_of}
+use Rattle.client_callbacks.specs.Running.{IsAnswer, answer_of, failure_of}
 use Rattle.client_callbacks.specs.Script.{Came, Entry, Hears, Says, AsksSave, AsksReasons, TellsCancelled, Notes, Run, is_over, run_after, script, script_from, start}
 use Rattle.client_callbacks.specs.declared.ends.ClientEnd.{ClientEnd}
 use Rattle.client_callbacks.specs.declared.ends.Ending.{Ending}
@@ -22,7 +21,7 @@ use Rattle.client_callbacks.specs.declared.ends.JoinFault.TheVariants.{LinkFault
 use Rattle.client_callbacks.specs.declared.messages.Message.{Message}
 use Rattle.client_callbacks.specs.declared.talk.Place.{Place}
 use Rattle.client_callbacks.specs.declared.talk.Place.TheVariants.{Over}
-use Rattle.client_callbacks.proofs.Agreeing.{Agree, Alike, agree_drop, agree_front, agree_refl, agree_sym, scripts_agree}
+use Rattle.client_callbacks.proofs.Agreeing.{Agree, Alike, agree_drop, agree_sym, scripts_agree}
 
 -- ---- what was done
 

@@ -21,7 +21,7 @@ use Rattle.client_machine.specs.declared.saves.Stage.{Stage}
 use Rattle.client_callbacks.specs.Answers.{Replies}
 use Rattle.client_callbacks.specs.Doing.{heard_in, heard_of}
 use Rattle.client_callbacks.specs.Received.{received_of}
-use Rattle.client_callbacks.specs.Script.{Entry, Hears, Says, AsksSave, AsksReasons, TellsCancelled, Notes, Run, Step, acted, again_line, answer_line, answer_messages, answer_of, arrived, completed, fatal_class, frame_at, frame_taken, frames_taken, joined_moved, opening_at, opening_moved, opening_took, owed_messages, reply, save_line, speaking_took, stage_again, turn, unless_fatal}
+use Rattle.client_callbacks.specs.Script.{Entry, Says, Run, Step, acted, again_line, answer_line, answer_messages, answer_of, arrived, completed, fatal_class, frame_at, frame_taken, frames_taken, joined_moved, opening_at, opening_moved, opening_took, owed_messages, reply, speaking_took, stage_again, turn, unless_fatal}
 use Rattle.client_callbacks.specs.declared.messages.Message.{Message}
 use Rattle.client_callbacks.specs.declared.messages.Message.TheVariants.{Xsmp}
 use Rattle.client_callbacks.specs.declared.received.Received.{Received}

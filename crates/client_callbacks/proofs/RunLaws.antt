@@ -314,6 +314,7 @@ module _ {S D C : Type 0} (answers : S → SaveAsk → SaveAnswer → S → Type
 
   -- what one receive brings
   turn_by : (old middle : Outside) (new : Desk S D C) (lines : List (List ℕ)) (callbacks : Callbacks S D C) (run : Run) (bytes : List ℕ) (replies : List Replies) (after : Standing) (result : Result Talk Failure) → is_over run.talk.place ≡ false → middle.told ≡ adds old.told (Heard (received bytes) ∷ []) → NotFallen old.faults middle.faults → CarriesOut answers gives hears (desk middle lines callbacks) new (turn run bytes replies).line (failure_in result) → IfOk result (λ talk. IsRun (turn run bytes replies).next after talk) → TurnIn (desk old lines callbacks) new run after result
+  unfolding does_as does_more
   turn_by old middle new lines callbacks run bytes replies after result going told counts carries next =
       let came : Came = record { bytes = bytes; replies = replies } in
       let t : Turn = turn run bytes replies in
@@ -410,6 +411,7 @@ module _ {S D C : Type 0} (answers : S → SaveAsk → SaveAnswer → S → Type
 
   -- the client is at its end
   pub joins_ended : (old now later : Desk S D C) (cookie : Cookie) (previous : List ℕ) (saves heard turns : ℕ) (splitter after : Standing) (talk last : Talk) (ending : Ending) (answer : Result ClientEnd JoinFault) → heard < turns → (under : Under old now cookie previous saves heard splitter talk) → TurnIn now later (run_after (start cookie previous saves) under.cames) after (Ok last) → last.place ≡ Over ending → answer ≡ answer_of ending → Joins answers gives hears cookie previous saves turns old later answer
+  unfolding turned does_as does_more
   joins_ended old now later cookie previous saves heard turns splitter after talk last ending answer few under takes over is_answer =
       let cames : List Came = under.cames ++ takes.cames in
       let stands : (run_after (start cookie previous saves) cames).talk.place ≡ Over ending = ap (λ (run : Run). run.talk.place) (run_append (start cookie previous saves) under.cames takes.cames) ∙ (ap (λ (t : Talk). t.place) (sym takes.next.talks) ∙ over) in
@@ -417,6 +419,7 @@ module _ {S D C : Type 0} (answers : S → SaveAsk → SaveAnswer → S → Type
       rw is_answer (joins_by old later cookie previous saves turns cames None (answer_of ending) (sym (whole ending)) does (heard_more (script cookie previous saves under.cames) takes.does.done under.cames takes.cames under.bytes takes.heard) (ended_so ending (run_after (start cookie previous saves) cames).talk.place (length cames) turns does.left stands) (omega (arith, length-append under.cames takes.cames, under.many, takes.one refl, few)))
 
   pub joins_failed : (old now later : Desk S D C) (cookie : Cookie) (previous : List ℕ) (saves heard turns : ℕ) (splitter after : Standing) (talk : Talk) (failure : Failure) (answer : Result ClientEnd JoinFault) → heard < turns → (under : Under old now cookie previous saves heard splitter talk) → TurnIn now later (run_after (start cookie previous saves) under.cames) after (Err failure) → answer ≡ Err (fault_of failure) → Joins answers gives hears cookie previous saves turns old later answer
+  unfolding turned does_as does_more
   joins_failed old now later cookie previous saves heard turns splitter after talk failure answer few under takes is_fault =
       let cames : List Came = under.cames ++ takes.cames in
       let does : Does answers gives hears old later (script cookie previous saves cames) (Some failure) = turned old now later cookie previous saves under.cames takes.cames (Some failure) under.does takes.does in

@@ -1,22 +1,20 @@
 -- A call against which nothing stands comes to its client's end.
-use Rattle.std.proofs.Common.{◌≡◌, ◌≢◌, ◌⊎◌, inl, inr, ℕ, ◌<◌, ◌≤◌, arith, Bool, false, List, [], ◌∷◌, ◌++◌, length, map, Option, None, Some, Result, Ok, Err, refl, sym, ◌∙◌, ap, subst, append-nil, append_assoc}
+use Rattle.std.proofs.Common.{◌≡◌, ◌⊎◌, inl, inr, ℕ, arith, false, List, [], ◌∷◌, ◌++◌, length, map, Option, None, Some, Result, Ok, Err, refl, sym, ◌∙◌, ap, subst, append-nil}
 use Rattle.std.specs.Prelude.{IsOk}
 use Rattle.std.proofs.lemmas.Grind.{flat_map-append}
 use Rattle.sm_world.specs.Effects.{event_of, heard}
-use Rattle.sm_world.specs.Outside.{Outside, Rose}
+use Rattle.sm_world.specs.Outside.{Outside}
 use Rattle.sm_world.specs.declared.effects.Effect.{Effect}
 use Rattle.sm_world.specs.declared.effects.Effect.TheVariants.{Printed}
 use Rattle.sm_world.specs.declared.events.Event.{Event}
 use Rattle.sm_world.specs.declared.failures.Failure.{Failure}
 use Rattle.sm_world.specs.declared.failures.Failure.TheVariants.{Failed, NoMemory as DeviceMemory}
-use Rattle.sm_world.specs.declared.failures.Faults.{Faults}
-use Rattle.ice_cookie.specs.Meaning.{IsShort, Spells}
 use Rattle.ice_cookie.specs.declared.authority.AuthorityEntry.{AuthorityEntry}
 use Rattle.ice_cookie.specs.declared.cookies.Cookie.{Cookie}
 use Rattle.ice_cookie.proofs.AuthorityLaws.{stands_for_one}
 use Rattle.client_callbacks.specs.Doing.{Follows, IsCaused, bytes_in, effects_in, heard_in, lines_in}
-use Rattle.client_callbacks.specs.Running.{IsAnswer, Joins, answer_of as client_answer, failure_of}
-use Rattle.client_callbacks.specs.Script.{Came, Entry, Hears, Says, AsksSave, AsksReasons, TellsCancelled, Notes, is_over, run_after, script, start}
+use Rattle.client_callbacks.specs.Running.{IsAnswer, answer_of as client_answer, failure_of}
+use Rattle.client_callbacks.specs.Script.{Entry, Hears, Says, AsksSave, AsksReasons, TellsCancelled, Notes, run_after, script, start}
 use Rattle.client_callbacks.specs.declared.ends.ClientEnd.{ClientEnd}
 use Rattle.client_callbacks.specs.declared.ends.ClientEnd.TheVariants.{Died, Closed, StreamEnded as HasEnded}
 use Rattle.client_callbacks.specs.declared.ends.Ending.{Ending as ClientEnding}
@@ -29,12 +27,12 @@ use Rattle.client_words.specs.Reading.{AreBad, AreChosen}
 use Rattle.client_words.specs.declared.choices.Choices.{Choices}
 use Rattle.program_frame.specs.Printing.{Tries, line}
 use Rattle.program_frame.specs.Programs.{line_by, status_by}
-use Rattle.smclient_app.specs.Completeness.{CallsComplete, ComesToItsEnd, IsEndStatus, LetsIn, NoneRose, end_status}
+use Rattle.smclient_app.specs.Completeness.{CallsComplete, ComesToItsEnd, IsEndStatus, LetsIn, NoneRose}
 use Rattle.smclient_app.specs.Entries.{HasCookie, HasNone, first_entry}
-use Rattle.smclient_app.specs.Faults.{Ending, after_printing, end_of, fault_line, fault_status, unprinted_end}
+use Rattle.smclient_app.specs.Faults.{Ending, after_printing, end_of, fault_line, fault_status}
 use Rattle.smclient_app.specs.Joining.{AnswersIn, Listens, NoReasons, remembers}
 use Rattle.smclient_app.specs.Rules.{Answers as AnswersBy}
-use Rattle.smclient_app.specs.Statuses.{Answers, FileIs, IsEarly, Joined, Runs, RunsBy}
+use Rattle.smclient_app.specs.Statuses.{FileIs, IsEarly, Joined, Runs, RunsBy}
 use Rattle.smclient_app.specs.declared.fault.Fault.{Fault}
 use Rattle.smclient_app.specs.declared.fault.Fault.TheVariants.{BadWords, Refused, StreamEnded, NoEntry, Link, Console, Spent, NoMemory, Malformed}
 
