@@ -4,7 +4,7 @@ use Rattle.std.specs.Prelude.{reverse}
 use Rattle.std.specs.List.{AllByRecursion}
 use Rattle.std.proofs.lemmas.List.{append_assoc, reverse-append}
 use Rattle.sm_world.specs.declared.events.Event.{Event}
-use Rattle.sm_world.specs.declared.events.Event.TheVariants.{Gone as HasGone}
+use Rattle.sm_world.specs.declared.events.Event.TheVariants.{Gone as HasGone, Operator}
 use Rattle.ice_values.specs.declared.refusals.DecodeRefusal.{DecodeRefusal}
 use Rattle.checkpoint_records.specs.declared.records.Book.{Book}
 use Rattle.xsmp_messages.specs.Reading.{decode_at}
@@ -111,6 +111,7 @@ alike-line book d (Does act ∷ xs) event seen q = alike-line book d xs event se
 
 alike-comes : (book : Book) (d : ℕ) (event : Event) (seen : List Seen) → ((c : ℕ) → conn_of event ≡ Some c → c ≡ d → ⊥) → Alike book d (noted (Comes event ∷ seen)) (noted seen)
 alike-comes book d (HasGone c) seen a = alike-cond book d (is_open c seen) (Gone c ∷ noted seen) (noted seen) (noted seen) (alike-gone book d c (noted seen) (a c refl)) (alike-same book d (noted seen))
+alike-comes book d (Operator order) seen a = record { id = refl; table = refl }
 alike-comes book d event seen a = alike-same book d (noted seen)
 
 quiet-line : (d : ℕ) (m n : Machine) (line : List Entry) → AllByRecursion (Spares d m n) line → is_shut d line ≡ false → AllByRecursion (IsQuiet d) (map seen_of line)
