@@ -53,9 +53,9 @@ opened_table (Some entry) = lasting (entry.table ∷ [])
 
 -- The tables of which one stands under this ID; where there are none nothing is said. It is the table of the last save that was
 -- completed: its client was told SaveComplete, or to die in a shutdown. From each later save that the client has told with success,
--- its table may stand too, until that save is complete. What is kept so ends as somebody has it forgotten while nobody is registered
--- under the ID, or as the client is gone, unless the hint of each table lets it stay without its client. A save that fails ends
--- nothing.
+-- its table may stand too, until the next save is complete, also where that save was cancelled. What is kept so ends as the client has
+-- told a success with a table that the rules let into no book, as somebody orders to forget the ID while nobody is registered under it,
+-- and as the client is gone, unless the hint of each table lets it stay without its client. A save that fails ends nothing.
 abbrev pub kept_in : Book → List ℕ → List Note → List (List Property)
 kept_in opened id [] = opened_table (entry_of id opened)
 kept_in opened id (Heard c (SaveYourselfDone true) ∷ notes) =
