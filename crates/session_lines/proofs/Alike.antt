@@ -1,11 +1,10 @@
 -- What is noted of a connection stays, whatever is done to others.
-use Rattle.std.proofs.Common.{◌≡◌, refl, sym, ap, subst, ◌∙◌, ℕ, eqb, Bool, true, false, cond, ◌&&◌, ◌||◌, ◌==◌, List, [], ◌∷◌, ◌++◌, map, Option, Some, None, Result, Ok, Err, slice_index, arith}
+use Rattle.std.proofs.Common.{◌≡◌, refl, sym, ap, subst, ◌∙◌, ℕ, eqb, Bool, true, false, cond, ◌&&◌, ◌||◌, ◌==◌, List, [], ◌∷◌, ◌++◌, map, Some, None, Result, Ok, Err, slice_index, arith}
 use Rattle.std.specs.Prelude.{reverse}
 use Rattle.std.specs.List.{AllByRecursion}
 use Rattle.std.proofs.lemmas.List.{append_assoc, reverse-append}
 use Rattle.sm_world.specs.declared.events.Event.{Event}
-use Rattle.sm_world.specs.declared.events.Event.TheVariants.{Gone as HasGone}
-use Rattle.ice_values.specs.declared.property.Property.{Property}
+use Rattle.sm_world.specs.declared.events.Event.TheVariants.{Gone as HasGone, Operator}
 use Rattle.ice_values.specs.declared.refusals.DecodeRefusal.{DecodeRefusal}
 use Rattle.checkpoint_records.specs.declared.records.Book.{Book}
 use Rattle.xsmp_messages.specs.Reading.{decode_at}
@@ -15,13 +14,13 @@ use Rattle.xsmp_properties.specs.Tables.{set_all, without_names}
 use Rattle.session_model.proofs.Pending.{all-append}
 use Rattle.session_model.proofs.Ruled.{differ}
 use Rattle.session_model.specs.Tables.{first_table}
-use Rattle.session_engine.specs.Machine.{Does as DoesAct, Entry, Machine, Step, Took as TookPart, step}
+use Rattle.session_engine.specs.Machine.{Does as DoesAct, Entry, Machine, Took as TookPart, step}
 use Rattle.session_engine.specs.Streams.{Part, TooMuch, Whole}
 use Rattle.session_engine.specs.declared.acts.Act.TheVariants.{Commit, Say, Shut, Start}
 use Rattle.session_engine.specs.declared.messages.Message.{Message}
 use Rattle.session_engine.specs.declared.messages.Message.TheVariants.{Ice, Xsmp}
 use Rattle.session_engine.proofs.Connections.{other, same}
-use Rattle.session_notes.specs.Notes.{Given, Gone, Heard, Note}
+use Rattle.session_notes.specs.Notes.{Gone, Heard, Note}
 use Rattle.session_notes.specs.Keeping.{book_in, id_in, table_in}
 use Rattle.session_notes.proofs.Tests.{or-none}
 use Rattle.session_lines.specs.Lines.{Comes, Does, Seen, Took, given_in, heard_as, heard_in, is_error, is_open, noted, notes, seen_of}
@@ -112,6 +111,7 @@ alike-line book d (Does act ∷ xs) event seen q = alike-line book d xs event se
 
 alike-comes : (book : Book) (d : ℕ) (event : Event) (seen : List Seen) → ((c : ℕ) → conn_of event ≡ Some c → c ≡ d → ⊥) → Alike book d (noted (Comes event ∷ seen)) (noted seen)
 alike-comes book d (HasGone c) seen a = alike-cond book d (is_open c seen) (Gone c ∷ noted seen) (noted seen) (noted seen) (alike-gone book d c (noted seen) (a c refl)) (alike-same book d (noted seen))
+alike-comes book d (Operator order) seen a = record { id = refl; table = refl }
 alike-comes book d event seen a = alike-same book d (noted seen)
 
 quiet-line : (d : ℕ) (m n : Machine) (line : List Entry) → AllByRecursion (Spares d m n) line → is_shut d line ≡ false → AllByRecursion (IsQuiet d) (map seen_of line)

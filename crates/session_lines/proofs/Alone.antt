@@ -1,5 +1,5 @@
 -- What happens on one connection leaves every other alone.
-use Rattle.std.proofs.Common.{◌≡◌, refl, sym, ap, subst, ◌∙◌, ℕ, nat_eq, eqb, Bool, true, false, cond, not, ◌&&◌, ◌||◌, List, [], ◌∷◌, ◌++◌, map, Option, Some, None, if◌then◌else◌, inl, inr, arith}
+use Rattle.std.proofs.Common.{◌≡◌, refl, sym, ap, subst, ◌∙◌, ℕ, eqb, Bool, true, false, cond, not, ◌&&◌, ◌||◌, List, [], ◌∷◌, ◌++◌, map, Option, Some, None, if◌then◌else◌, inl, inr, arith}
 use Rattle.std.specs.Option.{option_map}
 use Rattle.std.specs.List.{AllByRecursion, flat_map}
 use Rattle.std.proofs.lemmas.Bool.{cases_eq}
@@ -12,7 +12,7 @@ use Rattle.xsmp_messages.specs.declared.message.XsmpMessage.{XsmpMessage}
 use Rattle.xsmp_messages.specs.declared.message.XsmpMessage.TheVariants.{RegisterClientReply}
 use Rattle.session_model.specs.declared.events.Act.{Act as SessionAct}
 use Rattle.session_model.specs.declared.events.SessionEvent.{SessionEvent}
-use Rattle.session_model.specs.declared.events.SessionEvent.TheVariants.{Joined as HasJoined, Left, Operator as Ordered, Ready, Said}
+use Rattle.session_model.specs.declared.events.SessionEvent.TheVariants.{Joined as HasJoined, Left, Ready, Said}
 use Rattle.session_model.specs.Moves.{Agreed, Began, Blamed, Cancelled, Closed, Committed, Finished, Gave, History, Move, Outside, Over, Printed, Tried, Unset, acts_of as acts_by_one, all_acts, onto, ◌▷◌}
 use Rattle.session_model.specs.Phases.{is_bound, is_shutdown}
 use Rattle.session_model.specs.Readings as of
@@ -22,18 +22,17 @@ use Rattle.session_model.proofs.Pending.{all-append, all-more}
 use Rattle.session_model.proofs.Ruled.{differ}
 use Rattle.session_engine.specs.Acts.{acts_for_all, says}
 use Rattle.session_engine.specs.Answers.{outcome, sequence_after}
-use Rattle.session_engine.specs.Machine.{Connection, Does as DoesAct, Entry, Machine, Step, Took as TookPart, acts_since, answered, asked, behind, changed, connection_of, connections_through, counted, departs, does, fed_on, fed_with, followed, gone_for, greeted, greeting, join_for, joined, joining, noted as with_setup, part_for, part_taken, parted, parts_taken, piece_for, step, told, unset_on, without}
+use Rattle.session_engine.specs.Machine.{Connection, Does as DoesAct, Entry, Machine, Step, Took as TookPart, acts_since, answered, asked, behind, changed, connection_of, connections_through, counted, departs, does, fed_on, fed_with, followed, gone_for, greeting, join_for, joined, joining, noted as with_setup, part_for, part_taken, parted, parts_taken, piece_for, step, told, unset_on, without}
 use Rattle.session_engine.specs.Streams.{Part, new_parts}
-use Rattle.session_engine.specs.declared.acts.Act.{Act}
 use Rattle.session_engine.specs.declared.acts.Act.TheVariants.{Say, Shut}
 use Rattle.session_engine.specs.declared.answers.Answer.{Answer}
 use Rattle.session_engine.specs.declared.answers.Answer.TheVariants.{Stays, Begins, Closes, Speaks, Asks}
 use Rattle.session_engine.specs.declared.answers.Outcome.{Outcome}
 use Rattle.session_engine.specs.declared.messages.Message.{Message}
-use Rattle.session_engine.specs.declared.messages.Message.TheVariants.{Ice, Xsmp}
-use Rattle.session_engine.proofs.Connections.{other, same, connection_of-append, connection_of-changed, connection_of-without}
+use Rattle.session_engine.specs.declared.messages.Message.TheVariants.{Ice}
+use Rattle.session_engine.proofs.Connections.{other, connection_of-append, connection_of-changed, connection_of-without}
 use Rattle.session_engine.proofs.Following.{since-is}
-use Rattle.session_lines.specs.Others.{LeavesAlone, Spares, conn_of, is_of_round, is_shut}
+use Rattle.session_lines.specs.Others.{LeavesAlone, Spares, conn_of, is_shut}
 use Rattle.session_lines.proofs.Spared.{AllSparing, IsApart, Spared, Sparing, all-spared}
 use Rattle.session_lines.proofs.Told.{acts-onto, turned-eq}
 

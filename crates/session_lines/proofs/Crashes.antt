@@ -5,7 +5,7 @@ use Rattle.std.specs.List.{AllByRecursion}
 use Rattle.sm_world.specs.Effects.{Deed, deeds, heard}
 use Rattle.sm_world.specs.declared.commands.Command.{Command}
 use Rattle.sm_world.specs.declared.events.Event.{Event}
-use Rattle.sm_world.specs.declared.events.Event.TheVariants.{Gone as HasGone}
+use Rattle.sm_world.specs.declared.events.Event.TheVariants.{Gone as HasGone, Operator}
 use Rattle.ice_values.specs.declared.refusals.DecodeRefusal.{DecodeRefusal}
 use Rattle.checkpoint_records.specs.declared.records.Book.{Book}
 use Rattle.checkpoint_records.specs.Books.{names}
@@ -24,8 +24,10 @@ use Rattle.session_engine.specs.declared.acts.Act.TheVariants.{Commit, Finish, P
 use Rattle.session_engine.specs.declared.messages.Message.{Message}
 use Rattle.session_engine.specs.declared.messages.Message.TheVariants.{Ice, Xsmp}
 use Rattle.session_notes.specs.Keeping.{IsOfRun, book_in, is_discarded, new_ids}
+use Rattle.session_notes.specs.Kept.{kept_in}
 use Rattle.session_notes.specs.Notes.{Gone, Note}
-use Rattle.session_lines.specs.Files.{EveryFileIsSafe, FilesForgetDiscards, FilesKeepUp}
+use Rattle.session_notes.proofs.Standing.{Holding, holds-gone, holds-heard, holds-ordered}
+use Rattle.session_lines.specs.Files.{EveryFileIsSafe, FilesForgetDiscards, FilesKeepUp, FilesKeepWhatWasSaved}
 use Rattle.session_lines.specs.Lines.{Comes, Does, Seen, Took, act_of, acts_in, given_in, heard_as, heard_in, is_error, is_open, line, noted, notes}
 use Rattle.session_lines.proofs.Fronts.{laws-hold, turned-is}
 use Rattle.session_lines.specs.Runs.{IsDone, IsNextDeed}
@@ -179,6 +181,57 @@ discarded-back command (x ∷ xs) (y ∷ ys) vs ws seen e d next is =
     let t : deeds_seen xs ≡ deeds_seen ys = left-same (deeds_in (act_of x)) (deeds_seen xs) (deeds_seen ys) (sym (seen-more x xs) ∙ d ∙ seen-more y ys ∙ ap (λ (z : Seen). deeds_in (act_of z) ++ deeds_seen ys) (sym s)) in
     discarded-back command xs ys vs ws (x ∷ seen) (ap (λ (zs : List Seen). drop 1 zs) e) t next (subst (λ (z : Seen). is_discarded command (noted (along (z ∷ seen) ys)) ≡ true) (sym s) is)
 
+-- Without a deed nothing more is kept than stands
+
+kept-cond : (book at : Book) (id : List ℕ) (b : Bool) (n o : List Note) → Holding at id (kept_in book id n) → Holding at id (kept_in book id o) → Holding at id (kept_in book id (cond b n o))
+kept-cond book at id true n o h k = h
+kept-cond book at id false n o h k = k
+
+kept-read : (book at : Book) (id : List ℕ) (c : ℕ) (read : Result XsmpMessage DecodeRefusal) (n : List Note) → Holding at id (kept_in book id n) → Holding at id (kept_in book id (heard_as c read ++ n))
+kept-read book at id c (Ok m) n h = holds-heard book at c m n id h
+kept-read book at id c (Err refusal) n h = h
+
+kept-either : (book at : Book) (id : List ℕ) (b : Bool) (c : ℕ) (read : Result XsmpMessage DecodeRefusal) (n : List Note) → Holding at id (kept_in book id n) → Holding at id (kept_in book id (cond b [] (heard_as c read) ++ n))
+kept-either book at id true c read n h = h
+kept-either book at id false c read n h = kept-read book at id c read n h
+
+kept-heard : (book at : Book) (id : List ℕ) (c : ℕ) (part : Part) (n : List Note) → Holding at id (kept_in book id n) → Holding at id (kept_in book id (heard_in c part ++ n))
+kept-heard book at id c (Whole frame) n h = kept-either book at id (slice_index frame.bytes 0 == 0 || slice_index frame.bytes 1 == 0) c (decode_at frame.endian frame.bytes) n h
+kept-heard book at id c (TooMuch header) n h = h
+
+kept-one : (book at : Book) (id : List ℕ) (entry : Seen) (seen : List Seen) → deeds_in (act_of entry) ≡ [] → Holding at id (kept_in book id (noted seen)) → Holding at id (kept_in book id (noted (entry ∷ seen)))
+kept-one book at id (Comes (HasGone c)) seen d h = kept-cond book at id (is_open c seen) (Gone c ∷ noted seen) (noted seen) (holds-gone book at c (noted seen) id h) h
+kept-one book at id (Comes (Operator order)) seen d h = holds-ordered book at order (noted seen) id h
+kept-one book at id (Comes event) seen d h = h
+kept-one book at id (Took c part) seen d h = kept-heard book at id c part (noted seen) h
+kept-one book at id (Does (Say c message)) seen d h = absurd (no-deed _ _ d)
+kept-one book at id (Does (Shut c)) seen d h = absurd (no-deed _ _ d)
+kept-one book at id (Does act) seen d h = h
+
+kept-along : (book at : Book) (id : List ℕ) (more seen : List Seen) → deeds_seen more ≡ [] → Holding at id (kept_in book id (noted seen)) → Holding at id (kept_in book id (noted (along seen more)))
+kept-along book at id [] seen d h = h
+kept-along book at id (entry ∷ more) seen d h =
+    let k : deeds_in (act_of entry) ++ deeds_seen more ≡ [] = sym (seen-more entry more) ∙ d in
+    kept-along book at id more (entry ∷ seen) (none-later (deeds_in (act_of entry)) (deeds_seen more) k) (kept-one book at id entry seen (sym (none-done (deeds_in (act_of entry)) (deeds_seen more) k)) h)
+
+-- Of two fronts of a line with the same deeds the one that goes up to the next deed is the longer one: what is kept there stands where
+-- what is kept in the other does.
+kept-on : (book at : Book) (id : List ℕ) (xs ys vs ws seen : List Seen) → xs ++ vs ≡ ys ++ ws → deeds_seen xs ≡ deeds_seen ys → IsNextDeed ws
+    → Holding at id (kept_in book id (noted (along seen xs))) → Holding at id (kept_in book id (noted (along seen ys)))
+kept-on book at id [] ys vs ws seen e d next h = kept-along book at id ys seen (sym d) h
+kept-on book at id (x ∷ xs) [] vs ws seen e d next h =
+    let first : (deed : Deed) × (deeds_in (act_of x) ≡ deed ∷ []) = next-deed x (xs ++ vs) ws (sym e) next in
+    absurd (no-deed first.0 (deeds_seen xs) (ap (λ (ds : List Deed). ds ++ deeds_seen xs) (sym first.1) ∙ sym (seen-more x xs) ∙ d))
+kept-on book at id (x ∷ xs) (y ∷ ys) vs ws seen e d next h =
+    let s : x ≡ y = first-seen x y (xs ++ vs) (ys ++ ws) e in
+    let t : deeds_seen xs ≡ deeds_seen ys = left-same (deeds_in (act_of x)) (deeds_seen xs) (deeds_seen ys) (sym (seen-more x xs) ∙ d ∙ seen-more y ys ∙ ap (λ (z : Seen). deeds_in (act_of z) ++ deeds_seen ys) (sym s)) in
+    subst (λ (z : Seen). Holding at id (kept_in book id (noted (along (z ∷ seen) ys)))) s (kept-on book at id xs ys vs ws (x ∷ seen) (ap (λ (zs : List Seen). drop 1 zs) e) t next h)
+
+kept-turned : (book at : Book) (id : List ℕ) (xs ys vs ws : List Seen) → xs ++ vs ≡ ys ++ ws → deeds_seen xs ≡ deeds_seen ys → IsNextDeed ws → Holding at id (kept_in book id (notes xs)) → Holding at id (kept_in book id (notes ys))
+kept-turned book at id xs ys vs ws e d next h =
+    subst (λ (zs : List Seen). Holding at id (kept_in book id (noted zs))) (turned-is ys)
+    (kept-on book at id xs ys vs ws [] e d next (subst (λ (zs : List Seen). Holding at id (kept_in book id (noted zs))) (sym (turned-is xs)) h))
+
 -- The front that was saved
 
 -- a front of what is seen has exactly these acts
@@ -265,6 +318,13 @@ files-forget cookie book saved events done file rules s recovered seen later par
     let there : is_discarded command (notes at.front) ≡ true = discarded-turned command at.front seen at.later later (at.parts ∙ sym parts) (at.same ∙ sym same) next is in
     ap (λ (b : Book). names b command) at.is ∙ (laws-hold cookie book at.front (record { events = events; later = at.later; parts = at.parts })).discarded_states_are_not_named rules command there
 
+pub files-keep : FilesKeepWhatWasSaved
+files-keep cookie book saved events done file o s recovered seen later parts same next id some =
+    let at : SavedAt cookie book saved events done = saved-at cookie book saved events done file s recovered in
+    let there : Holding saved id (kept_in book id (notes at.front)) =
+    subst (λ (b : Book). Holding b id (kept_in book id (notes at.front))) (sym at.is) (λ k. (laws-hold cookie book at.front (record { events = events; later = at.later; parts = at.parts })).saves_are_kept o id k) in
+    kept-turned book saved id at.front seen at.later later (at.parts ∙ sym parts) (at.same ∙ sym same) next there some
+
 pub every-file : EveryFileIsSafe
 every-file cookie book saved first left answer effects word n image recovered =
     let done : IsDone cookie book (heard (take n effects)) (deeds (take n effects)) = done-is cookie book effects word.carries.on_script n in
@@ -273,4 +333,5 @@ every-file cookie book saved first left answer effects word n image recovered =
       done = done;
       ids = λ some. files-keep-up cookie book saved (heard (take n effects)) (deeds (take n effects)) left s recovered done.front done.later done.parts done.same some;
       discards = λ rules command is. files-forget cookie book saved (heard (take n effects)) (deeds (take n effects)) left rules s recovered done.front done.later done.parts done.same done.next command is;
+      saves = λ o id some. files-keep cookie book saved (heard (take n effects)) (deeds (take n effects)) left o s recovered done.front done.later done.parts done.same done.next id some;
     }

@@ -1,21 +1,30 @@
 -- The laws hold of each front of every line.
-use Rattle.std.proofs.Common.{◌≡◌, Bool, true, false, List, [], ◌∷◌, ◌++◌, map, sym, ap, subst, ◌∙◌, if◌then◌else◌}
+use Rattle.std.proofs.Common.{◌≡◌, refl, ℕ, Some, Bool, true, false, List, [], ◌∷◌, ◌++◌, map, sym, ap, subst, ◌∙◌, if◌then◌else◌}
 use Rattle.std.specs.Prelude.{reverse}
-use Rattle.std.proofs.lemmas.List.{append-nil}
+use Rattle.std.specs.List.{Contains}
+use Rattle.std.proofs.lemmas.List.{append-nil, append_assoc, reverse-append}
 use Rattle.sm_world.specs.declared.events.Event.{Event}
 use Rattle.ice_cookie.specs.declared.cookies.Cookie.{Cookie}
 use Rattle.checkpoint_records.specs.declared.records.Book.{Book}
-use Rattle.xsmp_messages.specs.declared.message.XsmpMessage.TheVariants.{Interact, RegisterClientReply, SaveYourselfPhase2}
+use Rattle.xsmp_messages.specs.declared.message.XsmpMessage.TheVariants.{Interact, RegisterClientReply, SaveComplete, SaveYourselfPhase2}
 use Rattle.session_engine.specs.Acts.{has_finish}
 use Rattle.session_engine.specs.Machine.{Machine, acts_of, opening_acts, start, step}
 use Rattle.session_engine.specs.declared.acts.Act.TheVariants.{Commit, Say}
 use Rattle.session_engine.specs.declared.messages.Message.TheVariants.{Xsmp}
-use Rattle.session_notes.proofs.Settled.{none-named-by_rules}
+use Rattle.ice_values.specs.declared.property.Property.{Property}
+use Rattle.session_model.specs.Books.{is_eligible}
+use Rattle.session_notes.specs.Keeping.{book_in, id_in, snapshot_in}
+use Rattle.session_notes.specs.Kept.{kept_in}
+use Rattle.session_notes.specs.Laws.{IsOpenable}
+use Rattle.session_notes.specs.Notes.{Given, Note}
+use Rattle.session_notes.proofs.Fine.{KeptHolds}
+use Rattle.session_notes.proofs.Settled.{complete-stands, none-named-by_rules}
+use Rattle.session_notes.proofs.Standing.{Holding}
 use Rattle.session_lines.specs.Laws.{IsSeen, KeepsLaws}
 use Rattle.session_lines.specs.Lines.{Comes, Does, Seen, line, line_from, noted, notes, seen_of}
 use Rattle.session_lines.proofs.Points.{Due, Holds, along, along-append, along-is, holds-front, kept-top}
 use Rattle.session_lines.proofs.Steps.{AtMachine, step-at}
-use Rattle.session_lines.proofs.Told.{opened-at}
+use Rattle.session_lines.proofs.Told.{noted-given, opened-at}
 
 -- what follows a step, if the run goes on
 rest-holds : (book : Book) (b : Bool) (m : Machine) (rest seen : List Seen) → AtMachine book m seen → Holds book (along seen rest) → Holds book (along seen (if◌then◌else◌ {A = List Seen} b [] rest))
@@ -52,6 +61,22 @@ due-at book seen before after entry e h =
     (holds-front book (reverse after) (entry ∷ along [] before)
     (subst (λ (xs : List Seen). Holds book xs) (sym (ap (λ (xs : List Seen). along [] xs) e) ∙ along-append before (entry ∷ after) [] ∙ along-is after (entry ∷ along [] before)) h)).1.0
 
+-- what is kept stands behind each front
+kept-there : (cookie : Cookie) (book : Book) (seen : List Seen) → IsSeen cookie book seen → KeptHolds book (notes seen)
+kept-there cookie book seen s = (kept-top book (reverse seen) (subst (λ (xs : List Seen). Holds book xs) (turned-is seen) (front-holds cookie book seen s))).1.1.1
+
+complete-there : (cookie : Cookie) (book : Book) (seen before after : List Seen) (c : ℕ) (id : List ℕ) (table : List Property) → IsSeen cookie book seen → before ++ Does (Say c (Xsmp SaveComplete)) ∷ after ≡ seen → IsOpenable book
+    → id_in c (notes before) ≡ Some id → snapshot_in book c (notes before) ≡ Some table → is_eligible table ≡ true → Contains (book_in book (notes before)).entries (record { id = id; table = table })
+complete-there cookie book seen before after c id table s e o i k l =
+    let told : List Seen = before ++ Does (Say c (Xsmp SaveComplete)) ∷ [] in
+    let there : IsSeen cookie book told = record {
+      events = s.events;
+      later = after ++ s.later;
+      parts = sym (append_assoc told after s.later) ∙ ap (λ (xs : List Seen). xs ++ s.later) (append_assoc before (Does (Say c (Xsmp SaveComplete)) ∷ []) after ∙ e) ∙ s.parts;
+    } in
+    let is : notes told ≡ Given c SaveComplete ∷ notes before = ap (λ (xs : List Seen). noted xs) (reverse-append before (Does (Say c (Xsmp SaveComplete)) ∷ [])) ∙ noted-given c SaveComplete (reverse before) refl in
+    complete-stands book (notes before) c id table (subst (λ (x : List Note). Holding (book_in book x) id (kept_in book id x)) is (kept-there cookie book told there o id)) i k l
+
 pub laws-hold : (cookie : Cookie) (book : Book) (seen : List Seen) → IsSeen cookie book seen → KeepsLaws book seen
 laws-hold cookie book seen s =
     let h : Holds book (along [] seen) = front-holds cookie book seen s in
@@ -65,6 +90,8 @@ laws-hold cookie book seen s =
       new_ids_are_fresh = λ o c id before after e w. (due-at book seen before after (Does (Say c (Xsmp (RegisterClientReply id)))) e h).1.1 o w;
       old_ids_are_recorded = λ c id before after e. (due-at book seen before after (Does (Say c (Xsmp (RegisterClientReply id)))) e h).1.0;
       entries_were_saved = λ written before after e. (due-at book seen before after (Does (Commit written)) e h).0;
-      discarded_states_are_not_named = λ rules command e. k.1.1 (none-named-by_rules book rules) command e;
+      discarded_states_are_not_named = λ rules command e. k.1.1.0 (none-named-by_rules book rules) command e;
+      saves_are_kept = λ o id some. k.1.1.1 o id some;
+      completed_saves_stand = λ o c id table before after e i w l. complete-there cookie book seen before after c id table s e o i w l;
       pending_is_not_lost = λ written command before after e p. (due-at book seen before after (Does (Commit written)) e h).1 command p;
     }

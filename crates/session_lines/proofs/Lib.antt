@@ -5,6 +5,7 @@ pub mod Told
 pub mod Steps
 pub mod Fronts
 pub mod Script
+pub mod Begun
 pub mod Passing
 pub mod Crashes
 pub mod Spared

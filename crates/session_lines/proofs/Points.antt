@@ -4,7 +4,8 @@ use Rattle.std.specs.Prelude.{reverse}
 use Rattle.std.proofs.lemmas.List.{append_assoc, reverse-append}
 use Rattle.sm_world.specs.declared.commands.Command.{Command}
 use Rattle.sm_world.specs.declared.events.Event.{Event}
-use Rattle.sm_world.specs.declared.events.Event.TheVariants.{Gone as HasGone}
+use Rattle.sm_world.specs.declared.events.Event.TheVariants.{Gone as HasGone, Operator}
+use Rattle.sm_world.specs.declared.events.Order.{Order}
 use Rattle.ice_values.specs.Fields.{ErrorFields}
 use Rattle.ice_values.specs.declared.refusals.DecodeRefusal.{DecodeRefusal}
 use Rattle.ice_messages.specs.declared.message.IceMessage.{IceMessage}
@@ -17,16 +18,17 @@ use Rattle.session_engine.specs.declared.acts.Act.TheVariants.{Commit, Finish, P
 use Rattle.session_engine.specs.declared.messages.Message.{Message}
 use Rattle.session_engine.specs.declared.messages.Message.TheVariants.{Ice, Xsmp}
 use Rattle.session_model.specs.declared.events.Act.TheVariants.{Commit as Commits, Say as SaysXsmp}
-use Rattle.session_notes.specs.Notes.{Did, Gone, Heard, Note}
-use Rattle.session_notes.specs.Keeping.{is_discarded, sets_discard}
+use Rattle.session_notes.specs.Notes.{Did, Gone, Heard, Note, Ordered}
+use Rattle.session_notes.specs.Keeping.{book_in, is_discarded, sets_discard}
 use Rattle.session_notes.specs.Watching.{has_token}
-use Rattle.session_notes.proofs.Fine.{DiscardsHold, IdsHold, IsDue, IsOwed, OneHas}
+use Rattle.session_notes.proofs.Fine.{DiscardsHold, IdsHold, IsDue, IsOwed, KeptHolds, OneHas}
+use Rattle.session_notes.proofs.Standing.{holds-gone, holds-heard, holds-ordered}
 use Rattle.session_notes.proofs.Tests.{and-after}
 use Rattle.session_lines.specs.Lines.{Comes, Does, Seen, Took, given_in, heard_as, heard_in, is_error, is_open, noted}
 
 -- what holds of the notes at each point
 abbrev pub Kept : Book → List Note → Type 0
-Kept book n = OneHas n × (IdsHold book n × DiscardsHold book n)
+Kept book n = OneHas n × (IdsHold book n × (DiscardsHold book n × KeptHolds book n))
 
 -- what an entry asks of the notes before it
 abbrev pub Due : Book → List Note → Seen → Type 0
@@ -56,7 +58,7 @@ discarded-before command c (SetProperties list) n e = and-after (sets_discard co
 discarded-before command c m n e = e
 
 kept-read : (book : Book) (c : ℕ) (read : Result XsmpMessage DecodeRefusal) (n : List Note) → Kept book n → Kept book (heard_as c read ++ n)
-kept-read book c (Ok m) n k = (λ a b e f. k.0 a b (token-before c m a n e) (token-before c m b n f), (k.1.0, λ u command e. k.1.1 u command (discarded-before command c m n e)))
+kept-read book c (Ok m) n k = (λ a b e f. k.0 a b (token-before c m a n e) (token-before c m b n f), (k.1.0, (λ u command e. k.1.1.0 u command (discarded-before command c m n e), λ o id. holds-heard book (book_in book n) c m n id (k.1.1.1 o id))))
 kept-read book c (Err refusal) n k = k
 
 kept-either : (book : Book) (b : Bool) (c : ℕ) (read : Result XsmpMessage DecodeRefusal) (n : List Note) → Kept book n → Kept book (cond b [] (heard_as c read) ++ n)
@@ -68,7 +70,10 @@ kept-heard book c (Whole frame) n k = kept-either book (slice_index frame.bytes 
 kept-heard book c (TooMuch header) n k = k
 
 kept-gone : (book : Book) (c : ℕ) (n : List Note) → Kept book n → Kept book (Gone c ∷ n)
-kept-gone book c n k = (λ a b e f. k.0 a b (and-after (eqb c a) (has_token a n) e) (and-after (eqb c b) (has_token b n) f), k.1)
+kept-gone book c n k = (λ a b e f. k.0 a b (and-after (eqb c a) (has_token a n) e) (and-after (eqb c b) (has_token b n) f), (k.1.0, (k.1.1.0, λ o id. holds-gone book (book_in book n) c n id (k.1.1.1 o id))))
+
+kept-ordered : (book : Book) (order : Order) (n : List Note) → Kept book n → Kept book (Ordered order ∷ n)
+kept-ordered book order n k = (k.0, (k.1.0, (k.1.1.0, λ o id. holds-ordered book (book_in book n) order n id (k.1.1.1 o id))))
 
 kept-cond : (book : Book) (b : Bool) (n o : List Note) → Kept book n → Kept book o → Kept book (cond b n o)
 kept-cond book true n o k l = k
@@ -86,6 +91,7 @@ kept-said book c message (entry ∷ seen) e h = subst (λ (xs : List Note). Kept
 
 pub holds-comes : (book : Book) (event : Event) (seen : List Seen) → Holds book seen → Holds book (Comes event ∷ seen)
 holds-comes book (HasGone c) seen h = (kept-cond book (is_open c seen) (Gone c ∷ noted seen) (noted seen) (kept-gone book c (noted seen) (kept-top book seen h)) (kept-top book seen h), (tt, h))
+holds-comes book (Operator order) seen h = (kept-ordered book order (noted seen) (kept-top book seen h), (tt, h))
 holds-comes book event seen h = (kept-top book seen h, (tt, h))
 
 pub holds-took : (book : Book) (c : ℕ) (part : Part) (seen : List Seen) → Holds book seen → Holds book (Took c part ∷ seen)

@@ -30,7 +30,7 @@ use Rattle.session_engine.specs.declared.answers.Outcome.{Outcome}
 use Rattle.session_engine.specs.declared.messages.Message.{Message}
 use Rattle.session_engine.specs.declared.messages.Message.TheVariants.{Ice, Xsmp}
 use Rattle.session_engine.proofs.Connections.{same, other, connection_of-append}
-use Rattle.session_notes.specs.Notes.{Gone, Heard, Note}
+use Rattle.session_notes.specs.Notes.{Gone, Heard, Note, Ordered as IsOrdered}
 use Rattle.session_notes.proofs.Tests.{own}
 use Rattle.session_lines.specs.Lines.{Comes, Does, Seen, Took, given_in, heard_in, is_error, is_open, noted, seen_of}
 use Rattle.session_lines.proofs.Frames.{FitsAnswer, FitsSaid, fits-part}
@@ -223,6 +223,6 @@ pub step-at : (book : Book) (m : Machine) (event : Event) (seen : List Seen) →
 step-at book m (Joined c) seen at = join-at book m c (connection_of c m.connections) seen refl at
 step-at book m (Piece c bytes) seen at = piece-at book m c bytes (connection_of c m.connections) (Comes (Piece c bytes) ∷ seen) (record { reached = at.reached; notes = at.notes; live = at.live; holds = holds-comes book (Piece c bytes) seen at.holds })
 step-at book m (HasGone c) seen at = gone-at book m c (connection_of c m.connections) seen refl at
-step-at book m (Operator order) seen at = step-told book m (Ordered order) (Comes (Operator order) ∷ seen) at.reached at.notes (λ d error. at.notes) at.live (holds-comes book (Operator order) seen at.holds)
+step-at book m (Operator order) seen at = step-told book m (Ordered order) (Comes (Operator order) ∷ seen) at.reached (ap (λ (ns : List Note). IsOrdered order ∷ ns) at.notes) (λ d error. ap (λ (ns : List Note). IsOrdered order ∷ ns) at.notes) at.live (holds-comes book (Operator order) seen at.holds)
 step-at book m (Tick milliseconds) seen at = record { reached = at.reached; notes = at.notes; live = at.live; holds = holds-comes book (Tick milliseconds) seen at.holds }
 step-at book m End seen at = record { reached = at.reached; notes = at.notes; live = at.live; holds = holds-finish book (Comes End ∷ seen) (holds-comes book End seen at.holds) }

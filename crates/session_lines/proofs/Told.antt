@@ -63,7 +63,7 @@ Notes seen h = noted seen ≡ noted_of h
 kept-there : (book : Book) (h : History) (seen : List Seen) → IsSeen book (entries h) → Notes seen h → Kept book (noted seen)
 kept-there book h seen s e =
     subst (λ (n : List Note). Kept book n) (notes-are h ∙ sym e)
-    (settled.one-has book (entries h) s, (settled.ids-hold book (entries h) s, settled.discards-hold book (entries h) s))
+    (settled.one-has book (entries h) s, (settled.ids-hold book (entries h) s, (settled.discards-hold book (entries h) s, settled.kept-holds book (entries h) s)))
 
 due-there : (book : Book) (c : ℕ) (m : XsmpMessage) (h : History) (seen : List Seen) → IsSeen book (entries (Gave c m ▷ h)) → Notes seen h → IsDue (noted seen) (Did (SaysXsmp c m)) × IsOwed book (noted seen) (Did (SaysXsmp c m))
 due-there book c m h seen s e =
@@ -83,7 +83,7 @@ given-is : (c : ℕ) (m : XsmpMessage) → is_fault m ≡ false → given_in c (
 given-is c (XsmpError error) e = absurd (grind arith)
 given-is c m e = refl
 
-noted-given : (c : ℕ) (m : XsmpMessage) (seen : List Seen) → is_fault m ≡ false → noted (Does (Say c (Xsmp m)) ∷ seen) ≡ Given c m ∷ noted seen
+pub noted-given : (c : ℕ) (m : XsmpMessage) (seen : List Seen) → is_fault m ≡ false → noted (Does (Say c (Xsmp m)) ∷ seen) ≡ Given c m ∷ noted seen
 noted-given c m [] e = ap (λ (ns : List Note). ns ++ []) (given-is c m e)
 noted-given c m (Took d part ∷ seen) e =
     ap (λ (b : Bool). cond (b && d == c) (noted seen) (given_in c (Xsmp m) ++ (heard_in d part ++ noted seen))) (no-error m e) ∙ ap (λ (ns : List Note). ns ++ (heard_in d part ++ noted seen)) (given-is c m e)

@@ -17,6 +17,8 @@ use Rattle.session_engine.specs.Machine.{script_of}
 use Rattle.session_engine.specs.Saved.{IsSaved}
 use Rattle.session_engine.specs.declared.fault.ServeFault.{ServeFault}
 use Rattle.session_notes.specs.Keeping.{is_discarded, new_ids}
+use Rattle.session_notes.specs.Kept.{Stands, kept_in}
+use Rattle.session_notes.specs.Laws.{IsOpenable}
 use Rattle.session_lines.specs.Laws.{IsSeen}
 use Rattle.session_lines.specs.Lines.{Seen, acts_in, line, notes}
 use Rattle.session_lines.specs.Runs.{IsDone, IsNextDeed}
@@ -37,6 +39,15 @@ FilesForgetDiscards =
     → (seen later : List Seen) → seen ++ later ≡ line cookie book events → deeds_in (acts_in seen) ≡ done → IsNextDeed later
     → (command : Command) → is_discarded command (notes seen) ≡ true → names saved command ≡ false
 
+-- Each file that a crash could leave recovers to a book that has what is kept: under each ID the table of its last completed save, or
+-- of a save that its client told since. What is seen goes up to the first deed that was not done. This asks that the opened book keeps
+-- the rules, and that its epoch has one after it.
+abbrev pub FilesKeepWhatWasSaved : Type 0
+FilesKeepWhatWasSaved =
+    (cookie : Cookie) (book saved : Book) (events : List Event) (done : List Deed) (file : List ℕ) → IsOpenable book → IsSaved book (script_of cookie book events) done file → Recovers file (Ok saved)
+    → (seen later : List Seen) → seen ++ later ≡ line cookie book events → deeds_in (acts_in seen) ≡ done → IsNextDeed later
+    → (id : List ℕ) → kept_in book id (notes seen) ≢ [] → Stands saved id (kept_in book id (notes seen))
+
 -- The checkpoint of a file, against what was done in a run up to here.
 pub record IsSafe (cookie : Cookie) (book : Book) (effects : List Effect) (saved : Book) : Type 0 where
   pub done : IsDone cookie book (heard effects) (deeds effects)
@@ -44,6 +55,8 @@ pub record IsSafe (cookie : Cookie) (book : Book) (effects : List Effect) (saved
   pub ids : new_ids (notes done.front) ≢ [] → saved.epoch ≡ book.epoch + 1
   -- it names no state that was discarded and not set again
   pub discards : KeepsRules book → (command : Command) → is_discarded command (notes done.front) ≡ true → names saved command ≡ false
+  -- under each ID it has what is kept
+  pub saves : IsOpenable book → (id : List ℕ) → kept_in book id (notes done.front) ≢ [] → Stands saved id (kept_in book id (notes done.front))
 
 -- So it is at each point of every run that keeps its word, with each file that a crash could leave.
 abbrev pub EveryFileIsSafe : Type 0

@@ -1,23 +1,26 @@
 -- Laws of every line, said of what is seen on the wire alone: they are those of what is seen of a session. Each holds of each front
 -- of a line: at every moment, also in the middle of what is done about one event, whatever comes. A frame that was taken last counts
 -- as accepted until an Error stands behind it.
-use Rattle.std.specs.Prelude.{List, false, true, ℕ, ◌+◌, ◌++◌, ◌||◌, ◌∷◌, ◌≡◌, ◌⊎◌}
+use Rattle.std.specs.Prelude.{List, false, true, ℕ, ◌+◌, ◌++◌, ◌||◌, ◌∷◌, ◌≡◌, ◌⊎◌, Some, [], ◌≢◌}
 use Rattle.std.specs.List.{AllByRecursion, Contains, IsDistinct}
 use Rattle.std.specs.Str.{bytes_eq}
 use Rattle.sm_world.specs.declared.commands.Command.{Command}
 use Rattle.sm_world.specs.declared.events.Event.{Event}
 use Rattle.ice_cookie.specs.declared.cookies.Cookie.{Cookie}
+use Rattle.ice_values.specs.declared.property.Property.{Property}
 use Rattle.checkpoint_records.specs.declared.records.Book.{Book}
 use Rattle.checkpoint_records.specs.Books.{names}
 use Rattle.checkpoint_records.specs.Rules.{KeepsRules}
 use Rattle.discard_ledger.specs.Discards.{is_among}
-use Rattle.xsmp_messages.specs.declared.message.XsmpMessage.TheVariants.{Interact, RegisterClientReply, SaveYourselfPhase2}
+use Rattle.xsmp_messages.specs.declared.message.XsmpMessage.TheVariants.{Interact, RegisterClientReply, SaveComplete, SaveYourselfPhase2}
+use Rattle.session_model.specs.Books.{is_eligible}
 use Rattle.session_engine.specs.Acts.{has_finish}
 use Rattle.session_engine.specs.Machine.{script_of}
 use Rattle.session_engine.specs.declared.acts.Act.TheVariants.{Commit, Say}
 use Rattle.session_engine.specs.declared.messages.Message.TheVariants.{Xsmp}
+use Rattle.session_notes.specs.Keeping.{IsOfRun, book_in, id_in, is_discarded, is_newcomer, is_started, new_ids, snapshot_in}
+use Rattle.session_notes.specs.Kept.{Stands, kept_in}
 use Rattle.session_model.specs.Tables.{is_recorded}
-use Rattle.session_notes.specs.Keeping.{IsOfRun, book_in, is_discarded, is_newcomer, is_started, new_ids}
 use Rattle.session_notes.specs.Laws.{IsFresh, IsOpenable, IsSaved}
 use Rattle.session_notes.specs.Watching.{has_answered, has_token, is_to_save, requests}
 use Rattle.session_lines.specs.Lines.{Does, Seen, acts_in, events_in, line, notes}
@@ -78,6 +81,19 @@ EntriesWereSaved book seen =
 abbrev pub DiscardedStatesAreNotNamed : Book → List Seen → Type 0
 DiscardedStatesAreNotNamed book seen = KeepsRules book → (command : Command) → is_discarded command (notes seen) ≡ true → names (book_in book (notes seen)) command ≡ false
 
+-- What is kept under an ID stands in the book: the table of its last completed save, or of a save that its client told since. This asks
+-- that the opened book keeps the rules, and that its epoch has one after it.
+abbrev pub SavesAreKept : Book → List Seen → Type 0
+SavesAreKept book seen = IsOpenable book → (id : List ℕ) → kept_in book id (notes seen) ≢ [] → Stands (book_in book (notes seen)) id (kept_in book id (notes seen))
+
+-- As a client was told that its save is complete, and it was a success, the book that stood had its entry: its ID and the table that
+-- it had as it said so, where the rules let this table into a book.
+abbrev pub CompletedSavesStand : Book → List Seen → Type 0
+CompletedSavesStand book seen =
+    IsOpenable book → (c : ℕ) (id : List ℕ) (table : List Property) (before after : List Seen) → before ++ Does (Say c (Xsmp SaveComplete)) ∷ after ≡ seen
+    → id_in c (notes before) ≡ Some id → snapshot_in book c (notes before) ≡ Some table → is_eligible table ≡ true
+    → Contains (book_in book (notes before)).entries (record { id = id; table = table })
+
 -- a command that was pending stayed pending in the next book, or this book names it, or it was started between the two to discard
 -- a state
 abbrev pub PendingIsNotLost : Book → List Seen → Type 0
@@ -97,6 +113,8 @@ pub record KeepsLaws (book : Book) (seen : List Seen) : Type 0 where
   pub entries_were_saved : EntriesWereSaved book seen
   pub discarded_states_are_not_named : DiscardedStatesAreNotNamed book seen
   pub pending_is_not_lost : PendingIsNotLost book seen
+  pub saves_are_kept : SavesAreKept book seen
+  pub completed_saves_stand : CompletedSavesStand book seen
 
 -- this holds of each front of every line
 abbrev pub Always : (Book → List Seen → Type 0) → Type 0

@@ -2,5 +2,6 @@ pub mod Lines
 pub mod Laws
 pub mod Runs
 pub mod Files
+pub mod Opening
 pub mod Others
 pub mod Examples

@@ -2,7 +2,7 @@
 use Rattle.std.specs.Prelude.{Bool, List, Ok, Err, Result, [], cond, false, if◌then◌else◌, map, not, reverse, slice_index, true, ℕ, ◌&&◌, ◌++◌, ◌==◌, ◌||◌, ◌∷◌}
 use Rattle.std.specs.List.{flat_map}
 use Rattle.sm_world.specs.declared.events.Event.{Event}
-use Rattle.sm_world.specs.declared.events.Event.TheVariants.{Gone as HasGone, Joined}
+use Rattle.sm_world.specs.declared.events.Event.TheVariants.{Gone as HasGone, Joined, Operator}
 use Rattle.ice_values.specs.declared.refusals.DecodeRefusal.{DecodeRefusal}
 use Rattle.ice_cookie.specs.declared.cookies.Cookie.{Cookie}
 use Rattle.ice_messages.specs.declared.message.IceMessage.TheVariants.{Error as IceError}
@@ -17,7 +17,7 @@ use Rattle.session_engine.specs.declared.acts.Act.{Act}
 use Rattle.session_engine.specs.declared.acts.Act.TheVariants.{Commit, Say, Shut, Start}
 use Rattle.session_engine.specs.declared.messages.Message.{Message}
 use Rattle.session_engine.specs.declared.messages.Message.TheVariants.{Ice, Xsmp}
-use Rattle.session_notes.specs.Notes.{Given, Gone, Heard, Note, Started, Wrote}
+use Rattle.session_notes.specs.Notes.{Given, Gone, Heard, Note, Ordered, Started, Wrote}
 
 -- What is seen
 
@@ -102,6 +102,7 @@ noted (Does (Shut c) ∷ seen) = Gone c ∷ noted seen
 noted (Does (Start reason command) ∷ seen) = Started reason command ∷ noted seen
 noted (Does (Commit book) ∷ seen) = Wrote book ∷ noted seen
 noted (Comes (HasGone c) ∷ seen) = cond (is_open c seen) (Gone c ∷ noted seen) (noted seen)
+noted (Comes (Operator order) ∷ seen) = Ordered order ∷ noted seen
 noted (Took c part ∷ seen) = heard_in c part ++ noted seen
 noted (entry ∷ seen) = noted seen
 

@@ -1,7 +1,8 @@
-ghost use Rattle.session_lines.specs.Laws.{AllActsAreSeen, AllEventsAreSeen, Always, OneHasTheToken, TheFirstIsServed, TheSecondPhaseWaits, NewIdsAreOfTheRun, NewIdsDiffer, NewIdsAreFresh, OldIdsAreRecorded, EntriesWereSaved, DiscardedStatesAreNotNamed, PendingIsNotLost};
+ghost use Rattle.session_lines.specs.Laws.{AllActsAreSeen, AllEventsAreSeen, Always, OneHasTheToken, TheFirstIsServed, TheSecondPhaseWaits, NewIdsAreOfTheRun, NewIdsDiffer, NewIdsAreFresh, EntriesWereSaved, DiscardedStatesAreNotNamed, PendingIsNotLost, SavesAreKept, CompletedSavesStand, OldIdsAreRecorded};
 ghost use Rattle.session_lines.specs.Runs.{WhatWasDoneIsAFront, EveryRunKeepsTheLaws};
+ghost use Rattle.session_lines.specs.Opening.{LinesBeginAgain};
 ghost use Rattle.session_lines.specs.Others.{NotesOfOthersStay, OthersAreLeftAlone};
-ghost use Rattle.session_lines.specs.Files.{EveryFileIsSafe, FilesForgetDiscards, FilesKeepUp, LaterRunsGiveOtherIds};
+ghost use Rattle.session_lines.specs.Files.{EveryFileIsSafe, FilesForgetDiscards, FilesKeepUp, FilesKeepWhatWasSaved, LaterRunsGiveOtherIds};
 
 /// Does nothing: its contract is a law of every line. All that the manager does is seen.
 pub fn all_acts_are_seen()
@@ -111,4 +112,26 @@ pub fn others_are_left_alone()
 /// another, unless that is shut.
 pub fn notes_of_others_stay()
     ensures { NotesOfOthersStay }
+{}
+
+/// Does nothing: its contract is a law of each front of every line. What is kept under an ID stands in the book.
+pub fn saves_are_kept()
+    ensures { Always SavesAreKept }
+{}
+
+/// Does nothing: its contract is a law of each front of every line. As a client is told that its save is complete, its entry stands
+/// in the book.
+pub fn completed_saves_stand()
+    ensures { Always CompletedSavesStand }
+{}
+
+/// Does nothing: its contract is a law of every run. What is kept under an ID stands in each file that a crash could leave.
+pub fn files_keep_what_was_saved()
+    ensures { FilesKeepWhatWasSaved }
+{}
+
+/// Does nothing: its contract is a law of every line. It begins by starting again each entry of the opened book that is to be started
+/// again, before anything is heard.
+pub fn lines_begin_again()
+    ensures { LinesBeginAgain }
 {}

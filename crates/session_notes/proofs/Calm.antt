@@ -5,7 +5,7 @@ use Rattle.std.specs.List.{AllByRecursion}
 use Rattle.sm_world.specs.declared.commands.Command.{Command}
 use Rattle.ice_values.specs.declared.property.Property.{Property}
 use Rattle.xsmp_messages.specs.declared.message.XsmpMessage.{XsmpMessage}
-use Rattle.xsmp_messages.specs.declared.message.XsmpMessage.TheVariants.{GetPropertiesReply, RegisterClientReply, SaveComplete, ShutdownCancelled}
+use Rattle.xsmp_messages.specs.declared.message.XsmpMessage.TheVariants.{GetPropertiesReply, RegisterClientReply, ShutdownCancelled}
 use Rattle.checkpoint_records.specs.declared.records.Book.{Book}
 use Rattle.checkpoint_records.specs.Books.{same_command}
 use Rattle.discard_ledger.specs.Discards.{discard_of, is_among, without_commands, issuable}
@@ -32,7 +32,6 @@ use Rattle.session_notes.proofs.Tests.{or-second}
 
 abbrev pub is_calm : XsmpMessage → Bool
 is_calm (GetPropertiesReply table) = true
-is_calm SaveComplete = true
 is_calm ShutdownCancelled = true
 is_calm m = false
 
@@ -54,7 +53,6 @@ IsCalm m = Unit {0}
 
 calm-given : (c : ℕ) (m : XsmpMessage) (h : History) → is_calm m ≡ true → Suits (Gave c m) h
 calm-given c (GetPropertiesReply table) h e = tt
-calm-given c SaveComplete h e = tt
 calm-given c ShutdownCancelled h e = tt
 calm-given c m h e = absurd (grind arith)
 
@@ -125,8 +123,9 @@ fine-issue book [] h e a f = f
 fine-issue book (c ∷ commands) h e a f =
     let left : Book = record book { pending = without_commands (c ∷ commands) book.pending } in
     let g : History = onto h (tried_each Discard (c ∷ commands)) in
+    let k : Fine g = fine-tried (c ∷ commands) h a f in
     fine-append h (tried_each Discard (c ∷ commands)) (Committed left ∷ [])
-    (fine-step (Committed left) g (issued-is book (c ∷ commands) g (noted_of g) (book-tried (c ∷ commands) h ∙ e) (λ command i. started-all command (c ∷ commands) h i)) (fine-tried (c ∷ commands) h a f))
+    (fine-step (Committed left) g (issued-is book (c ∷ commands) g (noted_of g) (book-tried (c ∷ commands) h ∙ e) k.keeps.book (λ command i. started-all command (c ∷ commands) h i)) k)
 
 -- Tables that stay
 

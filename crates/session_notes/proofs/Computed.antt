@@ -4,7 +4,7 @@ use Rattle.std.specs.Str.{is_utf8, chars}
 use Rattle.std.specs.Fmt.{digits}
 use Rattle.hex.specs.Hex.{encode_with}
 use lib.Utf8.{encode}
-use Rattle.session_notes.specs.Examples.{TheTokenIsNoted, TheTokenGoesOn, ARefusedRequestIsNotNoted, ACancelledShutdownIsNoted, AnswersAreNoted, ASaveIsNoted, ARecordedIdIsNotNew, AnOldSnapshotIsGone, ADiscardIsNoted}
+use Rattle.session_notes.specs.Examples.{TheTokenIsNoted, TheTokenGoesOn, ARefusedRequestIsNotNoted, ACancelledShutdownIsNoted, AnswersAreNoted, ASaveIsNoted, ARecordedIdIsNotNew, AnOldSnapshotIsGone, ADiscardIsNoted, ASaveIsKept, ALaterSaveIsKept, WhoLeavesIsLetGo, WhoIsForgottenIsLetGo, ALogoutIsKept}
 
 pub the_token_is_noted : TheTokenIsNoted
 unfolding encode_with is_utf8 chars encode digits
@@ -41,3 +41,23 @@ an_old_snapshot_is_gone = refl
 pub a_discard_is_noted : ADiscardIsNoted
 unfolding encode_with is_utf8 chars encode digits
 a_discard_is_noted = (refl, refl, refl)
+
+pub a_save_is_kept : ASaveIsKept
+unfolding encode_with is_utf8 chars encode digits
+a_save_is_kept = (refl, refl)
+
+pub a_later_save_is_kept : ALaterSaveIsKept
+unfolding encode_with is_utf8 chars encode digits
+a_later_save_is_kept = (refl, refl)
+
+pub who_leaves_is_let_go : WhoLeavesIsLetGo
+unfolding encode_with is_utf8 chars encode digits
+who_leaves_is_let_go = refl
+
+pub who_is_forgotten_is_let_go : WhoIsForgottenIsLetGo
+unfolding encode_with is_utf8 chars encode digits
+who_is_forgotten_is_let_go = (refl, refl, refl)
+
+pub a_logout_is_kept : ALogoutIsKept
+unfolding encode_with is_utf8 chars encode digits
+a_logout_is_kept = refl

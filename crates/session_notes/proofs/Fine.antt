@@ -30,6 +30,9 @@ use Rattle.session_notes.proofs.Numbers.{numbers-differ}
 use Rattle.session_notes.proofs.Suits.{Suits, fits}
 use Rattle.session_notes.proofs.Fresh.{next-fresh}
 use Rattle.session_notes.proofs.Keeps.{Keeps, keeps-step}
+use Rattle.session_notes.specs.Kept.{kept_in}
+use Rattle.session_notes.proofs.Standing.{Holding, Standing}
+use Rattle.session_notes.proofs.Stand.{standing-move}
 use Rattle.session_notes.proofs.Tells.{Told, goes-on, told-step}
 
 -- The laws at each move
@@ -52,6 +55,10 @@ IdsHold book n = AllByRecursion (λ id. IsOfRun (book.epoch + 1) id × ((book_in
 abbrev pub DiscardsHold : Book → List Note → Type 0
 DiscardsHold book n = NoneNamed book → (command : Command) → is_discarded command n ≡ true → names (book_in book n) command ≡ false
 
+-- what is kept stands in the book
+abbrev pub KeptHolds : Book → List Note → Type 0
+KeptHolds book n = IsOpenable book → (id : List ℕ) → Holding (book_in book n) id (kept_in book id n)
+
 -- what a book that is written and an ID that is given ask of the notes before them
 abbrev pub IsOwed : Book → List Note → Entry → Type 0
 IsOwed book n (Did (Commit written)) =
@@ -61,7 +68,7 @@ IsOwed book n (Did (Say c (RegisterClientReply id))) = (is_newcomer c n ≡ fals
 IsOwed book n entry = Unit {0}
 
 -- who dies does so since a shutdown was agreed
-bound-member : (c : ℕ) (h : History) → Sound h → of.is_ending h ≡ false → is_bound_to_save (of.phase_of c h) ≡ true → is_member (of.phase_of c h) ≡ true
+pub bound-member : (c : ℕ) (h : History) → Sound h → of.is_ending h ≡ false → is_bound_to_save (of.phase_of c h) ≡ true → is_member (of.phase_of c h) ≡ true
 bound-member c h so f e = or-either (is_member (of.phase_of c h)) (is_dying (of.phase_of c h)) (λ k. k) (λ k. absurd (differ (so.die_at_end c k) f)) e
 
 due-given : (c : ℕ) (m : XsmpMessage) (h : History) (n : List Note) → Suits (Gave c m) h → Sound h → Told h n → IsDue n (Did (Say c m))
@@ -126,6 +133,8 @@ pub record Fine (h : History) : Type 0 where
   pub ids : AtEach (IdsHold (kept.opened_of h)) h
   pub discards : AtEach (DiscardsHold (kept.opened_of h)) h
   pub owed : EachEntry (IsOwed (kept.opened_of h)) h
+  pub standing : IsOpenable (kept.opened_of h) → Standing (kept.opened_of h) (noted_of h)
+  pub stands : AtEach (KeptHolds (kept.opened_of h)) h
 
 one-now : (h : History) → Sound h → Told h (noted_of h) → OneHas (noted_of h)
 one-now h so t c d e f = so.one_holder c d (t.token c e) (t.token d f)
@@ -134,6 +143,7 @@ pub fine-step : (m : Move) (h : History) → Suits m h → Fine h → Fine (m �
 fine-step m h s f =
     let so : Sound (m ▷ h) = sound-step m h (fits m h s) f.sound in
     let t : Told (m ▷ h) (noted_of (m ▷ h)) = told-step m h s f.sound f.told in
+    let st : IsOpenable (kept.opened_of h) → Standing (kept.opened_of h) (noted_of (m ▷ h)) = (λ o. standing-move m h s f.sound f.keeps o (f.standing o)) in
     let k : Keeps (m ▷ h) (noted_of (m ▷ h)) = keeps-step m h s f.sound f.told.asked f.told.owing f.keeps in
     record {
       sound = so;
@@ -144,4 +154,6 @@ fine-step m h s f =
       ids = (ids-now (m ▷ h) (noted_of (m ▷ h)) k, f.ids);
       discards = (discards-now (m ▷ h) (noted_of (m ▷ h)) k, f.discards);
       owed = (owed-step m h s f.keeps, f.owed);
+      standing = st;
+      stands = (λ o. (st o).holds, f.stands);
     }

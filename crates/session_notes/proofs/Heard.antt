@@ -34,21 +34,23 @@ use Rattle.session_model.specs.Books.{discarded, command_anyway, book_forgetting
 use Rattle.session_model.specs.Replies.{or_bad_state, respawn_moves, entry_respawn, id_respawn, respawned, depart, has_no_room, known_ids, may_rejoin, register, called_off, want_cancel, answered, unless_dying, said, resigned, forgotten, forget_one, ordered, has_no_place, reply}
 use Rattle.session_model.proofs.Sound.{Sound, sound-step}
 use Rattle.session_model.proofs.Level.{Good}
-use Rattle.session_model.proofs.Ruled.{and-left, differ, nobody-level}
+use Rattle.session_model.proofs.Ruled.{and-left, and-right, differ, nobody-level}
 use Rattle.session_model.proofs.Replied.{unregistered-is, cond-same}
 use Rattle.session_notes.specs.Notes.{Note, Heard}
 use Rattle.session_notes.specs.Watching.{has_token}
-use Rattle.session_notes.specs.Keeping.{sets_discard, is_discarded, is_newcomer}
+use Rattle.session_notes.specs.Keeping.{book_in, sets_discard, is_discarded, is_newcomer}
 use Rattle.session_notes.proofs.Seen.{noted_of, AtEach}
 use Rattle.session_notes.proofs.Steps.{is_at_work, has_replied, is_bound_to_save}
 use Rattle.session_notes.proofs.Open.{HasPlace}
 use Rattle.session_notes.proofs.Kept.{opened_of, IsGiven, IsClearSaved, Clear}
 use Rattle.session_notes.proofs.Next.{forgetting-is}
+use Rattle.session_notes.proofs.Standing.{Standing, holds-heard}
+use Rattle.session_notes.proofs.Entries.{fates-forgetting, is-found, none-held}
 use Rattle.session_notes.proofs.Suits.{Suits}
 use Rattle.session_notes.proofs.Fresh.{aged-refused}
 use Rattle.session_notes.proofs.Keeps.{Keeps}
 use Rattle.session_notes.proofs.Tells.{Told}
-use Rattle.session_notes.proofs.Fine.{OneHas, IdsHold, DiscardsHold, Fine, fine-step}
+use Rattle.session_notes.proofs.Fine.{OneHas, IdsHold, DiscardsHold, KeptHolds, Fine, fine-step}
 use Rattle.session_notes.proofs.Calm.{AllCalm, fine-calm, fine-append, calm-gave, calm-cond, AllStill, still-onto, fine-discarded}
 use Rattle.session_notes.proofs.Tests.{and-after, cond-one, moved, or-none, or-second, own, filter-same}
 
@@ -166,6 +168,7 @@ fine-refused c m sequence frame error h i f =
     let so : Sound (heard c m sequence frame h) = sound-step (Outside (Said c m sequence frame)) h tt f.sound in
     let o : OneHas (noted_of h) = top-one OneHas h f.one in
     let n : IdsHold (opened_of h) (noted_of h) = top-one (IdsHold (opened_of h)) h f.ids in
+    let w : KeptHolds (opened_of h) (noted_of h) = top-one (KeptHolds (opened_of h)) h f.stands in
     let d : DiscardsHold (opened_of h) (noted_of h) = top-one (DiscardsHold (opened_of h)) h f.discards in
     record {
       sound = sound-step (Blamed c error) (heard c m sequence frame h) tt so;
@@ -176,6 +179,8 @@ fine-refused c m sequence frame error h i f =
       ids = (subst (IdsHold (opened_of h)) (sym (taken-back c m (noted_of h))) n, (n, f.ids));
       discards = (subst (DiscardsHold (opened_of h)) (sym (taken-back c m (noted_of h))) d, (discards-heard (opened_of h) c m (noted_of h) d, f.discards));
       owed = ((tt, tt), ((tt, tt), f.owed));
+      standing = λ x. subst (Standing (opened_of h)) (sym (taken-back c m (noted_of h))) (f.standing x);
+      stands = (subst (KeptHolds (opened_of h)) (sym (taken-back c m (noted_of h))) w, (λ x id. holds-heard (opened_of h) (book_in (opened_of h) (noted_of h)) c m (noted_of h) id (w x id), f.stands));
     }
 
 fine-heard : (c : ℕ) (m : XsmpMessage) (sequence : ℕ) (frame : List ℕ) (moves : List Move) (h : History) → Suits (Outside (Said c m sequence frame)) h → AllCalm moves → Fine h → Fine (onto (heard c m sequence frame h) moves)
@@ -206,7 +211,7 @@ newcomer-is c previous n = ap (λ (b : Bool). cond b (is_nil previous) (is_newco
 
 fine-reply : (c : ℕ) (previous : List ℕ) (sequence : ℕ) (frame id : List ℕ) (h : History) → of.phase_of c h ≡ Some Unregistered → IsGiven c id h (Heard c (RegisterClient previous) ∷ noted_of h) → Fine h → Fine (Gave c (RegisterClientReply id) ▷ heard c (RegisterClient previous) sequence frame h)
 fine-reply c previous sequence frame id h u g f =
-    fine-step (Gave c (RegisterClientReply id)) (heard c (RegisterClient previous) sequence frame h) (still-unregistered c previous sequence frame h u, record { anew = g.anew; again = g.again }) (fine-step (Outside (Said c (RegisterClient previous) sequence frame)) h tt f)
+    fine-step (Gave c (RegisterClientReply id)) (heard c (RegisterClient previous) sequence frame h) (still-unregistered c previous sequence frame h u, record { anew = g.anew; again = g.again; free = g.free }) (fine-step (Outside (Said c (RegisterClient previous) sequence frame)) h tt f)
 
 fine-turned-away : (c : ℕ) (previous : List ℕ) (sequence : ℕ) (frame : List ℕ) (error : ErrorFields) (h : History) → of.phase_of c h ≡ Some Unregistered → Fine h → Fine (Unset c ▷ Blamed c error ▷ heard c (RegisterClient previous) sequence frame h)
 fine-turned-away c previous sequence frame error h u f =
@@ -219,15 +224,19 @@ few-ids k n e = few-at (nat_le 128 k) e where
   few-at true e = absurd (grind arith)
   few-at false e = grind (arith, nat_tests)
 
+none-found : (o : Option ℕ) → is_some o ≡ true → is_none o ≡ true → ⊥
+none-found None e k = grind arith
+none-found (Some c) e k = grind arith
+
 fine-register : (c : ℕ) (previous : List ℕ) (sequence : ℕ) (frame id : List ℕ) (h : History) → is_nil previous ≡ is_nil id → of.phase_of c h ≡ Some Unregistered → Fine h
     → Fine (onto (heard c (RegisterClient previous) sequence frame h) (register (reading h) (arrival c (RegisterClient previous) sequence frame) id))
 fine-register c previous sequence frame [] h s u f =
     fine-cond (has_no_room (reading h)) (Blamed c (no_room (arrival c (RegisterClient previous) sequence frame)) ∷ Unset c ∷ []) (Gave c (RegisterClientReply (client_id (of.book h).epoch (of.given h + 1))) ∷ []) (heard c (RegisterClient previous) sequence frame h)
     (λ e. fine-turned-away c previous sequence frame (no_room (arrival c (RegisterClient previous) sequence frame)) h u f)
-    (λ e. fine-reply c previous sequence frame (client_id (of.book h).epoch (of.given h + 1)) h u (record { anew = λ k. (refl, few-ids (known_ids (reading h)) (of.given h) e); again = λ k. absurd (differ (newcomer-is c previous (noted_of h) ∙ s) k) }) f)
+    (λ e. fine-reply c previous sequence frame (client_id (of.book h).epoch (of.given h + 1)) h u (record { anew = λ k. (refl, few-ids (known_ids (reading h)) (of.given h) e); again = λ k. absurd (differ (newcomer-is c previous (noted_of h) ∙ s) k); free = λ k. absurd (differ (newcomer-is c previous (noted_of h) ∙ s) k) }) f)
 fine-register c previous sequence frame (b ∷ id) h s u f =
     fine-cond (may_rejoin (reading h) (b ∷ id)) (Gave c (RegisterClientReply (b ∷ id)) ∷ []) (Blamed c (bad_id (arrival c (RegisterClient previous) sequence frame)) ∷ []) (heard c (RegisterClient previous) sequence frame h)
-    (λ e. fine-reply c previous sequence frame (b ∷ id) h u (record { anew = λ k. absurd (differ k (newcomer-is c previous (noted_of h) ∙ s)); again = λ k. and-left (is_recorded (b ∷ id) (of.book h)) (is_none (client_of (b ∷ id) (reading h).clients)) e }) f)
+    (λ e. fine-reply c previous sequence frame (b ∷ id) h u (record { anew = λ k. absurd (differ k (newcomer-is c previous (noted_of h) ∙ s)); again = λ k. and-left (is_recorded (b ∷ id) (of.book h)) (is_none (client_of (b ∷ id) (reading h).clients)) e; free = λ k d i. none-found (client_of (b ∷ id) (reading h).clients) (is-found h (b ∷ id) d i) (and-right (is_recorded (b ∷ id) (of.book h)) (is_none (client_of (b ∷ id) (reading h).clients)) e) }) f)
     (λ e. fine-refused c (RegisterClient previous) sequence frame (bad_id (arrival c (RegisterClient previous) sequence frame)) h (record { phase = refl; askers = refl; table = refl; saved = refl }) f)
 
 -- The token
@@ -380,8 +389,8 @@ book-resigned : (command : Option Command) (g : History) → of.book (onto g (re
 book-resigned None g = refl
 book-resigned (Some command) g = refl
 
-fine-forgotten : (id : List ℕ) (entry : Entry) (h : History) → ((c : ℕ) → is_member (of.phase_of c h) ≡ false) → Fine h → Fine (onto (Outside (Operator (Forget id)) ▷ h) (forgotten (reading h) entry (book_forgetting (reading h).store id)))
-fine-forgotten id entry h a f =
+fine-forgotten : (id : List ℕ) (entry : Entry) (h : History) → ((c : ℕ) → is_member (of.phase_of c h) ≡ false) → is_some (client_of id (reading h).clients) ≡ false → Fine h → Fine (onto (Outside (Operator (Forget id)) ▷ h) (forgotten (reading h) entry (book_forgetting (reading h).store id)))
+fine-forgotten id entry h a none f =
     let book : Book = book_forgetting (reading h).store id in
     let last : Option Command = command_anyway (codes "ResignCommand") entry in
     let asked : History = to_forget id h in
@@ -390,7 +399,7 @@ fine-forgotten id entry h a f =
     fine-append written (resigned last) (discarded (reading h).clients book)
     (fine-discarded book h g f.sound.registered_are (still-onto (resigned last) h written (still-resigned last) (λ c e. (e, refl))) (book-resigned last written) (λ c. lone-resigned c last written (a c))
     (fine-calm (resigned last) written (calm-resigned last)
-    (fine-step (Committed book) asked (forgetting-is asked id (noted_of asked)) (fine-step (Printed (codes "ok")) (Outside (Operator (Forget id)) ▷ h) tt (fine-step (Outside (Operator (Forget id))) h tt f)))))
+    (fine-step (Committed book) asked (forgetting-is asked id (noted_of asked) (λ o. fates-forgetting (opened_of h) asked id (noted_of h) f.keeps.book (none-held h (opened_of h) id (noted_of h) f.keeps (f.standing o) none))) (fine-step (Printed (codes "ok")) (Outside (Operator (Forget id)) ▷ h) tt (fine-step (Outside (Operator (Forget id))) h tt f)))))
 
 no-round : (o : Option of.Begun) (members : List Member) → is_some (of.course o members) ≡ false → is_some o ≡ false
 no-round None members e = e
@@ -403,7 +412,7 @@ fine-forget_one : (id : List ℕ) (entry : Option Entry) (h : History) → ((c :
 fine-forget_one id None h a f = fine-calm (Printed (codes "unknown") ∷ []) (Outside (Operator (Forget id)) ▷ h) (tt, tt) (fine-step (Outside (Operator (Forget id))) h tt f)
 fine-forget_one id (Some entry) h a f =
     fine-cond (is_some (client_of id (reading h).clients)) (Printed (codes "live") ∷ []) (forgotten (reading h) entry (book_forgetting (reading h).store id)) (Outside (Operator (Forget id)) ▷ h)
-    (λ e. fine-calm (Printed (codes "live") ∷ []) (Outside (Operator (Forget id)) ▷ h) (tt, tt) (fine-step (Outside (Operator (Forget id))) h tt f)) (λ e. fine-forgotten id entry h a f)
+    (λ e. fine-calm (Printed (codes "live") ∷ []) (Outside (Operator (Forget id)) ▷ h) (tt, tt) (fine-step (Outside (Operator (Forget id))) h tt f)) (λ e. fine-forgotten id entry h a e f)
 
 fine-ordered : (order : Order) (h : History) → Good h → Fine h → Fine (onto (Outside (Operator order) ▷ h) (ordered (reading h) order))
 fine-ordered (Forget id) h g f =

@@ -8,20 +8,20 @@ use Rattle.session_model.specs.Rules.{opened, run, taken}
 use Rattle.session_model.proofs.Inner.{IsInner, kept-opening, kept-taken}
 use Rattle.session_notes.specs.Notes.{Came, Did, Entry, came_in, entries, entries_of}
 
-came-append : (xs ys : List Entry) → came_in (xs ++ ys) ≡ came_in xs ++ came_in ys
+pub came-append : (xs ys : List Entry) → came_in (xs ++ ys) ≡ came_in xs ++ came_in ys
 came-append [] ys = refl
 came-append (Came event ∷ xs) ys = ap (λ (events : List SessionEvent). event ∷ events) (came-append xs ys)
 came-append (Did act ∷ xs) ys = came-append xs ys
 
 -- all that came in a history
-abbrev came : History → List SessionEvent
+abbrev pub came : History → List SessionEvent
 came h = came_in (entries h)
 
 inner-none : (m : Move) → IsInner m → came_in (entries_of m) ≡ []
 inner-none (Outside event) i = absurd i
 inner-none m i = refl
 
-came-inner : (m : Move) (h : History) → IsInner m → came (m ▷ h) ≡ came h
+pub came-inner : (m : Move) (h : History) → IsInner m → came (m ▷ h) ≡ came h
 came-inner m h i = came-append (entries h) (entries_of m) ∙ ap (λ (events : List SessionEvent). came h ++ events) (inner-none m i) ∙ append-nil (came h)
 
 came-taken : (event : SessionEvent) (h : History) → came (taken event h) ≡ came h ++ event ∷ []

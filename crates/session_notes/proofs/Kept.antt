@@ -26,10 +26,12 @@ use Rattle.session_model.proofs.Ruled.{denied, differ, member-registered}
 use Rattle.session_model.proofs.Replied.{cond-same}
 use Rattle.session_notes.specs.Notes.{Note, Heard, Given, Gone}
 use Rattle.session_notes.specs.Watching.{was_asked}
+use Rattle.session_notes.specs.Laws.{IsOpenable}
 use Rattle.session_notes.specs.Keeping.{IsOfRun, book_in, id_in, is_newcomer, new_ids, table_in, snapshot_in, sets_discard, is_started}
 use Rattle.session_notes.proofs.Steps.{begins, member-given, saving-member}
 use Rattle.session_notes.proofs.Told.{AskedTold, OwingTold}
 use Rattle.session_notes.proofs.Discards.{table-clear, without-clear, names-none, none-names, first-clear, same-by, among-by}
+use Rattle.session_notes.proofs.Standing.{Fates}
 use Rattle.session_notes.proofs.Tests.{came-one, contains-all, moved, none-passes}
 
 -- the book that was opened
@@ -48,10 +50,11 @@ numbered epoch (suc n) = client_id epoch (suc n) ∷ numbered epoch n
 
 -- What moves ask
 
--- who asks for a new ID gets the next one, and every other a recorded one
+-- who asks for a new ID gets the next one, and every other a recorded one that nobody has
 pub record IsGiven (c : ℕ) (id : List ℕ) (h : History) (n : List Note) : Type 0 where
   pub anew : is_newcomer c n ≡ true → (id ≡ client_id (of.book h).epoch (of.given h + 1)) × (of.given h + 1 < 4294967296)
   pub again : is_newcomer c n ≡ false → is_recorded id (of.book h) ≡ true
+  pub free : is_newcomer c n ≡ false → (d : ℕ) → of.id_of d h ≡ Some id → ⊥
 
 -- a member has saved this with success
 pub record Saves (entry : Entry) (h : History) : Type 0 where
@@ -67,6 +70,7 @@ pub record IsNext (written : Book) (h : History) (n : List Note) : Type 0 where
   pub entries : AllByRecursion (λ entry. Contains (of.book h).entries entry ⊎ Saves entry h) written.entries
   pub pending : (command : Command) → is_among command (of.book h).pending ≡ true → (is_among command written.pending || names written command || is_started command n) ≡ true
   pub unnamed : NoneNamed (of.book h) → NoneNamed written
+  pub fates : IsOpenable (opened_of h) → Fates (opened_of h) written n
 
 -- nobody needs the state that this command discards
 pub record IsNeedless (command : Command) (h : History) : Type 0 where

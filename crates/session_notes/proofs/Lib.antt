@@ -1,10 +1,12 @@
 pub mod Tests
 pub mod Seen
 pub mod Inner
+pub mod Begun
 pub mod Steps
 pub mod Told
 pub mod Open
 pub mod Discards
+pub mod Standing
 pub mod Kept
 pub mod Numbers
 pub mod Next
@@ -12,8 +14,10 @@ pub mod Suits
 pub mod Fresh
 pub mod Tells
 pub mod Keeps
+pub mod Stand
 pub mod Fine
 pub mod Calm
+pub mod Entries
 pub mod Heard
 pub mod Settled
 pub mod Computed

@@ -21,9 +21,11 @@ use Rattle.session_model.proofs.Sound.{or-true}
 use Rattle.session_model.proofs.Pending.{command_equiv, all-append, all-filter, all-more}
 use Rattle.session_model.proofs.Ruled.{rows_now, round_now, conns-rows}
 use Rattle.session_notes.specs.Notes.{Note}
-use Rattle.session_notes.specs.Keeping.{is_started}
+use Rattle.session_notes.specs.Keeping.{book_in, is_started}
+use Rattle.session_notes.specs.Laws.{IsOpenable}
 use Rattle.session_notes.proofs.Discards.{among-by, among-kept, kept-among}
-use Rattle.session_notes.proofs.Kept.{Saves, IsNext}
+use Rattle.session_notes.proofs.Kept.{Saves, IsNext, opened_of}
+use Rattle.session_notes.proofs.Standing.{Fates, fates-same}
 use Rattle.session_notes.proofs.Tests.{contains-first, contains-later, or-false, or-first, or-none, or-second, own, same-there}
 
 -- where an entry comes from
@@ -75,7 +77,7 @@ entry-comes r h entry c a k e = snapshot-at (is_in c (conns_of (rows_now h))) (o
   snapshot-at true (Some table) i s = recorded-comes h entry.id table (saved-comes r h c entry.id table a i e s)
 
 -- who is found by an ID has it
-found-id : (h : History) (id : List ℕ) (cs : List ℕ) (c : ℕ) → find (λ d. has_that_id id (of.id_of d h)) cs ≡ Some c → of.id_of c h ≡ Some id
+pub found-id : (h : History) (id : List ℕ) (cs : List ℕ) (c : ℕ) → find (λ d. has_that_id id (of.id_of d h)) cs ≡ Some c → of.id_of c h ≡ Some id
 found-id h id [] c e = absurd (grind arith)
 found-id h id (d ∷ cs) c e = found-at (has_that_id id (of.id_of d h)) refl e (found-id h id cs c) where
   has : (o : Option (List ℕ)) → has_that_id id o ≡ true → o ≡ Some id
@@ -195,30 +197,33 @@ none-named book strays entries command e = (kept-among (discards entries) (sourc
 
 -- The books
 
-pub next-is : (r : of.Begun) (h : History) (n : List Note) → Agreeing r h → IsNext (next_book (reading h) (round_now r h)) h n
-next-is r h n a = record {
+pub next-is : (r : of.Begun) (h : History) (n : List Note) → Agreeing r h → (IsOpenable (opened_of h) → Fates (opened_of h) (next_book (reading h) (round_now r h)) n) → IsNext (next_book (reading h) (round_now r h)) h n
+next-is r h n a f = record {
   epoch = refl;
   entries = next-come r h a;
   pending = λ command e. pending-kept (of.book h) (of.strays h) (next_entries (reading h) (round_now r h)) command n e;
   unnamed = λ u command e. none-named (of.book h) (of.strays h) (next_entries (reading h) (round_now r h)) command e;
+  fates = f;
 }
 
-pub forgetting-is : (h : History) (id : List ℕ) (n : List Note) → IsNext (book_forgetting (reading h).store id) h n
-forgetting-is h id n = record {
+pub forgetting-is : (h : History) (id : List ℕ) (n : List Note) → (IsOpenable (opened_of h) → Fates (opened_of h) (book_forgetting (reading h).store id) n) → IsNext (book_forgetting (reading h).store id) h n
+forgetting-is h id n f = record {
   epoch = refl;
   entries = all-filter (Comes h) (λ entry. not (is_of id entry)) (of.book h).entries (same-come h (of.book h).entries refl);
   pending = λ command e. pending-kept (of.book h) (of.strays h) (filter (λ entry. not (is_of id entry)) (of.book h).entries) command n e;
   unnamed = λ u command e. none-named (of.book h) (of.strays h) (filter (λ entry. not (is_of id entry)) (of.book h).entries) command e;
+  fates = f;
 }
 
 -- the book without the commands that were just started
-pub issued-is : (book : Book) (commands : List Command) (h : History) (n : List Note) → of.book h ≡ book → ((command : Command) → is_among command commands ≡ true → is_started command n ≡ true)
+pub issued-is : (book : Book) (commands : List Command) (h : History) (n : List Note) → of.book h ≡ book → book_in (opened_of h) n ≡ of.book h → ((command : Command) → is_among command commands ≡ true → is_started command n ≡ true)
     → IsNext (record book { pending = without_commands commands book.pending }) h n
-issued-is book commands h n e s = record {
+issued-is book commands h n e i s = record {
   epoch = sym (ap (λ (b : Book). b.epoch) e);
   entries = same-come h book.entries (ap (λ (b : Book). b.entries) e);
   pending = λ command k. pending-at command (is_among command commands) refl (sym (ap (λ (b : Book). is_among command b.pending) e) ∙ k);
   unnamed = λ u command k. sym (ap (λ (b : Book). names b command) e) ∙ u command (ap (λ (b : Book). is_among command b.pending) e ∙ (kept-among commands book.pending command k).0);
+  fates = λ o. fates-same (opened_of h) (record book { pending = without_commands commands book.pending }) n (ap (λ (b : Book). b.entries) (i ∙ e));
 } where
   pending-at : (command : Command) (b : Bool) → is_among command commands ≡ b → is_among command book.pending ≡ true → (is_among command (without_commands commands book.pending) || is_among command (discards book.entries) || is_started command n) ≡ true
   pending-at command true a k = or-second (is_among command (without_commands commands book.pending) || is_among command (discards book.entries)) (is_started command n) (s command a)

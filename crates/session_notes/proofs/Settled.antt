@@ -4,6 +4,7 @@ use Rattle.std.specs.Prelude.{Option, Some, None, is_some, filter_map, ◌⊎◌
 use Rattle.std.specs.List.{AllByRecursion, Contains, IsDistinct, list_any, list_all}
 use Rattle.std.specs.Str.{bytes_eq}
 use Rattle.std.proofs.lemmas.Bool.Decides.{nat_tests}
+use Rattle.std.proofs.lemmas.List.{reverse-append}
 use Rattle.sm_world.specs.declared.commands.Command.{Command}
 use Rattle.ice_values.specs.declared.property.Property.{Property}
 use Rattle.checkpoint_records.specs.declared.records.Book.{Book}
@@ -22,11 +23,12 @@ use Rattle.session_model.specs.declared.phase.Phase.{Phase}
 use Rattle.session_model.specs.declared.phase.Phase.TheVariants.{Done, Unregistered, WantsTwo}
 use Rattle.session_model.specs.declared.waits.Wait.{Wait}
 use Rattle.session_model.specs.declared.events.SessionEvent.{SessionEvent}
+use Rattle.session_model.specs.declared.events.Act.TheVariants.{Say}
 use Rattle.session_model.specs.Phases.{is_interacting, is_first_saving, is_member, is_shutdown, step_of, begun_phase, completed_phase, dying_phase, second_begun_phase}
 use Rattle.session_model.specs.Moves.{Move, Outside, Gave, Closed, Began, Over, Agreed, Tried, Committed, Finished, End, Restart, History, Opened, ◌▷◌, onto, gave_each, tried_each}
 use Rattle.session_model.specs.Readings as of
-use Rattle.session_model.specs.Reading.{Clients, reading}
-use Rattle.session_model.specs.Books.{next_book, issue, discarded, raised}
+use Rattle.session_model.specs.Reading.{Clients, has_that_id, reading}
+use Rattle.session_model.specs.Books.{is_eligible, next_book, issue, discarded, raised}
 use Rattle.session_model.specs.Replies.{reply}
 use Rattle.session_model.specs.Rules.{last_command, ended, completed, agreement, wanting_two, over_rule, agreed_rule, running_rule, save_yourself, members_for, begin, begin_first, is_free, idle_rule, round_rule, token_rule, rule, go_on, settle, settled, taken, opened, run}
 use Rattle.session_model.proofs.Sound.{AreRegistered, or-true, or-either}
@@ -34,21 +36,27 @@ use Rattle.session_model.proofs.Pending.{all-more, command_equiv}
 use Rattle.session_model.proofs.Level.{Good, onto-append, phase-each, members-each, once-begun, once-completed, once-dying}
 use Rattle.session_model.proofs.Ruled.{denied, differ, and-left, and-right, any-in, interacting-registered, member-registered, nobody-level, member-by, conns-rows, others, rows_now, round_now, good-rule}
 use Rattle.session_model.proofs.Replied.{good-reply, good-opened, good-run}
-use Rattle.session_notes.specs.Notes.{Entry, notes}
-use Rattle.session_notes.specs.Keeping.{is_started}
-use Rattle.session_notes.specs.Laws.{IsSeen, IsSaved}
+use Rattle.session_notes.specs.Notes.{Did, Entry, Given, Note, Wrote, noted, notes}
+use Rattle.session_notes.specs.Keeping.{book_in, id_in, is_started, snapshot_in}
+use Rattle.session_notes.specs.Kept as kept
+use Rattle.session_notes.specs.Kept.{CompletedSavesStand, Stands, kept_in}
+use Rattle.session_notes.specs.Laws.{IsOpenable, IsSeen, IsSaved}
+use Rattle.session_notes.specs.Watching.{is_to_save}
 use Rattle.session_model.proofs.Inner.{kept-opening, kept-taken}
 use Rattle.session_notes.proofs.Seen.{noted_of, AtEach, EachEntry, at-front, at-entry}
 use Rattle.session_notes.proofs.Steps.{is_at_work, has_replied, begun-first, works-member}
 use Rattle.session_notes.proofs.Told.{BeginsToSave, RestTold}
 use Rattle.session_notes.proofs.Discards.{among-by}
 use Rattle.session_notes.proofs.Kept.{IsNeedless, NoneNamed, opened_of}
-use Rattle.session_notes.proofs.Next.{all-stand, next-is}
+use Rattle.session_notes.proofs.Next.{Agreeing, all-stand, next-is}
+use Rattle.session_notes.proofs.Entries.{completes-next, fates-next}
+use Rattle.session_notes.proofs.Standing.{Completes, Holding, Standing, fates-same, holds-opened, standing-first, standing-step}
 use Rattle.session_notes.proofs.Fresh.{aged-opening}
-use Rattle.session_notes.proofs.Fine.{OneHas, IsDue, IdsHold, DiscardsHold, IsOwed, Fine, fine-step}
-use Rattle.session_notes.proofs.Calm.{fine-calm, fine-append, fine-issue, fine-discarded, calm-tried, calm-gave, calm-closed, AllStill, still-onto, still-append, still-gave, still-closed, still-tried}
+use Rattle.session_notes.proofs.Fine.{OneHas, IsDue, IdsHold, DiscardsHold, KeptHolds, IsOwed, Fine, bound-member, fine-step}
+use Rattle.session_notes.proofs.Calm.{fine-calm, fine-append, fine-issue, fine-discarded, calm-tried, calm-closed, AllStill, still-onto, still-append, still-gave, still-closed, still-tried}
 use Rattle.session_notes.proofs.Heard.{fine-reply_to}
-use Rattle.session_notes.proofs.Tests.{or-first, or-second, own}
+use Rattle.session_model.proofs.Ruly.{own_text}
+use Rattle.session_notes.proofs.Tests.{contains-all, or-first, or-second, own}
 
 -- The token
 
@@ -174,26 +182,42 @@ still-goes r h k e = denied (of.is_ending h) (λ i. no-round r (sym (k i) ∙ e)
   no-round : (r : of.Begun) → None ≡ Some r → ⊥
   no-round r e = grind arith
 
+agreeing : (r : of.Begun) (h : History) → of.running h ≡ Some r → Good h → Fine h → Agreeing r h
+agreeing r h e g f = record { level = g.level; going = still-goes r h f.keeps.idle e }
+
 fine-agreed_now : (r : of.Begun) (h : History) → of.running h ≡ Some r → all_done (rows_now h) ≡ true → Good h → Fine h → Fine (agreed_now (next_book (reading h) (round_now r h)) h)
 fine-agreed_now r h e a g f =
     fine-step Agreed (Committed (next_book (reading h) (round_now r h)) ▷ h) (λ k. all-rest h g a)
-    (fine-step (Committed (next_book (reading h) (round_now r h))) h (next-is r h (noted_of h) (record { level = g.level; going = still-goes r h f.keeps.idle e })) f)
+    (fine-step (Committed (next_book (reading h) (round_now r h))) h (next-is r h (noted_of h) (agreeing r h e g f) (λ o. fates-next r h (noted_of h) (agreeing r h e g f) f.keeps)) f)
 
-fine-die : (conns : List ℕ) (h : History) → of.is_ending h ≡ true → Fine h → Fine (onto h (gave_each Die conns))
-fine-die [] h e f = f
-fine-die (c ∷ conns) h e f = fine-die conns (Gave c Die ▷ h) e (fine-step (Gave c Die) h e f)
+-- the saves of those that are to save stand once the round is agreed, and those of its members
+abbrev AllSaved : History → Type 0
+AllSaved h = IsOpenable (opened_of h) → (c : ℕ) → is_to_save c (noted_of h) ≡ true → Completes (opened_of h) c (noted_of h)
 
-fine-ended : (clients : Clients) (book : Book) (h : History) → of.is_ending h ≡ true → Fine h → Fine (onto h (ended clients book))
-fine-ended clients book h e f =
+fine-die : (conns : List ℕ) (h : History) → of.is_ending h ≡ true → AllSaved h → Fine h → Fine (onto h (gave_each Die conns))
+fine-die [] h e a f = f
+fine-die (c ∷ conns) h e a f = fine-die conns (Gave c Die ▷ h) e (λ o d i. a o d i) (fine-step (Gave c Die) h (e, λ o i. a o c i) f)
+
+-- so do those of the members of a round
+abbrev AllComplete : List ℕ → History → Type 0
+AllComplete conns h = IsOpenable (opened_of h) → (c : ℕ) → is_in c conns ≡ true → Completes (opened_of h) c (noted_of h)
+
+fine-complete : (conns : List ℕ) (h : History) → AllComplete conns h → Fine h → Fine (onto h (gave_each SaveComplete conns))
+fine-complete [] h a f = f
+fine-complete (c ∷ conns) h a f =
+    fine-complete conns (Gave c SaveComplete ▷ h) (λ o d i. a o d (ap (λ (b : Bool). eqb c d || b) i ∙ or-true (eqb c d))) (fine-step (Gave c SaveComplete) h (λ o. a o c (ap (λ (b : Bool). b || is_in c conns) (own c))) f)
+
+fine-ended : (clients : Clients) (book : Book) (h : History) → of.is_ending h ≡ true → AllSaved h → Fine h → Fine (onto h (ended clients book))
+fine-ended clients book h e a f =
     let last : List Command = filter_map (last_command clients) book.entries in
     let dead : History = onto h (gave_each Die clients.registered) in
     fine-append h (gave_each Die clients.registered ++ map Closed (others clients)) (tried_each End last)
     (fine-calm (tried_each End last) (onto h (gave_each Die clients.registered ++ map Closed (others clients))) (calm-tried End last refl)
-    (fine-append h (gave_each Die clients.registered) (map Closed (others clients)) (fine-calm (map Closed (others clients)) dead (calm-closed (others clients)) (fine-die clients.registered h e f))))
+    (fine-append h (gave_each Die clients.registered) (map Closed (others clients)) (fine-calm (map Closed (others clients)) dead (calm-closed (others clients)) (fine-die clients.registered h e a f))))
 
-fine-completed : (b : Bool) (clients : Clients) (round : Agreement) (book : Book) (h : History) → (b ≡ true → of.is_ending h ≡ true) → Fine h → Fine (onto h (completed b clients round book))
-fine-completed true clients round book h e f = fine-ended clients book h (e refl) f
-fine-completed false clients round book h e f = fine-calm (gave_each SaveComplete (conns_of round.members)) h (calm-gave SaveComplete (conns_of round.members) refl) f
+fine-completed : (b : Bool) (clients : Clients) (round : Agreement) (book : Book) (h : History) → (b ≡ true → of.is_ending h ≡ true) → AllSaved h → AllComplete (conns_of round.members) h → Fine h → Fine (onto h (completed b clients round book))
+fine-completed true clients round book h e s a f = fine-ended clients book h (e refl) s f
+fine-completed false clients round book h e s a f = fine-complete (conns_of round.members) h a f
 
 ends-session : (r : of.Begun) (h : History) → of.running h ≡ Some r → r.wanted.shutdown ≡ true → (of.is_ending h || is_shutdown (of.wanted h)) ≡ true
 ends-session r h e s = ap (λ (o : Option of.Begun). of.is_ending h || is_shutdown (of.wanted_of o)) e ∙ ap (λ (b : Bool). of.is_ending h || b) s ∙ or-true (of.is_ending h)
@@ -286,6 +310,15 @@ book-completed : (b : Bool) (clients : Clients) (round : Agreement) (book : Book
 book-completed true clients round book h = book-ended clients book h
 book-completed false clients round book h = book-gave SaveComplete (conns_of round.members) h
 
+-- once a round is agreed its members' saves stand
+complete-now : (r : of.Begun) (h : History) → of.running h ≡ Some r → Good h → Fine h → AllComplete (conns_of (rows_now h)) (agreed_now (next_book (reading h) (round_now r h)) h)
+complete-now r h e g f o c i = completes-next r h (noted_of h) c (agreeing r h e g f) f.keeps (f.standing o) i
+
+-- who is to save is a member of the round that runs
+in-round : (r : of.Begun) (h : History) → of.running h ≡ Some r → Good h → Fine h → (c : ℕ) → is_to_save c (noted_of h) ≡ true → is_in c (conns_of (rows_now h)) ≡ true
+in-round r h e g f c i =
+    ap (λ (cs : List ℕ). is_in c cs) (conns-rows (λ d. of.phase_of d h) (λ d. of.saved_of d h) (of.members h)) ∙ g.level c ∙ bound-member c h f.sound (still-goes r h f.keeps.idle e) (f.told.saves c i)
+
 fine-agreement : (r : of.Begun) (h : History) → of.running h ≡ Some r → all_done (rows_now h) ≡ true → Good h → Fine h → Fine (onto h (agreement (reading h) (round_now r h)))
 fine-agreement r h e a g f =
     let book : Book = next_book (reading h) (round_now r h) in
@@ -293,7 +326,7 @@ fine-agreement r h e a g f =
     fine-append (agreed_now book h) tail (discarded (reading h).clients book)
     (fine-discarded book h (onto (agreed_now book h) tail) g.sound.registered_are (still-onto tail h (agreed_now book h) (still-completed r.wanted.shutdown (reading h).clients (round_now r h) book) (λ c i. (i, refl)))
     (book-completed r.wanted.shutdown (reading h).clients (round_now r h) book (agreed_now book h)) (lone-completed r.wanted.shutdown r book h a g)
-    (fine-completed r.wanted.shutdown (reading h).clients (round_now r h) book (agreed_now book h) (ends-session r h e) (fine-agreed_now r h e a g f)))
+    (fine-completed r.wanted.shutdown (reading h).clients (round_now r h) book (agreed_now book h) (ends-session r h e) (λ o c i. complete-now r h e g f o c (in-round r h e g f c i)) (complete-now r h e g f) (fine-agreed_now r h e a g f)))
 
 fine-over : (b : Bool) (h : History) → Fine h → Fine (onto h (over_rule b))
 fine-over true h f = fine-step Over h tt f
@@ -360,6 +393,9 @@ none-differ : IsDistinct bytes_eq []
 unfolding IsDistinct
 none-differ = tt
 
+standing-opened : (book : Book) → Standing book (noted_of (opening book))
+standing-opened book = standing-step book (Wrote (raised book)) [] (fates-same book (raised book) [] refl) (standing-first book)
+
 fine-opening : (book : Book) → Fine (opening book)
 fine-opening book = record {
   sound = record {
@@ -397,6 +433,8 @@ fine-opening book = record {
   ids = ((tt, λ o. none-differ), (tt, λ o. none-differ));
   discards = (λ u command e. absurd (grind arith), λ u command e. absurd (grind arith));
   owed = (((all-more (Contains book.entries) (λ entry. Contains book.entries entry ⊎ IsSaved book [] entry) (λ entry s. inl s) book.entries (all-stand book.entries), λ command e. or-first _ (is_started command []) (or-first (is_among command book.pending) (names (raised book) command) e)), tt), tt);
+  standing = λ o. standing-opened book;
+  stands = (λ o. (standing-opened book).holds, λ o. holds-opened book);
 }
 
 -- each command of a list is in it
@@ -449,6 +487,10 @@ pub is-owed : (book : Book) (seen : List Entry) (entry : Entry) → IsSeen book 
 is-owed book seen entry s =
     at-entry (IsOwed book) (run (opened book) s.events) seen s.later entry s.parts (subst (λ (b : Book). EachEntry (IsOwed b) (run (opened book) s.events)) (opened-is book s.events) (fine book s.events).owed)
 
+pub kept-holds : (book : Book) (seen : List Entry) → IsSeen book seen → KeptHolds book (notes seen)
+kept-holds book seen s =
+    at-front (KeptHolds book) (run (opened book) s.events) seen s.later s.parts (subst (λ (b : Book). AtEach (KeptHolds b) (run (opened book) s.events)) (opened-is book s.events) (fine book s.events).stands)
+
 -- a book that keeps the rules names none of its pending commands
 all-unnamed : (book : Book) (pending : List Command) → AllByRecursion (λ command. names book command ≡ false) pending → (command : Command) → is_among command pending ≡ true → names book command ≡ false
 all-unnamed book [] a command e = absurd (grind arith)
@@ -456,3 +498,29 @@ all-unnamed book (other ∷ pending) a command e = or-either (same_command comma
 
 pub none-named-by_rules : (book : Book) → KeepsRules book → NoneNamed book
 none-named-by_rules book k command e = all-unnamed book book.pending k.none_named command e
+
+-- As a client is told that its save is complete, what was kept under its ID is that save alone.
+
+notes-more : (seen : List Entry) (c : ℕ) → notes (seen ++ Did (Say c SaveComplete) ∷ []) ≡ Given c SaveComplete ∷ notes seen
+notes-more seen c = ap (λ (xs : List Entry). noted xs) (reverse-append seen (Did (Say c SaveComplete) ∷ []))
+
+only-one : (book : Book) (id : List ℕ) (table : List Property) (tables : List (List Property)) → tables ≡ table ∷ [] → Holding book id tables → Contains book.entries (record { id = id; table = table })
+only-one book id table tables e h =
+    let s : Stands book id (table ∷ []) = subst (λ (x : List (List Property)). Holding book id x) e h (λ k. no-item (table) [] k) in
+    subst (λ (x : List Property). Contains book.entries (record { id = id; table = x })) (contains-all (λ x. x ≡ table) s.table (table ∷ []) s.one (refl, tt)) s.entry where
+      no-item : (x : List Property) (xs : List (List Property)) → x ∷ xs ≡ [] → ⊥
+      no-item x xs k = grind arith
+
+-- where what is kept stands as the client was told that its save is complete, its save stands
+pub complete-stands : (book : Book) (n : List Note) (c : ℕ) (id : List ℕ) (table : List Property) → Holding (book_in book n) id (kept_in book id (Given c SaveComplete ∷ n))
+    → id_in c n ≡ Some id → snapshot_in book c n ≡ Some table → is_eligible table ≡ true → Contains (book_in book n).entries (record { id = id; table = table })
+complete-stands book n c id table holds i k l =
+    only-one (book_in book n) id table (kept_in book id (Given c SaveComplete ∷ n))
+    (ap (λ (x : Option (List ℕ)). cond (has_that_id id x) (kept.completed (snapshot_in book c n) (kept_in book id n)) (kept_in book id n)) i
+    ∙ ap (λ (b : Bool). cond b (kept.completed (snapshot_in book c n) (kept_in book id n)) (kept_in book id n)) (own_text id)
+    ∙ ap (λ (x : Option (List Property)). kept.completed x (kept_in book id n)) k ∙ ap (λ (b : Bool). cond b (table ∷ []) []) l) holds
+
+pub saves-complete : CompletedSavesStand
+saves-complete book seen c id table o s i k l =
+    complete-stands book (notes seen) c id table
+    (subst (λ (x : List Note). Holding (book_in book x) id (kept_in book id x)) (notes-more seen c) (kept-holds book (seen ++ Did (Say c SaveComplete) ∷ []) s o id)) i k l

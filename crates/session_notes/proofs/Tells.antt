@@ -31,7 +31,7 @@ goes-on c others h r e = denied (of.is_ending h) (λ k. differ (asked-works (of.
 token-given : (d : ℕ) (m : XsmpMessage) (h : History) (n : List Note) → Suits (Gave d m) h → told.RestTold h → told.TokenTold h n → told.TokenTold (Gave d m ▷ h) (Given d m ∷ n)
 token-given d Interact h n s r t = told.token-interact d h n (first-asked d s.1.0 h s.1.1) t
 token-given d ShutdownCancelled h n s r t = told.token-cancelled d h n t
-token-given d Die h n s r t = told.token-die d h n (r s) t
+token-given d Die h n s r t = told.token-die d h n (r s.0) t
 token-given d m h n s r t = told.token-given d m h n refl t
 
 token-heard : (event : SessionEvent) (h : History) → told.TokenTold h (noted_of h) → told.TokenTold (Outside event ▷ h) (noted_of (Outside event ▷ h))
@@ -133,7 +133,7 @@ answers-step m h s t = t
 waits-by : (d : ℕ) (m : XsmpMessage) (h : History) (n : List Note) → Suits (Gave d m) h → WaitsTold h n → WaitsTold (Gave d m ▷ h) (Given d m ∷ n)
 waits-by d Interact h n s t = waits-interact d h n t
 waits-by d ShutdownCancelled h n s t = waits-cancelled d h n t
-waits-by d Die h n s t = λ e. absurd (differ s e)
+waits-by d Die h n s t = λ e. absurd (differ s.0 e)
 waits-by d m h n s t = waits-given d m h n refl t
 
 waits-message : (d : ℕ) (m : XsmpMessage) (sequence : ℕ) (frame : List ℕ) (h : History) (n : List Note) → Suits (Outside (Said d m sequence frame)) h → Sound h → told.AskedTold h n → told.OwingTold h n → WaitsTold h n

@@ -1,17 +1,19 @@
 -- Worked sessions, of which the definitions compute what is noted. Each begins with the empty book.
-use Rattle.std.specs.Prelude.{List, None, Some, [], codes, false, take, true, ◌++◌, ◌∷◌, ◌≡◌}
-use Rattle.sm_world.specs.declared.events.Order.TheVariants.{Checkpoint, Shutdown}
+use Rattle.std.specs.Prelude.{List, None, Some, [], codes, false, take, true, ◌++◌, ◌∷◌, ◌≡◌, ℕ}
+use Rattle.sm_world.specs.declared.events.Order.TheVariants.{Checkpoint, Forget, Shutdown}
 use Rattle.sm_world.specs.declared.events.SaveKind.TheVariants.{Both}
 use Rattle.sm_world.specs.declared.events.SaveStyle.TheVariants.{Errors}
 use Rattle.sm_world.specs.declared.events.Dialog.TheVariants.{Normal}
+use Rattle.ice_values.specs.declared.property.Property.{Property}
 use Rattle.checkpoint_records.specs.Books.{empty_book}
-use Rattle.xsmp_messages.specs.declared.message.XsmpMessage.TheVariants.{InteractDone, InteractRequest, SaveYourself, SaveYourselfPhase2Request, SaveYourselfRequest, SetProperties}
+use Rattle.xsmp_messages.specs.declared.message.XsmpMessage.TheVariants.{InteractDone, InteractRequest, SaveYourself, SaveYourselfDone, SaveYourselfPhase2Request, SaveYourselfRequest, SetProperties}
 use Rattle.session_model.specs.declared.events.SessionEvent.{SessionEvent}
 use Rattle.session_model.specs.declared.events.SessionEvent.TheVariants.{Left, Operator}
 use Rattle.session_model.specs.Rules.{opened, run}
-use Rattle.session_model.specs.Examples.{asks_all, discards_by, entry_1, first_book, keeping, log_in_and_save, logs_in, logs_in_as, removes, saved, says, sets}
+use Rattle.session_model.specs.Examples.{asks_all, discards_by, entry_1, first_book, hints, keeping, log_in_and_save, logs_in, logs_in_as, removes, saved, says, sets}
 use Rattle.session_notes.specs.Notes.{Given, Heard, Note, entries, notes}
 use Rattle.session_notes.specs.Watching.{has_answered, has_token, is_to_save, requests, was_asked}
+use Rattle.session_notes.specs.Kept.{kept_in}
 use Rattle.session_notes.specs.Keeping.{book_in, given_ids, id_in, is_discarded, is_newcomer, new_ids, snapshot_in}
 
 -- what is noted after these events
@@ -94,3 +96,44 @@ abbrev pub ADiscardIsNoted : Type 0
 ADiscardIsNoted =
     (is_discarded (removes (codes "a")) (notes_after one_saves_again) ≡ true) × (is_discarded (removes (codes "b")) (notes_after one_saves_again) ≡ false)
     × (is_discarded (removes (codes "a")) (notes_after (one_saves_again ++ sets 1 (discards_by (codes "a")) ∷ [])) ≡ false)
+
+-- What is kept
+
+abbrev pub first_id : List ℕ
+first_id = codes "smd-00000001-00000001"
+
+-- the tables of which one is sure to stand under the first client's ID, after these events
+abbrev pub kept_after : List SessionEvent → List (List Property)
+kept_after events = kept_in empty_book first_id (notes_after events)
+
+-- a save that is complete is kept, and one that fails later ends nothing
+abbrev pub ASaveIsKept : Type 0
+ASaveIsKept = (kept_after one_saves ≡ keeping (codes "a") ∷ []) × (kept_after (one_saves ++ Operator Checkpoint ∷ says 1 (SaveYourselfDone false) ∷ []) ≡ keeping (codes "a") ∷ [])
+
+-- two clients save again, and the first has told its success
+abbrev pub one_is_done : List SessionEvent
+one_is_done = one_saves ++ logs_in 2 ++ saved 2 ∷ Operator Checkpoint ∷ sets 1 (discards_by (codes "b")) ∷ saved 1 ∷ []
+
+-- either table may stand, until all have saved
+abbrev pub ALaterSaveIsKept : Type 0
+ALaterSaveIsKept = (kept_after one_is_done ≡ keeping (codes "a") ∷ keeping (codes "b") ∷ []) × (kept_after (one_is_done ++ saved 2 ∷ []) ≡ keeping (codes "b") ∷ [])
+
+-- a client that leaves and whose hint doesn't let its entry stay
+abbrev pub WhoLeavesIsLetGo : Type 0
+WhoLeavesIsLetGo = kept_after (one_saves ++ Left 1 ∷ []) ≡ []
+
+-- a client with the hint Anyway saves, and leaves
+abbrev pub anyway : List Property
+anyway = hints 1 ∷ keeping (codes "a")
+
+abbrev pub one_stays : List SessionEvent
+one_stays = logs_in 1 ++ says 1 (SetProperties anyway) ∷ saved 1 ∷ []
+
+-- its entry stays, until somebody has it forgotten while it isn't there
+abbrev pub WhoIsForgottenIsLetGo : Type 0
+WhoIsForgottenIsLetGo =
+    (kept_after (one_stays ++ Operator (Forget first_id) ∷ []) ≡ anyway ∷ []) × (kept_after (one_stays ++ Left 1 ∷ []) ≡ anyway ∷ []) × (kept_after (one_stays ++ Left 1 ∷ Operator (Forget first_id) ∷ []) ≡ [])
+
+-- what is saved as a shutdown is agreed is kept too
+abbrev pub ALogoutIsKept : Type 0
+ALogoutIsKept = kept_after (one_saves ++ Operator Shutdown ∷ sets 1 (discards_by (codes "b")) ∷ saved 1 ∷ []) ≡ keeping (codes "b") ∷ []

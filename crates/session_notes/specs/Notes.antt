@@ -2,10 +2,11 @@
 -- knows neither phases nor rounds.
 use Rattle.std.specs.Prelude.{List, [], cond, map, reverse, ℕ, ◌++◌, ◌==◌, ◌∷◌}
 use Rattle.sm_world.specs.declared.commands.Command.{Command}
+use Rattle.sm_world.specs.declared.events.Order.{Order}
 use Rattle.checkpoint_records.specs.declared.records.Book.{Book}
 use Rattle.xsmp_messages.specs.declared.message.XsmpMessage.{XsmpMessage}
 use Rattle.session_model.specs.declared.events.SessionEvent.{SessionEvent}
-use Rattle.session_model.specs.declared.events.SessionEvent.TheVariants.{Left, Said}
+use Rattle.session_model.specs.declared.events.SessionEvent.TheVariants.{Left, Operator, Said}
 use Rattle.session_model.specs.declared.events.Act.{Act}
 use Rattle.session_model.specs.declared.events.Act.TheVariants.{Blame, Commit, Say, Shut, Start}
 use Rattle.session_model.specs.declared.events.Reason.{Reason}
@@ -54,6 +55,8 @@ pub data Note : Type 0 where
   Wrote : Book → Note
   -- a command was started, for this reason
   Started : Reason → Command → Note
+  -- the operator ordered this
+  Ordered : Order → Note
 
 -- What is noted of entries, both the latest first. A message is refused where the entry directly behind it is an Error to its
 -- connection, and isn't noted then.
@@ -62,6 +65,7 @@ noted [] = []
 noted (Did (Blame c error) ∷ Came (Said d m sequence frame) ∷ seen) = cond (d == c) (noted seen) (Heard d m ∷ noted seen)
 noted (Came (Said c m sequence frame) ∷ seen) = Heard c m ∷ noted seen
 noted (Came (Left c) ∷ seen) = Gone c ∷ noted seen
+noted (Came (Operator order) ∷ seen) = Ordered order ∷ noted seen
 noted (Did (Say c m) ∷ seen) = Given c m ∷ noted seen
 noted (Did (Shut c) ∷ seen) = Gone c ∷ noted seen
 noted (Did (Commit book) ∷ seen) = Wrote book ∷ noted seen

@@ -1,4 +1,6 @@
-ghost use Rattle.session_notes.specs.Laws.{AllActsAreSeen, AllEventsAreSeen, OneHasTheToken, TheFirstIsServed, TheSecondPhaseWaits, NewIdsAreOfTheRun, NewIdsDiffer, NewIdsAreFresh, OldIdsAreRecorded, EntriesWereSaved, DiscardedStatesAreNotNamed, PendingIsNotLost};
+ghost use Rattle.session_notes.specs.Laws.{AllActsAreSeen, AllEventsAreSeen, OneHasTheToken, TheFirstIsServed, TheSecondPhaseWaits, NewIdsAreOfTheRun, NewIdsDiffer, NewIdsAreFresh, EntriesWereSaved, DiscardedStatesAreNotNamed, PendingIsNotLost, OldIdsAreRecorded};
+ghost use Rattle.session_notes.specs.Kept.{CompletedSavesStand, SavesAreKept};
+ghost use Rattle.session_notes.specs.Opening.{RunsBeginAgain};
 
 /// Does nothing: its contract is a law of every run. Each event is seen.
 pub fn all_events_are_seen()
@@ -58,4 +60,20 @@ pub fn discarded_states_are_not_named()
 /// Does nothing: its contract is a law of all that is seen of a run. A pending command stays pending, is named, or was started.
 pub fn pending_is_not_lost()
     ensures { PendingIsNotLost }
+{}
+
+/// Does nothing: its contract is a law of all that is seen of a run. What is kept under an ID stands in the book.
+pub fn saves_are_kept()
+    ensures { SavesAreKept }
+{}
+
+/// Does nothing: its contract is a law of all that is seen of a run. As a client is told that its save is complete, its entry stands in the book.
+pub fn completed_saves_stand()
+    ensures { CompletedSavesStand }
+{}
+
+/// Does nothing: its contract is a law of every run. It begins by starting again each entry of the opened book that is to be started
+/// again, before anything comes.
+pub fn runs_begin_again()
+    ensures { RunsBeginAgain }
 {}

@@ -1,4 +1,4 @@
-ghost use Rattle.session_notes.specs.Examples.{TheTokenIsNoted, TheTokenGoesOn, ARefusedRequestIsNotNoted, ACancelledShutdownIsNoted, AnswersAreNoted, ASaveIsNoted, ARecordedIdIsNotNew, AnOldSnapshotIsGone, ADiscardIsNoted};
+ghost use Rattle.session_notes.specs.Examples.{TheTokenIsNoted, TheTokenGoesOn, ARefusedRequestIsNotNoted, ACancelledShutdownIsNoted, AnswersAreNoted, ASaveIsNoted, ARecordedIdIsNotNew, AnOldSnapshotIsGone, ADiscardIsNoted, ASaveIsKept, ALaterSaveIsKept, WhoLeavesIsLetGo, WhoIsForgottenIsLetGo, ALogoutIsKept};
 
 /// Does nothing: its contract is a list of worked sessions, of each of which the definitions compute what is noted.
 pub fn notes_compute()
@@ -11,4 +11,9 @@ pub fn notes_compute()
     ensures a_recorded_id_is_not_new { ARecordedIdIsNotNew }
     ensures an_old_snapshot_is_gone { AnOldSnapshotIsGone }
     ensures a_discard_is_noted { ADiscardIsNoted }
+    ensures a_save_is_kept { ASaveIsKept }
+    ensures a_later_save_is_kept { ALaterSaveIsKept }
+    ensures who_leaves_is_let_go { WhoLeavesIsLetGo }
+    ensures who_is_forgotten_is_let_go { WhoIsForgottenIsLetGo }
+    ensures a_logout_is_kept { ALogoutIsKept }
 {}
