@@ -14,11 +14,15 @@ class Manager:
             os.path.join(room, name) for name in ("socket", "control", "store", "authority")
         ]
 
+    def words(self):
+        """The words that start smd."""
+        return [self.smd]
+
     def begin(self):
         """Starts smd and doesn't wait for anything."""
         paths = ["--socket", self.socket, "--control", self.control, "--store", self.store, "--authority", self.authority]
         self.process = subprocess.Popen(
-            [self.smd, "serve", *paths],
+            [*self.words(), "serve", *paths],
             stdin=subprocess.DEVNULL,
             stdout=subprocess.PIPE,
             env={**os.environ, "HOSTNAME": os.uname().nodename},
