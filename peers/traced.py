@@ -238,7 +238,10 @@ TESTS = {
 def main():
     smd, room, name = sys.argv[1:]
     signal.signal(signal.SIGTERM, lambda *_: sys.exit(1))
-    TESTS[name](smd, os.path.realpath(room))
+    try:
+        TESTS[name](smd, os.path.realpath(room))
+    finally:
+        Manager.kill_all()
 
 
 if __name__ == "__main__":
