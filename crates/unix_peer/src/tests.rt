@@ -63,12 +63,12 @@ const READER: &str = "UNIX_PEER_READER";
 /// More than a socket holds.
 const MUCH: usize = 2_000_000;
 
-/// Reads what comes, slowly, to its end or to so many bytes, and tells how many came.
-fn read_slowly(rt: HostRuntime, stream: &mut UnixStream) -> io::Result<usize> {
+/// Reads what comes, after a while, to its end or to so many bytes, and tells how many came.
+fn read_late(rt: HostRuntime, stream: &mut UnixStream) -> io::Result<usize> {
+    thread::sleep(&rt, Duration::from_millis(1_500));
     let mut chunk = [0u8; 65_536];
     let mut count: usize = 0;
     for _ in 0..MUCH {
-        thread::sleep(&rt, Duration::from_millis(2));
         let length = stream.read(&mut chunk)?;
         count = count.saturating_add(length);
         if length == 0 || count >= MUCH {
@@ -80,13 +80,13 @@ fn read_slowly(rt: HostRuntime, stream: &mut UnixStream) -> io::Result<usize> {
 
 /// No test by itself: another starts it as a reader, which says `all` where all has come.
 #[test]
-fn as_slow_reader(rt: HostRuntime) -> Result<(), Fail> {
+fn as_late_reader(rt: HostRuntime) -> Result<(), Fail> {
     let Ok(path) = env::var(&rt, READER) else {
         return Ok(());
     };
     let listener = UnixListener::bind(&rt, path.as_str())?;
     let (mut stream, _) = listener.accept()?;
-    if read_slowly(rt, &mut stream)? == MUCH {
+    if read_late(rt, &mut stream)? == MUCH {
         stream.write_all(b"all")?;
     }
     Ok(())
@@ -95,7 +95,7 @@ fn as_slow_reader(rt: HostRuntime) -> Result<(), Fail> {
 /// Starts this program, and waits until it can be connected to.
 fn reader(rt: HostRuntime, path: &str) -> io::Result<Child> {
     let mut command = Command::new(rt.alloc(), env::current_exe(&rt)?.as_str())?;
-    command.arg("tests::as_slow_reader")?;
+    command.arg("tests::as_late_reader")?;
     command.env(READER, path)?;
     command.stdout(Stdio::null());
     let child = command.spawn(&rt)?;
@@ -116,8 +116,10 @@ fn more_than_a_socket_holds_is_delivered(rt: HostRuntime) -> Result<(), Fail> {
     let id = process::id(rt.process());
     let path = format!(in rt.alloc(); "{}/reader-{id}", folder.as_path().as_str())?;
     let mut child = reader(rt, path.as_str())?;
-    let mut peer = UnixPeer::new(rt);
-    peer.connect(path.as_str())?;
+    let stream = UnixStream::connect(&rt, path.as_str())?;
+    // A write that waited for a second takes a part: the rest is for the next one.
+    stream.set_write_timeout(Some(Duration::from_secs(1)))?;
+    let mut peer = UnixPeer::over(rt, stream);
     let much = vec![in rt.alloc(); b'x'; MUCH]?;
     peer.deliver(much.as_slice())?;
     gives(&rt, &mut peer, b"all")?;
