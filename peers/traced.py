@@ -164,13 +164,16 @@ def short_making(smd, room):
 
 
 def taken_store(smd, room):
-    """A second smd on a store tries its lock, and does nothing more."""
+    """A second smd on a store tries its lock for two seconds, and does nothing more."""
     first = Manager(smd, room)
     first.start()
     second = Traced(smd, room, "second")
     second.socket, second.control, second.authority = [it + "-2" for it in (first.socket, first.control, first.authority)]
+    began = time.monotonic()
     second.begin()
     second.ends(4)
+    if time.monotonic() - began < 2:
+        raise ValueError("it gave up at once")
     second.expect_calls("open store\nrefused: flock\n")
     first.shutdown()
 

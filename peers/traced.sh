@@ -13,7 +13,7 @@ system_calls() {
   traced short_writes "what the system doesn't take of a checkpoint is written behind it"
   traced short_publishing "what the system doesn't take of the authority file is written behind it"
   traced short_making "what the system doesn't take of a new store is written behind it"
-  traced taken_store "a second smd only tries the store's lock"
+  traced taken_store "a second smd tries the store's lock for two seconds, and does nothing more"
   traced one_place "an smd of whose places two are one touches nothing"
   traced bad_socket "an smd that can't listen at its path touches nothing"
   traced failed_opening "a store that can't be synced at its opening isn't read"
