@@ -65,12 +65,20 @@ bad_paths() {
   check "both sockets can't be one" refuses_path 5 control "$room/other/socket"
   check "a store of another size is refused" untouched "$plain" refuses_path 3 store "$plain"
   check "its size is told" grep -qx 'smd: store has size 13' "$room/refused"
+  ln -s "$plain" "$room/link"
+  check "a symbolic link is no store" untouched "$plain" refuses_path 4 store "$room/link"
+  truncate -s 16777280 "$room/shared" && chmod 640 "$room/shared"
+  check "a store that others may read is refused" refuses_path 4 store "$room/shared"
+  check "its mode is told" grep -q 'others may use it: its mode must be 600' "$room/refused"
+  check "it keeps its mode" test "$(stat -c %a "$room/shared")" = 640
   check "a folder is no store" refuses_path 4 store "$room/folder"
   check "a store in no folder is refused" refuses_path 4 store "$room/none/store"
   check "an authority file in no folder is refused" refuses_path 4 authority "$room/none/authority"
   check "an empty path is refused" refuses_path 1 socket ''
   check "a missing word is refused" refuses 1 --socket "$room/other/socket"
   check "nothing is left at the refused sockets" test ! -e "$room/other/socket" -a ! -e "$room/other/control"
+  check "two places can't be one file" refuses_path 4 authority "$room/other/../other/store"
+  check "the store that it names is untouched" test "$(stat -c %s "$room/other/store")" = 16777280
 }
 
 longest_path() {

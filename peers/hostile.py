@@ -111,10 +111,12 @@ def slow(manager):
 
 
 def drain(client):
+    """Reads what is there; the end is an error."""
     client.socket.setblocking(False)
     try:
-        while client.socket.recv(65536):
-            pass
+        while True:
+            if not client.socket.recv(65536):
+                raise EOFError("the manager closed the connection")
     except BlockingIOError:
         pass
     client.socket.settimeout(30)
@@ -149,7 +151,7 @@ def throw(client, made, most):
             client.send(chunk)
             thrown += len(chunk)
             drain(client)
-    except ConnectionError:
+    except (EOFError, ConnectionError):
         pass
     client.socket.close()
     return thrown
@@ -172,6 +174,47 @@ def noise(manager, total=100_000_000):
     say("%d bytes on %d connections; a ping took %.3f seconds at most" % (thrown, connections, slowest))
     manager.expect("status", "connections 1, records 1, pending 0, epoch 1, idle")
     watcher.close()
+    manager.shutdown()
+
+
+def told(client):
+    """All that comes to a client up to the end, by major and minor opcode."""
+    found = []
+    try:
+        while True:
+            found.append(client.next()[:2])
+    except EOFError:
+        return found
+
+
+def gentle(manager):
+    """A client that is shut while it writes an oversize frame reads why, and takes nobody's place."""
+    manager.start()
+    others = [manager.saved()[0] for _ in range(63)]
+    late = registered(manager)
+    late.expect(xsmp.SAVE)
+    late.send(xsmp.message(xsmp.OPCODE, xsmp.SET, bytes(70_000))[:8])
+    time.sleep(0.1)
+    for _ in range(70):
+        late.send(bytes(1000))
+    others.append(manager.saved()[0])
+    for other in others:
+        other.ping()
+    found = told(late)
+    if found[-1:] != [(xsmp.OPCODE, xsmp.ERROR)]:
+        raise ValueError("it wasn't told why: %r" % found)
+    began = time.monotonic()
+    try:
+        while time.monotonic() - began < 5:
+            late.send(bytes(1000))
+            time.sleep(0.01)
+    except ConnectionError:
+        pass
+    say("closed %.1f seconds after the end was read" % (time.monotonic() - began))
+    if time.monotonic() - began > 3:
+        raise ValueError("it isn't closed")
+    for other in others:
+        other.close()
     manager.shutdown()
 
 
@@ -249,18 +292,16 @@ def killed(manager, times=200):
     manager.shutdown()
 
 
-TESTS = {it.__name__: it for it in (crowd, deaf, slow, noise, killed)}
+TESTS = {it.__name__: it for it in (crowd, deaf, slow, noise, gentle, killed)}
 
 
 def main():
     smd, room, name = sys.argv[1:]
     signal.signal(signal.SIGTERM, lambda *_: sys.exit(1))
-    manager = Manager(smd, room)
     try:
-        TESTS[name](manager)
+        TESTS[name](Manager(smd, room))
     finally:
-        if manager.process and manager.process.poll() is None:
-            manager.kill()
+        Manager.kill_all()
 
 
 if __name__ == "__main__":

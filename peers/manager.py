@@ -8,17 +8,24 @@ import xsmp
 
 
 class Manager:
+    made = []
+
     def __init__(self, smd, room):
+        self.made.append(self)
         self.smd, self.process = smd, None
         self.socket, self.control, self.store, self.authority = [
             os.path.join(room, name) for name in ("socket", "control", "store", "authority")
         ]
 
+    def words(self):
+        """The words that start smd."""
+        return [self.smd]
+
     def begin(self):
         """Starts smd and doesn't wait for anything."""
         paths = ["--socket", self.socket, "--control", self.control, "--store", self.store, "--authority", self.authority]
         self.process = subprocess.Popen(
-            [self.smd, "serve", *paths],
+            [*self.words(), "serve", *paths],
             stdin=subprocess.DEVNULL,
             stdout=subprocess.PIPE,
             env={**os.environ, "HOSTNAME": os.uname().nodename},
@@ -49,6 +56,13 @@ class Manager:
     def kill(self):
         self.process.kill()
         self.process.wait()
+
+    @classmethod
+    def kill_all(cls):
+        """Ends those that still run."""
+        for manager in cls.made:
+            if manager.process and manager.process.poll() is None:
+                manager.kill()
 
     def shutdown(self, seconds=30):
         """The end of a session in which no client is left that saves."""

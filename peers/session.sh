@@ -42,3 +42,16 @@ own_client() {
   check "smclient saves in the second phase" diff <(printf 'id smd-00000001-00000002\nsaved\n') <(joined --phase-two)
   check "the session of smclient logs out" logs_out
 }
+
+# A manager that closes with bytes unread resets the stream, which is an end as any other.
+rude_manager() {
+  local status
+  at=$room/rude
+  mkdir "$at"
+  python3 "$here/rude_manager.py" "$at/socket" "$at/authority" &
+  within 20 test -S "$at/socket" || return 1
+  timeout 20 "$smclient" --socket "$at/socket" --authority "$at/authority" > "$at/joined"
+  status=$?
+  wait $!
+  [ "$status" -eq 3 ]
+}

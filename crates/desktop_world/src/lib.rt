@@ -3,9 +3,11 @@
 #![tactic(auto)]
 
 mod identity;
+mod places;
 #[cfg(test)]
 mod tests;
 mod world;
 
 pub use identity::{host_name, random_cookie};
+pub use places::{BadPlaces, Places};
 pub use world::DesktopWorld;

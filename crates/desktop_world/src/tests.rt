@@ -1,9 +1,10 @@
-use crate::{DesktopWorld, host_name, random_cookie};
+use crate::{BadPlaces, DesktopWorld, Places, host_name, random_cookie};
 use sm_world::{
     Command, Console, Disk, Event, Failure, Links, Octets, OctetsList, PairList, Spawner,
 };
 use std::alloc::Global;
 use std::io::{Read, Write};
+use std::os::unix::fs::symlink;
 use std::os::unix::net::UnixStream;
 use std::test::Fail;
 use std::time::Duration;
@@ -103,5 +104,50 @@ fn a_line_goes_to_the_operator_who_asked(rt: HostRuntime) -> Result<(), Fail> {
 #[test]
 fn each_cookie_is_another(rt: HostRuntime) -> Result<(), Fail> {
     assert!(rt; random_cookie(&rt)? != random_cookie(&rt)?);
+    Ok(())
+}
+
+/// What can't be had at these places: the socket, the control socket, the store, the authority file.
+fn fault_at(rt: HostRuntime, paths: [&str; 4]) -> Option<BadPlaces> {
+    let [socket, control, store, authority] = paths;
+    let places = Places {
+        socket,
+        control,
+        store,
+        authority,
+    };
+    places.fault(&rt)
+}
+
+#[test]
+fn the_places_are_four(rt: HostRuntime) -> Result<(), Fail> {
+    let files = Some(BadPlaces::Files);
+    let sockets = Some(BadPlaces::Sockets);
+    assert_eq!(rt; fault_at(rt, ["/a", "/b", "/c", "/d"]), None);
+    assert_eq!(rt; fault_at(rt, ["/a", "b", "c", "d"]), None);
+    assert_eq!(rt; fault_at(rt, ["/a", "/b", "/c", "/c"]), files);
+    assert_eq!(rt; fault_at(rt, ["/a", "/b", "c", "./c"]), files);
+    assert_eq!(rt; fault_at(rt, ["/a", "/a", "/c", "/d"]), sockets);
+    assert_eq!(rt; fault_at(rt, ["/a", "/b", "//a", "/d"]), sockets);
+    assert_eq!(rt; fault_at(rt, ["/a", "/b", "/c", "/b"]), sockets);
+    assert_eq!(rt; fault_at(rt, ["/a", "/b", "/no/c", "/none/c"]), None);
+    assert_eq!(rt; fault_at(rt, ["a", "/b", "/c", "/d"]), sockets);
+    Ok(())
+}
+
+#[test]
+fn links_lead_to_one_file(rt: HostRuntime) -> Result<(), Fail> {
+    let (store, other) = (path_of(rt, "one")?, path_of(rt, "other")?);
+    let (store, other) = (store.as_str(), other.as_str());
+    fs::write(&rt, store, "x")?;
+    fs::hard_link(&rt, store, other)?;
+    let linked = fault_at(rt, ["/a", "/b", store, other]);
+    fs::remove_file(&rt, other)?;
+    symlink(&rt, store, other)?;
+    let pointed = fault_at(rt, ["/a", "/b", other, store]);
+    fs::remove_file(&rt, other)?;
+    fs::remove_file(&rt, store)?;
+    assert_eq!(rt; linked, Some(BadPlaces::Files));
+    assert_eq!(rt; pointed, Some(BadPlaces::Files));
     Ok(())
 }

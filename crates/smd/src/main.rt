@@ -1,10 +1,10 @@
 //! `smd`, the session manager.
 #![tactic(auto)]
 
-use desktop_world::{DesktopWorld, host_name, random_cookie};
+use desktop_world::{BadPlaces, DesktopWorld, Places, host_name, random_cookie};
 use program_frame::{OwnTexts, StandardConsole, read_words};
 use sm_world::{Console, Octets};
-use smd_app::{Identity, smd_main};
+use smd_app::{Identity, Paths, read_paths, smd_main};
 use std::io;
 use std::process::ExitCode;
 
@@ -20,8 +20,33 @@ const TEXTS: OwnTexts = OwnTexts {
     no_memory: "smd: no memory\n",
 };
 
+/// What can't be had at these paths. The session opens one after another, and this is seen before the
+/// first is made.
+fn bad_places(rt: HostRuntime, paths: Paths<'_>) -> Option<BadPlaces> {
+    let places = Places {
+        socket: paths.socket,
+        control: paths.control,
+        store: paths.store,
+        authority: paths.authority,
+    };
+    places.fault(&rt)
+}
+
+/// The status of a session whose places can't be had, which is printed.
+fn refused(rt: HostRuntime, bad: BadPlaces) -> u8 {
+    let (line, status) = match bad {
+        BadPlaces::Sockets => ("smd: link fault\n", 5),
+        BadPlaces::Files => ("smd: disk fault\n", 4),
+    };
+    let _ = StandardConsole::new(rt).print(line.as_bytes());
+    status
+}
+
 /// The status of a run with these words on this desktop.
 fn run(rt: HostRuntime, words: &[String]) -> io::Result<u8> {
+    if let Some(bad) = read_paths(words).and_then(|paths| bad_places(rt, paths)) {
+        return Ok(refused(rt, bad));
+    }
     let host = host_name(&rt)?;
     let identity = Identity {
         cookie: random_cookie(&rt)?,

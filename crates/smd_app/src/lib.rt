@@ -24,3 +24,4 @@ mod words;
 pub use identity::Identity;
 pub use laws::{calls_are_complete, statuses_exclude_each_other, words_mean_one_task};
 pub use program::smd_main;
+pub use words::{Paths, read_paths};

@@ -1,6 +1,7 @@
-ghost use Rattle.std.specs.Prelude.{◌≡◌, ◌≤◌};
+ghost use Rattle.std.specs.Prelude.{◌≡◌, ◌≤◌, true, false, None, IsErr, OnErr};
 ghost use Rattle.sm_world.specs.Outside.{Rose};
 ghost use Rattle.store_file.specs.Untold.{disk_outside};
+ghost use Rattle.store_file.specs.Losses.{SameStore};
 
 use crate::files::{replace, take_store};
 use sm_world::{Disk, Failed, Failure, Told};
@@ -13,8 +14,8 @@ use std::os::unix::fs::FileExt;
 /// is told to nobody; each fault is counted.
 ///
 /// A missing store is made with zeros, and stands under its name only when it is whole on the disk.
-/// After a sync that failed nothing is read or written any more, since the system may have dropped
-/// what it couldn't write.
+/// After a sync that failed nothing is read or written any more, and no store is taken, since the
+/// system may have dropped what it couldn't write.
 #[derive(Drop)]
 pub struct FileDisk {
     rt: HostRuntime,
@@ -40,7 +41,9 @@ impl FileDisk {
     }
 
     /// The file, as long as it can be relied on.
-    fn good_file(&self) -> Option<&File> {
+    fn good_file(&self) -> Option<&File>
+        ensures lost { self.now.is_lost ≡ true → result ≡ None }
+    {
         if self.is_lost {
             None
         } else {
@@ -51,7 +54,7 @@ impl FileDisk {
     fn count_one(&mut self)
         ensures rose { Rose self.old.faults self.new.faults }
         ensures not_fallen { self.old.faults ≤ self.new.faults }
-        ensures size { self.new.size ≡ self.old.size }
+        ensures same { SameStore self.old self.new }
     {
         self.faults = self.faults.saturating_add(1);
     }
@@ -60,7 +63,7 @@ impl FileDisk {
     fn failure(&mut self, path: &str, error: io::Error) -> Failure
         ensures cause { result ≡ Failure.Failed → Rose self.old.faults self.new.faults }
         ensures not_fallen { self.old.faults ≤ self.new.faults }
-        ensures size { self.new.size ≡ self.old.size }
+        ensures same { SameStore self.old self.new }
     {
         if error.kind() == ErrorKind::OutOfMemory {
             return Failure::NoMemory;
@@ -76,18 +79,29 @@ impl Told for FileDisk {
 }
 
 impl Disk for FileDisk {
-    ghost use Rattle.std.specs.Prelude.{None};
+    ghost use Rattle.std.specs.Prelude.{None, ◌+◌, ◌∷◌, [], length, is_err, IfOk, OnOk};
     ghost use Rattle.std.proofs.Common.{refl};
-    ghost use Rattle.sm_world.specs.Disk.{untold_size};
+    ghost use Rattle.sm_world.specs.Disk.{untold_size, has_failed, IsFailedWrite, IsFailedSync, MayRead, KeepsToldSize, UsesDisk};
+    ghost use Rattle.sm_world.specs.Outside.{Added, adds};
+    ghost use Rattle.sm_world.specs.declared.effects.Effect.TheVariants.{Wrote, Synced};
 
     ghost sized = { λ disk first told. untold_size disk.size first None refl told };
 
-    fn attach(&mut self, path: &str) -> Result<(), Failure> {
+    fn attach(&mut self, path: &str) -> Result<(), Failure>
+        ensures effects { (disk_outside self.new).told ≡ (disk_outside self.old).told }
+        ensures size { KeepsToldSize (disk_outside self.old) (disk_outside self.new) }
+        ensures uses { UsesDisk (disk_outside self.old) (disk_outside self.new) (has_failed result) }
+        ensures same { OnErr result (SameStore self.old self.new) }
+        ensures lost { self.old.is_lost ≡ true → IsErr result }
+    {
+        if self.is_lost {
+            self.count_one();
+            return Err(Failure::Failed);
+        }
         match take_store(self.rt, path, self.new_size) {
             Ok((file, size)) => {
                 self.file = Some(file);
                 self.size = size;
-                self.is_lost = false;
                 Ok(())
             }
             Err(error) => Err(self.failure(path, error)),
@@ -98,7 +112,14 @@ impl Disk for FileDisk {
         Ok(self.size)
     }
 
-    fn read_at(&mut self, at: u64, into: &mut [u8]) -> Result<(), Failure> {
+    fn read_at(&mut self, at: u64, into: &mut [u8]) -> Result<(), Failure>
+        ensures effects { (disk_outside self.new).told ≡ (disk_outside self.old).told }
+        ensures size { (disk_outside self.new).size ≡ (disk_outside self.old).size }
+        ensures bytes { OnOk result (MayRead (disk_outside self.old) at into.new) }
+        ensures uses { UsesDisk (disk_outside self.old) (disk_outside self.new) (has_failed result) }
+        ensures same { SameStore self.old self.new }
+        ensures lost { self.old.is_lost ≡ true → IsErr result }
+    {
         if let Some(file) = self.good_file() {
             if file.read_exact_at(into, at).is_ok() {
                 return Ok(());
@@ -108,7 +129,14 @@ impl Disk for FileDisk {
         Err(Failure::Failed)
     }
 
-    fn write_at(&mut self, at: u64, bytes: &[u8]) -> Result<(), Failed> {
+    fn write_at(&mut self, at: u64, bytes: &[u8]) -> Result<(), Failed>
+        ensures ok { OnOk result ((disk_outside self.new).told ≡ adds (disk_outside self.old).told (Wrote at bytes.now ∷ [])) }
+        ensures err { OnErr result (Added (disk_outside self.old).told (disk_outside self.new).told (IsFailedWrite at (length bytes.now))) }
+        ensures size { (disk_outside self.new).size ≡ (disk_outside self.old).size }
+        ensures uses { UsesDisk (disk_outside self.old) (disk_outside self.new) (is_err result) }
+        ensures same { SameStore self.old self.new }
+        ensures lost { self.old.is_lost ≡ true → IsErr result }
+    {
         if let Some(file) = self.good_file() {
             if file.write_all_at(bytes, at).is_ok() {
                 return Ok(());
@@ -118,7 +146,14 @@ impl Disk for FileDisk {
         Err(Failed)
     }
 
-    fn sync(&mut self) -> Result<(), Failed> {
+    fn sync(&mut self) -> Result<(), Failed>
+        ensures ok { OnOk result ((disk_outside self.new).told ≡ adds (disk_outside self.old).told (Synced ∷ [])) }
+        ensures err { OnErr result (Added (disk_outside self.old).told (disk_outside self.new).told IsFailedSync) }
+        ensures size { (disk_outside self.new).size ≡ (disk_outside self.old).size }
+        ensures uses { UsesDisk (disk_outside self.old) (disk_outside self.new) (is_err result) }
+        ensures loses { OnErr result (self.new.is_lost ≡ true) }
+        ensures lost { self.old.is_lost ≡ true → IsErr result }
+    {
         if let Some(file) = self.good_file() {
             if file.sync_data().is_ok() {
                 return Ok(());

@@ -1,14 +1,23 @@
 use std::fs::{File, OpenOptions, TryLockError};
 use std::io::{ErrorKind, Write};
-use std::os::unix::fs::OpenOptionsExt;
+use std::os::unix::fs::{MetadataExt, OpenOptionsExt};
 use std::path::Path;
-use std::{fs, io, process};
+use std::time::Duration;
+use std::{fs, io, process, thread};
 
 /// The mode of a file that is its owner's alone.
 const PRIVATE: u32 = 0o600;
 
+/// What of a mode is others'.
+const OTHERS: u32 = 0o077;
+
 /// How many zeros are written at once.
 const CHUNK: usize = 65_536;
+
+/// How often a store is tried that another process has, and how many milliseconds lie between.
+const TRIES: u64 = 20;
+
+const PAUSE: u64 = 100;
 
 /// Makes a file that is its owner's alone, in place of any that a crash left there.
 fn create_private(rt: HostRuntime, path: &str) -> io::Result<File> {
@@ -55,35 +64,66 @@ fn make_store(rt: HostRuntime, path: &str, size: u64) -> io::Result<()> {
     let new = name_beside(rt, path)?;
     let filled = fill_store(rt, new.as_str(), path, size);
     let _ = fs::remove_file(&rt, new.as_str());
-    filled?;
-    sync_folder(rt, path)
+    filled
+}
+
+/// What is refused as a store, besides what the system refuses.
+fn refused(why: &str) -> io::Error {
+    io::Error::new(ErrorKind::InvalidInput, why)
 }
 
 fn open_store(rt: HostRuntime, path: &str, size: u64) -> io::Result<File> {
     let mut how = OpenOptions::new();
     how.read(true).write(true);
-    match how.open(&rt, path) {
-        Err(error) if error.kind() == ErrorKind::NotFound => {
-            make_store(rt, path, size)?;
-            how.open(&rt, path)
-        }
-        opened => opened,
+    match fs::symlink_metadata(&rt, path) {
+        Ok(found) if found.is_symlink() => return Err(refused("it is a symbolic link")),
+        Err(error) if error.kind() == ErrorKind::NotFound => make_store(rt, path, size)?,
+        _ => {}
     }
+    how.open(&rt, path)
+}
+
+/// Locks a file for us alone. A program that is being started holds the lock of the manager that
+/// starts it until it runs, also where that one is killed meanwhile; so this waits for two seconds.
+fn lock(rt: HostRuntime, file: &File) -> io::Result<()> {
+    for _ in 0..TRIES {
+        match file.try_lock() {
+            Ok(()) => return Ok(()),
+            Err(TryLockError::WouldBlock) => thread::sleep(&rt, Duration::from_millis(PAUSE)),
+            Err(TryLockError::Error(error)) => return Err(error),
+        }
+    }
+    Err(io::Error::from(ErrorKind::ResourceBusy))
+}
+
+/// The size of a locked store. It must be the very file that has the name, and one of this size must
+/// be its owner's alone.
+fn checked_size(rt: HostRuntime, file: &File, path: &str, size: u64) -> io::Result<u64> {
+    let found = file.metadata()?;
+    if !found.is_file() {
+        return Err(refused("it is no file"));
+    }
+    let named = fs::symlink_metadata(&rt, path)?;
+    if named.dev() != found.dev() || named.ino() != found.ino() {
+        return Err(refused("it was replaced meanwhile"));
+    }
+    if found.len() == size && found.mode() & OTHERS != 0 {
+        return Err(refused("others may use it: its mode must be 600"));
+    }
+    Ok(found.len())
 }
 
 /// Opens the store for us alone, and tells its size. A missing one is made with this size.
+///
+/// A manager that was killed may have written what it didn't sync: it is read from the system's
+/// memory, and a crash may still lose it. So the store and its name are brought to the disk before
+/// anything is read.
 pub fn take_store(rt: HostRuntime, path: &str, size: u64) -> io::Result<(File, u64)> {
     let file = open_store(rt, path, size)?;
-    match file.try_lock() {
-        Ok(()) => {}
-        Err(TryLockError::WouldBlock) => return Err(io::Error::from(ErrorKind::ResourceBusy)),
-        Err(TryLockError::Error(error)) => return Err(error),
-    }
-    let found = file.metadata()?;
-    if !found.is_file() {
-        return Err(io::Error::from(ErrorKind::InvalidInput));
-    }
-    let size = found.len();
+    lock(rt, &file)?;
+    let size = checked_size(rt, &file, path, size)?;
+    file.sync_all()?;
+    sync_folder(rt, path)?;
     Ok((file, size))
 }
 

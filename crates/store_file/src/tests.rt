@@ -1,8 +1,10 @@
 use crate::FileDisk;
 use sm_world::{Disk, Failed, Failure};
-use std::os::unix::fs::PermissionsExt;
+use std::os::unix::fs::{PermissionsExt, symlink};
+use std::process::{Child, Command, Stdio};
 use std::test::Fail;
-use std::{env, fs, process};
+use std::time::Duration;
+use std::{env, fs, io, process, thread};
 
 /// Larger than what is written at once, and no multiple of it.
 const SIZE: u64 = 100_000;
@@ -80,7 +82,6 @@ fn a_small_file_is_replaced(rt: HostRuntime) -> Result<(), Fail> {
 fn what_is_no_file_is_refused(rt: HostRuntime) -> Result<(), Fail> {
     let folder = path_of(rt, "folder")?;
     let mut disk = FileDisk::new(rt, SIZE);
-    assert_eq!(rt; disk.sync(), Err(Failed));
     fs::create_dir(&rt, folder.as_str())?;
     assert_eq!(rt; disk.attach(folder.as_str()), Err(Failure::Failed));
     assert_eq!(rt; disk.publish(folder.as_str(), b"x"), Err(Failure::Failed));
@@ -88,5 +89,93 @@ fn what_is_no_file_is_refused(rt: HostRuntime) -> Result<(), Fail> {
     let missing = format!(in rt.alloc(); "{folder}/store")?;
     assert_eq!(rt; disk.attach(missing.as_str()), Err(Failure::Failed));
     assert_eq!(rt; disk.publish(missing.as_str(), b"x"), Err(Failure::Failed));
+    Ok(())
+}
+
+/// The variable that tells a started test which store it is to hold.
+const HELD: &str = "STORE_FILE_HELD";
+
+/// No test by itself: another starts it, so that it holds a store for a second.
+#[test]
+fn as_holder(rt: HostRuntime) -> Result<(), Fail> {
+    let Ok(path) = env::var(&rt, HELD) else {
+        return Ok(());
+    };
+    let mut disk = FileDisk::new(rt, SIZE);
+    assert_eq!(rt; disk.attach(path.as_str()), Ok(()));
+    fs::write(&rt, format!(in rt.alloc(); "{path}-held")?.as_str(), "x")?;
+    thread::sleep(&rt, Duration::from_secs(1));
+    Ok(())
+}
+
+/// Starts this program, and waits until it holds the store.
+fn holder(rt: HostRuntime, path: &str) -> io::Result<Child> {
+    let mut command = Command::new(rt.alloc(), env::current_exe(&rt)?.as_str())?;
+    command.arg("tests::as_holder")?;
+    command.env(HELD, path)?;
+    command.stdout(Stdio::null());
+    let child = command.spawn(&rt)?;
+    let held = format!(in rt.alloc(); "{path}-held")?;
+    for _ in 0..500 {
+        if fs::exists(&rt, held.as_str())? {
+            break;
+        }
+        thread::sleep(&rt, Duration::from_millis(20));
+    }
+    fs::remove_file(&rt, held.as_str())?;
+    Ok(child)
+}
+
+#[test]
+fn a_store_that_is_let_go_is_taken(rt: HostRuntime) -> Result<(), Fail> {
+    let path = path_of(rt, "held")?;
+    let mut child = holder(rt, path.as_str())?;
+    let mut disk = FileDisk::new(rt, SIZE);
+    let attached = disk.attach(path.as_str());
+    let _ = fs::remove_file(&rt, path.as_str());
+    assert_eq!(rt; attached, Ok(()));
+    assert!(rt; child.wait()?.success());
+    Ok(())
+}
+
+#[test]
+fn a_store_that_others_may_use_is_refused(rt: HostRuntime) -> Result<(), Fail> {
+    let path = path_of(rt, "open")?;
+    let path = path.as_str();
+    fs::write(&rt, path, "12345")?;
+    fs::set_permissions(&rt, path, fs::Permissions::from_mode(0o640))?;
+    assert_eq!(rt; FileDisk::new(rt, 5).attach(path), Err(Failure::Failed));
+    // What has another size is no store, and its size is told.
+    assert_eq!(rt; FileDisk::new(rt, 6).attach(path), Ok(()));
+    fs::set_permissions(&rt, path, fs::Permissions::from_mode(0o600))?;
+    assert_eq!(rt; FileDisk::new(rt, 5).attach(path), Ok(()));
+    fs::remove_file(&rt, path)?;
+    Ok(())
+}
+
+#[test]
+fn a_link_is_no_store(rt: HostRuntime) -> Result<(), Fail> {
+    let (path, link) = (path_of(rt, "linked")?, path_of(rt, "link")?);
+    symlink(&rt, path.as_str(), link.as_str())?;
+    // Nothing stands at the other end, and nothing is made there.
+    let dangling = FileDisk::new(rt, 5).attach(link.as_str());
+    assert_eq!(rt; dangling, Err(Failure::Failed));
+    assert_eq!(rt; fs::exists(&rt, path.as_str())?, false);
+    assert_eq!(rt; FileDisk::new(rt, 5).attach(path.as_str()), Ok(()));
+    let linked = FileDisk::new(rt, 5).attach(link.as_str());
+    assert_eq!(rt; linked, Err(Failure::Failed));
+    fs::remove_file(&rt, link.as_str())?;
+    fs::remove_file(&rt, path.as_str())?;
+    Ok(())
+}
+
+#[test]
+fn a_lost_store_is_lost_for_good(rt: HostRuntime) -> Result<(), Fail> {
+    let path = path_of(rt, "lost")?;
+    let mut disk = FileDisk::new(rt, 8);
+    assert_eq!(rt; disk.sync(), Err(Failed));
+    assert_eq!(rt; disk.attach(path.as_str()), Err(Failure::Failed));
+    assert_eq!(rt; fs::exists(&rt, path.as_str())?, false);
+    assert_eq!(rt; disk.sync(), Err(Failed));
     Ok(())
 }

@@ -1,53 +1,15 @@
 ghost use Rattle.std.specs.Prelude.{IfOk, IfSome};
 ghost use Rattle.sm_world.specs.Events.{HasPieceSize};
 
-use crate::outbox::{Outbox, Progress};
+use crate::client::Client;
+use crate::leavers::Leavers;
 use crate::reading::{Reading, is_passing, would_wait};
-use crate::sources::Source;
+use mio::Registry;
 use mio::net::UnixStream;
-use mio::{Interest, Registry};
 use sm_world::{Conn, Event, Failure, NoMemory, Octets, PIECE_LIMIT};
 use std::alloc::{AllocError, Global};
 use std::collections::{BTreeMap, VecDeque};
-use std::io;
 use std::io::Read;
-
-/// A client's connection.
-#[derive(Drop)]
-struct Client {
-    stream: UnixStream,
-    outbox: Outbox,
-    /// The system told that the peer sends no more. It won't tell again, so all is read that is left.
-    ends: bool,
-    /// The system tells when the stream takes bytes again. It is asked for that only while some wait,
-    /// since each read of the peer's would wake us else.
-    waits: bool,
-}
-
-impl Client {
-    /// Asks the system to tell when the stream takes bytes again, or not to.
-    fn watch(&mut self, registry: &Registry, conn: Conn, waits: bool) -> io::Result<()> {
-        if self.waits == waits {
-            return Ok(());
-        }
-        self.waits = waits;
-        let interest = if waits {
-            Interest::READABLE | Interest::WRITABLE
-        } else {
-            Interest::READABLE
-        };
-        registry.reregister(&mut self.stream, Source::Client(conn).token(), interest)
-    }
-
-    /// Goes on after bytes were sent; false where the client can't be served any more.
-    fn keeps(&mut self, registry: &Registry, conn: Conn, progress: Progress) -> bool {
-        match progress {
-            Progress::All => self.watch(registry, conn, false).is_ok(),
-            Progress::Some => self.watch(registry, conn, true).is_ok(),
-            Progress::Broken => false,
-        }
-    }
-}
 
 /// The clients' connections, by their numbers.
 #[derive(Drop)]
@@ -58,6 +20,7 @@ pub struct Clients {
     last: Conn,
     /// Those that were dropped and are told as gone next.
     gone: VecDeque<Conn>,
+    leaving: Leavers,
     /// Room for one read.
     piece: Vec<u8>,
 }
@@ -69,6 +32,7 @@ impl Clients {
             open: BTreeMap::new(alloc),
             last: 0,
             gone: VecDeque::new(alloc),
+            leaving: Leavers::new(alloc),
             piece: vec![in alloc; 0u8; PIECE_LIMIT]?,
         })
     }
@@ -78,23 +42,13 @@ impl Clients {
     pub fn add(
         &mut self,
         registry: &Registry,
-        mut stream: UnixStream,
+        stream: UnixStream,
     ) -> Result<Option<Conn>, NoMemory> {
         let Some(conn) = self.last.checked_add(1) else {
             return Ok(None);
         };
-        let token = Source::Client(conn).token();
-        if registry
-            .register(&mut stream, token, Interest::READABLE)
-            .is_err()
-        {
+        let Some(client) = Client::new(self.alloc, registry, conn, stream) else {
             return Ok(None);
-        }
-        let client = Client {
-            stream,
-            outbox: Outbox::new(self.alloc),
-            ends: false,
-            waits: false,
         };
         self.open.insert(conn, client)?;
         self.last = conn;
@@ -110,18 +64,14 @@ impl Clients {
         takes: bool,
     ) -> Result<(), NoMemory> {
         let Some(client) = self.open.get_mut(&conn) else {
+            self.leaving.told(registry, conn, ends, takes);
             return Ok(());
         };
         client.ends = client.ends || ends;
-        if !takes {
-            return Ok(());
+        if takes && !client.flush(registry, conn) {
+            return self.lose(conn);
         }
-        let progress = client.outbox.flush(&client.stream);
-        if client.keeps(registry, conn, progress) {
-            Ok(())
-        } else {
-            self.lose(conn)
-        }
+        Ok(())
     }
 
     /// Reads once from a connection.
@@ -129,7 +79,7 @@ impl Clients {
         ensures size { IfOk result (λ reading. IfSome reading.event HasPieceSize) }
     {
         let Some(client) = self.open.get_mut(&conn) else {
-            return Ok(Reading::nothing());
+            return Ok(self.leaving.read(conn, self.piece.as_mut_slice()));
         };
         match client.stream.read(self.piece.as_mut_slice()) {
             Ok(count) if 0 < count && count <= PIECE_LIMIT => {
@@ -144,7 +94,7 @@ impl Clients {
             Err(error) if would_wait(&error) => Ok(Reading::nothing()),
             Err(error) if is_passing(&error) => Ok(Reading::later()),
             _ => {
-                self.shut(conn);
+                let _ = self.open.remove(&conn);
                 Ok(Reading {
                     event: Some(Event::Gone(conn)),
                     more: false,
@@ -158,23 +108,34 @@ impl Clients {
         let Some(client) = self.open.get_mut(&to) else {
             return Ok(());
         };
-        let progress = client.outbox.send(&client.stream, bytes)?;
-        if client.keeps(registry, to, progress) {
+        if client.send(registry, to, bytes)? {
             Ok(())
         } else {
             self.lose(to)
         }
     }
 
-    /// Closes a connection. What the system took of it still reaches the peer.
-    pub fn shut(&mut self, conn: Conn) {
-        let _ = self.open.remove(&conn);
+    /// Closes a connection gently. What was sent on it still reaches the peer.
+    pub fn shut(&mut self, registry: &Registry, conn: Conn) {
+        if let Some(client) = self.open.remove(&conn) {
+            self.leaving.add(registry, conn, client);
+        }
+    }
+
+    /// Closes those that were shut and whose time is over after so many milliseconds.
+    pub fn pass(&mut self, milliseconds: u64) {
+        self.leaving.pass(milliseconds);
+    }
+
+    /// Whether connections that were shut aren't closed yet.
+    pub fn has_leavers(&self) -> bool {
+        !self.leaving.is_empty()
     }
 
     /// Closes a connection that is to be told as gone.
     fn lose(&mut self, conn: Conn) -> Result<(), NoMemory> {
         self.gone.push_back(conn)?;
-        self.shut(conn);
+        let _ = self.open.remove(&conn);
         Ok(())
     }
 

@@ -8,10 +8,16 @@ use std::os::fd::{AsFd, AsRawFd, OwnedFd};
 use std::os::unix::fs::FileTypeExt;
 use std::os::unix::net;
 use std::os::unix::net::{SocketAddr, SocketAddrExt};
-use std::{fs, io};
+use std::time::Duration;
+use std::{fs, io, thread};
 
 /// The mode of a socket that only its owner can connect to.
 const PRIVATE: u32 = 0o600;
+
+/// How often a name is tried that another process has, and how many milliseconds lie between.
+const TRIES: u64 = 20;
+
+const PAUSE: u64 = 100;
 
 fn check(status: i32) -> io::Result<()> {
     if status < 0 {
@@ -86,9 +92,28 @@ pub struct Doors {
 }
 
 impl Doors {
+    /// Opens the doors. A program that is being started holds the sockets of the manager that starts
+    /// it until it runs, also where that one is killed meanwhile; so names that are taken are tried
+    /// again for two seconds.
+    pub fn open<'a>(
+        rt: HostRuntime,
+        socket: &'a str,
+        control: &'a str,
+    ) -> Result<Doors, Refusal<'a>> {
+        for _ in 0..TRIES {
+            match Doors::try_open(rt, socket, control) {
+                Err(refusal) if refusal.error.kind() == ErrorKind::AddrInUse => {
+                    thread::sleep(&rt, Duration::from_millis(PAUSE));
+                }
+                opened => return opened,
+            }
+        }
+        Doors::try_open(rt, socket, control)
+    }
+
     /// Opens the clients' two doors and the operators' one. The abstract name comes first: a living
     /// manager holds it, so a second one ends here and touches no file of the first.
-    pub fn open<'a>(
+    fn try_open<'a>(
         rt: HostRuntime,
         socket: &'a str,
         control: &'a str,

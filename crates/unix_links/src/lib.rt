@@ -2,8 +2,10 @@
 //! faults are counted.
 #![tactic(auto)]
 
+mod client;
 mod clients;
 mod doors;
+mod leavers;
 mod links;
 mod operators;
 mod outbox;
@@ -15,3 +17,4 @@ mod sources;
 mod tests;
 
 pub use links::SocketLinks;
+pub use paths::{control_fault, path_fault};

@@ -13,7 +13,8 @@ use std::io;
 /// nobody; each fault is counted.
 ///
 /// Connections have the numbers from 1 on. A client for which more than 1,048,576 bytes would wait is
-/// dropped, and then gone. There is a tick every 250 milliseconds, also while events come, and it
+/// dropped, and then gone. One that is shut still gets what was sent on it, and is read on, unheard,
+/// until the peer closes it or a second has passed. There is a tick every 250 milliseconds, also while events come, and it
 /// carries the milliseconds since the last one.
 #[derive(Drop)]
 pub struct SocketLinks {
@@ -42,12 +43,14 @@ impl SocketLinks {
         }
     }
 
-    /// Removes the sockets' files, and then closes all sockets.
+    /// Removes the sockets' files, and closes all sockets. Connections that were shut have the rest of
+    /// their second before.
     pub fn close(&mut self)
         ensures untouched { links_outside self.new ≡ links_outside self.old }
     {
-        if let Some(sockets) = &self.sockets {
+        if let Some(sockets) = &mut self.sockets {
             sockets.remove_files();
+            sockets.finish();
         }
         self.sockets = None;
     }

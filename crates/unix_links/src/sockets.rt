@@ -88,6 +88,7 @@ impl Sockets {
         ensures size { IfOk result HasPieceSize }
     {
         self.ticked = now;
+        self.clients.pass(passed);
         if self.stalled {
             self.stalled = false;
             self.enqueue(Source::Clients)?;
@@ -226,7 +227,17 @@ impl Sockets {
     }
 
     pub fn shut(&mut self, conn: Conn) {
-        self.clients.shut(conn);
+        self.clients.shut(self.poll.registry(), conn);
+    }
+
+    /// Waits until the connections that were shut are closed, which takes a second or two at most.
+    /// Whatever else comes is heard by nobody.
+    pub fn finish(&mut self) {
+        for _ in 0..u64::MAX {
+            if !self.clients.has_leavers() || self.next().is_err() {
+                return;
+            }
+        }
     }
 
     /// Removes the files of the doors.

@@ -2,9 +2,10 @@ use crate::SocketLinks;
 use sm_world::{Event, Failure, Links, Order};
 use std::io::{ErrorKind, Read, Write};
 use std::os::unix::net::{UnixListener, UnixStream};
+use std::process::{Child, Command, Stdio};
 use std::test::Fail;
 use std::time::Duration;
-use std::{env, fs, io, process};
+use std::{env, fs, io, process, thread};
 
 /// The paths of a test's sockets.
 #[derive(Drop)]
@@ -17,10 +18,14 @@ fn room(rt: HostRuntime, name: &str) -> Result<Paths, Fail> {
     let folder = env::temp_dir(&rt)?;
     let folder = folder.as_path().as_str();
     let id = process::id(rt.process());
-    Ok(Paths {
-        socket: format!(in rt.alloc(); "{folder}/{name}-{id}")?,
-        control: format!(in rt.alloc(); "{folder}/{name}-{id}-orders")?,
-    })
+    let socket = format!(in rt.alloc(); "{folder}/{name}-{id}")?;
+    Ok(paths_at(rt, socket)?)
+}
+
+/// This path, and that of the control socket beside it.
+fn paths_at(rt: HostRuntime, socket: String) -> io::Result<Paths> {
+    let control = format!(in rt.alloc(); "{socket}-orders")?;
+    Ok(Paths { socket, control })
 }
 
 /// Links that listen there.
@@ -207,6 +212,158 @@ fn a_client_with_much_to_say_lets_others_in(rt: HostRuntime) -> Result<(), Fail>
     assert!(rt; is_piece(&next(&mut links), 1, whole));
     assert!(rt; is_piece(&next(&mut links), 2, b"b"));
     assert!(rt; is_piece(&next(&mut links), 1, &many[65_536..]));
+    links.close();
+    Ok(())
+}
+
+/// Bytes that all differ from their neighbours.
+fn many(rt: HostRuntime, count: usize) -> io::Result<Vec<u8>> {
+    let mut bytes = Vec::new(rt.alloc());
+    for at in 0..count {
+        bytes.push((at % 251) as u8)?;
+    }
+    Ok(bytes)
+}
+
+/// Reads what comes to a client until so many bytes are there, or the stream ends. It reads only
+/// what is there, and lets the links go on for a moment then.
+fn heard(
+    rt: HostRuntime,
+    links: &mut SocketLinks,
+    client: &mut UnixStream,
+    count: usize,
+) -> io::Result<Vec<u8>> {
+    client.set_nonblocking(true)?;
+    let mut all = Vec::new(rt.alloc());
+    let mut chunk = [0u8; 4096];
+    for _ in 0..10_000 {
+        if all.len() >= count {
+            break;
+        }
+        match client.read(&mut chunk) {
+            Ok(0) => break,
+            Ok(length) => all.extend_from_slice(&chunk[..length.min(4096)])?,
+            Err(_) => drop(links.next()),
+        }
+    }
+    client.set_nonblocking(false)?;
+    Ok(all)
+}
+
+#[test]
+fn more_than_a_socket_holds_is_delivered(rt: HostRuntime) -> Result<(), Fail> {
+    let paths = room(rt, "much")?;
+    let mut links = open(rt, &paths)?;
+    let mut client = dial(rt, paths.socket.as_str())?;
+    assert!(rt; matches!(next(&mut links), Event::Joined(1)));
+    let bytes = many(rt, 900_000)?;
+    assert_eq!(rt; links.send(1, &bytes[..400_000]), Ok(()));
+    assert_eq!(rt; links.send(1, &bytes[400_000..]), Ok(()));
+    let all = heard(rt, &mut links, &mut client, 900_000)?;
+    assert!(rt; all == bytes);
+    links.close();
+    Ok(())
+}
+
+#[test]
+fn who_is_shut_gets_what_was_sent(rt: HostRuntime) -> Result<(), Fail> {
+    let paths = room(rt, "shut")?;
+    let mut links = open(rt, &paths)?;
+    let mut client = dial(rt, paths.socket.as_str())?;
+    assert!(rt; matches!(next(&mut links), Event::Joined(1)));
+    let bytes = many(rt, 300_000)?;
+    assert_eq!(rt; links.send(1, bytes.as_slice()), Ok(()));
+    assert_eq!(rt; links.shut(1), Ok(()));
+    let all = heard(rt, &mut links, &mut client, 300_001)?;
+    assert!(rt; all == bytes);
+    links.close();
+    Ok(())
+}
+
+/// Writes this again and again, while the links go on, until so many ticks have passed.
+fn write_on(links: &mut SocketLinks, client: &mut UnixStream, ticks: u64) -> io::Result<()> {
+    for _ in 0..ticks {
+        client.write_all(&[7; 40_000])?;
+        let _ = links.next();
+    }
+    Ok(())
+}
+
+#[test]
+fn who_is_shut_while_writing_reads_why(rt: HostRuntime) -> Result<(), Fail> {
+    let paths = room(rt, "writing")?;
+    let mut links = open(rt, &paths)?;
+    let mut client = dial(rt, paths.socket.as_str())?;
+    assert!(rt; matches!(next(&mut links), Event::Joined(1)));
+    client.write_all(&[7; 70_000])?;
+    assert!(rt; matches!(next(&mut links), Event::Piece(1, _)));
+    assert_eq!(rt; links.send(1, b"why"), Ok(()));
+    assert_eq!(rt; links.shut(1), Ok(()));
+    write_on(&mut links, &mut client, 2)?;
+    let mut why = [0u8; 3];
+    client.read_exact(&mut why)?;
+    assert_eq!(rt; &why, b"why");
+    assert_eq!(rt; client.read(&mut why)?, 0);
+    // A second later it is closed.
+    assert!(rt; write_on(&mut links, &mut client, 8).is_err());
+    links.close();
+    Ok(())
+}
+
+#[test]
+fn who_is_shut_may_be_let_go_at_the_end(rt: HostRuntime) -> Result<(), Fail> {
+    let paths = room(rt, "last")?;
+    let mut links = open(rt, &paths)?;
+    let mut client = dial(rt, paths.socket.as_str())?;
+    assert!(rt; matches!(next(&mut links), Event::Joined(1)));
+    client.write_all(b"never heard")?;
+    assert_eq!(rt; links.send(1, b"why"), Ok(()));
+    assert_eq!(rt; links.shut(1), Ok(()));
+    links.close();
+    let mut why = [0u8; 4];
+    assert_eq!(rt; client.read(&mut why)?, 3);
+    // Nothing was left unread, so this is the end and no reset.
+    assert_eq!(rt; client.read(&mut why)?, 0);
+    Ok(())
+}
+
+/// The variable that tells a started test at which path it is to listen.
+const HELD: &str = "UNIX_LINKS_HELD";
+
+/// No test by itself: another starts it, so that it listens for a second. It leaves its files.
+#[test]
+fn as_holder(rt: HostRuntime) -> Result<(), Fail> {
+    let Ok(socket) = env::var(&rt, HELD) else {
+        return Ok(());
+    };
+    let paths = paths_at(rt, socket)?;
+    let _links = open(rt, &paths)?;
+    thread::sleep(&rt, Duration::from_secs(1));
+    Ok(())
+}
+
+/// Starts this program, and waits until it listens.
+fn holder(rt: HostRuntime, paths: &Paths) -> io::Result<Child> {
+    let mut command = Command::new(rt.alloc(), env::current_exe(&rt)?.as_str())?;
+    command.arg("tests::as_holder")?;
+    command.env(HELD, paths.socket.as_str())?;
+    command.stdout(Stdio::null());
+    let child = command.spawn(&rt)?;
+    for _ in 0..500 {
+        if fs::exists(&rt, paths.control.as_str())? {
+            break;
+        }
+        thread::sleep(&rt, Duration::from_millis(20));
+    }
+    Ok(child)
+}
+
+#[test]
+fn a_path_that_is_let_go_is_taken(rt: HostRuntime) -> Result<(), Fail> {
+    let paths = room(rt, "held")?;
+    let mut child = holder(rt, &paths)?;
+    let mut links = open(rt, &paths)?;
+    assert!(rt; child.wait()?.success());
     links.close();
     Ok(())
 }

@@ -11,7 +11,8 @@ use std::os::unix::net::UnixStream;
 const CHUNK: usize = 4096;
 
 /// Reads some bytes from a stream; this waits for them. A read that a signal interrupted is tried
-/// again. None is the stream's end, where there is room.
+/// again. None is the stream's end, where there is room. A peer that closes its end with bytes unread
+/// resets the stream: that is its end too.
 pub fn read_some(stream: &mut UnixStream, into: &mut [u8]) -> io::Result<usize>
     ensures within { IfOk result (λ n. n ≤ length into.old) }
     ensures rest { IfOk result (λ n. drop n into.new ≡ drop n into.old) }
@@ -32,6 +33,7 @@ fn read_into(stream: &mut UnixStream, into: &mut [u8]) -> io::Result<usize>
         match stream.read(into) {
             Ok(count) => return Ok(count),
             Err(error) if error.kind() == ErrorKind::Interrupted => {}
+            Err(error) if error.kind() == ErrorKind::ConnectionReset => return Ok(0),
             Err(error) => return Err(error),
         }
     }

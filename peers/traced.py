@@ -1,0 +1,251 @@
+#!/usr/bin/env python3
+"""The calls of a real smd on its store, its authority file, their folder and its sockets, as `strace` shows
+them:
+    traced.py SMD FOLDER TEST
+Each test runs managers of its own in the folder. It ends with 0 where all was as it has to be.
+"""
+import difflib
+import os
+import signal
+import sys
+import time
+
+from calls import calls_of
+from manager import Manager
+
+SHOWN = (
+    "open,openat,creat,flock,fsync,fdatasync,read,write,pread64,pwrite64,ftruncate,truncate,link,linkat,"
+    "rename,renameat,renameat2,unlink,unlinkat,fchmod,bind,sendto"
+)
+
+MADE = """make store.new-PID
+write store.new-PID 16777280 bytes at 0
+sync store.new-PID
+link store.new-PID store
+unlink store.new-PID
+"""
+
+# Whoever opens a store locks it, and brings it and its name to the disk before anything is read.
+TAKEN = """open store
+lock store
+sync store
+open .
+sync .
+"""
+
+PUBLISHED = """make authority.new-PID
+write authority.new-PID all bytes
+sync authority.new-PID
+rename authority.new-PID authority
+open .
+sync .
+"""
+
+LISTENING = """bind @socket
+mode 0600 of a socket
+bind socket
+mode 0600 of a socket
+bind control
+"""
+
+CLOSED = """unlink socket
+unlink control
+"""
+
+
+def commit(gate, slot, count):
+    """The other slot's gate is closed, the slot is filled, and the gate is opened, each on the disk before the next."""
+    return (
+        "write store 1 bytes at %d\nsync store\nwrite store %d bytes at %d\nsync store\n"
+        "write store 1 bytes at %d\nsync store\n" % (gate, count, slot, gate)
+    )
+
+
+# An epoch begins with a commit, and the order that ends the session has one too.
+FIRST_SESSION = "read store 1 bytes at 0\nread store 1 bytes at 32\n" + commit(0, 64, 40) + commit(32, 8388672, 40)
+
+GATES_AND_SLOTS = """read store 1 bytes at 0
+read store 1 bytes at 32
+read store 8 bytes at 64
+read store 12 bytes at 8388672
+read store 17 bytes at 8388688
+"""
+
+# The client is told that its save is complete once it is on the disk.
+SAVING = commit(0, 64, 40) + commit(32, 8388672, 184) + "send SaveComplete\n" + commit(0, 64, 40)
+
+
+class Traced(Manager):
+    """A manager under strace, which can have calls fail or do less."""
+
+    def __init__(self, smd, room, name, *faults):
+        super().__init__(smd, room)
+        self.room, self.trace, self.faults = room, os.path.join(room, name + ".trace"), faults
+
+    def words(self):
+        faults = [word for fault in self.faults for word in ("-e", "inject=" + fault)]
+        # The tracer stands aside, so that smd is our own child.
+        return ["strace", "-D", "-y", "-xx", "-s", "120", "-o", self.trace, "-e", "trace=" + SHOWN, *faults, self.smd]
+
+    def ends(self, status, seconds=30):
+        found = self.process.wait(seconds)
+        if found != status:
+            raise ValueError("smd ended with %d, not with %d" % (found, status))
+
+    def whole_trace(self):
+        for _ in range(500):
+            with open(self.trace) as file:
+                if "+++ exited" in file.read():
+                    return
+            time.sleep(0.02)
+        raise TimeoutError("the trace has no end")
+
+    def calls(self):
+        self.whole_trace()
+        network = "local/%s:%s" % (os.uname().nodename, self.socket)
+        # Two entries of five fields, each behind its length: protocol, nothing, network, name, cookie.
+        size = sum(10 + len(it) + len(network) + 18 + 16 for it in ("ICE", "XSMP"))
+        all_of_it = "write authority.new-PID %d bytes at 0" % size
+        return [it.replace(all_of_it, "write authority.new-PID all bytes") for it in calls_of(self.room, self.trace)]
+
+    def expect_calls(self, *parts):
+        found, wanted = self.calls(), "".join(parts).splitlines()
+        if found != wanted:
+            print(*difflib.unified_diff(wanted, found, "as it has to be", "as it was", lineterm=""), sep="\n")
+            raise ValueError("other calls in " + self.trace)
+
+
+def first_start(smd, room):
+    """A start without a store, and its end."""
+    manager = Traced(smd, room, "first")
+    manager.start()
+    manager.shutdown()
+    manager.expect_calls(MADE, TAKEN, PUBLISHED, LISTENING, FIRST_SESSION, CLOSED)
+
+
+def make_store(smd, room):
+    """A store whose first session is over."""
+    manager = Manager(smd, room)
+    manager.start()
+    manager.shutdown()
+
+
+def one_round(smd, room, *faults):
+    """A start over a store, and a client that saves once."""
+    make_store(smd, room)
+    manager = Traced(smd, room, "round", *faults)
+    manager.start()
+    client, _ = manager.saved()
+    client.close()
+    manager.shutdown()
+    manager.expect_calls(TAKEN, PUBLISHED, LISTENING, GATES_AND_SLOTS, SAVING, CLOSED)
+
+
+def short_writes(smd, room):
+    """Where the system takes a part of a write, the rest is written behind it."""
+    one_round(smd, room, "pwrite64:retval=1:when=2", "pwrite64:retval=100:when=5")
+
+
+def short_publishing(smd, room):
+    """The same in the authority file. The tracer has swallowed a part, so nobody could join."""
+    make_store(smd, room)
+    manager = Traced(smd, room, "short", "write:retval=7:when=1")
+    manager.start()
+    manager.shutdown()
+    manager.expect_calls(TAKEN, PUBLISHED, LISTENING, GATES_AND_SLOTS, commit(0, 64, 40), commit(32, 8388672, 40), CLOSED)
+
+
+def short_making(smd, room):
+    """The same where the store is made. The tracer has swallowed a part, so the store is too short."""
+    manager = Traced(smd, room, "short", "write:retval=100:when=3")
+    manager.begin()
+    manager.ends(3)
+    manager.expect_calls(MADE, TAKEN, PUBLISHED, LISTENING, CLOSED)
+
+
+def taken_store(smd, room):
+    """A second smd on a store tries its lock for two seconds, and does nothing more."""
+    first = Manager(smd, room)
+    first.start()
+    second = Traced(smd, room, "second")
+    second.socket, second.control, second.authority = [it + "-2" for it in (first.socket, first.control, first.authority)]
+    began = time.monotonic()
+    second.begin()
+    second.ends(4)
+    if time.monotonic() - began < 2:
+        raise ValueError("it gave up at once")
+    second.expect_calls("open store\nrefused: flock\n")
+    first.shutdown()
+
+
+def one_place(smd, room):
+    """An smd two of whose places are one does nothing at all."""
+    for name in ("control", "store", "authority"):
+        for other in ("socket", "control", "store"):
+            if name == other:
+                continue
+            manager = Traced(smd, room, name + "-" + other)
+            setattr(manager, name, getattr(manager, other))
+            manager.begin()
+            manager.ends(4 if {name, other} == {"store", "authority"} else 5)
+            manager.expect_calls("")
+
+
+def bad_socket(smd, room):
+    """An smd that can't listen at its socket's path does nothing at all."""
+    for number, path in enumerate(("socket", "/run/a:b", "/run/a,b", "/" + 107 * "a")):
+        manager = Traced(smd, room, "bad-%d" % number)
+        manager.socket = path
+        manager.begin()
+        manager.ends(5)
+        manager.expect_calls("")
+
+
+def failed_opening(smd, room):
+    """A store that can't be synced at its opening isn't read."""
+    make_store(smd, room)
+    manager = Traced(smd, room, "opening", "fsync:error=EIO:when=1")
+    manager.begin()
+    manager.ends(4)
+    manager.expect_calls("open store\nlock store\nrefused: fsync\n")
+
+
+def failed_sync(smd, room):
+    """Behind a sync that failed nothing is written, read or synced."""
+    manager = Traced(smd, room, "sync", "fdatasync:error=EIO:when=2")
+    manager.begin()
+    manager.ends(4)
+    session = FIRST_SESSION.splitlines(keepends=True)[:5] + ["refused: fdatasync\n"]
+    manager.expect_calls(MADE, TAKEN, PUBLISHED, LISTENING, *session, CLOSED)
+
+
+def no_hard_links(smd, room):
+    """On a file system without hard links no store is made, and nothing is left."""
+    manager = Traced(smd, room, "links", "link,linkat:error=EPERM")
+    manager.begin()
+    manager.ends(4)
+    made = MADE.replace("link store.new-PID store", "refused: link", 1)
+    manager.expect_calls(made)
+    left = sorted(os.listdir(room))
+    if left != ["links.trace"]:
+        raise ValueError("left behind: %r" % left)
+
+
+TESTS = {
+    it.__name__: it
+    for it in (first_start, one_round, short_writes, short_publishing, short_making, taken_store, one_place, bad_socket, failed_opening,
+               failed_sync, no_hard_links)
+}
+
+
+def main():
+    smd, room, name = sys.argv[1:]
+    signal.signal(signal.SIGTERM, lambda *_: sys.exit(1))
+    try:
+        TESTS[name](smd, os.path.realpath(room))
+    finally:
+        Manager.kill_all()
+
+
+if __name__ == "__main__":
+    main()
