@@ -24,7 +24,7 @@ use Rattle.session_engine.specs.Stops.{HasNumbers, HasOpened, IsLeft, IsNumbered
 use Rattle.session_engine.specs.Starting.{Launches, handed_on}
 use Rattle.session_engine.specs.declared.acts.Act.{Act}
 use Rattle.session_model.specs.declared.events.Reason.{Reason}
-use Rattle.session_engine.specs.declared.acts.Act.TheVariants.{Commit, Finish, Start}
+use Rattle.session_engine.specs.declared.acts.Act.TheVariants.{Commit, Finish, Print, Say, Shut as ShutsConn, Start}
 use Rattle.session_engine.specs.declared.fault.ServeFault.{ServeFault}
 use Rattle.session_engine.specs.declared.fault.ServeFault.TheVariants.{Damaged, WrongSize, DiskFault, LinkFault, ConsoleFault, Spent, Worn as WornFault, NoMemory as MemoryFault}
 use Rattle.session_engine.specs.declared.fault.Halt.{Halt}
@@ -290,12 +290,12 @@ none_numbered current some = absurd (omega (arith, some))
 
 -- a commit counts as one
 commit_counts : (act : Act) → IsTrue (is_commit act) → commits_in (act ∷ []) ≡ 1
-commit_counts (Say conn message) is = absurd is
-commit_counts (Shut conn) is = absurd is
-commit_counts (Start reason command) is = absurd is
+commit_counts (Say conn message) is = absurd (false≢true is)
+commit_counts (ShutsConn conn) is = absurd (false≢true is)
+commit_counts (Start reason command) is = absurd (false≢true is)
 commit_counts (Commit book) is = refl
-commit_counts (Print text) is = absurd is
-commit_counts Finish is = absurd is
+commit_counts (Print text) is = absurd (false≢true is)
+commit_counts Finish is = absurd (false≢true is)
 
 -- the disk neither fails nor is worn at an act that is no commit
 deed_able : (halt : Halt) (act : Act) → commits_in (act ∷ []) ≡ 0 → IsRefused halt (act ∷ []) → IsNotWorn {A = Option Current} (Err halt)

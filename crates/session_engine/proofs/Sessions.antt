@@ -1,5 +1,5 @@
 -- What a session stands for, from event to event: the theorem about the engine, on lists alone.
-use Rattle.std.proofs.Common.{◌≡◌, inl, inr, ℕ, true, false, List, [], ◌∷◌, ◌++◌, take, drop, map, Option, Result, Ok, Err, IsOk, IsErrOf, refl, sym, ◌∙◌, ap, arith, append_assoc}
+use Rattle.std.proofs.Common.{◌≡◌, inl, inr, ℕ, true, false, List, [], ◌∷◌, ◌++◌, take, drop, map, Option, Result, Ok, Err, IsOk, IsErrOf, refl, sym, ◌∙◌, ap, arith, append_assoc, subst}
 use Rattle.std.proofs.lemmas.List.{append-nil}
 use Rattle.std.proofs.lemmas.Bool.{false≢true}
 use Rattle.std.proofs.lemmas.Grind.{flat_map-append}
