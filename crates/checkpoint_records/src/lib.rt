@@ -1,8 +1,6 @@
 //! What is kept of a session between its logins.
 #![tactic(auto)]
 
-#[cfg(test)]
-mod book_tests;
 mod entries;
 mod head;
 mod ids;
@@ -15,8 +13,6 @@ mod sameness;
 mod spelling;
 mod stops;
 mod tables;
-#[cfg(test)]
-mod tests;
 mod zeroed;
 
 pub use laws::{books_read_back, bytes_stand_for_one};

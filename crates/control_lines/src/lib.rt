@@ -6,8 +6,6 @@ mod laws;
 mod lines;
 mod orders;
 mod script;
-#[cfg(test)]
-mod tests;
 mod trace;
 
 pub use fields::{put_hex, read_bytes, read_conn, read_hex, read_number};

@@ -4,7 +4,5 @@
 
 mod commands;
 mod ledger;
-#[cfg(test)]
-mod tests;
 
 pub use ledger::Ledger;

@@ -3,15 +3,11 @@
 #![tactic(auto)]
 
 mod authority;
-#[cfg(test)]
-mod authority_tests;
 mod cookies;
 mod laws;
 mod reading;
 mod refusals;
 mod spelling;
-#[cfg(test)]
-mod tests;
 
 pub use authority::{AuthorityEntry, AuthorityList};
 pub use cookies::Cookie;

@@ -4,8 +4,6 @@
 mod cutting;
 mod remainder;
 mod splitting;
-#[cfg(test)]
-mod tests;
 
 pub use cutting::{WholeFrame, WholeFrameList, cut_piece, cut_pieces};
 pub use remainder::Remainder;

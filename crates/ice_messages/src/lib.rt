@@ -6,8 +6,6 @@ mod encoding;
 mod laws;
 mod lengths;
 mod message;
-#[cfg(test)]
-mod tests;
 
 pub use decoding::decode_ice;
 pub use encoding::{encode_ice, minor};

@@ -7,14 +7,10 @@ mod errors;
 mod laws;
 mod offers;
 mod opener;
-#[cfg(test)]
-mod opener_tests;
 mod opening;
 mod others;
 mod states;
 mod taking;
-#[cfg(test)]
-mod tests;
 
 pub use answers::MANAGER_OPCODE;
 pub use errors::{Offending, error_of, opcode_values, text_values, wrong_byte_values};

@@ -13,8 +13,6 @@ mod property;
 mod refusals;
 mod severity;
 mod spelled;
-#[cfg(test)]
-mod tests;
 mod text;
 mod version;
 mod writing;

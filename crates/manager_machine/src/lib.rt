@@ -28,8 +28,6 @@ mod running;
 mod said;
 mod second;
 mod strays;
-#[cfg(test)]
-mod tests;
 mod token;
 mod waits;
 

@@ -3,8 +3,6 @@
 
 mod fields;
 mod ice;
-#[cfg(test)]
-mod tests;
 mod xsmp;
 
 pub use ice::ice_line;

@@ -3,8 +3,6 @@
 
 mod members;
 mod round;
-#[cfg(test)]
-mod tests;
 mod wanted;
 
 pub use round::{Member, Round, Step};

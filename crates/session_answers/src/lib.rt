@@ -5,8 +5,6 @@
 mod errors;
 mod ids;
 mod status;
-#[cfg(test)]
-mod tests;
 
 pub use errors::{Offence, bad_state, bad_value};
 pub use ids::client_id;

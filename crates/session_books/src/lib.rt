@@ -3,8 +3,6 @@
 
 mod commands;
 mod entries;
-#[cfg(test)]
-mod tests;
 
 pub use commands::{command_anyway, last_commands};
 pub use entries::{entries_without, next_entries};

@@ -8,8 +8,6 @@ mod phases;
 mod rows;
 mod summaries;
 mod tables;
-#[cfg(test)]
-mod tests;
 
 pub use client::{Client, is_reply};
 pub use clients::Clients;

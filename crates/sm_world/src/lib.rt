@@ -31,8 +31,3 @@ pub use lists::{
 pub use memory::MemWorld;
 pub use outside::{Console, Links, Spawner, Told};
 pub use steady::SteadyWorld;
-
-#[cfg(test)]
-mod disk_tests;
-#[cfg(test)]
-mod tests;

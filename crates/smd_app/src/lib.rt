@@ -9,22 +9,12 @@ mod identity;
 mod laws;
 #[cfg(test)]
 mod login_tests;
-#[cfg(test)]
-mod orders_tests;
-#[cfg(test)]
-mod phases_tests;
 mod program;
 mod rehearsal;
-#[cfg(test)]
-mod rounds_tests;
-#[cfg(test)]
-mod rows;
 mod script;
 #[cfg(test)]
 mod serve_tests;
 mod serving;
-#[cfg(test)]
-mod session_tests;
 mod summary;
 #[cfg(test)]
 mod tests;

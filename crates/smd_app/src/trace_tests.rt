@@ -1,35 +1,22 @@
-//! Traces in short: what some lines and some bytes are called, and what is expected of a run.
+//! Traces in short: what some lines and some bytes are called.
 
-use crate::tests::{expect_answer, rehearsed};
 use control_lines::read_hex;
 use sm_world::Octets;
 use std::alloc::Global;
-use std::process::Abort;
 use std::test::Fail;
 
 /// The names of bytes. Bytes of client and manager have one name where they are the same.
-const NAMES: [(&str, &str); 49] = [
-    // The set-up. A name with an M at its end is written most significant byte first.
+const NAMES: [(&str, &str); 20] = [
     ("BO", "0001000000000000"),
-    ("BOM", "0001010000000000"),
     (
         "CS",
         "0002010106000000000000000000000003004d49540000000300312e30000000\
          12004d49542d4d414749432d434f4f4b49452d3101000000",
     ),
-    (
-        "CSM",
-        "0002010100000006000000000000000000034d49540000000003312e30000000\
-         00124d49542d4d414749432d434f4f4b49452d3100010000",
-    ),
     ("AQ", "00030000010000000000000000000000"),
     (
         "AR",
         "00040000030000001000000000000000000102030405060708090a0b0c0d0e0f",
-    ),
-    (
-        "ARM",
-        "00040000000000030010000000000000000102030405060708090a0b0c0d0e0f",
     ),
     ("CR", "00060000020000000300736d640000000300312e30000000"),
     (
@@ -37,66 +24,19 @@ const NAMES: [(&str, &str); 49] = [
         "00070101070000000101000000000000040058534d50000003004d4954000000\
          0300312e3000000012004d49542d4d414749432d434f4f4b49452d3101000000",
     ),
-    (
-        "PSM",
-        "00070101000000070101000000000000000458534d50000000034d4954000000\
-         0003312e3000000000124d49542d4d414749432d434f4f4b49452d3100010000",
-    ),
     ("PR", "00080001020000000300736d640000000300312e30000000"),
-    ("CLOSE", "000b000000000000"),
-    ("NOCLOSE", "000c000000000000"),
     // Registration. Behind AGAIN and REPLY comes the ID.
     ("REG", "01010000010000000000000000000000"),
     ("AGAIN", "0101000004000000"),
     ("REPLY", "0102000004000000"),
-    // Saves: of a checkpoint, of a shutdown, and one that allows all dialogs or those about errors.
+    // Saves: of a checkpoint, and of a shutdown.
     ("SAVE", "01030000010000000100000000000000"),
     ("SAVEDOWN", "01030000010000000201020000000000"),
-    ("SAVEANY", "01030000010000000100020000000000"),
-    ("SAVEERR", "01030000010000000100010000000000"),
-    // Requests for a save: of the sender, and of all, with the styles None, Errors and Any, and of a
-    // shutdown.
-    ("OWN", "01040000010000000100000000000000"),
-    ("ALL", "01040000010000000100000001000000"),
-    ("ALLERR", "01040000010000000100010001000000"),
-    ("ALLANY", "01040000010000000100020001000000"),
-    ("ALLDOWN", "01040000010000000201020001000000"),
-    // Dialogs: asked for, one about an error, granted, done, and one that cancels the shutdown.
-    ("ASK", "0105010000000000"),
-    ("ASKERR", "0105000000000000"),
-    ("TALK", "0106000000000000"),
-    ("TALKED", "0107000000000000"),
-    ("STAY", "0107010000000000"),
     // The end of a save.
     ("DONE", "0108010000000000"),
-    ("FAILED", "0108000000000000"),
-    ("TWO", "0110000000000000"),
-    ("SAVETWO", "0111000000000000"),
     ("COMPLETE", "0112000000000000"),
     ("DIE", "0109000000000000"),
-    ("STAYED", "010a000000000000"),
     ("BYE", "010b0000010000000000000000000000"),
-    // Lists of properties: a restart command `c` with the hint Anyway. Then the property P with the
-    // values 1 and 3, and Q with the value 2.
-    (
-        "KEEPS",
-        "02000000000000000e00000052657374617274436f6d6d616e640000000000000c000000\
-         4c4953546f6641525241593801000000000000000100000063000000\
-         10000000526573746172745374796c6548696e740000000005000000434152443800000000000000\
-         01000000000000000100000001000000",
-    ),
-    (
-        "P1",
-        "01000000500000000500000043415244380000000000000001000000000000000100000001000000",
-    ),
-    (
-        "P3",
-        "01000000500000000500000043415244380000000000000001000000000000000100000003000000",
-    ),
-    (
-        "Q2",
-        "01000000510000000500000043415244380000000000000001000000000000000100000002000000",
-    ),
     // A restart command and a shutdown command of one word of two letters, and a hint, each up to its
     // value.
     (
@@ -114,38 +54,19 @@ const NAMES: [(&str, &str); 49] = [
         "10000000526573746172745374796c6548696e74000000000500000043415244\
          3800000000000000010000000000000001000000",
     ),
-    ("GET", "010e000000000000"),
-    // The heads of Errors that can continue, behind which come the minor opcode and the number.
-    ("STATE", "0100018001000000"),
-    ("VALUE", "0100038003000000"),
     // The front of each ID of the first epoch, behind which comes its number.
     ("SMD", "15000000736d642d30303030303030312d"),
 ];
 
 /// The first words of lines that stand for several lines, once for each of the fields behind the word.
 /// `@` is that field.
-const WORDS: [(&str, &str); 8] = [
-    // A new client that has saved for the first time, and one that is kept when it leaves.
-    (
-        "login",
-        "register @ / sent @ SAVE / piece @ DONE / sent @ COMPLETE",
-    ),
-    (
-        "kept",
-        "register @ / sent @ SAVE / piece @ 010c00000f000000+KEEPS+DONE / sent @ COMPLETE",
-    ),
-    ("register", "enter @ / piece @ REG / sent @ REPLY+#@"),
-    // A client that comes back under the ID of its number in the first epoch, and one that leaves.
+const WORDS: [(&str, &str); 3] = [
     ("back", "enter @ / piece @ AGAIN+#@ / sent @ REPLY+#@"),
     ("leave", "piece @ BYE / shut @"),
-    // A client that has set up XSMP.
     (
         "enter",
         "join @ / sent @ BO / piece @ BO+CS+AR+PS+AR / sent @ AQ / sent @ CR / sent @ AQ / sent @ PR",
     ),
-    // Rounds of the operator, in which these connections are asked to save.
-    ("checkpoint", "order checkpoint / printed ok / sent @ SAVE"),
-    ("shutdown", "order shutdown / printed ok / sent @ SAVEDOWN"),
 ];
 
 /// Appends a text, with this word for each `@`.
@@ -159,13 +80,6 @@ fn put_filled(out: &mut String, text: &str, word: &str) -> Result<(), Fail> {
         is_first = false;
     }
     Ok(())
-}
-
-/// A text with this word for each `@`.
-pub fn filled(alloc: Global, text: &str, word: &str) -> Result<String, Fail> {
-    let mut out = String::new(alloc);
-    put_filled(&mut out, text, word)?;
-    Ok(out)
 }
 
 /// Appends what a word stands for, once for each of these fields.
@@ -190,7 +104,7 @@ fn put_expanded(out: &mut String, line: &str, word: &str, meaning: &str) -> Resu
 }
 
 /// The lines of a text, with what stands for this word in its place.
-pub fn expanded(alloc: Global, text: &str, word: &str, meaning: &str) -> Result<String, Fail> {
+fn expanded(alloc: Global, text: &str, word: &str, meaning: &str) -> Result<String, Fail> {
     let mut out = String::new(alloc);
     for line in text.split(" / ") {
         if !line.is_empty() {
@@ -342,19 +256,4 @@ pub fn bytes_of(alloc: Global, text: &str) -> Result<Octets, Fail> {
         Some(bytes) => Ok(bytes),
         None => Ok(Octets::new(alloc)),
     }
-}
-
-/// Expects of what is heard in a text that the whole text is printed, and then the end of the events,
-/// or nothing where the last line is `over`.
-pub fn expect_trace(rt: &(impl Abort + Alloc<A = Global>), text: &str) -> Result<(), Fail> {
-    let alloc = rt.alloc();
-    let (text, end) = match text.split_once(" / over") {
-        Some((text, _)) => (text, ""),
-        None => (text, "end\n"),
-    };
-    let trace = trace_of(alloc, text)?;
-    let script = heard(alloc, trace.as_str())?;
-    let want = format!(in alloc; "{trace}{end}|")?;
-    let answer = rehearsed(alloc, "rehearse", script.as_bytes(), 9999)?;
-    expect_answer(rt, &answer, 0, want.as_bytes())
 }

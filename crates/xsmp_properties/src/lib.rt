@@ -6,8 +6,6 @@ mod hints;
 mod named;
 mod refusals;
 mod table;
-#[cfg(test)]
-mod tests;
 mod texts;
 
 pub use commands::{command_of, directory_of, environment_of, in_pairs, is_environment};

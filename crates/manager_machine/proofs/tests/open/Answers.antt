@@ -1,5 +1,0 @@
-use Rattle.manager_machine.proofs.Nothing.{rules-nothing}
-use Rattle.manager_machine.proofs.tests.open.Goals as goal
-
-pub begin-requires-clause-rules : goal.begin-requires-clause-rules
-begin-requires-clause-rules g c = rules-nothing c.in_ok-book.book c.in_ok-book.ensures

@@ -1,0 +1,9 @@
+//! Tests of the outside and of the lines of people.
+#![tactic(auto)]
+
+#[cfg(test)]
+mod disks;
+#[cfg(test)]
+mod lines;
+#[cfg(test)]
+mod worlds;

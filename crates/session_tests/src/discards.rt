@@ -1,0 +1,139 @@
+//! Books and ledgers written down by hand.
+
+use checkpoint_records::{Book, Entry};
+use discard_ledger::Ledger;
+use ice_values::{Array8List, Property, PropertyList};
+use sm_world::{Command, CommandList, NoMemory, Octets, PairList};
+use std::alloc::{Alloc, Global};
+use std::process::Abort;
+use std::test::Fail;
+use xsmp_properties::{PropertyTable, SetRefusal};
+
+/// The words `rm` and this one.
+fn words(alloc: Global, file: &[u8]) -> Result<Array8List, NoMemory> {
+    let mut words = Array8List::new(alloc);
+    words.push(Octets::from_slice(alloc, b"rm")?)?;
+    words.push(Octets::from_slice(alloc, file)?)?;
+    Ok(words)
+}
+
+fn command(alloc: Global, file: &[u8]) -> Result<Command, NoMemory> {
+    Ok(Command {
+        words: words(alloc, file)?,
+        directory: Octets::new(alloc),
+        environment: PairList::new(alloc),
+    })
+}
+
+/// A command for each byte.
+fn commands(alloc: Global, files: &[u8]) -> Result<CommandList, NoMemory> {
+    let mut list = CommandList::new(alloc);
+    for file in files {
+        list.push(command(alloc, &[*file])?)?;
+    }
+    Ok(list)
+}
+
+/// The entry of a client with this DiscardCommand.
+fn entry(alloc: Global, file: &[u8]) -> Result<Entry, SetRefusal> {
+    let mut list = PropertyList::new(alloc);
+    list.push(Property {
+        name: Octets::from_slice(alloc, b"DiscardCommand")?,
+        kind: Octets::from_slice(alloc, b"LISTofARRAY8")?,
+        values: words(alloc, file)?,
+    })?;
+    let mut table = PropertyTable::new(alloc)?;
+    table.set(&list)?;
+    Ok(Entry {
+        id: Octets::from_slice(alloc, b"smd-00000001-00000001")?,
+        table,
+    })
+}
+
+/// A book with an entry for each byte.
+fn book(alloc: Global, files: &[u8]) -> Result<Book, SetRefusal> {
+    let mut book = Book::empty(alloc)?;
+    for file in files {
+        book.entries.push(entry(alloc, &[*file])?)?;
+    }
+    Ok(book)
+}
+
+/// The second words of commands.
+fn files_of(alloc: Global, commands: &CommandList) -> Result<Octets, NoMemory> {
+    let mut text = Octets::new(alloc);
+    for command in commands.as_slice() {
+        if let Some(file) = command.words.as_slice().get(1) {
+            text.append(file.as_slice())?;
+        }
+    }
+    Ok(text)
+}
+
+/// Ends the test where the pending commands are others, or others of them may be run while the
+/// clients that are there tell of these.
+fn shows(
+    rt: &(impl Abort + Alloc<A = Global>),
+    ledger: &Ledger,
+    pending: &[u8],
+    live: &[u8],
+    issuable: &[u8],
+) -> Result<(), Fail> {
+    let alloc = rt.alloc();
+    let all = files_of(alloc, ledger.pending())?;
+    assert_eq!(rt; all.as_slice(), pending);
+    let some = ledger.issuable(&commands(alloc, live)?)?;
+    assert_eq!(rt; files_of(alloc, &some)?.as_slice(), issuable);
+    Ok(())
+}
+
+/// These DiscardCommands stop standing, one after the other.
+fn stray_all(
+    alloc: Global,
+    ledger: &mut Ledger,
+    files: &[u8],
+    last: &[u8],
+) -> Result<(), SetRefusal> {
+    let book = book(alloc, last)?;
+    for file in files {
+        ledger.stray(command(alloc, &[*file])?, &book)?;
+    }
+    Ok(())
+}
+
+fn retire(alloc: Global, ledger: &mut Ledger, old: &[u8], new: &[u8]) -> Result<(), SetRefusal> {
+    ledger.retire(&book(alloc, old)?, &book(alloc, new)?)?;
+    Ok(())
+}
+
+#[test]
+fn a_state_is_discarded_after_the_next_book(rt: HostRuntime) -> Result<(), Fail> {
+    let alloc = rt.alloc();
+    let mut ledger = Ledger::new(alloc, CommandList::new(alloc));
+    retire(alloc, &mut ledger, b"", b"a")?;
+    shows(&rt, &ledger, b"", b"a", b"")?;
+    retire(alloc, &mut ledger, b"a", b"b")?;
+    shows(&rt, &ledger, b"a", b"b", b"a")?;
+    ledger.note(&commands(alloc, b"a")?);
+    shows(&rt, &ledger, b"", b"b", b"")
+}
+
+#[test]
+fn each_command_is_pending_once_and_in_order(rt: HostRuntime) -> Result<(), Fail> {
+    let alloc = rt.alloc();
+    let mut ledger = Ledger::new(alloc, commands(alloc, b"pq")?);
+    stray_all(alloc, &mut ledger, b"sstop", b"oq")?;
+    retire(alloc, &mut ledger, b"oq", b"tn")?;
+    shows(&rt, &ledger, b"pqos", b"sq", b"po")
+}
+
+#[test]
+fn at_most_128_strays_are_kept(rt: HostRuntime) -> Result<(), Fail> {
+    let alloc = rt.alloc();
+    let mut ledger = Ledger::new(alloc, CommandList::new(alloc));
+    let files = Vec::from_iter(alloc, 0..130u8)?;
+    stray_all(alloc, &mut ledger, &files, b"")?;
+    retire(alloc, &mut ledger, b"", b"")?;
+    assert_eq!(rt; ledger.pending().as_slice().len(), 128);
+    Ok(())
+}

@@ -1,0 +1,9 @@
+//! Tests of what is kept of clients, and of its bytes.
+#![tactic(auto)]
+
+#[cfg(test)]
+mod books;
+#[cfg(test)]
+mod properties;
+#[cfg(test)]
+mod records;
