@@ -29,7 +29,7 @@ use Rattle.client_machine.specs.declared.saves.Stage.{Stage}
 use Rattle.client_machine.specs.declared.saves.Stage.TheVariants.{First}
 use Rattle.client_machine.proofs.Places.{asked_in_phase}
 use Rattle.client_callbacks.specs.Answers.{Replies, unasked}
-use Rattle.client_callbacks.specs.Doing.{Answered, Callbacks, Desk, desk, Does, Follows, MayAct, Saved, Sends, Speaks, Takes, failure_in}
+use Rattle.client_callbacks.specs.Doing.{Answered, Callbacks, Desk, desk, CarriesOut, Follows, MayAct, Saved, Sends, Speaks, Takes, failure_in}
 use Rattle.client_callbacks.specs.Listening.{is_listening}
 use Rattle.client_callbacks.specs.Received.{received_of}
 use Rattle.client_callbacks.specs.Script.{Entry, Says, AsksSave, AsksReasons, TellsCancelled, Notes, Step, acted, after_answer, after_cancel, again_line, arrived, completed, frame_taken, opening_took, speaking_took, answer_line, answer_messages, cancel_line, closes, die_line, owed_messages, stage_again}
@@ -41,15 +41,15 @@ use Rattle.client_callbacks.specs.declared.talk.Counts.{Counts}
 use Rattle.client_callbacks.specs.declared.talk.Place.{Place}
 use Rattle.client_callbacks.specs.declared.talk.Place.TheVariants.{Opening, Over, Speaking, Stopped}
 use Rattle.client_callbacks.specs.declared.talk.Talk.{Talk}
-use Rattle.client_callbacks.proofs.DoingLaws.{asks_does, does_cut, does_more, does_never, does_none, notes_does, sends_does}
+use Rattle.client_callbacks.proofs.DoingLaws.{carries_asked, carries_cut, carries_more, carries_never, carries_none, carries_noted, carries_sent}
 use Rattle.client_callbacks.proofs.Short.{short-previous}
 
 module _ {S D C : Type 0} (answers : S → SaveAsk → SaveAnswer → S → Type 0) (gives : D → List (List ℕ) → D → Type 0) (hears : C → C → Type 0) where
   abbrev FollowsIn : List Entry → Callbacks S D C → Callbacks S D C → Type 0
   FollowsIn entries old new = Follows answers gives hears entries old new
 
-  abbrev DoesIn : Desk S D C → Desk S D C → List Entry → Option Failure → Type 0
-  DoesIn old new all failure = Does answers gives hears old new all failure
+  abbrev CarriesIn : Desk S D C → Desk S D C → List Entry → Option Failure → Type 0
+  CarriesIn old new all failure = CarriesOut answers gives hears old new all failure
 
   abbrev AnsweredIn : SaveAsk → ClientState → Outside → Outside → Callbacks S D C → Callbacks S D C → Result ClientState Failure → Type 0
   AnsweredIn ask client old new before after result = Answered answers gives hears ask client old new before after result
@@ -64,9 +64,9 @@ module _ {S D C : Type 0} (answers : S → SaveAsk → SaveAnswer → S → Type
     answer = answer;
     lawful = lawful;
     does = λ lines.
-        does_more answers gives hears (desk old lines before) (desk old lines after) (desk new lines after) (AsksSave ask answer ∷ []) (map Says (answer_messages answer)) (failure_in result)
-        (asks_does answers gives hears old lines before after (AsksSave ask answer) refl refl follows)
-        (sends_does answers gives hears old new lines after (answer_messages answer) (failure_in result) sends);
+        carries_more answers gives hears (desk old lines before) (desk old lines after) (desk new lines after) (AsksSave ask answer ∷ []) (map Says (answer_messages answer)) (failure_in result)
+        (carries_asked answers gives hears old lines before after (AsksSave ask answer) refl refl follows)
+        (carries_sent answers gives hears old new lines after (answer_messages answer) (failure_in result) sends);
     next = next;
   }
 
@@ -77,7 +77,7 @@ module _ {S D C : Type 0} (answers : S → SaveAsk → SaveAnswer → S → Type
   unfolding replies_of
   saved_failed old new before after ask client failure first = record {
     replies = replies_of first.answer first.answer;
-    does = λ lines. does_cut answers gives hears (desk old lines before) (desk new lines after) (answer_line ask first.answer) (again_line ask first.answer (stage_again ask.stage)) failure (first.does lines);
+    does = λ lines. carries_cut answers gives hears (desk old lines before) (desk new lines after) (answer_line ask first.answer) (again_line ask first.answer (stage_again ask.stage)) failure (first.does lines);
     next = tt;
   }
 
@@ -85,7 +85,7 @@ module _ {S D C : Type 0} (answers : S → SaveAsk → SaveAnswer → S → Type
   unfolding replies_of
   saved_once old new before after ask client last once first = record {
     replies = replies_of first.answer first.answer;
-    does = λ lines. rw (sym once) (does_more answers gives hears (desk old lines before) (desk new lines after) (desk new lines after) (answer_line ask first.answer) [] None (first.does lines) (does_none answers gives hears (desk new lines after)));
+    does = λ lines. rw (sym once) (carries_more answers gives hears (desk old lines before) (desk new lines after) (desk new lines after) (answer_line ask first.answer) [] None (first.does lines) (carries_none answers gives hears (desk new lines after)));
     next = rw (sym once) first.next;
   }
 
@@ -93,31 +93,31 @@ module _ {S D C : Type 0} (answers : S → SaveAsk → SaveAnswer → S → Type
   unfolding replies_of
   saved_twice old middle new before between after ask stage client talked result twice first second = record {
     replies = replies_of first.answer second.answer;
-    does = λ lines. rw (sym twice) (does_more answers gives hears (desk old lines before) (desk middle lines between) (desk new lines after) (answer_line ask first.answer) (answer_line (at_stage stage ask) second.answer) (failure_in result) (first.does lines) (second.does lines));
+    does = λ lines. rw (sym twice) (carries_more answers gives hears (desk old lines before) (desk middle lines between) (desk new lines after) (answer_line ask first.answer) (answer_line (at_stage stage ask) second.answer) (failure_in result) (first.does lines) (second.does lines));
     next = rw (sym twice) (subst (λ (c : ClientState). IfOk result (λ last. last ≡ after_answer second.answer c)) first.next second.next);
   }
 
   -- ---- lines
 
   -- a line couldn't be noted
-  pub unnoted : (outside : Outside) (old new : List (List ℕ)) (callbacks : Callbacks S D C) (all : List Entry) → new ≡ old → DoesIn (desk outside old callbacks) (desk outside new callbacks) all (Some NoMemory)
-  unnoted outside old new callbacks all same = rw same (does_never answers gives hears (desk outside old callbacks) all)
+  pub unnoted : (outside : Outside) (old new : List (List ℕ)) (callbacks : Callbacks S D C) (all : List Entry) → new ≡ old → CarriesIn (desk outside old callbacks) (desk outside new callbacks) all (Some NoMemory)
+  unnoted outside old new callbacks all same = rw same (carries_never answers gives hears (desk outside old callbacks) all)
 
-  pub died : (first last : Outside) (old new : List (List ℕ)) (before after : Callbacks S D C) (reasons : List (List ℕ)) (failure : Option Failure) → new ≡ old ++ codes "died" ∷ [] → FollowsIn (AsksReasons reasons ∷ []) before after → Sends first last (closes reasons ∷ []) failure → DoesIn (desk first old before) (desk last new after) (die_line reasons) failure
+  pub died : (first last : Outside) (old new : List (List ℕ)) (before after : Callbacks S D C) (reasons : List (List ℕ)) (failure : Option Failure) → new ≡ old ++ codes "died" ∷ [] → FollowsIn (AsksReasons reasons ∷ []) before after → Sends first last (closes reasons ∷ []) failure → CarriesIn (desk first old before) (desk last new after) (die_line reasons) failure
   died first last old new before after reasons failure noted follows sends =
-      does_more answers gives hears (desk first old before) (desk first new before) (desk last new after) (Notes (codes "died") ∷ []) (AsksReasons reasons ∷ Says (closes reasons) ∷ []) failure
-      (notes_does answers gives hears first old new before (codes "died") noted)
-      (does_more answers gives hears (desk first new before) (desk first new after) (desk last new after) (AsksReasons reasons ∷ []) (Says (closes reasons) ∷ []) failure
-      (asks_does answers gives hears first new before after (AsksReasons reasons) refl refl follows)
-      (sends_does answers gives hears first last new after (closes reasons ∷ []) failure sends))
+      carries_more answers gives hears (desk first old before) (desk first new before) (desk last new after) (Notes (codes "died") ∷ []) (AsksReasons reasons ∷ Says (closes reasons) ∷ []) failure
+      (carries_noted answers gives hears first old new before (codes "died") noted)
+      (carries_more answers gives hears (desk first new before) (desk first new after) (desk last new after) (AsksReasons reasons ∷ []) (Says (closes reasons) ∷ []) failure
+      (carries_asked answers gives hears first new before after (AsksReasons reasons) refl refl follows)
+      (carries_sent answers gives hears first last new after (closes reasons ∷ []) failure sends))
 
-  pub cancelled : (first last : Outside) (old new : List (List ℕ)) (before after : Callbacks S D C) (client : ClientState) (failure : Option Failure) → new ≡ old ++ codes "cancelled" ∷ [] → FollowsIn (TellsCancelled ∷ []) before after → Sends first last (owed_messages (is_owing client.phase)) failure → DoesIn (desk first old before) (desk last new after) (cancel_line client) failure
+  pub cancelled : (first last : Outside) (old new : List (List ℕ)) (before after : Callbacks S D C) (client : ClientState) (failure : Option Failure) → new ≡ old ++ codes "cancelled" ∷ [] → FollowsIn (TellsCancelled ∷ []) before after → Sends first last (owed_messages (is_owing client.phase)) failure → CarriesIn (desk first old before) (desk last new after) (cancel_line client) failure
   cancelled first last old new before after client failure noted follows sends =
-      does_more answers gives hears (desk first old before) (desk first new before) (desk last new after) (Notes (codes "cancelled") ∷ []) (TellsCancelled ∷ map Says (owed_messages (is_owing client.phase))) failure
-      (notes_does answers gives hears first old new before (codes "cancelled") noted)
-      (does_more answers gives hears (desk first new before) (desk first new after) (desk last new after) (TellsCancelled ∷ []) (map Says (owed_messages (is_owing client.phase))) failure
-      (asks_does answers gives hears first new before after TellsCancelled refl refl follows)
-      (sends_does answers gives hears first last new after (owed_messages (is_owing client.phase)) failure sends))
+      carries_more answers gives hears (desk first old before) (desk first new before) (desk last new after) (Notes (codes "cancelled") ∷ []) (TellsCancelled ∷ map Says (owed_messages (is_owing client.phase))) failure
+      (carries_noted answers gives hears first old new before (codes "cancelled") noted)
+      (carries_more answers gives hears (desk first new before) (desk first new after) (desk last new after) (TellsCancelled ∷ []) (map Says (owed_messages (is_owing client.phase))) failure
+      (carries_asked answers gives hears first new before after TellsCancelled refl refl follows)
+      (carries_sent answers gives hears first last new after (owed_messages (is_owing client.phase)) failure sends))
 
   -- ---- steps
 
@@ -125,7 +125,7 @@ module _ {S D C : Type 0} (answers : S → SaveAsk → SaveAnswer → S → Type
   pub speaks_takes : (old new : Outside) (lines : List (List ℕ)) (callbacks : Callbacks S D C) (step : Replies → Step) (result : Result Talk Failure) → Speaks old new (step unasked) result → Takes answers gives hears (desk old lines callbacks) (desk new lines callbacks) step result
   speaks_takes old new lines callbacks step result speaks = record {
     replies = unasked;
-    does = rw speaks.line (sends_does answers gives hears old new lines callbacks speaks.messages (failure_in result) speaks.sends);
+    does = rw speaks.line (carries_sent answers gives hears old new lines callbacks speaks.messages (failure_in result) speaks.sends);
     next = speaks.next;
   }
 
@@ -135,15 +135,15 @@ module _ {S D C : Type 0} (answers : S → SaveAsk → SaveAnswer → S → Type
 
   -- memory was wanting before anything was done
   pub takes_never : (d : Desk S D C) (step : Replies → Step) → Takes answers gives hears d d step (Err NoMemory)
-  takes_never d step = record { replies = unasked; does = does_never answers gives hears d (step unasked).line; next = tt }
+  takes_never d step = record { replies = unasked; does = carries_never answers gives hears d (step unasked).line; next = tt }
 
   -- nothing is done
   pub takes_silent : (d : Desk S D C) (step : Replies → Step) (talk : Talk) → (step unasked).line ≡ [] → talk ≡ (step unasked).next → Takes answers gives hears d d step (Ok talk)
-  takes_silent d step talk silent stands = record { replies = unasked; does = rw silent (does_none answers gives hears d); next = stands }
+  takes_silent d step talk silent stands = record { replies = unasked; does = rw silent (carries_none answers gives hears d); next = stands }
 
   -- one line was noted
   pub takes_noted : (outside : Outside) (old new : List (List ℕ)) (callbacks : Callbacks S D C) (line : List ℕ) (step : Replies → Step) (talk : Talk) → new ≡ old ++ line ∷ [] → (step unasked).line ≡ Notes line ∷ [] → talk ≡ (step unasked).next → Takes answers gives hears (desk outside old callbacks) (desk outside new callbacks) step (Ok talk)
-  takes_noted outside old new callbacks line step talk noted is_line stands = record { replies = unasked; does = rw is_line (notes_does answers gives hears outside old new callbacks line noted); next = stands }
+  takes_noted outside old new callbacks line step talk noted is_line stands = record { replies = unasked; does = rw is_line (carries_noted answers gives hears outside old new callbacks line noted); next = stands }
 
   -- one message was sent, or wasn't
   pub takes_said : (old new : Outside) (lines : List (List ℕ)) (callbacks : Callbacks S D C) (message : Message) (step : Replies → Step) (result : Result Talk Failure) → (step unasked).line ≡ Says message ∷ [] → Sends old new (message ∷ []) (failure_in result) → IfOk result (λ talk. talk ≡ (step unasked).next) → Takes answers gives hears (desk old lines callbacks) (desk new lines callbacks) step result
@@ -160,14 +160,14 @@ module _ {S D C : Type 0} (answers : S → SaveAsk → SaveAnswer → S → Type
   because : List (List ℕ) → Replies
   because reasons = record { first = unasked.first; again = unasked.again; reasons = reasons }
 
-  pub act_died : (old new : Desk S D C) (a : Arrival) (joined : Joined) (client : ClientState) (reasons : List (List ℕ)) (result : Result Talk Failure) → DoesIn old new (die_line reasons) (failure_in result) → IfOk result (λ talk. talk ≡ record { place = Over Died; counts = a.counts }) → Takes answers gives hears old new (λ r. acted a joined r client Die) result
+  pub act_died : (old new : Desk S D C) (a : Arrival) (joined : Joined) (client : ClientState) (reasons : List (List ℕ)) (result : Result Talk Failure) → CarriesIn old new (die_line reasons) (failure_in result) → IfOk result (λ talk. talk ≡ record { place = Over Died; counts = a.counts }) → Takes answers gives hears old new (λ r. acted a joined r client Die) result
   unfolding because
   act_died old new a joined client reasons result does stands = record { replies = because reasons; does = does; next = stands }
 
-  pub act_cancelled : (old new : Desk S D C) (a : Arrival) (joined : Joined) (client last : ClientState) (talk : Talk) → DoesIn old new (cancel_line client) None → last ≡ after_cancel client → talk ≡ record { place = Speaking joined last; counts = a.counts } → Takes answers gives hears old new (λ r. acted a joined r client Cancelled) (Ok talk)
+  pub act_cancelled : (old new : Desk S D C) (a : Arrival) (joined : Joined) (client last : ClientState) (talk : Talk) → CarriesIn old new (cancel_line client) None → last ≡ after_cancel client → talk ≡ record { place = Speaking joined last; counts = a.counts } → Takes answers gives hears old new (λ r. acted a joined r client Cancelled) (Ok talk)
   act_cancelled old new a joined client last talk does owed stands = record { replies = unasked; does = does; next = rw owed at stands }
 
-  pub act_uncancelled : (old new : Desk S D C) (a : Arrival) (joined : Joined) (client : ClientState) (failure : Failure) → DoesIn old new (cancel_line client) (Some failure) → Takes answers gives hears old new (λ r. acted a joined r client Cancelled) (Err failure)
+  pub act_uncancelled : (old new : Desk S D C) (a : Arrival) (joined : Joined) (client : ClientState) (failure : Failure) → CarriesIn old new (cancel_line client) (Some failure) → Takes answers gives hears old new (λ r. acted a joined r client Cancelled) (Err failure)
   act_uncancelled old new a joined client failure does = record { replies = unasked; does = does; next = tt }
 
   -- the last save is complete
@@ -175,9 +175,9 @@ module _ {S D C : Type 0} (answers : S → SaveAsk → SaveAnswer → S → Type
   completed_last first last old new callbacks a joined client test result is_last noted sends stands = rw is_last (record {
     replies = unasked;
     does =
-        does_more answers gives hears (desk first old callbacks) (desk first new callbacks) (desk last new callbacks) (Notes (codes "saved") ∷ []) (Says (closes []) ∷ []) (failure_in result)
-        (notes_does answers gives hears first old new callbacks (codes "saved") noted)
-        (sends_does answers gives hears first last new callbacks (closes [] ∷ []) (failure_in result) sends);
+        carries_more answers gives hears (desk first old callbacks) (desk first new callbacks) (desk last new callbacks) (Notes (codes "saved") ∷ []) (Says (closes []) ∷ []) (failure_in result)
+        (carries_noted answers gives hears first old new callbacks (codes "saved") noted)
+        (carries_sent answers gives hears first last new callbacks (closes [] ∷ []) (failure_in result) sends);
     next = stands;
   })
 
@@ -185,7 +185,7 @@ module _ {S D C : Type 0} (answers : S → SaveAsk → SaveAnswer → S → Type
   pub completed_one : (outside : Outside) (old new : List (List ℕ)) (callbacks : Callbacks S D C) (a : Arrival) (joined : Joined) (client : ClientState) (test : Bool) (counts : Counts) → test ≡ false → new ≡ old ++ codes "saved" ∷ [] → counts ≡ record a.counts { saves = a.counts.saves - 1 } → Takes answers gives hears (desk outside old callbacks) (desk outside new callbacks) (λ r. completed a joined client test) (Ok (record { place = Speaking joined client; counts = counts }))
   completed_one outside old new callbacks a joined client test counts not_last noted less = rw not_last (record {
     replies = unasked;
-    does = notes_does answers gives hears outside old new callbacks (codes "saved") noted;
+    does = carries_noted answers gives hears outside old new callbacks (codes "saved") noted;
     next = ap (λ (n : Counts). let t : Talk = record { place = Speaking joined client; counts = n } in t) less;
   })
 
@@ -200,8 +200,8 @@ module _ {S D C : Type 0} (answers : S → SaveAsk → SaveAnswer → S → Type
   pub deaf_frame : (d : Desk S D C) (t : Talk) (frame : WholeFrame) (place : Place) → t.place ≡ place → is_listening place ≡ false → Takes answers gives hears d d (frame_taken t frame) (Ok (record { place = place; counts = t.counts }))
   deaf_frame d t frame (Opening opener previous) place deaf = absurd cc
   deaf_frame d t frame (Speaking joined client) place deaf = absurd cc
-  deaf_frame d t frame Stopped place deaf = rw place (record { replies = unasked; does = does_none answers gives hears d; next = refl })
-  deaf_frame d t frame (Over answer) place deaf = rw place (record { replies = unasked; does = does_none answers gives hears d; next = refl })
+  deaf_frame d t frame Stopped place deaf = rw place (record { replies = unasked; does = carries_none answers gives hears d; next = refl })
+  deaf_frame d t frame (Over answer) place deaf = rw place (record { replies = unasked; does = carries_none answers gives hears d; next = refl })
 
 -- what an act asks of a client is asked in its place
 pub may_act_by : (c : ClientState) (act : ClientAct) → ((ask : SaveAsk) → act ≡ Save ask → (c.phase ≡ stage_phase ask.stage) × (c.asked ≡ ask)) → ((message : XsmpMessage) → act ≡ Again message → message ≡ RegisterClient []) → MayAct c act

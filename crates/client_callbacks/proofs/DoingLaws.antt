@@ -1,5 +1,5 @@
 -- One call after another: what is sent, what is done, and the cause of a failure.
-use Rattle.std.proofs.Common.{◌≡◌, inl, inr, arith, ℕ, List, [], ◌∷◌, ◌++◌, map, Option, None, Some, Result, Ok, Err, refl, sym, ◌∙◌, ap, append_assoc}
+use Rattle.std.proofs.Common.{◌≡◌, ◌≢◌, inl, inr, arith, ℕ, List, [], ◌∷◌, ◌++◌, map, Option, None, Some, Result, Ok, Err, refl, sym, ◌∙◌, ap, append_assoc}
 use Rattle.std.proofs.lemmas.List.{append-nil, map-append}
 use Rattle.std.proofs.lemmas.Grind.{flat_map-append}
 use Rattle.sm_world.specs.Outside.{Outside, adds, on_ok, NotFallen}
@@ -9,7 +9,7 @@ use Rattle.sm_world.specs.declared.failures.Faults.{Faults}
 use Rattle.sm_world.proofs.Adding.{adds-adds, adds-none, never_fallen, fallen_never}
 use Rattle.client_machine.specs.declared.saves.SaveAnswer.{SaveAnswer}
 use Rattle.client_machine.specs.declared.saves.SaveAsk.{SaveAsk}
-use Rattle.client_callbacks.specs.Doing.{Callbacks, Desk, desk, Does, Follows, IsCaused, Sends, effect_of, effects_in, failure_in, line_of, lines_in, sent}
+use Rattle.client_callbacks.specs.Doing.{Callbacks, CarriesOut, Desk, desk, Does, Follows, IsCaused, IsUnsent, Sends, effect_of, effects_in, failure_in, line_of, lines_in, sent}
 use Rattle.client_callbacks.specs.Script.{Entry, Hears, Says, AsksSave, AsksReasons, TellsCancelled, Notes}
 use Rattle.client_callbacks.specs.declared.messages.Message.{Message}
 
@@ -22,15 +22,15 @@ cause_later first second third (Some NoMemory) one cause = tt
 -- ---- messages
 
 pub sends_none : (old : Outside) → Sends old old [] None
-sends_none old = record { done = []; left = []; parts = refl; none_left = λ e. refl; told = sym (adds-none old.told); counts = never_fallen old.faults; cause = tt }
+sends_none old = record { done = []; left = []; parts = refl; none_left = λ e. refl; some_left = λ e. absurd cc; told = sym (adds-none old.told); counts = never_fallen old.faults; cause = tt }
 
 -- nothing was sent, for want of memory
 pub sends_never : (old : Outside) (all : List Message) → Sends old old all (Some NoMemory)
-sends_never old all = record { done = []; left = all; parts = refl; none_left = λ e. absurd cc; told = sym (adds-none old.told); counts = never_fallen old.faults; cause = tt }
+sends_never old all = record { done = []; left = all; parts = refl; none_left = λ e. absurd cc; some_left = λ e. absurd cc; told = sym (adds-none old.told); counts = never_fallen old.faults; cause = tt }
 
 pub sends_one : {A : Type 0} (old new : Outside) (message : Message) (result : Result A Failure) → new.told ≡ adds old.told (on_ok result (sent message ∷ [])) → NotFallen old.faults new.faults → IsCaused old.faults new.faults (failure_in result) → Sends old new (message ∷ []) (failure_in result)
-sends_one old new message (Ok x) told counts cause = record { done = message ∷ []; left = []; parts = refl; none_left = λ e. refl; told = told; counts = counts; cause = cause }
-sends_one old new message (Err failure) told counts cause = record { done = []; left = message ∷ []; parts = refl; none_left = λ e. absurd cc; told = told; counts = counts; cause = cause }
+sends_one old new message (Ok x) told counts cause = record { done = message ∷ []; left = []; parts = refl; none_left = λ e. refl; some_left = λ e. absurd cc; told = told; counts = counts; cause = cause }
+sends_one old new message (Err failure) told counts cause = record { done = []; left = message ∷ []; parts = refl; none_left = λ e. absurd cc; some_left = λ e none. absurd cc; told = told; counts = counts; cause = cause }
 
 -- all of these, and then some of those
 pub sends_more : (a b c : Outside) (xs ys : List Message) (failure : Option Failure) → Sends a b xs None → Sends b c ys failure → Sends a c (xs ++ ys) failure
@@ -39,6 +39,7 @@ sends_more a b c xs ys failure one two = record {
   left = two.left;
   parts = append_assoc xs two.done two.left ∙ ap (λ (ms : List Message). xs ++ ms) two.parts;
   none_left = two.none_left;
+  some_left = two.some_left;
   told = two.told ∙ (ap (λ t. adds t (map sent two.done)) (one.told ∙ ap (λ ms. adds a.told (map sent ms)) all_done) ∙ (adds-adds a.told (map sent xs) (map sent two.done) ∙ ap (adds a.told) (sym (map-append sent xs two.done))));
   counts = fallen_never a.faults b.faults c.faults one.counts two.counts;
   cause = cause_later a.faults b.faults c.faults failure one.counts two.cause;
@@ -47,6 +48,10 @@ sends_more a b c xs ys failure one two = record {
     all_done : one.done ≡ xs
     all_done = sym (append-nil one.done) ∙ (ap (λ (ms : List Message). one.done ++ ms) (sym (one.none_left refl)) ∙ one.parts)
 
+no_front : {A : Type 0} (xs ys : List A) → xs ++ ys ≡ [] → xs ≡ []
+no_front [] ys none = refl
+no_front (x ∷ xs) ys none = absurd cc
+
 -- some of these, and none of those
 pub sends_cut : (a b : Outside) (xs ys : List Message) (failure : Failure) → Sends a b xs (Some failure) → Sends a b (xs ++ ys) (Some failure)
 sends_cut a b xs ys failure one = record {
@@ -54,6 +59,7 @@ sends_cut a b xs ys failure one = record {
   left = one.left ++ ys;
   parts = sym (append_assoc one.done one.left ys) ∙ ap (λ (ms : List Message). ms ++ ys) one.parts;
   none_left = λ e. absurd cc;
+  some_left = λ e none. one.some_left e (no_front one.left ys none);
   told = one.told;
   counts = one.counts;
   cause = one.cause;
@@ -62,6 +68,13 @@ sends_cut a b xs ys failure one = record {
 effects-said : (ms : List Message) → effects_in (map Says ms) ≡ map sent ms
 effects-said [] = refl
 effects-said (m ∷ ms) = ap (λ es. sent m ∷ es) (effects-said ms)
+
+unsent-said : (ms : List Message) → ms ≢ [] → IsUnsent (map Says ms)
+unsent-said [] some = absurd (some refl)
+unsent-said (m ∷ ms) some = (m, map Says ms, refl)
+
+unsent-more : (xs ys : List Entry) → IsUnsent xs → IsUnsent (xs ++ ys)
+unsent-more xs ys unsent = (unsent.0, unsent.1 ++ ys, ap (λ (es : List Entry). es ++ ys) unsent.2)
 
 lines-said : (ms : List Message) → lines_in (map Says ms) ≡ []
 lines-said [] = refl
@@ -76,7 +89,10 @@ module _ {S D C : Type 0} (answers : S → SaveAsk → SaveAnswer → S → Type
   abbrev DoesIn : Desk S D C → Desk S D C → List Entry → Option Failure → Type 0
   DoesIn old new all failure = Does answers gives hears old new all failure
 
-  follows-append : (xs ys : List Entry) (a b c : Callbacks S D C) → FollowsIn xs a b → FollowsIn ys b c → FollowsIn (xs ++ ys) a c
+  abbrev CarriesIn : Desk S D C → Desk S D C → List Entry → Option Failure → Type 0
+  CarriesIn old new all failure = CarriesOut answers gives hears old new all failure
+
+  pub follows-append : (xs ys : List Entry) (a b c : Callbacks S D C) → FollowsIn xs a b → FollowsIn ys b c → FollowsIn (xs ++ ys) a c
   follows-append [] ys a b c one two = rw one at two
   follows-append (Hears bytes ∷ xs) ys a b c one two = follows-append xs ys a b c one two
   follows-append (Says message ∷ xs) ys a b c one two = follows-append xs ys a b c one two
@@ -97,7 +113,7 @@ module _ {S D C : Type 0} (answers : S → SaveAsk → SaveAnswer → S → Type
   does_never d all = record { done = []; left = all; parts = refl; none_left = λ e. absurd cc; told = sym (adds-none d.told); lines = sym (append-nil d.lines); follows = refl; counts = never_fallen d.faults; cause = tt }
 
   -- all of these, and then some of those
-  pub does_more : (a b c : Desk S D C) (xs ys : List Entry) (failure : Option Failure) → DoesIn a b xs None → DoesIn b c ys failure → DoesIn a c (xs ++ ys) failure
+  unfoldable pub does_more : (a b c : Desk S D C) (xs ys : List Entry) (failure : Option Failure) → DoesIn a b xs None → DoesIn b c ys failure → DoesIn a c (xs ++ ys) failure
   does_more a b c xs ys failure one two = record {
     done = xs ++ two.done;
     left = two.left;
@@ -168,3 +184,41 @@ module _ {S D C : Type 0} (answers : S → SaveAsk → SaveAnswer → S → Type
     counts = never_fallen outside.faults;
     cause = tt;
   }
+
+  -- the same entries, told otherwise
+  unfoldable pub does_as : (a b : Desk S D C) (xs ys : List Entry) (failure : Option Failure) → xs ≡ ys → DoesIn a b xs failure → DoesIn a b ys failure
+  does_as a b xs ys failure same does = record {
+    done = does.done;
+    left = does.left;
+    parts = does.parts ∙ same;
+    none_left = does.none_left;
+    told = does.told;
+    lines = does.lines;
+    follows = does.follows;
+    counts = does.counts;
+    cause = does.cause;
+  }
+
+  pub carries_none : (d : Desk S D C) → CarriesIn d d [] None
+  carries_none d = record { does = does_none d; unsent = λ e. absurd cc }
+
+  pub carries_never : (d : Desk S D C) (all : List Entry) → CarriesIn d d all (Some NoMemory)
+  carries_never d all = record { does = does_never d all; unsent = λ e. absurd cc }
+
+  pub carries_more : (a b c : Desk S D C) (xs ys : List Entry) (failure : Option Failure) → CarriesIn a b xs None → CarriesIn b c ys failure → CarriesIn a c (xs ++ ys) failure
+  unfolding does_more
+  carries_more a b c xs ys failure one two = record { does = does_more a b c xs ys failure one.does two.does; unsent = two.unsent }
+
+  pub carries_cut : (a b : Desk S D C) (xs ys : List Entry) (failure : Failure) → CarriesIn a b xs (Some failure) → CarriesIn a b (xs ++ ys) (Some failure)
+  unfolding does_cut
+  carries_cut a b xs ys failure one = record { does = does_cut a b xs ys failure one.does; unsent = λ e. unsent-more one.does.left ys (one.unsent e) }
+
+  pub carries_sent : (old new : Outside) (lines : List (List ℕ)) (callbacks : Callbacks S D C) (messages : List Message) (failure : Option Failure) → Sends old new messages failure → CarriesIn (desk old lines callbacks) (desk new lines callbacks) (map Says messages) failure
+  unfolding sends_does
+  carries_sent old new lines callbacks messages failure sends = record { does = sends_does old new lines callbacks messages failure sends; unsent = λ e. unsent-said sends.left (sends.some_left e) }
+
+  pub carries_asked : (outside : Outside) (lines : List (List ℕ)) (old new : Callbacks S D C) (entry : Entry) → effect_of entry ≡ [] → line_of entry ≡ [] → FollowsIn (entry ∷ []) old new → CarriesIn (desk outside lines old) (desk outside lines new) (entry ∷ []) None
+  carries_asked outside lines old new entry no_effect no_line follows = record { does = asks_does outside lines old new entry no_effect no_line follows; unsent = λ e. absurd cc }
+
+  pub carries_noted : (outside : Outside) (old new : List (List ℕ)) (callbacks : Callbacks S D C) (line : List ℕ) → new ≡ old ++ line ∷ [] → CarriesIn (desk outside old callbacks) (desk outside new callbacks) (Notes line ∷ []) None
+  carries_noted outside old new callbacks line noted = record { does = notes_does outside old new callbacks line noted; unsent = λ e. absurd cc }

@@ -1,6 +1,9 @@
 pub mod ActLaws
+pub mod Agreeing
 pub mod DoingLaws
+pub mod OneEnd
 pub mod PartLaws
+pub mod Quiet
 pub mod RunLaws
 pub mod Short
 pub mod Shortness

@@ -1,8 +1,8 @@
 -- Frames one after another, pieces one after another.
-use Rattle.std.proofs.Common.{◌≡◌, ℕ, ◌+◌, ◌-◌, ◌<◌, ◌≤◌, arith, Bool, true, false, List, [], ◌∷◌, ◌++◌, length, take, drop, Option, None, Some, Result, Ok, Err, refl, sym, ◌∙◌, ap, subst, append_assoc, append-nil, length-append}
+use Rattle.std.proofs.Common.{◌≡◌, ℕ, ◌+◌, ◌-◌, ◌<◌, ◌≤◌, ◌⊎◌, inl, inr, arith, Bool, true, false, List, [], ◌∷◌, ◌++◌, length, take, drop, Option, None, Some, Result, Ok, Err, refl, sym, ◌∙◌, ap, subst, append_assoc, append-nil, length-append}
 use Rattle.std.specs.Prelude.{IfOk}
 use Rattle.std.proofs.lemmas.Bool.{false≢true}
-use Rattle.std.proofs.lemmas.List.{length-drop, length-take, take_all}
+use Rattle.std.proofs.lemmas.List.{length-drop, length-take, map-append, take_all}
 use Rattle.std.proofs.lemmas.Bool.Decides.{nat_tests}
 use Rattle.sm_world.specs.declared.failures.Failure.{Failure}
 use Rattle.sm_world.specs.declared.failures.Failure.TheVariants.{Failed, NoMemory}
@@ -18,7 +18,7 @@ use Rattle.ice_values.specs.declared.numbers.Endian.TheVariants.{Lsb}
 use Rattle.client_machine.specs.declared.saves.SaveAnswer.{SaveAnswer}
 use Rattle.client_machine.specs.declared.saves.SaveAsk.{SaveAsk}
 use Rattle.client_callbacks.specs.Answers.{Replies}
-use Rattle.client_callbacks.specs.Doing.{Callbacks, Sends, Desk, desk, Does, HasShortId, IsCaused, IsFed, IsRun, Takes, TakesFrames, TakesHeld, TakesPiece, TakesTurn, failure_in}
+use Rattle.client_callbacks.specs.Doing.{Callbacks, CarriesOut, Sends, Desk, desk, Does, HasShortId, IsCaused, IsFed, IsRun, IsUnsent, Takes, TakesFrames, TakesHeld, TakesPiece, TakesTurn, bytes_in, failure_in, heard_in}
 use Rattle.client_callbacks.specs.Listening.{is_listening}
 use Rattle.client_callbacks.specs.Script.{Came, Entry, Hears, Run, Step, Turn, behind, cut_off, ended, frame_at, frame_taken, frames_taken, is_over, oversize_at, piece_taken, reply, run_after, Says, script, script_from, start, stays, turn, turn_of}
 use Rattle.client_callbacks.specs.Running.{IsAnswer, Joins, answer_of, failure_of, fault_of}
@@ -33,7 +33,8 @@ use Rattle.client_callbacks.specs.declared.talk.Counts.{Counts}
 use Rattle.client_callbacks.specs.declared.talk.Place.{Place}
 use Rattle.client_callbacks.specs.declared.talk.Place.TheVariants.{Opening, Over, Speaking, Stopped}
 use Rattle.client_callbacks.specs.declared.talk.Talk.{Talk}
-use Rattle.client_callbacks.proofs.DoingLaws.{does_cut, does_more, does_none, sends_does}
+use Rattle.client_callbacks.proofs.DoingLaws.{carries_cut, carries_more, carries_none, carries_sent, does_as, does_more, sends_does}
+use Rattle.client_callbacks.proofs.Quiet.{heard-append, quiet-front, quiet-turn}
 
 -- the part of a slice from a place on
 pub from_place : (n : ℕ) (xs : List ℕ) → take (length xs - n) (drop n xs) ≡ drop n xs
@@ -106,36 +107,27 @@ script_over : (run : Run) (cames : List Came) → is_over run.talk.place ≡ tru
 script_over run [] over = refl
 script_over run (came ∷ more) over = rw over refl
 
-over_deaf : (place : Place) → is_over place ≡ true → is_listening place ≡ false
-over_deaf (Opening opener previous) over = absurd cc
-over_deaf (Speaking joined c) over = absurd cc
-over_deaf Stopped over = absurd cc
-over_deaf (Over ending) over = refl
+over_after : (run : Run) (cames : List Came) → is_over run.talk.place ≡ true → run_after run cames ≡ run
+over_after run [] over = refl
+over_after run (came ∷ more) over = rw over refl
 
-over_turn : (run : Run) (bytes : List ℕ) (rs : List Replies) → is_over run.talk.place ≡ true → is_over (turn run bytes rs).next.talk.place ≡ true
-over_turn run [] rs over = refl
-over_turn run (b ∷ bytes) rs over =
-    let c : Cut = cut (fed run.standing (b ∷ bytes)) in
-    let deaf : is_listening run.talk.place ≡ false = over_deaf run.talk.place over in
-    ap (λ (s : Step). is_over (cut_off (is_oversize c.standing) s.next).place) (deaf_frames run.talk c.frames rs deaf) ∙ (ap (λ (t : Talk). is_over t.place) (deaf_cut (is_oversize c.standing) run.talk deaf) ∙ over)
-
-over_after : (run : Run) (cames : List Came) → is_over run.talk.place ≡ true → is_over (run_after run cames).talk.place ≡ true
-over_after run [] over = over
-over_after run (came ∷ more) over = over_after (turn run came.bytes came.replies).next more (over_turn run came.bytes came.replies over)
+-- The first receives leave the run there, and the others go on from it.
+parts_append : (run : Run) (xs ys : List Came) → (script_from run (xs ++ ys) ≡ script_from run xs ++ script_from (run_after run xs) ys) × (run_after run (xs ++ ys) ≡ run_after (run_after run xs) ys)
+parts_append run [] ys = (refl, refl)
+parts_append run (x ∷ xs) ys = by (parts_append (turn run x.bytes x.replies).next xs ys) (is_over run.talk.place) refl
+  where
+    by : (script_from (turn run x.bytes x.replies).next (xs ++ ys) ≡ script_from (turn run x.bytes x.replies).next xs ++ script_from (run_after (turn run x.bytes x.replies).next xs) ys) × (run_after (turn run x.bytes x.replies).next (xs ++ ys) ≡ run_after (run_after (turn run x.bytes x.replies).next xs) ys) → (b : Bool) → is_over run.talk.place ≡ b → (script_from run ((x ∷ xs) ++ ys) ≡ script_from run (x ∷ xs) ++ script_from (run_after run (x ∷ xs)) ys) × (run_after run ((x ∷ xs) ++ ys) ≡ run_after (run_after run (x ∷ xs)) ys)
+    by later true over = (rw over (sym (script_over run ys over)), rw over (sym (over_after run ys over)))
+    by later false going = (
+      rw going (ap (λ (es : List Entry). Hears x.bytes ∷ es) (ap (λ (es : List Entry). (turn run x.bytes x.replies).line ++ es) later.0 ∙ sym (append_assoc (turn run x.bytes x.replies).line (script_from (turn run x.bytes x.replies).next xs) (script_from (run_after (turn run x.bytes x.replies).next xs) ys)))),
+      rw going later.1,
+    )
 
 script_append : (run : Run) (xs ys : List Came) → script_from run (xs ++ ys) ≡ script_from run xs ++ script_from (run_after run xs) ys
-script_append run [] ys = refl
-script_append run (x ∷ xs) ys = by (script_append (turn run x.bytes x.replies).next xs ys) (is_over run.talk.place) refl
-  where
-    by : script_from (turn run x.bytes x.replies).next (xs ++ ys) ≡ script_from (turn run x.bytes x.replies).next xs ++ script_from (run_after (turn run x.bytes x.replies).next xs) ys → (b : Bool) → is_over run.talk.place ≡ b → script_from run ((x ∷ xs) ++ ys) ≡ script_from run (x ∷ xs) ++ script_from (run_after run (x ∷ xs)) ys
-    by later true over = script_over run (x ∷ (xs ++ ys)) over ∙ (sym (script_over (run_after run (x ∷ xs)) ys (over_after run (x ∷ xs) over)) ∙ ap (λ (es : List Entry). es ++ script_from (run_after run (x ∷ xs)) ys) (sym (script_over run (x ∷ xs) over)))
-    by later false going =
-        let t : Turn = turn run x.bytes x.replies in
-        rw going (ap (λ (es : List Entry). Hears x.bytes ∷ es) (ap (λ (es : List Entry). t.line ++ es) later ∙ sym (append_assoc t.line (script_from t.next xs) (script_from (run_after t.next xs) ys))))
+script_append run xs ys = (parts_append run xs ys).0
 
 run_append : (run : Run) (xs ys : List Came) → run_after run (xs ++ ys) ≡ run_after (run_after run xs) ys
-run_append run [] ys = refl
-run_append run (x ∷ xs) ys = run_append (turn run x.bytes x.replies).next xs ys
+run_append run xs ys = (parts_append run xs ys).1
 
 -- room that a call wrote to is as long as it was
 pub room_kept : (len : ℕ) (new items : List ℕ) → length new ≡ 4096 → length items ≡ 4096 → len ≡ 4096 → length (take len (new ++ drop (length new) items)) ≡ 4096
@@ -148,6 +140,40 @@ faulted fault failure same = ap (λ (f : JoinFault). let r : Result ClientEnd Jo
 pub kept_lines : (now first : Join) (lines : List (List ℕ)) → now ≡ record first { lines = now.lines } → ◌≡◌ {A = Join} (record now { lines = lines }) (record first { lines = lines })
 kept_lines now first lines kept = ap (λ (j : Join). let k : Join = record j { lines = lines } in k) kept
 
+-- ---- the answer
+
+whole : (ending : Ending) → failure_of (answer_of ending) ≡ None
+whole Died = refl
+whole Closed = refl
+whole (StreamEnded phase) = refl
+whole (Refused class) = refl
+whole (Malformed at) = refl
+
+ended_so : (ending : Ending) (place : Place) (heard turns : ℕ) (left : List Entry) → place ≡ Over ending → IsAnswer (answer_of ending) place heard turns left
+ended_so Died place heard turns left over = (Died, over, refl)
+ended_so Closed place heard turns left over = (Closed, over, refl)
+ended_so (StreamEnded phase) place heard turns left over = (StreamEnded phase, over, refl)
+ended_so (Refused class) place heard turns left over = (Refused class, over, refl)
+ended_so (Malformed at) place heard turns left over = (Malformed at, over, refl)
+
+cut_failure : (failure : Failure) → Some failure ≡ failure_of (Err (fault_of failure))
+cut_failure Failed = refl
+cut_failure NoMemory = refl
+
+cut_answer : (failure : Failure) (place : Place) (heard turns : ℕ) (left : List Entry) → (Some failure ≡ Some Failed → IsUnsent left ⊎ ((left ≡ []) × (heard < turns) × (is_over place ≡ false))) → IsAnswer (Err (fault_of failure)) place heard turns left
+cut_answer Failed place heard turns left why = why refl
+cut_answer NoMemory place heard turns left why = tt
+
+-- A message wasn't sent, or nothing came in a turn.
+why : (run : Run) (xs ys : List Came) (heard turns : ℕ) (left : List Entry) → length xs ≡ heard → heard < turns → is_over (run_after run xs).talk.place ≡ false → IsUnsent left ⊎ ((left ≡ []) × (ys ≡ [])) → IsUnsent left ⊎ ((left ≡ []) × (length (xs ++ ys) < turns) × (is_over (run_after run (xs ++ ys)).talk.place ≡ false))
+why run xs ys heard turns left many few going (inl unsent) = inl unsent
+why run xs ys heard turns left many few going (inr silent) =
+    let same : xs ++ ys ≡ xs = ap (λ (cs : List Came). xs ++ cs) silent.1 ∙ append-nil xs in
+    inr (silent.0, rw same (omega (arith, many, few)), rw same going)
+
+heard_more : (es fs : List Entry) (xs ys : List Came) → heard_in es ≡ bytes_in xs → heard_in fs ≡ bytes_in ys → heard_in (es ++ fs) ≡ bytes_in (xs ++ ys)
+heard_more es fs xs ys one two = heard-append es fs ∙ (rw (one, two) (sym (map-append (λ (came : Came). came.bytes) xs ys)))
+
 module _ {S D C : Type 0} (answers : S → SaveAsk → SaveAnswer → S → Type 0) (gives : D → List (List ℕ) → D → Type 0) (hears : C → C → Type 0) where
   abbrev FramesIn : Desk S D C → Desk S D C → Talk → List WholeFrame → Result Talk Failure → Type 0
   FramesIn old new t frames result = TakesFrames answers gives hears old new t frames result
@@ -158,7 +184,7 @@ module _ {S D C : Type 0} (answers : S → SaveAsk → SaveAnswer → S → Type
   -- ---- frames
 
   pub no_frame : (d : Desk S D C) (t : Talk) → FramesIn d d t [] (Ok t)
-  no_frame d t = record { line = []; next = t; replies = []; goes_on = λ more others. refl; does = does_none answers gives hears d; stands = refl }
+  no_frame d t = record { line = []; next = t; replies = []; goes_on = λ more others. refl; does = carries_none answers gives hears d; stands = refl }
 
   pub one_frame : (old new : Desk S D C) (t : Talk) (frame : WholeFrame) (result : Result Talk Failure) → Takes answers gives hears old new (frame_taken t frame) result → FramesIn old new t (frame ∷ []) result
   one_frame old new t frame result takes = record {
@@ -182,7 +208,7 @@ module _ {S D C : Type 0} (answers : S → SaveAsk → SaveAnswer → S → Type
         ∙ (ap (λ n. behind one.line (frames_taken n (ys ++ more) (two.replies ++ others))) (sym one.stands)
         ∙ (ap (behind one.line) (two.goes_on more others)
         ∙ ap (λ (l : List Entry). let s : Step = record { line = l; next = (frames_taken two.next more others).next } in s) (sym (append_assoc one.line two.line (frames_taken two.next more others).line))))));
-    does = does_more answers gives hears a b c one.line two.line (failure_in result) one.does two.does;
+    does = carries_more answers gives hears a b c one.line two.line (failure_in result) one.does two.does;
     stands = two.stands;
   }
 
@@ -227,7 +253,7 @@ module _ {S D C : Type 0} (answers : S → SaveAsk → SaveAnswer → S → Type
     does =
         let s : Step = frames_taken takes.next rest.frames [] in
         let line : takes.line ++ s.line ≡ (frames_taken run.talk (cut (fed run.standing bytes)).frames (takes.replies ++ [])).line = ap (λ (s : Step). s.line) (sym (takes.goes_on rest.frames [])) ∙ ap (λ (c : Cut). (frames_taken run.talk c.frames (takes.replies ++ [])).line) same in
-        subst (λ (l : List Entry). Does answers gives hears old new l (Some failure)) line (does_cut answers gives hears old new takes.line s.line failure takes.does);
+        subst (λ (l : List Entry). CarriesOut answers gives hears old new l (Some failure)) line (carries_cut answers gives hears old new takes.line s.line failure takes.does);
     next = tt;
   }
 
@@ -244,7 +270,7 @@ module _ {S D C : Type 0} (answers : S → SaveAsk → SaveAnswer → S → Type
       let turns : turn_of (behind takes.line (stays talk)) rest.standing ≡ piece_taken run bytes (takes.replies ++ []) = ap (λ s. turn_of s rest.standing) (sym all) ∙ ap (λ (c : Cut). turn_of (frames_taken run.talk c.frames (takes.replies ++ [])) c.standing) same in
       record {
         replies = takes.replies ++ [];
-        does = subst (λ (l : List Entry). Does answers gives hears old new l None) (sym (append-nil takes.line) ∙ ap (λ (t : Turn). t.line) turns) takes.does;
+        does = subst (λ (l : List Entry). CarriesOut answers gives hears old new l None) (sym (append-nil takes.line) ∙ ap (λ (t : Turn). t.line) turns) takes.does;
         next = subst (λ (t : Turn). IsRun t.next after last) turns (record { talks = is_last; feeds = feeds });
       }
 
@@ -276,6 +302,8 @@ module _ {S D C : Type 0} (answers : S → SaveAsk → SaveAnswer → S → Type
     cames = [];
     few = omega arith;
     does = record { done = []; left = []; parts = refl; none_left = λ e. refl; told = told; lines = sym (append-nil lines); follows = refl; counts = counts; cause = cause };
+    heard = refl;
+    unsent = λ e. inr (refl, refl);
     one = λ ok. absurd (false≢true ok);
     next = tt;
   }
@@ -285,21 +313,26 @@ module _ {S D C : Type 0} (answers : S → SaveAsk → SaveAnswer → S → Type
   hears_does old new lines callbacks bytes told counts = record { done = Hears bytes ∷ []; left = []; parts = refl; none_left = λ e. refl; told = told; lines = sym (append-nil lines); follows = refl; counts = counts; cause = tt }
 
   -- what one receive brings
-  turn_by : (old middle : Outside) (new : Desk S D C) (lines : List (List ℕ)) (callbacks : Callbacks S D C) (run : Run) (bytes : List ℕ) (replies : List Replies) (after : Standing) (result : Result Talk Failure) → is_over run.talk.place ≡ false → middle.told ≡ adds old.told (Heard (received bytes) ∷ []) → NotFallen old.faults middle.faults → Does answers gives hears (desk middle lines callbacks) new (turn run bytes replies).line (failure_in result) → IfOk result (λ talk. IsRun (turn run bytes replies).next after talk) → TurnIn (desk old lines callbacks) new run after result
-  turn_by old middle new lines callbacks run bytes replies after result going told counts does next = record {
-    cames = record { bytes = bytes; replies = replies } ∷ [];
-    few = omega arith;
-    does = rw going (
-        subst (λ (l : List Entry). Does answers gives hears (desk old lines callbacks) new (Hears bytes ∷ l) (failure_in result)) (sym (append-nil (turn run bytes replies).line))
-        (does_more answers gives hears (desk old lines callbacks) (desk middle lines callbacks) new (Hears bytes ∷ []) (turn run bytes replies).line (failure_in result) (hears_does old middle lines callbacks bytes told counts) does));
-    one = λ ok. refl;
-    next = next;
-  }
+  turn_by : (old middle : Outside) (new : Desk S D C) (lines : List (List ℕ)) (callbacks : Callbacks S D C) (run : Run) (bytes : List ℕ) (replies : List Replies) (after : Standing) (result : Result Talk Failure) → is_over run.talk.place ≡ false → middle.told ≡ adds old.told (Heard (received bytes) ∷ []) → NotFallen old.faults middle.faults → CarriesOut answers gives hears (desk middle lines callbacks) new (turn run bytes replies).line (failure_in result) → IfOk result (λ talk. IsRun (turn run bytes replies).next after talk) → TurnIn (desk old lines callbacks) new run after result
+  unfolding does_as does_more
+  turn_by old middle new lines callbacks run bytes replies after result going told counts carries next =
+      let came : Came = record { bytes = bytes; replies = replies } in
+      let t : Turn = turn run bytes replies in
+      let same : Hears bytes ∷ t.line ≡ script_from run (came ∷ []) = rw going (ap (λ (l : List Entry). Hears bytes ∷ l) (sym (append-nil t.line))) in
+      record {
+        cames = came ∷ [];
+        few = omega arith;
+        does = does_as answers gives hears (desk old lines callbacks) new (Hears bytes ∷ t.line) (script_from run (came ∷ [])) (failure_in result) same (does_more answers gives hears (desk old lines callbacks) (desk middle lines callbacks) new (Hears bytes ∷ []) t.line (failure_in result) (hears_does old middle lines callbacks bytes told counts) carries.does);
+        heard = ap (λ (bs : List (List ℕ)). bytes ∷ bs) (quiet-front carries.does.done carries.does.left t.line carries.does.parts (quiet-turn run bytes replies));
+        unsent = λ e. inl (carries.unsent e);
+        one = λ ok. refl;
+        next = rw going next;
+      }
 
   -- the stream's end
   pub turn_ended : (old new : Outside) (lines : List (List ℕ)) (callbacks : Callbacks S D C) (run : Run) (bytes : List ℕ) (after : Standing) (talk last : Talk) → bytes ≡ [] → is_over talk.place ≡ false → new.told ≡ adds old.told (Heard (received bytes) ∷ []) → NotFallen old.faults new.faults → talk ≡ run.talk → last ≡ (ended (record { standing = run.standing; talk = talk })).next.talk → is_listening last.place ≡ false → TurnIn (desk old lines callbacks) (desk new lines callbacks) run after (Ok last)
   turn_ended old new lines callbacks run bytes after talk last none going told counts stands is_last deaf =
-      turn_by old new (desk new lines callbacks) lines callbacks run [] [] after (Ok last) (subst (λ (t : Talk). is_over t.place ≡ false) stands going) (rw none at told) counts (does_none answers gives hears (desk new lines callbacks))
+      turn_by old new (desk new lines callbacks) lines callbacks run [] [] after (Ok last) (subst (λ (t : Talk). is_over t.place ≡ false) stands going) (rw none at told) counts (carries_none answers gives hears (desk new lines callbacks))
       (record { talks = is_last ∙ ap (λ t. (ended (record { standing = run.standing; talk = t })).next.talk) stands; feeds = λ heard. absurd (false≢true (sym deaf ∙ heard)) })
 
   -- a piece, at a client that takes no more
@@ -311,7 +344,7 @@ module _ {S D C : Type 0} (answers : S → SaveAsk → SaveAnswer → S → Type
       let silent : frames_taken run.talk c.frames [] ≡ stays run.talk = deaf_frames run.talk c.frames [] deaf_run in
       let turns : turn_of (stays run.talk) c.standing ≡ turn run (b ∷ bytes) [] = ap (λ s. turn_of s c.standing) (sym silent) in
       turn_by old new (desk new lines callbacks) lines callbacks run (b ∷ bytes) [] after (Ok talk) (subst (λ (t : Talk). is_over t.place ≡ false) stands going) told counts
-      (subst (λ (t : Turn). Does answers gives hears (desk new lines callbacks) (desk new lines callbacks) t.line None) turns (does_none answers gives hears (desk new lines callbacks)))
+      (subst (λ (t : Turn). CarriesOut answers gives hears (desk new lines callbacks) (desk new lines callbacks) t.line None) turns (carries_none answers gives hears (desk new lines callbacks)))
       (record { talks = stands ∙ (sym (deaf_cut (is_oversize c.standing) run.talk deaf_run) ∙ ap (λ (t : Turn). t.next.talk) turns); feeds = λ heard. absurd (false≢true (sym deaf ∙ heard)) })
 
   -- a piece, at a client that takes frames
@@ -328,6 +361,7 @@ module _ {S D C : Type 0} (answers : S → SaveAsk → SaveAnswer → S → Type
     pub cames : List Came
     pub many : length cames ≡ heard
     pub does : Does answers gives hears old now (script cookie previous saves cames) None
+    pub bytes : heard_in (script cookie previous saves cames) ≡ bytes_in cames
     pub runs : IsRun (run_after (start cookie previous saves) cames) splitter talk
     pub going : is_over talk.place ≡ false
     pub short : HasShortId talk.place
@@ -337,75 +371,70 @@ module _ {S D C : Type 0} (answers : S → SaveAsk → SaveAnswer → S → Type
     cames = [];
     many = refl;
     does = sends_does answers gives hears old new lines callbacks (Ice (ByteOrder Lsb) ∷ []) None sends;
+    bytes = refl;
     runs = record { talks = stands; feeds = λ listens. rw fresh (record { same = refl; partial = omega arith; within = omega arith }) };
     going = ap (λ (t : Talk). is_over t.place) stands;
     short = subst (λ (t : Talk). HasShortId t.place) (sym stands) short;
   }
 
+  -- a run that ended so, where this is what failed
+  joins_by : (old new : Desk S D C) (cookie : Cookie) (previous : List ℕ) (saves turns : ℕ) (cames : List Came) (failure : Option Failure) (answer : Result ClientEnd JoinFault) → failure ≡ failure_of answer → (does : Does answers gives hears old new (script cookie previous saves cames) failure) → heard_in does.done ≡ bytes_in cames → IsAnswer answer (run_after (start cookie previous saves) cames).talk.place (length cames) turns does.left → length cames ≤ turns → Joins answers gives hears cookie previous saves turns old new answer
+  joins_by old new cookie previous saves turns cames failure answer same =
+      let P : Option Failure → Type 0 = λ f. (does : Does answers gives hears old new (script cookie previous saves cames) f) → heard_in does.done ≡ bytes_in cames → IsAnswer answer (run_after (start cookie previous saves) cames).talk.place (length cames) turns does.left → length cames ≤ turns → Joins answers gives hears cookie previous saves turns old new answer in
+      subst P (sym same) (λ does heard is few. record { cames = cames; does = does; heard = heard; answer = is; in_turns = few })
+
+  -- the first message couldn't be sent
   pub not_begun : (old new : Outside) (lines : List (List ℕ)) (callbacks : Callbacks S D C) (cookie : Cookie) (previous : List ℕ) (saves turns : ℕ) (failure : Failure) (answer : Result ClientEnd JoinFault) → Sends old new (Ice (ByteOrder Lsb) ∷ []) (Some failure) → answer ≡ Err (fault_of failure) → Joins answers gives hears cookie previous saves turns (desk old lines callbacks) (desk new lines callbacks) answer
-  not_begun old new lines callbacks cookie previous saves turns Failed answer sends is_fault = rw is_fault (record { cames = []; does = sends_does answers gives hears old new lines callbacks (Ice (ByteOrder Lsb) ∷ []) (Some Failed) sends; answer = tt; in_turns = omega arith })
-  not_begun old new lines callbacks cookie previous saves turns NoMemory answer sends is_fault = rw is_fault (record { cames = []; does = sends_does answers gives hears old new lines callbacks (Ice (ByteOrder Lsb) ∷ []) (Some NoMemory) sends; answer = tt; in_turns = omega arith })
+  not_begun old new lines callbacks cookie previous saves turns failure answer sends is_fault =
+      let first : List Entry = Says (Ice (ByteOrder Lsb)) ∷ [] in
+      let carries : CarriesOut answers gives hears (desk old lines callbacks) (desk new lines callbacks) first (Some failure) = carries_sent answers gives hears old new lines callbacks (Ice (ByteOrder Lsb) ∷ []) (Some failure) sends in
+      rw is_fault (joins_by (desk old lines callbacks) (desk new lines callbacks) cookie previous saves turns [] (Some failure) (Err (fault_of failure)) (cut_failure failure) carries.does (quiet-front carries.does.done carries.does.left first carries.does.parts refl) (cut_answer failure (start cookie previous saves).talk.place 0 turns carries.does.left (λ e. inl (carries.unsent e))) (omega arith))
 
   -- the script with what one more turn brought
   turned : (old now later : Desk S D C) (cookie : Cookie) (previous : List ℕ) (saves : ℕ) (xs ys : List Came) (failure : Option Failure) → Does answers gives hears old now (script cookie previous saves xs) None → Does answers gives hears now later (script_from (run_after (start cookie previous saves) xs) ys) failure → Does answers gives hears old later (script cookie previous saves (xs ++ ys)) failure
   turned old now later cookie previous saves xs ys failure one two =
-      subst (λ (es : List Entry). Does answers gives hears old later es failure) (ap (λ (es : List Entry). Says (Ice (ByteOrder Lsb)) ∷ es) (sym (script_append (start cookie previous saves) xs ys)))
+      does_as answers gives hears old later (script cookie previous saves xs ++ script_from (run_after (start cookie previous saves) xs) ys) (script cookie previous saves (xs ++ ys)) failure (ap (λ (es : List Entry). Says (Ice (ByteOrder Lsb)) ∷ es) (sym (script_append (start cookie previous saves) xs ys)))
       (does_more answers gives hears old now later (script cookie previous saves xs) (script_from (run_after (start cookie previous saves) xs) ys) failure one two)
 
   pub under_more : (old now later : Desk S D C) (cookie : Cookie) (previous : List ℕ) (saves heard next : ℕ) (splitter after : Standing) (talk last : Talk) → next ≡ heard + 1 → (under : Under old now cookie previous saves heard splitter talk) → TurnIn now later (run_after (start cookie previous saves) under.cames) after (Ok last) → is_over last.place ≡ false → HasShortId last.place → Under old later cookie previous saves next after last
-  under_more old now later cookie previous saves heard next splitter after talk last is_next under takes going short = record {
-    cames = under.cames ++ takes.cames;
-    many = omega (arith, length-append under.cames takes.cames, under.many, takes.one refl, is_next);
-    does = turned old now later cookie previous saves under.cames takes.cames None under.does takes.does;
-    runs = subst (λ (run : Run). IsRun run after last) (sym (run_append (start cookie previous saves) under.cames takes.cames)) takes.next;
-    going = going;
-    short = short;
-  }
+  under_more old now later cookie previous saves heard next splitter after talk last is_next under takes going short =
+      let all : takes.does.done ≡ script_from (run_after (start cookie previous saves) under.cames) takes.cames = sym (append-nil takes.does.done) ∙ (ap (λ (es : List Entry). takes.does.done ++ es) (sym (takes.does.none_left refl)) ∙ takes.does.parts) in
+      record {
+        cames = under.cames ++ takes.cames;
+        many = omega (arith, length-append under.cames takes.cames, under.many, takes.one refl, is_next);
+        does = turned old now later cookie previous saves under.cames takes.cames None under.does takes.does;
+        bytes = ap (λ (es : List Entry). heard_in (Says (Ice (ByteOrder Lsb)) ∷ es)) (script_append (start cookie previous saves) under.cames takes.cames) ∙ heard_more (script cookie previous saves under.cames) (script_from (run_after (start cookie previous saves) under.cames) takes.cames) under.cames takes.cames under.bytes (ap heard_in (sym all) ∙ takes.heard);
+        runs = subst (λ (run : Run). IsRun run after last) (sym (run_append (start cookie previous saves) under.cames takes.cames)) takes.next;
+        going = going;
+        short = short;
+      }
 
   -- the client is at its end
-  whole : (ending : Ending) → failure_of (answer_of ending) ≡ None
-  whole Died = refl
-  whole Closed = refl
-  whole (StreamEnded phase) = refl
-  whole (Refused class) = refl
-  whole (Malformed at) = refl
-
-  ended_so : (ending : Ending) (place : Place) (heard turns : ℕ) → place ≡ Over ending → IsAnswer (answer_of ending) place heard turns
-  ended_so Died place heard turns over = (Died, over, refl)
-  ended_so Closed place heard turns over = (Closed, over, refl)
-  ended_so (StreamEnded phase) place heard turns over = (StreamEnded phase, over, refl)
-  ended_so (Refused class) place heard turns over = (Refused class, over, refl)
-  ended_so (Malformed at) place heard turns over = (Malformed at, over, refl)
-
   pub joins_ended : (old now later : Desk S D C) (cookie : Cookie) (previous : List ℕ) (saves heard turns : ℕ) (splitter after : Standing) (talk last : Talk) (ending : Ending) (answer : Result ClientEnd JoinFault) → heard < turns → (under : Under old now cookie previous saves heard splitter talk) → TurnIn now later (run_after (start cookie previous saves) under.cames) after (Ok last) → last.place ≡ Over ending → answer ≡ answer_of ending → Joins answers gives hears cookie previous saves turns old later answer
+  unfolding turned does_as does_more
   joins_ended old now later cookie previous saves heard turns splitter after talk last ending answer few under takes over is_answer =
       let cames : List Came = under.cames ++ takes.cames in
       let stands : (run_after (start cookie previous saves) cames).talk.place ≡ Over ending = ap (λ (run : Run). run.talk.place) (run_append (start cookie previous saves) under.cames takes.cames) ∙ (ap (λ (t : Talk). t.place) (sym takes.next.talks) ∙ over) in
-      rw is_answer (record {
-        cames = cames;
-        does = rw (whole ending) (turned old now later cookie previous saves under.cames takes.cames None under.does takes.does);
-        answer = ended_so ending (run_after (start cookie previous saves) cames).talk.place (length cames) turns stands;
-        in_turns = omega (arith, length-append under.cames takes.cames, under.many, takes.one refl, few);
-      })
+      let does : Does answers gives hears old later (script cookie previous saves cames) None = turned old now later cookie previous saves under.cames takes.cames None under.does takes.does in
+      rw is_answer (joins_by old later cookie previous saves turns cames None (answer_of ending) (sym (whole ending)) does (heard_more (script cookie previous saves under.cames) takes.does.done under.cames takes.cames under.bytes takes.heard) (ended_so ending (run_after (start cookie previous saves) cames).talk.place (length cames) turns does.left stands) (omega (arith, length-append under.cames takes.cames, under.many, takes.one refl, few)))
 
   pub joins_failed : (old now later : Desk S D C) (cookie : Cookie) (previous : List ℕ) (saves heard turns : ℕ) (splitter after : Standing) (talk : Talk) (failure : Failure) (answer : Result ClientEnd JoinFault) → heard < turns → (under : Under old now cookie previous saves heard splitter talk) → TurnIn now later (run_after (start cookie previous saves) under.cames) after (Err failure) → answer ≡ Err (fault_of failure) → Joins answers gives hears cookie previous saves turns old later answer
-  joins_failed old now later cookie previous saves heard turns splitter after talk Failed answer few under takes is_fault = rw is_fault (record {
-    cames = under.cames ++ takes.cames;
-    does = turned old now later cookie previous saves under.cames takes.cames (Some Failed) under.does takes.does;
-    answer = tt;
-    in_turns = omega (arith, length-append under.cames takes.cames, under.many, takes.few, few);
-  })
-  joins_failed old now later cookie previous saves heard turns splitter after talk NoMemory answer few under takes is_fault = rw is_fault (record {
-    cames = under.cames ++ takes.cames;
-    does = turned old now later cookie previous saves under.cames takes.cames (Some NoMemory) under.does takes.does;
-    answer = tt;
-    in_turns = omega (arith, length-append under.cames takes.cames, under.many, takes.few, few);
-  })
+  unfolding turned does_as does_more
+  joins_failed old now later cookie previous saves heard turns splitter after talk failure answer few under takes is_fault =
+      let cames : List Came = under.cames ++ takes.cames in
+      let does : Does answers gives hears old later (script cookie previous saves cames) (Some failure) = turned old now later cookie previous saves under.cames takes.cames (Some failure) under.does takes.does in
+      let still : is_over (run_after (start cookie previous saves) under.cames).talk.place ≡ false = subst (λ (t : Talk). is_over t.place ≡ false) under.runs.talks under.going in
+      rw is_fault (joins_by old later cookie previous saves turns cames (Some failure) (Err (fault_of failure)) (cut_failure failure) does (heard_more (script cookie previous saves under.cames) takes.does.done under.cames takes.cames under.bytes takes.heard)
+      (cut_answer failure (run_after (start cookie previous saves) cames).talk.place (length cames) turns does.left (λ e. why (start cookie previous saves) under.cames takes.cames heard turns takes.does.left under.many few still (takes.unsent e)))
+      (omega (arith, length-append under.cames takes.cames, under.many, takes.few, few)))
 
   pub joins_spent : (old now : Desk S D C) (cookie : Cookie) (previous : List ℕ) (saves heard turns : ℕ) (splitter : Standing) (talk : Talk) → heard ≡ turns → Under old now cookie previous saves heard splitter talk → Joins answers gives hears cookie previous saves turns old now (Err Spent)
-  joins_spent old now cookie previous saves heard turns splitter talk all under = record {
-    cames = under.cames;
-    does = under.does;
-    answer = (under.many ∙ all, subst (λ (t : Talk). is_over t.place ≡ false) under.runs.talks under.going);
-    in_turns = omega (arith, under.many, all);
-  }
+  joins_spent old now cookie previous saves heard turns splitter talk all under =
+      let done : under.does.done ≡ script cookie previous saves under.cames = sym (append-nil under.does.done) ∙ (ap (λ (es : List Entry). under.does.done ++ es) (sym (under.does.none_left refl)) ∙ under.does.parts) in
+      record {
+        cames = under.cames;
+        does = under.does;
+        heard = ap heard_in done ∙ under.bytes;
+        answer = (under.many ∙ all, subst (λ (t : Talk). is_over t.place ≡ false) under.runs.talks under.going);
+        in_turns = omega (arith, under.many, all);
+      }

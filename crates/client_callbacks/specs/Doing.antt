@@ -1,5 +1,5 @@
 -- What the calls of a run do: to the peer, to the noted lines and to the callbacks.
-use Rattle.std.specs.Prelude.{◌≡◌, ℕ, ◌≤◌, true, length, IsOk, List, [], ◌∷◌, ◌++◌, map, Option, None, Some, Result, Ok, Err, IfOk}
+use Rattle.std.specs.Prelude.{◌≡◌, ◌≢◌, ◌⊎◌, ℕ, ◌≤◌, true, length, IsOk, List, [], ◌∷◌, ◌++◌, map, Option, None, Some, Result, Ok, Err, IfOk}
 use Rattle.std.specs.List.{flat_map}
 use Rattle.sm_world.specs.Outside.{Outside, adds, Rose, NotFallen}
 use Rattle.sm_world.specs.declared.effects.Effect.{Effect}
@@ -44,11 +44,32 @@ line_of (AsksReasons reasons) = []
 line_of TellsCancelled = []
 line_of (Notes line) = line ∷ []
 
+-- what a receive gave
+abbrev pub heard_of : Entry → List (List ℕ)
+heard_of (Hears bytes) = bytes ∷ []
+heard_of (Says message) = []
+heard_of (AsksSave ask answer) = []
+heard_of (AsksReasons reasons) = []
+heard_of TellsCancelled = []
+heard_of (Notes line) = []
+
 abbrev pub effects_in : List Entry → List Effect
 effects_in entries = flat_map effect_of entries
 
 abbrev pub lines_in : List Entry → List (List ℕ)
 lines_in entries = flat_map line_of entries
+
+-- what was received, in order
+abbrev pub heard_in : List Entry → List (List ℕ)
+heard_in entries = flat_map heard_of entries
+
+-- what was received, where these receives were made
+abbrev pub bytes_in : List Came → List (List ℕ)
+bytes_in cames = map (λ (came : Came). came.bytes) cames
+
+-- The first of what wasn't done is a message.
+abbrev pub IsUnsent : List Entry → Type 0
+IsUnsent left = (message : Message) × (more : List Entry) × (left ≡ Says message ∷ more)
 
 -- the callbacks of a client, as they are at a moment
 pub record Callbacks (S D C : Type 0) : Type 0 where
@@ -81,12 +102,13 @@ failure_in (Err failure) = Some failure
 abbrev pub sent : Message → Effect
 sent message = Sent 0 (spelled message)
 
--- The first of these messages were sent, and all of them where nothing failed.
+-- The first of these messages were sent: all of them where nothing failed, and not all where the connection did.
 pub record Sends (old new : Outside) (all : List Message) (failure : Option Failure) : Type 0 where
   pub done : List Message
   pub left : List Message
   pub parts : done ++ left ≡ all
   pub none_left : failure ≡ None → left ≡ []
+  pub some_left : failure ≡ Some Failed → left ≢ []
   pub told : new.told ≡ adds old.told (map sent done)
   pub counts : NotFallen old.faults new.faults
   pub cause : IsCaused old.faults new.faults failure
@@ -144,23 +166,28 @@ module _ {S D C : Type 0} (answers : S → SaveAsk → SaveAnswer → S → Type
     pub counts : NotFallen old.faults new.faults
     pub cause : IsCaused old.faults new.faults failure
 
+  -- So it is, and where the connection failed the first that wasn't done is a message.
+  pub record CarriesOut (old new : Desk S D C) (all : List Entry) (failure : Option Failure) : Type 0 where
+    pub does : Does old new all failure
+    pub unsent : failure ≡ Some Failed → IsUnsent does.left
+
   -- An answer to a save came and was sent.
   pub record Answered (ask : SaveAsk) (client : ClientState) (old new : Outside) (before after : Callbacks S D C) (result : Result ClientState Failure) : Type 0 where
     pub answer : SaveAnswer
     pub lawful : IsLawful ask answer
-    pub does : (lines : List (List ℕ)) → Does (desk old lines before) (desk new lines after) (answer_line ask answer) (failure_in result)
+    pub does : (lines : List (List ℕ)) → CarriesOut (desk old lines before) (desk new lines after) (answer_line ask answer) (failure_in result)
     pub next : IfOk result (λ c. c ≡ after_answer answer client)
 
   -- A save was answered, once or twice.
   pub record Saved (ask : SaveAsk) (client : ClientState) (old new : Outside) (before after : Callbacks S D C) (result : Result ClientState Failure) : Type 0 where
     pub replies : Replies
-    pub does : (lines : List (List ℕ)) → Does (desk old lines before) (desk new lines after) (save_line ask replies) (failure_in result)
+    pub does : (lines : List (List ℕ)) → CarriesOut (desk old lines before) (desk new lines after) (save_line ask replies) (failure_in result)
     pub next : IfOk result (λ c. c ≡ after_save ask replies client)
 
   -- For some replies of the callbacks the step was made, and the client stands where it ends.
   pub record Takes (old new : Desk S D C) (step : Replies → Step) (result : Result Talk Failure) : Type 0 where
     pub replies : Replies
-    pub does : Does old new (step replies).line (failure_in result)
+    pub does : CarriesOut old new (step replies).line (failure_in result)
     pub next : IfOk result (λ talk. talk ≡ (step replies).next)
 
   -- These frames were taken one by one, and those behind them can be.
@@ -169,7 +196,7 @@ module _ {S D C : Type 0} (answers : S → SaveAsk → SaveAnswer → S → Type
     pub next : Talk
     pub replies : List Replies
     pub goes_on : (more : List WholeFrame) (others : List Replies) → frames_taken talk (frames ++ more) (replies ++ others) ≡ behind line (frames_taken next more others)
-    pub does : Does old new line (failure_in result)
+    pub does : CarriesOut old new line (failure_in result)
     pub stands : IfOk result (λ talk. talk ≡ next)
 
   -- A frame was taken, where the splitter holds one.
@@ -181,13 +208,15 @@ module _ {S D C : Type 0} (answers : S → SaveAsk → SaveAnswer → S → Type
   -- The frames were taken that a piece completes.
   pub record TakesPiece (old new : Desk S D C) (run : Run) (bytes : List ℕ) (after : Standing) (result : Result Talk Failure) : Type 0 where
     pub replies : List Replies
-    pub does : Does old new (piece_taken run bytes replies).line (failure_in result)
+    pub does : CarriesOut old new (piece_taken run bytes replies).line (failure_in result)
     pub next : IfOk result (λ talk. IsRun (piece_taken run bytes replies).next after talk)
 
-  -- At most one receive was made, and what it brought was done.
+  -- At most one receive was made, and what it brought was done. Where the connection failed, a message wasn't sent, or nothing was received.
   pub record TakesTurn (old new : Desk S D C) (run : Run) (after : Standing) (result : Result Talk Failure) : Type 0 where
     pub cames : List Came
     pub few : length cames ≤ 1
     pub does : Does old new (script_from run cames) (failure_in result)
+    pub heard : heard_in does.done ≡ bytes_in cames
+    pub unsent : failure_in result ≡ Some Failed → IsUnsent does.left ⊎ ((does.left ≡ []) × (cames ≡ []))
     pub one : IsOk result → length cames ≡ 1
     pub next : IfOk result (λ talk. IsRun (run_after run cames) after talk)

@@ -1,12 +1,12 @@
 -- What a run of a client is: the script for all that it received.
-use Rattle.std.specs.Prelude.{◌≡◌, ◌≤◌, ℕ, false, List, length, Option, None, Some, Result, Ok, Err}
+use Rattle.std.specs.Prelude.{◌≡◌, ◌⊎◌, ◌<◌, ◌≤◌, ℕ, false, List, [], length, Option, None, Some, Result, Ok, Err}
 use Rattle.ice_cookie.specs.declared.cookies.Cookie.{Cookie}
 use Rattle.sm_world.specs.declared.failures.Failure.{Failure}
 use Rattle.sm_world.specs.declared.failures.Failure.TheVariants.{Failed, NoMemory as OutOfMemory}
 use Rattle.client_machine.specs.declared.saves.SaveAnswer.{SaveAnswer}
 use Rattle.client_machine.specs.declared.saves.SaveAsk.{SaveAsk}
-use Rattle.client_callbacks.specs.Doing.{Desk, Does}
-use Rattle.client_callbacks.specs.Script.{Came, is_over, run_after, script, start}
+use Rattle.client_callbacks.specs.Doing.{Desk, Does, IsUnsent, bytes_in, heard_in}
+use Rattle.client_callbacks.specs.Script.{Came, Entry, is_over, run_after, script, start}
 use Rattle.client_callbacks.specs.declared.ends.ClientEnd.{ClientEnd}
 use Rattle.client_callbacks.specs.declared.ends.ClientEnd.TheVariants.{Died as HasDied, Closed as HasClosed, StreamEnded as HasStreamEnded}
 use Rattle.client_callbacks.specs.declared.ends.Ending.{Ending}
@@ -36,17 +36,20 @@ failure_of (Err NoMemory) = Some OutOfMemory
 failure_of answer = None
 
 -- A run that wasn't cut short has the answer of the place where the client stands at its end; it is spent where every turn
--- brought bytes and the client isn't at its end.
-abbrev pub IsAnswer : Result ClientEnd JoinFault → Place → ℕ → ℕ → Type 0
-IsAnswer (Err LinkFault) place heard turns = Unit {0}
-IsAnswer (Err NoMemory) place heard turns = Unit {0}
-IsAnswer (Err Spent) place heard turns = (heard ≡ turns) × (is_over place ≡ false)
-IsAnswer answer place heard turns = (ending : Ending) × (place ≡ Over ending) × (answer ≡ answer_of ending)
+-- brought bytes and the client isn't at its end. The connection failed where a message wasn't sent, or where nothing was
+-- received in a turn and the client isn't at its end.
+abbrev pub IsAnswer : Result ClientEnd JoinFault → Place → ℕ → ℕ → List Entry → Type 0
+IsAnswer (Err LinkFault) place heard turns left = IsUnsent left ⊎ ((left ≡ []) × (heard < turns) × (is_over place ≡ false))
+IsAnswer (Err NoMemory) place heard turns left = Unit {0}
+IsAnswer (Err Spent) place heard turns left = (heard ≡ turns) × (is_over place ≡ false)
+IsAnswer answer place heard turns left = (ending : Ending) × (place ≡ Over ending) × (answer ≡ answer_of ending)
 
 module _ {S D C : Type 0} (answers : S → SaveAsk → SaveAnswer → S → Type 0) (gives : D → List (List ℕ) → D → Type 0) (hears : C → C → Type 0) where
-  -- The client's script was followed for what was received and for what the callbacks said.
+  -- The client's script was followed for what was received, each receive of it, and for what the callbacks said; and the
+  -- answer is that of the script's end.
   pub record Joins (cookie : Cookie) (previous : List ℕ) (saves turns : ℕ) (old new : Desk S D C) (result : Result ClientEnd JoinFault) : Type 0 where
     pub cames : List Came
     pub does : Does answers gives hears old new (script cookie previous saves cames) (failure_of result)
-    pub answer : IsAnswer result (run_after (start cookie previous saves) cames).talk.place (length cames) turns
+    pub heard : heard_in does.done ≡ bytes_in cames
+    pub answer : IsAnswer result (run_after (start cookie previous saves) cames).talk.place (length cames) turns does.left
     pub in_turns : length cames ≤ turns

@@ -324,9 +324,10 @@ abbrev pub script_from : Run → List Came → List Entry
 script_from run [] = []
 script_from run (came ∷ more) = if is_over run.talk.place then [] else Hears came.bytes ∷ ((turn run came.bytes came.replies).line ++ script_from (turn run came.bytes came.replies).next more)
 
+-- how far the run is then
 abbrev pub run_after : Run → List Came → Run
 run_after run [] = run
-run_after run (came ∷ more) = run_after (turn run came.bytes came.replies).next more
+run_after run (came ∷ more) = if is_over run.talk.place then run else run_after (turn run came.bytes came.replies).next more
 
 -- a client that sends ByteOrder, and then waits for the manager's
 abbrev pub start : Cookie → List ℕ → ℕ → Run

@@ -42,7 +42,7 @@ fn stage_again(stage: Stage) -> Option<Stage>
 impl<S: Saves, D: Dies, C: Cancels> Joiner<S, D, C> {
     ghost use Rattle.std.specs.Prelude.{◌≡◌, List, ℕ, IfOk};
     ghost use Rattle.client_machine.specs.Laws.{stage_phase};
-    ghost use Rattle.client_callbacks.specs.Doing.{desk, Does, Answered, Saved, failure_in};
+    ghost use Rattle.client_callbacks.specs.Doing.{desk, CarriesOut, Answered, Saved, failure_in};
     ghost use Rattle.client_callbacks.specs.Script.{after_cancel, cancel_line, die_line};
 
     /// Asks how the client saves, and sends the answer.
@@ -91,7 +91,7 @@ impl<S: Saves, D: Dies, C: Cancels> Joiner<S, D, C> {
         peer: &mut P,
         lines: &mut OctetsList,
     ) -> Result<(), Failure>
-        ensures { (reasons : List (List ℕ)) × Does S.answers D.gives C.hears (desk (P.outside peer.old) lines.old self.old) (desk (P.outside peer.new) lines.new self.new) (die_line reasons) (failure_in result) }
+        ensures { (reasons : List (List ℕ)) × CarriesOut S.answers D.gives C.hears (desk (P.outside peer.old) lines.old self.old) (desk (P.outside peer.new) lines.new self.new) (die_line reasons) (failure_in result) }
     {
         match note(alloc, lines, b"died") {
             Ok(()) => {}
@@ -109,7 +109,7 @@ impl<S: Saves, D: Dies, C: Cancels> Joiner<S, D, C> {
         lines: &mut OctetsList,
         client: Client,
     ) -> Result<Client, Failure>
-        ensures does { Does S.answers D.gives C.hears (desk (P.outside peer.old) lines.old self.old) (desk (P.outside peer.new) lines.new self.new) (cancel_line client) (failure_in result) }
+        ensures does { CarriesOut S.answers D.gives C.hears (desk (P.outside peer.old) lines.old self.old) (desk (P.outside peer.new) lines.new self.new) (cancel_line client) (failure_in result) }
         ensures client { IfOk result (λ after. after ≡ after_cancel client) }
     {
         match note(alloc, lines, b"cancelled") {

@@ -19,4 +19,4 @@ mod tests;
 pub use callbacks::{Cancels, Dies, Saves};
 pub use ends::{ClientEnd, JoinFault};
 pub use joiner::{Join, Joiner};
-pub use laws::pieces_make_no_difference;
+pub use laws::{ends_exclude_each_other, pieces_make_no_difference};

@@ -36,7 +36,7 @@ use Rattle.session_lines.proofs.Script.{acts-line}
 -- Notes that change neither the book that stands nor the new IDs
 
 abbrev Same : Book → List Note → List Note → Type 0
-Same book n o = (book_in book n ≡ book_in book o) × (new_ids book n ≡ new_ids book o)
+Same book n o = (book_in book n ≡ book_in book o) × (new_ids n ≡ new_ids o)
 
 same-cond : (book : Book) (b : Bool) (n o p : List Note) → Same book n p → Same book o p → Same book (cond b n o) p
 same-cond book true n o p s t = s
@@ -104,14 +104,14 @@ none-later (x ∷ xs) ys e = absurd (grind arith)
 no-deed : (deed : Deed) (ds : List Deed) → deed ∷ ds ≡ [] → ⊥
 no-deed deed ds e = grind arith
 
-ids-one : (book : Book) (entry : Seen) (seen : List Seen) → deeds_in (act_of entry) ≡ [] → new_ids book (noted (entry ∷ seen)) ≡ new_ids book (noted seen)
+ids-one : (book : Book) (entry : Seen) (seen : List Seen) → deeds_in (act_of entry) ≡ [] → new_ids (noted (entry ∷ seen)) ≡ new_ids (noted seen)
 ids-one book (Comes (HasGone c)) seen e = (same-gone book c seen).1
 ids-one book (Comes event) seen e = refl
 ids-one book (Took c part) seen e = (same-heard book c part (noted seen)).1
 ids-one book (Does (Say c message)) seen e = absurd (no-deed _ _ e)
 ids-one book (Does act) seen e = refl
 
-ids-along : (book : Book) (more seen : List Seen) → deeds_seen more ≡ [] → new_ids book (noted (along seen more)) ≡ new_ids book (noted seen)
+ids-along : (book : Book) (more seen : List Seen) → deeds_seen more ≡ [] → new_ids (noted (along seen more)) ≡ new_ids (noted seen)
 ids-along book [] seen e = refl
 ids-along book (entry ∷ more) seen e =
     let k : deeds_in (act_of entry) ++ deeds_seen more ≡ [] = sym (seen-more entry more) ∙ e in
@@ -121,13 +121,13 @@ first-seen : (x y : Seen) (xs ys : List Seen) → x ∷ xs ≡ y ∷ ys → x �
 first-seen x y xs ys e = cc
 
 -- two fronts of a line with the same deeds have the same new IDs
-same-ids : (book : Book) (xs ys vs ws seen : List Seen) → xs ++ vs ≡ ys ++ ws → deeds_seen xs ≡ deeds_seen ys → new_ids book (noted (along seen xs)) ≡ new_ids book (noted (along seen ys))
+same-ids : (book : Book) (xs ys vs ws seen : List Seen) → xs ++ vs ≡ ys ++ ws → deeds_seen xs ≡ deeds_seen ys → new_ids (noted (along seen xs)) ≡ new_ids (noted (along seen ys))
 same-ids book [] ys vs ws seen e d = sym (ids-along book ys seen (sym d))
 same-ids book (x ∷ xs) [] vs ws seen e d = ids-along book (x ∷ xs) seen d
 same-ids book (x ∷ xs) (y ∷ ys) vs ws seen e d =
     let s : x ≡ y = first-seen x y (xs ++ vs) (ys ++ ws) e in
     let t : deeds_seen xs ≡ deeds_seen ys = left-same (deeds_in (act_of x)) (deeds_seen xs) (deeds_seen ys) (sym (seen-more x xs) ∙ d ∙ seen-more y ys ∙ ap (λ (z : Seen). deeds_in (act_of z) ++ deeds_seen ys) (sym s)) in
-    same-ids book xs ys vs ws (x ∷ seen) (ap (λ (zs : List Seen). drop 1 zs) e) t ∙ ap (λ (z : Seen). new_ids book (noted (along (z ∷ seen) ys))) s
+    same-ids book xs ys vs ws (x ∷ seen) (ap (λ (zs : List Seen). drop 1 zs) e) t ∙ ap (λ (z : Seen). new_ids (noted (along (z ∷ seen) ys))) s
 
 -- Without a deed no state is discarded
 
@@ -226,9 +226,9 @@ discarded-turned command xs ys vs ws e d next is =
     subst (λ (zs : List Seen). is_discarded command (noted zs) ≡ true) (turned-is xs)
     (discarded-back command xs ys vs ws [] e d next (subst (λ (zs : List Seen). is_discarded command (noted zs) ≡ true) (sym (turned-is ys)) is))
 
-ids-turned : (book : Book) (xs ys vs ws : List Seen) → xs ++ vs ≡ ys ++ ws → deeds_seen xs ≡ deeds_seen ys → new_ids book (notes xs) ≡ new_ids book (notes ys)
+ids-turned : (book : Book) (xs ys vs ws : List Seen) → xs ++ vs ≡ ys ++ ws → deeds_seen xs ≡ deeds_seen ys → new_ids (notes xs) ≡ new_ids (notes ys)
 ids-turned book xs ys vs ws e d =
-    ap (λ (zs : List Seen). new_ids book (noted zs)) (sym (turned-is xs)) ∙ same-ids book xs ys vs ws [] e d ∙ ap (λ (zs : List Seen). new_ids book (noted zs)) (turned-is ys)
+    ap (λ (zs : List Seen). new_ids (noted zs)) (sym (turned-is xs)) ∙ same-ids book xs ys vs ws [] e d ∙ ap (λ (zs : List Seen). new_ids (noted zs)) (turned-is ys)
 
 -- the front of the line behind which a file's checkpoint stands
 record SavedAt (cookie : Cookie) (book saved : Book) (events : List Event) (done : List Deed) : Type 0 where
@@ -253,9 +253,9 @@ saved-at cookie book saved events done file s recovered =
 pub files-keep-up : FilesKeepUp
 files-keep-up cookie book saved events done file s recovered seen later parts same some =
     let at : SavedAt cookie book saved events done = saved-at cookie book saved events done file s recovered in
-    let ids : new_ids book (notes seen) ≡ new_ids book (notes at.front) = ids-turned book seen at.front later at.later (parts ∙ sym at.parts) (same ∙ sym at.same) in
+    let ids : new_ids (notes seen) ≡ new_ids (notes at.front) = ids-turned book seen at.front later at.later (parts ∙ sym at.parts) (same ∙ sym at.same) in
     let epoch : (book_in book (notes at.front)).epoch ≡ book.epoch + 1 =
-    with-one (IsOfRun (book.epoch + 1)) ((book_in book (notes at.front)).epoch ≡ book.epoch + 1) (new_ids book (notes at.front)) (λ none. some (ids ∙ none))
+    with-one (IsOfRun (book.epoch + 1)) ((book_in book (notes at.front)).epoch ≡ book.epoch + 1) (new_ids (notes at.front)) (λ none. some (ids ∙ none))
     (laws-hold cookie book at.front (record { events = events; later = at.later; parts = at.parts })).new_ids_are_of_the_run in
     ap (λ (b : Book). b.epoch) at.is ∙ epoch
 

@@ -5,7 +5,7 @@ use Rattle.std.proofs.lemmas.List.{append-nil}
 use Rattle.sm_world.specs.declared.events.Event.{Event}
 use Rattle.ice_cookie.specs.declared.cookies.Cookie.{Cookie}
 use Rattle.checkpoint_records.specs.declared.records.Book.{Book}
-use Rattle.xsmp_messages.specs.declared.message.XsmpMessage.TheVariants.{Interact, SaveYourselfPhase2}
+use Rattle.xsmp_messages.specs.declared.message.XsmpMessage.TheVariants.{Interact, RegisterClientReply, SaveYourselfPhase2}
 use Rattle.session_engine.specs.Acts.{has_finish}
 use Rattle.session_engine.specs.Machine.{Machine, acts_of, opening_acts, start, step}
 use Rattle.session_engine.specs.declared.acts.Act.TheVariants.{Commit, Say}
@@ -58,10 +58,12 @@ laws-hold cookie book seen s =
     let k = kept-top book (reverse seen) (subst (λ (xs : List Seen). Holds book xs) (turned-is seen) h) in
     record {
       one_has_the_token = k.0;
-      the_first_is_served = λ c before after e. due-at book seen before after (Does (Say c (Xsmp Interact))) e h;
-      the_second_phase_waits = λ c d before after e. due-at book seen before after (Does (Say c (Xsmp SaveYourselfPhase2))) e h d;
+      the_first_is_served = λ c before after e. (due-at book seen before after (Does (Say c (Xsmp Interact))) e h).0;
+      the_second_phase_waits = λ c d before after e. (due-at book seen before after (Does (Say c (Xsmp SaveYourselfPhase2))) e h).0 d;
       new_ids_are_of_the_run = k.1.0.0;
       new_ids_differ = k.1.0.1;
+      new_ids_are_fresh = λ o c id before after e w. (due-at book seen before after (Does (Say c (Xsmp (RegisterClientReply id)))) e h).1.1 o w;
+      old_ids_are_recorded = λ c id before after e. (due-at book seen before after (Does (Say c (Xsmp (RegisterClientReply id)))) e h).1.0;
       entries_were_saved = λ written before after e. (due-at book seen before after (Does (Commit written)) e h).0;
       discarded_states_are_not_named = λ rules command e. k.1.1 (none-named-by_rules book rules) command e;
       pending_is_not_lost = λ written command before after e p. (due-at book seen before after (Does (Commit written)) e h).1 command p;

@@ -7,4 +7,7 @@ pub mod Fronts
 pub mod Script
 pub mod Passing
 pub mod Crashes
+pub mod Spared
+pub mod Alone
+pub mod Alike
 pub mod Computed

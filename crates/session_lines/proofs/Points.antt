@@ -30,7 +30,7 @@ Kept book n = OneHas n × (IdsHold book n × DiscardsHold book n)
 
 -- what an entry asks of the notes before it
 abbrev pub Due : Book → List Note → Seen → Type 0
-Due book n (Does (Say c (Xsmp message))) = IsDue n (Did (SaysXsmp c message))
+Due book n (Does (Say c (Xsmp message))) = IsDue n (Did (SaysXsmp c message)) × IsOwed book n (Did (SaysXsmp c message))
 Due book n (Does (Commit written)) = IsOwed book n (Did (Commits written))
 Due book n entry = Unit {0}
 
@@ -95,7 +95,7 @@ pub holds-ice : (book : Book) (c : ℕ) (message : IceMessage) (seen : List Seen
 holds-ice book c message seen h = (kept-said book c (Ice message) seen refl h, (tt, h))
 
 pub holds-blamed : (book : Book) (c : ℕ) (error : ErrorFields) (seen : List Seen) → Holds book seen → Holds book (Does (Say c (Xsmp (XsmpError error))) ∷ seen)
-holds-blamed book c error seen h = (kept-said book c (Xsmp (XsmpError error)) seen refl h, (tt, h))
+holds-blamed book c error seen h = (kept-said book c (Xsmp (XsmpError error)) seen refl h, ((tt, tt), h))
 
 pub holds-shut : (book : Book) (c : ℕ) (seen : List Seen) → Holds book seen → Holds book (Does (Shut c) ∷ seen)
 holds-shut book c seen h = (kept-gone book c (noted seen) (kept-top book seen h), (tt, h))

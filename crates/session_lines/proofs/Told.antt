@@ -65,9 +65,9 @@ kept-there book h seen s e =
     subst (λ (n : List Note). Kept book n) (notes-are h ∙ sym e)
     (settled.one-has book (entries h) s, (settled.ids-hold book (entries h) s, settled.discards-hold book (entries h) s))
 
-due-there : (book : Book) (c : ℕ) (m : XsmpMessage) (h : History) (seen : List Seen) → IsSeen book (entries (Gave c m ▷ h)) → Notes seen h → IsDue (noted seen) (Did (SaysXsmp c m))
+due-there : (book : Book) (c : ℕ) (m : XsmpMessage) (h : History) (seen : List Seen) → IsSeen book (entries (Gave c m ▷ h)) → Notes seen h → IsDue (noted seen) (Did (SaysXsmp c m)) × IsOwed book (noted seen) (Did (SaysXsmp c m))
 due-there book c m h seen s e =
-    subst (λ (n : List Note). IsDue n (Did (SaysXsmp c m))) (notes-are h ∙ sym e) (settled.is-due book (entries h) (Did (SaysXsmp c m)) s)
+    subst (λ (n : List Note). IsDue n (Did (SaysXsmp c m)) × IsOwed book n (Did (SaysXsmp c m))) (notes-are h ∙ sym e) (settled.is-due book (entries h) (Did (SaysXsmp c m)) s, settled.is-owed book (entries h) (Did (SaysXsmp c m)) s)
 
 owed-there : (book written : Book) (h : History) (seen : List Seen) → IsSeen book (entries (Committed written ▷ h)) → Notes seen h → IsOwed book (noted seen) (Did (Commits written))
 owed-there book written h seen s e =
@@ -172,7 +172,7 @@ answer-at book (Blamed c error ∷ moves) h ks seen answer r n b o k =
     own-at book moves (Blamed c error ▷ h) ks (Does (Say c (Xsmp (XsmpError error))) ∷ seen) answer r (b c error) o (holds-blamed book c error seen k)
 answer-at book (m ∷ moves) h ks seen answer r n b o k = own-at book (m ∷ moves) h ks seen answer r n o k
 
-acts-onto : (moves : List Move) (h : History) → all_acts (onto h moves) ≡ all_acts h ++ acts_by moves
+pub acts-onto : (moves : List Move) (h : History) → all_acts (onto h moves) ≡ all_acts h ++ acts_by moves
 acts-onto [] h = sym (append-nil (all_acts h))
 acts-onto (m ∷ moves) h = acts-onto moves (m ▷ h) ∙ append_assoc (all_acts h) (acts_of m) (acts_by moves)
 

@@ -26,7 +26,7 @@ use Rattle.session_lines.specs.Runs.{IsDone, IsNextDeed}
 abbrev pub FilesKeepUp : Type 0
 FilesKeepUp =
     (cookie : Cookie) (book saved : Book) (events : List Event) (done : List Deed) (file : List ℕ) → IsSaved book (script_of cookie book events) done file → Recovers file (Ok saved)
-    → (seen later : List Seen) → seen ++ later ≡ line cookie book events → deeds_in (acts_in seen) ≡ done → new_ids book (notes seen) ≢ [] → saved.epoch ≡ book.epoch + 1
+    → (seen later : List Seen) → seen ++ later ≡ line cookie book events → deeds_in (acts_in seen) ≡ done → new_ids (notes seen) ≢ [] → saved.epoch ≡ book.epoch + 1
 
 -- Once a command was started to discard a state, no file that a crash could leave recovers to a book that names it, unless somebody
 -- has set it as his DiscardCommand again. What is seen goes up to the first deed that was not done. This asks that the opened book
@@ -41,7 +41,7 @@ FilesForgetDiscards =
 pub record IsSafe (cookie : Cookie) (book : Book) (effects : List Effect) (saved : Book) : Type 0 where
   pub done : IsDone cookie book (heard effects) (deeds effects)
   -- where an ID was new, the checkpoint is of the run's epoch
-  pub ids : new_ids book (notes done.front) ≢ [] → saved.epoch ≡ book.epoch + 1
+  pub ids : new_ids (notes done.front) ≢ [] → saved.epoch ≡ book.epoch + 1
   -- it names no state that was discarded and not set again
   pub discards : KeepsRules book → (command : Command) → is_discarded command (notes done.front) ≡ true → names saved command ≡ false
 
@@ -56,4 +56,4 @@ abbrev pub LaterRunsGiveOtherIds : Type 0
 LaterRunsGiveOtherIds =
     (cookie next : Cookie) (book saved : Book) → book.epoch < saved.epoch → saved.epoch + 1 < 2 ^ 32
     → (seen later : List Seen) → IsSeen cookie book seen → IsSeen next saved later
-    → (id : List ℕ) → Contains (new_ids book (notes seen)) id → ¬ (Contains (new_ids saved (notes later)) id)
+    → (id : List ℕ) → Contains (new_ids (notes seen)) id → ¬ (Contains (new_ids (notes later)) id)

@@ -11,13 +11,14 @@ use Rattle.checkpoint_records.specs.declared.records.Book.{Book}
 use Rattle.checkpoint_records.specs.Books.{names}
 use Rattle.checkpoint_records.specs.Rules.{KeepsRules}
 use Rattle.discard_ledger.specs.Discards.{is_among}
-use Rattle.xsmp_messages.specs.declared.message.XsmpMessage.TheVariants.{Interact, SaveYourselfPhase2}
+use Rattle.xsmp_messages.specs.declared.message.XsmpMessage.TheVariants.{Interact, RegisterClientReply, SaveYourselfPhase2}
 use Rattle.session_engine.specs.Acts.{has_finish}
 use Rattle.session_engine.specs.Machine.{script_of}
 use Rattle.session_engine.specs.declared.acts.Act.TheVariants.{Commit, Say}
 use Rattle.session_engine.specs.declared.messages.Message.TheVariants.{Xsmp}
-use Rattle.session_notes.specs.Keeping.{IsOfRun, book_in, is_discarded, is_started, new_ids}
-use Rattle.session_notes.specs.Laws.{IsSaved}
+use Rattle.session_model.specs.Tables.{is_recorded}
+use Rattle.session_notes.specs.Keeping.{IsOfRun, book_in, is_discarded, is_newcomer, is_started, new_ids}
+use Rattle.session_notes.specs.Laws.{IsFresh, IsOpenable, IsSaved}
 use Rattle.session_notes.specs.Watching.{has_answered, has_token, is_to_save, requests}
 use Rattle.session_lines.specs.Lines.{Does, Seen, acts_in, events_in, line, notes}
 
@@ -50,11 +51,21 @@ TheSecondPhaseWaits seen =
 
 -- Every new ID is of the run, whose epoch is one above that of the opened book, and the book that stands then is of this epoch too.
 abbrev pub NewIdsAreOfTheRun : Book → List Seen → Type 0
-NewIdsAreOfTheRun book seen = AllByRecursion (λ id. IsOfRun (book.epoch + 1) id × ((book_in book (notes seen)).epoch ≡ book.epoch + 1)) (new_ids book (notes seen))
+NewIdsAreOfTheRun book seen = AllByRecursion (λ id. IsOfRun (book.epoch + 1) id × ((book_in book (notes seen)).epoch ≡ book.epoch + 1)) (new_ids (notes seen))
 
 -- no two new IDs are alike
 abbrev pub NewIdsDiffer : Book → List Seen → Type 0
-NewIdsDiffer book seen = IsDistinct bytes_eq (new_ids book (notes seen))
+NewIdsDiffer book seen = IsOpenable book → IsDistinct bytes_eq (new_ids (notes seen))
+
+-- who asked for a new ID got one that nobody had or has
+abbrev pub NewIdsAreFresh : Book → List Seen → Type 0
+NewIdsAreFresh book seen =
+    IsOpenable book → (c : ℕ) (id : List ℕ) (before after : List Seen) → before ++ Does (Say c (Xsmp (RegisterClientReply id))) ∷ after ≡ seen → is_newcomer c (notes before) ≡ true → IsFresh book (notes before) id
+
+-- everybody else got a recorded ID
+abbrev pub OldIdsAreRecorded : Book → List Seen → Type 0
+OldIdsAreRecorded book seen =
+    (c : ℕ) (id : List ℕ) (before after : List Seen) → before ++ Does (Say c (Xsmp (RegisterClientReply id))) ∷ after ≡ seen → is_newcomer c (notes before) ≡ false → is_recorded id (book_in book (notes before)) ≡ true
 
 -- each entry of a book that was written stood in the book before, or a client had saved it with success
 abbrev pub EntriesWereSaved : Book → List Seen → Type 0
@@ -81,6 +92,8 @@ pub record KeepsLaws (book : Book) (seen : List Seen) : Type 0 where
   pub the_second_phase_waits : TheSecondPhaseWaits seen
   pub new_ids_are_of_the_run : NewIdsAreOfTheRun book seen
   pub new_ids_differ : NewIdsDiffer book seen
+  pub new_ids_are_fresh : NewIdsAreFresh book seen
+  pub old_ids_are_recorded : OldIdsAreRecorded book seen
   pub entries_were_saved : EntriesWereSaved book seen
   pub discarded_states_are_not_named : DiscardedStatesAreNotNamed book seen
   pub pending_is_not_lost : PendingIsNotLost book seen

@@ -2,4 +2,5 @@ pub mod Lines
 pub mod Laws
 pub mod Runs
 pub mod Files
+pub mod Others
 pub mod Examples

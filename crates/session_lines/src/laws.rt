@@ -1,5 +1,6 @@
-ghost use Rattle.session_lines.specs.Laws.{AllActsAreSeen, AllEventsAreSeen, Always, OneHasTheToken, TheFirstIsServed, TheSecondPhaseWaits, NewIdsAreOfTheRun, NewIdsDiffer, EntriesWereSaved, DiscardedStatesAreNotNamed, PendingIsNotLost};
+ghost use Rattle.session_lines.specs.Laws.{AllActsAreSeen, AllEventsAreSeen, Always, OneHasTheToken, TheFirstIsServed, TheSecondPhaseWaits, NewIdsAreOfTheRun, NewIdsDiffer, NewIdsAreFresh, OldIdsAreRecorded, EntriesWereSaved, DiscardedStatesAreNotNamed, PendingIsNotLost};
 ghost use Rattle.session_lines.specs.Runs.{WhatWasDoneIsAFront, EveryRunKeepsTheLaws};
+ghost use Rattle.session_lines.specs.Others.{NotesOfOthersStay, OthersAreLeftAlone};
 ghost use Rattle.session_lines.specs.Files.{EveryFileIsSafe, FilesForgetDiscards, FilesKeepUp, LaterRunsGiveOtherIds};
 
 /// Does nothing: its contract is a law of every line. All that the manager does is seen.
@@ -35,6 +36,17 @@ pub fn new_ids_are_of_the_run()
 /// Does nothing: its contract is a law of each front of every line. No two new IDs are alike.
 pub fn new_ids_differ()
     ensures { Always NewIdsDiffer }
+{}
+
+/// Does nothing: its contract is a law of each front of every line. Who asked for a new ID got one that stood in no entry of the
+/// book, that no connection had, and that nobody was given before.
+pub fn new_ids_are_fresh()
+    ensures { Always NewIdsAreFresh }
+{}
+
+/// Does nothing: its contract is a law of each front of every line. Who asked for no new ID got one that the book had an entry of.
+pub fn old_ids_are_recorded()
+    ensures { Always OldIdsAreRecorded }
 {}
 
 /// Does nothing: its contract is a law of each front of every line. Each entry of a book that is written stood in the book before, or was saved by its client.
@@ -86,4 +98,17 @@ pub fn every_file_is_safe()
 /// that were new in the first.
 pub fn later_runs_give_other_ids()
     ensures { LaterRunsGiveOtherIds }
+{}
+
+/// Does nothing: its contract is a law of every step. What happens on one connection leaves every other alone: its set-up, its
+/// stream and how much of it was taken. It may bring the other the messages of a round, of the token and of a logout, and shut it
+/// where it isn't registered and a logout was agreed.
+pub fn others_are_left_alone()
+    ensures { OthersAreLeftAlone }
+{}
+
+/// Does nothing: its contract is a law of every step. What happens on one connection changes neither the ID nor the table of
+/// another, unless that is shut.
+pub fn notes_of_others_stay()
+    ensures { NotesOfOthersStay }
 {}

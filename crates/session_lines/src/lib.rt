@@ -8,8 +8,9 @@ mod worked;
 pub use laws::{
     all_acts_are_seen, all_events_are_seen, discarded_states_are_not_named, entries_were_saved,
     every_file_is_safe, every_run_keeps_the_laws, files_forget_discarded_states,
-    files_keep_up_with_new_ids, later_runs_give_other_ids, new_ids_are_of_the_run, new_ids_differ,
-    one_has_the_token, pending_is_not_lost, the_first_is_served, the_second_phase_waits,
-    what_was_done_is_a_front_of_the_line,
+    files_keep_up_with_new_ids, later_runs_give_other_ids, new_ids_are_fresh,
+    new_ids_are_of_the_run, new_ids_differ, notes_of_others_stay, old_ids_are_recorded,
+    one_has_the_token, others_are_left_alone, pending_is_not_lost, the_first_is_served,
+    the_second_phase_waits, what_was_done_is_a_front_of_the_line,
 };
 pub use worked::notes_compute;

@@ -4,7 +4,7 @@ use Rattle.std.specs.Str.{is_utf8, chars}
 use Rattle.std.specs.Fmt.{digits}
 use Rattle.hex.specs.Hex.{encode_with}
 use lib.Utf8.{encode}
-use Rattle.session_notes.specs.Examples.{TheTokenIsNoted, TheTokenGoesOn, ARefusedRequestIsNotNoted, ACancelledShutdownIsNoted, AnswersAreNoted, ASaveIsNoted, AnOldSnapshotIsGone, ADiscardIsNoted}
+use Rattle.session_notes.specs.Examples.{TheTokenIsNoted, TheTokenGoesOn, ARefusedRequestIsNotNoted, ACancelledShutdownIsNoted, AnswersAreNoted, ASaveIsNoted, ARecordedIdIsNotNew, AnOldSnapshotIsGone, ADiscardIsNoted}
 
 pub the_token_is_noted : TheTokenIsNoted
 unfolding encode_with is_utf8 chars encode digits
@@ -29,6 +29,10 @@ answers_are_noted = (refl, refl, refl, refl, refl)
 pub a_save_is_noted : ASaveIsNoted
 unfolding encode_with is_utf8 chars encode digits
 a_save_is_noted = (refl, refl, refl, refl)
+
+pub a_recorded_id_is_not_new : ARecordedIdIsNotNew
+unfolding encode_with is_utf8 chars encode digits
+a_recorded_id_is_not_new = (refl, refl, refl, refl)
 
 pub an_old_snapshot_is_gone : AnOldSnapshotIsGone
 unfolding encode_with is_utf8 chars encode digits

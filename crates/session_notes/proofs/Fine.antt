@@ -5,27 +5,30 @@ use Rattle.std.specs.List.{AllByRecursion, Contains, IsDistinct}
 use Rattle.std.specs.Str.{bytes_eq}
 use Rattle.sm_world.specs.declared.commands.Command.{Command}
 use Rattle.xsmp_messages.specs.declared.message.XsmpMessage.{XsmpMessage}
-use Rattle.xsmp_messages.specs.declared.message.XsmpMessage.TheVariants.{Interact, SaveYourselfPhase2}
+use Rattle.xsmp_messages.specs.declared.message.XsmpMessage.TheVariants.{Interact, RegisterClientReply, SaveYourselfPhase2}
 use Rattle.checkpoint_records.specs.declared.records.Book.{Book}
 use Rattle.checkpoint_records.specs.declared.records.Entry.{Entry as Kept}
 use Rattle.checkpoint_records.specs.Books.{names}
 use Rattle.discard_ledger.specs.Discards.{is_among}
 use Rattle.session_model.specs.declared.events.Act.TheVariants.{Commit, Say}
 use Rattle.session_model.specs.Phases.{is_member, is_dying}
+use Rattle.session_model.specs.Tables.{is_recorded}
 use Rattle.session_model.specs.Moves.{Move, Outside, Gave, Blamed, Unset, Closed, Tried, Committed, Printed, Finished, History, ◌▷◌}
 use Rattle.session_model.specs.Readings as of
+use Rattle.session_model.proofs.Pending.{all-more}
 use Rattle.session_model.proofs.Sound.{Sound, sound-step, or-either}
 use Rattle.session_model.proofs.Ruled.{differ}
 use Rattle.session_notes.specs.Notes.{Entry, Note, Did, entries_of}
-use Rattle.session_notes.specs.Keeping.{IsOfRun, book_in, new_ids, is_discarded, is_started}
-use Rattle.session_notes.specs.Laws.{IsSaved}
+use Rattle.session_notes.specs.Keeping.{IsOfRun, book_in, is_newcomer, new_ids, is_discarded, is_started}
+use Rattle.session_notes.specs.Laws.{IsFresh, IsOpenable, IsSaved}
 use Rattle.session_notes.specs.Watching.{has_token, is_to_save, has_answered, requests}
 use Rattle.session_notes.proofs.Seen.{noted_of, AtEach, EachEntry}
 use Rattle.session_notes.proofs.Steps.{is_bound_to_save}
 use Rattle.session_notes.proofs.Kept as kept
 use Rattle.session_notes.proofs.Kept.{NoneNamed, Saves}
-use Rattle.session_notes.proofs.Numbers.{of-run, numbers-differ}
+use Rattle.session_notes.proofs.Numbers.{numbers-differ}
 use Rattle.session_notes.proofs.Suits.{Suits, fits}
+use Rattle.session_notes.proofs.Fresh.{next-fresh}
 use Rattle.session_notes.proofs.Keeps.{Keeps, keeps-step}
 use Rattle.session_notes.proofs.Tells.{Told, goes-on, told-step}
 
@@ -43,17 +46,18 @@ IsDue n entry = Unit {0}
 
 -- the new IDs are of the run, and differ
 abbrev pub IdsHold : Book → List Note → Type 0
-IdsHold book n = AllByRecursion (λ id. IsOfRun (book.epoch + 1) id × ((book_in book n).epoch ≡ book.epoch + 1)) (new_ids book n) × IsDistinct bytes_eq (new_ids book n)
+IdsHold book n = AllByRecursion (λ id. IsOfRun (book.epoch + 1) id × ((book_in book n).epoch ≡ book.epoch + 1)) (new_ids n) × (IsOpenable book → IsDistinct bytes_eq (new_ids n))
 
 -- the book that stands names no state that was discarded
 abbrev pub DiscardsHold : Book → List Note → Type 0
 DiscardsHold book n = NoneNamed book → (command : Command) → is_discarded command n ≡ true → names (book_in book n) command ≡ false
 
--- what a book that is written asks of the notes before it
+-- what a book that is written and an ID that is given ask of the notes before them
 abbrev pub IsOwed : Book → List Note → Entry → Type 0
 IsOwed book n (Did (Commit written)) =
     AllByRecursion (λ entry. Contains (book_in book n).entries entry ⊎ IsSaved book n entry) written.entries
     × ((command : Command) → is_among command (book_in book n).pending ≡ true → (is_among command written.pending || names written command || is_started command n) ≡ true)
+IsOwed book n (Did (Say c (RegisterClientReply id))) = (is_newcomer c n ≡ false → is_recorded id (book_in book n) ≡ true) × (IsOpenable book → is_newcomer c n ≡ true → IsFresh book n id)
 IsOwed book n entry = Unit {0}
 
 -- who dies does so since a shutdown was agreed
@@ -79,9 +83,10 @@ due-step m h s so t = tt
 
 ids-now : (h : History) (n : List Note) → Keeps h n → IdsHold (kept.opened_of h) n
 ids-now h n k =
-    let e : (book_in (kept.opened_of h) n).epoch ≡ kept.run_epoch h = ap (λ (b : Book). b.epoch) k.book ∙ k.epoch in
-    subst (λ (ids : List (List ℕ)). AllByRecursion (λ id. IsOfRun (kept.run_epoch h) id × ((book_in (kept.opened_of h) n).epoch ≡ kept.run_epoch h)) ids × IsDistinct bytes_eq ids) (sym k.new)
-    (of-run (kept.run_epoch h) (of.given h) ((book_in (kept.opened_of h) n).epoch ≡ kept.run_epoch h) k.few e, numbers-differ (kept.run_epoch h) (of.given h) k.few)
+    let e : (book_in (kept.opened_of h) n).epoch ≡ kept.run_epoch h = ap (λ (b : Book). b.epoch) k.book ∙ k.epoch in (
+      all-more (IsOfRun (kept.run_epoch h)) (λ id. IsOfRun (kept.run_epoch h) id × ((book_in (kept.opened_of h) n).epoch ≡ kept.run_epoch h)) (λ id i. (i, e)) (new_ids n) k.new,
+      λ o. subst (IsDistinct bytes_eq) (sym (k.aged o).new) (numbers-differ (kept.run_epoch h) (of.given h) k.few),
+    )
 
 discards-now : (h : History) (n : List Note) → Keeps h n → DiscardsHold (kept.opened_of h) n
 discards-now h n k u command e = ap (λ (b : Book). names b command) k.book ∙ (k.clear u command e).book
@@ -93,11 +98,15 @@ saves-told h n (entry ∷ xs) k a = (told-at a.0, saves-told h n xs k a.1) where
   told-at (inl s) = inl (subst (λ (b : Book). Contains b.entries entry) (sym k.book) s)
   told-at (inr s) = inr (record { conn = s.conn; id = k.id s.conn ∙ s.id; table = k.saved s.going s.conn ∙ s.table })
 
+owed-given : (c : ℕ) (m : XsmpMessage) (h : History) → Suits (Gave c m) h → Keeps h (noted_of h) → IsOwed (kept.opened_of h) (noted_of h) (Did (Say c m))
+owed-given c (RegisterClientReply id) h s k = (λ w. ap (λ (b : Book). is_recorded id b) k.book ∙ s.1.again w, λ o w. next-fresh c id h (noted_of h) s.1 k.epoch k.book k.id (k.aged o) w)
+owed-given c m h s k = tt
+
 owed-step : (m : Move) (h : History) → Suits m h → Keeps h (noted_of h) → AllByRecursion (IsOwed (kept.opened_of h) (noted_of h)) (entries_of m)
 owed-step (Committed written) h s k =
     ((saves-told h (noted_of h) written.entries k s.entries, λ command e. s.pending command (sym (ap (λ (b : Book). is_among command b.pending) k.book) ∙ e)), tt)
 owed-step (Outside event) h s k = (tt, tt)
-owed-step (Gave c m) h s k = (tt, tt)
+owed-step (Gave c m) h s k = (owed-given c m h s k, tt)
 owed-step (Blamed c error) h s k = (tt, tt)
 owed-step (Unset c) h s k = (tt, tt)
 owed-step (Closed c) h s k = (tt, tt)

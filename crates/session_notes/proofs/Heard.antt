@@ -14,7 +14,7 @@ use Rattle.checkpoint_records.specs.declared.records.Entry.{Entry}
 use Rattle.checkpoint_records.specs.Rules.{client_id}
 use Rattle.restart_plan.specs.Restarts.{respawn}
 use Rattle.discard_ledger.specs.Discards.{discard_of}
-use Rattle.round_agreement.specs.Agreement.{Agreement, conns_of}
+use Rattle.round_agreement.specs.Agreement.{Agreement, conns_of, is_nil}
 use Rattle.round_agreement.specs.declared.wanted.Wanted.{Wanted}
 use Rattle.round_agreement.specs.declared.round.Member.{Member}
 use Rattle.xsmp_messages.specs.declared.message.XsmpMessage.{XsmpMessage}
@@ -38,13 +38,14 @@ use Rattle.session_model.proofs.Ruled.{and-left, differ, nobody-level}
 use Rattle.session_model.proofs.Replied.{unregistered-is, cond-same}
 use Rattle.session_notes.specs.Notes.{Note, Heard}
 use Rattle.session_notes.specs.Watching.{has_token}
-use Rattle.session_notes.specs.Keeping.{sets_discard, is_discarded}
+use Rattle.session_notes.specs.Keeping.{sets_discard, is_discarded, is_newcomer}
 use Rattle.session_notes.proofs.Seen.{noted_of, AtEach}
 use Rattle.session_notes.proofs.Steps.{is_at_work, has_replied, is_bound_to_save}
 use Rattle.session_notes.proofs.Open.{HasPlace}
 use Rattle.session_notes.proofs.Kept.{opened_of, IsGiven, IsClearSaved, Clear}
 use Rattle.session_notes.proofs.Next.{forgetting-is}
 use Rattle.session_notes.proofs.Suits.{Suits}
+use Rattle.session_notes.proofs.Fresh.{aged-refused}
 use Rattle.session_notes.proofs.Keeps.{Keeps}
 use Rattle.session_notes.proofs.Tells.{Told}
 use Rattle.session_notes.proofs.Fine.{OneHas, IdsHold, DiscardsHold, Fine, fine-step}
@@ -129,6 +130,7 @@ keeps-refused c m sequence frame error h n i k = record {
   book = k.book;
   id = k.id;
   new = k.new;
+  aged = λ o. aged-refused c m sequence frame error h n (k.aged o);
   idle = k.idle;
   table = λ e d. k.table e d ∙ sym (same-table c m sequence frame h i d);
   saved = λ e d. k.saved e d ∙ sym (same-saved c m sequence frame h i d);
@@ -198,9 +200,13 @@ fine-cond false xs ys h p q = q refl
 still-unregistered : (c : ℕ) (previous : List ℕ) (sequence : ℕ) (frame : List ℕ) (h : History) → of.phase_of c h ≡ Some Unregistered → of.phase_of c (heard c (RegisterClient previous) sequence frame h) ≡ Some Unregistered
 still-unregistered c previous sequence frame h u = cond-same (eqb c c) (of.phase_of c h) ∙ u
 
-fine-reply : (c : ℕ) (previous : List ℕ) (sequence : ℕ) (frame id : List ℕ) (h : History) → of.phase_of c h ≡ Some Unregistered → IsGiven id h → Fine h → Fine (Gave c (RegisterClientReply id) ▷ heard c (RegisterClient previous) sequence frame h)
+-- who asks for a new ID says so last
+newcomer-is : (c : ℕ) (previous : List ℕ) (n : List Note) → is_newcomer c (Heard c (RegisterClient previous) ∷ n) ≡ is_nil previous
+newcomer-is c previous n = ap (λ (b : Bool). cond b (is_nil previous) (is_newcomer c n)) (own c)
+
+fine-reply : (c : ℕ) (previous : List ℕ) (sequence : ℕ) (frame id : List ℕ) (h : History) → of.phase_of c h ≡ Some Unregistered → IsGiven c id h (Heard c (RegisterClient previous) ∷ noted_of h) → Fine h → Fine (Gave c (RegisterClientReply id) ▷ heard c (RegisterClient previous) sequence frame h)
 fine-reply c previous sequence frame id h u g f =
-    fine-step (Gave c (RegisterClientReply id)) (heard c (RegisterClient previous) sequence frame h) (still-unregistered c previous sequence frame h u, g) (fine-step (Outside (Said c (RegisterClient previous) sequence frame)) h tt f)
+    fine-step (Gave c (RegisterClientReply id)) (heard c (RegisterClient previous) sequence frame h) (still-unregistered c previous sequence frame h u, record { anew = g.anew; again = g.again }) (fine-step (Outside (Said c (RegisterClient previous) sequence frame)) h tt f)
 
 fine-turned-away : (c : ℕ) (previous : List ℕ) (sequence : ℕ) (frame : List ℕ) (error : ErrorFields) (h : History) → of.phase_of c h ≡ Some Unregistered → Fine h → Fine (Unset c ▷ Blamed c error ▷ heard c (RegisterClient previous) sequence frame h)
 fine-turned-away c previous sequence frame error h u f =
@@ -213,15 +219,15 @@ few-ids k n e = few-at (nat_le 128 k) e where
   few-at true e = absurd (grind arith)
   few-at false e = grind (arith, nat_tests)
 
-fine-register : (c : ℕ) (previous : List ℕ) (sequence : ℕ) (frame id : List ℕ) (h : History) → of.phase_of c h ≡ Some Unregistered → Fine h
+fine-register : (c : ℕ) (previous : List ℕ) (sequence : ℕ) (frame id : List ℕ) (h : History) → is_nil previous ≡ is_nil id → of.phase_of c h ≡ Some Unregistered → Fine h
     → Fine (onto (heard c (RegisterClient previous) sequence frame h) (register (reading h) (arrival c (RegisterClient previous) sequence frame) id))
-fine-register c previous sequence frame [] h u f =
+fine-register c previous sequence frame [] h s u f =
     fine-cond (has_no_room (reading h)) (Blamed c (no_room (arrival c (RegisterClient previous) sequence frame)) ∷ Unset c ∷ []) (Gave c (RegisterClientReply (client_id (of.book h).epoch (of.given h + 1))) ∷ []) (heard c (RegisterClient previous) sequence frame h)
     (λ e. fine-turned-away c previous sequence frame (no_room (arrival c (RegisterClient previous) sequence frame)) h u f)
-    (λ e. fine-reply c previous sequence frame (client_id (of.book h).epoch (of.given h + 1)) h u (λ k. (refl, few-ids (known_ids (reading h)) (of.given h) e)) f)
-fine-register c previous sequence frame (b ∷ id) h u f =
+    (λ e. fine-reply c previous sequence frame (client_id (of.book h).epoch (of.given h + 1)) h u (record { anew = λ k. (refl, few-ids (known_ids (reading h)) (of.given h) e); again = λ k. absurd (differ (newcomer-is c previous (noted_of h) ∙ s) k) }) f)
+fine-register c previous sequence frame (b ∷ id) h s u f =
     fine-cond (may_rejoin (reading h) (b ∷ id)) (Gave c (RegisterClientReply (b ∷ id)) ∷ []) (Blamed c (bad_id (arrival c (RegisterClient previous) sequence frame)) ∷ []) (heard c (RegisterClient previous) sequence frame h)
-    (λ e. fine-reply c previous sequence frame (b ∷ id) h u (λ k. absurd (differ (and-left (is_recorded (b ∷ id) (of.book h)) (is_none (client_of (b ∷ id) (reading h).clients)) e) k)) f)
+    (λ e. fine-reply c previous sequence frame (b ∷ id) h u (record { anew = λ k. absurd (differ k (newcomer-is c previous (noted_of h) ∙ s)); again = λ k. and-left (is_recorded (b ∷ id) (of.book h)) (is_none (client_of (b ∷ id) (reading h).clients)) e }) f)
     (λ e. fine-refused c (RegisterClient previous) sequence frame (bad_id (arrival c (RegisterClient previous) sequence frame)) h (record { phase = refl; askers = refl; table = refl; saved = refl }) f)
 
 -- The token
@@ -297,7 +303,7 @@ unsaved false c h e = refl
 fine-answered : (c : ℕ) (m : XsmpMessage) (sequence : ℕ) (frame : List ℕ) (h : History) → Fine h → Fine (onto (heard c m sequence frame h) (answered (reading h) (arrival c m sequence frame) m (of.phase_of c h)))
 fine-answered c (RegisterClient previous) sequence frame h f =
     fine-or-bad (is_unregistered (of.phase_of c h)) c (RegisterClient previous) sequence frame (register (reading h) (arrival c (RegisterClient previous) sequence frame) previous) h (λ e. record { phase = refl; askers = refl; table = refl; saved = refl }) f
-    (λ e. fine-register c previous sequence frame previous h (unregistered-is (of.phase_of c h) e) f)
+    (λ e. fine-register c previous sequence frame previous h refl (unregistered-is (of.phase_of c h) e) f)
 fine-answered c (SetProperties list) sequence frame h f =
     fine-or-bad (is_bound (of.phase_of c h)) c (SetProperties list) sequence frame _ h (λ e. record { phase = refl; askers = refl; table = unbound-table (is_bound (of.phase_of c h)) (set_table list (of.table_of c h)) (of.table_of c h) e; saved = refl }) f
     (λ e. fine-cond (is_full (set_all (of.table_of c h) list)) (Blamed c (full_table (arrival c (SetProperties list) sequence frame)) ∷ []) [] (heard c (SetProperties list) sequence frame h)

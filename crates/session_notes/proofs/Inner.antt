@@ -3,7 +3,7 @@ use Rattle.std.proofs.Common.{◌≡◌, refl, List, [], ◌∷◌, ◌++◌, sy
 use Rattle.std.proofs.lemmas.List.{append-nil, append_assoc}
 use Rattle.checkpoint_records.specs.declared.records.Book.{Book}
 use Rattle.session_model.specs.declared.events.SessionEvent.{SessionEvent}
-use Rattle.session_model.specs.Moves.{History, Move, Opened, Outside, ◌▷◌}
+use Rattle.session_model.specs.Moves.{History, Move, Outside, ◌▷◌}
 use Rattle.session_model.specs.Rules.{opened, run, taken}
 use Rattle.session_model.proofs.Inner.{IsInner, kept-opening, kept-taken}
 use Rattle.session_notes.specs.Notes.{Came, Did, Entry, came_in, entries, entries_of}

@@ -15,12 +15,14 @@ use Rattle.session_model.proofs.Sound.{Sound, or-either}
 use Rattle.session_model.proofs.Ruled.{and-left, and-right, differ}
 use Rattle.session_notes.specs.Notes.{Note, Heard, Started}
 use Rattle.session_notes.specs.Keeping.{book_in, sets_discard, is_discarded}
+use Rattle.session_notes.specs.Laws.{IsOpenable}
 use Rattle.session_notes.proofs.Seen.{noted_of}
 use Rattle.session_notes.proofs.Told.{AskedTold, OwingTold}
 use Rattle.session_notes.proofs.Kept as kept
 use Rattle.session_notes.proofs.Kept.{NoneNamed}
 use Rattle.session_notes.proofs.Tests.{or-none}
 use Rattle.session_notes.proofs.Suits.{Suits}
+use Rattle.session_notes.proofs.Fresh.{Aged, aged-step}
 
 -- The book that stands
 
@@ -68,7 +70,7 @@ abbrev FewTold : History → Type 0
 FewTold h = of.given h < 4294967296
 
 few-given : (d : ℕ) (m : XsmpMessage) (h : History) → Suits (Gave d m) h → FewTold h → FewTold (Gave d m ▷ h)
-few-given d (RegisterClientReply id) h s t = kept.few-reply id h s.1 t
+few-given d (RegisterClientReply id) h s t = kept.few-reply d id h (noted_of h) s.1 t
 few-given d m h s t = t
 
 few-step : (m : Move) (h : History) → Suits m h → FewTold h → FewTold (m ▷ h)
@@ -79,15 +81,15 @@ new-heard : (event : SessionEvent) (h : History) → kept.NewTold h (noted_of h)
 new-heard (Left d) h t = t
 new-heard event h t = t
 
-new-given : (d : ℕ) (m : XsmpMessage) (h : History) → Suits (Gave d m) h → EpochTold h → BookTold h → kept.NewTold h (noted_of h) → kept.NewTold (Gave d m ▷ h) (noted_of (Gave d m ▷ h))
-new-given d (RegisterClientReply id) h s e b t = kept.new-reply d id h (noted_of h) s.1 e b t
-new-given d m h s e b t = t
+new-given : (d : ℕ) (m : XsmpMessage) (h : History) → Suits (Gave d m) h → EpochTold h → kept.NewTold h (noted_of h) → kept.NewTold (Gave d m ▷ h) (noted_of (Gave d m ▷ h))
+new-given d (RegisterClientReply id) h s e t = kept.new-reply d id h (noted_of h) s.1 e t
+new-given d m h s e t = t
 
-new-step : (m : Move) (h : History) → Suits m h → EpochTold h → BookTold h → kept.NewTold h (noted_of h) → kept.NewTold (m ▷ h) (noted_of (m ▷ h))
-new-step (Outside event) h s e b t = new-heard event h t
-new-step (Gave d m) h s e b t = new-given d m h s e b t
-new-step (Blamed d error) h s e b t = absurd s
-new-step m h s e b t = t
+new-step : (m : Move) (h : History) → Suits m h → EpochTold h → kept.NewTold h (noted_of h) → kept.NewTold (m ▷ h) (noted_of (m ▷ h))
+new-step (Outside event) h s e t = new-heard event h t
+new-step (Gave d m) h s e t = new-given d m h s e t
+new-step (Blamed d error) h s e t = absurd s
+new-step m h s e t = t
 
 -- Where a shutdown was agreed no round runs
 
@@ -183,6 +185,7 @@ pub record Keeps (h : History) (n : List Note) : Type 0 where
   pub book : book_in (kept.opened_of h) n ≡ of.book h
   pub id : kept.IdTold h n
   pub new : kept.NewTold h n
+  pub aged : IsOpenable (kept.opened_of h) → Aged h n
   pub idle : of.is_ending h ≡ true → of.running h ≡ None
   pub table : kept.TableTold h n
   pub saved : kept.SavedTold h n
@@ -195,7 +198,8 @@ keeps-step m h s so a o k = record {
   few = few-step m h s k.few;
   book = book-step m h s k.book;
   id = id-step m h s k.id;
-  new = new-step m h s k.epoch k.book k.new;
+  new = new-step m h s k.epoch k.new;
+  aged = λ o. aged-step m h s k.epoch (k.aged o);
   idle = idle-step m h s k.idle;
   table = table-step m h s so k.book k.table;
   saved = saved-step m h s so a o k.table k.saved;

@@ -26,7 +26,7 @@ use Rattle.session_model.proofs.Ruled.{denied, differ, member-registered}
 use Rattle.session_model.proofs.Replied.{cond-same}
 use Rattle.session_notes.specs.Notes.{Note, Heard, Given, Gone}
 use Rattle.session_notes.specs.Watching.{was_asked}
-use Rattle.session_notes.specs.Keeping.{book_in, id_in, new_ids, table_in, snapshot_in, sets_discard, is_started}
+use Rattle.session_notes.specs.Keeping.{IsOfRun, book_in, id_in, is_newcomer, new_ids, table_in, snapshot_in, sets_discard, is_started}
 use Rattle.session_notes.proofs.Steps.{begins, member-given, saving-member}
 use Rattle.session_notes.proofs.Told.{AskedTold, OwingTold}
 use Rattle.session_notes.proofs.Discards.{table-clear, without-clear, names-none, none-names, first-clear, same-by, among-by}
@@ -48,9 +48,10 @@ numbered epoch (suc n) = client_id epoch (suc n) ∷ numbered epoch n
 
 -- What moves ask
 
--- an ID that isn't recorded is the next new one
-abbrev pub IsGiven : List ℕ → History → Type 0
-IsGiven id h = is_recorded id (of.book h) ≡ false → (id ≡ client_id (of.book h).epoch (of.given h + 1)) × (of.given h + 1 < 4294967296)
+-- who asks for a new ID gets the next one, and every other a recorded one
+pub record IsGiven (c : ℕ) (id : List ℕ) (h : History) (n : List Note) : Type 0 where
+  pub anew : is_newcomer c n ≡ true → (id ≡ client_id (of.book h).epoch (of.given h + 1)) × (of.given h + 1 < 4294967296)
+  pub again : is_newcomer c n ≡ false → is_recorded id (of.book h) ≡ true
 
 -- a member has saved this with success
 pub record Saves (entry : Entry) (h : History) : Type 0 where
@@ -188,27 +189,22 @@ id-gone d h n t c = ap (λ (o : Option (List ℕ)). cond (eqb d c) None o) (t c)
 abbrev pub run_epoch : History → ℕ
 run_epoch h = (opened_of h).epoch + 1
 
+-- each new ID is of the run
 abbrev pub NewTold : History → List Note → Type 0
-NewTold h n = new_ids (opened_of h) n ≡ numbered (run_epoch h) (of.given h)
+NewTold h n = AllByRecursion (IsOfRun (run_epoch h)) (new_ids n)
 
-one-more : (n : ℕ) → n + 1 ≡ suc n
-one-more n = omega arith
+pub new-reply : (d : ℕ) (id : List ℕ) (h : History) (n : List Note) → IsGiven d id h n → (of.book h).epoch ≡ run_epoch h → NewTold h n → NewTold (Gave d (RegisterClientReply id) ▷ h) (Given d (RegisterClientReply id) ∷ n)
+new-reply d id h n g e t = new-at (is_newcomer d n) refl where
+  new-at : (b : Bool) → is_newcomer d n ≡ b → AllByRecursion (IsOfRun (run_epoch h)) (cond b (id ∷ new_ids n) (new_ids n))
+  new-at true k = (record { number = of.given h + 1; fits = omega (arith, (g.anew k).1); is = (g.anew k).0 ∙ ap (λ (x : ℕ). client_id x (of.given h + 1)) e }, t)
+  new-at false k = t
 
-new-at : (b : Bool) (epoch n : ℕ) (id : List ℕ) (ids : List (List ℕ)) → (b ≡ false → id ≡ client_id epoch (n + 1)) → ids ≡ numbered epoch n → cond b ids (id ∷ ids) ≡ numbered epoch (cond b n (n + 1))
-new-at true epoch n id ids f k = k
-new-at false epoch n id ids f k =
-    ap (λ (x : List ℕ). x ∷ ids) (f refl) ∙ ap (λ (xs : List (List ℕ)). client_id epoch (n + 1) ∷ xs) k ∙ ap (λ (x : ℕ). client_id epoch x ∷ numbered epoch n) (one-more n) ∙ sym (ap (λ (x : ℕ). numbered epoch x) (one-more n))
-
-pub new-reply : (d : ℕ) (id : List ℕ) (h : History) (n : List Note) → IsGiven id h → (of.book h).epoch ≡ run_epoch h → book_in (opened_of h) n ≡ of.book h → NewTold h n → NewTold (Gave d (RegisterClientReply id) ▷ h) (Given d (RegisterClientReply id) ∷ n)
-new-reply d id h n g e b t =
-    ap (λ (book : Book). cond (is_recorded id book) (new_ids (opened_of h) n) (id ∷ new_ids (opened_of h) n)) b
-    ∙ new-at (is_recorded id (of.book h)) (run_epoch h) (of.given h) id (new_ids (opened_of h) n) (λ k. (g k).0 ∙ ap (λ (x : ℕ). client_id x (of.given h + 1)) e) t
-
-pub few-reply : (id : List ℕ) (h : History) → IsGiven id h → of.given h < 4294967296 → cond (is_recorded id (of.book h)) (of.given h) (of.given h + 1) < 4294967296
-few-reply id h g l = few-at (is_recorded id (of.book h)) refl where
-  few-at : (b : Bool) → is_recorded id (of.book h) ≡ b → cond b (of.given h) (of.given h + 1) < 4294967296
-  few-at true e = l
-  few-at false e = (g e).1
+pub few-reply : (c : ℕ) (id : List ℕ) (h : History) (n : List Note) → IsGiven c id h n → of.given h < 4294967296 → cond (is_recorded id (of.book h)) (of.given h) (of.given h + 1) < 4294967296
+few-reply c id h n g l = few-at (is_newcomer c n) (is_recorded id (of.book h)) refl refl where
+  few-at : (w b : Bool) → is_newcomer c n ≡ w → is_recorded id (of.book h) ≡ b → cond b (of.given h) (of.given h + 1) < 4294967296
+  few-at w true k e = l
+  few-at true false k e = (g.anew k).1
+  few-at false false k e = absurd (differ (g.again k) e)
 
 -- Discards
 

@@ -9,6 +9,7 @@ pub mod Kept
 pub mod Numbers
 pub mod Next
 pub mod Suits
+pub mod Fresh
 pub mod Tells
 pub mod Keeps
 pub mod Fine

@@ -1,16 +1,11 @@
--- New IDs are of the run, and no two are alike.
+-- No two new IDs of a run are alike.
 use Rattle.std.proofs.Common.{◌≡◌, refl, ℕ, zero, suc, ◌<◌, Bool, true, false, sym, arith}
 use Rattle.std.specs.List.{AllByRecursion, IsDistinct}
 use Rattle.std.specs.Str.{bytes_eq}
 use Rattle.std.specs.Cmp.Lexicographic.{same_text}
 use Rattle.checkpoint_records.specs.Rules.{client_id}
 use Rattle.session_model.proofs.Ids.{same-place}
-use Rattle.session_notes.specs.Keeping.{IsOfRun}
 use Rattle.session_notes.proofs.Kept.{numbered}
-
-pub of-run : (epoch n : ℕ) (P : Type 0) → n < 4294967296 → P → AllByRecursion (λ id. IsOfRun epoch id × P) (numbered epoch n)
-of-run epoch zero P l p = tt
-of-run epoch (suc n) P l p = ((record { number = suc n; fits = omega (arith, l); is = refl }, p), of-run epoch n P (omega (arith, l)) p)
 
 others-differ : (epoch m n : ℕ) → n < m → m < 4294967296 → AllByRecursion (λ id. bytes_eq (client_id epoch m) id ≡ false) (numbered epoch n)
 others-differ epoch m zero k l = tt

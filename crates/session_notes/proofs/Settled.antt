@@ -26,7 +26,7 @@ use Rattle.session_model.specs.Phases.{is_interacting, is_first_saving, is_membe
 use Rattle.session_model.specs.Moves.{Move, Outside, Gave, Closed, Began, Over, Agreed, Tried, Committed, Finished, End, Restart, History, Opened, ◌▷◌, onto, gave_each, tried_each}
 use Rattle.session_model.specs.Readings as of
 use Rattle.session_model.specs.Reading.{Clients, reading}
-use Rattle.session_model.specs.Books.{next_book, issue, discarded, raised, opening_moves}
+use Rattle.session_model.specs.Books.{next_book, issue, discarded, raised}
 use Rattle.session_model.specs.Replies.{reply}
 use Rattle.session_model.specs.Rules.{last_command, ended, completed, agreement, wanting_two, over_rule, agreed_rule, running_rule, save_yourself, members_for, begin, begin_first, is_free, idle_rule, round_rule, token_rule, rule, go_on, settle, settled, taken, opened, run}
 use Rattle.session_model.proofs.Sound.{AreRegistered, or-true, or-either}
@@ -44,6 +44,7 @@ use Rattle.session_notes.proofs.Told.{BeginsToSave, RestTold}
 use Rattle.session_notes.proofs.Discards.{among-by}
 use Rattle.session_notes.proofs.Kept.{IsNeedless, NoneNamed, opened_of}
 use Rattle.session_notes.proofs.Next.{all-stand, next-is}
+use Rattle.session_notes.proofs.Fresh.{aged-opening}
 use Rattle.session_notes.proofs.Fine.{OneHas, IsDue, IdsHold, DiscardsHold, IsOwed, Fine, fine-step}
 use Rattle.session_notes.proofs.Calm.{fine-calm, fine-append, fine-issue, fine-discarded, calm-tried, calm-gave, calm-closed, AllStill, still-onto, still-append, still-gave, still-closed, still-tried}
 use Rattle.session_notes.proofs.Heard.{fine-reply_to}
@@ -383,7 +384,8 @@ fine-opening book = record {
     few = omega arith;
     book = refl;
     id = λ c. refl;
-    new = refl;
+    new = tt;
+    aged = aged-opening book;
     idle = λ e. refl;
     table = λ e c. refl;
     saved = λ e c. refl;
@@ -392,7 +394,7 @@ fine-opening book = record {
   };
   one = (λ c d e f. absurd (grind arith), λ c d e f. absurd (grind arith));
   due = ((tt, tt), tt);
-  ids = ((tt, none-differ), (tt, none-differ));
+  ids = ((tt, λ o. none-differ), (tt, λ o. none-differ));
   discards = (λ u command e. absurd (grind arith), λ u command e. absurd (grind arith));
   owed = (((all-more (Contains book.entries) (λ entry. Contains book.entries entry ⊎ IsSaved book [] entry) (λ entry s. inl s) book.entries (all-stand book.entries), λ command e. or-first _ (is_started command []) (or-first (is_among command book.pending) (names (raised book) command) e)), tt), tt);
 }

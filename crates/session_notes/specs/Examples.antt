@@ -9,10 +9,10 @@ use Rattle.xsmp_messages.specs.declared.message.XsmpMessage.TheVariants.{Interac
 use Rattle.session_model.specs.declared.events.SessionEvent.{SessionEvent}
 use Rattle.session_model.specs.declared.events.SessionEvent.TheVariants.{Left, Operator}
 use Rattle.session_model.specs.Rules.{opened, run}
-use Rattle.session_model.specs.Examples.{asks_all, discards_by, entry_1, first_book, keeping, log_in_and_save, logs_in, removes, saved, says, sets}
+use Rattle.session_model.specs.Examples.{asks_all, discards_by, entry_1, first_book, keeping, log_in_and_save, logs_in, logs_in_as, removes, saved, says, sets}
 use Rattle.session_notes.specs.Notes.{Given, Heard, Note, entries, notes}
 use Rattle.session_notes.specs.Watching.{has_answered, has_token, is_to_save, requests, was_asked}
-use Rattle.session_notes.specs.Keeping.{book_in, id_in, is_discarded, new_ids, snapshot_in}
+use Rattle.session_notes.specs.Keeping.{book_in, given_ids, id_in, is_discarded, is_newcomer, new_ids, snapshot_in}
 
 -- what is noted after these events
 abbrev pub notes_after : List SessionEvent → List Note
@@ -67,8 +67,19 @@ one_saves = logs_in 1 ++ says 1 (SetProperties (keeping (codes "a"))) ∷ saved 
 -- its ID is a new one, its snapshot is what it said, and both stand in the book
 abbrev pub ASaveIsNoted : Type 0
 ASaveIsNoted =
-    (id_in 1 (notes_after one_saves) ≡ Some (codes "smd-00000001-00000001")) × (new_ids empty_book (notes_after one_saves) ≡ codes "smd-00000001-00000001" ∷ [])
+    (id_in 1 (notes_after one_saves) ≡ Some (codes "smd-00000001-00000001")) × (new_ids (notes_after one_saves) ≡ codes "smd-00000001-00000001" ∷ [])
     × (snapshot_in empty_book 1 (notes_after one_saves) ≡ Some (keeping (codes "a"))) × (book_in empty_book (notes_after one_saves) ≡ first_book (entry_1 (codes "a") ∷ []) [])
+
+-- the client leaves and comes back under its ID, and another asks for a new one
+abbrev pub one_comes_back : List SessionEvent
+one_comes_back = one_saves ++ Left 1 ∷ logs_in_as 2 (codes "smd-00000001-00000001") ++ logs_in 3
+
+-- a recorded ID that is given again is no new one
+abbrev pub ARecordedIdIsNotNew : Type 0
+ARecordedIdIsNotNew =
+    (new_ids (notes_after one_comes_back) ≡ codes "smd-00000001-00000002" ∷ codes "smd-00000001-00000001" ∷ [])
+    × (given_ids (notes_after one_comes_back) ≡ codes "smd-00000001-00000002" ∷ codes "smd-00000001-00000001" ∷ codes "smd-00000001-00000001" ∷ [])
+    × (is_newcomer 2 (notes_after one_comes_back) ≡ false) × (is_newcomer 3 (notes_after one_comes_back) ≡ true)
 
 -- the snapshot is gone as the client is asked to save again
 abbrev pub AnOldSnapshotIsGone : Type 0

@@ -4,13 +4,14 @@ use Rattle.std.specs.Prelude.{Bool, List, None, Option, Some, [], cond, false, n
 use Rattle.sm_world.specs.declared.commands.Command.{Command}
 use Rattle.ice_values.specs.declared.property.Property.{Property}
 use Rattle.xsmp_properties.specs.Tables.{set_all, without_names}
-use Rattle.xsmp_messages.specs.declared.message.XsmpMessage.TheVariants.{DeleteProperties, RegisterClientReply, SaveYourself, SaveYourselfDone, SetProperties, ShutdownCancelled}
+use Rattle.xsmp_messages.specs.declared.message.XsmpMessage.TheVariants.{DeleteProperties, RegisterClient, RegisterClientReply, SaveYourself, SaveYourselfDone, SetProperties, ShutdownCancelled}
 use Rattle.checkpoint_records.specs.declared.records.Book.{Book}
 use Rattle.checkpoint_records.specs.Books.{same_command}
 use Rattle.checkpoint_records.specs.Rules.{client_id}
+use Rattle.round_agreement.specs.Agreement.{is_nil}
 use Rattle.discard_ledger.specs.Discards.{discard_of}
 use Rattle.session_model.specs.declared.events.Reason.TheVariants.{Discard}
-use Rattle.session_model.specs.Tables.{first_table, is_recorded, is_same}
+use Rattle.session_model.specs.Tables.{first_table, is_same}
 use Rattle.session_notes.specs.Notes.{Given, Gone, Heard, Note, Started, Wrote}
 use Rattle.session_notes.specs.Watching.{was_asked}
 
@@ -29,11 +30,24 @@ id_in c (Given d (RegisterClientReply id) ∷ notes) = cond (d == c) (Some id) (
 id_in c (Gone d ∷ notes) = cond (d == c) None (id_in c notes)
 id_in c (note ∷ notes) = id_in c notes
 
--- the IDs that were new as they were given, since the book that stood had no entry of them; the latest first
-abbrev pub new_ids : Book → List Note → List (List ℕ)
-new_ids opened [] = []
-new_ids opened (Given c (RegisterClientReply id) ∷ notes) = cond (is_recorded id (book_in opened notes)) (new_ids opened notes) (id ∷ new_ids opened notes)
-new_ids opened (note ∷ notes) = new_ids opened notes
+-- It asked for a new ID: the previous-ID of its latest RegisterClient is empty.
+abbrev pub is_newcomer : ℕ → List Note → Bool
+is_newcomer c [] = false
+is_newcomer c (Heard d (RegisterClient previous) ∷ notes) = cond (d == c) (is_nil previous) (is_newcomer c notes)
+is_newcomer c (Gone d ∷ notes) = not (d == c) && is_newcomer c notes
+is_newcomer c (note ∷ notes) = is_newcomer c notes
+
+-- all IDs that were given; the latest first
+abbrev pub given_ids : List Note → List (List ℕ)
+given_ids [] = []
+given_ids (Given c (RegisterClientReply id) ∷ notes) = id ∷ given_ids notes
+given_ids (note ∷ notes) = given_ids notes
+
+-- the new IDs: those that answered an empty previous-ID; the latest first
+abbrev pub new_ids : List Note → List (List ℕ)
+new_ids [] = []
+new_ids (Given c (RegisterClientReply id) ∷ notes) = cond (is_newcomer c notes) (id ∷ new_ids notes) (new_ids notes)
+new_ids (note ∷ notes) = new_ids notes
 
 -- an ID of the run of this epoch
 pub record IsOfRun (epoch : ℕ) (id : List ℕ) : Type 0 where

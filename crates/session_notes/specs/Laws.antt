@@ -1,7 +1,7 @@
 -- Laws of every run, said of what is seen from outside alone. Each holds of each front of what is seen: at every moment, also
 -- in the middle of the answer to one event, whatever comes from outside. A message that came last counts as accepted until an Error
 -- stands behind it.
-use Rattle.std.specs.Prelude.{List, Some, [], false, true, ℕ, ◌+◌, ◌++◌, ◌||◌, ◌∷◌, ◌≡◌, ◌⊎◌}
+use Rattle.std.specs.Prelude.{List, Some, [], false, true, ℕ, ◌+◌, ◌++◌, ◌<◌, ◌^◌, ◌||◌, ◌∷◌, ◌≡◌, ◌≢◌, ◌⊎◌}
 use Rattle.std.specs.List.{AllByRecursion, Contains, IsDistinct}
 use Rattle.std.specs.Str.{bytes_eq}
 use Rattle.sm_world.specs.declared.commands.Command.{Command}
@@ -10,13 +10,14 @@ use Rattle.checkpoint_records.specs.declared.records.Entry.{Entry as Kept}
 use Rattle.checkpoint_records.specs.Books.{names}
 use Rattle.checkpoint_records.specs.Rules.{KeepsRules}
 use Rattle.discard_ledger.specs.Discards.{is_among}
-use Rattle.xsmp_messages.specs.declared.message.XsmpMessage.TheVariants.{Interact, SaveYourselfPhase2}
+use Rattle.xsmp_messages.specs.declared.message.XsmpMessage.TheVariants.{Interact, RegisterClientReply, SaveYourselfPhase2}
 use Rattle.session_model.specs.declared.events.SessionEvent.{SessionEvent}
 use Rattle.session_model.specs.declared.events.Act.TheVariants.{Commit, Say}
 use Rattle.session_model.specs.Moves.{History, all_acts}
 use Rattle.session_model.specs.Rules.{opened, run}
+use Rattle.session_model.specs.Tables.{is_recorded}
 use Rattle.session_notes.specs.Notes.{Did, Entry, Note, acts_in, came_in, entries, notes}
-use Rattle.session_notes.specs.Keeping.{IsOfRun, book_in, id_in, is_discarded, is_started, new_ids, snapshot_in}
+use Rattle.session_notes.specs.Keeping.{IsOfRun, book_in, given_ids, id_in, is_discarded, is_newcomer, is_started, new_ids, snapshot_in}
 use Rattle.session_notes.specs.Watching.{has_answered, has_token, is_to_save, requests}
 
 -- Somebody who watches has seen this so far, the oldest first: a run over this book shows it, and then goes on.
@@ -49,11 +50,32 @@ TheSecondPhaseWaits = (book : Book) (seen : List Entry) (c d : ℕ) → IsSeen b
 -- too. So a later run, which opens such a book, gives IDs of a larger epoch.
 abbrev pub NewIdsAreOfTheRun : Type 0
 NewIdsAreOfTheRun =
-    (book : Book) (seen : List Entry) → IsSeen book seen → AllByRecursion (λ id. IsOfRun (book.epoch + 1) id × ((book_in book (notes seen)).epoch ≡ book.epoch + 1)) (new_ids book (notes seen))
+    (book : Book) (seen : List Entry) → IsSeen book seen → AllByRecursion (λ id. IsOfRun (book.epoch + 1) id × ((book_in book (notes seen)).epoch ≡ book.epoch + 1)) (new_ids (notes seen))
+
+-- A run is over a book that keeps the rules, and whose epoch has one after it.
+pub record IsOpenable (book : Book) : Type 0 where
+  pub rules : KeepsRules book
+  pub room : book.epoch + 1 < 2 ^ 32
 
 -- no two new IDs are alike
 abbrev pub NewIdsDiffer : Type 0
-NewIdsDiffer = (book : Book) (seen : List Entry) → IsSeen book seen → IsDistinct bytes_eq (new_ids book (notes seen))
+NewIdsDiffer = (book : Book) (seen : List Entry) → IsOpenable book → IsSeen book seen → IsDistinct bytes_eq (new_ids (notes seen))
+
+-- The book that stands has no entry of this ID, no connection has it, and it was given to nobody before in the run.
+pub record IsFresh (book : Book) (notes : List Note) (id : List ℕ) : Type 0 where
+  pub unrecorded : is_recorded id (book_in book notes) ≡ false
+  pub free : (conn : ℕ) → id_in conn notes ≢ Some id
+  pub unused : ¬ (Contains (given_ids notes) id)
+
+-- who asks for a new ID gets one that nobody has or had
+abbrev pub NewIdsAreFresh : Type 0
+NewIdsAreFresh =
+    (book : Book) (seen : List Entry) (c : ℕ) (id : List ℕ) → IsOpenable book → IsSeen book (seen ++ Did (Say c (RegisterClientReply id)) ∷ []) → is_newcomer c (notes seen) ≡ true → IsFresh book (notes seen) id
+
+-- Everybody else gets a recorded ID. So an ID is new exactly where the book that stands has no entry of it, as the history counts.
+abbrev pub OldIdsAreRecorded : Type 0
+OldIdsAreRecorded =
+    (book : Book) (seen : List Entry) (c : ℕ) (id : List ℕ) → IsSeen book (seen ++ Did (Say c (RegisterClientReply id)) ∷ []) → is_newcomer c (notes seen) ≡ false → is_recorded id (book_in book (notes seen)) ≡ true
 
 -- a client has saved this with success: it is the client's ID and snapshot
 pub record IsSaved (book : Book) (notes : List Note) (entry : Kept) : Type 0 where

@@ -1,4 +1,4 @@
-ghost use Rattle.session_notes.specs.Laws.{AllActsAreSeen, AllEventsAreSeen, OneHasTheToken, TheFirstIsServed, TheSecondPhaseWaits, NewIdsAreOfTheRun, NewIdsDiffer, EntriesWereSaved, DiscardedStatesAreNotNamed, PendingIsNotLost};
+ghost use Rattle.session_notes.specs.Laws.{AllActsAreSeen, AllEventsAreSeen, OneHasTheToken, TheFirstIsServed, TheSecondPhaseWaits, NewIdsAreOfTheRun, NewIdsDiffer, NewIdsAreFresh, OldIdsAreRecorded, EntriesWereSaved, DiscardedStatesAreNotNamed, PendingIsNotLost};
 
 /// Does nothing: its contract is a law of every run. Each event is seen.
 pub fn all_events_are_seen()
@@ -33,6 +33,16 @@ pub fn new_ids_are_of_the_run()
 /// Does nothing: its contract is a law of all that is seen of a run. No two new IDs are alike.
 pub fn new_ids_differ()
     ensures { NewIdsDiffer }
+{}
+
+/// Does nothing: its contract is a law of all that is seen of a run. Who asks for a new ID gets one that stands in no entry of the book, that no connection has, and that nobody was given before.
+pub fn new_ids_are_fresh()
+    ensures { NewIdsAreFresh }
+{}
+
+/// Does nothing: its contract is a law of all that is seen of a run. Who asks for no new ID gets one that the book that stands has an entry of.
+pub fn old_ids_are_recorded()
+    ensures { OldIdsAreRecorded }
 {}
 
 /// Does nothing: its contract is a law of all that is seen of a run. Each entry of a book that is written stood in the book before, or was saved by its client.

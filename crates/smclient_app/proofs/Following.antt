@@ -104,6 +104,7 @@ module _ {S D C : Type 0} (answers : S → SaveAsk → SaveAnswer → S → Type
               counts = does.counts;
               cause = does.cause;
             };
+            heard = ran.joins.heard;
             answer = ran.joins.answer;
             in_turns = ran.joins.in_turns;
           };
@@ -129,6 +130,7 @@ module _ {S D C : Type 0} (answers : S → SaveAsk → SaveAnswer → S → Type
               counts = does.counts;
               cause = tt;
             };
+            heard = ran.joins.heard;
             answer = tt;
             in_turns = ran.joins.in_turns;
           };

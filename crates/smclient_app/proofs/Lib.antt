@@ -1,3 +1,4 @@
+pub mod Completing
 pub mod Following
 pub mod RuleLaws
 pub mod LineLaws

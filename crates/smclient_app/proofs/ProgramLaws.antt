@@ -91,6 +91,7 @@ went choices old mid run new turns join lines answer printed ending ready told b
             counts = all;
             cause = cause_within old.faults mid.faults run.faults new.faults (failure_of answer) before does.counts after does.cause;
           };
+          heard = by.joins.heard;
           answer = by.joins.answer;
           in_turns = by.joins.in_turns;
         };

@@ -4,3 +4,4 @@ pub mod Joining
 pub mod Lines
 pub mod Faults
 pub mod Statuses
+pub mod Completeness

@@ -4,6 +4,7 @@
 mod entries;
 mod fault;
 mod joining;
+mod laws;
 mod lines;
 mod program;
 mod rules;
@@ -11,4 +12,5 @@ mod rules;
 mod tests;
 
 pub use entries::{EntryRefusal, read_cookie};
+pub use laws::calls_are_complete;
 pub use program::smclient_main;

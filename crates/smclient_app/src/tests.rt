@@ -354,15 +354,16 @@ fn other_files_have_no_entry(rt: HostRuntime) -> Result<(), Fail> {
     answers(&rt, &["--socket", "/s", "--authority", "absent"], absent)
 }
 
-/// The status of a client that saves once, over a peer whose call with this number fails.
-fn status_failing(alloc: Global, failing: u64) -> Result<u8, Fail> {
+/// The status of a client with these words that saves once, over a peer whose call with this number
+/// fails.
+fn status_failing(alloc: Global, words: &[&str], failing: u64) -> Result<u8, Fail> {
     let frames = both(alloc, LOGIN, &[COMPLETE])?;
     let mut peer = peer(alloc, frames.as_slice(), failing)?;
-    let mut words = Vec::new(alloc);
-    for word in WORDS {
-        words.push(word.to_string(alloc)?)?;
+    let mut list = Vec::new(alloc);
+    for word in words {
+        list.push(word.to_string(alloc)?)?;
     }
-    Ok(smclient_main(alloc, words.as_slice(), &mut peer, 1000))
+    Ok(smclient_main(alloc, list.as_slice(), &mut peer, 1000))
 }
 
 #[test]
@@ -371,10 +372,21 @@ fn each_call_can_fail(rt: HostRuntime) -> Result<(), Fail> {
     // Fetch, connect, 9 messages, and 152 bytes in pieces of 3.
     let calls = 2 + 9 + 51;
     for number in 1..=calls {
-        assert_eq!(rt; status_failing(alloc, number)?, 5, "call {number}");
+        assert_eq!(rt; status_failing(alloc, WORDS, number)?, 5, "call {number}");
     }
-    assert_eq!(rt; status_failing(alloc, calls + 1)?, 6);
-    assert_eq!(rt; status_failing(alloc, calls + 2)?, 6);
-    assert_eq!(rt; status_failing(alloc, calls + 3)?, 0);
+    assert_eq!(rt; status_failing(alloc, WORDS, calls + 1)?, 6);
+    assert_eq!(rt; status_failing(alloc, WORDS, calls + 2)?, 6);
+    assert_eq!(rt; status_failing(alloc, WORDS, calls + 3)?, 0);
+    Ok(())
+}
+
+/// The first call fetches the file and the second one connects, which is made only where there is an
+/// entry.
+#[test]
+fn a_client_connects_once_it_has_an_entry(rt: HostRuntime) -> Result<(), Fail> {
+    let alloc = rt.alloc();
+    let other = &["--socket", "/r", "--authority", "a"];
+    assert_eq!(rt; status_failing(alloc, other, 1)?, 5);
+    assert_eq!(rt; status_failing(alloc, other, 2)?, 4);
     Ok(())
 }

@@ -1,5 +1,5 @@
-ghost use Rattle.std.specs.Prelude.{IfOk};
-ghost use Rattle.smctl.specs.Requests.{IsOrderLine};
+ghost use Rattle.std.specs.Prelude.{◌≡◌, map, option_copied, string_bytes, IfErr, IfOk};
+ghost use Rattle.smctl.specs.Requests.{Asks, AsksNothing, IsNoOrder, IsOrderLine, spaced};
 
 use crate::fault::Fault;
 use control_lines::read_order;
@@ -15,21 +15,18 @@ pub struct Request<'a> {
     pub line: Octets,
 }
 
-/// The words with a space between two of them.
-fn joined(alloc: Global, words: &[String]) -> Result<Octets, NoMemory> {
-    let mut line = Octets::new(alloc);
-    for (at, word) in words.iter().enumerate() {
-        if at > 0 {
-            line.append(b" ")?;
-        }
-        line.append(word.as_bytes())?;
-    }
-    Ok(line)
+/// The words with one space between each two.
+fn joined(alloc: Global, words: &[String]) -> Result<Octets, NoMemory>
+    ensures { IfOk result (λ line. line ≡ spaced (map string_bytes words.now)) }
+{
+    let line = words.join(alloc, " ")?;
+    Octets::from_slice(alloc, line.as_bytes())
 }
 
 /// The line of the order that these words say.
 fn order_line(alloc: Global, words: &[String]) -> Result<Octets, Fault>
-    ensures order { IfOk result IsOrderLine }
+    ensures says { IfOk result (IsOrderLine (map string_bytes words.now)) }
+    ensures none { IfErr result (IsNoOrder (map string_bytes words.now)) }
 {
     let mut line = joined(alloc, words)?;
     let _order = read_order(alloc, line.as_slice())?;
@@ -39,7 +36,8 @@ fn order_line(alloc: Global, words: &[String]) -> Result<Octets, Fault>
 
 /// Reads the words: `--control C` or nothing, and an order.
 pub fn read_request(alloc: Global, words: &[String]) -> Result<Request<'_>, Fault>
-    ensures order { IfOk result (λ request. IsOrderLine request.line) }
+    ensures asks { IfOk result (λ request. Asks (map string_bytes words.now) (option_copied request.control) request.line) }
+    ensures none { IfErr result (AsksNothing (map string_bytes words.now)) }
 {
     if words.len() >= 2 && words[0].as_str() == "--control" {
         return Ok(Request {
