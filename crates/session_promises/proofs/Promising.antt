@@ -1,7 +1,6 @@
 -- A session keeps the laws, by what the top call promises of its headline.
-use Rattle.std.proofs.Common.{◌≡◌, inl, inr, ℕ, List, [], ◌∷◌, ◌++◌, Option, Some, None, Result, Ok, Err, refl, sym, ◌∙◌, ap, subst, append_assoc}
+use Rattle.std.proofs.Common.{◌≡◌, inl, inr, ℕ, List, [], ◌∷◌, ◌++◌, Option, Some, Result, Ok, Err, refl, sym, ◌∙◌, ap, subst}
 use Rattle.std.proofs.lemmas.List.{append-nil}
-use Rattle.sm_world.specs.Effects.{deeds, heard}
 use Rattle.sm_world.specs.Outside.{Outside, adds}
 use Rattle.sm_world.specs.declared.effects.Effect.{Effect}
 use Rattle.checkpoint_records.specs.declared.records.Book.{Book}
@@ -9,18 +8,16 @@ use Rattle.checkpoint_slots.specs.Causes.{IsSettled}
 use Rattle.checkpoint_slots.specs.Recovery.{Recovers}
 use Rattle.ice_cookie.specs.declared.cookies.Cookie.{Cookie}
 use Rattle.program_frame.specs.Printing.{Tries}
-use Rattle.session_engine.specs.Carries.{IsOnScript, IsPrefix, KeepsItsWord}
+use Rattle.session_engine.specs.Carries.{IsPrefix, KeepsItsWord}
 use Rattle.session_engine.specs.declared.fault.ServeFault.{ServeFault}
 use Rattle.session_engine.specs.declared.fault.ServeFault.TheVariants.{NoMemory}
 use Rattle.session_engine.proofs.Loop.{keeps_word}
-use Rattle.session_lines.specs.Runs.{IsAlwaysLawful, IsDone}
 use Rattle.session_lines.proofs.Crashes.{every-file}
 use Rattle.session_lines.proofs.Fronts.{laws-hold}
 use Rattle.session_lines.proofs.Passing.{done-is}
 use Rattle.smd_app.specs.Sessions.{HasServed, RunsSession, WasCutShort, announcing, handing_out}
-use Rattle.smd_app.specs.Statuses.{DoesTask, Ending, Runs, RunsTask}
+use Rattle.smd_app.specs.Statuses.{Ending, Runs, RunsTask}
 use Rattle.smd_app.specs.Words.{Means, Places, Serve, Task}
-use Rattle.smd_app.specs.declared.fault.Fault.{Fault}
 use Rattle.smd_app.specs.declared.identity.Identity.{Identity}
 use Rattle.smd_app.proofs.Completing.{mean_one}
 use Rattle.session_promises.specs.Promises.{EverySessionKeepsTheLaws, HasSession, KeepsAllLaws}
