@@ -1,5 +1,5 @@
 -- The engine's loop: what one turn adds to the effects of a run, whether the world tells them or not.
-use Rattle.std.proofs.Common.{◌≡◌, inl, inr, ℕ, zero, suc, ◌<◌, ◌≤◌, true, false, List, [], ◌∷◌, ◌++◌, length, take, drop, Option, Result, Ok, Err, refl, sym, ◌∙◌, ap, subst, append_assoc, arith}
+use Rattle.std.proofs.Common.{◌≡◌, inl, inr, ℕ, zero, suc, ◌+◌, ◌<◌, ◌≤◌, Bool, true, false, List, [], ◌∷◌, ◌++◌, length, take, drop, slice_index, Option, Some, None, Result, Ok, Err, IfErr, refl, sym, ◌∙◌, ap, subst, append_assoc, arith}
 use Rattle.std.proofs.lemmas.Bool.{false≢true}
 use Rattle.sm_world.specs.Disk.{HasToldSize}
 use Rattle.sm_world.specs.Effects.{heard}
@@ -8,9 +8,15 @@ use Rattle.sm_world.specs.declared.effects.Effect.{Effect}
 use Rattle.sm_world.specs.declared.effects.Effect.TheVariants.{Heard}
 use Rattle.sm_world.specs.declared.events.Event.{Event}
 use Rattle.sm_world.proofs.Adding.{adds-adds, adds-none}
+use Rattle.checkpoint_records.specs.Rules.{KeepsRules}
 use Rattle.checkpoint_records.specs.declared.records.Book.{Book}
 use Rattle.checkpoint_slots.specs.Causes.{IsRecoveryFault, IsSettled}
-use Rattle.checkpoint_slots.specs.Recovery.{Recovers}
+use Rattle.checkpoint_records.specs.Books.{empty_book}
+use Rattle.checkpoint_records.specs.Damage.{StandFor}
+use Rattle.checkpoint_slots.specs.Layout.{is_gate_open, slot_of, start_of}
+use Rattle.checkpoint_slots.specs.declared.layout.Slot.{Slot}
+use Rattle.checkpoint_slots.specs.Recovery.{BookAt, Recovers, SlotStands, StandsBy, chosen, length_of, may_be_length, with_gate}
+use Rattle.checkpoint_slots.proofs.Looking.{rules-empty}
 use Rattle.checkpoint_slots.specs.Turns.{SteadyFile, SteadyStands}
 use Rattle.checkpoint_slots.specs.declared.fault.StoreFault.{StoreFault}
 use Rattle.checkpoint_slots.specs.declared.fault.StoreFault.TheVariants.{WrongSize as HasWrongSize, Damaged as IsDamaged, DiskFault as FailsOnDisk, Worn as IsWorn, NoMemory as LacksMemory}
@@ -20,10 +26,11 @@ use Rattle.ice_cookie.specs.declared.cookies.Cookie.{Cookie}
 use Rattle.session_model.specs.Readings as of
 use Rattle.session_model.specs.declared.marks.Marks.{Marks}
 use Rattle.session_engine.specs.Acts.{deeds_in, has_finish}
-use Rattle.session_engine.specs.Carries.{IsRecovered, IsUnopened, KeepsItsWord, Opens, Rests, Serves, is_whole, script}
-use Rattle.session_engine.specs.Causes.{IsNotWorn, IsOfRun, fault_of, opening_fault_of}
+use Rattle.session_engine.specs.Carries.{IsCutShort, IsRecovered, IsUnopened, KeepsItsWord, Opens, Rests, Serves, is_whole, script}
+use Rattle.session_engine.specs.Causes.{IsOfHearing, IsOfRun, fault_of, opening_fault_of}
 use Rattle.session_engine.specs.Machine.{Machine, acts_of, after_all, opening_acts, start, step}
 use Rattle.session_engine.specs.Saved.{Performs}
+use Rattle.session_engine.specs.Stops.{Stops, StopsAt}
 use Rattle.session_engine.specs.Session.{Serving, StandsFor, Starts, StepsTo}
 use Rattle.session_engine.specs.Shown.{Carried, IsShown, Shows, all_cut}
 use Rattle.session_engine.specs.declared.engine.Engine.{Engine}
@@ -36,6 +43,7 @@ use Rattle.session_engine.specs.declared.session.Stepped.{Stepped}
 use Rattle.session_engine.specs.declared.session.Stepped.TheVariants.{Goes, Finished}
 use Rattle.session_engine.proofs.Adding.{never_spent}
 use Rattle.session_engine.proofs.Brought.{BroughtSoFar, brought_is, brought_more, brought_none, brought_nothing, length-more}
+use Rattle.session_engine.proofs.Performing.{err_map}
 use Rattle.session_engine.proofs.Running.{after_all-more, heard-more, none_is_heard}
 use Rattle.session_engine.proofs.Sessions.{halt_of_run, ok_is_no_fault, runs_cut_short, runs_end, runs_over, runs_unopened, stands_begin, stands_more, the_fault}
 
@@ -58,6 +66,7 @@ loop_begins cookie old now session same starts = record {
   recovered = starts.recovered;
   size = starts.size;
   below = starts.below;
+  rules = starts.rules;
   adds = record {
     effects = starts.adds.effects;
     added = starts.adds.added;
@@ -82,6 +91,7 @@ loop_unopened cookie turns old new fault (inr opens) = inr (record {
   recovered = opens.recovered;
   size = opens.size;
   below = opens.below;
+  rules = opens.rules;
   adds = record {
     effects = opens.adds.effects;
     added = opens.adds.added;
@@ -95,7 +105,14 @@ loop_unopened cookie turns old new fault (inr opens) = inr (record {
 })
 
 -- the faults of what was heard
-not_worn : (halt : Halt) → IsNotWorn {A = Event} (Err halt) → fault_of halt ≡ Worn → ⊥
+none_left : (halt : Halt) → IsOfHearing halt → StopsAt (fault_of halt) []
+none_left Links able = inl refl
+none_left Console able = absurd able
+none_left Disk able = absurd able
+none_left WearsIt able = absurd able
+none_left WantsMemory able = tt
+
+not_worn : (halt : Halt) → IsOfHearing halt → fault_of halt ≡ Worn → ⊥
 not_worn Links able e = cc
 not_worn Console able e = cc
 not_worn Disk able e = cc
@@ -103,18 +120,19 @@ not_worn WearsIt able e = able
 not_worn WantsMemory able e = cc
 
 -- no more came
-pub loop_over : (cookie : Cookie) (turns n : ℕ) (old now new : Outside) (session : Session) (fault : ServeFault) → n ≤ turns → (fault ≡ Worn → ⊥) → IsOfRun fault → (fault ≡ Spent → n ≡ turns) → new.told ≡ now.told → new.size ≡ now.size → InLoop cookie old now n session → Serving cookie turns old new (Err fault)
-loop_over cookie turns n old now new session fault in_turns able opened at_end quiet sized held = inr (record {
+pub loop_over : (cookie : Cookie) (turns n : ℕ) (old now new : Outside) (session : Session) (fault : ServeFault) → n ≤ turns → (fault ≡ Worn → ⊥) → StopsAt fault [] → IsOfRun fault → (fault ≡ Spent → n ≡ turns) → new.told ≡ now.told → new.size ≡ now.size → InLoop cookie old now n session → Serving cookie turns old new (Err fault)
+loop_over cookie turns n old now new session fault in_turns able stops opened at_end quiet sized held = inr (record {
   book = held.book;
   current = held.current;
   recovered = held.recovered;
   size = sized ∙ held.size;
   below = held.below;
+  rules = held.rules;
   adds = record {
     effects = held.adds.effects;
     added = quiet ∙ held.adds.added;
     holds = record {
-      runs = runs_over cookie held.book held.current session fault held.adds.effects able opened held.adds.holds.stands;
+      runs = runs_over cookie held.book held.current session fault held.adds.effects able stops opened held.adds.holds.stands;
       brought = brought_is old.coming now.coming (heard held.adds.effects) held.adds.holds.brought;
       in_turns = omega (arith, held.adds.holds.count);
       spent = λ e. (held.adds.holds.count ∙ at_end (the_fault fault Spent e), held.adds.holds.stands.unfinished);
@@ -122,9 +140,9 @@ loop_over cookie turns n old now new session fault in_turns able opened at_end q
   };
 })
 
-pub loop_silent : (cookie : Cookie) (turns n : ℕ) (old now new : Outside) (session : Session) (halt : Halt) → n < turns → IsNotWorn {A = Event} (Err halt) → new.told ≡ adds now.told [] → new.size ≡ now.size → InLoop cookie old now n session → Serving cookie turns old new (Err (fault_of halt))
+pub loop_silent : (cookie : Cookie) (turns n : ℕ) (old now new : Outside) (session : Session) (halt : Halt) → n < turns → IsOfHearing halt → new.told ≡ adds now.told [] → new.size ≡ now.size → InLoop cookie old now n session → Serving cookie turns old new (Err (fault_of halt))
 loop_silent cookie turns n old now new session halt in_turns able quiet sized held =
-    loop_over cookie turns n old now new session (fault_of halt) (omega arith) (not_worn halt able) (halt_of_run halt) (λ e. absurd (never_spent halt e)) (quiet ∙ adds-none now.told) sized held
+    loop_over cookie turns n old now new session (fault_of halt) (omega arith) (not_worn halt able) (none_left halt able) (halt_of_run halt) (λ e. absurd (never_spent halt e)) (quiet ∙ adds-none now.told) sized held
 
 -- what was heard, and what its step added
 heard_step : (old now between later : Option (List Effect)) (es ds : List Effect) (event : Event) → now ≡ adds old es → between ≡ adds now (Heard event ∷ []) → later ≡ adds between ds → later ≡ adds old (es ++ Heard event ∷ ds)
@@ -149,6 +167,7 @@ loop_goes_on cookie n more old now between later session next event is_more held
       recovered = held.recovered;
       size = sized;
       below = held.below;
+  rules = held.rules;
       adds = record {
         effects = es ++ Heard event ∷ step.effects;
         added = heard_step old.told now.told between.told later.told es step.effects event held.adds.added was_heard step.added;
@@ -172,6 +191,7 @@ loop_ends cookie turns n old now between later session event stepped marks is in
       recovered = held.recovered;
       size = sized;
       below = held.below;
+  rules = held.rules;
       adds = record {
         effects = es ++ Heard event ∷ step.effects;
         added = heard_step old.told now.told between.told later.told es step.effects event held.adds.added was_heard step.added;
@@ -195,6 +215,7 @@ loop_cut_short cookie turns n old now between later session event fault in_turns
       recovered = held.recovered;
       size = sized;
       below = held.below;
+  rules = held.rules;
       adds = record {
         effects = es ++ Heard event ∷ step.effects;
         added = heard_step old.told now.told between.told later.told es step.effects event held.adds.added was_heard step.added;
@@ -265,13 +286,14 @@ unopened_by outside size LacksMemory cause = tt
 pub recovered_by : (old new : Outside) (opening : Book) (current : Option Current) → HasToldSize new → new.first ≡ old.first → new.size ≡ 16777280 → ((file : List ℕ) → IsSettled old file → SteadyFile current opening file) → IsRecovered old opening current
 recovered_by old new opening current sized same is_size recovers file settled = (settled.size ∙ (sized settled.began (same ∙ settled.first) ∙ is_size), recovers file settled)
 
-pub opens : (cookie : Cookie) (old between new : Outside) (opening : Book) (current : Option Current) (session : Session) → IsRecovered old opening current → new.size ≡ 16777280 → opening.epoch < 4294967295 → between.told ≡ old.told → Added between.told new.told (Performs current (opening_acts opening) (Ok session.store)) → Shows all_cut session.engine (start cookie opening) → Starts cookie old new (Ok session)
-opens cookie old between new opening current session recovered sized below quiet done shows = record {
+pub opens : (cookie : Cookie) (old between new : Outside) (opening : Book) (current : Option Current) (session : Session) → IsRecovered old opening current → new.size ≡ 16777280 → opening.epoch < 4294967295 → KeepsRules opening → between.told ≡ old.told → Added between.told new.told (Performs current (opening_acts opening) (Ok session.store)) → Shows all_cut session.engine (start cookie opening) → Starts cookie old new (Ok session)
+opens cookie old between new opening current session recovered sized below rules quiet done shows = record {
   book = opening;
   current = current;
   recovered = recovered;
   size = sized;
   below = below;
+  rules = rules;
   adds = record {
     effects = done.effects;
     added = done.added ∙ ap (λ t. adds t done.effects) quiet;
@@ -279,13 +301,14 @@ opens cookie old between new opening current session recovered sized below quiet
   };
 }
 
-pub opens_not : (cookie : Cookie) (old between new : Outside) (opening : Book) (current : Option Current) (halt : Halt) (fault : ServeFault) → fault ≡ fault_of halt → IsRecovered old opening current → new.size ≡ 16777280 → opening.epoch < 4294967295 → between.told ≡ old.told → Added between.told new.told (Performs current (opening_acts opening) (Err halt)) → Starts cookie old new (Err fault)
-opens_not cookie old between new opening current halt fault is_fault recovered sized below quiet done = rw is_fault (inr (record {
+pub opens_not : (cookie : Cookie) (old between new : Outside) (opening : Book) (current : Option Current) (halt : Halt) (fault : ServeFault) → fault ≡ fault_of halt → IsRecovered old opening current → new.size ≡ 16777280 → opening.epoch < 4294967295 → KeepsRules opening → between.told ≡ old.told → Added between.told new.told (Performs current (opening_acts opening) (Err halt)) → Starts cookie old new (Err fault)
+opens_not cookie old between new opening current halt fault is_fault recovered sized below rules quiet done = rw is_fault (inr (record {
   book = opening;
   current = current;
   recovered = recovered;
   size = sized;
   below = below;
+  rules = rules;
   adds = record {
     effects = done.effects;
     added = done.added ∙ ap (λ t. adds t done.effects) quiet;
@@ -316,6 +339,32 @@ unopened_cuts outside size Worn cause e = false≢true e
 unopened_cuts outside size Spent cause e = cause
 unopened_cuts outside size NoMemory cause e = false≢true e
 
+-- a book that a file stands for keeps the rules
+gated_rules : (at n : ℕ) (opened : Bool) (bytes : List ℕ) (inner : Result Book ℕ) (book : Book) → StandFor bytes inner → Ok book ≡ with_gate at n opened inner → KeepsRules book
+gated_rules at n opened bytes (Err damage) book inside is = absurd cc
+gated_rules at n true bytes (Ok other) book inside is = absurd cc
+gated_rules at n false bytes (Ok other) book inside is = subst (λ (b : Book). KeepsRules b) (sym (the_book book other is)) inside.rules where
+  the_book : (one two : Book) → ◌≡◌ {A = Result Book ℕ} (Ok one) (Ok two) → one ≡ two
+  the_book one two e = cc
+
+placed_rules : (may : Bool) (at n : ℕ) (bytes : List ℕ) (book : Book) → BookAt may at n bytes (Ok book) → KeepsRules book
+placed_rules false at n bytes book is = absurd cc
+placed_rules true at n bytes book is = gated_rules (at + 16) n (is_gate_open (slice_index bytes n)) (take n bytes) is.0 book is.1 is.2
+
+slot_rules : (at : ℕ) (slot : List ℕ) (book : Book) → SlotStands at slot (Ok book) → KeepsRules book
+unfolding SlotStands
+slot_rules at slot book is = placed_rules (may_be_length (length_of slot)) at (length_of slot) (drop 16 slot) book is
+
+chosen_rules : (file : List ℕ) (choice : Result (Option Slot) ℕ) (book : Book) → StandsBy file choice (Ok book) → KeepsRules book
+chosen_rules file (Ok None) book is = rules-empty book (empty book is) where
+  empty : (b : Book) → ◌≡◌ {A = Result Book ℕ} (Ok b) (Ok empty_book) → b ≡ empty_book
+  empty b e = cc
+chosen_rules file (Ok (Some slot)) book is = slot_rules (start_of slot) (slot_of file slot) book is
+chosen_rules file (Err at) book is = absurd cc
+
+book_rules : (file : List ℕ) (book : Book) → Recovers file (Ok book) → KeepsRules book
+book_rules file book recovers = chosen_rules file (chosen file) book recovers
+
 -- where nothing was done the file is as it was
 word_unopened : (cookie : Cookie) (book : Book) (file : List ℕ) (old new : Outside) (fault : ServeFault) → Recovers file (Ok book) → Rests old new fault → Added old.told new.told (KeepsItsWord cookie book file (Err fault))
 word_unopened cookie book file old new fault recovers rests = record {
@@ -343,8 +392,30 @@ word_unopened cookie book file old new fault recovers rests = record {
       none_behind = λ n event more e. absurd (none_heard_yet n event more e);
     };
     is_current = λ e. absurd (unopened_cuts old new.size fault rests.cause e);
+    stopped = record {
+      front = [];
+      rest = script cookie book [];
+      parts = refl;
+      same = refl;
+      at = inl refl;
+      opens = inr refl;
+      leaves = λ left image. inl (subst (λ (f : List ℕ). Recovers f (Ok book)) (sym (only-file file left image)) recovers);
+    };
+    rules = book_rules file book recovers;
   };
 }
+
+-- what a run promises of where a fault stopped it, for the file that it began with
+word_stopped : (cookie : Cookie) (book : Book) (file : List ℕ) (current : Option Current) (answer : Result (Unit {0}) ServeFault) (effects : List Effect) → SteadyStands current book file [] → IfErr answer (λ fault. Stops current book (script cookie book (heard effects)) fault (StopsAt fault) effects) → IfErr answer (λ fault. IsCutShort cookie book file fault effects)
+word_stopped cookie book file current answer effects stands stopped = err_map (λ fault. Stops current book (script cookie book (heard effects)) fault (StopsAt fault) effects) (λ fault. IsCutShort cookie book file fault effects) answer (λ fault stops. record {
+  front = stops.front;
+  rest = stops.rest;
+  parts = stops.parts;
+  same = stops.same;
+  at = inr stops.at;
+  opens = stops.opens;
+  leaves = λ left image. stops.leaves file [] stands left image;
+}) stopped
 
 ok_book : (one two : Book) → ◌≡◌ {A = Result Book ℕ} (Ok one) (Ok two) → one ≡ two
 ok_book one two e = cc
@@ -361,6 +432,8 @@ word_opened cookie turns book file old new answer settled recovers opens =
         carries = opens.adds.holds.runs.carries;
         keeps = opens.adds.holds.runs.keeps file [] stands;
         is_current = λ e left image. opens.adds.holds.runs.is_current e file [] stands left image;
+        stopped = word_stopped cookie opens.book file opens.current answer opens.adds.effects stands opens.adds.holds.runs.stopped;
+        rules = opens.rules;
       };
     })
 

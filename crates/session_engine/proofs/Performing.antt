@@ -1,5 +1,5 @@
 -- Acts that are done one after another: what was done, and what the store has at each point.
-use Rattle.std.proofs.Common.{◌≡◌, inl, inr, arith, ℕ, ◌+◌, ◌-◌, ◌≤◌, zero, suc, Bool, true, false, List, [], ◌∷◌, ◌++◌, length, take, Option, Result, Ok, Err, IfOk, IsErrOf, is_ok, refl, sym, ◌∙◌, ap, subst, append_assoc}
+use Rattle.std.proofs.Common.{◌≡◌, inl, inr, arith, ℕ, ◌+◌, ◌-◌, ◌<◌, ◌≤◌, ◌^◌, zero, suc, Bool, true, false, IsTrue, List, [], ◌∷◌, ◌++◌, length, take, Option, Result, Ok, Err, IfErr, IfOk, IsErrOf, is_ok, refl, sym, ◌∙◌, ap, subst, append_assoc}
 use Rattle.std.proofs.Math.Seq.{take-append-add}
 use Rattle.std.proofs.lemmas.List.{append-nil, take-append-le}
 use Rattle.std.proofs.lemmas.Bool.{cases_lt, false≢true}
@@ -13,16 +13,20 @@ use Rattle.sm_world.specs.declared.effects.Effect.TheVariants.{Heard, Sent, Shut
 use Rattle.sm_world.proofs.Adding.{adds-adds, adds-none}
 use Rattle.sm_world.proofs.Cells.{quiet_cells, same_images}
 use Rattle.checkpoint_records.specs.declared.records.Book.{Book}
+use Rattle.checkpoint_slots.specs.Recovery.{Recovers}
 use Rattle.checkpoint_slots.specs.Turns.{SteadyStands, next_generation, opened_by, opened_in}
 use Rattle.checkpoint_slots.specs.declared.turn.Current.{Current}
 use Rattle.session_engine.specs.Acts.{book_after, book_with, commits_in, deed_in, deeds_in}
-use Rattle.session_engine.specs.Causes.{IsNotWorn}
+use Rattle.session_engine.specs.Causes.{IsNotWorn, fault_of}
 use Rattle.session_engine.specs.Doing.{CarriesOut, Going}
 use Rattle.session_engine.specs.Saved.{IsSaved, Leaves, Performs, Saves, WearsOut}
+use Rattle.session_engine.specs.Stops.{HasNumbers, HasOpened, IsLeft, IsNumbered, IsRefused, NextIs, Stops, is_commit, is_of_links, is_print}
 use Rattle.session_engine.specs.Starting.{Launches, handed_on}
 use Rattle.session_engine.specs.declared.acts.Act.{Act}
 use Rattle.session_model.specs.declared.events.Reason.{Reason}
-use Rattle.session_engine.specs.declared.acts.Act.TheVariants.{Commit, Finish, Start}
+use Rattle.session_engine.specs.declared.acts.Act.TheVariants.{Commit, Finish, Print, Say, Shut as ShutsConn, Start}
+use Rattle.session_engine.specs.declared.fault.ServeFault.{ServeFault}
+use Rattle.session_engine.specs.declared.fault.ServeFault.TheVariants.{Damaged, WrongSize, DiskFault, LinkFault, ConsoleFault, Spent, Worn as WornFault, NoMemory as MemoryFault}
 use Rattle.session_engine.specs.declared.fault.Halt.{Halt}
 use Rattle.session_engine.specs.declared.fault.Halt.TheVariants.{Links, Console, Disk, Worn, NoMemory}
 use Rattle.session_engine.proofs.Adding.{IsDoneBy, going_on, one_going, still}
@@ -141,6 +145,92 @@ worn_before current xs ys es worn = record {
   last = worn.last;
 }
 
+-- Where acts stop
+
+pub err_map : {A E : Type 0} (P Q : E → Type 0) (r : Result A E) → ((e : E) → P e → Q e) → IfErr r P → IfErr r Q
+err_map P Q (Ok x) f p = p
+err_map P Q (Err e) f p = f e p
+
+next_more : (is : Act → Bool) (xs ys : List Act) → NextIs is xs → NextIs is (xs ++ ys)
+next_more is [] ys next = absurd next
+next_more is (x ∷ xs) ys next = next
+
+first_more : (is : Act → Bool) (xs ys : List Act) → NextIs is xs → take 1 (xs ++ ys) ≡ take 1 xs
+first_more is [] ys next = absurd next
+first_more is (x ∷ xs) ys next = refl
+
+refused_more : (halt : Halt) (xs ys : List Act) → IsRefused halt xs → IsRefused halt (xs ++ ys)
+refused_more Links xs ys next = next_more is_of_links xs ys next
+refused_more Console xs ys next = next_more is_print xs ys next
+refused_more Disk xs ys next = next_more is_commit xs ys next
+refused_more Worn xs ys next = next_more is_commit xs ys next
+refused_more NoMemory xs ys next = tt
+
+-- only a commit is refused by the disk
+disk_next : (halt : Halt) (xs : List Act) → fault_of halt ≡ DiskFault → IsRefused halt xs → NextIs is_commit xs
+disk_next Links xs e next = absurd cc
+disk_next Console xs e next = absurd cc
+disk_next Disk xs e next = next
+disk_next Worn xs e next = absurd cc
+disk_next NoMemory xs e next = absurd cc
+
+left_more : (halt : Halt) (b : Book) (front rest ys : List Act) (file : List ℕ) → IsRefused halt rest → IsLeft (fault_of halt) b front rest file → IsLeft (fault_of halt) b front (rest ++ ys) file
+left_more halt b front rest ys file refused (inl recovers) = inl recovers
+left_more halt b front rest ys file refused (inr torn) =
+    inr (torn.0, subst (λ (xs : List Act). Recovers file (Ok (book_after b (front ++ xs)))) (sym (first_more is_commit rest ys (disk_next halt rest torn.0 refused))) torn.1)
+
+left_behind : (fault : ServeFault) (b : Book) (xs front rest : List Act) (file : List ℕ) → IsLeft fault (book_after b xs) front rest file → IsLeft fault b (xs ++ front) rest file
+left_behind fault b xs front rest file (inl recovers) = inl (rw (book_after-append b xs front) recovers)
+left_behind fault b xs front rest file (inr torn) = inr (torn.0, rw (append_assoc xs front (take 1 rest), book_after-append b xs (front ++ take 1 rest)) torn.1)
+
+sums : (n a b m : ℕ) → m ≡ n + a → (0 < a → n + a ≤ 2 ^ 64) → (0 < b → m + b ≤ 2 ^ 64) → 0 < a + b → n + (a + b) ≤ 2 ^ 64
+sums n a zero m e one two some = omega (arith, one (omega (arith, some)))
+sums n a (suc b) m e one two some = omega (arith, e, two (omega arith))
+
+pub numbered_then : (current next : Option Current) (xs ys : List Act) → next_generation next ≡ next_generation current + commits_in xs → IsNumbered current xs → IsNumbered next ys → IsNumbered current (xs ++ ys)
+numbered_then current next xs ys counts one two = rw (commits_in-append xs ys) (sums (next_generation current) (commits_in xs) (commits_in ys) (next_generation next) counts one two)
+
+numbers_behind : (fault : ServeFault) (current next : Option Current) (xs ys : List Act) → next_generation next ≡ next_generation current + commits_in xs → IsNumbered current xs → HasNumbers next fault ys → HasNumbers current fault (xs ++ ys)
+numbers_behind (Damaged at) current next xs ys counts one two = numbered_then current next xs ys counts one two
+numbers_behind (WrongSize size) current next xs ys counts one two = numbered_then current next xs ys counts one two
+numbers_behind DiskFault current next xs ys counts one two = omega (arith, commits_in-append xs ys, counts, two)
+numbers_behind LinkFault current next xs ys counts one two = numbered_then current next xs ys counts one two
+numbers_behind ConsoleFault current next xs ys counts one two = numbered_then current next xs ys counts one two
+numbers_behind WornFault current next xs ys counts one two = omega (arith, commits_in-append xs ys, counts, two)
+numbers_behind Spent current next xs ys counts one two = numbered_then current next xs ys counts one two
+numbers_behind MemoryFault current next xs ys counts one two = numbered_then current next xs ys counts one two
+
+opened_behind : (fault : ServeFault) (xs front : List Act) (es ds : List Effect) → opened_in es ≡ commits_in xs → HasOpened fault front ds → HasOpened fault (xs ++ front) (es ++ ds)
+opened_behind fault xs front es ds one (inl disk) = inl disk
+opened_behind fault xs front es ds one (inr two) = inr (omega (arith, one, two, opened_in-append es ds, commits_in-append xs front))
+
+-- what stops acts stops them before others too
+stops_before : (current : Option Current) (b : Book) (xs ys : List Act) (halt : Halt) (es : List Effect) → Stops current b xs (fault_of halt) (IsRefused halt) es → Stops current b (xs ++ ys) (fault_of halt) (IsRefused halt) es
+stops_before current b xs ys halt es stops = record {
+  front = stops.front;
+  rest = stops.rest ++ ys;
+  parts = sym (append_assoc stops.front stops.rest ys) ∙ ap (λ zs. zs ++ ys) stops.parts;
+  same = stops.same;
+  at = refused_more halt stops.rest ys stops.at;
+  opens = stops.opens;
+  numbers = stops.numbers;
+  leaves = λ first before stands file image. left_more halt b stops.front stops.rest ys file stops.at (stops.leaves first before stands file image);
+}
+
+-- and behind others that were done
+pub stops_behind : (current next : Option Current) (b : Book) (xs ys : List Act) (fault : ServeFault) (At : List Act → Type 0) (es ds : List Effect) → deeds es ≡ deeds_in xs → next_generation next ≡ next_generation current + commits_in xs → opened_in es ≡ commits_in xs → IsNumbered current xs
+    → ((first : List ℕ) (before : List Effect) → SteadyStands current b first before → SteadyStands next (book_after b xs) first (before ++ es)) → Stops next (book_after b xs) ys fault At ds → Stops current b (xs ++ ys) fault At (es ++ ds)
+stops_behind current next b xs ys fault At es ds done counts opened numbered leaves stops = record {
+  front = xs ++ stops.front;
+  rest = stops.rest;
+  parts = append_assoc xs stops.front stops.rest ∙ ap (λ zs. xs ++ zs) stops.parts;
+  same = flat_map-append deed_of es ds ∙ (ap (λ zs. zs ++ deeds ds) done ∙ (ap (λ zs. deeds_in xs ++ zs) stops.same ∙ sym (flat_map-append deed_in xs stops.front)));
+  at = stops.at;
+  opens = opened_behind fault xs stops.front es ds opened stops.opens;
+  numbers = numbers_behind fault current next xs stops.front counts numbered stops.numbers;
+  leaves = λ first before stands file image. left_behind fault b xs stops.front stops.rest file (stops.leaves first (before ++ es) (leaves first before stands) file (rw (sym (append_assoc before es ds)) at image));
+}
+
 -- acts that were all done, and then others
 pub performs_then : (current next : Option Current) (xs ys : List Act) (answer : Result (Option Current) Halt) (es ds : List Effect) → Performs current xs (Ok next) es → Performs next ys answer ds → Performs current (xs ++ ys) answer (es ++ ds)
 performs_then current next xs ys answer es ds one two =
@@ -159,6 +249,9 @@ performs_then current next xs ys answer es ds one two =
       opens = ok_map (λ last. opened_in ds ≡ commits_in ys) (λ last. opened_in (es ++ ds) ≡ commits_in (xs ++ ys)) answer (λ last opens.
           omega (arith, opens, one.opens, opened_in-append es ds, commits_in-append xs ys)) two.opens;
       worn = λ e. worn_behind current next xs ys es ds done one.counts (two.worn e);
+      numbered = ok_map (λ last. IsNumbered next ys) (λ last. IsNumbered current (xs ++ ys)) answer (λ last numbered. numbered_then current next xs ys one.counts one.numbered numbered) two.numbered;
+      stopped = err_map (λ halt. (b : Book) → Stops next b ys (fault_of halt) (IsRefused halt) ds) (λ halt. (b : Book) → Stops current b (xs ++ ys) (fault_of halt) (IsRefused halt) (es ++ ds)) answer (λ halt stops b.
+          stops_behind current next b xs ys (fault_of halt) (IsRefused halt) es ds done one.counts one.opens one.numbered (λ first before stands. one.leaves first before b stands) (stops (book_after b xs))) two.stopped;
     }
 
 -- acts of which one was refused, and others behind them
@@ -170,6 +263,8 @@ performs_stopped current xs ys halt es one = record {
   counts = tt;
   opens = tt;
   worn = λ e. worn_before current xs ys es (one.worn e);
+  numbered = tt;
+  stopped = λ b. stops_before current b xs ys halt es (one.stopped b);
 }
 
 take_nothing : {A : Type 0} (n : ℕ) → ◌≡◌ {A = List A} (take n []) []
@@ -189,23 +284,54 @@ not_worn Disk able e = cc
 not_worn Worn able e = able
 not_worn NoMemory able e = cc
 
--- whatever the call would have answered
-not_worn_too : (halt : Halt) → IsNotWorn {A = Unit {0}} (Err halt) → IsNotWorn {A = Option Current} (Err halt)
-not_worn_too Links able = tt
-not_worn_too Console able = tt
-not_worn_too Disk able = tt
-not_worn_too Worn able = able
-not_worn_too NoMemory able = tt
+-- at first there is nothing to be numbered
+pub none_numbered : (current : Option Current) → IsNumbered current []
+none_numbered current some = absurd (omega (arith, some))
+
+-- a commit counts as one
+commit_counts : (act : Act) → IsTrue (is_commit act) → commits_in (act ∷ []) ≡ 1
+commit_counts (Say conn message) is = absurd (false≢true is)
+commit_counts (ShutsConn conn) is = absurd (false≢true is)
+commit_counts (Start reason command) is = absurd (false≢true is)
+commit_counts (Commit book) is = refl
+commit_counts (Print text) is = absurd (false≢true is)
+commit_counts Finish is = absurd (false≢true is)
+
+-- the disk neither fails nor is worn at an act that is no commit
+deed_able : (halt : Halt) (act : Act) → commits_in (act ∷ []) ≡ 0 → IsRefused halt (act ∷ []) → IsNotWorn {A = Option Current} (Err halt)
+deed_able Links act none refused = tt
+deed_able Console act none refused = tt
+deed_able Disk act none refused = tt
+deed_able Worn act none refused = absurd (omega (arith, none, commit_counts act refused))
+deed_able NoMemory act none refused = tt
+
+deed_numbers : (current : Option Current) (halt : Halt) (act : Act) → commits_in (act ∷ []) ≡ 0 → IsRefused halt (act ∷ []) → HasNumbers current (fault_of halt) []
+deed_numbers current Links act none refused = none_numbered current
+deed_numbers current Console act none refused = none_numbered current
+deed_numbers current Disk act none refused = absurd (omega (arith, none, commit_counts act refused))
+deed_numbers current Worn act none refused = absurd (omega (arith, none, commit_counts act refused))
+deed_numbers current NoMemory act none refused = none_numbered current
 
 -- nothing was done, for another cause than a worn store
-pub performs_none : (current : Option Current) (acts : List Act) (halt : Halt) → IsNotWorn {A = Option Current} (Err halt) → Performs current acts (Err halt) []
-performs_none current acts halt able = record {
+pub performs_none : (current : Option Current) (acts : List Act) (halt : Halt) → IsNotWorn {A = Option Current} (Err halt) → IsRefused halt acts → HasNumbers current (fault_of halt) [] → Performs current acts (Err halt) []
+performs_none current acts halt able refused numbers = record {
   out = record { left = acts; going = still acts; none_left = λ e. absurd (false≢true e) };
   saves = saved_still current acts;
   leaves = tt;
   counts = tt;
   opens = tt;
   worn = λ e. absurd (not_worn halt able e);
+  numbered = tt;
+  stopped = λ b. record {
+    front = [];
+    rest = acts;
+    parts = refl;
+    same = refl;
+    at = refused;
+    opens = inr refl;
+    numbers = numbers;
+    leaves = λ first before stands file image. inl (stands.images file (rw (append-nil before) at image)).recovers;
+  };
 }
 
 -- nothing had to be done
@@ -217,6 +343,8 @@ performs_nothing current = record {
   counts = omega arith;
   opens = refl;
   worn = λ e. absurd cc;
+  numbered = none_numbered current;
+  stopped = tt;
 }
 
 -- An effect that leaves the store leaves what its turn stands for.
@@ -256,6 +384,8 @@ performs_deed current effect act deed = record {
   counts = omega (arith, deed.uncounted);
   opens = omega (arith, unopened effect deed.quiet, deed.uncounted);
   worn = λ e. absurd cc;
+  numbered = λ some. absurd (omega (arith, some, deed.uncounted));
+  stopped = tt;
 }
 
 -- the end of the run is nothing that a device does
@@ -267,23 +397,25 @@ performs_finish current = record {
   counts = omega arith;
   opens = refl;
   worn = λ e. absurd cc;
+  numbered = none_numbered current;
+  stopped = tt;
 }
 
 -- Calls, whether the world tells its effects or not
 
 -- one call of a device that isn't the store: at a refusal nothing was done
-pub told_deed : (current : Option Current) (effect : Effect) (act : Act) → IsDeed effect act → (old new : Option (List Effect)) (result : Result (Unit {0}) Halt) → IsNotWorn result → new ≡ adds old (on_ok result (effect ∷ [])) → Added old new (Performs current (act ∷ []) (handed_on current result))
+pub told_deed : (current : Option Current) (effect : Effect) (act : Act) → IsDeed effect act → (old new : Option (List Effect)) (result : Result (Unit {0}) Halt) → IfErr result (λ halt. IsRefused halt (act ∷ [])) → new ≡ adds old (on_ok result (effect ∷ [])) → Added old new (Performs current (act ∷ []) (handed_on current result))
 told_deed current effect act deed old new (Ok x) able added = record { effects = effect ∷ []; added = added; holds = performs_deed current effect act deed }
-told_deed current effect act deed old new (Err halt) able added = record { effects = []; added = added; holds = performs_none current (act ∷ []) halt (not_worn_too halt able) }
+told_deed current effect act deed old new (Err halt) able added = record { effects = []; added = added; holds = performs_none current (act ∷ []) halt (deed_able halt act deed.uncounted able) able (deed_numbers current halt act deed.uncounted able) }
 
 -- a command that was tried
-pub told_start : (current : Option Current) (reason : Reason) (command : Command) (old new : Option (List Effect)) (result : Result (Unit {0}) Halt) → IsNotWorn result → Launches old new command result → Added old new (Performs current (Start reason command ∷ []) (handed_on current result))
+pub told_start : (current : Option Current) (reason : Reason) (command : Command) (old new : Option (List Effect)) (result : Result (Unit {0}) Halt) → IfErr result (λ halt. halt ≡ NoMemory) → Launches old new command result → Added old new (Performs current (Start reason command ∷ []) (handed_on current result))
 told_start current reason command old new (Ok x) able launches = record {
   effects = Started command launches.0 ∷ [];
   added = launches.1;
   holds = performs_deed current (Started command launches.0) (Start reason command) (record { done = record { deaf = refl; quiet = refl; does = refl; shows = refl }; quiet = tt; keeps = λ book. refl; uncounted = refl });
 }
-told_start current reason command old new (Err halt) able launches = record { effects = []; added = launches ∙ sym (adds-none old); holds = performs_none current (Start reason command ∷ []) halt (not_worn_too halt able) }
+told_start current reason command old new (Err halt) able launches = record { effects = []; added = launches ∙ sym (adds-none old); holds = rw able (performs_none current (Start reason command ∷ []) NoMemory tt tt (none_numbered current)) }
 
 pub told_finish : (current : Option Current) (old : Option (List Effect)) → Added old old (Performs current (Finish ∷ []) (Ok current))
 told_finish current old = record { effects = []; added = sym (adds-none old); holds = performs_finish current }
@@ -293,7 +425,7 @@ told_nothing current old = record { effects = []; added = sym (adds-none old); h
 
 -- nothing was done, for want of memory
 pub told_none : (current : Option Current) (acts : List Act) (old : Option (List Effect)) → Added old old (Performs current acts (Err NoMemory))
-told_none current acts old = record { effects = []; added = sym (adds-none old); holds = performs_none current acts NoMemory tt }
+told_none current acts old = record { effects = []; added = sym (adds-none old); holds = performs_none current acts NoMemory tt tt (none_numbered current) }
 
 pub told_then : (current next : Option Current) (xs ys : List Act) (answer : Result (Option Current) Halt) (old middle new : Option (List Effect)) → Added old middle (Performs current xs (Ok next)) → Added middle new (Performs next ys answer) → Added old new (Performs current (xs ++ ys) answer)
 told_then current next xs ys answer old middle new one two = record {

@@ -1,10 +1,10 @@
 -- What a session stands for, from event to event: the theorem about the engine, on lists alone.
-use Rattle.std.proofs.Common.{◌≡◌, ℕ, true, false, List, [], ◌∷◌, ◌++◌, take, drop, map, Option, Result, Ok, Err, IsOk, IsErrOf, refl, sym, ◌∙◌, ap, arith, append_assoc}
+use Rattle.std.proofs.Common.{◌≡◌, inl, inr, ℕ, true, false, List, [], ◌∷◌, ◌++◌, take, drop, map, Option, Result, Ok, Err, IsOk, IsErrOf, refl, sym, ◌∙◌, ap, arith, append_assoc, subst}
 use Rattle.std.proofs.lemmas.List.{append-nil}
 use Rattle.std.proofs.lemmas.Bool.{false≢true}
 use Rattle.std.proofs.lemmas.Grind.{flat_map-append}
 use Rattle.sm_world.specs.Crash.{Image}
-use Rattle.sm_world.specs.Effects.{deeds, heard}
+use Rattle.sm_world.specs.Effects.{deed_of, deeds, heard}
 use Rattle.sm_world.specs.declared.effects.Effect.{Effect}
 use Rattle.sm_world.specs.declared.effects.Effect.TheVariants.{Heard}
 use Rattle.sm_world.specs.declared.events.Event.{Event}
@@ -17,6 +17,7 @@ use Rattle.session_engine.specs.Carries.{IsCurrent as IsCurrentWith, Keeps as Ke
 use Rattle.session_engine.specs.Causes.{IsOfRun, fault_of}
 use Rattle.session_engine.specs.Machine.{Did, Machine, acts_of, after_all, step}
 use Rattle.session_engine.specs.Saved.{IsSaved, Performs, WearsOut}
+use Rattle.session_engine.specs.Stops.{HasNumbers, IsNumbered, IsRefused, Stops, StopsAt}
 use Rattle.session_engine.specs.Session.{StandsFor as StandsForWith}
 use Rattle.session_engine.specs.Shown.{Shows, all_cut}
 use Rattle.session_engine.specs.declared.acts.Act.{Act}
@@ -24,10 +25,10 @@ use Rattle.session_engine.specs.declared.acts.Act.TheVariants.{Commit}
 use Rattle.session_engine.specs.declared.fault.Halt.{Halt}
 use Rattle.session_engine.specs.declared.fault.Halt.TheVariants.{Links, Console, Disk, Worn as WearsIt, NoMemory as WantsMemory}
 use Rattle.session_engine.specs.declared.fault.ServeFault.{ServeFault}
-use Rattle.session_engine.specs.declared.fault.ServeFault.TheVariants.{Worn}
+use Rattle.session_engine.specs.declared.fault.ServeFault.TheVariants.{Damaged, WrongSize, DiskFault, LinkFault, ConsoleFault, Worn, Spent, NoMemory}
 use Rattle.session_engine.specs.declared.session.Session.{Session}
 use Rattle.session_engine.proofs.Opening.{opened_unfinished}
-use Rattle.session_engine.proofs.Performing.{book_after-append, commits_in-append, opened_in-append, saved_behind, stands_quiet, whole_done}
+use Rattle.session_engine.proofs.Performing.{book_after-append, commits_in-append, numbered_then, opened_in-append, saved_behind, stands_quiet, stops_behind, whole_done}
 use Rattle.session_engine.proofs.Running as of
 
 -- a halt cuts the run short
@@ -66,6 +67,37 @@ fault_is_no_ok fault e = false≢true e
 -- where an event lies among the effects
 places : (before es zs : List Effect) (event : Event) → before ++ (es ++ Heard event ∷ zs) ≡ ((before ++ es) ++ Heard event ∷ []) ++ zs
 places before es zs event = sym (append_assoc before es (Heard event ∷ zs)) ∙ sym (append_assoc (before ++ es) (Heard event ∷ []) zs)
+
+-- where a halt stops acts, its fault stops a run of them
+stops_at : (halt : Halt) (rest : List Act) → IsRefused halt rest → StopsAt (fault_of halt) rest
+stops_at Links rest refused = inr refused
+stops_at Console rest refused = refused
+stops_at Disk rest refused = refused
+stops_at WearsIt rest refused = refused
+stops_at WantsMemory rest refused = tt
+
+run_stops : (current : Option Current) (b : Book) (acts : List Act) (halt : Halt) (es : List Effect) → Stops current b acts (fault_of halt) (IsRefused halt) es → Stops current b acts (fault_of halt) (StopsAt (fault_of halt)) es
+run_stops current b acts halt es stops = record {
+  front = stops.front;
+  rest = stops.rest;
+  parts = stops.parts;
+  same = stops.same;
+  at = stops_at halt stops.rest stops.at;
+  opens = stops.opens;
+  numbers = stops.numbers;
+  leaves = stops.leaves;
+}
+
+-- at a fault that comes where nothing is left, each checkpoint had its number
+all_numbered : (fault : ServeFault) (current : Option Current) (acts : List Act) → StopsAt fault [] → IsNumbered current acts → HasNumbers current fault acts
+all_numbered (Damaged at) current acts stops numbered = numbered
+all_numbered (WrongSize size) current acts stops numbered = numbered
+all_numbered DiskFault current acts stops numbered = absurd stops
+all_numbered LinkFault current acts stops numbered = numbered
+all_numbered ConsoleFault current acts stops numbered = numbered
+all_numbered Worn current acts stops numbered = absurd stops
+all_numbered Spent current acts stops numbered = numbered
+all_numbered NoMemory current acts stops numbered = numbered
 
 module _ (cookie : Cookie) (opening : Book) where
   abbrev pub StandsFor : Option Current → Session → List Effect → Type 0
@@ -116,6 +148,7 @@ module _ (cookie : Cookie) (opening : Book) where
         store = λ first before stands. rw scripts (performs.leaves first before opening stands);
         counts = rw scripts performs.counts;
         opens = rw scripts performs.opens;
+        numbered = rw scripts performs.numbered;
       }
 
   pub runs_unopened : (current : Option Current) (halt : Halt) (es : List Effect) → Performs current (of.opening_acts cookie opening) (Err halt) es → Runs current (Err (fault_of halt)) es
@@ -131,6 +164,8 @@ module _ (cookie : Cookie) (opening : Book) where
     opens = λ e. absurd (halt_cuts halt e);
     opened = halt_of_run halt;
     worn = λ e. rw (opening_script es performs.out.going.deaf) (performs.worn (worn_halt halt e));
+    numbered = λ e. absurd (halt_cuts halt e);
+    stopped = rw (opening_script es performs.out.going.deaf) (run_stops current opening (of.opening_acts cookie opening) halt es (performs.stopped opening));
   }
 
   -- One event more
@@ -169,6 +204,22 @@ module _ (cookie : Cookie) (opening : Book) where
   opens_more current session next es ds event held performs =
       omega (arith, performs.opens, held.opens, opened_in-append es (Heard event ∷ ds), ap commits_in (of.script-more cookie opening es ds event performs.out.going.deaf held.unfinished), commits_in-append (script (heard es)) (acts_at es event))
 
+  numbered_more : (current : Option Current) (session : Session) (next : Option Current) (es ds : List Effect) (event : Event) → StandsFor current session es → Performs session.store (acts_at es event) (Ok next) ds → IsNumbered current (script (heard (es ++ Heard event ∷ ds)))
+  numbered_more current session next es ds event held performs =
+      rw (of.script-more cookie opening es ds event performs.out.going.deaf held.unfinished) (numbered_then current session.store (script (heard es)) (acts_at es event) held.counts held.numbered performs.numbered)
+
+  -- where the acts of one event more were stopped
+  stopped_more : (current : Option Current) (session : Session) (halt : Halt) (es ds : List Effect) (event : Event) → StandsFor current session es → Performs session.store (acts_at es event) (Err halt) ds → Stops current opening (script (heard (es ++ Heard event ∷ ds))) (fault_of halt) (StopsAt (fault_of halt)) (es ++ Heard event ∷ ds)
+  stopped_more current session halt es ds event held performs =
+      let acts : List Act = script (heard es) in
+      let done : deeds (es ++ Heard event ∷ []) ≡ deeds_in acts = flat_map-append deed_of es (Heard event ∷ []) ∙ (append-nil (deeds es) ∙ held.all_done) in
+      let opened : opened_in (es ++ Heard event ∷ []) ≡ commits_in acts = omega (arith, opened_in-append es (Heard event ∷ []), held.opens) in
+      let stops = stops_behind current session.store opening acts (acts_at es event) (fault_of halt) (IsRefused halt) (es ++ Heard event ∷ []) ds done held.counts opened held.numbered
+          (λ first before stands. rw (sym (append_assoc before es (Heard event ∷ []))) (stands_heard current session es event held first before stands))
+          (performs.stopped (book_after opening acts)) in
+      rw (of.script-more cookie opening es ds event performs.out.going.deaf held.unfinished)
+      (subst (λ (zs : List Effect). Stops current opening (acts ++ acts_at es event) (fault_of halt) (StopsAt (fault_of halt)) zs) (append_assoc es (Heard event ∷ []) ds) (run_stops current opening (acts ++ acts_at es event) halt ((es ++ Heard event ∷ []) ++ ds) stops))
+
   -- the run goes on
   pub stands_more : (current : Option Current) (session next : Session) (es ds : List Effect) (event : Event) → StandsFor current session es → Performs session.store (acts_at es event) (Ok next.store) ds → Shows all_cut next.engine (step (after_all start (heard es)) event).next → has_finish (acts_at es event) ≡ false → StandsFor current next (es ++ Heard event ∷ ds)
   stands_more current session next es ds event held performs shows goes =
@@ -183,6 +234,7 @@ module _ (cookie : Cookie) (opening : Book) where
         store = store_more current session next.store es ds event held performs;
         counts = omega (arith, performs.counts, held.counts, ap commits_in (of.script-more cookie opening es ds event deaf held.unfinished), commits_in-append (script (heard es)) (acts_at es event));
         opens = opens_more current session next.store es ds event held performs;
+        numbered = numbered_more current session next.store es ds event held performs;
       }
 
   -- the machine's own end
@@ -199,6 +251,8 @@ module _ (cookie : Cookie) (opening : Book) where
     opens = λ e. opens_more current session next es ds event held performs;
     opened = tt;
     worn = λ e. absurd (ok_is_no_fault Worn e);
+    numbered = λ e. numbered_more current session next es ds event held performs;
+    stopped = tt;
   }
 
   worn_more : (current : Option Current) (session : Session) (es ds : List Effect) (event : Event) → StandsFor current session es → heard ds ≡ [] → WearsOut session.store (acts_at es event) ds → WearsOut current (script (heard (es ++ Heard event ∷ ds))) (es ++ Heard event ∷ ds)
@@ -225,11 +279,13 @@ module _ (cookie : Cookie) (opening : Book) where
     opens = λ e. absurd (halt_cuts halt e);
     opened = halt_of_run halt;
     worn = λ e. worn_more current session es ds event held performs.out.going.deaf (performs.worn (worn_halt halt e));
+    numbered = λ e. absurd (halt_cuts halt e);
+    stopped = stopped_more current session halt es ds event held performs;
   }
 
   -- no more came
-  pub runs_over : (current : Option Current) (session : Session) (fault : ServeFault) (es : List Effect) → (fault ≡ Worn → ⊥) → IsOfRun fault → StandsFor current session es → Runs current (Err fault) es
-  runs_over current session fault es able opened held = record {
+  pub runs_over : (current : Option Current) (session : Session) (fault : ServeFault) (es : List Effect) → (fault ≡ Worn → ⊥) → StopsAt fault [] → IsOfRun fault → StandsFor current session es → Runs current (Err fault) es
+  runs_over current session fault es able stops opened held = record {
     carries = record { on_script = held.on_script; all_done = λ e. held.all_done; ended = λ e. absurd (fault_is_no_ok fault e) };
     in_order = λ e. held.in_order;
     keeps = held.keeps;
@@ -237,4 +293,15 @@ module _ (cookie : Cookie) (opening : Book) where
     opens = λ e. held.opens;
     opened = opened;
     worn = λ e. absurd (able (the_fault fault Worn e));
+    numbered = λ e. held.numbered;
+    stopped = record {
+      front = script (heard es);
+      rest = [];
+      parts = append-nil (script (heard es));
+      same = held.all_done;
+      at = stops;
+      opens = inr held.opens;
+      numbers = all_numbered fault current (script (heard es)) stops held.numbered;
+      leaves = λ first before stands file image. inl ((held.store first before stands).images file image).recovers;
+    };
   }

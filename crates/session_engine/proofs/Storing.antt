@@ -1,6 +1,6 @@
 -- A commit: its effects are the store's, and swap the old checkpoint for the new one.
 use Rattle.std.proofs.Common.{◌≡◌, ◌⊎◌, inl, inr, arith, ℕ, ◌<◌, ◌≤◌, ◌^◌, zero, suc, List, [], ◌∷◌, ◌++◌, length, take, Option, Some, Result, Ok, Err, refl, sym, ◌∙◌, ap, subst, append_assoc}
-use Rattle.std.proofs.lemmas.List.{take_all}
+use Rattle.std.proofs.lemmas.List.{append-nil, take_all}
 use Rattle.std.proofs.lemmas.Bool.{cases_lt, false≢true}
 use Rattle.std.specs.List.{AllByRecursion}
 use Rattle.sm_world.specs.Crash.{Image}
@@ -19,10 +19,12 @@ use Rattle.checkpoint_slots.specs.declared.turn.Current.{Current}
 use Rattle.session_engine.specs.Causes.{commit_halt_of}
 use Rattle.session_engine.specs.Doing.{items}
 use Rattle.session_engine.specs.Saved.{IsSaved, Performs}
+use Rattle.session_engine.specs.Stops.{IsLeft}
 use Rattle.session_engine.specs.declared.acts.Act.TheVariants.{Commit}
+use Rattle.session_engine.specs.declared.fault.ServeFault.TheVariants.{DiskFault as FailsOnDisk}
 use Rattle.session_engine.specs.declared.fault.Halt.TheVariants.{Disk}
 use Rattle.session_engine.proofs.Adding.{still}
-use Rattle.session_engine.proofs.Performing.{fronts_two, opened_in-append, performs_none, saved_still}
+use Rattle.session_engine.proofs.Performing.{fronts_two, none_numbered, opened_in-append, performs_none, saved_still}
 
 -- Effects of the store alone, at each of which every file that a crash may leave has the old checkpoint or the new one.
 pub record Swaps (current : Option Current) (book : Book) (es : List Effect) : Type 0 where
@@ -103,9 +105,13 @@ saves_swap : (current : Option Current) (book : Book) (es : List Effect) → Swa
 saves_swap current book es swaps first before opening stands n file image =
     rw ((silent (take n es) (store_front n es swaps.store)).still) (saved_by opening book file (swaps.either first before opening stands n file image))
 
+left_by : (opening book : Book) (file : List ℕ) → Recovers file (Ok opening) ⊎ Recovers file (Ok book) → IsLeft FailsOnDisk opening [] (Commit book ∷ []) file
+left_by opening book file (inl old) = inl old
+left_by opening book file (inr new) = inr (refl, new)
+
 -- a commit that the disk refused
-pub performs_refused : (current : Option Current) (book : Book) (es : List Effect) → Swaps current book es → Performs current (Commit book ∷ []) (Err Disk) es
-performs_refused current book es swaps =
+pub performs_refused : (current : Option Current) (book : Book) (es : List Effect) → next_generation current < 2 ^ 64 → Swaps current book es → Performs current (Commit book ∷ []) (Err Disk) es
+performs_refused current book es fits swaps =
     let s = silent es swaps.store in
     record {
       out = record {
@@ -118,6 +124,17 @@ performs_refused current book es swaps =
       counts = tt;
       opens = tt;
       worn = λ e. absurd cc;
+      numbered = tt;
+      stopped = λ opening. record {
+        front = [];
+        rest = Commit book ∷ [];
+        parts = refl;
+        same = s.still;
+        at = refl;
+        opens = inl refl;
+        numbers = omega (arith, fits);
+        leaves = λ first before stands file image. left_by opening book file (swaps.either first before opening stands (length es) file (rw (take_all (length es) es (omega arith)) image));
+      };
     }
 
 -- a commit that stands in the store
@@ -136,6 +153,8 @@ performs_commit current next book body cs fs ls is_next is_body closes fills lif
       counts = rw is (omega arith);
       opens = omega (arith, opened_in-append (cs ++ fs) ls, opened_in-append cs fs, closes.opens, fills.opens book is_body, lifts.opens);
       worn = λ e. absurd cc;
+      numbered = λ e. omega (arith, is_next.generation);
+      stopped = tt;
     }
 
 -- Calls of the disk, whether the world tells its effects or not
@@ -155,23 +174,34 @@ told_unspelled current book IsWorn old cause = record {
     counts = tt;
     opens = tt;
     worn = λ e. record { front = []; rest = []; book = book; parts = refl; same = refl; last = omega (arith, cause) };
+    numbered = tt;
+    stopped = λ opening. record {
+      front = [];
+      rest = Commit book ∷ [];
+      parts = refl;
+      same = refl;
+      at = refl;
+      opens = inr refl;
+      numbers = omega (arith, cause);
+      leaves = λ first before stands file image. inl (stands.images file (rw (append-nil before) at image)).recovers;
+    };
   };
 }
-told_unspelled current book NoMemory old cause = record { effects = []; added = sym (adds-none old); holds = performs_none current (Commit book ∷ []) (commit_halt_of NoMemory) tt }
+told_unspelled current book NoMemory old cause = record { effects = []; added = sym (adds-none old); holds = performs_none current (Commit book ∷ []) (commit_halt_of NoMemory) tt tt (none_numbered current) }
 
 two_added : (old middle new : Option (List Effect)) (es ds : List Effect) → middle ≡ adds old es → new ≡ adds middle ds → new ≡ adds old (es ++ ds)
 two_added old middle new es ds one two = two ∙ (ap (λ t. adds t ds) one ∙ adds-adds old es ds)
 
-pub told_unclosed : (current : Option Current) (book : Book) (fault : StoreFault) (old new : Option (List Effect)) → fault ≡ DiskFault → Added old new (Closes current (Err fault)) → Added old new (Performs current (Commit book ∷ []) (Err (commit_halt_of fault)))
-told_unclosed current book fault old new is closes =
-    rw is (record { effects = closes.effects; added = closes.added; holds = performs_refused current book closes.effects (swaps_close current book (Err fault) closes.effects closes.holds) })
+pub told_unclosed : (current : Option Current) (book : Book) (fault : StoreFault) (old new : Option (List Effect)) → next_generation current < 2 ^ 64 → fault ≡ DiskFault → Added old new (Closes current (Err fault)) → Added old new (Performs current (Commit book ∷ []) (Err (commit_halt_of fault)))
+told_unclosed current book fault old new fits is closes =
+    rw is (record { effects = closes.effects; added = closes.added; holds = performs_refused current book closes.effects fits (swaps_close current book (Err fault) closes.effects closes.holds) })
 
 pub told_unfilled : (current closed : Option Current) (book : Book) (body : List ℕ) (fault : StoreFault) (old middle new : Option (List Effect)) → IsNext current book → body ≡ slot_bytes (next_generation current) book → closed ≡ current → fault ≡ DiskFault → Added old middle (Closes current (Ok closed)) → Added middle new (Fills closed body (Err fault)) → Added old new (Performs current (Commit book ∷ []) (Err (commit_halt_of fault)))
 told_unfilled current closed book body fault old middle new is_next is_body same is closes fills =
     rw is (record {
       effects = closes.effects ++ fills.effects;
       added = two_added old middle new closes.effects fills.effects closes.added fills.added;
-      holds = performs_refused current book (closes.effects ++ fills.effects) (swaps_fill current book body (Err fault) closes.effects fills.effects is_next is_body (rw same at closes.holds) (rw same at fills.holds));
+      holds = performs_refused current book (closes.effects ++ fills.effects) is_next.generation (swaps_fill current book body (Err fault) closes.effects fills.effects is_next is_body (rw same at closes.holds) (rw same at fills.holds));
     })
 
 pub told_unlifted : (current closed filled : Option Current) (book : Book) (body : List ℕ) (fault : StoreFault) (old middle late new : Option (List Effect)) → IsNext current book → body ≡ slot_bytes (next_generation current) book → closed ≡ current → filled ≡ closed → fault ≡ DiskFault → Added old middle (Closes current (Ok closed)) → Added middle late (Fills closed body (Ok filled)) → Added late new (Lifts filled (Err fault)) → Added old new (Performs current (Commit book ∷ []) (Err (commit_halt_of fault)))
@@ -179,7 +209,7 @@ told_unlifted current closed filled book body fault old middle late new is_next 
     rw is (record {
       effects = (closes.effects ++ fills.effects) ++ lifts.effects;
       added = two_added old late new (closes.effects ++ fills.effects) lifts.effects (two_added old middle late closes.effects fills.effects closes.added fills.added) lifts.added;
-      holds = performs_refused current book ((closes.effects ++ fills.effects) ++ lifts.effects)
+      holds = performs_refused current book ((closes.effects ++ fills.effects) ++ lifts.effects) is_next.generation
           (swaps_lift current book body (Err fault) closes.effects fills.effects lifts.effects is_next is_body (rw same at closes.holds) (rw (again, same) at fills.holds) (rw (again, same) at lifts.holds));
     })
 

@@ -8,6 +8,7 @@ use Rattle.sm_world.specs.Outside.{Outside, Added}
 use Rattle.sm_world.specs.declared.effects.Effect.{Effect}
 use Rattle.sm_world.specs.declared.effects.Effect.TheVariants.{Heard}
 use Rattle.sm_world.specs.declared.events.Event.{Event}
+use Rattle.checkpoint_records.specs.Rules.{KeepsRules}
 use Rattle.checkpoint_records.specs.declared.records.Book.{Book}
 use Rattle.checkpoint_slots.specs.Causes.{IsSettled}
 use Rattle.checkpoint_slots.specs.Recovery.{Recovers}
@@ -19,6 +20,7 @@ use Rattle.session_engine.specs.Causes.{IsOfRun}
 use Rattle.session_engine.specs.Doing.{items}
 use Rattle.session_engine.specs.Machine.{Item, script_of, run_of}
 use Rattle.session_engine.specs.Saved.{IsSaved, WearsOut}
+use Rattle.session_engine.specs.Stops.{HasOpened, IsLeft, IsNumbered, Stops, StopsAt}
 use Rattle.session_engine.specs.declared.acts.Act.{Act}
 use Rattle.session_engine.specs.declared.fault.ServeFault.{ServeFault}
 use Rattle.session_engine.specs.declared.fault.ServeFault.TheVariants.{Damaged, WrongSize, DiskFault, LinkFault, ConsoleFault, Worn, Spent, NoMemory}
@@ -103,6 +105,10 @@ module _ (cookie : Cookie) (opening : Book) where
     pub opened : IfErr answer IsOfRun
     -- the store is worn where a commit found no number more
     pub worn : IsErrOf answer Worn → WearsOut current (script (heard effects)) effects
+    -- and it is where one did: else there was a number for each
+    pub numbered : is_whole answer ≡ true → IsNumbered current (script (heard effects))
+    -- a fault stopped it at one act, and what a crash leaves has the checkpoint before that act
+    pub stopped : IfErr answer (λ fault. Stops current opening (script (heard effects)) fault (StopsAt fault) effects)
 
   -- What a call of the engine adds: a run over the events that it was brought.
   pub record Serves (current : Option Current) (coming : Option (List Event)) (turns : ℕ) (answer : Result (Unit {0}) ServeFault) (effects : List Effect) : Type 0 where
@@ -113,12 +119,27 @@ module _ (cookie : Cookie) (opening : Book) where
     -- the turns are spent where so many events were heard and none ended the run
     pub spent : IsErrOf answer Spent → (length (heard effects) ≡ turns) × (has_finish (script (heard effects)) ≡ false)
 
+  -- A run that a fault cut short, over a store that began with this file, did the acts in front of one, or nothing at all. That one was
+  -- refused, or memory was wanting; and every file that a crash could leave has exactly the checkpoint behind those that were done. Only
+  -- where the disk failed at a checkpoint may a file have that one.
+  pub record IsCutShort (file : List ℕ) (fault : ServeFault) (effects : List Effect) : Type 0 where
+    pub front : List Act
+    pub rest : List Act
+    pub parts : front ++ rest ≡ script (heard effects)
+    pub same : deeds effects ≡ deeds_in front
+    pub at : (effects ≡ []) ⊎ StopsAt fault rest
+    pub opens : HasOpened fault front effects
+    pub leaves : (left : List ℕ) → Image file effects left → IsLeft fault opening front rest left
+
   -- The headline, for a store that began with this file: all that was sent, started and shut is the machine's, in its order, and every file
   -- that a crash could leave at any point recovers to one whole checkpoint, at least as new as the last one decided before any deed done.
   pub record KeepsItsWord (file : List ℕ) (answer : Result (Unit {0}) ServeFault) (effects : List Effect) : Type 0 where
     pub carries : Carries effects answer
     pub keeps : Keeps file [] effects
     pub is_current : is_whole answer ≡ true → (left : List ℕ) → Image file effects left → IsCurrent effects left
+    pub stopped : IfErr answer (λ fault. IsCutShort file fault effects)
+    -- the book that was opened keeps the rules
+    pub rules : KeepsRules opening
 
 -- The beginning of a run
 
@@ -150,6 +171,7 @@ pub record Opens (old new : Outside) (P : Book → Option Current → List Effec
   pub recovered : IsRecovered old book current
   pub size : new.size ≡ 16777280
   pub below : book.epoch < 4294967295
+  pub rules : KeepsRules book
   pub adds : Added old.told new.told (P book current)
 
 -- what a call that opens a store may do at a fault

@@ -92,13 +92,22 @@ IsOfRun Worn = Unit {0}
 IsOfRun Spent = Unit {0}
 IsOfRun NoMemory = Unit {0}
 
+-- what halts a run as the next event is to be heard
+abbrev pub IsOfHearing : Halt → Type 0
+IsOfHearing Links = Unit {0}
+IsOfHearing Console = ⊥
+IsOfHearing Disk = ⊥
+IsOfHearing WearsOut = ⊥
+IsOfHearing WantsMemory = Unit {0}
+
 -- no count of faults fell, and a halt has its cause
 pub record KeepsCounts {A : Type 0} (old new : Faults) (result : Result A Halt) : Type 0 where
   pub counts : NotFallen old new
   pub cause : IfErr result (IsCaused old new)
 
--- None of the events to come was heard, the store has its size still, no count of faults fell, and a halt has its cause.
+-- None of the events to come was heard, nothing of the input was read, the store has its size still, no count of faults fell, and a halt has its cause.
 pub record HearsNone {A : Type 0} (old new : Outside) (result : Result A Halt) : Type 0 where
   pub coming : new.coming ≡ old.coming
+  pub input : new.input ≡ old.input
   pub size : new.size ≡ old.size
   pub counts : KeepsCounts old.faults new.faults result

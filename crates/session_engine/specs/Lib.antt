@@ -7,6 +7,7 @@ pub mod Cutting
 pub mod Machine
 pub mod Doing
 pub mod Starting
+pub mod Stops
 pub mod Saved
 pub mod Counted
 pub mod Carries

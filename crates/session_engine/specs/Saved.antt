@@ -1,5 +1,5 @@
 -- What a crash leaves of the store, against what was done.
-use Rattle.std.specs.Prelude.{◌≡◌, ℕ, ◌+◌, ◌^◌, List, ◌∷◌, ◌++◌, take, Option, Result, Ok, IfOk, IsErrOf, is_ok}
+use Rattle.std.specs.Prelude.{◌≡◌, ℕ, ◌+◌, ◌^◌, List, ◌∷◌, ◌++◌, take, Option, Result, Ok, IfErr, IfOk, IsErrOf, is_ok}
 use Rattle.sm_world.specs.Crash.{Image}
 use Rattle.sm_world.specs.Effects.{Deed, deeds}
 use Rattle.sm_world.specs.declared.effects.Effect.{Effect}
@@ -8,7 +8,9 @@ use Rattle.checkpoint_slots.specs.Recovery.{Recovers}
 use Rattle.checkpoint_slots.specs.Turns.{SteadyStands, next_generation, opened_in}
 use Rattle.checkpoint_slots.specs.declared.turn.Current.{Current}
 use Rattle.session_engine.specs.Acts.{book_after, commits_in, deeds_in}
+use Rattle.session_engine.specs.Causes.{fault_of}
 use Rattle.session_engine.specs.Doing.{CarriesOut}
+use Rattle.session_engine.specs.Stops.{IsNumbered, IsRefused, Stops}
 use Rattle.session_engine.specs.declared.acts.Act.{Act}
 use Rattle.session_engine.specs.declared.acts.Act.TheVariants.{Commit}
 use Rattle.session_engine.specs.declared.fault.Halt.{Halt}
@@ -51,3 +53,5 @@ pub record Performs (current : Option Current) (acts : List Act) (answer : Resul
   pub counts : IfOk answer (λ next. next_generation next ≡ next_generation current + commits_in acts)
   pub opens : IfOk answer (λ next. opened_in effects ≡ commits_in acts)
   pub worn : IsErrOf answer Worn → WearsOut current acts effects
+  pub numbered : IfOk answer (λ next. IsNumbered current acts)
+  pub stopped : IfErr answer (λ halt. (opening : Book) → Stops current opening acts (fault_of halt) (IsRefused halt) effects)

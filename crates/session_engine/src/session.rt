@@ -55,6 +55,7 @@ impl Session {
     ) -> Result<Session, ServeFault>
         ensures starts { Starts cookie (W.outside world.old) (W.outside world.new) result }
         ensures coming { (W.outside world.new).coming ≡ (W.outside world.old).coming }
+        ensures input { (W.outside world.new).input ≡ (W.outside world.old).input }
         ensures size { IfOk result (λ session. (W.outside world.new).size ≡ 16777280) }
         // So it can be stepped on.
         ensures shown { IfOk result (λ session. IsShown all_cut session.engine) }
@@ -85,6 +86,7 @@ impl Session {
         requires shown { IsShown all_cut self.engine }
         ensures steps { (cookie : Cookie) (opening : AnyBook) (current : Option Current) (effects : List Effect) → StandsFor cookie opening current self effects → Added (W.outside world.old).told (W.outside world.new).told (λ added. (heard added ≡ []) × StepsTo cookie opening current result (effects ++ Heard event ∷ added)) }
         ensures coming { (W.outside world.new).coming ≡ (W.outside world.old).coming }
+        ensures input { (W.outside world.new).input ≡ (W.outside world.old).input }
         ensures kept { (W.outside world.new).size ≡ (W.outside world.old).size }
         // A session that goes on can be stepped on.
         ensures shown { IfOk result ShowsOn }
@@ -167,6 +169,8 @@ pub fn serve<W: Disk + Links + Spawner + Console>(
     ensures serves { Serving cookie turns (W.outside world.old) (W.outside world.new) result }
     // The same for a store of which no byte was in doubt: at every point of the run each file that a crash could leave has a whole checkpoint.
     ensures headline { (file : List ℕ) (book : AnyBook) → IsSettled (W.outside world.old) file → Recovers file (Ok book) → Added (W.outside world.old).told (W.outside world.new).told (KeepsItsWord cookie book file result) }
+    // The input is left alone.
+    ensures input { (W.outside world.new).input ≡ (W.outside world.old).input }
     ensures counts { NotFallen (W.outside world.old).faults (W.outside world.new).faults }
     ensures cause { IfErr result (HasCause (W.outside world.old).faults (W.outside world.new).faults) }
 {

@@ -1,8 +1,8 @@
-ghost use Rattle.std.specs.Prelude.{◌≡◌, [], ◌∷◌, ◌++◌, IfOk, OnOk, IsErrOf};
+ghost use Rattle.std.specs.Prelude.{◌≡◌, [], ◌∷◌, ◌++◌, IfErr, IfOk, OnOk, IsErrOf};
 ghost use Rattle.sm_world.specs.Events.{HasPieceSize};
 ghost use Rattle.sm_world.specs.Outside.{adds, of_ok, TakesNext};
 ghost use Rattle.sm_world.specs.declared.effects.Effect.TheVariants.{Heard};
-ghost use Rattle.session_engine.specs.Causes.{IsNotWorn, KeepsCounts};
+ghost use Rattle.session_engine.specs.Causes.{IsOfHearing, KeepsCounts};
 ghost use Rattle.session_engine.specs.Messages.{spelled, IsTooLong};
 ghost use Rattle.session_engine.specs.Starting.{handed_on};
 
@@ -24,7 +24,8 @@ pub fn hear<W: Links>(world: &mut W) -> Result<Event, Halt>
     ensures coming { TakesNext (W.outside world.old).coming (W.outside world.new).coming result }
     ensures size { IfOk result HasPieceSize }
     ensures store { (W.outside world.new).size ≡ (W.outside world.old).size }
-    ensures able { IsNotWorn result }
+    ensures input { (W.outside world.new).input ≡ (W.outside world.old).input }
+    ensures able { IfErr result IsOfHearing }
     ensures counts { KeepsCounts (W.outside world.old).faults (W.outside world.new).faults result }
 {
     world.next().map_err(link_halt)
@@ -75,11 +76,13 @@ impl Shell {
     ghost use Rattle.sm_world.specs.declared.effects.Effect.TheVariants.{Sent, Shut, Printed};
     ghost use Rattle.checkpoint_records.specs.Rules.{KeepsRules};
     ghost use Rattle.session_engine.specs.Acts.{CanBeDone};
-    ghost use Rattle.session_engine.specs.Causes.{HearsNone, IsNotWorn};
+    ghost use Rattle.session_engine.specs.Causes.{HearsNone};
     ghost use Rattle.session_engine.specs.Messages.{spelled, IsTooLong};
     ghost use Rattle.session_engine.specs.Saved.{Performs};
     ghost use Rattle.session_engine.specs.Starting.{Launches};
-    ghost use Rattle.session_engine.specs.declared.acts.Act.TheVariants.{Commit as Commits};
+    ghost use Rattle.session_engine.specs.Stops.{IsRefused};
+    ghost use Rattle.session_engine.specs.declared.acts.Act.TheVariants.{Commit as Commits, Print as Prints, Say as Says, Shut as Shuts};
+    ghost use Rattle.session_engine.specs.declared.fault.Halt.TheVariants.{NoMemory as WantsMemory};
 
     /// This takes no memory.
     pub fn new(alloc: Global) -> Shell {
@@ -92,7 +95,7 @@ impl Shell {
     fn send<W: Links>(&mut self, world: &mut W, to: Conn, message: &Message) -> Result<(), Halt>
         requires { ¬ (IsTooLong message.now) }
         ensures effects { (W.outside world.new).told ≡ adds (W.outside world.old).told (on_ok result (Sent to (spelled message.now) ∷ [])) }
-        ensures able { IsNotWorn result }
+        ensures able { IfErr result (λ halt. IsRefused halt (Says to message.now ∷ [])) }
         ensures alone { HearsNone (W.outside world.old) (W.outside world.new) result }
     {
         self.bytes.truncate(0);
@@ -106,7 +109,7 @@ impl Shell {
 
     fn shut<W: Links>(&mut self, world: &mut W, to: Conn) -> Result<(), Halt>
         ensures effects { (W.outside world.new).told ≡ adds (W.outside world.old).told (on_ok result (Shut to ∷ [])) }
-        ensures able { IsNotWorn result }
+        ensures able { IfErr result (λ halt. IsRefused halt (Shuts to ∷ [])) }
         ensures alone { HearsNone (W.outside world.old) (W.outside world.new) result }
     {
         world.shut(to).map_err(link_halt)
@@ -115,7 +118,7 @@ impl Shell {
     /// Starts a command. One that can't be started counts as tried.
     fn start<W: Spawner>(&mut self, world: &mut W, command: &Command) -> Result<(), Halt>
         ensures effects { Launches (W.outside world.old).told (W.outside world.new).told command.now result }
-        ensures able { IsNotWorn result }
+        ensures able { IfErr result (λ halt. halt ≡ WantsMemory) }
         ensures alone { HearsNone (W.outside world.old) (W.outside world.new) result }
     {
         match world.start(command) {
@@ -127,7 +130,7 @@ impl Shell {
     /// Prints a line.
     fn print<W: Console>(&mut self, world: &mut W, text: &[u8]) -> Result<(), Halt>
         ensures effects { (W.outside world.new).told ≡ adds (W.outside world.old).told (on_ok result (Printed (text.now ++ 10 ∷ []) ∷ [])) }
-        ensures able { IsNotWorn result }
+        ensures able { IfErr result (λ halt. IsRefused halt (Prints text.now ∷ [])) }
         ensures alone { HearsNone (W.outside world.old) (W.outside world.new) result }
     {
         if put_line(text, &mut self.bytes).is_err() {

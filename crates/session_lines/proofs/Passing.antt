@@ -210,6 +210,7 @@ opens-lawfully cookie turns old new answer o = record {
   recovered = o.recovered;
   size = o.size;
   below = o.below;
+  rules = o.rules;
   adds = record { effects = o.adds.effects; added = o.adds.added; holds = lawful cookie o.book o.adds.effects o.adds.holds.runs.carries.on_script };
 }
 

@@ -3,6 +3,8 @@
 
 mod exercise;
 mod fault;
+#[cfg(test)]
+mod fault_tests;
 mod identity;
 mod laws;
 #[cfg(test)]

@@ -12,6 +12,7 @@ loop-left-init g c = record {
   taking = λ m shows. begins m c.args.conn c.args.bytes.now _ c.args.engine.now c.args.store shows;
   size = refl;
   coming = refl;
+  input = refl;
   counts = never_fallen _;
 }
 
@@ -32,6 +33,7 @@ loop-left-preserved g c = record {
       );
   size = c.in-Ok.ensures.alone.size ∙ c.loop-left.invariant.size;
   coming = c.in-Ok.ensures.alone.coming ∙ c.loop-left.invariant.coming;
+  input = c.in-Ok.ensures.alone.input ∙ c.loop-left.invariant.input;
   counts = fallen_never _ _ _ c.loop-left.invariant.counts c.in-Ok.ensures.alone.counts.counts;
 }
 

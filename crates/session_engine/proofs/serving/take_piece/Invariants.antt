@@ -12,6 +12,7 @@ invariant-loop-left g l = record {
   taking : (m : Machine) → Shows all_cut l.fn.engine m → Taking (step m (Piece l.conn l.bytes)) l.conn l.left (g.W.Told.outside l.fn.world).told (g.W.Told.outside l.world).told l.engine l.fn.store l.store l.turn;
   size : (g.W.Told.outside l.world).size ≡ (g.W.Told.outside l.fn.world).size;
   coming : (g.W.Told.outside l.world).coming ≡ (g.W.Told.outside l.fn.world).coming;
+  input : (g.W.Told.outside l.world).input ≡ (g.W.Told.outside l.fn.world).input;
   counts : NotFallen (g.W.Told.outside l.fn.world).faults (g.W.Told.outside l.world).faults;
 }
 

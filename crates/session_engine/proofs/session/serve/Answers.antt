@@ -31,7 +31,7 @@ returns-in-Err-step-clause-headline g c = keeps_word c.args.cookie c.args.turns 
 pub loop-init : goal.loop-init
 loop-init g c =
     let held = loop_begins c.args.cookie (g.W.Told.outside c.args.world.now) (g.W.Told.outside c.start.new.world) c.in-Ok.session c.in-Ok.ensures.coming c.in-Ok.ensures.starts in
-    record { held = held; shown = shown_in c.args.cookie (g.W.Told.outside c.args.world.now) (g.W.Told.outside c.start.new.world) 0 c.in-Ok.session held; size = c.in-Ok.ensures.size; counts = c.in-Ok.ensures.counts }
+    record { held = held; shown = shown_in c.args.cookie (g.W.Told.outside c.args.world.now) (g.W.Told.outside c.start.new.world) 0 c.in-Ok.session held; size = c.in-Ok.ensures.size; input = c.in-Ok.ensures.input; counts = c.in-Ok.ensures.counts }
 
 pub loop-preserved : goal.loop-preserved
 loop-preserved g c =
@@ -41,11 +41,12 @@ loop-preserved g c =
       held = held;
       shown = shown_in c.args.cookie (g.W.Told.outside c.args.world.now) (g.W.Told.outside c.step.new.world) (c.loop.counter + 1) c.in-Ok-Goes.next held;
       size = size;
+      input = c.in-Ok-Goes.ensures.input ∙ (c.in-Ok-hear.ensures.input ∙ c.loop.invariant.input);
       counts = fallen_never _ _ _ c.loop.invariant.counts (fallen_never _ _ _ c.in-Ok-hear.ensures.counts.counts c.in-Ok-Goes.ensures.counts);
     }
 
 pub returns-clause-serves : goal.returns-clause-serves
-returns-clause-serves g c = loop_over c.args.cookie c.args.turns c.loop.counter (g.W.Told.outside c.args.world.now) (g.W.Told.outside c.loop.world) (g.W.Told.outside c.loop.world) c.loop.session Spent (omega (arith, c.loop.auto.counter-end)) (λ e. absurd cc) tt (λ e. omega (arith, c.loop.auto.counter-end, c.loop-test.false)) refl refl c.loop.invariant.held
+returns-clause-serves g c = loop_over c.args.cookie c.args.turns c.loop.counter (g.W.Told.outside c.args.world.now) (g.W.Told.outside c.loop.world) (g.W.Told.outside c.loop.world) c.loop.session Spent (omega (arith, c.loop.auto.counter-end)) (λ e. absurd cc) refl tt (λ e. omega (arith, c.loop.auto.counter-end, c.loop-test.false)) refl refl c.loop.invariant.held
 
 pub returns-clause-headline : goal.returns-clause-headline
 returns-clause-headline g c = keeps_word c.args.cookie c.args.turns (g.W.Told.outside c.args.world.now) (g.W.Told.outside c.loop.world) _ (returns-clause-serves g c)

@@ -9,5 +9,6 @@ invariant-loop g l = record {
   held : InLoop l.fn.cookie (g.W.Told.outside l.fn.world) (g.W.Told.outside l.world) l.counter l.session;
   shown : IsShown all_cut l.session.engine;
   size : (g.W.Told.outside l.world).size ≡ 16777280;
+  input : (g.W.Told.outside l.world).input ≡ (g.W.Told.outside l.fn.world).input;
   counts : NotFallen (g.W.Told.outside l.fn.world).faults (g.W.Told.outside l.world).faults;
 }

@@ -7,7 +7,7 @@ pub returns-in-Err-clause-done : goal.returns-in-Err-clause-done
 returns-in-Err-clause-done g c = rw (c.commit_halt.ensures) (told_unspelled c.args.store c.args.book.now c.in-Err.fault _ c.in-Err.ensures.cause.1)
 
 pub returns-in-Err-close-clause-done : goal.returns-in-Err-close-clause-done
-returns-in-Err-close-clause-done g c = rw (c.commit_halt-in-Err-close.ensures) (told_unclosed c.args.store c.args.book.now c.in-Err-close.fault _ _ c.in-Err-close.ensures.cause (rw c.in-Ok.ensures.body.0 at c.in-Err-close.ensures.effects))
+returns-in-Err-close-clause-done g c = rw (c.commit_halt-in-Err-close.ensures) (told_unclosed c.args.store c.args.book.now c.in-Err-close.fault _ _ c.in-Ok.ensures.fits c.in-Err-close.ensures.cause (rw c.in-Ok.ensures.body.0 at c.in-Err-close.ensures.effects))
 
 pub returns-in-Err-fill-clause-done : goal.returns-in-Err-fill-clause-done
 returns-in-Err-fill-clause-done g c =

@@ -15,7 +15,7 @@ pub returns-in-Start-clause-done : goal.returns-in-Start-clause-done
 returns-in-Start-clause-done g c = rw (c.in-Start.is, c.hand_on-in-Start.ensures) (told_start c.args.store c.in-Start._reason c.in-Start.command _ _ c.start.result c.start.ensures.able c.start.ensures.effects)
 
 pub returns-in-Print-clause-done : goal.returns-in-Print-clause-done
-returns-in-Print-clause-done g c = rw (c.in-Print.is, c.hand_on-in-Print.ensures) (told_deed c.args.store (Printed (c.in-Print.text ++ 10 ∷ [])) (Print c.in-Print.text) (record { done = record { deaf = refl; quiet = refl; does = refl; shows = refl }; quiet = tt; keeps = λ book. refl; uncounted = refl }) _ _ c.print.result c.print.ensures.able (rw (sym c.as_slice.ensures) c.print.ensures.effects))
+returns-in-Print-clause-done g c = rw (c.in-Print.is, c.hand_on-in-Print.ensures) (told_deed c.args.store (Printed (c.in-Print.text ++ 10 ∷ [])) (Print c.in-Print.text) (record { done = record { deaf = refl; quiet = refl; does = refl; shows = refl }; quiet = tt; keeps = λ book. refl; uncounted = refl }) _ _ c.print.result (rw (sym c.as_slice.ensures) c.print.ensures.able) (rw (sym c.as_slice.ensures) c.print.ensures.effects))
 
 pub returns-in-Finish-clause-done : goal.returns-in-Finish-clause-done
 returns-in-Finish-clause-done g c = rw c.in-Finish.is (told_finish c.args.store _)

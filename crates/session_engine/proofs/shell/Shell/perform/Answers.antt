@@ -13,6 +13,7 @@ loop-act-init g c = record {
   can = c.requires.can;
   size = refl;
   coming = refl;
+  input = refl;
   counts = never_fallen _;
 }
 
@@ -37,5 +38,6 @@ loop-act-preserved g c =
       can = (rw left at c.loop-act.invariant.can).1;
       size = c.in-Ok.ensures.alone.size ∙ c.loop-act.invariant.size;
       coming = c.in-Ok.ensures.alone.coming ∙ c.loop-act.invariant.coming;
+      input = c.in-Ok.ensures.alone.input ∙ c.loop-act.invariant.input;
       counts = fallen_never _ _ _ c.loop-act.invariant.counts c.in-Ok.ensures.alone.counts.counts;
     }

@@ -11,5 +11,6 @@ invariant-loop-act g l = record {
   can : AllByRecursion CanBeDone (drop l.act-index l.acts);
   size : (g.W.Told.outside l.world).size ≡ (g.W.Told.outside l.fn.world).size;
   coming : (g.W.Told.outside l.world).coming ≡ (g.W.Told.outside l.fn.world).coming;
+  input : (g.W.Told.outside l.world).input ≡ (g.W.Told.outside l.fn.world).input;
   counts : NotFallen (g.W.Told.outside l.fn.world).faults (g.W.Told.outside l.world).faults;
 }

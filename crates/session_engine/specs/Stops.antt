@@ -1,0 +1,99 @@
+-- Where a fault stops a run: which acts it leaves undone, and what the store has then.
+use Rattle.std.specs.Prelude.{◌≡◌, ◌⊎◌, ℕ, ◌+◌, ◌<◌, ◌≤◌, ◌^◌, Bool, true, false, IsTrue, List, [], ◌∷◌, ◌++◌, take, Option, Ok}
+use Rattle.sm_world.specs.Crash.{Image}
+use Rattle.sm_world.specs.Effects.{deeds}
+use Rattle.sm_world.specs.declared.effects.Effect.{Effect}
+use Rattle.checkpoint_records.specs.declared.records.Book.{Book}
+use Rattle.checkpoint_slots.specs.Recovery.{Recovers}
+use Rattle.checkpoint_slots.specs.Turns.{SteadyStands, next_generation, opened_in}
+use Rattle.checkpoint_slots.specs.declared.turn.Current.{Current}
+use Rattle.session_engine.specs.Acts.{book_after, commits_in, deeds_in}
+use Rattle.session_engine.specs.declared.acts.Act.{Act}
+use Rattle.session_engine.specs.declared.acts.Act.TheVariants.{Say, Shut, Start, Commit, Print, Finish}
+use Rattle.session_engine.specs.declared.fault.Halt.{Halt}
+use Rattle.session_engine.specs.declared.fault.Halt.TheVariants.{Links, Console, Disk, Worn as WearsOut, NoMemory as WantsMemory}
+use Rattle.session_engine.specs.declared.fault.ServeFault.{ServeFault}
+use Rattle.session_engine.specs.declared.fault.ServeFault.TheVariants.{Damaged, WrongSize, DiskFault, LinkFault, ConsoleFault, Worn, Spent, NoMemory}
+
+abbrev pub is_of_links : Act → Bool
+is_of_links (Say conn message) = true
+is_of_links (Shut conn) = true
+is_of_links (Start reason command) = false
+is_of_links (Commit book) = false
+is_of_links (Print text) = false
+is_of_links Finish = false
+
+abbrev pub is_print : Act → Bool
+is_print (Say conn message) = false
+is_print (Shut conn) = false
+is_print (Start reason command) = false
+is_print (Commit book) = false
+is_print (Print text) = true
+is_print Finish = false
+
+abbrev pub is_commit : Act → Bool
+is_commit (Say conn message) = false
+is_commit (Shut conn) = false
+is_commit (Start reason command) = false
+is_commit (Commit book) = true
+is_commit (Print text) = false
+is_commit Finish = false
+
+-- the next of these acts is such
+abbrev pub NextIs : (Act → Bool) → List Act → Type 0
+NextIs is [] = ⊥
+NextIs is (act ∷ acts) = IsTrue (is act)
+
+-- The acts that a halt leaves undone begin with the one that was refused. Memory may be wanting anywhere.
+abbrev pub IsRefused : Halt → List Act → Type 0
+IsRefused Links left = NextIs is_of_links left
+IsRefused Console left = NextIs is_print left
+IsRefused Disk left = NextIs is_commit left
+IsRefused WearsOut left = NextIs is_commit left
+IsRefused WantsMemory left = Unit {0}
+
+-- The same of a run. Where no event could be heard, or was granted, nothing is left.
+abbrev pub StopsAt : ServeFault → List Act → Type 0
+StopsAt (Damaged at) left = Unit {0}
+StopsAt (WrongSize size) left = Unit {0}
+StopsAt DiskFault left = NextIs is_commit left
+StopsAt LinkFault left = (left ≡ []) ⊎ NextIs is_of_links left
+StopsAt ConsoleFault left = NextIs is_print left
+StopsAt Worn left = NextIs is_commit left
+StopsAt Spent left = left ≡ []
+StopsAt NoMemory left = Unit {0}
+
+-- there was a number for the generation of each checkpoint among these acts
+abbrev pub IsNumbered : Option Current → List Act → Type 0
+IsNumbered current acts = 0 < commits_in acts → next_generation current + commits_in acts ≤ 2 ^ 64
+
+-- Behind these acts there was a number for a checkpoint at which the disk failed, and none for one that found the store worn.
+abbrev pub HasNumbers : Option Current → ServeFault → List Act → Type 0
+HasNumbers current (Damaged at) front = IsNumbered current front
+HasNumbers current (WrongSize size) front = IsNumbered current front
+HasNumbers current DiskFault front = next_generation current + commits_in front < 2 ^ 64
+HasNumbers current LinkFault front = IsNumbered current front
+HasNumbers current ConsoleFault front = IsNumbered current front
+HasNumbers current Worn front = next_generation current + commits_in front ≡ 2 ^ 64
+HasNumbers current Spent front = IsNumbered current front
+HasNumbers current NoMemory front = IsNumbered current front
+
+-- A file recovers to the checkpoint behind these acts. Only where the disk failed at the next one may it have that.
+abbrev pub IsLeft : ServeFault → Book → List Act → List Act → List ℕ → Type 0
+IsLeft fault opening front rest file = Recovers file (Ok (book_after opening front)) ⊎ ((fault ≡ DiskFault) × Recovers file (Ok (book_after opening (front ++ take 1 rest))))
+
+-- for each checkpoint among these acts a gate of the store was opened
+abbrev pub HasOpened : ServeFault → List Act → List Effect → Type 0
+HasOpened fault front effects = (fault ≡ DiskFault) ⊎ (opened_in effects ≡ commits_in front)
+
+-- Acts that a fault cut short: those in front were done, the others were not, and every file that a crash may leave has the checkpoint
+-- that stands between them.
+pub record Stops (current : Option Current) (opening : Book) (acts : List Act) (fault : ServeFault) (At : List Act → Type 0) (effects : List Effect) : Type 0 where
+  pub front : List Act
+  pub rest : List Act
+  pub parts : front ++ rest ≡ acts
+  pub same : deeds effects ≡ deeds_in front
+  pub at : At rest
+  pub opens : HasOpened fault front effects
+  pub numbers : HasNumbers current fault front
+  pub leaves : (first : List ℕ) (before : List Effect) → SteadyStands current opening first before → (file : List ℕ) → Image first (before ++ effects) file → IsLeft fault opening front rest file

@@ -1,0 +1,91 @@
+-- A session keeps the laws, by what the top call promises of its headline.
+use Rattle.std.proofs.Common.{◌≡◌, inl, inr, ℕ, List, [], ◌∷◌, ◌++◌, Option, Some, Result, Ok, Err, refl, sym, ◌∙◌, ap, subst}
+use Rattle.std.proofs.lemmas.List.{append-nil}
+use Rattle.sm_world.specs.Outside.{Outside, adds}
+use Rattle.sm_world.specs.declared.effects.Effect.{Effect}
+use Rattle.checkpoint_records.specs.declared.records.Book.{Book}
+use Rattle.checkpoint_slots.specs.Causes.{IsSettled}
+use Rattle.checkpoint_slots.specs.Recovery.{Recovers}
+use Rattle.ice_cookie.specs.declared.cookies.Cookie.{Cookie}
+use Rattle.program_frame.specs.Printing.{Tries}
+use Rattle.session_engine.specs.Carries.{IsPrefix, KeepsItsWord}
+use Rattle.session_engine.specs.declared.fault.ServeFault.{ServeFault}
+use Rattle.session_engine.specs.declared.fault.ServeFault.TheVariants.{NoMemory}
+use Rattle.session_engine.proofs.Loop.{keeps_word}
+use Rattle.session_lines.proofs.Crashes.{every-file}
+use Rattle.session_lines.proofs.Fronts.{laws-hold}
+use Rattle.session_lines.proofs.Passing.{done-is}
+use Rattle.smd_app.specs.Sessions.{HasServed, RunsSession, WasCutShort, announcing, handing_out}
+use Rattle.smd_app.specs.Statuses.{Ending, Runs, RunsTask}
+use Rattle.smd_app.specs.Words.{Means, Places, Serve, Task}
+use Rattle.smd_app.specs.declared.identity.Identity.{Identity}
+use Rattle.smd_app.proofs.Completing.{mean_one}
+use Rattle.session_promises.specs.Promises.{EverySessionKeepsTheLaws, HasSession, KeepsAllLaws}
+
+word-laws : (cookie : Cookie) (book : Book) (file : List ℕ) (answer : Result (Unit {0}) ServeFault) (own : List Effect) → KeepsItsWord cookie book file answer own → KeepsAllLaws cookie book file own
+word-laws cookie book file answer own word = record {
+  lawful = λ n.
+      let done = done-is cookie book own word.carries.on_script n in
+      record { done = done; laws = laws-hold cookie book done.front (record { events = _; later = done.later; parts = done.parts }) };
+  safe = λ n left saved image recovers. every-file cookie book saved file left answer own word n image recovers;
+}
+
+abbrev tail-of : List Effect → List Effect
+tail-of [] = []
+tail-of (x ∷ xs) = xs
+
+none-added : (told es : List Effect) → told ++ es ≡ told → es ≡ []
+none-added [] es e = e
+none-added (t ∷ told) es e = none-added told es (ap tail-of e)
+
+same-told : (xs ys : List Effect) → Some xs ≡ Some ys → xs ≡ ys
+same-told xs ys e = cc
+
+-- where nothing was done
+no-laws : (cookie : Cookie) (book : Book) (file : List ℕ) (old : Outside) → IsSettled old file → Recovers file (Ok book) → KeepsAllLaws cookie book file []
+no-laws cookie book file old settled recovers =
+    let word = keeps_word cookie 0 old old (Err NoMemory) (inl (record { told = refl; kept = λ first told. refl; cause = tt })) file book settled recovers in
+    let none : word.effects ≡ [] = none-added settled.effects word.effects (same-told (settled.effects ++ word.effects) settled.effects (sym (ap (λ (told : Option (List Effect)). adds told word.effects) settled.told) ∙ (sym word.added ∙ settled.told))) in
+    word-laws cookie book file (Err NoMemory) [] (subst (KeepsItsWord cookie book file (Err NoMemory)) none word.holds)
+
+module _ (identity : Identity) (places : Places) (turns : ℕ) (old new : Outside) (file : List ℕ) (book : Book) (settled : IsSettled old file) (recovers : Recovers file (Ok book)) where
+  -- nothing of the session was done
+  unserved : (effects before last : List Effect) (text : Option (List ℕ)) → effects ≡ before ++ last → IsPrefix before (handing_out identity places ++ announcing identity places) → Tries text last → HasSession identity places book file effects
+  unserved effects before last text parts begins tried = record {
+    before = before;
+    own = [];
+    last = last;
+    parts = parts;
+    begins = begins;
+    ends = (text, tried);
+    laws = no-laws identity.cookie book file old settled recovers;
+  }
+
+  cut : (ending : Ending) (effects first last : List Effect) (text : Option (List ℕ)) → effects ≡ first ++ last → Tries text last → WasCutShort identity places old new ending first → HasSession identity places book file effects
+  cut (Ok x) effects first last text parts tried short = absurd short
+  cut (Err fault) effects first last text parts tried (inl none) = unserved effects [] last text (parts ∙ ap (λ es. es ++ last) none.1) (handing_out identity places ++ announcing identity places, refl) tried
+  cut (Err fault) effects first last text parts tried (inr handed) = unserved effects (handing_out identity places) last text (parts ∙ ap (λ es. es ++ last) handed.1) (announcing identity places, refl) tried
+
+  served : (ending : Ending) (effects first last : List Effect) (text : Option (List ℕ)) → effects ≡ first ++ last → Tries text last → HasServed identity places turns old new ending first → HasSession identity places book file effects
+  served ending effects first last text parts tried session = record {
+    before = handing_out identity places ++ announcing identity places;
+    own = session.own;
+    last = last;
+    parts = parts ∙ ap (λ es. es ++ last) session.parts;
+    begins = ([], append-nil (handing_out identity places ++ announcing identity places));
+    ends = (text, tried);
+    laws = word-laws identity.cookie book file session.answer session.own (session.session.headline file book settled recovers);
+  }
+
+  ran : (ending : Ending) (effects first last : List Effect) (text : Option (List ℕ)) → effects ≡ first ++ last → Tries text last → RunsSession identity places turns old new ending first → HasSession identity places book file effects
+  ran ending effects first last text parts tried (inl short) = cut ending effects first last text parts tried short
+  ran ending effects first last text parts tried (inr session) = served ending effects first last text parts tried session
+
+  all : (words : List (List ℕ)) (ending : Ending) (effects first last : List Effect) (text : Option (List ℕ)) → Means words (Serve places) → effects ≡ first ++ last → Tries text last → Runs words identity turns old new ending first → HasSession identity places book file effects
+  all words ending effects first last text means parts tried (inl does) =
+      ran ending effects first last text parts tried (subst (λ (task : Task). RunsTask task identity turns old new ending first) (mean_one words does.task (Serve places) does.means means) does.ran)
+  all words ending effects first last text means parts tried (inr nothing) = unserved effects [] last text (parts ∙ ap (λ es. es ++ last) nothing.none) (handing_out identity places ++ announcing identity places, refl) tried
+
+pub keeps-all : EverySessionKeepsTheLaws
+keeps-all words places identity old new turns status effects means answers file book settled recovers =
+    all identity places turns old new file book settled recovers words answers.ending effects answers.first answers.last _ means answers.parts answers.tried answers.ran

@@ -1,0 +1,40 @@
+-- The laws of what is seen of a session, said of the top call.
+use Rattle.std.specs.Prelude.{◌≡◌, ℕ, List, ◌++◌, take, Option, Ok}
+use Rattle.sm_world.specs.Crash.{Image}
+use Rattle.sm_world.specs.Outside.{Outside}
+use Rattle.sm_world.specs.declared.effects.Effect.{Effect}
+use Rattle.checkpoint_records.specs.declared.records.Book.{Book}
+use Rattle.checkpoint_slots.specs.Causes.{IsSettled}
+use Rattle.checkpoint_slots.specs.Recovery.{Recovers}
+use Rattle.ice_cookie.specs.declared.cookies.Cookie.{Cookie}
+use Rattle.program_frame.specs.Printing.{Tries}
+use Rattle.session_engine.specs.Carries.{IsPrefix}
+use Rattle.session_lines.specs.Files.{IsSafe}
+use Rattle.session_lines.specs.Runs.{IsAlwaysLawful}
+use Rattle.smd_app.specs.Sessions.{announcing, handing_out}
+use Rattle.smd_app.specs.Statuses.{Answers}
+use Rattle.smd_app.specs.Words.{Means, Places, Serve}
+use Rattle.smd_app.specs.declared.identity.Identity.{Identity}
+
+-- At each point of these effects of a session that opens this book, what was done keeps the laws; and each file that a crash could
+-- leave then, of a store that began with this one, is safe.
+pub record KeepsAllLaws (cookie : Cookie) (book : Book) (file : List ℕ) (own : List Effect) : Type 0 where
+  pub lawful : IsAlwaysLawful cookie book own
+  pub safe : (n : ℕ) (left : List ℕ) (saved : Book) → Image file (take n own) left → Recovers left (Ok saved) → IsSafe cookie book (take n own) saved
+
+-- The effects of a call are those before a session, as far as they go, the session's own, which keep all laws, and a line that was
+-- tried once.
+pub record HasSession (identity : Identity) (places : Places) (book : Book) (file : List ℕ) (effects : List Effect) : Type 0 where
+  pub before : List Effect
+  pub own : List Effect
+  pub last : List Effect
+  pub parts : effects ≡ before ++ (own ++ last)
+  pub begins : IsPrefix before (handing_out identity places ++ announcing identity places)
+  pub ends : (text : Option (List ℕ)) × Tries text last
+  pub laws : KeepsAllLaws identity.cookie book file own
+
+-- So it is of every call with the words of a session, over a store of which no byte is in doubt and that stands for a book.
+abbrev pub EverySessionKeepsTheLaws : Type 0
+EverySessionKeepsTheLaws =
+    (words : List (List ℕ)) (places : Places) (identity : Identity) (old new : Outside) (turns status : ℕ) (effects : List Effect) → Means words (Serve places) → Answers words identity old new turns status effects
+    → (file : List ℕ) (book : Book) → IsSettled old file → Recovers file (Ok book) → HasSession identity places book file effects
