@@ -44,8 +44,10 @@ fn refused(rt: HostRuntime, bad: BadPlaces) -> u8 {
 
 /// The status of a run with these words on this desktop.
 fn run(rt: HostRuntime, words: &[String]) -> io::Result<u8> {
-    if let Some(bad) = read_paths(words).and_then(|paths| bad_places(rt, paths)) {
-        return Ok(refused(rt, bad));
+    if let Some(paths) = read_paths(words) {
+        if let Some(bad) = bad_places(rt, paths) {
+            return Ok(refused(rt, bad));
+        }
     }
     let host = host_name(&rt)?;
     let identity = Identity {
