@@ -6,8 +6,6 @@ mod fault;
 mod laws;
 mod layout;
 mod recovery;
-#[cfg(test)]
-mod tests;
 mod turn;
 
 pub use fault::StoreFault;

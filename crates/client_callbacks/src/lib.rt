@@ -13,8 +13,6 @@ mod saying;
 mod speaking;
 mod taking;
 mod talk;
-#[cfg(test)]
-mod tests;
 
 pub use callbacks::{Cancels, Dies, Saves};
 pub use ends::{ClientEnd, JoinFault};

@@ -7,8 +7,6 @@ mod laws;
 mod phase;
 mod requests;
 mod saves;
-#[cfg(test)]
-mod tests;
 
 pub use acts::ClientAct;
 pub use client::Client;

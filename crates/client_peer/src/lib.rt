@@ -5,8 +5,6 @@
 mod memory;
 mod peer;
 mod pieces;
-#[cfg(test)]
-mod tests;
 
 pub use memory::MemPeer;
 pub use peer::{FILE_LIMIT, Peer};

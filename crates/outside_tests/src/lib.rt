@@ -4,6 +4,8 @@
 #[cfg(test)]
 mod disks;
 #[cfg(test)]
+mod frame;
+#[cfg(test)]
 mod lines;
 #[cfg(test)]
 mod table;

@@ -6,8 +6,6 @@ mod console;
 mod faults;
 mod input;
 mod own;
-#[cfg(test)]
-mod tests;
 mod words;
 
 pub use console::StandardConsole;

@@ -20,8 +20,3 @@ pub use fault::ServeFault;
 pub use laws::{at_most_64_live, checkpoints_are_in_their_place};
 pub use messages::Message;
 pub use session::{Session, Stepped, serve};
-
-#[cfg(test)]
-mod store_tests;
-#[cfg(test)]
-mod tests;

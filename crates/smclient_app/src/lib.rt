@@ -8,8 +8,6 @@ mod laws;
 mod lines;
 mod program;
 mod rules;
-#[cfg(test)]
-mod tests;
 
 pub use entries::{EntryRefusal, read_cookie};
 pub use laws::calls_are_complete;

@@ -10,8 +10,6 @@ mod lines;
 mod parts;
 mod program;
 mod showing;
-#[cfg(test)]
-mod tests;
 mod watch;
 
 pub use laws::{a_cut_header_is_refused, a_trace_has_one_answer};

@@ -1,6 +1,6 @@
 use Rattle.sm_world.specs.Effects.{heard}
 use Rattle.session_engine.specs.Machine.{after_all, start}
-use Rattle.session_engine.proofs.store_tests.stepped.Goals as goal
+use Rattle.engine_tests.proofs.stores.stepped.Goals as goal
 
 pub step-requires-clause-shown : goal.step-requires-clause-shown
 step-requires-clause-shown c =

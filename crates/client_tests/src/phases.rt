@@ -1,7 +1,7 @@
 //! Whole sessions of a client by messages made by hand, and what it sends by the bytes that the
 //! standard gives (XSMP, chapter 10: Messages), under major opcode 1.
 
-use crate::{
+use client_machine::{
     AskRefusal, Client, ClientAct, ClientPhase, Request, Stage, Step, lawful_steps_have_their_place,
 };
 use ice_values::{Array8List, Endian, ErrorBody, ErrorClass, Property, PropertyList, Severity};

@@ -5,8 +5,8 @@ ghost use Rattle.std.specs.Prelude.{◌≡◌, length, IfOk};
 ghost use Rattle.sm_world.specs.Worlds.{mem_outside};
 ghost use Rattle.checkpoint_records.specs.Rules.{KeepsRules};
 
-use crate::{Steady, StoreFault};
 use checkpoint_records::{Book, BookRefusal, read_book};
+use checkpoint_slots::{Steady, StoreFault};
 use sm_world::{Choice, Disk, Effect, EventList, MemWorld, NoMemory, NumberList, Octets};
 use std::alloc::{Alloc, Global};
 use std::process::Abort;

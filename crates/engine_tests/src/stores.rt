@@ -4,9 +4,9 @@ ghost use Rattle.std.specs.Prelude.{IfOk};
 ghost use Rattle.std.specs.List.{AllByRecursion};
 ghost use Rattle.sm_world.specs.Events.{HasPieceSize};
 
-use crate::tests::{COOKIE, blank_store};
-use crate::{ServeFault, Session, Stepped, serve};
+use crate::sessions::{COOKIE, blank_store};
 use checkpoint_slots::{Steady, StoreFault};
+use session_engine::{ServeFault, Session, Stepped, serve};
 use sm_world::{
     Choice, Command, Conn, Effect, Event, EventList, MemWorld, NoMemory, NumberList, Octets, Order,
     PIECE_LIMIT,

@@ -5,7 +5,9 @@ ghost use Rattle.std.specs.Prelude.{◌≡◌, []};
 ghost use Rattle.client_machine.specs.Saves.{IsLawful};
 ghost use Rattle.client_callbacks.specs.Answers.{AreFew};
 
-use crate::{Cancels, ClientEnd, Dies, Join, JoinFault, Joiner, Saves, pieces_make_no_difference};
+use client_callbacks::{
+    Cancels, ClientEnd, Dies, Join, JoinFault, Joiner, Saves, pieces_make_no_difference,
+};
 use client_machine::{ClientPhase, SaveAnswer, SaveAsk, Stage, Step};
 use client_peer::MemPeer;
 use ice_cookie::Cookie;

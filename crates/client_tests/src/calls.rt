@@ -1,9 +1,9 @@
 //! Whole calls over a peer in memory, by bytes that the standards give (ICE, chapter 5; XSMP, chapter
 //! 10).
 
-use crate::{read_cookie, smclient_main};
 use client_peer::MemPeer;
 use sm_world::{Effect, NoMemory, NumberList, Octets, OctetsList, PairList};
+use smclient_app::{read_cookie, smclient_main};
 use std::alloc::{Alloc, Global};
 use std::process::Abort;
 use std::test::Fail;

@@ -1,8 +1,10 @@
-use crate::{ShowAnswer, a_cut_header_is_refused, a_trace_has_one_answer, show, smtrace_main};
 use sm_world::{Effect, EventList, NoMemory, Octets, SteadyWorld};
 use std::alloc::Global;
 use std::process::Abort;
 use std::test::Fail;
+use trace_replay::{
+    ShowAnswer, a_cut_header_is_refused, a_trace_has_one_answer, show, smtrace_main,
+};
 
 /// The lines of a table, which are parted by ` / `, each with its newline.
 fn lines(alloc: Global, row: &str) -> Result<String, Fail> {

@@ -2,7 +2,7 @@ ghost use Rattle.std.specs.Prelude.{◌++◌, codes, Some};
 ghost use Rattle.std.specs.Fmt.{decimal};
 ghost use Rattle.program_frame.specs.Printing.{line};
 
-use crate::{
+use program_frame::{
     OwnTexts, ProgramFault, StandardConsole, are_one_word, conclude, read_input, read_words,
     try_line, try_numbered,
 };

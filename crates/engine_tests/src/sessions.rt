@@ -2,8 +2,8 @@ ghost use Rattle.std.specs.Prelude.{◌≡◌, IfOk, ◌≤◌, length};
 ghost use Rattle.std.specs.List.{AllByRecursion};
 ghost use Rattle.sm_world.specs.Events.{HasPieceSize};
 
-use crate::{ServeFault, at_most_64_live, serve};
 use ice_cookie::Cookie;
+use session_engine::{ServeFault, at_most_64_live, serve};
 use sm_world::{
     Effect, Event, EventList, MemWorld, NoMemory, NumberList, Octets, Order, SteadyWorld,
 };

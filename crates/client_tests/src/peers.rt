@@ -1,6 +1,6 @@
 //! What a peer in memory gives and records, by calls written down by hand.
 
-use crate::{FILE_LIMIT, MemPeer, Peer};
+use client_peer::{FILE_LIMIT, MemPeer, Peer};
 use sm_world::{Console, Failure, NoMemory, NumberList, Octets, OctetsList, PairList};
 use std::alloc::{Alloc, Global};
 use std::process::Abort;

@@ -1,0 +1,11 @@
+//! Tests of the client's end.
+#![tactic(auto)]
+
+#[cfg(test)]
+mod calls;
+#[cfg(test)]
+mod joining;
+#[cfg(test)]
+mod peers;
+#[cfg(test)]
+mod phases;
