@@ -6,7 +6,8 @@ ghost use Rattle.client_machine.specs.Saves.{IsLawful};
 ghost use Rattle.client_callbacks.specs.Answers.{AreFew};
 
 use client_callbacks::{
-    Cancels, ClientEnd, Dies, Join, JoinFault, Joiner, Saves, pieces_make_no_difference,
+    Cancels, ClientEnd, Dies, Join, JoinFault, Joiner, Saves, ends_exclude_each_other,
+    pieces_make_no_difference,
 };
 use client_machine::{ClientPhase, SaveAnswer, SaveAsk, Stage, Step};
 use client_peer::MemPeer;
@@ -175,6 +176,7 @@ fn run<S: Saves + Drop, D: Dies + Drop, C: Cancels + Drop>(
     let mut join = first(alloc);
     let (save, die, cancelled) = callbacks;
     pieces_make_no_difference();
+    ends_exclude_each_other::<S, D, C>();
     let mut joiner = Joiner::new(save, die, cancelled);
     let answer = joiner.run(alloc, &mut peer, &mut join, 1000);
     let callbacks = joiner.parts();
