@@ -1,4 +1,4 @@
-ghost use Rattle.std.specs.Prelude.{◌≡◌, ◌≤◌, true, false, None, IsErr, OnErr};
+ghost use Rattle.std.specs.Prelude.{◌≡◌, ◌≤◌, true, None, IsErr, OnErr};
 ghost use Rattle.sm_world.specs.Outside.{Rose};
 ghost use Rattle.store_file.specs.Untold.{disk_outside};
 ghost use Rattle.store_file.specs.Losses.{SameStore};
@@ -79,7 +79,7 @@ impl Told for FileDisk {
 }
 
 impl Disk for FileDisk {
-    ghost use Rattle.std.specs.Prelude.{None, ◌+◌, ◌∷◌, [], length, is_err, IfOk, OnOk};
+    ghost use Rattle.std.specs.Prelude.{None, ◌∷◌, [], length, is_err, OnOk};
     ghost use Rattle.std.proofs.Common.{refl};
     ghost use Rattle.sm_world.specs.Disk.{untold_size, has_failed, IsFailedWrite, IsFailedSync, MayRead, KeepsToldSize, UsesDisk};
     ghost use Rattle.sm_world.specs.Outside.{Added, adds};
