@@ -167,7 +167,7 @@ loop_goes_on cookie n more old now between later session next event is_more held
       recovered = held.recovered;
       size = sized;
       below = held.below;
-  rules = held.rules;
+      rules = held.rules;
       adds = record {
         effects = es ++ Heard event ∷ step.effects;
         added = heard_step old.told now.told between.told later.told es step.effects event held.adds.added was_heard step.added;
@@ -191,7 +191,7 @@ loop_ends cookie turns n old now between later session event stepped marks is in
       recovered = held.recovered;
       size = sized;
       below = held.below;
-  rules = held.rules;
+      rules = held.rules;
       adds = record {
         effects = es ++ Heard event ∷ step.effects;
         added = heard_step old.told now.told between.told later.told es step.effects event held.adds.added was_heard step.added;
@@ -215,7 +215,7 @@ loop_cut_short cookie turns n old now between later session event fault in_turns
       recovered = held.recovered;
       size = sized;
       below = held.below;
-  rules = held.rules;
+      rules = held.rules;
       adds = record {
         effects = es ++ Heard event ∷ step.effects;
         added = heard_step old.told now.told between.told later.told es step.effects event held.adds.added was_heard step.added;

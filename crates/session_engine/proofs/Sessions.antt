@@ -215,8 +215,8 @@ module _ (cookie : Cookie) (opening : Book) where
       let done : deeds (es ++ Heard event ∷ []) ≡ deeds_in acts = flat_map-append deed_of es (Heard event ∷ []) ∙ (append-nil (deeds es) ∙ held.all_done) in
       let opened : opened_in (es ++ Heard event ∷ []) ≡ commits_in acts = omega (arith, opened_in-append es (Heard event ∷ []), held.opens) in
       let stops = stops_behind current session.store opening acts (acts_at es event) (fault_of halt) (IsRefused halt) (es ++ Heard event ∷ []) ds done held.counts opened held.numbered
-          (λ first before stands. rw (sym (append_assoc before es (Heard event ∷ []))) (stands_heard current session es event held first before stands))
-          (performs.stopped (book_after opening acts)) in
+      (λ first before stands. rw (sym (append_assoc before es (Heard event ∷ []))) (stands_heard current session es event held first before stands))
+      (performs.stopped (book_after opening acts)) in
       rw (of.script-more cookie opening es ds event performs.out.going.deaf held.unfinished)
       (subst (λ (zs : List Effect). Stops current opening (acts ++ acts_at es event) (fault_of halt) (StopsAt (fault_of halt)) zs) (append_assoc es (Heard event ∷ []) ds) (run_stops current opening (acts ++ acts_at es event) halt ((es ++ Heard event ∷ []) ++ ds) stops))
 
