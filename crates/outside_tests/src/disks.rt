@@ -2,11 +2,12 @@ ghost use Rattle.std.specs.Prelude.{◌≡◌, ◌≤◌, length, None, IfOk, On
 ghost use Rattle.sm_world.specs.Worlds.{mem_outside, steady_outside};
 ghost use Rattle.sm_world.specs.Outside.{Rose};
 
+use crate::table::{expect_rows, text_of};
 use sm_world::{
     Choice, Disk, EventList, Failed, Failure, MemWorld, NoMemory, NumberList, Octets, SteadyWorld,
     Told,
 };
-use std::alloc::Global;
+use std::alloc::{Alloc, Global};
 use std::process::Abort;
 use std::test::Fail;
 
@@ -119,33 +120,47 @@ fn failing_disk(alloc: Global, file: &[u8], number: u64) -> Result<MemWorld, NoM
     )
 }
 
-#[test]
-fn a_silent_disk_keeps(rt: HostRuntime) -> Result<(), Fail> {
+/// Whether a disk keeps what is written, and whether it does where it refuses each call.
+fn silent_disk_shown(alloc: Global, _input: &str) -> Result<String, Fail> {
     let mut disk = SilentDisk {
-        file: Octets::from_slice(rt.alloc(), &[0, 0, 0])?,
+        file: Octets::from_slice(alloc, &[0, 0, 0])?,
         refuses: false,
         faults: 0,
     };
-    assert!(rt; keeps(&mut disk)?);
+    let kept = keeps(&mut disk)?;
     disk.refuses = true;
-    assert_eq!(rt; keeps(&mut disk), Err(Failure::Failed));
-    Ok(())
+    let refused = keeps(&mut disk);
+    Ok(format!(in alloc; "{kept} {refused:?}")?)
+}
+
+#[test]
+fn a_silent_disk_keeps(rt: HostRuntime) -> Result<(), Fail> {
+    expect_rows(&rt, " => true Err(Failed)", silent_disk_shown)
+}
+
+/// Whether a world in memory keeps what is written, its file, and what it tells.
+fn world_shown(alloc: Global, _input: &str) -> Result<String, Fail> {
+    let mut world = steady_disk(alloc, &[0, 0, 0])?;
+    let kept = keeps(&mut world)?;
+    steady_shown(alloc, kept, &world)
+}
+
+fn steady_shown(alloc: Global, kept: bool, world: &SteadyWorld) -> Result<String, Fail> {
+    let file = text_of(alloc, &world.file())?;
+    let effects = text_of(alloc, &world.effects())?;
+    Ok(format!(in alloc; "{kept} {file} {} {effects}", world.unrecorded())?)
 }
 
 #[test]
 fn worlds_in_memory_keep(rt: HostRuntime) -> Result<(), Fail> {
-    let mut world = steady_disk(rt.alloc(), &[0, 0, 0])?;
-    assert!(rt; keeps(&mut world)?);
-    assert_eq!(rt; world.file(), [7, 8, 0].as_slice());
-    assert_eq!(rt; world.unrecorded(), 0);
-    let want = "[Wrote(0, Octets { bytes: [7, 8] }), Synced, \
+    let row = " => true [7, 8, 0] 0 [Wrote(0, Octets { bytes: [7, 8] }), Synced, \
         Published(Octets { bytes: [99, 111, 111, 107, 105, 101] }, Octets { bytes: [1] })]";
-    crate::worlds::expect_shown(&rt, &world.effects(), want)
+    expect_rows(&rt, row, world_shown)
 }
 
 /// Writes one byte and three bytes, each on its way to the disk by a sync, as a store does that opens
 /// its gate behind what it wrote.
-fn commit<D: Disk>(disk: &mut D) -> Result<(), Failure>
+fn commit<D: Disk>(disk: &mut D) -> Result<(), Failed>
     requires { 6 ≤ (D.outside disk.old).size }
 {
     disk.write_at(0, &[0])?;
@@ -153,135 +168,151 @@ fn commit<D: Disk>(disk: &mut D) -> Result<(), Failure>
     disk.write_at(2, &[7, 8, 9])?;
     disk.sync()?;
     disk.write_at(0, &[0xa5])?;
-    disk.sync()?;
-    Ok(())
+    disk.sync()
 }
 
-/// Ends the test where a crash after the first effects leaves another file by this choice.
-fn expect_left(
-    rt: &impl Abort,
-    world: &SteadyWorld,
-    first: usize,
-    choice: Choice,
-    want: &[u8],
-) -> Result<(), Fail> {
+/// The file that a crash leaves after the first effects.
+fn left(world: &SteadyWorld, first: usize, choice: Choice) -> Result<Octets, Fail> {
     if first > world.effects().len() {
-        return Ok(());
+        return Err("fewer effects".into());
     }
-    let file = world.crash_file(first, choice)?;
-    assert_eq!(rt; file.as_slice(), want, "{choice:?} after {first}");
-    Ok(())
+    Ok(world.crash_file(first, choice)?)
 }
 
-const CHOICES: [Choice; 5] = [
-    Choice::AsWritten,
-    Choice::AsSynced,
-    Choice::Filled(0),
-    Choice::Filled(0xa5),
-    Choice::Filled(0xff),
-];
-
-const BEGUN: [u8; 6] = [0, 0, 0, 0, 0, 0];
-
-const BEHIND: [u8; 6] = [0, 0, 7, 8, 9, 0];
-
-const DONE: [u8; 6] = [0xa5, 0, 7, 8, 9, 0];
-
-/// By each choice, what a crash leaves where no sync has brought the bytes to the disk: after the
-/// write of three, and after that of the last.
-const UNSYNCED: [[[u8; 6]; 5]; 2] = [
-    [
-        BEHIND,
-        BEGUN,
-        BEGUN,
-        [0, 0, 0xa5, 0xa5, 0xa5, 0],
-        [0, 0, 0xff, 0xff, 0xff, 0],
-    ],
-    [DONE, BEHIND, BEHIND, DONE, BEHIND],
-];
-
-/// Ends the test where a crash after the first effects leaves others than these, one for each choice.
-fn expect_each(
-    rt: &impl Abort,
-    world: &SteadyWorld,
-    first: usize,
-    wants: &[[u8; 6]],
-) -> Result<(), Fail> {
-    for (choice, want) in CHOICES.iter().zip(wants.iter()) {
-        expect_left(rt, world, first, *choice, want)?;
-    }
-    Ok(())
+/// A choice by its name, or else by the byte that may fill.
+fn choice_of(name: &str) -> Result<Choice, Fail> {
+    Ok(match name {
+        "written" => Choice::AsWritten,
+        "synced" => Choice::AsSynced,
+        _ => Choice::Filled(name.parse::<u8>()?),
+    })
 }
+
+/// What a crash leaves after so many effects of a commit, by a choice.
+fn commit_left(alloc: Global, input: &str) -> Result<String, Fail> {
+    let (first, name) = input.split_once(' ').ok_or("no choice")?;
+    let mut world = steady_disk(alloc, &[0; 6])?;
+    commit(&mut world)?;
+    let file = left(&world, first.parse::<usize>()?, choice_of(name)?)?;
+    text_of(alloc, &file.as_slice())
+}
+
+/// No sync has brought the bytes to the disk after the third effect, the write of three, and after
+/// the fifth, that of the last.
+const LEFT: &str = "\
+0 written => [0, 0, 0, 0, 0, 0]
+0 synced => [0, 0, 0, 0, 0, 0]
+0 0 => [0, 0, 0, 0, 0, 0]
+0 165 => [0, 0, 0, 0, 0, 0]
+0 255 => [0, 0, 0, 0, 0, 0]
+1 written => [0, 0, 0, 0, 0, 0]
+1 synced => [0, 0, 0, 0, 0, 0]
+1 0 => [0, 0, 0, 0, 0, 0]
+1 165 => [0, 0, 0, 0, 0, 0]
+1 255 => [0, 0, 0, 0, 0, 0]
+2 written => [0, 0, 0, 0, 0, 0]
+2 synced => [0, 0, 0, 0, 0, 0]
+2 0 => [0, 0, 0, 0, 0, 0]
+2 165 => [0, 0, 0, 0, 0, 0]
+2 255 => [0, 0, 0, 0, 0, 0]
+3 written => [0, 0, 7, 8, 9, 0]
+3 synced => [0, 0, 0, 0, 0, 0]
+3 0 => [0, 0, 0, 0, 0, 0]
+3 165 => [0, 0, 165, 165, 165, 0]
+3 255 => [0, 0, 255, 255, 255, 0]
+4 written => [0, 0, 7, 8, 9, 0]
+4 synced => [0, 0, 7, 8, 9, 0]
+4 0 => [0, 0, 7, 8, 9, 0]
+4 165 => [0, 0, 7, 8, 9, 0]
+4 255 => [0, 0, 7, 8, 9, 0]
+5 written => [165, 0, 7, 8, 9, 0]
+5 synced => [0, 0, 7, 8, 9, 0]
+5 0 => [0, 0, 7, 8, 9, 0]
+5 165 => [165, 0, 7, 8, 9, 0]
+5 255 => [0, 0, 7, 8, 9, 0]
+6 written => [165, 0, 7, 8, 9, 0]
+6 synced => [165, 0, 7, 8, 9, 0]
+6 0 => [165, 0, 7, 8, 9, 0]
+6 165 => [165, 0, 7, 8, 9, 0]
+6 255 => [165, 0, 7, 8, 9, 0]";
 
 #[test]
 fn a_crash_leaves_what_it_may(rt: HostRuntime) -> Result<(), Fail> {
-    let mut world = steady_disk(rt.alloc(), &BEGUN)?;
-    assert!(rt; commit(&mut world).is_ok());
-    for first in 0..3 {
-        expect_each(&rt, &world, first, &[BEGUN; 5])?;
-    }
-    expect_each(&rt, &world, 3, &UNSYNCED[0])?;
-    expect_each(&rt, &world, 4, &[BEHIND; 5])?;
-    expect_each(&rt, &world, 5, &UNSYNCED[1])?;
-    expect_each(&rt, &world, 6, &[DONE; 5])
+    expect_rows(&rt, LEFT, commit_left)
 }
 
-/// Ends the test unless a failed first write of these bytes shows these effects and leaves, where a
-/// crash may leave it, this file.
-fn expect_failed_write(
-    rt: &(impl Abort + Alloc<A = Global>),
-    bytes: &[u8],
-    want: &str,
-    left: &[u8],
-) -> Result<(), Fail> {
-    let mut world = failing_disk(rt.alloc(), &[0, 0, 0], 1)?;
-    if bytes.len() > 3 {
-        return Ok(());
-    }
-    assert_eq!(rt; world.write_at(0, bytes), Err(Failed));
-    assert_eq!(rt; world.file(), [0, 0, 0].as_slice());
-    assert_eq!(rt; world.unrecorded(), 0);
-    let file = world.crash_file(world.effects().len(), Choice::Filled(0xff))?;
-    assert_eq!(rt; file.as_slice(), left);
-    crate::worlds::expect_shown(rt, &world.effects(), want)
+/// What a world tells in which calls failed: its file, its effects, and what a crash may leave.
+fn failing_shown(alloc: Global, world: &MemWorld) -> Result<String, Fail> {
+    let file = text_of(alloc, &world.file())?;
+    let effects = text_of(alloc, &world.effects())?;
+    let left = world.crash_file(world.effects().len(), Choice::Filled(0xff))?;
+    let left = text_of(alloc, &left.as_slice())?;
+    Ok(format!(in alloc; "{file} {} {effects} {left}", world.unrecorded())?)
+}
+
+/// A first write of bytes from 7 on, as many as it is told, which fails.
+fn failed_write(alloc: Global, count: &str) -> Result<String, Fail> {
+    let mut world = failing_disk(alloc, &[0, 0, 0], 1)?;
+    let bytes: &[u8] = if count == "1" { &[7] } else { &[7, 8] };
+    let answer = text_of(alloc, &world.write_at(0, bytes))?;
+    Ok(format!(in alloc; "{answer} {}", failing_shown(alloc, &world)?)?)
 }
 
 #[test]
 fn a_failed_write_of_one_byte_tears_nothing(rt: HostRuntime) -> Result<(), Fail> {
-    expect_failed_write(&rt, &[7], "[]", &[0, 0, 0])?;
-    expect_failed_write(&rt, &[7, 8], "[Torn(0, 2)]", &[0xff, 0xff, 0])
+    let rows = "\
+1 => Err(Failed) [0, 0, 0] 0 [] [0, 0, 0]
+2 => Err(Failed) [0, 0, 0] 0 [Torn(0, 2)] [255, 255, 0]";
+    expect_rows(&rt, rows, failed_write)
+}
+
+/// A write, and two syncs of which the first fails.
+fn failed_sync(alloc: Global, _input: &str) -> Result<String, Fail> {
+    let mut world = failing_disk(alloc, &[0, 0, 0], 2)?;
+    let written = world.write_at(1, &[7, 8]);
+    let first = world.sync();
+    let second = world.sync();
+    let effects = text_of(alloc, &world.effects())?;
+    Ok(format!(in alloc; "{written:?} {first:?} {second:?} {effects}")?)
 }
 
 #[test]
 fn a_failed_sync_is_recorded(rt: HostRuntime) -> Result<(), Fail> {
-    let mut world = failing_disk(rt.alloc(), &[0, 0, 0], 2)?;
-    assert_eq!(rt; world.write_at(1, &[7, 8]), Ok(()));
-    assert_eq!(rt; world.sync(), Err(Failed));
-    assert_eq!(rt; world.sync(), Ok(()));
-    let want = "[Wrote(1, Octets { bytes: [7, 8] }), SyncFailed, Synced]";
-    crate::worlds::expect_shown(&rt, &world.effects(), want)
+    let row = " => Ok(()) Err(Failed) Ok(()) \
+        [Wrote(1, Octets { bytes: [7, 8] }), SyncFailed, Synced]";
+    expect_rows(&rt, row, failed_sync)
 }
 
-/// How many bytes a store of the session manager has.
-const STORE_LEN: usize = 16_777_280;
+/// A disk of so many bytes 0.
+fn large_disk(alloc: Global, count: usize) -> Result<SteadyWorld, NoMemory>
+    ensures { IfOk result (λ world. (steady_outside world).size ≡ count) }
+{
+    let file = Octets::from_vec(vec![in alloc; 0; count]?);
+    SteadyWorld::new(alloc, EventList::new(alloc), Octets::new(alloc), file)
+}
+
+/// How many bytes a crash at the gate of a commit leaves, and the first, on a disk of so many.
+fn large_left(alloc: Global, input: &str) -> Result<String, Fail> {
+    let (count, name) = input.split_once(' ').ok_or("no choice")?;
+    let count = count.parse::<usize>()?;
+    if count < 6 {
+        return Err("too small".into());
+    }
+    let mut world = large_disk(alloc, count)?;
+    commit(&mut world)?;
+    let file = left(&world, 5, choice_of(name)?)?;
+    Ok(format!(in alloc; "{} {:?}", file.len(), file.as_slice().first())?)
+}
+
+/// As many bytes as the store of the session manager has.
+const LARGE_LEFT: &str = "\
+16777280 written => 16777280 Some(165)
+16777280 synced => 16777280 Some(0)
+16777280 0 => 16777280 Some(0)
+16777280 165 => 16777280 Some(165)
+16777280 255 => 16777280 Some(0)";
 
 #[test]
 fn a_crash_of_a_whole_store(rt: HostRuntime) -> Result<(), Fail> {
-    let file = Octets::from_vec(vec![in rt.alloc(); 0; STORE_LEN]?);
-    let mut world = SteadyWorld::new(
-        rt.alloc(),
-        EventList::new(rt.alloc()),
-        Octets::new(rt.alloc()),
-        file,
-    )?;
-    assert!(rt; commit(&mut world).is_ok());
-    for (choice, gate) in CHOICES.iter().zip([0xa5, 0, 0, 0xa5, 0]) {
-        if world.effects().len() < 5 {
-            return Ok(());
-        }
-        let left = world.crash_file(5, *choice)?;
-        assert_eq!(rt; left.len(), STORE_LEN);
-        assert_eq!(rt; left.as_slice().first(), Some(&gate));
-    }
-    Ok(())
+    expect_rows(&rt, LARGE_LEFT, large_left)
 }

@@ -6,4 +6,6 @@ mod disks;
 #[cfg(test)]
 mod lines;
 #[cfg(test)]
+mod table;
+#[cfg(test)]
 mod worlds;

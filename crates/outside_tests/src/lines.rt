@@ -1,10 +1,10 @@
+use crate::table::{expect_rows, text_of};
 use control_lines::{
-    OrderRefusal, a_line_gives_one_event, a_line_says_its_event, a_line_says_one_order,
-    effect_line, has_line, lines_say_one_list, next_line, put_hex, read_bytes, read_conn, read_hex,
-    read_number, read_order, read_script_line, split_once, started_line,
+    effect_line, has_line, next_line, put_hex, read_bytes, read_conn, read_hex, read_number,
+    read_order, read_script_line, split_once, started_line,
 };
-use sm_world::{Command, Effect, Event, NoMemory, Octets, OctetsList, Order, PairList};
-use std::alloc::Global;
+use sm_world::{Command, Effect, Event, NoMemory, Octets, OctetsList, PairList};
+use std::alloc::{Alloc, Global};
 use std::process::Abort;
 use std::test::Fail;
 
@@ -12,117 +12,102 @@ fn octets(alloc: Global, text: &str) -> Result<Octets, NoMemory> {
     Octets::from_slice(alloc, text.as_bytes())
 }
 
-/// What an order's line is read as.
+fn shown(alloc: Global, text: &Octets) -> Result<String, Fail> {
+    Ok(str::from_utf8(text.as_slice())?.to_string(alloc)?)
+}
+
+const ORDERS: &str = "\
+checkpoint => Ok(Checkpoint)
+shutdown => Ok(Shutdown)
+cancel => Ok(Cancel)
+status => Ok(Status)
+drop 0 => Ok(DropConn(0))
+drop 4294967295 => Ok(DropConn(4294967295))
+forget x => Ok(Forget(Octets { bytes: [120] }))
+forget !#~ => Ok(Forget(Octets { bytes: [33, 35, 126] }))
+ => Err(BadLine)
+Status => Err(BadLine)
+status  => Err(BadLine)
+ status => Err(BadLine)
+drop => Err(BadLine)
+drop  => Err(BadLine)
+drop 4294967296 => Err(BadLine)
+drop 00 => Err(BadLine)
+drop +1 => Err(BadLine)
+drop  1 => Err(BadLine)
+forget  => Err(BadLine)
+forget a b => Err(BadLine)
+forget \u{7f} => Err(BadLine)";
+
 fn order_shown(alloc: Global, line: &str) -> Result<String, Fail> {
-    Ok(match read_order(alloc, line.as_bytes()) {
-        Ok(Order::Checkpoint) => "Checkpoint".to_string(alloc)?,
-        Ok(Order::Shutdown) => "Shutdown".to_string(alloc)?,
-        Ok(Order::Cancel) => "Cancel".to_string(alloc)?,
-        Ok(Order::Status) => "Status".to_string(alloc)?,
-        Ok(Order::DropConn(conn)) => format!(in alloc; "DropConn {conn}")?,
-        Ok(Order::Forget(id)) => {
-            let id = str::from_utf8(id.as_slice())?;
-            format!(in alloc; "Forget {id}")?
-        }
-        Err(OrderRefusal::BadLine) => "bad".to_string(alloc)?,
-        Err(OrderRefusal::NoMemory) => "no memory".to_string(alloc)?,
-    })
+    text_of(alloc, &read_order(alloc, line.as_bytes()))
 }
 
 #[test]
 fn orders_of_lines(rt: HostRuntime) -> Result<(), Fail> {
-    let alloc = rt.alloc();
-    let table: [(&str, &str); 21] = [
-        ("checkpoint", "Checkpoint"),
-        ("shutdown", "Shutdown"),
-        ("cancel", "Cancel"),
-        ("status", "Status"),
-        ("drop 0", "DropConn 0"),
-        ("drop 4294967295", "DropConn 4294967295"),
-        ("forget x", "Forget x"),
-        ("forget !#~", "Forget !#~"),
-        ("", "bad"),
-        ("Status", "bad"),
-        ("status ", "bad"),
-        (" status", "bad"),
-        ("drop", "bad"),
-        ("drop ", "bad"),
-        ("drop 4294967296", "bad"),
-        ("drop 00", "bad"),
-        ("drop +1", "bad"),
-        ("drop  1", "bad"),
-        ("forget ", "bad"),
-        ("forget a b", "bad"),
-        ("forget \u{7f}", "bad"),
-    ];
-    for (line, want) in table {
-        let shown = order_shown(alloc, line)?;
-        assert_eq!(rt; shown.as_str(), want, "for {line}");
+    expect_rows(&rt, ORDERS, order_shown)
+}
+
+const EVENTS: &str = "\
+join 1 => join 1
+gone 4294967295 => gone 4294967295
+piece 7 aBCd => piece 7 abcd
+order drop 5 => order drop 5
+order forget smd-1 => order forget smd-1
+order checkpoint => order checkpoint
+order shutdown => order shutdown
+order cancel => order cancel
+order status => order status
+tick 0 => tick 0
+tick 18446744073709551615 => tick 18446744073709551615
+ => skipped
+# => skipped
+# join 1 => skipped
+ # join 1 => BadLine
+end => BadLine
+join => BadLine
+join 01 => BadLine
+gone 4294967296 => BadLine
+tick 18446744073709551616 => BadLine
+piece 7  => BadLine
+piece 7 abc => BadLine
+piece 7  ab => BadLine
+order order status => BadLine";
+
+/// The line of an effect, if it has one.
+fn line_shown(alloc: Global, effect: &Effect) -> Result<String, Fail> {
+    if !has_line(effect) {
+        return Ok("no line".to_string(alloc)?);
     }
-    Ok(())
+    shown(alloc, &effect_line(alloc, effect)?)
 }
 
 /// What a script line gives, as a trace shows it.
-fn event_shown(alloc: Global, line: &[u8]) -> Result<String, Fail> {
-    Ok(match read_script_line(alloc, line) {
-        Ok(Some(event)) => {
-            let shown = effect_line(alloc, &Effect::Heard(event))?;
-            str::from_utf8(shown.as_slice())?.to_string(alloc)?
-        }
-        Ok(None) => "skipped".to_string(alloc)?,
-        Err(OrderRefusal::BadLine) => "bad".to_string(alloc)?,
-        Err(OrderRefusal::NoMemory) => "no memory".to_string(alloc)?,
-    })
+fn event_shown(alloc: Global, line: &str) -> Result<String, Fail> {
+    match read_script_line(alloc, line.as_bytes()) {
+        Ok(Some(event)) => line_shown(alloc, &Effect::Heard(event)),
+        Ok(None) => Ok("skipped".to_string(alloc)?),
+        Err(refusal) => text_of(alloc, &refusal),
+    }
 }
 
 #[test]
 fn events_of_lines(rt: HostRuntime) -> Result<(), Fail> {
-    let alloc = rt.alloc();
-    let table: [(&str, &str); 24] = [
-        ("join 1", "join 1"),
-        ("gone 4294967295", "gone 4294967295"),
-        ("piece 7 aBCd", "piece 7 abcd"),
-        ("order drop 5", "order drop 5"),
-        ("order forget smd-1", "order forget smd-1"),
-        ("order checkpoint", "order checkpoint"),
-        ("order shutdown", "order shutdown"),
-        ("order cancel", "order cancel"),
-        ("order status", "order status"),
-        ("tick 0", "tick 0"),
-        ("tick 18446744073709551615", "tick 18446744073709551615"),
-        ("", "skipped"),
-        ("#", "skipped"),
-        ("# join 1", "skipped"),
-        (" # join 1", "bad"),
-        ("end", "bad"),
-        ("join", "bad"),
-        ("join 01", "bad"),
-        ("gone 4294967296", "bad"),
-        ("tick 18446744073709551616", "bad"),
-        ("piece 7 ", "bad"),
-        ("piece 7 abc", "bad"),
-        ("piece 7  ab", "bad"),
-        ("order order status", "bad"),
-    ];
-    for (line, want) in table {
-        let shown = event_shown(alloc, line.as_bytes())?;
-        assert_eq!(rt; shown.as_str(), want, "for {line}");
-    }
-    Ok(())
+    expect_rows(&rt, EVENTS, event_shown)
 }
 
 #[test]
 fn the_longest_piece(rt: HostRuntime) -> Result<(), Fail> {
-    let alloc = rt.alloc();
-    let mut line = b"piece 1 ".to_vec(alloc)?;
+    let mut line = String::new(rt.alloc());
+    line.push_str("piece 1 ")?;
     for _ in 0..65_536 {
-        line.extend_from_slice(b"5a")?;
+        line.push_str("5a")?;
     }
-    let shown = event_shown(alloc, line.as_slice())?;
-    assert_eq!(rt; shown.as_bytes().len(), line.len());
-    line.extend_from_slice(b"5a")?;
-    let longer = event_shown(alloc, line.as_slice())?;
-    assert_eq!(rt; longer.as_str(), "bad");
+    let text = event_shown(rt.alloc(), line.as_str())?;
+    assert_eq!(rt; text.as_str(), line.as_str());
+    line.push_str("5a")?;
+    let text = event_shown(rt.alloc(), line.as_str())?;
+    assert_eq!(rt; text.as_str(), "BadLine");
     Ok(())
 }
 
@@ -140,83 +125,118 @@ fn command(alloc: Global, directory: &str) -> Result<Command, NoMemory> {
     })
 }
 
-fn expect_line(
-    rt: &(impl Abort + Alloc<A = Global>),
-    effect: Effect,
-    want: &str,
-) -> Result<(), Fail> {
-    assert!(rt; has_line(&effect));
-    if has_line(&effect) {
-        let line = effect_line(rt.alloc(), &effect)?;
-        assert_eq!(rt; str::from_utf8(line.as_slice())?, want);
-    }
-    Ok(())
+/// An effect by its name.
+fn effect(alloc: Global, name: &str) -> Result<Effect, NoMemory> {
+    Ok(match name {
+        "end" => Effect::Heard(Event::End),
+        "shut" => Effect::Shut(4),
+        "torn" => Effect::Torn(1, 2),
+        "synced" => Effect::Synced,
+        "unsynced" => Effect::SyncFailed,
+        "wrote" => Effect::Wrote(1, octets(alloc, "x")?),
+        "published" => Effect::Published(octets(alloc, "p")?, octets(alloc, "x")?),
+        "started" => Effect::Started(command(alloc, "/tmp")?, true),
+        "unstarted" => Effect::Started(command(alloc, "")?, false),
+        _ => Effect::Sent(3, octets(alloc, "JK")?),
+    })
+}
+
+const EFFECTS: &str = "\
+end => end
+shut => shut 4
+torn => no line
+synced => no line
+unsynced => no line
+wrote => no line
+published => no line
+started => started 726d - @ 2f746d70 + 41 -
+unstarted => unstarted 726d - + 41 -
+sent => sent 3 4a4b";
+
+fn effect_shown(alloc: Global, name: &str) -> Result<String, Fail> {
+    line_shown(alloc, &effect(alloc, name)?)
+}
+
+/// The line of a start by itself.
+fn start_shown(alloc: Global, directory: &str) -> Result<String, Fail> {
+    shown(alloc, &started_line(alloc, &command(alloc, directory)?, true)?)
+}
+
+/// The line of a printed text, without its newline and with it.
+fn printed_shown(alloc: Global, text: &str) -> Result<String, Fail> {
+    let whole = format!(in alloc; "{text}\n")?;
+    let unended = line_shown(alloc, &Effect::Printed(octets(alloc, text)?))?;
+    let ended = line_shown(alloc, &Effect::Printed(octets(alloc, whole.as_str())?))?;
+    Ok(format!(in alloc; "{unended}, {ended}")?)
 }
 
 #[test]
 fn lines_of_effects(rt: HostRuntime) -> Result<(), Fail> {
-    let alloc = rt.alloc();
-    expect_line(&rt, Effect::Heard(Event::End), "end")?;
-    expect_line(&rt, Effect::Sent(3, octets(alloc, "JK")?), "sent 3 4a4b")?;
-    expect_line(&rt, Effect::Shut(4), "shut 4")?;
-    let started = Effect::Started(command(alloc, "/tmp")?, true);
-    expect_line(&rt, started, "started 726d - @ 2f746d70 + 41 -")?;
-    let unstarted = Effect::Started(command(alloc, "")?, false);
-    expect_line(&rt, unstarted, "unstarted 726d - + 41 -")?;
-    let printed = Effect::Printed(octets(alloc, "no shutdown\n")?);
-    expect_line(&rt, printed, "printed no shutdown")?;
-    let unended = Effect::Printed(octets(alloc, "ok")?);
-    expect_line(&rt, unended, "printed ok")?;
-    let line = started_line(alloc, &command(alloc, "")?, true)?;
-    assert_eq!(rt; str::from_utf8(line.as_slice())?, "started 726d - + 41 -");
-    Ok(())
+    expect_rows(&rt, EFFECTS, effect_shown)?;
+    expect_rows(&rt, " => started 726d - + 41 -", start_shown)?;
+    let row = "no shutdown => printed no shutdown, printed no shutdown";
+    expect_rows(&rt, row, printed_shown)
 }
 
-#[test]
-fn effects_without_a_line(rt: HostRuntime) -> Result<(), Fail> {
-    let alloc = rt.alloc();
-    assert!(rt; !has_line(&Effect::Wrote(1, octets(alloc, "x")?)));
-    assert!(rt; !has_line(&Effect::Torn(1, 2)));
-    assert!(rt; !has_line(&Effect::Synced));
-    assert!(rt; !has_line(&Effect::SyncFailed));
-    assert!(rt; !has_line(&Effect::Published(octets(alloc, "p")?, octets(alloc, "x")?)));
-    Ok(())
+fn number_shown(alloc: Global, field: &str) -> Result<String, Fail> {
+    text_of(alloc, &read_number(alloc, field.as_bytes()))
 }
+
+fn conn_shown(alloc: Global, field: &str) -> Result<String, Fail> {
+    text_of(alloc, &read_conn(alloc, field.as_bytes()))
+}
+
+fn hex_shown(alloc: Global, field: &str) -> Result<String, Fail> {
+    text_of(alloc, &read_hex(alloc, field.as_bytes()))
+}
+
+fn bytes_shown(alloc: Global, fields: &str) -> Result<String, Fail> {
+    text_of(alloc, &read_bytes(alloc, fields.as_bytes()))
+}
+
+const NUMBERS: &str = "\
+4294967296 => Ok(Some(4294967296))
+ => Ok(None)";
+
+const CONNECTIONS: &str = "\
+0 => Ok(Some(0))
+4294967295 => Ok(Some(4294967295))
+4294967296 => Ok(None)
+01 => Ok(None)";
 
 #[test]
 fn fields_of_lines(rt: HostRuntime) -> Result<(), Fail> {
-    let alloc = rt.alloc();
-    assert_eq!(rt; read_number(alloc, b"4294967296")?, Some(4_294_967_296));
-    assert_eq!(rt; read_number(alloc, b"")?, None);
-    assert!(rt; read_hex(alloc, b"")?.is_none());
-    let bytes = read_bytes(alloc, b"9 4A")?;
-    assert!(rt; matches!(&bytes, Some((9, bytes)) if bytes.as_slice() == b"J".as_slice()));
-    let mut text = Octets::from_slice(alloc, b"=")?;
-    put_hex(alloc, &mut text, b"Z")?;
-    put_hex(alloc, &mut text, b"")?;
-    assert_eq!(rt; str::from_utf8(text.as_slice())?, "=5a-");
-    let parts = split_once(b"a b c", b' ');
-    assert!(rt; parts == Some((b"a".as_slice(), b"b c".as_slice())));
-    let (line, rest) = next_line(b"\nx");
-    assert!(rt; line.is_empty() && rest == b"x".as_slice());
-    Ok(())
+    expect_rows(&rt, NUMBERS, number_shown)?;
+    expect_rows(&rt, CONNECTIONS, conn_shown)?;
+    expect_rows(&rt, " => Ok(None)", hex_shown)?;
+    let bytes = "9 4A => Ok(Some((9, Octets { bytes: [74] })))";
+    expect_rows(&rt, bytes, bytes_shown)
+}
+
+/// The digits of a field behind an equals sign.
+fn digits_shown(alloc: Global, field: &str) -> Result<String, Fail> {
+    let mut text = octets(alloc, "=")?;
+    put_hex(alloc, &mut text, field.as_bytes())?;
+    shown(alloc, &text)
+}
+
+fn parts_shown(alloc: Global, line: &str) -> Result<String, Fail> {
+    text_of(alloc, &split_once(line.as_bytes(), b' '))
+}
+
+/// The first line of a text that begins with an empty one, and the rest.
+fn first_line_shown(alloc: Global, text: &str) -> Result<String, Fail> {
+    let text = format!(in alloc; "\n{text}")?;
+    if text.is_empty() {
+        return Err("no line".into());
+    }
+    text_of(alloc, &next_line(text.as_bytes()))
 }
 
 #[test]
-fn numbers_of_connections(rt: HostRuntime) -> Result<(), Fail> {
-    let alloc = rt.alloc();
-    assert_eq!(rt; read_conn(alloc, b"0")?, Some(0));
-    assert_eq!(rt; read_conn(alloc, b"4294967295")?, Some(4_294_967_295));
-    assert_eq!(rt; read_conn(alloc, b"4294967296")?, None);
-    assert_eq!(rt; read_conn(alloc, b"01")?, None);
-    Ok(())
-}
-
-#[test]
-fn laws_can_be_called(_rt: HostRuntime) -> Result<(), Fail> {
-    a_line_says_one_order();
-    a_line_gives_one_event();
-    lines_say_one_list();
-    a_line_says_its_event();
-    Ok(())
+fn parts_of_lines(rt: HostRuntime) -> Result<(), Fail> {
+    expect_rows(&rt, "Z => =5a\n => =-", digits_shown)?;
+    let parts = "a b c => Some(([97], [98, 32, 99]))";
+    expect_rows(&rt, parts, parts_shown)?;
+    expect_rows(&rt, "x => ([], [120])", first_line_shown)
 }

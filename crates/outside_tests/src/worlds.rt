@@ -2,25 +2,118 @@ ghost use Rattle.std.specs.Prelude.{IfOk};
 ghost use Rattle.std.specs.List.{AllByRecursion};
 ghost use Rattle.sm_world.specs.Events.{HasPieceSize};
 
+use crate::table::{expect_rows, text_of};
 use sm_world::{
     Command, Console, Duplicate, Event, EventList, Failure, Links, MemWorld, NoMemory, NumberList,
     Octets, OctetsList, Order, PairList, Spawner, SteadyWorld,
 };
-use std::alloc::Global;
-use std::fmt::Debug;
+use std::alloc::{Alloc, Global};
 use std::process::Abort;
 use std::test::Fail;
 
-/// Ends the test where the value shows otherwise.
-pub fn expect_shown<T: Debug>(
-    rt: &(impl Abort + Alloc<A = Global>),
-    value: &T,
-    want: &str,
-) -> Result<(), Fail> {
-    let text = format!(in rt.alloc(); "{value:?}")?;
-    assert_eq!(rt; text.as_str(), want);
+// Bytes and lists
+
+/// Two texts one after the other, copied.
+fn joined(alloc: Global, first: &[u8], second: &[u8]) -> Result<Octets, NoMemory> {
+    let mut octets = Octets::new(alloc);
+    octets.append(first)?;
+    octets.append(second)?;
+    octets.copy()
+}
+
+/// The bytes in the same memory, cut twice.
+fn cut(octets: Octets, first: usize, second: usize) -> Octets {
+    let mut again = Octets::from_vec(octets.into_vec());
+    again.truncate(first);
+    again.truncate(second);
+    again
+}
+
+/// The bytes `abc`, cut to so many, and how many there are.
+fn cut_shown(alloc: Global, count: &str) -> Result<String, Fail> {
+    let count = count.parse::<usize>()?;
+    let octets = cut(joined(alloc, b"a", b"bc")?, count, 3);
+    Ok(format!(in alloc; "{octets:?} {}", octets.len())?)
+}
+
+#[test]
+fn octets_are_kept(rt: HostRuntime) -> Result<(), Fail> {
+    let rows = "\
+2 => Octets { bytes: [97, 98] } 2
+3 => Octets { bytes: [97, 98, 99] } 3";
+    expect_rows(&rt, rows, cut_shown)
+}
+
+/// A list of these two numbers, copied, in the same memory.
+fn numbers(alloc: Global, first: u64, second: u64) -> Result<NumberList, NoMemory> {
+    let mut list = NumberList::new(alloc);
+    list.push(first)?;
+    list.push(second)?;
+    Ok(NumberList::from_vec(list.copy()?.into_vec()))
+}
+
+#[test]
+fn lists_are_kept(rt: HostRuntime) -> Result<(), Fail> {
+    let list = numbers(rt.alloc(), 5, 6)?;
+    let text = text_of(rt.alloc(), &list.as_slice())?;
+    assert_eq!(rt; text.as_str(), "[5, 6]");
     Ok(())
 }
+
+fn command(alloc: Global) -> Result<Command, NoMemory> {
+    let mut words = OctetsList::new(alloc);
+    words.push(Octets::from_slice(alloc, b"x")?)?;
+    let mut environment = PairList::new(alloc);
+    let name = Octets::from_slice(alloc, b"A")?;
+    environment.push((name, Octets::from_slice(alloc, b"1")?))?;
+    Ok(Command {
+        words,
+        directory: Octets::from_slice(alloc, b"/")?,
+        environment,
+    })
+}
+
+/// The order of this name, of which there is none under others.
+fn order(alloc: Global, name: &str) -> Result<Order, NoMemory> {
+    Ok(match name {
+        "checkpoint" => Order::Checkpoint,
+        "shutdown" => Order::Shutdown,
+        "cancel" => Order::Cancel,
+        "drop" => Order::DropConn(3),
+        "forget" => Order::Forget(Octets::from_slice(alloc, b"1")?),
+        _ => Order::Status,
+    })
+}
+
+fn order_copied(alloc: Global, name: &str) -> Result<String, Fail> {
+    let mut events = EventList::new(alloc);
+    events.push(Event::Operator(order(alloc, name)?))?;
+    events.push(Event::Tick(4))?;
+    text_of(alloc, &events.copy()?)
+}
+
+fn command_copied(alloc: Global, _input: &str) -> Result<String, Fail> {
+    text_of(alloc, &command(alloc)?.copy()?)
+}
+
+const COPIED_ORDERS: &str = "\
+checkpoint => ListOf { items: [Operator(Checkpoint), Tick(4)] }
+shutdown => ListOf { items: [Operator(Shutdown), Tick(4)] }
+cancel => ListOf { items: [Operator(Cancel), Tick(4)] }
+status => ListOf { items: [Operator(Status), Tick(4)] }
+drop => ListOf { items: [Operator(DropConn(3)), Tick(4)] }
+forget => ListOf { items: [Operator(Forget(Octets { bytes: [49] })), Tick(4)] }";
+
+#[test]
+fn copies_are_equal(rt: HostRuntime) -> Result<(), Fail> {
+    let command = " => Command { words: ListOf { items: [Octets { bytes: [120] }] }, \
+        directory: Octets { bytes: [47] }, \
+        environment: ListOf { items: [(Octets { bytes: [65] }, Octets { bytes: [49] })] } }";
+    expect_rows(&rt, command, command_copied)?;
+    expect_rows(&rt, COPIED_ORDERS, order_copied)
+}
+
+// Worlds
 
 /// A client that comes, says something and goes.
 fn visit(alloc: Global) -> Result<EventList, NoMemory>
@@ -39,159 +132,119 @@ fn steady_world(alloc: Global) -> Result<SteadyWorld, NoMemory> {
     SteadyWorld::new(alloc, visit(alloc)?, input, file)
 }
 
-fn failing_world(alloc: Global, first: u64, second: u64) -> Result<MemWorld, NoMemory> {
+fn failing_world(alloc: Global, failing: NumberList) -> Result<MemWorld, NoMemory> {
     let input = Octets::from_slice(alloc, b"abc")?;
     let file = Octets::from_slice(alloc, b"store")?;
-    let mut failing = NumberList::new(alloc);
-    failing.push(second)?;
-    failing.push(first)?;
     MemWorld::new(alloc, visit(alloc)?, input, file, failing)
 }
 
-fn command(alloc: Global) -> Result<Command, NoMemory> {
-    let mut words = OctetsList::new(alloc);
-    words.push(Octets::from_slice(alloc, b"x")?)?;
-    let mut environment = PairList::new(alloc);
-    let name = Octets::from_slice(alloc, b"A")?;
-    environment.push((name, Octets::from_slice(alloc, b"1")?))?;
-    Ok(Command {
-        words,
-        directory: Octets::from_slice(alloc, b"/")?,
-        environment,
-    })
+fn effects_of(alloc: Global, world: &SteadyWorld) -> Result<String, Fail> {
+    text_of(alloc, &world.effects())
 }
 
-fn orders(alloc: Global) -> Result<EventList, NoMemory> {
-    let mut events = EventList::new(alloc);
-    events.push(Event::Operator(Order::Checkpoint))?;
-    events.push(Event::Operator(Order::Shutdown))?;
-    events.push(Event::Operator(Order::Cancel))?;
-    events.push(Event::Operator(Order::Status))?;
-    events.push(Event::Operator(Order::DropConn(3)))?;
-    events.push(Event::Operator(Order::Forget(Octets::from_slice(alloc, b"1")?)))?;
-    events.push(Event::Tick(4))?;
-    Ok(events)
+fn heard(alloc: Global, world: &mut SteadyWorld) -> Result<String, Fail> {
+    text_of(alloc, &world.next())
 }
 
-#[test]
-fn octets_are_kept(rt: HostRuntime) -> Result<(), Fail> {
-    let mut octets = Octets::new(rt.alloc());
-    octets.append(b"a")?;
-    octets.append(b"bc")?;
-    let copy = octets.copy()?;
-    assert_eq!(rt; copy.as_slice(), b"abc".as_slice());
-    let mut again = Octets::from_vec(octets.into_vec());
-    assert_eq!(rt; again.as_slice(), b"abc".as_slice());
-    again.truncate(2);
-    assert_eq!(rt; again.as_slice(), b"ab".as_slice());
-    again.truncate(3);
-    assert_eq!(rt; again.len(), 2);
-    Ok(())
-}
-
-#[test]
-fn lists_are_kept(rt: HostRuntime) -> Result<(), Fail> {
-    let mut list = NumberList::new(rt.alloc());
-    list.push(5)?;
-    list.push(6)?;
-    let copy = list.copy()?;
-    assert_eq!(rt; copy.as_slice(), [5, 6].as_slice());
-    let again = NumberList::from_vec(list.into_vec());
-    assert_eq!(rt; again.as_slice(), [5, 6].as_slice());
-    Ok(())
-}
-
-#[test]
-fn copies_are_equal(rt: HostRuntime) -> Result<(), Fail> {
-    let copy = command(rt.alloc())?.copy()?;
-    let want = "Command { words: ListOf { items: [Octets { bytes: [120] }] }, \
-        directory: Octets { bytes: [47] }, \
-        environment: ListOf { items: [(Octets { bytes: [65] }, Octets { bytes: [49] })] } }";
-    expect_shown(&rt, &copy, want)?;
-    let copy = orders(rt.alloc())?.copy()?;
-    let want = "ListOf { items: [Operator(Checkpoint), Operator(Shutdown), Operator(Cancel), \
-        Operator(Status), Operator(DropConn(3)), Operator(Forget(Octets { bytes: [49] })), \
-        Tick(4)] }";
-    expect_shown(&rt, &copy, want)
-}
-
-fn expect_next(
-    rt: &(impl Abort + Alloc<A = Global>),
-    world: &mut SteadyWorld,
-    want: &str,
-) -> Result<(), Fail> {
-    expect_shown(rt, &world.next()?, want)
+/// What so many calls of `next` bring.
+fn heard_first(alloc: Global, count: &str) -> Result<String, Fail> {
+    let mut world = steady_world(alloc)?;
+    world.listen("socket", "control")?;
+    for _ in 0..count.parse::<u32>()? {
+        heard(alloc, &mut world)?;
+    }
+    heard(alloc, &mut world)
 }
 
 #[test]
 fn a_steady_world_brings_its_events_and_then_end(rt: HostRuntime) -> Result<(), Fail> {
-    let mut world = steady_world(rt.alloc())?;
-    world.listen("socket", "control")?;
-    for want in [
-        "Joined(1)",
-        "Piece(1, Octets { bytes: [7, 8] })",
-        "Gone(1)",
-        "End",
-        "End",
-    ] {
-        expect_next(&rt, &mut world, want)?;
+    let rows = "\
+0 => Ok(Joined(1))
+1 => Ok(Piece(1, Octets { bytes: [7, 8] }))
+2 => Ok(Gone(1))
+3 => Ok(End)
+4 => Ok(End)";
+    expect_rows(&rt, rows, heard_first)
+}
+
+/// How many bytes are read, and what stands in the buffer then.
+fn read_two(alloc: Global, world: &mut SteadyWorld, buffer: &mut [u8]) -> Result<String, Fail> {
+    let count = world.read(buffer)?;
+    Ok(format!(in alloc; "{count} {buffer:?}; ")?)
+}
+
+/// What three reads bring, and the store behind them.
+fn read_whole(alloc: Global, _input: &str) -> Result<String, Fail> {
+    let mut world = steady_world(alloc)?;
+    let mut buffer = [0, 0];
+    let mut text = String::new(alloc);
+    for _ in 0..3 {
+        text.push_str(read_two(alloc, &mut world, &mut buffer)?.as_str())?;
     }
-    Ok(())
+    text.push_str(str::from_utf8(world.file())?)?;
+    Ok(text)
 }
 
 #[test]
 fn a_steady_world_is_read_to_the_end(rt: HostRuntime) -> Result<(), Fail> {
-    let mut world = steady_world(rt.alloc())?;
-    let mut buffer = [0, 0];
-    for (count, want) in [(2, *b"ab"), (1, *b"cb"), (0, *b"cb")] {
-        assert_eq!(rt; world.read(&mut buffer)?, count);
-        assert_eq!(rt; buffer, want);
-    }
-    assert_eq!(rt; world.file(), b"store".as_slice());
-    Ok(())
+    let row = " => 2 [97, 98]; 1 [99, 98]; 0 [99, 98]; store";
+    expect_rows(&rt, row, read_whole)
 }
 
-#[test]
-fn a_steady_world_tells_what_is_done(rt: HostRuntime) -> Result<(), Fail> {
-    let mut world = steady_world(rt.alloc())?;
+fn talk(alloc: Global, _input: &str) -> Result<String, Fail> {
+    let mut world = steady_world(alloc)?;
     world.send(1, &[9])?;
     world.next()?;
     world.shut(1)?;
     world.print(b"hi")?;
-    let want = "[Sent(1, Octets { bytes: [9] }), Heard(Joined(1)), Shut(1), \
-        Printed(Octets { bytes: [104, 105] })]";
-    expect_shown(&rt, &world.effects(), want)
+    effects_of(alloc, &world)
 }
 
-/// How this world tells that the command was started, or that it wasn't.
-fn started(alloc: Global, answer: bool) -> Result<String, NoMemory> {
-    Ok(format!(in alloc;
-        "Started(Command {{ words: ListOf {{ items: [Octets {{ bytes: [120] }}] }}, \
-        directory: Octets {{ bytes: [47] }}, \
-        environment: ListOf {{ items: [(Octets {{ bytes: [65] }}, Octets {{ bytes: [49] }})] }} \
-        }}, {answer})"
-    )?)
+fn start(alloc: Global, _input: &str) -> Result<String, Fail> {
+    let mut world = steady_world(alloc)?;
+    let is_started = world.start(&command(alloc)?)?;
+    Ok(format!(in alloc; "{is_started} {}", effects_of(alloc, &world)?)?)
 }
 
 #[test]
-fn a_steady_world_starts_programs(rt: HostRuntime) -> Result<(), Fail> {
-    let mut world = steady_world(rt.alloc())?;
-    assert!(rt; world.start(&command(rt.alloc())?)?);
-    let want = format!(in rt.alloc(); "[{}]", started(rt.alloc(), true)?)?;
-    expect_shown(&rt, &world.effects(), want.as_str())
+fn a_steady_world_tells_what_is_done(rt: HostRuntime) -> Result<(), Fail> {
+    let row = " => [Sent(1, Octets { bytes: [9] }), Heard(Joined(1)), Shut(1), \
+        Printed(Octets { bytes: [104, 105] })]";
+    expect_rows(&rt, row, talk)?;
+    let row = " => true [Started(Command { words: ListOf { items: [Octets { bytes: [120] }] }, \
+        directory: Octets { bytes: [47] }, \
+        environment: ListOf { items: [(Octets { bytes: [65] }, Octets { bytes: [49] })] } \
+        }, true)]";
+    expect_rows(&rt, row, start)
 }
+
+/// The answers to three starts, of which the one of this number fails, and the effects.
+fn three_starts(alloc: Global, number: &str) -> Result<String, Fail> {
+    let failing = numbers(alloc, 9, number.parse::<u64>()?)?;
+    let mut world = failing_world(alloc, failing)?;
+    let command = command(alloc)?;
+    let mut text = String::new(alloc);
+    for _ in 0..3 {
+        text.push_str(text_of(alloc, &world.start(&command))?.as_str())?;
+    }
+    text.push_str(text_of(alloc, &world.effects())?.as_str())?;
+    Ok(text)
+}
+
+const THREE_STARTS: &str = "2 => Ok(true)Ok(false)Ok(true)\
+[Started(Command { words: ListOf { items: [Octets { bytes: [120] }] }, \
+directory: Octets { bytes: [47] }, \
+environment: ListOf { items: [(Octets { bytes: [65] }, Octets { bytes: [49] })] } }, true), \
+Started(Command { words: ListOf { items: [Octets { bytes: [120] }] }, \
+directory: Octets { bytes: [47] }, \
+environment: ListOf { items: [(Octets { bytes: [65] }, Octets { bytes: [49] })] } }, false), \
+Started(Command { words: ListOf { items: [Octets { bytes: [120] }] }, \
+directory: Octets { bytes: [47] }, \
+environment: ListOf { items: [(Octets { bytes: [65] }, Octets { bytes: [49] })] } }, true)]";
 
 #[test]
 fn the_starts_that_are_told_to_fail_do(rt: HostRuntime) -> Result<(), Fail> {
-    let mut world = failing_world(rt.alloc(), 2, 9)?;
-    let command = command(rt.alloc())?;
-    for want in [true, false, true] {
-        assert_eq!(rt; world.start(&command)?, want);
-    }
-    let good = started(rt.alloc(), true)?;
-    let bad = started(rt.alloc(), false)?;
-    let want = format!(in rt.alloc(); "[{good}, {bad}, {good}]")?;
-    expect_shown(&rt, &world.effects(), want.as_str())
+    expect_rows(&rt, THREE_STARTS, three_starts)
 }
 
 /// The call of this number in a run that makes each call once.
@@ -206,41 +259,29 @@ fn make_call(world: &mut MemWorld, number: u64) -> Result<(), Failure> {
     }
 }
 
-/// Makes each call once, and ends the test where others fail than these.
-fn expect_failing(rt: &impl Abort, world: &mut MemWorld, first: u64, second: u64) {
+/// Which of six calls fail in a world where the two of these numbers do, and what it tells.
+fn six_calls(alloc: Global, numbers_of: &str) -> Result<String, Fail> {
+    let (first, second) = numbers_of.split_once(' ').ok_or("two numbers")?;
+    let failing = numbers(alloc, second.parse::<u64>()?, first.parse::<u64>()?)?;
+    let mut world = failing_world(alloc, failing)?;
+    let mut text = String::new(alloc);
     for number in 1..=6 {
-        let failed = make_call(world, number) == Err(Failure::Failed);
-        assert_eq!(rt;
-            failed,
-            number == first || number == second,
-            "call {number}"
-        );
+        if make_call(&mut world, number) == Err(Failure::Failed) {
+            text.push_str(text_of(alloc, &number)?.as_str())?;
+        }
     }
+    text.push_str(text_of(alloc, &world.effects())?.as_str())?;
+    text.push_str(str::from_utf8(world.file())?)?;
+    Ok(text)
 }
 
-/// Makes each call once in a world where two fail, and ends the test where others fail or it shows
-/// other effects than these.
-fn expect_run(
-    rt: &(impl Abort + Alloc<A = Global>),
-    first: u64,
-    second: u64,
-    want: &str,
-) -> Result<(), Fail> {
-    let mut world = failing_world(rt.alloc(), first, second)?;
-    expect_failing(rt, &mut world, first, second);
-    assert_eq!(rt; world.file(), b"store".as_slice());
-    expect_shown(rt, &world.effects(), want)
-}
+const FAILING_CALLS: &str = "\
+0 7 => [Heard(Joined(1)), Sent(1, Octets { bytes: [9] }), Shut(1), Printed(Octets { bytes: [104, 105] })]store
+1 3 => 13[Heard(Joined(1)), Shut(1), Printed(Octets { bytes: [104, 105] })]store
+2 4 => 24[Sent(1, Octets { bytes: [9] }), Printed(Octets { bytes: [104, 105] })]store
+5 6 => 56[Heard(Joined(1)), Sent(1, Octets { bytes: [9] }), Shut(1)]store";
 
 #[test]
 fn calls_fail_by_their_numbers(rt: HostRuntime) -> Result<(), Fail> {
-    let all = "[Heard(Joined(1)), Sent(1, Octets { bytes: [9] }), Shut(1), \
-        Printed(Octets { bytes: [104, 105] })]";
-    expect_run(&rt, 0, 7, all)?;
-    let others = "[Heard(Joined(1)), Shut(1), Printed(Octets { bytes: [104, 105] })]";
-    expect_run(&rt, 1, 3, others)?;
-    let others = "[Sent(1, Octets { bytes: [9] }), Printed(Octets { bytes: [104, 105] })]";
-    expect_run(&rt, 2, 4, others)?;
-    let others = "[Heard(Joined(1)), Sent(1, Octets { bytes: [9] }), Shut(1)]";
-    expect_run(&rt, 5, 6, others)
+    expect_rows(&rt, FAILING_CALLS, six_calls)
 }
