@@ -1,15 +1,13 @@
-use ice_framing::{FRAME_LIMIT, Oversize, Remainder, Splitter, WholeFrameList, cut_pieces};
+ghost use Rattle.std.specs.Prelude.{◌≤◌, IfOk};
+ghost use Rattle.ice_framing.specs.Frames.{IsPartial, units, unit_limit};
+
+use crate::table::{bytes_of, digits_of, expect_rows, text_of};
+use ice_framing::{FRAME_LIMIT, Remainder, Splitter, WholeFrameList, cut_pieces};
 use ice_values::Endian;
 use sm_world::{NoMemory, Octets, OctetsList};
-use std::alloc::Global;
+use std::alloc::{Alloc, Global};
 use std::process::Abort;
 use std::test::Fail;
-
-/// A ByteOrder that says MSB first and states 7 units that aren't there.
-const MSB_FIRST: [u8; 8] = [0, 1, 1, 0, 0, 0, 0, 7];
-
-/// A ByteOrder whose order byte is neither 0 nor 1.
-const LSB_FIRST: [u8; 8] = [0, 1, 2, 0, 0, 1, 0, 0];
 
 /// The stream in pieces that end at two places.
 fn three_pieces(
@@ -22,150 +20,198 @@ fn three_pieces(
     let second = second.min(stream.len());
     let (front, last) = stream.split_at(second);
     let (front, middle) = front.split_at(first.min(second));
-    for piece in [front, middle, last] {
-        pieces.push(Octets::from_slice(alloc, piece)?)?;
-    }
+    pieces.push(Octets::from_slice(alloc, front)?)?;
+    pieces.push(Octets::from_slice(alloc, middle)?)?;
+    pieces.push(Octets::from_slice(alloc, last)?)?;
     Ok(pieces)
 }
 
-/// A line for each frame: `M` or `L` for its order, and its bytes.
-fn shown(alloc: Global, frames: &WholeFrameList, end: Option<Oversize>) -> Result<Vec<u8>, Fail> {
-    let mut text = Vec::new(alloc);
+/// A frame: `M` or `L` for its order, its bytes, and a bar.
+fn frame_shown(alloc: Global, endian: Endian, bytes: &[u8]) -> Result<String, Fail> {
+    let order = match endian {
+        Endian::Msb => "M",
+        Endian::Lsb => "L",
+    };
+    Ok(format!(in alloc; "{order}{}|", digits_of(alloc, bytes)?)?)
+}
+
+/// The frames, and how many units the one has that ends the stream.
+fn shown(alloc: Global, frames: &WholeFrameList, end: Option<u32>) -> Result<String, Fail> {
+    let mut text = String::new(alloc);
     for frame in frames.as_slice() {
-        text.push(match frame.endian {
-            Endian::Msb => b'M',
-            Endian::Lsb => b'L',
-        })?;
-        text.extend_from_slice(frame.bytes.as_slice())?;
-        text.push(b'|')?;
+        text.push_str(frame_shown(alloc, frame.endian, frame.bytes.as_slice())?.as_str())?;
     }
-    if let Some(oversize) = end {
-        text.extend_from_slice(&oversize.units.to_be_bytes())?;
+    if let Some(units) = end {
+        text.push_str(text_of(alloc, &units)?.as_str())?;
     }
     Ok(text)
 }
 
-/// A line for each frame that the pieces bring to a remainder, and how the stream ends.
-fn shown_by_remainder(alloc: Global, pieces: &[Octets]) -> Result<Vec<u8>, Fail> {
+fn shown_cut(alloc: Global, pieces: &[Octets]) -> Result<String, Fail> {
+    let mut frames = WholeFrameList::new(alloc);
+    let end = cut_pieces(alloc, pieces, &mut frames)?;
+    shown(alloc, &frames, end.map(|oversize| oversize.units))
+}
+
+/// The same by a remainder, which doesn't say how many units the last frame has.
+fn shown_by_remainder(alloc: Global, pieces: &[Octets]) -> Result<String, Fail> {
     let mut frames = WholeFrameList::new(alloc);
     let mut remainder = Remainder::new(alloc);
     for piece in pieces {
         match remainder.take(alloc, piece.as_slice(), &mut frames)? {
             Some(rest) => remainder = rest,
-            None => return shown(alloc, &frames, Some(Oversize { units: 8_193 })),
+            None => return shown(alloc, &frames, Some(8_193)),
         }
     }
     shown(alloc, &frames, None)
 }
 
-#[test]
-fn cut_anywhere(rt: HostRuntime) -> Result<(), Fail> {
-    let alloc = rt.alloc();
-    let table: [(&[u8], &[u8]); 5] = [
-        // One frame of one unit, and a byte behind it.
-        (
-            b"\0\x01\x01\0\0\0\0\x07\0\x02\x05\0\0\0\0\x01abcdefgh\0",
-            b"M\0\x01\x01\0\0\0\0\x07|M\0\x02\x05\0\0\0\0\x01abcdefgh|",
-        ),
-        // The order byte of a later frame doesn't count.
-        (
-            b"\0\x01\0\0\0\0\0\0\0\x09\x01\0\0\0\0\0\0\x02\x01\0\x01\0\0\0abcdefgh",
-            b"L\0\x01\0\0\0\0\0\0|L\0\x09\x01\0\0\0\0\0|L\0\x02\x01\0\x01\0\0\0abcdefgh|",
-        ),
-        // 8,193 units end the list.
-        (
-            b"\0\x01\x01\0\0\0\0\0\0\x09\0\0\0\0\0\0\0\x02\0\0\0\0\x20\x01\0\x09\0\0\0\0\0\0",
-            b"M\0\x01\x01\0\0\0\0\0|M\0\x09\0\0\0\0\0\0|\0\0\x20\x01",
-        ),
-        // Nothing is whole.
-        (b"\0\x01\x01\0\0\0\0", b""),
-        (
-            b"\0\x01\0\0\0\0\0\0\0\x02\0\0\x01\0\0\0abcdefg",
-            b"L\0\x01\0\0\0\0\0\0|",
-        ),
-    ];
-    for (stream, want) in table {
-        for second in 0..stream.len() + 1 {
-            for first in 0..second + 1 {
-                let pieces = three_pieces(alloc, stream, first, second)?;
-                let mut frames = WholeFrameList::new(alloc);
-                let end = cut_pieces(alloc, pieces.as_slice(), &mut frames)?;
-                let text = shown(alloc, &frames, end)?;
-                assert_eq!(rt; text.as_slice(), want, "cut at {first} and {second}");
-                let text = shown_by_remainder(alloc, pieces.as_slice())?;
-                assert_eq!(rt; text.as_slice(), want, "cut at {first} and {second}");
+/// What is cut of a stream in three pieces, which may be cut either way.
+fn cut_at(alloc: Global, stream: &[u8], first: usize, second: usize) -> Result<String, Fail> {
+    let pieces = three_pieces(alloc, stream, first, second)?;
+    let text = shown_cut(alloc, pieces.as_slice())?;
+    if shown_by_remainder(alloc, pieces.as_slice())?.as_str() != text.as_str() {
+        return Err("a remainder cuts otherwise".into());
+    }
+    Ok(text)
+}
+
+/// What is cut of a stream wherever its pieces end.
+fn cut_shown(alloc: Global, digits: &str) -> Result<String, Fail> {
+    let stream = bytes_of(alloc, digits)?;
+    let text = cut_at(alloc, stream.as_slice(), 0, 0)?;
+    for second in 0..=stream.len() {
+        for first in 0..=second {
+            if cut_at(alloc, stream.as_slice(), first, second)?.as_str() != text.as_str() {
+                return Err("the pieces make a difference".into());
             }
         }
     }
-    Ok(())
+    Ok(text)
 }
 
-/// What a splitter answers to a header behind a first frame; it then holds that header and no frame,
-/// until it forgets it.
-fn at_limit(
-    rt: &impl Abort,
-    alloc: Global,
-    first: &[u8],
-    header: [u8; 8],
-) -> Result<Result<usize, Oversize>, Fail> {
+/// One frame of one unit, and a byte behind it; the order byte of a later frame, which doesn't count;
+/// 8,193 units, which end the list; nothing whole, twice.
+const STREAMS: &str = "\
+00010100000000070002050000000001616263646566676800 => M0001010000000007|M00020500000000016162636465666768|
+0001000000000000000901000000000000020100010000006162636465666768 => L0001000000000000|L0009010000000000|L00020100010000006162636465666768|
+0001010000000000000900000000000000020000000020010009000000000000 => M0001010000000000|M0009000000000000|8193
+00010100000000 => 
+0001000000000000000200000100000061626364656667 => L0001000000000000|";
+
+#[test]
+fn cut_anywhere(rt: HostRuntime) -> Result<(), Fail> {
+    expect_rows(&rt, STREAMS, cut_shown)
+}
+
+/// A splitter that has taken this first frame.
+fn behind(alloc: Global, first: &[u8]) -> Result<Splitter, Fail>
+    ensures partial { IfOk result IsPartial }
+    ensures units { IfOk result (λ splitter. units splitter ≤ unit_limit) }
+{
     let mut splitter = Splitter::new(alloc)?;
-    assert!(rt; splitter.capacity() >= FRAME_LIMIT);
     let _ = splitter.feed(first);
     let Some(_) = splitter.next_frame() else {
-        return Ok(Ok(0));
+        return Err("no first frame".into());
     };
     splitter.take_frame();
-    let answer = splitter.feed(&header);
-    assert!(rt; splitter.next_frame().is_none());
-    assert_eq!(rt; splitter.held(), 8);
-    assert!(rt; splitter.header() == Some(header));
-    assert!(rt; splitter.capacity() >= FRAME_LIMIT);
-    splitter.forget();
-    assert_eq!(rt; splitter.held(), 0);
-    assert!(rt; splitter.capacity() >= FRAME_LIMIT);
-    splitter.forget();
-    assert_eq!(rt; splitter.held(), 0);
-    Ok(answer)
+    Ok(splitter)
 }
+
+/// What a splitter holds, which has room for a frame always.
+fn held_shown(alloc: Global, splitter: &Splitter) -> Result<String, Fail> {
+    let room = if splitter.capacity() >= FRAME_LIMIT {
+        "held"
+    } else {
+        "without room"
+    };
+    Ok(format!(in alloc; "{} {room}", splitter.held())?)
+}
+
+/// Whether a splitter has a frame, and the header that it holds.
+fn header_shown(alloc: Global, splitter: &Splitter) -> Result<String, Fail> {
+    let frame = if splitter.next_frame().is_none() {
+        "no frame"
+    } else {
+        "a frame"
+    };
+    let header = match splitter.header() {
+        Some(header) => digits_of(alloc, &header)?,
+        None => "no header".to_string(alloc)?,
+    };
+    Ok(format!(in alloc; "{frame}, {}, {header}", held_shown(alloc, splitter)?)?)
+}
+
+/// What a splitter answers to a header behind a first frame, and what it holds then, and after it
+/// forgot it, twice.
+fn limit_shown(alloc: Global, input: &str) -> Result<String, Fail> {
+    let (first, header) = input.split_once(' ').ok_or("one frame")?;
+    let mut splitter = behind(alloc, bytes_of(alloc, first)?.as_slice())?;
+    let header = bytes_of(alloc, header)?;
+    let answer = splitter.feed(header.as_slice());
+    let held = header_shown(alloc, &splitter)?;
+    splitter.forget();
+    let once = held_shown(alloc, &splitter)?;
+    splitter.forget();
+    let twice = held_shown(alloc, &splitter)?;
+    Ok(format!(in alloc; "{answer:?}; {held}; {once}; {twice}")?)
+}
+
+/// A ByteOrder that says MSB first and states 7 units that aren't there, or one whose order byte is
+/// neither 0 nor 1; and behind it the header of a frame of 8,192 units, or more.
+const LIMITS: &str = "\
+0001010000000007 0002000000002000 => Ok(8); no frame, 8 held, 0002000000002000; 0 held; 0 held
+0001010000000007 0002000000002001 => Err(Oversize { units: 8193 }); no frame, 8 held, 0002000000002001; 0 held; 0 held
+0001020000010000 0002000000200000 => Ok(8); no frame, 8 held, 0002000000200000; 0 held; 0 held
+0001020000010000 0002000001200000 => Err(Oversize { units: 8193 }); no frame, 8 held, 0002000001200000; 0 held; 0 held
+0001020000010000 00020000ffffffff => Err(Oversize { units: 4294967295 }); no frame, 8 held, 00020000ffffffff; 0 held; 0 held";
 
 #[test]
 fn limit_of_units(rt: HostRuntime) -> Result<(), Fail> {
-    let alloc = rt.alloc();
-    for (first, length, want) in [
-        (MSB_FIRST, [0, 0, 0x20, 0], Ok(8)),
-        (MSB_FIRST, [0, 0, 0x20, 1], Err(Oversize { units: 8_193 })),
-        (LSB_FIRST, [0, 0x20, 0, 0], Ok(8)),
-        (LSB_FIRST, [1, 0x20, 0, 0], Err(Oversize { units: 8_193 })),
-        (
-            LSB_FIRST,
-            [255, 255, 255, 255],
-            Err(Oversize { units: u32::MAX }),
-        ),
-    ] {
-        let [a, b, c, d] = length;
-        let answer = at_limit(&rt, alloc, &first, [0, 2, 0, 0, a, b, c, d])?;
-        assert!(rt; answer == want, "at {length:?}");
-    }
-    Ok(())
+    expect_rows(&rt, LIMITS, limit_shown)
 }
 
-#[test]
-fn largest_byte_by_byte(rt: HostRuntime) -> Result<(), Fail> {
-    let alloc = rt.alloc();
+/// The bytes of a frame of 8,192 units.
+fn largest(alloc: Global) -> Result<Vec<u8>, NoMemory> {
     let mut largest = Vec::from_slice(alloc, &[0, 2, 0, 0, 0, 0, 0x20, 0])?;
     for at in 8..FRAME_LIMIT {
         largest.push((at % 251) as u8)?;
     }
-    let mut pieces = OctetsList::new(alloc);
-    for byte in MSB_FIRST.iter().chain(largest.iter()) {
+    Ok(largest)
+}
+
+/// Each byte as a piece.
+fn single_bytes(alloc: Global, bytes: &[u8], pieces: &mut OctetsList) -> Result<(), NoMemory> {
+    for byte in bytes {
         pieces.push(Octets::from_slice(alloc, &[*byte])?)?;
     }
-    let mut frames = WholeFrameList::new(alloc);
-    let end = cut_pieces(alloc, pieces.as_slice(), &mut frames)?;
-    assert!(rt; end.is_none());
-    assert_eq!(rt; frames.as_slice().len(), 2);
-    let bytes = frames.as_slice()[1].bytes.as_slice();
-    assert_eq!(rt; bytes.len(), FRAME_LIMIT);
-    assert!(rt; bytes == largest.as_slice());
     Ok(())
+}
+
+/// How many frames there are, and whether the second has these bytes.
+fn second_shown(alloc: Global, frames: &WholeFrameList, bytes: &[u8]) -> Result<String, Fail> {
+    let Some(frame) = frames.as_slice().get(1) else {
+        return Err("no second frame".into());
+    };
+    let whole = frame.bytes.as_slice();
+    let count = frames.as_slice().len();
+    Ok(format!(in alloc; "{count} {} {}", whole.len(), whole == bytes)?)
+}
+
+/// The largest frame behind a first one, byte by byte.
+fn largest_shown(alloc: Global, first: &str) -> Result<String, Fail> {
+    let largest = largest(alloc)?;
+    let mut pieces = OctetsList::new(alloc);
+    single_bytes(alloc, bytes_of(alloc, first)?.as_slice(), &mut pieces)?;
+    single_bytes(alloc, largest.as_slice(), &mut pieces)?;
+    let mut frames = WholeFrameList::new(alloc);
+    if cut_pieces(alloc, pieces.as_slice(), &mut frames)?.is_some() {
+        return Err("too large".into());
+    }
+    second_shown(alloc, &frames, largest.as_slice())
+}
+
+#[test]
+fn largest_byte_by_byte(rt: HostRuntime) -> Result<(), Fail> {
+    expect_rows(&rt, "0001010000000007 => 2 65544 true", largest_shown)
 }

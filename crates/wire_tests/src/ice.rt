@@ -1,250 +1,169 @@
 //! Each message as the standard spells it (ICE, chapter 7: Message Encoding), written down by hand.
 
-use ice_messages::{
-    IceMessage, an_encoded_message_is_decoded, cut_bytes_are_refused, decode_ice,
-    decoding_is_exact, encode_ice,
+use crate::frames::decoded;
+use crate::table::{
+    agreed, bytes_of, digits_of, expect_rows, spelled, text_of, units_of, with_units,
 };
-use ice_values::{DecodeRefusal, EncodeRefusal, Endian, Text16, put_card32, read_card32};
-use sm_world::{NoMemory, Octets};
-use std::alloc::Global;
+use ice_messages::{IceMessage, encode_ice};
+use ice_values::{Endian, Text16};
+use sm_world::Octets;
+use std::alloc::{Alloc, Global};
 use std::process::Abort;
 use std::test::Fail;
 
-struct Row {
-    lsb: &'static [u8],
-    msb: &'static [u8],
-    /// The places of unused and padding bytes.
-    free: &'static [usize],
-    /// The place of the enumerated byte, and the least number that has no meaning there.
-    wrong: Option<(u32, u8)>,
-}
-
-const ROWS: [Row; 13] = [
-    Row {
-        lsb: b"\x00\x00\x03\x80\x01\x00\x00\x00\x05\x02\x00\x00\x07\x06\x00\x00",
-        msb: b"\x00\x00\x80\x03\x00\x00\x00\x01\x05\x02\x00\x00\x00\x00\x06\x07",
-        free: &[10, 11],
-        wrong: Some((9, 3)),
-    },
-    Row {
-        lsb: b"\x00\x01\x01\x00\x00\x00\x00\x00",
-        msb: b"\x00\x01\x01\x00\x00\x00\x00\x00",
-        free: &[3],
-        wrong: Some((2, 2)),
-    },
-    Row {
-        lsb: b"\x00\x02\x01\x02\x06\x00\x00\x00\x01\x00\x00\x00\x00\x00\x00\x00\x03\x00MIT\x00\x00\x00\x03\x001.0\x00\x00\x00\x06\x00COOKIE\x04\x00NOPE\x00\x00\x01\x00\x02\x00\x00\x00\x00\x00",
-        msb: b"\x00\x02\x01\x02\x00\x00\x00\x06\x01\x00\x00\x00\x00\x00\x00\x00\x00\x03MIT\x00\x00\x00\x00\x031.0\x00\x00\x00\x00\x06COOKIE\x00\x04NOPE\x00\x00\x00\x01\x00\x02\x00\x00\x00\x00",
-        free: &[
-            9, 10, 11, 12, 13, 14, 15, 21, 22, 23, 29, 30, 31, 46, 47, 52, 53, 54, 55,
-        ],
-        wrong: Some((8, 2)),
-    },
-    Row {
-        lsb: b"\x00\x03\x02\x00\x02\x00\x00\x00\x03\x00\x00\x00\x00\x00\x00\x00abc\x00\x00\x00\x00\x00",
-        msb: b"\x00\x03\x02\x00\x00\x00\x00\x02\x00\x03\x00\x00\x00\x00\x00\x00abc\x00\x00\x00\x00\x00",
-        free: &[3, 10, 11, 12, 13, 14, 15, 19, 20, 21, 22, 23],
-        wrong: None,
-    },
-    Row {
-        lsb: b"\x00\x04\x00\x00\x03\x00\x00\x00\x10\x00\x00\x00\x00\x00\x00\x00\x00\x01\x02\x03\x04\x05\x06\x07\x08\x09\x0a\x0b\x0c\x0d\x0e\x0f",
-        msb: b"\x00\x04\x00\x00\x00\x00\x00\x03\x00\x10\x00\x00\x00\x00\x00\x00\x00\x01\x02\x03\x04\x05\x06\x07\x08\x09\x0a\x0b\x0c\x0d\x0e\x0f",
-        free: &[2, 3, 10, 11, 12, 13, 14, 15],
-        wrong: None,
-    },
-    Row {
-        lsb: b"\x00\x05\x00\x00\x01\x00\x00\x00\x00\x00\x00\x00\x00\x00\x00\x00",
-        msb: b"\x00\x05\x00\x00\x00\x00\x00\x01\x00\x00\x00\x00\x00\x00\x00\x00",
-        free: &[2, 3, 10, 11, 12, 13, 14, 15],
-        wrong: None,
-    },
-    Row {
-        lsb: b"\x00\x06\x01\x00\x02\x00\x00\x00\x02\x00ab\x03\x001.0\x00\x00\x00\x00\x00\x00\x00",
-        msb: b"\x00\x06\x01\x00\x00\x00\x00\x02\x00\x02ab\x00\x031.0\x00\x00\x00\x00\x00\x00\x00",
-        free: &[3, 17, 18, 19, 20, 21, 22, 23],
-        wrong: None,
-    },
-    Row {
-        lsb: b"\x00\x07\x05\x01\x05\x00\x00\x00\x02\x01\x00\x00\x00\x00\x00\x00\x04\x00XSMP\x00\x00\x01\x00a\x00\x00\x00\x00\x00\x01\x00N\x00\x01\x00\x00\x00\x02\x00\x01\x00\x00\x00\x00\x00",
-        msb: b"\x00\x07\x05\x01\x00\x00\x00\x05\x02\x01\x00\x00\x00\x00\x00\x00\x00\x04XSMP\x00\x00\x00\x01a\x00\x00\x00\x00\x00\x00\x01N\x00\x00\x01\x00\x00\x00\x02\x00\x01\x00\x00\x00\x00",
-        free: &[
-            10, 11, 12, 13, 14, 15, 22, 23, 27, 30, 31, 35, 44, 45, 46, 47,
-        ],
-        wrong: Some((3, 2)),
-    },
-    Row {
-        lsb: b"\x00\x08\x01\x07\x02\x00\x00\x00\x02\x00ab\x03\x001.0\x00\x00\x00\x00\x00\x00\x00",
-        msb: b"\x00\x08\x01\x07\x00\x00\x00\x02\x00\x02ab\x00\x031.0\x00\x00\x00\x00\x00\x00\x00",
-        free: &[17, 18, 19, 20, 21, 22, 23],
-        wrong: None,
-    },
-    Row {
-        lsb: b"\x00\x09\x00\x00\x00\x00\x00\x00",
-        msb: b"\x00\x09\x00\x00\x00\x00\x00\x00",
-        free: &[2, 3],
-        wrong: None,
-    },
-    Row {
-        lsb: b"\x00\x0a\x00\x00\x00\x00\x00\x00",
-        msb: b"\x00\x0a\x00\x00\x00\x00\x00\x00",
-        free: &[2, 3],
-        wrong: None,
-    },
-    Row {
-        lsb: b"\x00\x0b\x00\x00\x00\x00\x00\x00",
-        msb: b"\x00\x0b\x00\x00\x00\x00\x00\x00",
-        free: &[2, 3],
-        wrong: None,
-    },
-    Row {
-        lsb: b"\x00\x0c\x00\x00\x00\x00\x00\x00",
-        msb: b"\x00\x0c\x00\x00\x00\x00\x00\x00",
-        free: &[2, 3],
-        wrong: None,
-    },
-];
-
-/// None where the bytes are no frame of major opcode 0.
-fn decode(
-    alloc: Global,
-    endian: Endian,
-    frame: &[u8],
-) -> Option<Result<IceMessage, DecodeRefusal>> {
-    if frame.len() < 8 || frame[0] != 0 {
-        return None;
-    }
-    let (_, length) = frame.split_at(4);
-    if frame.len() != 8 + 8 * read_card32(endian, length) as usize {
-        return None;
-    }
-    Some(decode_ice(alloc, endian, frame))
-}
-
-fn refusal(alloc: Global, endian: Endian, frame: &[u8]) -> Option<DecodeRefusal> {
-    match decode(alloc, endian, frame) {
-        Some(Err(refusal)) => Some(refusal),
-        _ => None,
+fn verdict(alloc: Global, endian: Endian, frame: &[u8]) -> Result<String, Fail> {
+    match decoded(alloc, endian, frame)? {
+        Ok(_) => Ok("ok".to_string(alloc)?),
+        Err(refusal) => text_of(alloc, &refusal),
     }
 }
 
-/// The message that is decoded in one order, encoded in another.
-fn turned(alloc: Global, from: Endian, frame: &[u8], to: Endian) -> Result<Octets, Fail> {
-    let message = decode(alloc, from, frame).ok_or("no frame")??;
+fn encoded(alloc: Global, endian: Endian, message: &IceMessage) -> Result<String, Fail> {
     let mut out = Octets::new(alloc);
-    encode_ice(to, &message, &mut out)?;
-    Ok(out)
+    encode_ice(endian, message, &mut out)?;
+    digits_of(alloc, out.as_slice())
 }
 
-fn with_byte(alloc: Global, frame: &[u8], at: usize, byte: u8) -> Result<Vec<u8>, Fail> {
-    let mut changed = Vec::from_slice(alloc, frame)?;
-    if let Some(slot) = changed.get_mut(at) {
-        *slot = byte;
-    }
-    Ok(changed)
+fn both(alloc: Global, message: &IceMessage) -> Result<String, Fail> {
+    let lsb = encoded(alloc, Endian::Lsb, message)?;
+    let msb = encoded(alloc, Endian::Msb, message)?;
+    Ok(format!(in alloc; "{lsb} {msb}")?)
 }
 
-/// The same frame with so many units, cut or filled up with zeros.
-fn with_units(alloc: Global, endian: Endian, frame: &[u8], units: u32) -> Result<Octets, NoMemory> {
-    let size = 8 * units as usize;
-    let mut changed = Octets::new(alloc);
-    let (head, rest) = frame.split_at(frame.len().min(4));
-    changed.append(head)?;
-    put_card32(endian, units, &mut changed)?;
-    let (_, body) = rest.split_at(rest.len().min(4));
-    let (body, _) = body.split_at(body.len().min(size));
-    changed.append(body)?;
-    for _ in body.len()..size {
-        changed.append(&[0])?;
-    }
-    Ok(changed)
+/// The message that a frame spells, in both orders.
+fn in_both(alloc: Global, endian: Endian, digits: &str) -> Result<String, Fail> {
+    let frame = bytes_of(alloc, digits)?;
+    let message = decoded(alloc, endian, frame.as_slice())??;
+    both(alloc, &message)
 }
 
-fn check_lengths(rt: &impl Abort, alloc: Global, endian: Endian, frame: &[u8]) -> Result<(), Fail> {
-    assert!(rt; frame.len() >= 8 && frame.len() < 1000);
-    let units = ((frame.len() - 8) / 8) as u32;
-    let longer = with_units(alloc, endian, frame, units + 1)?;
-    // The values of an Error are all that follows, so it may have any number of units but 0.
-    let refused = if frame[1] == 0 {
-        None
-    } else {
-        Some(DecodeRefusal::BadLength)
-    };
-    assert_eq!(rt;
-        refusal(alloc, endian, longer.as_slice()),
-        refused,
-        "{frame:?}"
-    );
-    if units > 0 {
-        let shorter = with_units(alloc, endian, frame, units - 1)?;
-        let refused = refusal(alloc, endian, shorter.as_slice());
-        assert_eq!(rt; refused, Some(DecodeRefusal::BadLength), "{frame:?}");
-    }
-    Ok(())
+fn message_shown(alloc: Global, input: &str) -> Result<String, Fail> {
+    let (lsb, msb) = input.split_once(' ').ok_or("one frame")?;
+    agreed(
+        in_both(alloc, Endian::Lsb, lsb)?,
+        in_both(alloc, Endian::Msb, msb)?,
+    )
 }
 
-fn check_row(rt: &impl Abort, alloc: Global, endian: Endian, row: &Row) -> Result<(), Fail> {
-    let (frame, other, to) = match endian {
-        Endian::Lsb => (row.lsb, row.msb, Endian::Msb),
-        Endian::Msb => (row.msb, row.lsb, Endian::Lsb),
-    };
-    assert_eq!(rt; turned(alloc, endian, frame, endian)?.as_slice(), frame);
-    assert_eq!(rt; turned(alloc, endian, frame, to)?.as_slice(), other);
-    let mut loose = Vec::from_slice(alloc, frame)?;
-    for at in row.free {
-        loose = with_byte(alloc, &loose, *at, 0xaa)?;
+/// What comes where the frame has a unit more, and where it has one fewer.
+fn resized(alloc: Global, endian: Endian, digits: &str) -> Result<String, Fail> {
+    let frame = bytes_of(alloc, digits)?;
+    let units = units_of(frame.as_slice())?;
+    let longer = with_units(alloc, endian, frame.as_slice(), units + 1)?;
+    let longer = verdict(alloc, endian, longer.as_slice())?;
+    if units == 0 {
+        return Ok(format!(in alloc; "{longer} -")?);
     }
-    assert_eq!(rt; turned(alloc, endian, &loose, endian)?.as_slice(), frame);
-    check_lengths(rt, alloc, endian, frame)?;
-    if let Some((at, byte)) = row.wrong {
-        let wrong = with_byte(alloc, frame, at as usize, byte)?;
-        let refused = refusal(alloc, endian, &wrong);
-        assert_eq!(rt;
-            refused,
-            Some(DecodeRefusal::BadValue { at, len: 1 }),
-            "{frame:?}"
-        );
-    }
-    Ok(())
+    let shorter = with_units(alloc, endian, frame.as_slice(), units - 1)?;
+    let shorter = verdict(alloc, endian, shorter.as_slice())?;
+    Ok(format!(in alloc; "{longer} {shorter}")?)
 }
+
+fn lengths_shown(alloc: Global, input: &str) -> Result<String, Fail> {
+    let (lsb, msb) = input.split_once(' ').ok_or("one frame")?;
+    agreed(
+        resized(alloc, Endian::Lsb, lsb)?,
+        resized(alloc, Endian::Msb, msb)?,
+    )
+}
+
+fn verdict_shown(alloc: Global, input: &str) -> Result<String, Fail> {
+    let (endian, frame) = spelled(alloc, input)?;
+    verdict(alloc, endian, frame.as_slice())
+}
+
+/// Each message least significant byte first and most significant byte first, and the same frames with
+/// other bytes in all unused and padding places.
+const MESSAGES: &str = "\
+00000380010000000502000007060000 00008003000000010502000000000607 => 00000380010000000502000007060000 00008003000000010502000000000607
+00000380010000000502aaaa07060000 00008003000000010502aaaa00000607 => 00000380010000000502000007060000 00008003000000010502000000000607
+0001010000000000 0001010000000000 => 0001010000000000 0001010000000000
+000101aa00000000 000101aa00000000 => 0001010000000000 0001010000000000
+0002010206000000010000000000000003004d49540000000300312e300000000600434f4f4b494504004e4f504500000100020000000000 0002010200000006010000000000000000034d49540000000003312e300000000006434f4f4b494500044e4f504500000001000200000000 => 0002010206000000010000000000000003004d49540000000300312e300000000600434f4f4b494504004e4f504500000100020000000000 0002010200000006010000000000000000034d49540000000003312e300000000006434f4f4b494500044e4f504500000001000200000000
+000201020600000001aaaaaaaaaaaaaa03004d4954aaaaaa0300312e30aaaaaa0600434f4f4b494504004e4f5045aaaa01000200aaaaaaaa 000201020000000601aaaaaaaaaaaaaa00034d4954aaaaaa0003312e30aaaaaa0006434f4f4b494500044e4f5045aaaa00010002aaaaaaaa => 0002010206000000010000000000000003004d49540000000300312e300000000600434f4f4b494504004e4f504500000100020000000000 0002010200000006010000000000000000034d49540000000003312e300000000006434f4f4b494500044e4f504500000001000200000000
+000302000200000003000000000000006162630000000000 000302000000000200030000000000006162630000000000 => 000302000200000003000000000000006162630000000000 000302000000000200030000000000006162630000000000
+000302aa020000000300aaaaaaaaaaaa616263aaaaaaaaaa 000302aa000000020003aaaaaaaaaaaa616263aaaaaaaaaa => 000302000200000003000000000000006162630000000000 000302000000000200030000000000006162630000000000
+00040000030000001000000000000000000102030405060708090a0b0c0d0e0f 00040000000000030010000000000000000102030405060708090a0b0c0d0e0f => 00040000030000001000000000000000000102030405060708090a0b0c0d0e0f 00040000000000030010000000000000000102030405060708090a0b0c0d0e0f
+0004aaaa030000001000aaaaaaaaaaaa000102030405060708090a0b0c0d0e0f 0004aaaa000000030010aaaaaaaaaaaa000102030405060708090a0b0c0d0e0f => 00040000030000001000000000000000000102030405060708090a0b0c0d0e0f 00040000000000030010000000000000000102030405060708090a0b0c0d0e0f
+00050000010000000000000000000000 00050000000000010000000000000000 => 00050000010000000000000000000000 00050000000000010000000000000000
+0005aaaa010000000000aaaaaaaaaaaa 0005aaaa000000010000aaaaaaaaaaaa => 00050000010000000000000000000000 00050000000000010000000000000000
+0006010002000000020061620300312e3000000000000000 0006010000000002000261620003312e3000000000000000 => 0006010002000000020061620300312e3000000000000000 0006010000000002000261620003312e3000000000000000
+000601aa02000000020061620300312e30aaaaaaaaaaaaaa 000601aa00000002000261620003312e30aaaaaaaaaaaaaa => 0006010002000000020061620300312e3000000000000000 0006010000000002000261620003312e3000000000000000
+00070501050000000201000000000000040058534d500000010061000000000001004e00010000000200010000000000 00070501000000050201000000000000000458534d500000000161000000000000014e00000100000002000100000000 => 00070501050000000201000000000000040058534d500000010061000000000001004e00010000000200010000000000 00070501000000050201000000000000000458534d500000000161000000000000014e00000100000002000100000000
+00070501050000000201aaaaaaaaaaaa040058534d50aaaa010061aa0000aaaa01004eaa0100000002000100aaaaaaaa 00070501000000050201aaaaaaaaaaaa000458534d50aaaa000161aa0000aaaa00014eaa0001000000020001aaaaaaaa => 00070501050000000201000000000000040058534d500000010061000000000001004e00010000000200010000000000 00070501000000050201000000000000000458534d500000000161000000000000014e00000100000002000100000000
+0008010702000000020061620300312e3000000000000000 0008010700000002000261620003312e3000000000000000 => 0008010702000000020061620300312e3000000000000000 0008010700000002000261620003312e3000000000000000
+0008010702000000020061620300312e30aaaaaaaaaaaaaa 0008010700000002000261620003312e30aaaaaaaaaaaaaa => 0008010702000000020061620300312e3000000000000000 0008010700000002000261620003312e3000000000000000
+0009000000000000 0009000000000000 => 0009000000000000 0009000000000000
+0009aaaa00000000 0009aaaa00000000 => 0009000000000000 0009000000000000
+000a000000000000 000a000000000000 => 000a000000000000 000a000000000000
+000aaaaa00000000 000aaaaa00000000 => 000a000000000000 000a000000000000
+000b000000000000 000b000000000000 => 000b000000000000 000b000000000000
+000baaaa00000000 000baaaa00000000 => 000b000000000000 000b000000000000
+000c000000000000 000c000000000000 => 000c000000000000 000c000000000000
+000caaaa00000000 000caaaa00000000 => 000c000000000000 000c000000000000";
+
+/// A unit more or fewer is refused; the values of an Error are all that follows, so it may have any
+/// number of units but 0.
+const LENGTHS: &str = "\
+00000380010000000502000007060000 00008003000000010502000000000607 => ok BadLength
+0001010000000000 0001010000000000 => BadLength -
+0002010206000000010000000000000003004d49540000000300312e300000000600434f4f4b494504004e4f504500000100020000000000 0002010200000006010000000000000000034d49540000000003312e300000000006434f4f4b494500044e4f504500000001000200000000 => BadLength BadLength
+000302000200000003000000000000006162630000000000 000302000000000200030000000000006162630000000000 => BadLength BadLength
+00040000030000001000000000000000000102030405060708090a0b0c0d0e0f 00040000000000030010000000000000000102030405060708090a0b0c0d0e0f => BadLength BadLength
+00050000010000000000000000000000 00050000000000010000000000000000 => BadLength BadLength
+0006010002000000020061620300312e3000000000000000 0006010000000002000261620003312e3000000000000000 => BadLength BadLength
+00070501050000000201000000000000040058534d500000010061000000000001004e00010000000200010000000000 00070501000000050201000000000000000458534d500000000161000000000000014e00000100000002000100000000 => BadLength BadLength
+0008010702000000020061620300312e3000000000000000 0008010700000002000261620003312e3000000000000000 => BadLength BadLength
+0009000000000000 0009000000000000 => BadLength -
+000a000000000000 000a000000000000 => BadLength -
+000b000000000000 000b000000000000 => BadLength -
+000c000000000000 000c000000000000 => BadLength -";
+
+/// Enumerated bytes that have no meaning, of several the last first; and an unknown message.
+const REFUSED: &str = "\
+l 00000380010000000503000007060000 => BadValue { at: 9, len: 1 }
+m 00008003000000010503000000000607 => BadValue { at: 9, len: 1 }
+l 0001020000000000 => BadValue { at: 2, len: 1 }
+m 0001020000000000 => BadValue { at: 2, len: 1 }
+l 0002010206000000020000000000000003004d49540000000300312e300000000600434f4f4b494504004e4f504500000100020000000000 => BadValue { at: 8, len: 1 }
+m 0002010200000006020000000000000000034d49540000000003312e300000000006434f4f4b494500044e4f504500000001000200000000 => BadValue { at: 8, len: 1 }
+l 00070502050000000201000000000000040058534d500000010061000000000001004e00010000000200010000000000 => BadValue { at: 3, len: 1 }
+m 00070502000000050201000000000000000458534d500000000161000000000000014e00000100000002000100000000 => BadValue { at: 3, len: 1 }
+l 000d000000000000 => BadMinor";
 
 #[test]
 fn every_message_is_read_and_written_as_the_standard_spells_it(
     rt: HostRuntime,
 ) -> Result<(), Fail> {
-    for row in &ROWS {
-        check_row(&rt, rt.alloc(), Endian::Lsb, row)?;
-        check_row(&rt, rt.alloc(), Endian::Msb, row)?;
-    }
-    let unknown = b"\x00\x0d\x00\x00\x00\x00\x00\x00";
-    assert_eq!(rt;
-        refusal(rt.alloc(), Endian::Lsb, unknown),
-        Some(DecodeRefusal::BadMinor)
-    );
-    Ok(())
+    expect_rows(&rt, MESSAGES, message_shown)?;
+    expect_rows(&rt, LENGTHS, lengths_shown)?;
+    expect_rows(&rt, REFUSED, verdict_shown)
 }
+
+/// A message with two texts of so many bytes.
+fn with_texts(alloc: Global, count: usize) -> Result<IceMessage, Fail> {
+    let text = vec![in alloc; b'x'; count]?;
+    Ok(IceMessage::ConnectionReply {
+        index: 0,
+        vendor: Text16::from_slice(alloc, text.as_slice())?,
+        release: Text16::from_slice(alloc, text.as_slice())?,
+    })
+}
+
+/// The answer where such a message is added to four bytes, and how many bytes there are then.
+fn long_shown(alloc: Global, count: &str) -> Result<String, Fail> {
+    let message = with_texts(alloc, count.parse::<usize>()?)?;
+    let mut out = Octets::from_slice(alloc, b"kept")?;
+    let written = encode_ice(Endian::Lsb, &message, &mut out);
+    Ok(format!(in alloc; "{written:?} {}", out.len())?)
+}
+
+const LONG: &str = "\
+40000 => Err(TooLong) 4
+32767 => Err(TooLong) 4
+32766 => Ok(()) 65548";
 
 #[test]
 fn a_body_has_at_most_65536_bytes(rt: HostRuntime) -> Result<(), Fail> {
-    let alloc = rt.alloc();
-    for (size, refused) in [(40_000, true), (32_767, true), (32_766, false)] {
-        let text = vec![in alloc; b'x'; size]?;
-        let reply = IceMessage::ConnectionReply {
-            index: 0,
-            vendor: Text16::from_slice(alloc, &text)?,
-            release: Text16::from_slice(alloc, &text)?,
-        };
-        let mut out = Octets::from_slice(alloc, b"kept")?;
-        let written = encode_ice(Endian::Lsb, &reply, &mut out);
-        assert_eq!(rt; written == Err(EncodeRefusal::TooLong), refused, "{size}");
-        assert_eq!(rt; out.len(), if refused { 4 } else { 4 + 8 + 65_536 });
-    }
-    Ok(())
-}
-
-#[test]
-fn laws_can_be_called(_rt: HostRuntime) -> Result<(), Fail> {
-    decoding_is_exact();
-    an_encoded_message_is_decoded();
-    cut_bytes_are_refused();
-    Ok(())
+    expect_rows(&rt, LONG, long_shown)
 }

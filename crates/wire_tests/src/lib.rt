@@ -6,6 +6,8 @@ mod authority;
 #[cfg(test)]
 mod cookies;
 #[cfg(test)]
+mod frames;
+#[cfg(test)]
 mod framing;
 #[cfg(test)]
 mod ice;
@@ -13,6 +15,8 @@ mod ice;
 mod opener;
 #[cfg(test)]
 mod setup;
+#[cfg(test)]
+mod table;
 #[cfg(test)]
 mod texts;
 #[cfg(test)]

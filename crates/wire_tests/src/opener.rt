@@ -1,299 +1,142 @@
 //! The client's table of the set-up: every state against every message, and whole openings to the
-//! byte.
+//! byte. An input names the frames that come, one after the other.
 
-use crate::setup::{
-    BEGUN, CONNECTED, COOKIE, MESSAGES, ORDER, REPLY, REQUIRED, bytes_of, spelled, write_answer,
-};
+use crate::frames::{COOKIE, MESSAGES, answer_name, answer_or_dash, message_of};
+use crate::table::expect_rows;
+use ice_messages::IceMessage;
 use ice_setup::{AnyOpener, OpenMoved, OpenOrder};
 use ice_values::Endian;
 use std::alloc::{Alloc, Global};
 use std::process::Abort;
 use std::test::Fail;
 
-/// The client's ConnectionSetup and ProtocolSetup.
-const CONNECTS: &[u8] =
-    b"\x00\x02\x01\x01\x07\x00\x00\x00\x00\x00\x00\x00\x00\x00\x00\x00\x08\x00smclient\x00\x00\x03\x001.0\x00\x00\x00\x12\x00MIT-MAGIC-COOKIE-1\x01\x00\x00\x00\x00\x00\x00\x00";
-
-const OPENS: &[u8] =
-    b"\x00\x07\x01\x00\x08\x00\x00\x00\x01\x01\x00\x00\x00\x00\x00\x00\x04\x00XSMP\x00\x00\x08\x00smclient\x00\x00\x03\x001.0\x00\x00\x00\x12\x00MIT-MAGIC-COOKIE-1\x01\x00\x00\x00\x00\x00\x00\x00";
-
-/// A BadState that is fatal to the connection, of the message with this minor opcode and the number 7.
-const NO_SECOND_NAME: &[u8] = b"\x00\x00\x01\x80\x01\x00\x00\x00\x03\x02\x00\x00\x07\x00\x00\x00";
-
-const NO_SECOND_VERSION: &[u8] =
-    b"\x00\x00\x01\x80\x01\x00\x00\x00\x06\x02\x00\x00\x07\x00\x00\x00";
-
-const NO_SECOND_PROTOCOL: &[u8] =
-    b"\x00\x00\x01\x80\x01\x00\x00\x00\x08\x02\x00\x00\x07\x00\x00\x00";
-
-/// Errors that are fatal, to the protocol and to the connection.
-const FATAL: &[u8] = b"\x00\x00\x01\x80\x01\x00\x00\x00\x05\x01\x00\x00\x09\x00\x00\x00";
-
-const MORE_FATAL: &[u8] = b"\x00\x00\x01\x80\x01\x00\x00\x00\x05\x02\x00\x00\x09\x00\x00\x00";
-
-/// The frames that lead to each state.
-const FIRST: &[&[u8]] = &[];
-
-const ORDERED: &[&[u8]] = &[ORDER];
-
-const ACCEPTED: &[&[u8]] = &[ORDER, CONNECTED];
-
-const SPEAKING: &[&[u8]] = &[ORDER, CONNECTED, BEGUN];
-
-/// A state by the frames that lead to it, and what each message brings there: the state behind it,
-/// or the end, and the answer. An answer is its minor opcode, or for an Error its class and its
-/// severity.
-struct Row {
-    path: &'static [&'static [u8]],
-    cells: [&'static str; 13],
-}
-
-const ROWS: [Row; 4] = [
-    Row {
-        path: FIRST,
-        cells: [
-            "OpenOrder",
-            "OpenSetup 2",
-            "ends 8001.2",
-            "ends 8001.2",
-            "ends 8001.2",
-            "ends 8001.2",
-            "ends 8001.2",
-            "ends 8001.2",
-            "ends 8001.2",
-            "ends 8001.2",
-            "ends 8001.2",
-            "ends 8001.2",
-            "ends 8001.2",
-        ],
-    },
-    Row {
-        path: ORDERED,
-        cells: [
-            "OpenSetup",
-            "ends 8001.2",
-            "ends 8001.2",
-            "OpenSetup 4",
-            "ends 8001.2",
-            "ends 8001.2",
-            "OpenProtocol 7",
-            "ends 8001.2",
-            "ends 8001.2",
-            "OpenSetup 10",
-            "ends 8001.2",
-            "ends 8001.2",
-            "ends 8001.2",
-        ],
-    },
-    Row {
-        path: ACCEPTED,
-        cells: [
-            "OpenProtocol",
-            "ends 8001.2",
-            "ends 8001.2",
-            "OpenProtocol 4",
-            "ends 8001.2",
-            "ends 8001.2",
-            "ends 8001.2",
-            "ends 8001.2",
-            "Joined 1",
-            "OpenProtocol 10",
-            "ends 8001.2",
-            "ends 8001.2",
-            "ends 8001.2",
-        ],
-    },
-    Row {
-        path: SPEAKING,
-        cells: [
-            "Joined 1",
-            "ends 8001.2",
-            "ends 8001.2",
-            "ends 8001.2",
-            "ends 8001.2",
-            "ends 8001.2",
-            "ends 8001.2",
-            "ends 8001.2",
-            "ends 8001.2",
-            "Joined 1 10",
-            "ends 8001.2",
-            "ends 8001.2",
-            "ends 8001.2",
-        ],
-    },
-];
-
-/// What a frame brings in a state.
-fn moved_by(alloc: Global, state: AnyOpener, frame: &[u8]) -> Result<OpenMoved, Fail> {
-    let message = spelled(alloc, Endian::Lsb, frame)?;
+/// What a message brings in a state.
+fn taken(alloc: Global, state: AnyOpener, message: IceMessage) -> Result<OpenMoved, Fail> {
     match state.take(alloc, message, 7) {
         Ok(moved) => Ok(moved),
         Err(kept) => Err(kept.1.into()),
     }
 }
 
+fn moved_by(alloc: Global, state: AnyOpener, name: &str) -> Result<OpenMoved, Fail> {
+    taken(alloc, state, message_of(alloc, Endian::Lsb, name)?)
+}
+
+fn gone_on(moved: OpenMoved) -> Result<AnyOpener, Fail> {
+    match moved {
+        OpenMoved::Goes(next, _) => Ok(next),
+        OpenMoved::Ends(_) => Err("the client ended".into()),
+    }
+}
+
 /// The state behind these frames.
-fn reached(alloc: Global, path: &[&[u8]]) -> Result<AnyOpener, Fail> {
+fn reached(alloc: Global, path: &str) -> Result<AnyOpener, Fail> {
     let mut state = AnyOpener::OpenOrder(OpenOrder::new(COOKIE));
-    for frame in path {
-        state = match moved_by(alloc, state, frame)? {
-            OpenMoved::Goes(next, _) => next,
-            OpenMoved::Ends(_) => return Err("the client ended".into()),
-        };
+    for name in path.split(' ') {
+        if !name.is_empty() {
+            state = gone_on(moved_by(alloc, state, name)?)?;
+        }
     }
     Ok(state)
 }
 
-fn write_state(text: &mut String, state: &AnyOpener) -> Result<(), Fail> {
+fn state_name(alloc: Global, state: &AnyOpener) -> Result<String, Fail> {
     match state {
-        AnyOpener::OpenOrder(_) => text.push_str("OpenOrder")?,
-        AnyOpener::OpenSetup(_) => text.push_str("OpenSetup")?,
-        AnyOpener::OpenProtocol(_) => text.push_str("OpenProtocol")?,
+        AnyOpener::OpenOrder(_) => Ok("OpenOrder".to_string(alloc)?),
+        AnyOpener::OpenSetup(_) => Ok("OpenSetup".to_string(alloc)?),
+        AnyOpener::OpenProtocol(_) => Ok("OpenProtocol".to_string(alloc)?),
         AnyOpener::Joined(joined) => {
-            text.push_str("Joined ")?;
-            text.push(char::from(b'0' + joined.manager_opcode() % 10))?;
+            Ok(format!(in alloc; "Joined {}", joined.manager_opcode())?)
         }
     }
-    Ok(())
+}
+
+fn place(alloc: Global, moved: &OpenMoved) -> Result<String, Fail> {
+    match moved {
+        OpenMoved::Goes(state, _) => state_name(alloc, state),
+        OpenMoved::Ends(_) => Ok("ends".to_string(alloc)?),
+    }
+}
+
+fn answer(moved: &OpenMoved) -> Option<&IceMessage> {
+    match moved {
+        OpenMoved::Goes(_, answer) => answer.as_ref(),
+        OpenMoved::Ends(answer) => answer.as_ref(),
+    }
 }
 
 /// What came, in the words of the table.
-fn shown(alloc: Global, moved: &OpenMoved) -> Result<String, Fail> {
-    let mut text = String::new(alloc);
-    let answer = match moved {
-        OpenMoved::Goes(state, answer) => {
-            write_state(&mut text, state)?;
-            answer
-        }
-        OpenMoved::Ends(answer) => {
-            text.push_str("ends")?;
-            answer
-        }
-    };
-    if let Some(answer) = answer {
-        write_answer(&mut text, answer)?;
+fn cell(alloc: Global, moved: &OpenMoved) -> Result<String, Fail> {
+    let mut text = place(alloc, moved)?;
+    if let Some(answer) = answer(moved) {
+        text.push_str(answer_name(alloc, answer)?.as_str())?;
     }
     Ok(text)
 }
 
-/// Ends the test where a frame brings something else than this behind a path.
-fn expect_cell(
-    rt: &(impl Abort + Alloc<A = Global>),
-    path: &[&[u8]],
-    frame: &[u8],
-    want: &str,
-) -> Result<(), Fail> {
-    let state = reached(rt.alloc(), path)?;
-    let moved = moved_by(rt.alloc(), state, frame)?;
-    assert_eq!(rt; shown(rt.alloc(), &moved)?.as_str(), want, "{frame:?}");
-    Ok(())
+/// What each message brings behind these frames.
+fn row_shown(alloc: Global, path: &str) -> Result<String, Fail> {
+    let mut text = String::new(alloc);
+    for name in MESSAGES.split(' ') {
+        let moved = moved_by(alloc, reached(alloc, path)?, name)?;
+        text.push_str(cell(alloc, &moved)?.as_str())?;
+        text.push(';')?;
+    }
+    Ok(text)
 }
 
-fn expect_row(
-    rt: &(impl Abort + Alloc<A = Global>),
-    row: &Row,
-    messages: &[&[u8]],
-) -> Result<(), Fail> {
-    for (frame, want) in messages.iter().zip(&row.cells) {
-        expect_cell(rt, row.path, frame, want)?;
-    }
-    Ok(())
-}
-
-fn expect_rows(
-    rt: &(impl Abort + Alloc<A = Global>),
-    rows: &[Row],
-    messages: &[&[u8]],
-) -> Result<(), Fail> {
-    for row in rows {
-        expect_row(rt, row, messages)?;
-    }
-    Ok(())
-}
+/// A state by the frames that lead to it, and what each of the messages brings there: the state behind
+/// it, or the end, and the answer.
+const ROWS: &str = "\
+order => OpenSetup;ends 8001.2;ends 8001.2;OpenSetup 4;ends 8001.2;ends 8001.2;OpenProtocol 7;ends 8001.2;ends 8001.2;OpenSetup 10;ends 8001.2;ends 8001.2;ends 8001.2;
+order connected => OpenProtocol;ends 8001.2;ends 8001.2;OpenProtocol 4;ends 8001.2;ends 8001.2;ends 8001.2;ends 8001.2;Joined 1;OpenProtocol 10;ends 8001.2;ends 8001.2;ends 8001.2;
+order connected begun => Joined 1;ends 8001.2;ends 8001.2;ends 8001.2;ends 8001.2;ends 8001.2;ends 8001.2;ends 8001.2;ends 8001.2;Joined 1 10;ends 8001.2;ends 8001.2;ends 8001.2;
+ => OpenOrder;OpenSetup 2;ends 8001.2;ends 8001.2;ends 8001.2;ends 8001.2;ends 8001.2;ends 8001.2;ends 8001.2;ends 8001.2;ends 8001.2;ends 8001.2;ends 8001.2;";
 
 #[test]
 fn every_state_of_the_opener_takes_every_message(rt: HostRuntime) -> Result<(), Fail> {
-    expect_rows(&rt, &ROWS, &MESSAGES)
+    expect_rows(&rt, ROWS, row_shown)
 }
+
+fn last_moved(alloc: Global, frames: &str) -> Result<OpenMoved, Fail> {
+    let (path, name) = frames.rsplit_once(' ').unwrap_or(("", frames));
+    moved_by(alloc, reached(alloc, path)?, name)
+}
+
+fn cell_shown(alloc: Global, frames: &str) -> Result<String, Fail> {
+    cell(alloc, &last_moved(alloc, frames)?)
+}
+
+const FATAL: &str = "\
+fatal => ends
+order more-fatal => ends
+order connected fatal => ends
+order connected begun more-fatal => ends";
 
 #[test]
 fn a_fatal_error_ends_without_an_answer(rt: HostRuntime) -> Result<(), Fail> {
-    expect_cell(&rt, FIRST, FATAL, "ends")?;
-    expect_cell(&rt, ORDERED, MORE_FATAL, "ends")?;
-    expect_cell(&rt, ACCEPTED, FATAL, "ends")?;
-    expect_cell(&rt, SPEAKING, MORE_FATAL, "ends")
+    expect_rows(&rt, FATAL, cell_shown)
 }
 
-/// A path, a frame behind it, and the bytes of its answer.
-struct Line {
-    path: &'static [&'static [u8]],
-    frame: &'static [u8],
-    answer: &'static [u8],
+/// The bytes of the answer to the last of these frames.
+fn answer_shown(alloc: Global, frames: &str) -> Result<String, Fail> {
+    let moved = last_moved(alloc, frames)?;
+    answer_or_dash(alloc, answer(&moved))
 }
 
-const LINES: [Line; 8] = [
-    Line {
-        path: FIRST,
-        frame: ORDER,
-        answer: CONNECTS,
-    },
-    Line {
-        path: ORDERED,
-        frame: REQUIRED,
-        answer: REPLY,
-    },
-    // The cookie is asked for once more.
-    Line {
-        path: &[ORDER, REQUIRED],
-        frame: REQUIRED,
-        answer: REPLY,
-    },
-    Line {
-        path: &[ORDER, REQUIRED],
-        frame: CONNECTED,
-        answer: OPENS,
-    },
-    Line {
-        path: ACCEPTED,
-        frame: REQUIRED,
-        answer: REPLY,
-    },
-    // The second name, and the second version, of which there are none.
-    Line {
-        path: ORDERED,
-        frame: b"\x00\x03\x01\x00\x01\x00\x00\x00\x00\x00\x00\x00\x00\x00\x00\x00",
-        answer: NO_SECOND_NAME,
-    },
-    Line {
-        path: ORDERED,
-        frame: b"\x00\x06\x01\x00\x02\x00\x00\x00\x03\x00smd\x00\x00\x00\x03\x001.0\x00\x00\x00",
-        answer: NO_SECOND_VERSION,
-    },
-    Line {
-        path: ACCEPTED,
-        frame: b"\x00\x08\x01\x05\x02\x00\x00\x00\x03\x00smd\x00\x00\x00\x03\x001.0\x00\x00\x00",
-        answer: NO_SECOND_PROTOCOL,
-    },
-];
-
-fn expect_line(rt: &(impl Abort + Alloc<A = Global>), line: &Line) -> Result<(), Fail> {
-    let state = reached(rt.alloc(), line.path)?;
-    let answer = match moved_by(rt.alloc(), state, line.frame)? {
-        OpenMoved::Goes(_, answer) => answer,
-        OpenMoved::Ends(answer) => answer,
-    };
-    assert_eq!(rt; bytes_of(rt.alloc(), &answer)?.as_slice(), line.answer);
-    Ok(())
-}
-
-fn expect_lines(rt: &(impl Abort + Alloc<A = Global>), lines: &[Line]) -> Result<(), Fail> {
-    for line in lines {
-        expect_line(rt, line)?;
-    }
-    Ok(())
-}
+/// The cookie is asked for, also once more; the second name and the second version are taken, of which
+/// there are none.
+const ANSWERS: &str = "\
+order => 000201010700000000000000000000000800736d636c69656e7400000300312e3000000012004d49542d4d414749432d434f4f4b49452d310100000000000000
+order required => 00040000030000001000000000000000000102030405060708090a0b0c0d0e0f
+order required required => 00040000030000001000000000000000000102030405060708090a0b0c0d0e0f
+order required connected => 00070100080000000101000000000000040058534d5000000800736d636c69656e7400000300312e3000000012004d49542d4d414749432d434f4f4b49452d310100000000000000
+order connected required => 00040000030000001000000000000000000102030405060708090a0b0c0d0e0f
+order required-second => 00000180010000000302000007000000
+order connected-second => 00000180010000000602000007000000
+order connected begun-second => 00000180010000000802000007000000";
 
 #[test]
 fn the_opener_answers_to_the_byte(rt: HostRuntime) -> Result<(), Fail> {
-    expect_lines(&rt, &LINES)
+    expect_rows(&rt, ANSWERS, answer_shown)
 }

@@ -1,247 +1,53 @@
-//! The manager's table of the set-up: every state against every message, and whole set-ups to the byte.
+//! The manager's table of the set-up: every state against every message, and whole set-ups to the
+//! byte. An input names the frames that come, one after the other.
 
-use ice_cookie::Cookie;
-use ice_messages::{IceMessage, decode_ice, encode_ice, minor};
+use crate::frames::{COOKIE, MESSAGES, answer_digits, answer_name, answer_or_dash, message_of};
+use crate::table::{bytes_of, digits_of, expect_rows};
+use ice_messages::IceMessage;
 use ice_setup::{
-    AnySetup, AwaitOrder, Moved, Offending, error_of, opcode_values, refusal, spelled_messages_fit,
-    text_values, wrong_byte_values,
+    AnySetup, AwaitOrder, Moved, Offending, error_of, opcode_values, refusal, text_values,
+    wrong_byte_values,
 };
-use ice_values::{Endian, Enumerated, ErrorBody, ErrorClass, Severity, Text16, read_card32};
+use ice_values::{Endian, ErrorBody, ErrorClass, Severity, Text16};
 use sm_world::Octets;
-use std::alloc::Global;
-use std::fmt::Write;
+use std::alloc::{Alloc, Global};
 use std::process::Abort;
 use std::test::Fail;
 
-pub(crate) const COOKIE: Cookie = Cookie([0, 1, 2, 3, 4, 5, 6, 7, 8, 9, 10, 11, 12, 13, 14, 15]);
-
-/// ByteOrder, least significant byte first.
-pub(crate) const ORDER: &[u8] = b"\x00\x01\x00\x00\x00\x00\x00\x00";
-
-/// ByteOrder, most significant byte first.
-const OTHER_ORDER: &[u8] = b"\x00\x01\x01\x00\x00\x00\x00\x00";
-
-/// ConnectionSetup with one name and one version.
-const CONNECT: &[u8] =
-    b"\x00\x02\x01\x01\x06\x00\x00\x00\x00\x00\x00\x00\x00\x00\x00\x00\x03\x00MIT\x00\x00\x00\x03\x001.0\x00\x00\x00\x12\x00MIT-MAGIC-COOKIE-1\x01\x00\x00\x00";
-
-/// The same, most significant byte first.
-const OTHER_CONNECT: &[u8] =
-    b"\x00\x02\x01\x01\x00\x00\x00\x06\x00\x00\x00\x00\x00\x00\x00\x00\x00\x03MIT\x00\x00\x00\x00\x031.0\x00\x00\x00\x00\x12MIT-MAGIC-COOKIE-1\x00\x01\x00\x00";
-
-/// AuthenticationRequired for the first name.
-pub(crate) const REQUIRED: &[u8] =
-    b"\x00\x03\x00\x00\x01\x00\x00\x00\x00\x00\x00\x00\x00\x00\x00\x00";
-
-/// AuthenticationReply with the cookie.
-pub(crate) const REPLY: &[u8] =
-    b"\x00\x04\x00\x00\x03\x00\x00\x00\x10\x00\x00\x00\x00\x00\x00\x00\x00\x01\x02\x03\x04\x05\x06\x07\x08\x09\x0a\x0b\x0c\x0d\x0e\x0f";
-
-/// The same, most significant byte first.
-const OTHER_REPLY: &[u8] =
-    b"\x00\x04\x00\x00\x00\x00\x00\x03\x00\x10\x00\x00\x00\x00\x00\x00\x00\x01\x02\x03\x04\x05\x06\x07\x08\x09\x0a\x0b\x0c\x0d\x0e\x0f";
-
-/// ConnectionReply for the first version.
-pub(crate) const CONNECTED: &[u8] =
-    b"\x00\x06\x00\x00\x02\x00\x00\x00\x03\x00smd\x00\x00\x00\x03\x001.0\x00\x00\x00";
-
-/// ProtocolSetup with opcode 1, one name and one version.
-const PROTOCOL: &[u8] =
-    b"\x00\x07\x01\x00\x07\x00\x00\x00\x01\x01\x00\x00\x00\x00\x00\x00\x04\x00XSMP\x00\x00\x03\x00MIT\x00\x00\x00\x03\x001.0\x00\x00\x00\x12\x00MIT-MAGIC-COOKIE-1\x01\x00\x00\x00";
-
-/// The same with opcode 5.
-const PROTOCOL_5: &[u8] =
-    b"\x00\x07\x05\x00\x07\x00\x00\x00\x01\x01\x00\x00\x00\x00\x00\x00\x04\x00XSMP\x00\x00\x03\x00MIT\x00\x00\x00\x03\x001.0\x00\x00\x00\x12\x00MIT-MAGIC-COOKIE-1\x01\x00\x00\x00";
-
-/// The same as PROTOCOL for another protocol.
-const OTHER_PROTOCOL: &[u8] =
-    b"\x00\x07\x01\x00\x07\x00\x00\x00\x01\x01\x00\x00\x00\x00\x00\x00\x04\x00XSMQ\x00\x00\x03\x00MIT\x00\x00\x00\x03\x001.0\x00\x00\x00\x12\x00MIT-MAGIC-COOKIE-1\x01\x00\x00\x00";
-
-/// ProtocolReply for the first version.
-pub(crate) const BEGUN: &[u8] =
-    b"\x00\x08\x00\x01\x02\x00\x00\x00\x03\x00smd\x00\x00\x00\x03\x001.0\x00\x00\x00";
-
-/// AuthenticationReply with the last byte wrong.
-const WRONG_REPLY: &[u8] =
-    b"\x00\x04\x00\x00\x03\x00\x00\x00\x10\x00\x00\x00\x00\x00\x00\x00\x00\x01\x02\x03\x04\x05\x06\x07\x08\x09\x0a\x0b\x0c\x0d\x0e\xff";
-
-/// AuthenticationReply with one byte too few.
-const SHORT_REPLY: &[u8] =
-    b"\x00\x04\x00\x00\x03\x00\x00\x00\x0f\x00\x00\x00\x00\x00\x00\x00\x00\x01\x02\x03\x04\x05\x06\x07\x08\x09\x0a\x0b\x0c\x0d\x0e\x00";
-
-/// A frame of each message.
-pub(crate) const MESSAGES: [&[u8]; 13] = [
-    b"\x00\x00\x01\x80\x01\x00\x00\x00\x05\x00\x00\x00\x09\x00\x00\x00",
-    ORDER,
-    CONNECT,
-    REQUIRED,
-    REPLY,
-    b"\x00\x05\x00\x00\x01\x00\x00\x00\x00\x00\x00\x00\x00\x00\x00\x00",
-    CONNECTED,
-    PROTOCOL,
-    BEGUN,
-    b"\x00\x09\x00\x00\x00\x00\x00\x00",
-    b"\x00\x0a\x00\x00\x00\x00\x00\x00",
-    b"\x00\x0b\x00\x00\x00\x00\x00\x00",
-    b"\x00\x0c\x00\x00\x00\x00\x00\x00",
-];
-
-/// The frames that lead to AwaitSetup, to AwaitProtocol, and to Ready with opcode 5.
-const ORDERED: &[&[u8]] = &[ORDER];
-
-const JOINED: &[&[u8]] = &[ORDER, CONNECT, REPLY];
-
-const SPEAKING: &[&[u8]] = &[ORDER, CONNECT, REPLY, PROTOCOL_5, REPLY];
-
-/// A state by the frames that lead to it, and what each message of MESSAGES brings there: the state
-/// behind it, or the end, and the answer. An answer is its minor opcode, or for an Error its class
-/// and its severity.
-struct Row {
-    path: &'static [&'static [u8]],
-    cells: [&'static str; 13],
-}
-
-const ROWS: [Row; 6] = [
-    Row {
-        path: &[],
-        cells: [
-            "ends 8001.2",
-            "AwaitSetup",
-            "ends 8001.2",
-            "ends 8001.2",
-            "ends 8001.2",
-            "ends 8001.2",
-            "ends 8001.2",
-            "ends 8001.2",
-            "ends 8001.2",
-            "ends 8001.2",
-            "ends 8001.2",
-            "ends 8001.2",
-            "ends 8001.2",
-        ],
-    },
-    Row {
-        path: ORDERED,
-        cells: [
-            "AwaitSetup",
-            "ends 8001.2",
-            "AwaitCookie 3",
-            "ends 8001.2",
-            "ends 8001.2",
-            "ends 8001.2",
-            "ends 8001.2",
-            "ends 8001.2",
-            "ends 8001.2",
-            "AwaitSetup 10",
-            "ends 8001.2",
-            "close",
-            "ends 8001.2",
-        ],
-    },
-    Row {
-        path: &[ORDER, CONNECT],
-        cells: [
-            "AwaitCookie",
-            "ends 8001.2",
-            "ends 8001.2",
-            "ends 8001.2",
-            "AwaitProtocol 6",
-            "ends 8001.2",
-            "ends 8001.2",
-            "ends 8001.2",
-            "ends 8001.2",
-            "AwaitCookie 10",
-            "ends 8001.2",
-            "close",
-            "ends 8001.2",
-        ],
-    },
-    Row {
-        path: JOINED,
-        cells: [
-            "AwaitProtocol",
-            "AwaitProtocol 8001.0",
-            "AwaitProtocol 8001.0",
-            "AwaitProtocol 8001.0",
-            "AwaitProtocol 8001.0",
-            "AwaitProtocol 8001.0",
-            "AwaitProtocol 8001.0",
-            "AwaitProtocolCookie 3",
-            "AwaitProtocol 8001.0",
-            "AwaitProtocol 10",
-            "AwaitProtocol 8001.0",
-            "close",
-            "AwaitProtocol 8001.0",
-        ],
-    },
-    Row {
-        path: &[ORDER, CONNECT, REPLY, PROTOCOL_5],
-        cells: [
-            "AwaitProtocolCookie",
-            "AwaitProtocolCookie 8001.0",
-            "AwaitProtocolCookie 8001.0",
-            "AwaitProtocolCookie 8001.0",
-            "Ready 8",
-            "AwaitProtocolCookie 8001.0",
-            "AwaitProtocolCookie 8001.0",
-            "AwaitProtocolCookie 8001.0",
-            "AwaitProtocolCookie 8001.0",
-            "AwaitProtocolCookie 10",
-            "AwaitProtocolCookie 8001.0",
-            "close",
-            "AwaitProtocolCookie 8001.0",
-        ],
-    },
-    Row {
-        path: SPEAKING,
-        cells: [
-            "Ready",
-            "Ready 8001.0",
-            "Ready 8001.0",
-            "Ready 8001.0",
-            "Ready 8001.0",
-            "Ready 8001.0",
-            "Ready 8001.0",
-            "Ready 6.1",
-            "Ready 8001.0",
-            "Ready 10",
-            "Ready 8001.0",
-            "ask Ready",
-            "Ready 8001.0",
-        ],
-    },
-];
-
-/// The message that a frame spells.
-pub(crate) fn spelled(alloc: Global, endian: Endian, frame: &[u8]) -> Result<IceMessage, Fail> {
-    if frame.len() < 8 || frame[0] != 0 {
-        return Err("no header".into());
-    }
-    let (_, length) = frame.split_at(4);
-    if frame.len() != 8 + 8 * read_card32(endian, length) as usize {
-        return Err("no frame".into());
-    }
-    Ok(decode_ice(alloc, endian, frame)?)
-}
-
-/// What a frame brings in a state.
-fn moved_by(alloc: Global, state: AnySetup, frame: &[u8], sequence: u32) -> Result<Moved, Fail> {
-    let endian = state.client_endian().unwrap_or(Endian::Lsb);
-    let message = spelled(alloc, endian, frame)?;
+/// What a message brings in a state.
+fn taken(
+    alloc: Global,
+    state: AnySetup,
+    message: IceMessage,
+    sequence: u32,
+) -> Result<Moved, Fail> {
     match state.take(alloc, message, sequence) {
         Ok(moved) => Ok(moved),
         Err(kept) => Err(kept.1.into()),
     }
 }
 
+/// What the frame of a name brings in a state.
+fn moved_by(alloc: Global, state: AnySetup, name: &str, sequence: u32) -> Result<Moved, Fail> {
+    let endian = state.client_endian().unwrap_or(Endian::Lsb);
+    taken(alloc, state, message_of(alloc, endian, name)?, sequence)
+}
+
+/// The state in which a connection goes on, without an end of its own.
+fn gone_on(moved: Moved) -> Result<AnySetup, Fail> {
+    match moved {
+        Moved::Goes(state, _) => Ok(state),
+        _ => Err("the connection ended".into()),
+    }
+}
+
 /// The state behind these frames.
-fn reached(alloc: Global, path: &[&[u8]]) -> Result<AnySetup, Fail> {
+fn reached(alloc: Global, path: &str) -> Result<AnySetup, Fail> {
     let mut state = AnySetup::AwaitOrder(AwaitOrder::new(COOKIE));
-    for frame in path {
-        state = match moved_by(alloc, state, frame, 1)? {
-            Moved::Goes(next, _) => next,
-            _ => return Err("the connection ended".into()),
-        };
+    for name in path.split(' ') {
+        if !name.is_empty() {
+            state = gone_on(moved_by(alloc, state, name, 1)?)?;
+        }
     }
     Ok(state)
 }
@@ -257,428 +63,207 @@ fn name(state: &AnySetup) -> &'static str {
     }
 }
 
-pub(crate) fn write_answer(text: &mut String, answer: &IceMessage) -> Result<(), Fail> {
-    match answer {
-        IceMessage::Error(error) => {
-            let severity = error.severity.number();
-            write!(text, " {:x}.{severity}", error.class)?;
-        }
-        _ => write!(text, " {}", minor(answer))?,
+/// The state behind what came, or how the connection ends.
+fn place(moved: &Moved) -> &'static str {
+    match moved {
+        Moved::Goes(state, _) => name(state),
+        Moved::Ends(_) => "ends",
+        Moved::Close => "close",
+        Moved::Ask(_) => "ask Ready",
     }
-    Ok(())
+}
+
+fn answer(moved: &Moved) -> Option<&IceMessage> {
+    match moved {
+        Moved::Goes(_, answer) => answer.as_ref(),
+        Moved::Ends(answer) => answer.as_ref(),
+        _ => None,
+    }
 }
 
 /// What came, in the words of the table.
-fn shown(alloc: Global, moved: &Moved) -> Result<String, Fail> {
-    let mut text = String::new(alloc);
-    match moved {
-        Moved::Goes(state, answer) => {
-            text.push_str(name(state))?;
-            if let Some(answer) = answer {
-                write_answer(&mut text, answer)?;
-            }
-        }
-        Moved::Ends(answer) => {
-            text.push_str("ends")?;
-            if let Some(answer) = answer {
-                write_answer(&mut text, answer)?;
-            }
-        }
-        Moved::Close => text.push_str("close")?,
-        Moved::Ask(state) => {
-            text.push_str("ask ")?;
-            text.push_str(name(state))?;
-        }
+fn cell(alloc: Global, moved: &Moved) -> Result<String, Fail> {
+    let mut text = place(moved).to_string(alloc)?;
+    if let Some(answer) = answer(moved) {
+        text.push_str(answer_name(alloc, answer)?.as_str())?;
     }
     Ok(text)
 }
 
-/// Ends the test where a frame brings something else than this behind a path.
-fn expect_cell(
-    rt: &(impl Abort + Alloc<A = Global>),
-    path: &[&[u8]],
-    frame: &[u8],
-    want: &str,
-) -> Result<(), Fail> {
-    let state = reached(rt.alloc(), path)?;
-    let moved = moved_by(rt.alloc(), state, frame, 7)?;
-    assert_eq!(rt; shown(rt.alloc(), &moved)?.as_str(), want, "{frame:?}");
-    Ok(())
+/// What each message brings behind these frames.
+fn row_shown(alloc: Global, path: &str) -> Result<String, Fail> {
+    let mut text = String::new(alloc);
+    for name in MESSAGES.split(' ') {
+        let moved = moved_by(alloc, reached(alloc, path)?, name, 7)?;
+        text.push_str(cell(alloc, &moved)?.as_str())?;
+        text.push(';')?;
+    }
+    Ok(text)
 }
 
-fn expect_row(
-    rt: &(impl Abort + Alloc<A = Global>),
-    row: &Row,
-    messages: &[&[u8]],
-) -> Result<(), Fail> {
-    for (frame, want) in messages.iter().zip(&row.cells) {
-        expect_cell(rt, row.path, frame, want)?;
-    }
-    Ok(())
-}
-
-fn expect_rows(
-    rt: &(impl Abort + Alloc<A = Global>),
-    rows: &[Row],
-    messages: &[&[u8]],
-) -> Result<(), Fail> {
-    for row in rows {
-        expect_row(rt, row, messages)?;
-    }
-    Ok(())
-}
+/// A state by the frames that lead to it, and what each of the messages brings there: the state behind
+/// it, or the end, and the answer.
+const ROWS: &str = "\
+order => AwaitSetup;ends 8001.2;AwaitCookie 3;ends 8001.2;ends 8001.2;ends 8001.2;ends 8001.2;ends 8001.2;ends 8001.2;AwaitSetup 10;ends 8001.2;close;ends 8001.2;
+order connect => AwaitCookie;ends 8001.2;ends 8001.2;ends 8001.2;AwaitProtocol 6;ends 8001.2;ends 8001.2;ends 8001.2;ends 8001.2;AwaitCookie 10;ends 8001.2;close;ends 8001.2;
+order connect reply => AwaitProtocol;AwaitProtocol 8001.0;AwaitProtocol 8001.0;AwaitProtocol 8001.0;AwaitProtocol 8001.0;AwaitProtocol 8001.0;AwaitProtocol 8001.0;AwaitProtocolCookie 3;AwaitProtocol 8001.0;AwaitProtocol 10;AwaitProtocol 8001.0;close;AwaitProtocol 8001.0;
+order connect reply protocol-5 => AwaitProtocolCookie;AwaitProtocolCookie 8001.0;AwaitProtocolCookie 8001.0;AwaitProtocolCookie 8001.0;Ready 8;AwaitProtocolCookie 8001.0;AwaitProtocolCookie 8001.0;AwaitProtocolCookie 8001.0;AwaitProtocolCookie 8001.0;AwaitProtocolCookie 10;AwaitProtocolCookie 8001.0;close;AwaitProtocolCookie 8001.0;
+order connect reply protocol-5 reply => Ready;Ready 8001.0;Ready 8001.0;Ready 8001.0;Ready 8001.0;Ready 8001.0;Ready 8001.0;Ready 6.1;Ready 8001.0;Ready 10;Ready 8001.0;ask Ready;Ready 8001.0;
+ => ends 8001.2;AwaitSetup;ends 8001.2;ends 8001.2;ends 8001.2;ends 8001.2;ends 8001.2;ends 8001.2;ends 8001.2;ends 8001.2;ends 8001.2;ends 8001.2;ends 8001.2;";
 
 #[test]
 fn every_state_takes_every_message(rt: HostRuntime) -> Result<(), Fail> {
-    expect_rows(&rt, &ROWS, &MESSAGES)
+    expect_rows(&rt, ROWS, row_shown)
 }
 
-/// An offer behind a path, and what comes.
-struct OfferRow {
-    path: &'static [&'static [u8]],
-    frame: &'static [u8],
-    want: &'static str,
+/// What the last of these frames brings, under its number.
+fn last_moved(alloc: Global, frames: &str) -> Result<Moved, Fail> {
+    let sequence = u32::try_from(frames.split(' ').count())?;
+    let (path, name) = frames.rsplit_once(' ').unwrap_or(("", frames));
+    moved_by(alloc, reached(alloc, path)?, name, sequence)
 }
 
-const OFFERS: [OfferRow; 12] = [
-    // Without the cookie's name.
-    OfferRow {
-        path: ORDERED,
-        frame: b"\x00\x02\x01\x01\x05\x00\x00\x00\x00\x00\x00\x00\x00\x00\x00\x00\x03\x00MIT\x00\x00\x00\x03\x001.0\x00\x00\x00\x04\x00NOPE\x00\x00\x01\x00\x00\x00\x00\x00\x00\x00",
-        want: "ends 1.2",
-    },
-    // Authentication is asked for.
-    OfferRow {
-        path: ORDERED,
-        frame: b"\x00\x02\x01\x01\x06\x00\x00\x00\x01\x00\x00\x00\x00\x00\x00\x00\x03\x00MIT\x00\x00\x00\x03\x001.0\x00\x00\x00\x12\x00MIT-MAGIC-COOKIE-1\x01\x00\x00\x00",
-        want: "AwaitCookie 3",
-    },
-    // Without a version 1.0.
-    OfferRow {
-        path: ORDERED,
-        frame: b"\x00\x02\x02\x01\x07\x00\x00\x00\x00\x00\x00\x00\x00\x00\x00\x00\x03\x00MIT\x00\x00\x00\x03\x001.0\x00\x00\x00\x12\x00MIT-MAGIC-COOKIE-1\x01\x00\x01\x00\x02\x00\x00\x00\x00\x00\x00\x00",
-        want: "ends 2.2",
-    },
-    // Opcode 0.
-    OfferRow {
-        path: JOINED,
-        frame: b"\x00\x07\x00\x00\x07\x00\x00\x00\x01\x01\x00\x00\x00\x00\x00\x00\x04\x00XSMP\x00\x00\x03\x00MIT\x00\x00\x00\x03\x001.0\x00\x00\x00\x12\x00MIT-MAGIC-COOKIE-1\x01\x00\x00\x00",
-        want: "AwaitProtocol 7.1",
-    },
-    // Another protocol.
-    OfferRow {
-        path: JOINED,
-        frame: b"\x00\x07\x05\x00\x07\x00\x00\x00\x01\x01\x00\x00\x00\x00\x00\x00\x04\x00XSMQ\x00\x00\x03\x00MIT\x00\x00\x00\x03\x001.0\x00\x00\x00\x12\x00MIT-MAGIC-COOKIE-1\x01\x00\x00\x00",
-        want: "AwaitProtocol 8.1",
-    },
-    // Without a version.
-    OfferRow {
-        path: JOINED,
-        frame: b"\x00\x07\x05\x01\x07\x00\x00\x00\x00\x01\x00\x00\x00\x00\x00\x00\x04\x00XSMP\x00\x00\x03\x00MIT\x00\x00\x00\x03\x001.0\x00\x00\x00\x12\x00MIT-MAGIC-COOKIE-1\x00\x00\x00\x00",
-        want: "AwaitProtocol 2.1",
-    },
-    // Wants authentication, without the cookie's name.
-    OfferRow {
-        path: JOINED,
-        frame: b"\x00\x07\x05\x01\x06\x00\x00\x00\x01\x01\x00\x00\x00\x00\x00\x00\x04\x00XSMP\x00\x00\x03\x00MIT\x00\x00\x00\x03\x001.0\x00\x00\x00\x04\x00NOPE\x00\x00\x01\x00\x00\x00\x00\x00\x00\x00",
-        want: "AwaitProtocol 1.1",
-    },
-    // Without names.
-    OfferRow {
-        path: JOINED,
-        frame: b"\x00\x07\x05\x00\x05\x00\x00\x00\x01\x00\x00\x00\x00\x00\x00\x00\x04\x00XSMP\x00\x00\x03\x00MIT\x00\x00\x00\x03\x001.0\x00\x00\x00\x01\x00\x00\x00\x00\x00\x00\x00",
-        want: "Ready 8",
-    },
-    // Opcode 0.
-    OfferRow {
-        path: SPEAKING,
-        frame: b"\x00\x07\x00\x00\x04\x00\x00\x00\x00\x00\x00\x00\x00\x00\x00\x00\x04\x00XSMQ\x00\x00\x03\x00MIT\x00\x00\x00\x03\x001.0\x00\x00\x00",
-        want: "Ready 7.1",
-    },
-    // Its own opcode.
-    OfferRow {
-        path: SPEAKING,
-        frame: b"\x00\x07\x05\x00\x04\x00\x00\x00\x00\x00\x00\x00\x00\x00\x00\x00\x04\x00XSMQ\x00\x00\x03\x00MIT\x00\x00\x00\x03\x001.0\x00\x00\x00",
-        want: "Ready 7.1",
-    },
-    // Another protocol.
-    OfferRow {
-        path: SPEAKING,
-        frame: b"\x00\x07\x01\x00\x04\x00\x00\x00\x00\x00\x00\x00\x00\x00\x00\x00\x04\x00XSMQ\x00\x00\x03\x00MIT\x00\x00\x00\x03\x001.0\x00\x00\x00",
-        want: "Ready 8.1",
-    },
-    // Again.
-    OfferRow {
-        path: SPEAKING,
-        frame: b"\x00\x07\x01\x00\x04\x00\x00\x00\x00\x00\x00\x00\x00\x00\x00\x00\x04\x00XSMP\x00\x00\x03\x00MIT\x00\x00\x00\x03\x001.0\x00\x00\x00",
-        want: "Ready 6.1",
-    },
-];
-
-fn expect_offers(rt: &(impl Abort + Alloc<A = Global>), offers: &[OfferRow]) -> Result<(), Fail> {
-    for offer in offers {
-        expect_cell(rt, offer.path, offer.frame, offer.want)?;
-    }
-    Ok(())
+fn cell_shown(alloc: Global, frames: &str) -> Result<String, Fail> {
+    cell(alloc, &last_moved(alloc, frames)?)
 }
+
+/// Offers, and what comes.
+const OFFERS: &str = "\
+order connect-nameless => ends 1.2
+order connect-must => AwaitCookie 3
+order connect-versionless => ends 2.2
+order connect reply protocol-0 => AwaitProtocol 7.1
+order connect reply protocol-xsmq => AwaitProtocol 8.1
+order connect reply protocol-versionless => AwaitProtocol 2.1
+order connect reply protocol-must-nameless => AwaitProtocol 1.1
+order connect reply protocol-free => Ready 8
+order connect reply protocol-5 reply xsmq-0 => Ready 7.1
+order connect reply protocol-5 reply xsmq-5 => Ready 7.1
+order connect reply protocol-5 reply xsmq-1 => Ready 8.1
+order connect reply protocol-5 reply xsmp-again => Ready 6.1";
 
 #[test]
 fn offers_are_tested_in_their_order(rt: HostRuntime) -> Result<(), Fail> {
-    expect_offers(&rt, &OFFERS)
+    expect_rows(&rt, OFFERS, cell_shown)
 }
 
-/// A frame, and the bytes of its answer.
-type Line = (&'static [u8], &'static [u8]);
-
-/// The frames of one connection with their answers, and how it goes on behind them.
-struct Script {
-    lines: &'static [Line],
-    state: &'static str,
+/// The state behind the last of these frames, and the bytes of its answer.
+fn answer_shown(alloc: Global, frames: &str) -> Result<String, Fail> {
+    let moved = last_moved(alloc, frames)?;
+    let digits = answer_or_dash(alloc, answer(&moved))?;
+    Ok(format!(in alloc; "{} {digits}", place(&moved))?)
 }
 
-const SCRIPTS: [Script; 7] = [
-    // A client joins.
-    Script {
-        lines: &[
-            (ORDER, b""),
-            (CONNECT, REQUIRED),
-            (REPLY, CONNECTED),
-            (PROTOCOL, REQUIRED),
-            (REPLY, BEGUN),
-        ],
-        state: "Ready",
-    },
-    // It writes its numbers in the other order.
-    Script {
-        lines: &[
-            (OTHER_ORDER, b""),
-            (OTHER_CONNECT, REQUIRED),
-            (OTHER_REPLY, CONNECTED),
-        ],
-        state: "AwaitProtocol",
-    },
-    // The last byte of the cookie is wrong, or wanting.
-    Script {
-        lines: &[
-            (ORDER, b""),
-            (CONNECT, REQUIRED),
-            (
-                WRONG_REPLY,
-                b"\x00\x00\x04\x00\x03\x00\x00\x00\x04\x01\x00\x00\x03\x00\x00\x00\x0e\x00cookie refused",
-            ),
-        ],
-        state: "ended",
-    },
-    Script {
-        lines: &[
-            (ORDER, b""),
-            (CONNECT, REQUIRED),
-            (
-                SHORT_REPLY,
-                b"\x00\x00\x04\x00\x03\x00\x00\x00\x04\x01\x00\x00\x03\x00\x00\x00\x0e\x00cookie refused",
-            ),
-        ],
-        state: "ended",
-    },
-    // It offers version 2.0 alone.
-    Script {
-        lines: &[
-            (ORDER, b""),
-            (
-                b"\x00\x02\x01\x01\x06\x00\x00\x00\x00\x00\x00\x00\x00\x00\x00\x00\x03\x00MIT\x00\x00\x00\x03\x001.0\x00\x00\x00\x12\x00MIT-MAGIC-COOKIE-1\x02\x00\x00\x00",
-                b"\x00\x00\x02\x00\x01\x00\x00\x00\x02\x02\x00\x00\x02\x00\x00\x00",
-            ),
-        ],
-        state: "ended",
-    },
-    // Another protocol is refused, and the connection stays.
-    Script {
-        lines: &[
-            (ORDER, b""),
-            (CONNECT, REQUIRED),
-            (REPLY, CONNECTED),
-            (
-                OTHER_PROTOCOL,
-                b"\x00\x00\x08\x00\x02\x00\x00\x00\x07\x01\x00\x00\x04\x00\x00\x00\x04\x00XSMQ\x00\x00",
-            ),
-            (PROTOCOL, REQUIRED),
-        ],
-        state: "AwaitProtocolCookie",
-    },
-    // The name and the version are the second ones, and the opcode is taken.
-    Script {
-        lines: &[
-            (ORDER, b""),
-            (
-                b"\x00\x02\x03\x03\x0b\x00\x00\x00\x01\x00\x00\x00\x00\x00\x00\x00\x03\x00MIT\x00\x00\x00\x03\x001.0\x00\x00\x00\x04\x00NOPE\x00\x00\x12\x00MIT-MAGIC-COOKIE-1\x12\x00MIT-MAGIC-COOKIE-1\x01\x00\x01\x00\x01\x00\x00\x00\x01\x00\x00\x00\x00\x00\x00\x00",
-                b"\x00\x03\x01\x00\x01\x00\x00\x00\x00\x00\x00\x00\x00\x00\x00\x00",
-            ),
-            (
-                REPLY,
-                b"\x00\x06\x01\x00\x02\x00\x00\x00\x03\x00smd\x00\x00\x00\x03\x001.0\x00\x00\x00",
-            ),
-            (
-                b"\x00\x07\x05\x01\x09\x00\x00\x00\x02\x02\x00\x00\x00\x00\x00\x00\x04\x00XSMP\x00\x00\x03\x00MIT\x00\x00\x00\x03\x001.0\x00\x00\x00\x04\x00NOPE\x00\x00\x12\x00MIT-MAGIC-COOKIE-1\x02\x00\x00\x00\x01\x00\x00\x00\x00\x00\x00\x00",
-                b"\x00\x03\x01\x00\x01\x00\x00\x00\x00\x00\x00\x00\x00\x00\x00\x00",
-            ),
-            (
-                REPLY,
-                b"\x00\x08\x01\x01\x02\x00\x00\x00\x03\x00smd\x00\x00\x00\x03\x001.0\x00\x00\x00",
-            ),
-            (
-                PROTOCOL_5,
-                b"\x00\x00\x07\x00\x02\x00\x00\x00\x07\x01\x00\x00\x06\x00\x00\x00\x05\x00\x00\x00\x00\x00\x00\x00",
-            ),
-        ],
-        state: "Ready",
-    },
-];
-
-pub(crate) fn bytes_of(alloc: Global, answer: &Option<IceMessage>) -> Result<Octets, Fail> {
-    let mut out = Octets::new(alloc);
-    if let Some(answer) = answer {
-        encode_ice(Endian::Lsb, answer, &mut out)?;
-    }
-    Ok(out)
-}
-
-/// Ends the test where a frame is answered by other bytes. None is for the end of the connection.
-fn expect_line(
-    rt: &(impl Abort + Alloc<A = Global>),
-    state: AnySetup,
-    line: &Line,
-    sequence: u32,
-) -> Result<Option<AnySetup>, Fail> {
-    let (next, answer) = match moved_by(rt.alloc(), state, line.0, sequence)? {
-        Moved::Goes(next, answer) => (Some(next), answer),
-        Moved::Ends(answer) => (None, answer),
-        _ => return Err("it wants to close".into()),
-    };
-    assert_eq!(rt; bytes_of(rt.alloc(), &answer)?.as_slice(), line.1);
-    Ok(next)
-}
-
-fn expect_script(rt: &(impl Abort + Alloc<A = Global>), script: &Script) -> Result<(), Fail> {
-    let mut state = Some(AnySetup::AwaitOrder(AwaitOrder::new(COOKIE)));
-    let mut sequence = 1;
-    for line in script.lines {
-        let before = state.ok_or("it ended")?;
-        state = expect_line(rt, before, line, sequence)?;
-        sequence = u32::wrapping_add(sequence, 1);
-    }
-    let end = match &state {
-        Some(state) => name(state),
-        None => "ended",
-    };
-    assert_eq!(rt; end, script.state);
-    Ok(())
-}
-
-fn expect_scripts(rt: &(impl Abort + Alloc<A = Global>), scripts: &[Script]) -> Result<(), Fail> {
-    for script in scripts {
-        expect_script(rt, script)?;
-    }
-    Ok(())
-}
+/// A client joins; another one does in the other order of bytes; the cookie is wrong or short; there is
+/// no version that both speak; another protocol is refused and the connection stays; the name and the
+/// version are the second ones, and the opcode is taken.
+const SCRIPTS: &str = "\
+order => AwaitSetup -
+order connect => AwaitCookie 00030000010000000000000000000000
+order connect reply => AwaitProtocol 00060000020000000300736d640000000300312e30000000
+order connect reply protocol => AwaitProtocolCookie 00030000010000000000000000000000
+order connect reply protocol reply => Ready 00080001020000000300736d640000000300312e30000000
+other-order => AwaitSetup -
+other-order other-connect => AwaitCookie 00030000010000000000000000000000
+other-order other-connect other-reply => AwaitProtocol 00060000020000000300736d640000000300312e30000000
+order connect wrong-reply => ends 000004000300000004010000030000000e00636f6f6b69652072656675736564
+order connect short-reply => ends 000004000300000004010000030000000e00636f6f6b69652072656675736564
+order connect-2.0 => ends 00000200010000000202000002000000
+order connect reply other-protocol => AwaitProtocol 00000800020000000701000004000000040058534d510000
+order connect reply other-protocol protocol => AwaitProtocolCookie 00030000010000000000000000000000
+order connect-second => AwaitCookie 00030100010000000000000000000000
+order connect-second reply => AwaitProtocol 00060100020000000300736d640000000300312e30000000
+order connect-second reply protocol-second => AwaitProtocolCookie 00030100010000000000000000000000
+order connect-second reply protocol-second reply => Ready 00080101020000000300736d640000000300312e30000000
+order connect-second reply protocol-second reply protocol-5 => Ready 000007000200000007010000060000000500000000000000";
 
 #[test]
 fn the_set_up_is_answered_to_the_byte(rt: HostRuntime) -> Result<(), Fail> {
-    expect_scripts(&rt, &SCRIPTS)
+    expect_rows(&rt, SCRIPTS, answer_shown)
 }
 
-fn expect_bytes(rt: &impl Abort, bytes: &[u8], want: &[u8]) {
-    assert_eq!(rt; bytes, want);
+/// A Ping with the number 4.
+fn ping() -> Offending {
+    Offending {
+        minor: 9,
+        sequence: 4,
+    }
 }
 
-fn expect_error(
-    rt: &(impl Abort + Alloc<A = Global>),
-    error: ErrorBody,
-    want: &[u8],
-) -> Result<(), Fail> {
-    let answer = Some(IceMessage::Error(error));
-    expect_bytes(rt, bytes_of(rt.alloc(), &answer)?.as_slice(), want);
-    Ok(())
+fn error_digits(alloc: Global, error: ErrorBody) -> Result<String, Fail> {
+    answer_digits(alloc, &IceMessage::Error(error))
+}
+
+/// A BadLength of a Ping behind these frames.
+fn refusal_shown(alloc: Global, path: &str) -> Result<String, Fail> {
+    let state = reached(alloc, path)?;
+    let error = refusal(&state, ErrorClass::BadLength, ping(), Octets::new(alloc));
+    error_digits(alloc, error)
+}
+
+/// A BadMajor of a Ping that names this opcode.
+fn opcode_shown(alloc: Global, opcode: &str) -> Result<String, Fail> {
+    let values = opcode_values(alloc, opcode.parse::<u8>()?)?;
+    let error = error_of(Severity::CanContinue, ErrorClass::BadMajor, ping(), values);
+    error_digits(alloc, error)
 }
 
 #[test]
 fn errors_name_the_message_and_their_values(rt: HostRuntime) -> Result<(), Fail> {
-    let alloc = rt.alloc();
-    let ping = Offending {
-        minor: 9,
-        sequence: 4,
-    };
-    let joined = reached(alloc, JOINED)?;
-    let error = refusal(&joined, ErrorClass::BadLength, ping, Octets::new(alloc));
-    expect_error(
-        &rt,
-        error,
-        b"\x00\x00\x02\x80\x01\x00\x00\x00\x09\x00\x00\x00\x04\x00\x00\x00",
-    )?;
-    let error = error_of(
-        Severity::CanContinue,
-        ErrorClass::BadMajor,
-        ping,
-        opcode_values(alloc, 5)?,
-    );
-    expect_error(
-        &rt,
-        error,
-        b"\x00\x00\x00\x00\x02\x00\x00\x00\x09\x00\x00\x00\x04\x00\x00\x00\x05\x00\x00\x00\x00\x00\x00\x00",
-    )
+    let row = "order connect reply => 00000280010000000900000004000000";
+    expect_rows(&rt, row, refusal_shown)?;
+    let row = "5 => 000000000200000009000000040000000500000000000000";
+    expect_rows(&rt, row, opcode_shown)
+}
+
+fn text_values_shown(alloc: Global, text: &str) -> Result<String, Fail> {
+    let text = Text16::from_slice(alloc, text.as_bytes())?;
+    digits_of(alloc, text_values(alloc, &text)?.as_slice())
+}
+
+/// The values that name the third byte of a frame.
+fn wrong_byte_shown(alloc: Global, digits: &str) -> Result<String, Fail> {
+    let frame = bytes_of(alloc, digits)?;
+    let values = wrong_byte_values(alloc, 2, frame.as_slice())?;
+    digits_of(alloc, values.as_slice())
 }
 
 #[test]
 fn values_are_spelled_in_units(rt: HostRuntime) -> Result<(), Fail> {
-    let alloc = rt.alloc();
-    let text = Text16::from_slice(alloc, b"XSMQ")?;
-    expect_bytes(
-        &rt,
-        text_values(alloc, &text)?.as_slice(),
-        b"\x04\x00XSMQ\x00\x00",
-    );
-    let values = wrong_byte_values(alloc, 2, b"\x00\x01\x07\x00")?;
-    expect_bytes(
-        &rt,
-        values.as_slice(),
-        b"\x02\x00\x00\x00\x01\x00\x00\x00\x07\x00\x00\x00\x00\x00\x00\x00",
-    );
-    Ok(())
+    expect_rows(&rt, "XSMQ => 040058534d510000", text_values_shown)?;
+    let row = "00010700 => 02000000010000000700000000000000";
+    expect_rows(&rt, row, wrong_byte_shown)
 }
 
-/// Ends the test where a state tells other things than these.
-fn expect_told(
-    rt: &(impl Abort + Alloc<A = Global>),
-    path: &[&[u8]],
-    endian: Option<Endian>,
-    connected: bool,
-    opcode: Option<u8>,
-) -> Result<(), Fail> {
-    let state = reached(rt.alloc(), path)?;
-    assert_eq!(rt; state.client_endian(), endian);
-    assert_eq!(rt; state.connected(), connected);
-    assert_eq!(rt; state.client_opcode(), opcode);
-    Ok(())
+/// What the state behind these frames tells.
+fn told(alloc: Global, path: &str) -> Result<String, Fail> {
+    let state = reached(alloc, path)?;
+    let endian = state.client_endian();
+    let opcode = state.client_opcode();
+    Ok(format!(in alloc; "{endian:?} {} {opcode:?}", state.connected())?)
 }
+
+const TOLD: &str = "\
+other-order => Some(Msb) false None
+ => None false None
+order connect reply => Some(Lsb) true None
+order connect reply protocol-5 reply => Some(Lsb) true Some(5)";
 
 #[test]
 fn a_state_tells_the_client(rt: HostRuntime) -> Result<(), Fail> {
-    expect_told(&rt, &[], None, false, None)?;
-    expect_told(&rt, &[OTHER_ORDER], Some(Endian::Msb), false, None)?;
-    expect_told(&rt, JOINED, Some(Endian::Lsb), true, None)?;
-    expect_told(&rt, SPEAKING, Some(Endian::Lsb), true, Some(5))
+    expect_rows(&rt, TOLD, told)
+}
+
+/// What the frame of a name brings where a client that spoke XSMP doesn't any more.
+fn unset_shown(alloc: Global, name: &str) -> Result<String, Fail> {
+    let AnySetup::Ready(ready) = reached(alloc, "order connect reply protocol-5 reply")? else {
+        return Err("it isn't ready".into());
+    };
+    let state = AnySetup::AwaitProtocol(ready.unset());
+    cell(alloc, &moved_by(alloc, state, name, 7)?)
 }
 
 #[test]
 fn without_xsmp_the_protocol_may_be_set_up_again(rt: HostRuntime) -> Result<(), Fail> {
-    spelled_messages_fit();
-    let AnySetup::Ready(ready) = reached(rt.alloc(), SPEAKING)? else {
-        return Err("it isn't ready".into());
-    };
-    let state = AnySetup::AwaitProtocol(ready.unset());
-    let moved = moved_by(rt.alloc(), state, PROTOCOL_5, 7)?;
-    assert_eq!(rt;
-        shown(rt.alloc(), &moved)?.as_str(),
-        "AwaitProtocolCookie 3"
-    );
-    Ok(())
+    expect_rows(&rt, "protocol-5 => AwaitProtocolCookie 3", unset_shown)
 }

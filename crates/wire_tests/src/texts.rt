@@ -1,199 +1,71 @@
 //! Each message as a frame, least significant byte first, and its line, both written down by hand.
 
-ghost use Rattle.std.specs.Prelude.{IsTrue};
-ghost use Rattle.ice_values.specs.Frames.{IsFrame};
-
-use ice_messages::decode_ice;
-use ice_values::{Endian, read_card32};
+use crate::frames::decoded as ice_decoded;
+use crate::table::{bytes_of, expect_rows};
+use crate::xsmp::decoded as xsmp_decoded;
+use ice_values::Endian;
 use message_text::{ice_line, xsmp_line};
-use sm_world::Octets;
-use std::alloc::Global;
+use std::alloc::{Alloc, Global};
+use std::process::Abort;
 use std::test::Fail;
-use xsmp_messages::decode_xsmp;
 
-/// A frame, and its line.
-struct Row {
-    frame: &'static [u8],
-    line: &'static str,
+const ICE_ROWS: &str = "\
+00000380010000000502000007060000 => Error class=32771 minor=5 severity=2 sequence=1543 values=-
+0001010000000000 => ByteOrder order=1
+0002010206000000010000000000000003004d49540000000300312e300000000600434f4f4b494504004e4f504500000100020000000000 => ConnectionSetup must=1 vendor=4d4954 release=312e30 names=[434f4f4b4945,4e4f5045] versions=[1.2]
+000200000200000000000000000000000000000000000000 => ConnectionSetup must=0 vendor=- release=- names=[] versions=[]
+000302000200000003000000000000006162630000000000 => AuthenticationRequired index=2 proof=616263
+00040000030000001000000000000000000102030405060708090a0b0c0d0e0f => AuthenticationReply proof=000102030405060708090a0b0c0d0e0f
+00050000010000000000000000000000 => AuthenticationNextPhase proof=-
+0006010002000000020061620300312e3000000000000000 => ConnectionReply index=1 vendor=6162 release=312e30
+00070501050000000201000000000000040058534d500000010061000000000001004e00010000000200010000000000 => ProtocolSetup opcode=5 must=1 protocol=58534d50 vendor=61 release=- names=[4e] versions=[1.0,2.1]
+0008010702000000020061620300312e3000000000000000 => ProtocolReply index=1 opcode=7 vendor=6162 release=312e30
+0009000000000000 => Ping
+000a000000000000 => PingReply
+000b000000000000 => WantToClose
+000c000000000000 => NoClose";
+
+const XSMP_ROWS: &str = "\
+010003800200000004000000090000000800000004000000 => Error class=32771 minor=4 severity=0 sequence=9 values=0800000004000000
+01010000010000000000000000000000 => RegisterClient previous=-
+01020000010000000300000061626300 => RegisterClientReply id=616263
+01030000010000000100020100000000 => SaveYourself kind=1 shutdown=0 style=2 fast=1
+01040000010000000201010001000000 => SaveYourselfRequest kind=2 shutdown=1 style=1 fast=0 global=1
+0105010000000000 => InteractRequest dialog=1
+0106000000000000 => Interact
+0107010000000000 => InteractDone cancel=1
+0108010000000000 => SaveYourselfDone success=1
+0109000000000000 => Die
+010a000000000000 => ShutdownCancelled
+010b0000030000000200000000000000020000006e6f00000000000000000000 => ConnectionClosed reasons=[6e6f,-]
+010c000006000000010000000000000001000000500000000500000043415244380000000000000001000000000000000100000003000000 => SetProperties properties=[50:4341524438:[03]]
+010d0000010000000000000000000000 => DeleteProperties names=[]
+010e000000000000 => GetProperties
+010f000009000000020000000000000001000000410000000000000000000000000000000000000001000000420000000100000054000000020000000000000001000000780000000000000000000000 => GetPropertiesReply properties=[41:-:[],42:54:[78,-]]
+0110000000000000 => SaveYourselfPhase2Request
+0111000000000000 => SaveYourselfPhase2
+0112000000000000 => SaveComplete";
+
+fn ice_shown(alloc: Global, digits: &str) -> Result<String, Fail> {
+    let frame = bytes_of(alloc, digits)?;
+    let message = ice_decoded(alloc, Endian::Lsb, frame.as_slice())??;
+    let line = ice_line(alloc, &message)?;
+    Ok(str::from_utf8(line.as_slice())?.to_string(alloc)?)
 }
 
-const ICE_ROWS: [Row; 14] = [
-    Row {
-        frame: b"\x00\x00\x03\x80\x01\x00\x00\x00\x05\x02\x00\x00\x07\x06\x00\x00",
-        line: "Error class=32771 minor=5 severity=2 sequence=1543 values=-",
-    },
-    Row {
-        frame: b"\x00\x01\x01\x00\x00\x00\x00\x00",
-        line: "ByteOrder order=1",
-    },
-    Row {
-        frame: b"\x00\x02\x01\x02\x06\x00\x00\x00\x01\x00\x00\x00\x00\x00\x00\x00\x03\x00MIT\x00\x00\x00\x03\x001.0\x00\x00\x00\x06\x00COOKIE\x04\x00NOPE\x00\x00\x01\x00\x02\x00\x00\x00\x00\x00",
-        line: "ConnectionSetup must=1 vendor=4d4954 release=312e30 names=[434f4f4b4945,4e4f5045] versions=[1.2]",
-    },
-    Row {
-        frame: b"\x00\x02\x00\x00\x02\x00\x00\x00\x00\x00\x00\x00\x00\x00\x00\x00\x00\x00\x00\x00\x00\x00\x00\x00",
-        line: "ConnectionSetup must=0 vendor=- release=- names=[] versions=[]",
-    },
-    Row {
-        frame: b"\x00\x03\x02\x00\x02\x00\x00\x00\x03\x00\x00\x00\x00\x00\x00\x00abc\x00\x00\x00\x00\x00",
-        line: "AuthenticationRequired index=2 proof=616263",
-    },
-    Row {
-        frame: b"\x00\x04\x00\x00\x03\x00\x00\x00\x10\x00\x00\x00\x00\x00\x00\x00\x00\x01\x02\x03\x04\x05\x06\x07\x08\x09\x0a\x0b\x0c\x0d\x0e\x0f",
-        line: "AuthenticationReply proof=000102030405060708090a0b0c0d0e0f",
-    },
-    Row {
-        frame: b"\x00\x05\x00\x00\x01\x00\x00\x00\x00\x00\x00\x00\x00\x00\x00\x00",
-        line: "AuthenticationNextPhase proof=-",
-    },
-    Row {
-        frame: b"\x00\x06\x01\x00\x02\x00\x00\x00\x02\x00ab\x03\x001.0\x00\x00\x00\x00\x00\x00\x00",
-        line: "ConnectionReply index=1 vendor=6162 release=312e30",
-    },
-    Row {
-        frame: b"\x00\x07\x05\x01\x05\x00\x00\x00\x02\x01\x00\x00\x00\x00\x00\x00\x04\x00XSMP\x00\x00\x01\x00a\x00\x00\x00\x00\x00\x01\x00N\x00\x01\x00\x00\x00\x02\x00\x01\x00\x00\x00\x00\x00",
-        line: "ProtocolSetup opcode=5 must=1 protocol=58534d50 vendor=61 release=- names=[4e] versions=[1.0,2.1]",
-    },
-    Row {
-        frame: b"\x00\x08\x01\x07\x02\x00\x00\x00\x02\x00ab\x03\x001.0\x00\x00\x00\x00\x00\x00\x00",
-        line: "ProtocolReply index=1 opcode=7 vendor=6162 release=312e30",
-    },
-    Row {
-        frame: b"\x00\x09\x00\x00\x00\x00\x00\x00",
-        line: "Ping",
-    },
-    Row {
-        frame: b"\x00\x0a\x00\x00\x00\x00\x00\x00",
-        line: "PingReply",
-    },
-    Row {
-        frame: b"\x00\x0b\x00\x00\x00\x00\x00\x00",
-        line: "WantToClose",
-    },
-    Row {
-        frame: b"\x00\x0c\x00\x00\x00\x00\x00\x00",
-        line: "NoClose",
-    },
-];
-
-const XSMP_ROWS: [Row; 19] = [
-    Row {
-        frame: b"\x01\x00\x03\x80\x02\x00\x00\x00\x04\x00\x00\x00\x09\x00\x00\x00\x08\x00\x00\x00\x04\x00\x00\x00",
-        line: "Error class=32771 minor=4 severity=0 sequence=9 values=0800000004000000",
-    },
-    Row {
-        frame: b"\x01\x01\x00\x00\x01\x00\x00\x00\x00\x00\x00\x00\x00\x00\x00\x00",
-        line: "RegisterClient previous=-",
-    },
-    Row {
-        frame: b"\x01\x02\x00\x00\x01\x00\x00\x00\x03\x00\x00\x00abc\x00",
-        line: "RegisterClientReply id=616263",
-    },
-    Row {
-        frame: b"\x01\x03\x00\x00\x01\x00\x00\x00\x01\x00\x02\x01\x00\x00\x00\x00",
-        line: "SaveYourself kind=1 shutdown=0 style=2 fast=1",
-    },
-    Row {
-        frame: b"\x01\x04\x00\x00\x01\x00\x00\x00\x02\x01\x01\x00\x01\x00\x00\x00",
-        line: "SaveYourselfRequest kind=2 shutdown=1 style=1 fast=0 global=1",
-    },
-    Row {
-        frame: b"\x01\x05\x01\x00\x00\x00\x00\x00",
-        line: "InteractRequest dialog=1",
-    },
-    Row {
-        frame: b"\x01\x06\x00\x00\x00\x00\x00\x00",
-        line: "Interact",
-    },
-    Row {
-        frame: b"\x01\x07\x01\x00\x00\x00\x00\x00",
-        line: "InteractDone cancel=1",
-    },
-    Row {
-        frame: b"\x01\x08\x01\x00\x00\x00\x00\x00",
-        line: "SaveYourselfDone success=1",
-    },
-    Row {
-        frame: b"\x01\x09\x00\x00\x00\x00\x00\x00",
-        line: "Die",
-    },
-    Row {
-        frame: b"\x01\x0a\x00\x00\x00\x00\x00\x00",
-        line: "ShutdownCancelled",
-    },
-    Row {
-        frame: b"\x01\x0b\x00\x00\x03\x00\x00\x00\x02\x00\x00\x00\x00\x00\x00\x00\x02\x00\x00\x00no\x00\x00\x00\x00\x00\x00\x00\x00\x00\x00",
-        line: "ConnectionClosed reasons=[6e6f,-]",
-    },
-    Row {
-        frame: b"\x01\x0c\x00\x00\x06\x00\x00\x00\x01\x00\x00\x00\x00\x00\x00\x00\x01\x00\x00\x00P\x00\x00\x00\x05\x00\x00\x00CARD8\x00\x00\x00\x00\x00\x00\x00\x01\x00\x00\x00\x00\x00\x00\x00\x01\x00\x00\x00\x03\x00\x00\x00",
-        line: "SetProperties properties=[50:4341524438:[03]]",
-    },
-    Row {
-        frame: b"\x01\x0d\x00\x00\x01\x00\x00\x00\x00\x00\x00\x00\x00\x00\x00\x00",
-        line: "DeleteProperties names=[]",
-    },
-    Row {
-        frame: b"\x01\x0e\x00\x00\x00\x00\x00\x00",
-        line: "GetProperties",
-    },
-    Row {
-        frame: b"\x01\x0f\x00\x00\x09\x00\x00\x00\x02\x00\x00\x00\x00\x00\x00\x00\x01\x00\x00\x00A\x00\x00\x00\x00\x00\x00\x00\x00\x00\x00\x00\x00\x00\x00\x00\x00\x00\x00\x00\x01\x00\x00\x00B\x00\x00\x00\x01\x00\x00\x00T\x00\x00\x00\x02\x00\x00\x00\x00\x00\x00\x00\x01\x00\x00\x00x\x00\x00\x00\x00\x00\x00\x00\x00\x00\x00\x00",
-        line: "GetPropertiesReply properties=[41:-:[],42:54:[78,-]]",
-    },
-    Row {
-        frame: b"\x01\x10\x00\x00\x00\x00\x00\x00",
-        line: "SaveYourselfPhase2Request",
-    },
-    Row {
-        frame: b"\x01\x11\x00\x00\x00\x00\x00\x00",
-        line: "SaveYourselfPhase2",
-    },
-    Row {
-        frame: b"\x01\x12\x00\x00\x00\x00\x00\x00",
-        line: "SaveComplete",
-    },
-];
-
-/// Whether the bytes are a frame, least significant byte first.
-fn is_frame(bytes: &[u8]) -> bool
-    ensures { IsTrue result → IsFrame Endian.Lsb bytes.now }
-{
-    if bytes.len() < 8 {
-        return false;
-    }
-    let (_, length) = bytes.split_at(4);
-    bytes.len() == 8 + 8 * read_card32(Endian::Lsb, length) as usize
-}
-
-fn ice_shown(alloc: Global, frame: &[u8]) -> Result<Octets, Fail> {
-    if !is_frame(frame) || frame[0] != 0 {
-        return Err("no frame of ICE".into());
-    }
-    Ok(ice_line(alloc, &decode_ice(alloc, Endian::Lsb, frame)?)?)
-}
-
-fn xsmp_shown(alloc: Global, frame: &[u8]) -> Result<Octets, Fail> {
-    if !is_frame(frame) {
-        return Err("no frame".into());
-    }
-    Ok(xsmp_line(alloc, &decode_xsmp(alloc, Endian::Lsb, frame)?)?)
+fn xsmp_shown(alloc: Global, digits: &str) -> Result<String, Fail> {
+    let frame = bytes_of(alloc, digits)?;
+    let message = xsmp_decoded(alloc, Endian::Lsb, frame.as_slice())??;
+    let line = xsmp_line(alloc, &message)?;
+    Ok(str::from_utf8(line.as_slice())?.to_string(alloc)?)
 }
 
 #[test]
 fn lines_of_ice(rt: HostRuntime) -> Result<(), Fail> {
-    for row in &ICE_ROWS {
-        let line = ice_shown(rt.alloc(), row.frame)?;
-        assert_eq!(rt; str::from_utf8(line.as_slice())?, row.line);
-    }
-    Ok(())
+    expect_rows(&rt, ICE_ROWS, ice_shown)
 }
 
 #[test]
 fn lines_of_xsmp(rt: HostRuntime) -> Result<(), Fail> {
-    for row in &XSMP_ROWS {
-        let line = xsmp_shown(rt.alloc(), row.frame)?;
-        assert_eq!(rt; str::from_utf8(line.as_slice())?, row.line);
-    }
-    Ok(())
+    expect_rows(&rt, XSMP_ROWS, xsmp_shown)
 }

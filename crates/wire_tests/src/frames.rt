@@ -1,0 +1,117 @@
+//! Frames of the set-up by their names, and the messages that they spell.
+
+use crate::table::{bytes_of, digits_of, is_frame};
+use ice_cookie::Cookie;
+use ice_messages::{IceMessage, decode_ice, encode_ice, minor};
+use ice_values::{DecodeRefusal, Endian, Enumerated};
+use sm_world::Octets;
+use std::alloc::Global;
+use std::test::Fail;
+
+pub const COOKIE: Cookie = Cookie([0, 1, 2, 3, 4, 5, 6, 7, 8, 9, 10, 11, 12, 13, 14, 15]);
+
+/// A frame of each message, and others. Those whose names begin with `other` have the most significant
+/// byte first, but for other-protocol, which is XSMQ; each that is named second offers or takes the
+/// second name and version.
+const FRAMES: &str = "\
+error 00000180010000000500000009000000
+order 0001000000000000
+connect 0002010106000000000000000000000003004d49540000000300312e3000000012004d49542d4d414749432d434f4f4b49452d3101000000
+required 00030000010000000000000000000000
+reply 00040000030000001000000000000000000102030405060708090a0b0c0d0e0f
+next-phase 00050000010000000000000000000000
+connected 00060000020000000300736d640000000300312e30000000
+protocol 00070100070000000101000000000000040058534d50000003004d49540000000300312e3000000012004d49542d4d414749432d434f4f4b49452d3101000000
+begun 00080001020000000300736d640000000300312e30000000
+ping 0009000000000000
+ping-reply 000a000000000000
+want-to-close 000b000000000000
+no-close 000c000000000000
+other-order 0001010000000000
+other-connect 0002010100000006000000000000000000034d49540000000003312e3000000000124d49542d4d414749432d434f4f4b49452d3100010000
+other-reply 00040000000000030010000000000000000102030405060708090a0b0c0d0e0f
+protocol-5 00070500070000000101000000000000040058534d50000003004d49540000000300312e3000000012004d49542d4d414749432d434f4f4b49452d3101000000
+other-protocol 00070100070000000101000000000000040058534d51000003004d49540000000300312e3000000012004d49542d4d414749432d434f4f4b49452d3101000000
+wrong-reply 00040000030000001000000000000000000102030405060708090a0b0c0d0eff
+short-reply 00040000030000000f00000000000000000102030405060708090a0b0c0d0e00
+connect-nameless 0002010105000000000000000000000003004d49540000000300312e3000000004004e4f504500000100000000000000
+connect-must 0002010106000000010000000000000003004d49540000000300312e3000000012004d49542d4d414749432d434f4f4b49452d3101000000
+connect-versionless 0002020107000000000000000000000003004d49540000000300312e3000000012004d49542d4d414749432d434f4f4b49452d31010001000200000000000000
+protocol-0 00070000070000000101000000000000040058534d50000003004d49540000000300312e3000000012004d49542d4d414749432d434f4f4b49452d3101000000
+protocol-xsmq 00070500070000000101000000000000040058534d51000003004d49540000000300312e3000000012004d49542d4d414749432d434f4f4b49452d3101000000
+protocol-versionless 00070501070000000001000000000000040058534d50000003004d49540000000300312e3000000012004d49542d4d414749432d434f4f4b49452d3100000000
+protocol-must-nameless 00070501060000000101000000000000040058534d50000003004d49540000000300312e3000000004004e4f504500000100000000000000
+protocol-free 00070500050000000100000000000000040058534d50000003004d49540000000300312e300000000100000000000000
+xsmq-0 00070000040000000000000000000000040058534d51000003004d49540000000300312e30000000
+xsmq-5 00070500040000000000000000000000040058534d51000003004d49540000000300312e30000000
+xsmq-1 00070100040000000000000000000000040058534d51000003004d49540000000300312e30000000
+xsmp-again 00070100040000000000000000000000040058534d50000003004d49540000000300312e30000000
+connect-2.0 0002010106000000000000000000000003004d49540000000300312e3000000012004d49542d4d414749432d434f4f4b49452d3102000000
+connect-second 000203030b000000010000000000000003004d49540000000300312e3000000004004e4f5045000012004d49542d4d414749432d434f4f4b49452d3112004d49542d4d414749432d434f4f4b49452d3101000100010000000100000000000000
+protocol-second 00070501090000000202000000000000040058534d50000003004d49540000000300312e3000000004004e4f5045000012004d49542d4d414749432d434f4f4b49452d31020000000100000000000000
+fatal 00000180010000000501000009000000
+more-fatal 00000180010000000502000009000000
+required-second 00030100010000000000000000000000
+connected-second 00060100020000000300736d640000000300312e30000000
+begun-second 00080105020000000300736d640000000300312e30000000";
+
+/// A name for each message.
+pub const MESSAGES: &str =
+    "error order connect required reply next-phase connected protocol begun ping \
+    ping-reply want-to-close no-close";
+
+/// The bytes of the frame of a name.
+fn frame_of(alloc: Global, name: &str) -> Result<Vec<u8>, Fail> {
+    for row in FRAMES.lines() {
+        if let Some((known, digits)) = row.split_once(' ') {
+            if known == name {
+                return bytes_of(alloc, digits);
+            }
+        }
+    }
+    Err("no frame of this name".into())
+}
+
+/// The message that a frame of ICE spells.
+pub fn decoded(
+    alloc: Global,
+    endian: Endian,
+    frame: &[u8],
+) -> Result<Result<IceMessage, DecodeRefusal>, Fail> {
+    if !is_frame(endian, frame) || frame[0] != 0 {
+        return Err("no frame of ICE".into());
+    }
+    Ok(decode_ice(alloc, endian, frame))
+}
+
+/// The message that the frame of a name spells.
+pub fn message_of(alloc: Global, endian: Endian, name: &str) -> Result<IceMessage, Fail> {
+    let frame = frame_of(alloc, name)?;
+    Ok(decoded(alloc, endian, frame.as_slice())??)
+}
+
+/// An answer by its minor opcode, or for an Error by its class and its severity.
+pub fn answer_name(alloc: Global, answer: &IceMessage) -> Result<String, Fail> {
+    match answer {
+        IceMessage::Error(error) => {
+            let severity = error.severity.number();
+            Ok(format!(in alloc; " {:x}.{severity}", error.class)?)
+        }
+        _ => Ok(format!(in alloc; " {}", minor(answer))?),
+    }
+}
+
+/// An answer as it is sent, least significant byte first.
+pub fn answer_digits(alloc: Global, answer: &IceMessage) -> Result<String, Fail> {
+    let mut out = Octets::new(alloc);
+    encode_ice(Endian::Lsb, answer, &mut out)?;
+    digits_of(alloc, out.as_slice())
+}
+
+/// The same, or a dash where there is no answer.
+pub fn answer_or_dash(alloc: Global, answer: Option<&IceMessage>) -> Result<String, Fail> {
+    match answer {
+        Some(answer) => answer_digits(alloc, answer),
+        None => Ok("-".to_string(alloc)?),
+    }
+}
