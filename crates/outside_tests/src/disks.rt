@@ -3,6 +3,7 @@ ghost use Rattle.sm_world.specs.Worlds.{mem_outside, steady_outside};
 ghost use Rattle.sm_world.specs.Outside.{Rose};
 
 use crate::table::{expect_rows, text_of};
+use crate::worlds::numbers;
 use sm_world::{
     Choice, Disk, EventList, Failed, Failure, MemWorld, NoMemory, NumberList, Octets, SteadyWorld,
     Told,
@@ -105,19 +106,13 @@ fn steady_disk(alloc: Global, file: &[u8]) -> Result<SteadyWorld, NoMemory>
     SteadyWorld::new(alloc, EventList::new(alloc), Octets::new(alloc), file)
 }
 
-fn failing_disk(alloc: Global, file: &[u8], number: u64) -> Result<MemWorld, NoMemory>
+/// A disk whose calls of these numbers fail.
+fn failing_disk(alloc: Global, file: &[u8], failing: NumberList) -> Result<MemWorld, NoMemory>
     ensures { IfOk result (λ world. (mem_outside world).size ≡ length file.now) }
 {
     let file = Octets::from_slice(alloc, file)?;
-    let mut failing = NumberList::new(alloc);
-    failing.push(number)?;
-    MemWorld::new(
-        alloc,
-        EventList::new(alloc),
-        Octets::new(alloc),
-        file,
-        failing,
-    )
+    let events = EventList::new(alloc);
+    MemWorld::new(alloc, events, Octets::new(alloc), file, failing)
 }
 
 /// Whether a disk keeps what is written, and whether it does where it refuses each call.
@@ -241,18 +236,22 @@ fn a_crash_leaves_what_it_may(rt: HostRuntime) -> Result<(), Fail> {
     expect_rows(&rt, LEFT, commit_left)
 }
 
+/// The file that a crash leaves after all effects, where it may have any byte as 255.
+fn all_left(world: &MemWorld) -> Result<Octets, NoMemory> {
+    world.crash_file(world.effects().len(), Choice::Filled(0xff))
+}
+
 /// What a world tells in which calls failed: its file, its effects, and what a crash may leave.
 fn failing_shown(alloc: Global, world: &MemWorld) -> Result<String, Fail> {
     let file = text_of(alloc, &world.file())?;
     let effects = text_of(alloc, &world.effects())?;
-    let left = world.crash_file(world.effects().len(), Choice::Filled(0xff))?;
-    let left = text_of(alloc, &left.as_slice())?;
+    let left = text_of(alloc, &all_left(world)?.as_slice())?;
     Ok(format!(in alloc; "{file} {} {effects} {left}", world.unrecorded())?)
 }
 
 /// A first write of bytes from 7 on, as many as it is told, which fails.
 fn failed_write(alloc: Global, count: &str) -> Result<String, Fail> {
-    let mut world = failing_disk(alloc, &[0, 0, 0], 1)?;
+    let mut world = failing_disk(alloc, &[0, 0, 0], numbers(alloc, 1, 9)?)?;
     let bytes: &[u8] = if count == "1" { &[7] } else { &[7, 8] };
     let answer = text_of(alloc, &world.write_at(0, bytes))?;
     Ok(format!(in alloc; "{answer} {}", failing_shown(alloc, &world)?)?)
@@ -268,7 +267,7 @@ fn a_failed_write_of_one_byte_tears_nothing(rt: HostRuntime) -> Result<(), Fail>
 
 /// A write, and two syncs of which the first fails.
 fn failed_sync(alloc: Global, _input: &str) -> Result<String, Fail> {
-    let mut world = failing_disk(alloc, &[0, 0, 0], 2)?;
+    let mut world = failing_disk(alloc, &[0, 0, 0], numbers(alloc, 2, 9)?)?;
     let written = world.write_at(1, &[7, 8]);
     let first = world.sync();
     let second = world.sync();
@@ -283,22 +282,19 @@ fn a_failed_sync_is_recorded(rt: HostRuntime) -> Result<(), Fail> {
     expect_rows(&rt, row, failed_sync)
 }
 
-/// A disk of so many bytes 0.
-fn large_disk(alloc: Global, count: usize) -> Result<SteadyWorld, NoMemory>
-    ensures { IfOk result (λ world. (steady_outside world).size ≡ count) }
-{
-    let file = Octets::from_vec(vec![in alloc; 0; count]?);
-    SteadyWorld::new(alloc, EventList::new(alloc), Octets::new(alloc), file)
+/// So many bytes 0.
+fn zeros(alloc: Global, count: usize) -> Result<Octets, NoMemory> {
+    Ok(Octets::from_vec(vec![in alloc; 0; count]?))
 }
 
 /// How many bytes a crash at the gate of a commit leaves, and the first, on a disk of so many.
 fn large_left(alloc: Global, input: &str) -> Result<String, Fail> {
     let (count, name) = input.split_once(' ').ok_or("no choice")?;
-    let count = count.parse::<usize>()?;
-    if count < 6 {
+    let file = zeros(alloc, count.parse::<usize>()?)?;
+    if file.len() < 6 {
         return Err("too small".into());
     }
-    let mut world = large_disk(alloc, count)?;
+    let mut world = steady_disk(alloc, file.as_slice())?;
     commit(&mut world)?;
     let file = left(&world, 5, choice_of(name)?)?;
     Ok(format!(in alloc; "{} {:?}", file.len(), file.as_slice().first())?)

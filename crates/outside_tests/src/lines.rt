@@ -159,15 +159,21 @@ fn effect_shown(alloc: Global, name: &str) -> Result<String, Fail> {
 
 /// The line of a start by itself.
 fn start_shown(alloc: Global, directory: &str) -> Result<String, Fail> {
-    shown(alloc, &started_line(alloc, &command(alloc, directory)?, true)?)
+    shown(
+        alloc,
+        &started_line(alloc, &command(alloc, directory)?, true)?,
+    )
+}
+
+fn printed_line(alloc: Global, text: &str) -> Result<String, Fail> {
+    line_shown(alloc, &Effect::Printed(octets(alloc, text)?))
 }
 
 /// The line of a printed text, without its newline and with it.
 fn printed_shown(alloc: Global, text: &str) -> Result<String, Fail> {
-    let whole = format!(in alloc; "{text}\n")?;
-    let unended = line_shown(alloc, &Effect::Printed(octets(alloc, text)?))?;
-    let ended = line_shown(alloc, &Effect::Printed(octets(alloc, whole.as_str())?))?;
-    Ok(format!(in alloc; "{unended}, {ended}")?)
+    let ended = format!(in alloc; "{text}\n")?;
+    let ended = printed_line(alloc, ended.as_str())?;
+    Ok(format!(in alloc; "{}, {ended}", printed_line(alloc, text)?)?)
 }
 
 #[test]
