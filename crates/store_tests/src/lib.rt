@@ -7,3 +7,5 @@ mod books;
 mod properties;
 #[cfg(test)]
 mod records;
+#[cfg(test)]
+mod table;
