@@ -1,252 +1,159 @@
 //! Books against bytes written down by hand.
 
-use checkpoint_records::{Book, BookRefusal, Entry, read_book, spell_book};
-use sm_world::{Command, NoMemory, Octets};
+use crate::table::{bytes_of, expect_rows, text_of};
+use checkpoint_records::{Book, Entry, read_book, spell_book};
+use sm_world::Command;
 use std::alloc::{Alloc, Global};
 use std::process::Abort;
 use std::test::Fail;
 
-/// The format 1, the epoch 0, no entries and no pending commands.
-const EMPTY: &[u8] = b"\x01\0\0\0\0\0\0\0\0\0\0\0\0\0\0\0";
-
-/// The epoch 2, one entry and one pending command.
-const HEAD: &[u8] = b"\x01\0\0\0\x02\0\0\0\x01\0\0\0\x01\0\0\0";
-
-const ID: &[u8] = b"\x15\0\0\0smd-00000001-0000000a\0\0\0\0\0\0\0";
-
-const LATER_ID: &[u8] = b"\x15\0\0\0smd-00001234-deadbeef\0\0\0\0\0\0\0";
-
-/// One property, with two values.
-const TABLE: &[u8] = b"\x01\0\0\0\0\0\0\0\
-\x0e\0\0\0DiscardCommand\0\0\0\0\0\0\
-\x0c\0\0\0LISTofARRAY8\
-\x02\0\0\0\0\0\0\0\x02\0\0\0rm\0\0\x01\0\0\0a\0\0\0";
-
-/// Two words, a directory, and a variable that is empty.
-const COMMAND: &[u8] = b"\x02\0\0\0\0\0\0\0\x02\0\0\0rm\0\0\x01\0\0\0b\0\0\0\
-\x01\0\0\0/\0\0\0\
-\x02\0\0\0\0\0\0\0\x01\0\0\0A\0\0\0\0\0\0\0\0\0\0\0";
-
-/// Where the example is damaged if the lowest bit of a byte changes: `-` for nowhere, `0` for the
-/// head, `e` for the entry, `t` for the end of the entry's ID and count of properties, `c` for the
-/// command, `w` for its first word, and `l` for the end.
-const MARKS: &[u8] = b"0000----e000cl00\
-eeeeeeeeeeeeeeeee-------eeeeeeee\
-teeeeeee\
--eee--------------eeeeee\
-eeee------------\
-weeeeeee-eee--eeeeee-eee\
-cccccccccccc--cccccc-ccc\
-cccc-ccc\
-cccccccccccc-ccccccccccc";
-
-fn joined(alloc: Global, parts: &[&[u8]]) -> Result<Octets, NoMemory> {
-    let mut bytes = Octets::new(alloc);
-    for part in parts {
-        bytes.append(part)?;
-    }
-    Ok(bytes)
-}
-
-fn example(alloc: Global) -> Result<Octets, NoMemory> {
-    joined(alloc, &[HEAD, ID, TABLE, COMMAND])
-}
-
-/// The same bytes with some bits of one of them changed.
-fn changed(alloc: Global, bytes: &[u8], place: usize, bits: u8) -> Result<Octets, NoMemory> {
-    let mut other = Octets::new(alloc);
-    for (i, byte) in bytes.iter().enumerate() {
-        let byte = if i == place { *byte ^ bits } else { *byte };
-        other.append(&[byte])?;
-    }
-    Ok(other)
-}
-
-/// Where the bytes are damaged.
-fn place_of(alloc: Global, bytes: &[u8]) -> Result<Option<u64>, NoMemory> {
-    match read_book(alloc, bytes) {
-        Ok(_) => Ok(None),
-        Err(BookRefusal::Damaged { at }) => Ok(Some(at)),
-        Err(BookRefusal::NoMemory) => Err(NoMemory),
-    }
-}
-
-fn marked_place(mark: u8) -> Option<u64> {
-    match mark {
-        b'0' => Some(0),
-        b'e' => Some(16),
-        b't' => Some(56),
-        b'c' => Some(120),
-        b'w' => Some(128),
-        b'l' => Some(176),
-        _ => None,
-    }
-}
-
-/// The names of an entry's properties behind its ID, each with a bar behind it.
-fn put_entry(entry: &Entry, text: &mut Octets) -> Result<(), NoMemory> {
-    text.append(entry.id.as_slice())?;
-    text.append(b"|")?;
+/// The ID of an entry and the names of its properties, each with a bar behind it.
+fn entry_shown(alloc: Global, entry: &Entry) -> Result<String, Fail> {
+    let mut text = String::new(alloc);
+    text.push_str(str::from_utf8(entry.id.as_slice())?)?;
+    text.push('|')?;
     for property in entry.table.list()?.as_slice() {
-        text.append(property.name.as_slice())?;
-        text.append(b"|")?;
-    }
-    Ok(())
-}
-
-/// The words, the directory and the names and values of a command, each with a bar behind it.
-fn put_command(command: &Command, text: &mut Octets) -> Result<(), NoMemory> {
-    for word in command.words.as_slice() {
-        text.append(word.as_slice())?;
-        text.append(b"|")?;
-    }
-    text.append(command.directory.as_slice())?;
-    text.append(b"|")?;
-    for (name, value) in command.environment.as_slice() {
-        text.append(name.as_slice())?;
-        text.append(b"=")?;
-        text.append(value.as_slice())?;
-        text.append(b"|")?;
-    }
-    Ok(())
-}
-
-fn text_of(alloc: Global, book: &Book) -> Result<Octets, NoMemory> {
-    let mut text = Octets::new(alloc);
-    for entry in book.entries.as_slice() {
-        put_entry(entry, &mut text)?;
-    }
-    for command in book.pending.as_slice() {
-        put_command(command, &mut text)?;
+        text.push_str(str::from_utf8(property.name.as_slice())?)?;
+        text.push('|')?;
     }
     Ok(text)
 }
 
-/// The bytes are a book of this epoch that is told by this text, and it is spelled so.
-fn is_book(
-    rt: &(impl Abort + Alloc<A = Global>),
-    parts: &[&[u8]],
-    epoch: u32,
-    text: &[u8],
-) -> Result<(), Fail> {
-    let alloc = rt.alloc();
-    let bytes = joined(alloc, parts)?;
-    let book = read_book(alloc, bytes.as_slice())?;
-    assert_eq!(rt; book.epoch, epoch);
-    assert!(rt; text_of(alloc, &book)?.as_slice() == text);
-    assert!(rt; spell_book(alloc, &book)?.as_slice() == bytes.as_slice());
-    Ok(())
-}
-
-fn is_damaged_at(
-    rt: &(impl Abort + Alloc<A = Global>),
-    parts: &[&[u8]],
-    place: u64,
-) -> Result<(), Fail> {
-    let alloc = rt.alloc();
-    let bytes = joined(alloc, parts)?;
-    assert_eq!(rt; place_of(alloc, bytes.as_slice())?, Some(place));
-    Ok(())
-}
-
-fn changes_as_marked(
-    rt: &(impl Abort + Alloc<A = Global>),
-    bytes: &[u8],
-    marks: &[u8],
-) -> Result<(), Fail> {
-    let alloc = rt.alloc();
-    for (i, mark) in marks.iter().enumerate() {
-        let other = changed(alloc, bytes, i, 1)?;
-        assert_eq!(rt; place_of(alloc, other.as_slice())?, marked_place(*mark));
+/// The words, the directory and the names and values of a command, each with a bar behind it.
+fn command_shown(alloc: Global, command: &Command) -> Result<String, Fail> {
+    let mut text = String::new(alloc);
+    for word in command.words.as_slice() {
+        text.push_str(str::from_utf8(word.as_slice())?)?;
+        text.push('|')?;
     }
-    Ok(())
+    text.push_str(str::from_utf8(command.directory.as_slice())?)?;
+    text.push('|')?;
+    for (name, value) in command.environment.as_slice() {
+        text.push_str(str::from_utf8(name.as_slice())?)?;
+        text.push('=')?;
+        text.push_str(str::from_utf8(value.as_slice())?)?;
+        text.push('|')?;
+    }
+    Ok(text)
 }
 
-#[test]
-fn books_without_a_client(rt: HostRuntime) -> Result<(), Fail> {
-    is_book(&rt, &[EMPTY], 0, b"")?;
-    is_book(
-        &rt,
-        &[b"\x01\0\0\0\0\0\0\0\0\0\0\0\x01\0\0\0", COMMAND],
-        0,
-        b"rm|b|/|A=|",
-    )
+fn book_shown(alloc: Global, book: &Book) -> Result<String, Fail> {
+    let mut text = text_of(alloc, &book.epoch)?;
+    text.push(' ')?;
+    for entry in book.entries.as_slice() {
+        text.push_str(entry_shown(alloc, entry)?.as_str())?;
+    }
+    for command in book.pending.as_slice() {
+        text.push_str(command_shown(alloc, command)?.as_str())?;
+    }
+    Ok(text)
 }
 
-#[test]
-fn books_of_clients(rt: HostRuntime) -> Result<(), Fail> {
-    is_book(
-        &rt,
-        &[HEAD, ID, TABLE, COMMAND],
-        2,
-        b"smd-00000001-0000000a|DiscardCommand|rm|b|/|A=|",
-    )?;
-    is_book(
-        &rt,
-        &[
-            b"\x01\0\0\0\x34\x12\0\0\x02\0\0\0\0\0\0\0",
-            LATER_ID,
-            b"\0\0\0\0\0\0\0\0",
-            ID,
-            TABLE,
-        ],
-        0x1234,
-        b"smd-00001234-deadbeef|smd-00000001-0000000a|DiscardCommand|",
-    )
+/// The epoch and the parts of the book that bytes spell, if it is spelled so, or why there is none.
+fn read_shown(alloc: Global, bytes: &[u8]) -> Result<String, Fail> {
+    match read_book(alloc, bytes) {
+        Ok(book) => {
+            if spell_book(alloc, &book)?.as_slice() != bytes {
+                return Err("it is spelled otherwise".into());
+            }
+            book_shown(alloc, &book)
+        }
+        Err(refusal) => text_of(alloc, &refusal),
+    }
 }
+
+fn bytes_shown(alloc: Global, digits: &str) -> Result<String, Fail> {
+    read_shown(alloc, bytes_of(alloc, digits)?.as_slice())
+}
+
+/// A book has a head with the format 1, the epoch, and how many entries and pending commands follow.
+/// Here are the empty book, one with a command, one with an entry and a command, and one with two
+/// entries, of which the first says nothing of itself. An entry is an ID and properties; a command is
+/// words, a directory and variables.
+const BOOKS: &str = "\
+01000000000000000000000000000000 => 0 
+01000000000000000000000001000000020000000000000002000000726d00000100000062000000010000002f000000020000000000000001000000410000000000000000000000 => 0 rm|b|/|A=|
+0100000002000000010000000100000015000000736d642d30303030303030312d30303030303030610000000000000001000000000000000e00000044697363617264436f6d6d616e640000000000000c0000004c4953546f66415252415938020000000000000002000000726d00000100000061000000020000000000000002000000726d00000100000062000000010000002f000000020000000000000001000000410000000000000000000000 => 2 smd-00000001-0000000a|DiscardCommand|rm|b|/|A=|
+0100000034120000020000000000000015000000736d642d30303030313233342d646561646265656600000000000000000000000000000015000000736d642d30303030303030312d30303030303030610000000000000001000000000000000e00000044697363617264436f6d6d616e640000000000000c0000004c4953546f66415252415938020000000000000002000000726d00000100000061000000 => 4660 smd-00001234-deadbeef|smd-00000001-0000000a|DiscardCommand|";
+
+/// No bytes, and a byte fewer; another format, and more entries or commands than there may be; entries
+/// and commands that are wanting; a byte more; and parts that come twice.
+const DAMAGED: &str = "\
+010000000000000000000000000000 => Damaged { at: 0 }
+02000000000000000000000000000000 => Damaged { at: 0 }
+01000000020000008100000000000000 => Damaged { at: 0 }
+01000000020000000000000041010000 => Damaged { at: 0 }
+01000000020000008000000000000000 => Damaged { at: 16 }
+01000000020000000000000040010000 => Damaged { at: 16 }
+0100000000000000000000000000000000 => Damaged { at: 16 }
+0100000002000000010000000100000015000000736d642d30303030303030312d30303030303030610000000000000001000000000000000e00000044697363617264436f6d6d616e640000000000000c0000004c4953546f66415252415938020000000000000002000000726d00000100000061000000020000000000000002000000726d00000100000062000000010000002f00000002000000000000000100000041000000000000000000000000 => Damaged { at: 176 }
+0100000002000000020000000000000015000000736d642d30303030303030312d30303030303030610000000000000001000000000000000e00000044697363617264436f6d6d616e640000000000000c0000004c4953546f66415252415938020000000000000002000000726d0000010000006100000015000000736d642d30303030303030312d30303030303030610000000000000001000000000000000e00000044697363617264436f6d6d616e640000000000000c0000004c4953546f66415252415938020000000000000002000000726d00000100000061000000 => Damaged { at: 120 }
+01000000020000000000000002000000020000000000000002000000726d00000100000062000000010000002f000000020000000000000001000000410000000000000000000000020000000000000002000000726d00000100000062000000010000002f000000020000000000000001000000410000000000000000000000 => Damaged { at: 72 }
+ => Damaged { at: 0 }";
+
+#[test]
+fn books_are_read_and_spelled(rt: HostRuntime) -> Result<(), Fail> {
+    expect_rows(&rt, BOOKS, bytes_shown)?;
+    expect_rows(&rt, DAMAGED, bytes_shown)
+}
+
+/// A book of the epoch 2 with one entry and one pending command.
+const EXAMPLE: &str =
+    "0100000002000000010000000100000015000000736d642d30303030303030312d30303030303030610000000000000001000000000000000e00000044697363617264436f6d6d616e640000000000000c0000004c4953546f66415252415938020000000000000002000000726d00000100000061000000020000000000000002000000726d00000100000062000000010000002f000000020000000000000001000000410000000000000000000000";
+
+/// What the example is with some bits of one of its bytes changed.
+fn changed(alloc: Global, place: usize, bits: u8) -> Result<String, Fail> {
+    let mut bytes = bytes_of(alloc, EXAMPLE)?;
+    if let Some(byte) = bytes.get_mut(place) {
+        *byte ^= bits;
+    }
+    match read_book(alloc, bytes.as_slice()) {
+        Ok(_) => Ok("a book".to_string(alloc)?),
+        Err(refusal) => text_of(alloc, &refusal),
+    }
+}
+
+/// What the example is with the lowest bit of a byte changed, where it is the same for all these bytes.
+fn places_shown(alloc: Global, places: &str) -> Result<String, Fail> {
+    let mut text = String::new(alloc);
+    for place in places.split(' ') {
+        let answer = changed(alloc, place.parse::<usize>()?, 1)?;
+        if !text.is_empty() && text.as_str() != answer.as_str() {
+            return Err("another answer".into());
+        }
+        text = answer;
+    }
+    Ok(text)
+}
+
+/// Where the example is damaged if the lowest bit of a byte changes: in the head, in the entry, behind
+/// its ID, in the command, in its first word, at the end, or nowhere.
+const PLACES: &str = "\
+4 5 6 7 33 34 35 36 37 38 39 56 60 61 62 63 64 65 66 67 68 69 70 71 72 73 84 85 86 87 88 89 90 91 92 93 94 95 104 108 109 116 132 133 140 148 164 => a book
+0 1 2 3 9 10 11 14 15 => Damaged { at: 0 }
+12 120 121 122 123 124 125 126 127 128 129 130 131 134 135 136 137 138 139 141 142 143 144 145 146 147 149 150 151 152 153 154 155 156 157 158 159 160 161 162 163 165 166 167 168 169 170 171 172 173 174 175 => Damaged { at: 120 }
+8 16 17 18 19 20 21 22 23 24 25 26 27 28 29 30 31 32 40 41 42 43 44 45 46 47 49 50 51 52 53 54 55 57 58 59 74 75 76 77 78 79 80 81 82 83 97 98 99 100 101 102 103 105 106 107 110 111 112 113 114 115 117 118 119 => Damaged { at: 16 }
+13 => Damaged { at: 176 }
+48 => Damaged { at: 56 }
+96 => Damaged { at: 128 }";
 
 #[test]
 fn each_byte_counts(rt: HostRuntime) -> Result<(), Fail> {
-    let bytes = example(rt.alloc())?;
-    assert_eq!(rt; bytes.len(), 176);
-    assert_eq!(rt; MARKS.len(), 176);
-    changes_as_marked(&rt, bytes.as_slice(), MARKS)
+    expect_rows(&rt, PLACES, places_shown)
 }
 
-#[test]
-fn bad_heads_are_damaged_at_the_start(rt: HostRuntime) -> Result<(), Fail> {
-    is_damaged_at(&rt, &[b""], 0)?;
-    is_damaged_at(&rt, &[b"\x01\0\0\0\0\0\0\0\0\0\0\0\0\0\0"], 0)?;
-    is_damaged_at(&rt, &[b"\x02\0\0\0\0\0\0\0\0\0\0\0\0\0\0\0"], 0)?;
-    is_damaged_at(&rt, &[b"\x01\0\0\0\x02\0\0\0\x81\0\0\0\0\0\0\0"], 0)?;
-    is_damaged_at(&rt, &[b"\x01\0\0\0\x02\0\0\0\0\0\0\0\x41\x01\0\0"], 0)
+/// What the example is with these bits of this byte changed.
+fn bits_shown(alloc: Global, input: &str) -> Result<String, Fail> {
+    let (place, bits) = input.split_once(' ').ok_or("no bits")?;
+    changed(alloc, place.parse::<usize>()?, bits.parse::<u8>()?)
 }
 
-#[test]
-fn missing_and_further_bytes_are_damaged(rt: HostRuntime) -> Result<(), Fail> {
-    is_damaged_at(&rt, &[b"\x01\0\0\0\x02\0\0\0\x80\0\0\0\0\0\0\0"], 16)?;
-    is_damaged_at(&rt, &[b"\x01\0\0\0\x02\0\0\0\0\0\0\0\x40\x01\0\0"], 16)?;
-    is_damaged_at(&rt, &[EMPTY, b"\0"], 16)?;
-    is_damaged_at(&rt, &[HEAD, ID, TABLE, COMMAND, b"\0"], 176)
-}
-
-#[test]
-fn parts_that_come_twice_are_damaged(rt: HostRuntime) -> Result<(), Fail> {
-    is_damaged_at(
-        &rt,
-        &[
-            b"\x01\0\0\0\x02\0\0\0\x02\0\0\0\0\0\0\0",
-            ID,
-            TABLE,
-            ID,
-            TABLE,
-        ],
-        120,
-    )?;
-    is_damaged_at(
-        &rt,
-        &[b"\x01\0\0\0\x02\0\0\0\0\0\0\0\x02\0\0\0", COMMAND, COMMAND],
-        72,
-    )
-}
+/// A digit of upper case, and a pending command that an entry names.
+const BITS: &str = "\
+40 32 => Damaged { at: 16 }
+140 3 => Damaged { at: 120 }";
 
 #[test]
 fn digits_are_lower_case_and_no_command_is_named(rt: HostRuntime) -> Result<(), Fail> {
-    let alloc = rt.alloc();
-    let bytes = example(alloc)?;
-    let upper = changed(alloc, bytes.as_slice(), 40, 0x20)?;
-    assert_eq!(rt; place_of(alloc, upper.as_slice())?, Some(16));
-    let named = changed(alloc, bytes.as_slice(), 140, 3)?;
-    assert_eq!(rt; place_of(alloc, named.as_slice())?, Some(120));
-    Ok(())
+    expect_rows(&rt, BITS, bits_shown)
 }

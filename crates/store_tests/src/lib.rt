@@ -9,3 +9,5 @@ mod properties;
 mod records;
 #[cfg(test)]
 mod slots;
+#[cfg(test)]
+mod table;

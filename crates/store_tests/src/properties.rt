@@ -1,366 +1,317 @@
-//! Tables and what is read from them, by cases written down by hand.
+//! Tables and what is read from them, by cases written down by hand. The values of a property are
+//! written as hex digits, each with a bar behind it.
 
+use crate::table::{bytes_of, digits_of, expect_rows, text_of};
 use ice_values::{Array8List, Property, PropertyList};
 use sm_world::{Duplicate, NoMemory, Octets, PairList};
 use std::alloc::{Alloc, Global};
 use std::process::Abort;
 use std::test::Fail;
-use xsmp_properties::{
-    Hint, PropertyTable, SetRefusal, command_of, directory_of, environment_of, hint_of,
-};
+use xsmp_properties::{PropertyTable, command_of, directory_of, environment_of, hint_of};
 
-/// Values, each with a bar behind it.
-fn values(alloc: Global, text: &[u8]) -> Result<Array8List, NoMemory> {
+/// The bytes that are written as digits, each with a bar behind it.
+fn values(alloc: Global, text: &str) -> Result<Array8List, Fail> {
     let mut values = Array8List::new(alloc);
-    let mut value = Octets::new(alloc);
-    for byte in text {
-        if *byte == b'|' {
-            values.push(value)?;
-            value = Octets::new(alloc);
-        } else {
-            value.append(&[*byte])?;
+    if let Some(all) = text.strip_suffix('|') {
+        for digits in all.split('|') {
+            values.push(Octets::from_vec(bytes_of(alloc, digits)?))?;
         }
     }
     Ok(values)
 }
 
-/// The same values in one text.
-fn text_of(alloc: Global, values: &[Octets]) -> Result<Octets, NoMemory> {
-    let mut text = Octets::new(alloc);
+/// The same text of values.
+fn digits_of_all(alloc: Global, values: &[Octets]) -> Result<String, Fail> {
+    let mut text = String::new(alloc);
     for value in values {
-        text.append(value.as_slice())?;
-        text.append(b"|")?;
+        text.push_str(digits_of(alloc, value.as_slice())?.as_str())?;
+        text.push('|')?;
     }
     Ok(text)
 }
 
-fn property(alloc: Global, name: &[u8], kind: &[u8], text: &[u8]) -> Result<Property, NoMemory> {
+fn property(alloc: Global, name: &str, kind: &str, text: &str) -> Result<Property, Fail> {
     Ok(Property {
-        name: Octets::from_slice(alloc, name)?,
-        kind: Octets::from_slice(alloc, kind)?,
+        name: Octets::from_slice(alloc, name.as_bytes())?,
+        kind: Octets::from_slice(alloc, kind.as_bytes())?,
         values: values(alloc, text)?,
     })
 }
 
-/// Sets one property.
-fn set(
-    alloc: Global,
-    table: &mut PropertyTable,
-    name: &[u8],
-    kind: &[u8],
-    text: &[u8],
-) -> Result<(), SetRefusal> {
-    let mut list = PropertyList::new(alloc);
-    list.push(property(alloc, name, kind, text)?)?;
-    table.set(&list)
-}
-
-/// The names and the first values, in order.
-fn shown(alloc: Global, table: &PropertyTable) -> Result<Octets, NoMemory> {
-    let mut text = Octets::new(alloc);
-    for property in table.list()?.as_slice() {
-        text.append(property.name.as_slice())?;
-        text.append(b"=")?;
-        text.append(text_of(alloc, property.values.as_slice())?.as_slice())?;
-    }
-    Ok(text)
-}
-
-/// Sets P, Q and P again.
-fn set_again(alloc: Global) -> Result<PropertyTable, SetRefusal> {
-    let mut table = PropertyTable::new(alloc)?;
-    set(alloc, &mut table, b"P", b"ARRAY8", b"1|")?;
-    set(alloc, &mut table, b"Q", b"ARRAY8", b"2|")?;
-    set(alloc, &mut table, b"P", b"ARRAY8", b"3|")?;
-    Ok(table)
-}
-
-fn shows(
-    rt: &(impl Abort + Alloc<A = Global>),
-    table: &PropertyTable,
-    text: &[u8],
-) -> Result<(), Fail> {
-    assert_eq!(rt; shown(rt.alloc(), table)?.as_slice(), text);
-    Ok(())
-}
-
-#[test]
-fn a_name_that_is_set_again_keeps_its_place(rt: HostRuntime) -> Result<(), Fail> {
-    let table = set_again(rt.alloc())?;
-    shows(&rt, &table, b"P=3|Q=2|")
-}
-
-#[test]
-fn a_delete_takes_names_out(rt: HostRuntime) -> Result<(), Fail> {
-    let alloc = rt.alloc();
-    let mut table = set_again(alloc)?;
-    let twin = table.copy()?;
-    table.delete(&values(alloc, b"X|P|")?);
-    assert_eq!(rt; table.get(b"P").is_none(), true);
-    shows(&rt, &table, b"Q=2|")?;
-    shows(&rt, &twin, b"P=3|Q=2|")
-}
-
-/// One property `P` of kind `ARRAY8` with one value of so many bytes.
-fn long(alloc: Global, count: usize) -> Result<PropertyList, NoMemory> {
-    let mut property = property(alloc, b"P", b"ARRAY8", b"")?;
-    let value = vec![in alloc; b'x'; count]?;
-    property.values.push(Octets::from_vec(value))?;
+fn single(alloc: Global, property: Property) -> Result<PropertyList, NoMemory> {
     let mut list = PropertyList::new(alloc);
     list.push(property)?;
     Ok(list)
 }
 
-/// So many properties of different names.
-fn many(alloc: Global, count: u8) -> Result<PropertyList, NoMemory> {
-    let mut list = PropertyList::new(alloc);
-    for name in 0..count {
-        list.push(property(alloc, &[name], b"", b"")?)?;
-    }
-    Ok(list)
+/// Sets one property, of which the input says the kind and the values.
+fn set(alloc: Global, table: &mut PropertyTable, name: &str, input: &str) -> Result<(), Fail> {
+    let (kind, text) = input.split_once(' ').ok_or("no kind")?;
+    let list = single(alloc, property(alloc, name, kind, text)?)?;
+    Ok(table.set(&list)?)
 }
 
-fn expect_full(
-    rt: &(impl Abort + Alloc<A = Global>),
-    table: &mut PropertyTable,
-    list: &PropertyList,
-) -> Result<(), Fail> {
-    let refused = table.set(list).err();
-    assert_eq!(rt; refused, Some(SetRefusal::TableFull));
-    Ok(())
-}
-
-#[test]
-fn a_table_has_16384_bytes_at_most(rt: HostRuntime) -> Result<(), Fail> {
-    let alloc = rt.alloc();
+/// A table with one property.
+fn table_with(alloc: Global, name: &str, input: &str) -> Result<PropertyTable, Fail> {
     let mut table = PropertyTable::new(alloc)?;
-    table.set(&long(alloc, 16_348)?)?;
-    expect_full(&rt, &mut table, &long(alloc, 16_349)?)?;
-    let text = shown(alloc, &table)?;
-    assert_eq!(rt; text.len(), 2 + 16_348 + 1);
-    Ok(())
+    set(alloc, &mut table, name, input)?;
+    Ok(table)
 }
 
-#[test]
-fn a_full_table_has_no_room_for_a_name(rt: HostRuntime) -> Result<(), Fail> {
-    let alloc = rt.alloc();
-    let mut table = PropertyTable::new(alloc)?;
-    table.set(&long(alloc, 16_348)?)?;
-    let refused = set(alloc, &mut table, b"Q", b"", b"").err();
-    assert_eq!(rt; refused, Some(SetRefusal::TableFull));
-    Ok(())
+/// A name and its values.
+fn property_shown(alloc: Global, property: &Property) -> Result<String, Fail> {
+    let name = str::from_utf8(property.name.as_slice())?;
+    let values = digits_of_all(alloc, property.values.as_slice())?;
+    Ok(format!(in alloc; "{name}={values}")?)
 }
 
-#[test]
-fn a_table_has_128_names_at_most(rt: HostRuntime) -> Result<(), Fail> {
-    let alloc = rt.alloc();
-    let mut table = PropertyTable::new(alloc)?;
-    expect_full(&rt, &mut table, &many(alloc, 129)?)?;
-    shows(&rt, &table, b"")?;
-    table.set(&many(alloc, 128)?)?;
-    Ok(())
-}
-
-#[test]
-fn a_full_table_takes_its_names_again(rt: HostRuntime) -> Result<(), Fail> {
-    let alloc = rt.alloc();
-    let mut table = PropertyTable::new(alloc)?;
-    let names = many(alloc, 128)?;
-    table.set(&names)?;
-    expect_full(&rt, &mut table, &many(alloc, 129)?)?;
-    table.set(&names)?;
-    assert_eq!(rt; table.list()?.as_slice().len(), 128);
-    Ok(())
-}
-
-#[test]
-fn what_stands_for_a_moment_may_pass_a_limit(rt: HostRuntime) -> Result<(), Fail> {
-    let alloc = rt.alloc();
-    let mut list = long(alloc, 70_000)?;
-    list.push(property(alloc, b"P", b"ARRAY8", b"1|")?)?;
-    let mut table = PropertyTable::new(alloc)?;
-    table.set(&list)?;
-    shows(&rt, &table, b"P=1|")
-}
-
-fn has_hint(
-    rt: &(impl Abort + Alloc<A = Global>),
-    kind: &[u8],
-    text: &[u8],
-    hint: Hint,
-) -> Result<(), Fail> {
-    let alloc = rt.alloc();
-    let mut table = PropertyTable::new(alloc)?;
-    set(alloc, &mut table, b"RestartStyleHint", kind, text)?;
-    assert_eq!(rt; hint_of(&table), hint);
-    Ok(())
-}
-
-#[test]
-fn a_hint_is_a_byte_from_0_to_3(rt: HostRuntime) -> Result<(), Fail> {
-    has_hint(&rt, b"CARD8", b"\x00|", Hint::IfRunning)?;
-    has_hint(&rt, b"CARD8", b"\x01|", Hint::Anyway)?;
-    has_hint(&rt, b"CARD8", b"\x02|", Hint::Immediately)?;
-    has_hint(&rt, b"CARD8", b"\x03|", Hint::Never)
-}
-
-#[test]
-fn a_hint_is_one_byte(rt: HostRuntime) -> Result<(), Fail> {
-    has_hint(&rt, b"CARD8", b"\x04|", Hint::IfRunning)?;
-    has_hint(&rt, b"CARD8", b"\x03\x00|", Hint::IfRunning)?;
-    has_hint(&rt, b"CARD8", b"\x03|\x03|", Hint::IfRunning)?;
-    has_hint(&rt, b"CARD8", b"|", Hint::IfRunning)
-}
-
-#[test]
-fn a_hint_has_its_kind(rt: HostRuntime) -> Result<(), Fail> {
-    has_hint(&rt, b"CARD8", b"", Hint::IfRunning)?;
-    has_hint(&rt, b"ARRAY8", b"\x03|", Hint::IfRunning)?;
-    has_hint(&rt, b"", b"\x03|", Hint::IfRunning)
-}
-
-fn has_directory(
-    rt: &(impl Abort + Alloc<A = Global>),
-    kind: &[u8],
-    text: &[u8],
-    path: &[u8],
-) -> Result<(), Fail> {
-    let alloc = rt.alloc();
-    let mut table = PropertyTable::new(alloc)?;
-    set(alloc, &mut table, b"CurrentDirectory", kind, text)?;
-    assert_eq!(rt; directory_of(alloc, &table)?.as_slice(), path);
-    Ok(())
-}
-
-#[test]
-fn a_directory_is_a_text(rt: HostRuntime) -> Result<(), Fail> {
-    has_directory(&rt, b"ARRAY8", b"/home|", b"/home")?;
-    has_directory(&rt, b"ARRAY8", b"/\xc3\xa9|", b"/\xc3\xa9")?;
-    has_directory(&rt, b"ARRAY8", b"/\xc3|", b"")?;
-    has_directory(&rt, b"ARRAY8", b"/\x00|", b"")
-}
-
-#[test]
-fn a_directory_is_one_value(rt: HostRuntime) -> Result<(), Fail> {
-    has_directory(&rt, b"ARRAY8", b"/a|/b|", b"")?;
-    has_directory(&rt, b"ARRAY8", b"", b"")?;
-    has_directory(&rt, b"LISTofARRAY8", b"/home|", b"")
-}
-
-/// Pairs in one text, each name and each value with a bar behind it.
-fn pairs_of(alloc: Global, pairs: &PairList) -> Result<Octets, NoMemory> {
-    let mut text = Octets::new(alloc);
-    for pair in pairs.as_slice() {
-        text.append(pair.0.as_slice())?;
-        text.append(b"|")?;
-        text.append(pair.1.as_slice())?;
-        text.append(b"|")?;
+/// The names and the values, in order.
+fn shown(alloc: Global, table: &PropertyTable) -> Result<String, Fail> {
+    let mut text = String::new(alloc);
+    for property in table.list()?.as_slice() {
+        text.push_str(property_shown(alloc, property)?.as_str())?;
     }
     Ok(text)
 }
 
-fn has_environment(
-    rt: &(impl Abort + Alloc<A = Global>),
-    kind: &[u8],
-    text: &[u8],
-    pairs: &[u8],
-) -> Result<(), Fail> {
-    let alloc = rt.alloc();
+/// A table in which these names are set, one after the other, each to the digits behind it.
+fn set_all(alloc: Global, input: &str) -> Result<PropertyTable, Fail> {
     let mut table = PropertyTable::new(alloc)?;
-    set(alloc, &mut table, b"Environment", kind, text)?;
-    let found = environment_of(alloc, &table)?;
-    assert_eq!(rt; pairs_of(alloc, &found)?.as_slice(), pairs);
-    Ok(())
-}
-
-#[test]
-fn an_environment_is_names_and_texts(rt: HostRuntime) -> Result<(), Fail> {
-    has_environment(&rt, b"LISTofARRAY8", b"A|1|B|=|", b"A|1|B|=|")?;
-    has_environment(&rt, b"LISTofARRAY8", b"A||", b"A||")?;
-    has_environment(&rt, b"LISTofARRAY8", b"", b"")?;
-    has_environment(&rt, b"LISTofARRAY8", b"A|1|B|", b"")
-}
-
-#[test]
-fn a_variable_has_a_name(rt: HostRuntime) -> Result<(), Fail> {
-    has_environment(&rt, b"LISTofARRAY8", b"|1|", b"")?;
-    has_environment(&rt, b"LISTofARRAY8", b"A=|1|", b"")?;
-    has_environment(&rt, b"LISTofARRAY8", b"A\xff|1|", b"")
-}
-
-#[test]
-fn a_variable_has_a_text(rt: HostRuntime) -> Result<(), Fail> {
-    has_environment(&rt, b"LISTofARRAY8", b"A|\xff|", b"")?;
-    has_environment(&rt, b"LISTofARRAY8", b"A|1|B|\x00|", b"")?;
-    has_environment(&rt, b"ARRAY8", b"A|1|", b"")
-}
-
-/// The words of RestartCommand; none where there is no command.
-fn words_of(alloc: Global, kind: &[u8], text: &[u8]) -> Result<Octets, SetRefusal> {
-    let mut table = PropertyTable::new(alloc)?;
-    set(alloc, &mut table, b"RestartCommand", kind, text)?;
-    match command_of(alloc, &table, b"RestartCommand")? {
-        Some(command) => Ok(text_of(alloc, command.words.as_slice())?),
-        None => Ok(Octets::new(alloc)),
+    for word in input.split(' ') {
+        let (name, digits) = word.split_once('=').ok_or("no name")?;
+        let values = format!(in alloc; "ARRAY8 {digits}|")?;
+        set(alloc, &mut table, name, values.as_str())?;
     }
-}
-
-fn has_words(
-    rt: &(impl Abort + Alloc<A = Global>),
-    kind: &[u8],
-    text: &[u8],
-    words: &[u8],
-) -> Result<(), Fail> {
-    assert_eq!(rt; words_of(rt.alloc(), kind, text)?.as_slice(), words);
-    Ok(())
-}
-
-#[test]
-fn a_command_is_a_program_and_its_arguments(rt: HostRuntime) -> Result<(), Fail> {
-    has_words(&rt, b"LISTofARRAY8", b"rm|a|", b"rm|a|")?;
-    has_words(&rt, b"LISTofARRAY8", b"rm||", b"rm||")?;
-    has_words(&rt, b"LISTofARRAY8", b"|a|", b"")?;
-    has_words(&rt, b"LISTofARRAY8", b"", b"")
-}
-
-#[test]
-fn a_command_is_of_texts(rt: HostRuntime) -> Result<(), Fail> {
-    has_words(&rt, b"LISTofARRAY8", b"rm|\x00|", b"")?;
-    has_words(&rt, b"LISTofARRAY8", b"rm|\xff|", b"")?;
-    has_words(&rt, b"ARRAY8", b"rm|", b"")
-}
-
-/// A DiscardCommand with a directory and an environment.
-fn discarding(alloc: Global) -> Result<PropertyTable, SetRefusal> {
-    let mut table = PropertyTable::new(alloc)?;
-    set(
-        alloc,
-        &mut table,
-        b"DiscardCommand",
-        b"LISTofARRAY8",
-        b"rm|",
-    )?;
-    set(alloc, &mut table, b"CurrentDirectory", b"ARRAY8", b"/a|")?;
-    set(alloc, &mut table, b"Environment", b"LISTofARRAY8", b"A|1|")?;
     Ok(table)
 }
 
-#[test]
-fn a_command_has_the_directory_and_environment_of_its_table(rt: HostRuntime) -> Result<(), Fail> {
-    let alloc = rt.alloc();
-    let table = discarding(alloc)?;
-    let found = command_of(alloc, &table, b"DiscardCommand")?;
-    let command = found.expect(&rt, "a command");
-    assert_eq!(rt; command.directory.as_slice(), b"/a".as_slice());
-    let pairs = pairs_of(alloc, &command.environment)?;
-    assert_eq!(rt; pairs.as_slice(), b"A|1|".as_slice());
-    Ok(())
+fn set_shown(alloc: Global, input: &str) -> Result<String, Fail> {
+    shown(alloc, &set_all(alloc, input)?)
 }
 
 #[test]
-fn an_absent_command_is_none(rt: HostRuntime) -> Result<(), Fail> {
-    let alloc = rt.alloc();
-    let found = command_of(alloc, &discarding(alloc)?, b"RestartCommand")?;
-    assert_eq!(rt; found.is_none(), true);
-    Ok(())
+fn a_name_that_is_set_again_keeps_its_place(rt: HostRuntime) -> Result<(), Fail> {
+    expect_rows(&rt, "P=01 Q=02 P=03 => P=03|Q=02|", set_shown)
+}
+
+/// The names that are left where these are deleted, written as digits; whether there is a P; and what
+/// a copy from before has.
+fn deleted_shown(alloc: Global, names: &str) -> Result<String, Fail> {
+    let mut table = set_all(alloc, "P=01 Q=02 P=03")?;
+    let twin = table.copy()?;
+    table.delete(&values(alloc, names)?);
+    let has = table.get(b"P").is_some();
+    let left = shown(alloc, &table)?;
+    Ok(format!(in alloc; "{left} {has} {}", shown(alloc, &twin)?)?)
+}
+
+#[test]
+fn a_delete_takes_names_out(rt: HostRuntime) -> Result<(), Fail> {
+    expect_rows(&rt, "58|50| => Q=02| false P=03|Q=02|", deleted_shown)
+}
+
+/// One property `P` of kind `ARRAY8` with one value of so many bytes.
+fn long(alloc: Global, count: usize) -> Result<PropertyList, Fail> {
+    let mut property = property(alloc, "P", "ARRAY8", "")?;
+    property
+        .values
+        .push(Octets::from_vec(vec![in alloc; b'x'; count]?))?;
+    Ok(single(alloc, property)?)
+}
+
+/// So many properties of different names.
+fn many(alloc: Global, count: u8) -> Result<PropertyList, Fail> {
+    let mut list = PropertyList::new(alloc);
+    for number in 0..count {
+        let name = text_of(alloc, &number)?;
+        list.push(property(alloc, name.as_str(), "", "")?)?;
+    }
+    Ok(list)
+}
+
+fn answer(alloc: Global, table: &mut PropertyTable, list: &PropertyList) -> Result<String, Fail> {
+    text_of(alloc, &table.set(list))
+}
+
+/// The answers where values of so many bytes are set, one after the other, and then a name without
+/// any; and how many bytes the names and the digits have then.
+fn long_shown(alloc: Global, counts: &str) -> Result<String, Fail> {
+    let mut table = PropertyTable::new(alloc)?;
+    let mut text = String::new(alloc);
+    for count in counts.split(' ') {
+        let list = long(alloc, count.parse::<usize>()?)?;
+        text.push_str(answer(alloc, &mut table, &list)?.as_str())?;
+    }
+    let list = single(alloc, property(alloc, "Q", "", "")?)?;
+    text.push_str(answer(alloc, &mut table, &list)?.as_str())?;
+    Ok(format!(in alloc; "{text} {}", shown(alloc, &table)?.len())?)
+}
+
+#[test]
+fn a_table_has_16384_bytes_at_most(rt: HostRuntime) -> Result<(), Fail> {
+    let row = "16348 16349 => Ok(())Err(TableFull)Err(TableFull) 32699";
+    expect_rows(&rt, row, long_shown)
+}
+
+/// The answers where so many names are set, one after the other, and how many there are each time.
+fn many_shown(alloc: Global, counts: &str) -> Result<String, Fail> {
+    let mut table = PropertyTable::new(alloc)?;
+    let mut text = String::new(alloc);
+    for count in counts.split(' ') {
+        let list = many(alloc, count.parse::<u8>()?)?;
+        text.push_str(answer(alloc, &mut table, &list)?.as_str())?;
+        text.push_str(text_of(alloc, &table.list()?.as_slice().len())?.as_str())?;
+    }
+    Ok(text)
+}
+
+#[test]
+fn a_table_has_128_names_at_most(rt: HostRuntime) -> Result<(), Fail> {
+    let row = "129 128 129 128 => Err(TableFull)0Ok(())128Err(TableFull)128Ok(())128";
+    expect_rows(&rt, row, many_shown)
+}
+
+/// A value of so many bytes, and in the same list a short one under the same name.
+fn momentary_shown(alloc: Global, count: &str) -> Result<String, Fail> {
+    let mut list = long(alloc, count.parse::<usize>()?)?;
+    list.push(property(alloc, "P", "ARRAY8", "01|")?)?;
+    let mut table = PropertyTable::new(alloc)?;
+    table.set(&list)?;
+    shown(alloc, &table)
+}
+
+#[test]
+fn what_stands_for_a_moment_may_pass_a_limit(rt: HostRuntime) -> Result<(), Fail> {
+    expect_rows(&rt, "70000 => P=01|", momentary_shown)
+}
+
+fn hint_shown(alloc: Global, input: &str) -> Result<String, Fail> {
+    let table = table_with(alloc, "RestartStyleHint", input)?;
+    text_of(alloc, &hint_of(&table))
+}
+
+/// A hint is one byte from 0 to 3, of its kind.
+const HINTS: &str = "\
+CARD8 00| => IfRunning
+CARD8 01| => Anyway
+CARD8 02| => Immediately
+CARD8 03| => Never
+CARD8 04| => IfRunning
+CARD8 0300| => IfRunning
+CARD8 03|03| => IfRunning
+CARD8 | => IfRunning
+CARD8  => IfRunning
+ARRAY8 03| => IfRunning
+ 03| => IfRunning";
+
+#[test]
+fn a_hint_is_a_byte_from_0_to_3(rt: HostRuntime) -> Result<(), Fail> {
+    expect_rows(&rt, HINTS, hint_shown)
+}
+
+fn directory_shown(alloc: Global, input: &str) -> Result<String, Fail> {
+    let table = table_with(alloc, "CurrentDirectory", input)?;
+    digits_of(alloc, directory_of(alloc, &table)?.as_slice())
+}
+
+/// A directory is one value, a text.
+const DIRECTORIES: &str = "\
+ARRAY8 2f686f6d65| => 2f686f6d65
+ARRAY8 2fc3a9| => 2fc3a9
+ARRAY8 2fc3| => 
+ARRAY8 2f00| => 
+ARRAY8 2f61|2f62| => 
+ARRAY8  => 
+LISTofARRAY8 2f686f6d65| => ";
+
+#[test]
+fn a_directory_is_a_text(rt: HostRuntime) -> Result<(), Fail> {
+    expect_rows(&rt, DIRECTORIES, directory_shown)
+}
+
+/// Pairs as the values that they were.
+fn pairs_shown(alloc: Global, pairs: &PairList) -> Result<String, Fail> {
+    let mut text = String::new(alloc);
+    for (name, value) in pairs.as_slice() {
+        text.push_str(digits_of(alloc, name.as_slice())?.as_str())?;
+        text.push('|')?;
+        text.push_str(digits_of(alloc, value.as_slice())?.as_str())?;
+        text.push('|')?;
+    }
+    Ok(text)
+}
+
+fn environment_shown(alloc: Global, input: &str) -> Result<String, Fail> {
+    let table = table_with(alloc, "Environment", input)?;
+    pairs_shown(alloc, &environment_of(alloc, &table)?)
+}
+
+/// An environment is names and texts: each name is a text without an equals sign, of one byte at
+/// least, and each value is a text.
+const ENVIRONMENTS: &str = "\
+LISTofARRAY8 41|31|42|3d| => 41|31|42|3d|
+LISTofARRAY8 41|| => 41||
+LISTofARRAY8  => 
+LISTofARRAY8 41|31|42| => 
+LISTofARRAY8 |31| => 
+LISTofARRAY8 413d|31| => 
+LISTofARRAY8 41ff|31| => 
+LISTofARRAY8 41|ff| => 
+LISTofARRAY8 41|31|42|00| => 
+ARRAY8 41|31| => ";
+
+#[test]
+fn an_environment_is_names_and_texts(rt: HostRuntime) -> Result<(), Fail> {
+    expect_rows(&rt, ENVIRONMENTS, environment_shown)
+}
+
+fn words_shown(alloc: Global, input: &str) -> Result<String, Fail> {
+    let table = table_with(alloc, "RestartCommand", input)?;
+    match command_of(alloc, &table, b"RestartCommand")? {
+        Some(command) => digits_of_all(alloc, command.words.as_slice()),
+        None => Ok("none".to_string(alloc)?),
+    }
+}
+
+/// A command is a program and its arguments, all of them texts.
+const COMMANDS: &str = "\
+LISTofARRAY8 726d|61| => 726d|61|
+LISTofARRAY8 726d|| => 726d||
+LISTofARRAY8 |61| => none
+LISTofARRAY8  => none
+LISTofARRAY8 726d|00| => none
+LISTofARRAY8 726d|ff| => none
+ARRAY8 726d| => none";
+
+#[test]
+fn a_command_is_a_program_and_its_arguments(rt: HostRuntime) -> Result<(), Fail> {
+    expect_rows(&rt, COMMANDS, words_shown)
+}
+
+/// A DiscardCommand with a directory and an environment.
+fn discarding(alloc: Global) -> Result<PropertyTable, Fail> {
+    let mut table = table_with(alloc, "DiscardCommand", "LISTofARRAY8 726d|")?;
+    set(alloc, &mut table, "CurrentDirectory", "ARRAY8 2f61|")?;
+    set(alloc, &mut table, "Environment", "LISTofARRAY8 41|31|")?;
+    Ok(table)
+}
+
+/// The directory and the environment of the command of this name.
+fn command_shown(alloc: Global, name: &str) -> Result<String, Fail> {
+    let table = discarding(alloc)?;
+    let Some(command) = command_of(alloc, &table, name.as_bytes())? else {
+        return Ok("none".to_string(alloc)?);
+    };
+    let directory = digits_of(alloc, command.directory.as_slice())?;
+    let pairs = pairs_shown(alloc, &command.environment)?;
+    Ok(format!(in alloc; "{directory} {pairs}")?)
+}
+
+const FOUND: &str = "\
+DiscardCommand => 2f61 41|31|
+RestartCommand => none";
+
+#[test]
+fn a_command_has_the_directory_and_environment_of_its_table(rt: HostRuntime) -> Result<(), Fail> {
+    expect_rows(&rt, FOUND, command_shown)
 }

@@ -1,120 +1,118 @@
-//! Books written down by hand.
+//! Books written down by hand. Words have a bar behind each.
 
+use crate::table::{expect_rows, text_of};
 use checkpoint_records::{Book, Entry, copy_book, names, same_command};
 use ice_values::{Array8List, Property, PropertyList};
 use sm_world::{Command, NoMemory, Octets, OctetsList, PairList};
 use std::alloc::{Alloc, Global};
 use std::process::Abort;
 use std::test::Fail;
-use xsmp_properties::{PropertyTable, SetRefusal};
+use xsmp_properties::PropertyTable;
 
-/// Words, each with a bar behind it.
-fn words(alloc: Global, text: &[u8]) -> Result<OctetsList, NoMemory> {
+fn words(alloc: Global, text: &str) -> Result<OctetsList, NoMemory> {
     let mut words = OctetsList::new(alloc);
-    let mut word = Octets::new(alloc);
-    for byte in text {
-        if *byte == b'|' {
-            words.push(word)?;
-            word = Octets::new(alloc);
-        } else {
-            word.append(&[*byte])?;
+    if let Some(all) = text.strip_suffix('|') {
+        for word in all.split('|') {
+            words.push(Octets::from_slice(alloc, word.as_bytes())?)?;
         }
     }
     Ok(words)
 }
 
-fn command(alloc: Global, text: &[u8], directory: &[u8]) -> Result<Command, NoMemory> {
+/// A command by its words and its directory, with a blank between.
+fn command(alloc: Global, input: &str) -> Result<Command, Fail> {
+    let (text, directory) = input.split_once(' ').ok_or("no directory")?;
     Ok(Command {
         words: words(alloc, text)?,
-        directory: Octets::from_slice(alloc, directory)?,
+        directory: Octets::from_slice(alloc, directory.as_bytes())?,
         environment: PairList::new(alloc),
     })
 }
 
-fn property(alloc: Global, name: &[u8], text: &[u8]) -> Result<Property, NoMemory> {
+fn property(alloc: Global, name: &str, text: &str) -> Result<Property, NoMemory> {
     let values: Array8List = words(alloc, text)?;
     Ok(Property {
-        name: Octets::from_slice(alloc, name)?,
+        name: Octets::from_slice(alloc, name.as_bytes())?,
         kind: Octets::from_slice(alloc, b"LISTofARRAY8")?,
         values,
     })
 }
 
 /// The entry of a client that says one thing of itself.
-fn entry(alloc: Global, id: &[u8], name: &[u8], text: &[u8]) -> Result<Entry, SetRefusal> {
+fn entry(alloc: Global, id: &str, name: &str, text: &str) -> Result<Entry, Fail> {
     let mut list = PropertyList::new(alloc);
     list.push(property(alloc, name, text)?)?;
     let mut table = PropertyTable::new(alloc)?;
     table.set(&list)?;
     Ok(Entry {
-        id: Octets::from_slice(alloc, id)?,
+        id: Octets::from_slice(alloc, id.as_bytes())?,
         table,
     })
 }
 
-/// Two clients, of which the second has a DiscardCommand.
-fn example(alloc: Global) -> Result<Book, SetRefusal> {
+/// A copy of a book of two clients, of which the second has a DiscardCommand.
+fn example(alloc: Global) -> Result<Book, Fail> {
     let mut book = Book::empty(alloc)?;
     book.epoch = 7;
-    let first = entry(alloc, b"one", b"RestartCommand", b"rm|a|")?;
-    let second = entry(alloc, b"two", b"DiscardCommand", b"rm|b|")?;
+    let first = entry(alloc, "one", "RestartCommand", "rm|a|")?;
+    let second = entry(alloc, "two", "DiscardCommand", "rm|b|")?;
     book.entries.push(first)?;
     book.entries.push(second)?;
-    book.pending.push(command(alloc, b"rm|c|", b"")?)?;
-    Ok(book)
+    book.pending.push(command(alloc, "rm|c| ")?)?;
+    Ok(copy_book(&book)?)
 }
 
-#[test]
-fn an_empty_book_has_the_epoch_0(rt: HostRuntime) -> Result<(), Fail> {
-    let book = Book::empty(rt.alloc())?;
-    assert_eq!(rt; book.entries.as_slice().len(), 0);
-    assert_eq!(rt; book.pending.as_slice().len(), 0);
-    assert_eq!(rt; book.epoch, 0);
-    Ok(())
+/// How many entries and pending commands there are, and the epoch.
+fn counts_shown(alloc: Global, book: &Book) -> Result<String, Fail> {
+    let entries = book.entries.as_slice().len();
+    let pending = book.pending.as_slice().len();
+    Ok(format!(in alloc; "{entries} {pending} {}", book.epoch)?)
+}
+
+fn empty_shown(alloc: Global, _input: &str) -> Result<String, Fail> {
+    counts_shown(alloc, &Book::empty(alloc)?)
+}
+
+fn copy_shown(alloc: Global, _input: &str) -> Result<String, Fail> {
+    counts_shown(alloc, &example(alloc)?)
 }
 
 #[test]
 fn a_copy_has_all_of_a_book(rt: HostRuntime) -> Result<(), Fail> {
-    let alloc = rt.alloc();
-    let book = copy_book(&example(alloc)?)?;
-    assert_eq!(rt; book.entries.as_slice().len(), 2);
-    assert_eq!(rt; book.pending.as_slice().len(), 1);
-    assert_eq!(rt; book.epoch, 7);
-    assert_eq!(rt; names(alloc, &book, &command(alloc, b"rm|b|", b"")?)?, true);
-    Ok(())
+    expect_rows(&rt, " => 0 0 0", empty_shown)?;
+    expect_rows(&rt, " => 2 1 7", copy_shown)
 }
 
-fn is_named(
-    rt: &(impl Abort + Alloc<A = Global>),
-    text: &[u8],
-    directory: &[u8],
-    answer: bool,
-) -> Result<(), Fail> {
-    let alloc = rt.alloc();
+/// Whether the example names a command.
+fn named_shown(alloc: Global, input: &str) -> Result<String, Fail> {
     let book = example(alloc)?;
-    let command = command(alloc, text, directory)?;
-    assert_eq!(rt; names(alloc, &book, &command)?, answer);
-    Ok(())
+    text_of(alloc, &names(alloc, &book, &command(alloc, input)?)?)
 }
+
+const NAMED: &str = "\
+rm|b|  => true
+rm|b| /home => true
+rm|a|  => false
+rm|c|  => false
+rm|  => false
+rm|b||  => false";
 
 #[test]
 fn a_book_names_the_discard_commands_of_its_entries(rt: HostRuntime) -> Result<(), Fail> {
-    is_named(&rt, b"rm|b|", b"", true)?;
-    is_named(&rt, b"rm|b|", b"/home", true)?;
-    is_named(&rt, b"rm|a|", b"", false)?;
-    is_named(&rt, b"rm|c|", b"", false)?;
-    is_named(&rt, b"rm|", b"", false)?;
-    is_named(&rt, b"rm|b||", b"", false)
+    expect_rows(&rt, NAMED, named_shown)
 }
+
+/// Whether a command is the same as `rm a` in `/home`.
+fn same_shown(alloc: Global, input: &str) -> Result<String, Fail> {
+    let first = command(alloc, "rm|a| /home")?;
+    text_of(alloc, &same_command(&first, &command(alloc, input)?))
+}
+
+const SAME: &str = "\
+rm|a|  => true
+rm|b| /home => false";
 
 #[test]
 fn commands_are_the_same_by_their_words(rt: HostRuntime) -> Result<(), Fail> {
-    let alloc = rt.alloc();
-    let first = command(alloc, b"rm|a|", b"/home")?;
-    assert_eq!(rt; same_command(&first, &command(alloc, b"rm|a|", b"")?), true);
-    assert_eq!(rt;
-        same_command(&first, &command(alloc, b"rm|b|", b"/home")?),
-        false
-    );
-    Ok(())
+    expect_rows(&rt, SAME, same_shown)
 }
