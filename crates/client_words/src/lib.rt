@@ -4,8 +4,6 @@
 mod choices;
 mod command;
 mod reading;
-#[cfg(test)]
-mod tests;
 
 pub use choices::Choices;
 pub use reading::{WordsRefusal, read_choices};
