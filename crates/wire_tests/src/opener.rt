@@ -74,12 +74,17 @@ fn cell(alloc: Global, moved: &OpenMoved) -> Result<String, Fail> {
     Ok(text)
 }
 
+/// What this message brings behind these frames.
+fn cell_behind(alloc: Global, path: &str, name: &str) -> Result<String, Fail> {
+    cell(alloc, &moved_by(alloc, reached(alloc, path)?, name)?)
+}
+
 /// What each message brings behind these frames.
 fn row_shown(alloc: Global, path: &str) -> Result<String, Fail> {
     let mut text = String::new(alloc);
     for name in MESSAGES.split(' ') {
-        let moved = moved_by(alloc, reached(alloc, path)?, name)?;
-        text.push_str(cell(alloc, &moved)?.as_str())?;
+        let cell = cell_behind(alloc, path, name)?;
+        text.push_str(cell.as_str())?;
         text.push(';')?;
     }
     Ok(text)
