@@ -14,6 +14,7 @@ pub mod Running
 pub mod Opening
 pub mod Brought
 pub mod Sessions
+pub mod Settling
 pub mod Pieces
 pub mod Seats
 pub mod Loop

@@ -1,5 +1,5 @@
 -- The engine's loop: what one turn adds to the effects of a run, whether the world tells them or not.
-use Rattle.std.proofs.Common.{◌≡◌, inl, inr, ℕ, zero, suc, ◌+◌, ◌<◌, ◌≤◌, Bool, true, false, List, [], ◌∷◌, ◌++◌, length, take, drop, slice_index, Option, Some, None, Result, Ok, Err, IfErr, refl, sym, ◌∙◌, ap, subst, append_assoc, arith}
+use Rattle.std.proofs.Common.{◌≡◌, ◌≢◌, inl, inr, ℕ, zero, suc, ◌+◌, ◌<◌, ◌≤◌, Bool, true, false, List, [], ◌∷◌, ◌++◌, length, take, drop, slice_index, Option, Some, None, Result, Ok, Err, IfErr, refl, sym, ◌∙◌, ap, subst, append_assoc, arith}
 use Rattle.std.proofs.lemmas.Bool.{false≢true}
 use Rattle.sm_world.specs.Disk.{HasToldSize}
 use Rattle.sm_world.specs.Effects.{heard}
@@ -26,7 +26,7 @@ use Rattle.ice_cookie.specs.declared.cookies.Cookie.{Cookie}
 use Rattle.session_model.specs.Readings as of
 use Rattle.session_model.specs.declared.marks.Marks.{Marks}
 use Rattle.session_engine.specs.Acts.{deeds_in, has_finish}
-use Rattle.session_engine.specs.Carries.{IsCutShort, IsRecovered, IsUnopened, KeepsItsWord, Opens, Rests, Serves, is_whole, script}
+use Rattle.session_engine.specs.Carries.{IsCutShort, IsReady, IsRecovered, IsUnopened, KeepsItsWord, Opens, Rests, Serves, is_whole, script}
 use Rattle.session_engine.specs.Causes.{IsOfHearing, IsOfRun, fault_of, opening_fault_of}
 use Rattle.session_engine.specs.Machine.{Machine, acts_of, after_all, opening_acts, start, step}
 use Rattle.session_engine.specs.Saved.{Performs}
@@ -44,6 +44,7 @@ use Rattle.session_engine.specs.declared.session.Stepped.TheVariants.{Goes, Fini
 use Rattle.session_engine.proofs.Adding.{never_spent}
 use Rattle.session_engine.proofs.Brought.{BroughtSoFar, brought_is, brought_more, brought_none, brought_nothing, length-more}
 use Rattle.session_engine.proofs.Performing.{err_map}
+use Rattle.session_engine.proofs.Settling.{is_ready, settle_none}
 use Rattle.session_engine.proofs.Running.{after_all-more, heard-more, none_is_heard}
 use Rattle.session_engine.proofs.Sessions.{halt_of_run, ok_is_no_fault, runs_cut_short, runs_end, runs_over, runs_unopened, stands_begin, stands_more, the_fault}
 
@@ -441,3 +442,22 @@ pub keeps_word : (cookie : Cookie) (turns : ℕ) (old new : Outside) (answer : R
 keeps_word cookie turns old new (Ok x) opens file book settled recovers = word_opened cookie turns book file old new (Ok x) settled recovers opens
 keeps_word cookie turns old new (Err fault) (inl rests) file book settled recovers = word_unopened cookie book file old new fault recovers rests
 keeps_word cookie turns old new (Err fault) (inr opens) file book settled recovers = word_opened cookie turns book file old new (Err fault) settled recovers opens
+
+-- The next run on the same world
+
+ready_opened : (cookie : Cookie) (turns : ℕ) (old new : Outside) (answer : Result (Unit {0}) ServeFault) (file : List ℕ) → new.first ≡ old.first → IsSettled old file → answer ≢ Err DiskFault → Opens old new (λ opening current effects. Serves cookie opening current old.coming turns answer effects) → Added old.told new.told (IsReady file new)
+ready_opened cookie turns old new answer file first settled able opens = record {
+  effects = opens.adds.effects;
+  added = opens.adds.added;
+  holds = is_ready file old new opens.adds.effects settled first opens.adds.added (opens.adds.holds.runs.settles able);
+}
+
+ready_unopened : (old new : Outside) (file : List ℕ) → new.first ≡ old.first → new.told ≡ old.told → IsSettled old file → Added old.told new.told (IsReady file new)
+ready_unopened old new file first quiet settled =
+    let added = quiet ∙ sym (adds-none old.told) in
+    record { effects = []; added = added; holds = is_ready file old new [] settled first added settle_none }
+
+pub ready : (cookie : Cookie) (turns : ℕ) (old new : Outside) (answer : Result (Unit {0}) ServeFault) → Serving cookie turns old new answer → new.first ≡ old.first → (file : List ℕ) → IsSettled old file → answer ≢ Err DiskFault → Added old.told new.told (IsReady file new)
+ready cookie turns old new (Ok x) opens first file settled able = ready_opened cookie turns old new (Ok x) file first settled able opens
+ready cookie turns old new (Err fault) (inl rests) first file settled able = ready_unopened old new file first rests.told settled
+ready cookie turns old new (Err fault) (inr opens) first file settled able = ready_opened cookie turns old new (Err fault) file first settled able opens

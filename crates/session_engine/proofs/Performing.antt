@@ -30,6 +30,7 @@ use Rattle.session_engine.specs.declared.fault.ServeFault.TheVariants.{Damaged, 
 use Rattle.session_engine.specs.declared.fault.Halt.{Halt}
 use Rattle.session_engine.specs.declared.fault.Halt.TheVariants.{Links, Console, Disk, Worn, NoMemory}
 use Rattle.session_engine.proofs.Adding.{IsDoneBy, going_on, one_going, still}
+use Rattle.session_engine.proofs.Settling.{settle_none, settle_quiet, settle_then}
 
 pub book_after-append : (b : Book) (xs ys : List Act) → book_after b (xs ++ ys) ≡ book_after (book_after b xs) ys
 book_after-append b [] ys = refl
@@ -250,6 +251,7 @@ performs_then current next xs ys answer es ds one two =
           omega (arith, opens, one.opens, opened_in-append es ds, commits_in-append xs ys)) two.opens;
       worn = λ e. worn_behind current next xs ys es ds done one.counts (two.worn e);
       numbered = ok_map (λ last. IsNumbered next ys) (λ last. IsNumbered current (xs ++ ys)) answer (λ last numbered. numbered_then current next xs ys one.counts one.numbered numbered) two.numbered;
+      settles = λ not. settle_then es ds (one.settles (λ e. absurd cc)) (two.settles not);
       stopped = err_map (λ halt. (b : Book) → Stops next b ys (fault_of halt) (IsRefused halt) ds) (λ halt. (b : Book) → Stops current b (xs ++ ys) (fault_of halt) (IsRefused halt) (es ++ ds)) answer (λ halt stops b.
           stops_behind current next b xs ys (fault_of halt) (IsRefused halt) es ds done one.counts one.opens one.numbered (λ first before stands. one.leaves first before b stands) (stops (book_after b xs))) two.stopped;
     }
@@ -264,6 +266,7 @@ performs_stopped current xs ys halt es one = record {
   opens = tt;
   worn = λ e. worn_before current xs ys es (one.worn e);
   numbered = tt;
+  settles = one.settles;
   stopped = λ b. stops_before current b xs ys halt es (one.stopped b);
 }
 
@@ -322,6 +325,7 @@ performs_none current acts halt able refused numbers = record {
   opens = tt;
   worn = λ e. absurd (not_worn halt able e);
   numbered = tt;
+  settles = λ not. settle_none;
   stopped = λ b. record {
     front = [];
     rest = acts;
@@ -344,6 +348,7 @@ performs_nothing current = record {
   opens = refl;
   worn = λ e. absurd cc;
   numbered = none_numbered current;
+  settles = λ not. settle_none;
   stopped = tt;
 }
 
@@ -385,6 +390,7 @@ performs_deed current effect act deed = record {
   opens = omega (arith, unopened effect deed.quiet, deed.uncounted);
   worn = λ e. absurd cc;
   numbered = λ some. absurd (omega (arith, some, deed.uncounted));
+  settles = λ not. settle_quiet effect deed.quiet;
   stopped = tt;
 }
 
@@ -398,6 +404,7 @@ performs_finish current = record {
   opens = refl;
   worn = λ e. absurd cc;
   numbered = none_numbered current;
+  settles = λ not. settle_none;
   stopped = tt;
 }
 

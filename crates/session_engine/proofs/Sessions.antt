@@ -28,6 +28,7 @@ use Rattle.session_engine.specs.declared.fault.ServeFault.{ServeFault}
 use Rattle.session_engine.specs.declared.fault.ServeFault.TheVariants.{Damaged, WrongSize, DiskFault, LinkFault, ConsoleFault, Worn, Spent, NoMemory}
 use Rattle.session_engine.specs.declared.session.Session.{Session}
 use Rattle.session_engine.proofs.Opening.{opened_unfinished}
+use Rattle.session_engine.proofs.Settling.{settle_more}
 use Rattle.session_engine.proofs.Performing.{book_after-append, commits_in-append, numbered_then, opened_in-append, saved_behind, stands_quiet, stops_behind, whole_done}
 use Rattle.session_engine.proofs.Running as of
 
@@ -99,6 +100,14 @@ all_numbered Worn current acts stops numbered = absurd stops
 all_numbered Spent current acts stops numbered = numbered
 all_numbered NoMemory current acts stops numbered = numbered
 
+-- where the disk halts a run, the disk is its fault
+disk_fails : (halt : Halt) → ◌≡◌ {A = Result (Option Current) Halt} (Err halt) (Err Disk) → ◌≡◌ {A = Result (Unit {0}) ServeFault} (Err (fault_of halt)) (Err DiskFault)
+disk_fails Links e = absurd cc
+disk_fails Console e = absurd cc
+disk_fails Disk e = refl
+disk_fails WearsIt e = absurd cc
+disk_fails WantsMemory e = absurd cc
+
 module _ (cookie : Cookie) (opening : Book) where
   abbrev pub StandsFor : Option Current → Session → List Effect → Type 0
   StandsFor current session effects = StandsForWith cookie opening current session effects
@@ -149,6 +158,7 @@ module _ (cookie : Cookie) (opening : Book) where
         counts = rw scripts performs.counts;
         opens = rw scripts performs.opens;
         numbered = rw scripts performs.numbered;
+        settles = performs.settles (λ e. absurd cc);
       }
 
   pub runs_unopened : (current : Option Current) (halt : Halt) (es : List Effect) → Performs current (of.opening_acts cookie opening) (Err halt) es → Runs current (Err (fault_of halt)) es
@@ -165,6 +175,7 @@ module _ (cookie : Cookie) (opening : Book) where
     opened = halt_of_run halt;
     worn = λ e. rw (opening_script es performs.out.going.deaf) (performs.worn (worn_halt halt e));
     numbered = λ e. absurd (halt_cuts halt e);
+    settles = λ not. performs.settles (λ e. not (disk_fails halt e));
     stopped = rw (opening_script es performs.out.going.deaf) (run_stops current opening (of.opening_acts cookie opening) halt es (performs.stopped opening));
   }
 
@@ -235,6 +246,7 @@ module _ (cookie : Cookie) (opening : Book) where
         counts = omega (arith, performs.counts, held.counts, ap commits_in (of.script-more cookie opening es ds event deaf held.unfinished), commits_in-append (script (heard es)) (acts_at es event));
         opens = opens_more current session next.store es ds event held performs;
         numbered = numbered_more current session next.store es ds event held performs;
+        settles = settle_more es ds event held.settles (performs.settles (λ e. absurd cc));
       }
 
   -- the machine's own end
@@ -252,6 +264,7 @@ module _ (cookie : Cookie) (opening : Book) where
     opened = tt;
     worn = λ e. absurd (ok_is_no_fault Worn e);
     numbered = λ e. numbered_more current session next es ds event held performs;
+    settles = λ not. settle_more es ds event held.settles (performs.settles (λ e. absurd cc));
     stopped = tt;
   }
 
@@ -280,6 +293,7 @@ module _ (cookie : Cookie) (opening : Book) where
     opened = halt_of_run halt;
     worn = λ e. worn_more current session es ds event held performs.out.going.deaf (performs.worn (worn_halt halt e));
     numbered = λ e. absurd (halt_cuts halt e);
+    settles = λ not. settle_more es ds event held.settles (performs.settles (λ e. not (disk_fails halt e)));
     stopped = stopped_more current session halt es ds event held performs;
   }
 
@@ -294,6 +308,7 @@ module _ (cookie : Cookie) (opening : Book) where
     opened = opened;
     worn = λ e. absurd (able (the_fault fault Worn e));
     numbered = λ e. held.numbered;
+    settles = λ not. held.settles;
     stopped = record {
       front = script (heard es);
       rest = [];

@@ -11,6 +11,7 @@ use Rattle.sm_world.specs.declared.effects.Effect.TheVariants.{Heard, Sent, Shut
 use Rattle.sm_world.proofs.Adding.{adds-adds, adds-none}
 use Rattle.checkpoint_records.specs.declared.records.Book.{Book}
 use Rattle.checkpoint_slots.specs.Causes.{IsSpellFault}
+use Rattle.checkpoint_slots.specs.Layout.{gate_at, start_of}
 use Rattle.checkpoint_slots.specs.Recovery.{Recovers, slot_bytes}
 use Rattle.checkpoint_slots.specs.Turns.{Closes, FilledStands, Fills, IsNext, IsOfStore, Lifts, SteadyStands, next_generation, target}
 use Rattle.checkpoint_slots.specs.declared.fault.StoreFault.{StoreFault}
@@ -25,6 +26,7 @@ use Rattle.session_engine.specs.declared.fault.ServeFault.TheVariants.{DiskFault
 use Rattle.session_engine.specs.declared.fault.Halt.TheVariants.{Disk}
 use Rattle.session_engine.proofs.Adding.{still}
 use Rattle.session_engine.proofs.Performing.{fronts_two, none_numbered, opened_in-append, performs_none, saved_still}
+use Rattle.session_engine.proofs.Settling.{settle_by, settle_none, settle_then}
 
 -- Effects of the store alone, at each of which every file that a crash may leave has the old checkpoint or the new one.
 pub record Swaps (current : Option Current) (book : Book) (es : List Effect) : Type 0 where
@@ -125,6 +127,7 @@ performs_refused current book es fits swaps =
       opens = tt;
       worn = λ e. absurd cc;
       numbered = tt;
+      settles = λ not. absurd (not refl);
       stopped = λ opening. record {
         front = [];
         rest = Commit book ∷ [];
@@ -154,6 +157,9 @@ performs_commit current next book body cs fs ls is_next is_body closes fills lif
       opens = omega (arith, opened_in-append (cs ++ fs) ls, opened_in-append cs fs, closes.opens, fills.opens book is_body, lifts.opens);
       worn = λ e. absurd cc;
       numbered = λ e. omega (arith, is_next.generation);
+      settles = λ not. settle_then (cs ++ fs) ls
+          (settle_then cs fs (settle_by (gate_at (target current)) (0 ∷ []) cs closes.puts) (settle_by (start_of (target current)) body fs fills.puts))
+          (settle_by (gate_at (target current)) (165 ∷ []) ls lifts.puts);
       stopped = tt;
     }
 
@@ -175,6 +181,7 @@ told_unspelled current book IsWorn old cause = record {
     opens = tt;
     worn = λ e. record { front = []; rest = []; book = book; parts = refl; same = refl; last = omega (arith, cause) };
     numbered = tt;
+    settles = λ not. settle_none;
     stopped = λ opening. record {
       front = [];
       rest = Commit book ∷ [];

@@ -20,6 +20,7 @@ use Rattle.session_engine.specs.Causes.{IsOfRun}
 use Rattle.session_engine.specs.Doing.{items}
 use Rattle.session_engine.specs.Machine.{Item, script_of, run_of}
 use Rattle.session_engine.specs.Saved.{IsSaved, WearsOut}
+use Rattle.session_engine.specs.Settled.{Settle}
 use Rattle.session_engine.specs.Stops.{HasOpened, IsLeft, IsNumbered, Stops, StopsAt}
 use Rattle.session_engine.specs.declared.acts.Act.{Act}
 use Rattle.session_engine.specs.declared.fault.ServeFault.{ServeFault}
@@ -109,6 +110,8 @@ module _ (cookie : Cookie) (opening : Book) where
     pub numbered : is_whole answer ≡ true → IsNumbered current (script (heard effects))
     -- a fault stopped it at one act, and what a crash leaves has the checkpoint before that act
     pub stopped : IfErr answer (λ fault. Stops current opening (script (heard effects)) fault (StopsAt fault) effects)
+    -- only where the disk failed may a byte of the store be in doubt behind it
+    pub settles : answer ≢ Err DiskFault → Settle effects
 
   -- What a call of the engine adds: a run over the events that it was brought.
   pub record Serves (current : Option Current) (coming : Option (List Event)) (turns : ℕ) (answer : Result (Unit {0}) ServeFault) (effects : List Effect) : Type 0 where
@@ -177,3 +180,10 @@ pub record Opens (old new : Outside) (P : Book → Option Current → List Effec
 -- what a call that opens a store may do at a fault
 abbrev pub FailsOr : Outside → Outside → (Book → Option Current → List Effect → Type 0) → ServeFault → Type 0
 FailsOr old new P fault = Rests old new fault ⊎ Opens old new P
+
+-- After these effects of a store that began with this file the same world can be served again: no byte of it is in doubt, and it is one of
+-- the files that a crash could leave, so that it has the checkpoint that each of those has.
+pub record IsReady (file : List ℕ) (new : Outside) (effects : List Effect) : Type 0 where
+  pub left : List ℕ
+  pub settled : IsSettled new left
+  pub image : Image file effects left

@@ -105,9 +105,10 @@ pub record KeepsCounts {A : Type 0} (old new : Faults) (result : Result A Halt) 
   pub counts : NotFallen old new
   pub cause : IfErr result (IsCaused old new)
 
--- None of the events to come was heard, nothing of the input was read, the store has its size still, no count of faults fell, and a halt has its cause.
+-- None of the events to come was heard, nothing of the input was read, the store has its size still and began as it did, no count of faults fell, and a halt has its cause.
 pub record HearsNone {A : Type 0} (old new : Outside) (result : Result A Halt) : Type 0 where
   pub coming : new.coming ≡ old.coming
   pub input : new.input ≡ old.input
+  pub first : new.first ≡ old.first
   pub size : new.size ≡ old.size
   pub counts : KeepsCounts old.faults new.faults result

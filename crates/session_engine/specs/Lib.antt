@@ -11,6 +11,7 @@ pub mod Saved
 pub mod Counted
 pub mod Carries
 pub mod Session
+pub mod Settled
 pub mod Places
 pub mod Shown
 pub mod Telling

@@ -1,5 +1,5 @@
 -- What a crash leaves of the store, against what was done.
-use Rattle.std.specs.Prelude.{◌≡◌, ℕ, ◌+◌, ◌^◌, List, ◌∷◌, ◌++◌, take, Option, Result, Ok, IfErr, IfOk, IsErrOf, is_ok}
+use Rattle.std.specs.Prelude.{◌≡◌, ◌≢◌, ℕ, ◌+◌, ◌^◌, List, ◌∷◌, ◌++◌, take, Option, Result, Ok, Err, IfErr, IfOk, IsErrOf, is_ok}
 use Rattle.sm_world.specs.Crash.{Image}
 use Rattle.sm_world.specs.Effects.{Deed, deeds}
 use Rattle.sm_world.specs.declared.effects.Effect.{Effect}
@@ -10,11 +10,12 @@ use Rattle.checkpoint_slots.specs.declared.turn.Current.{Current}
 use Rattle.session_engine.specs.Acts.{book_after, commits_in, deeds_in}
 use Rattle.session_engine.specs.Causes.{fault_of}
 use Rattle.session_engine.specs.Doing.{CarriesOut}
+use Rattle.session_engine.specs.Settled.{Settle}
 use Rattle.session_engine.specs.Stops.{IsNumbered, IsRefused, Stops}
 use Rattle.session_engine.specs.declared.acts.Act.{Act}
 use Rattle.session_engine.specs.declared.acts.Act.TheVariants.{Commit}
 use Rattle.session_engine.specs.declared.fault.Halt.{Halt}
-use Rattle.session_engine.specs.declared.fault.Halt.TheVariants.{Worn}
+use Rattle.session_engine.specs.declared.fault.Halt.TheVariants.{Disk, Worn}
 
 -- Some front of the acts has exactly these deeds, and the file recovers to the checkpoint that stands behind it.
 pub record IsSaved (opening : Book) (acts : List Act) (done : List Deed) (file : List ℕ) : Type 0 where
@@ -54,4 +55,5 @@ pub record Performs (current : Option Current) (acts : List Act) (answer : Resul
   pub opens : IfOk answer (λ next. opened_in effects ≡ commits_in acts)
   pub worn : IsErrOf answer Worn → WearsOut current acts effects
   pub numbered : IfOk answer (λ next. IsNumbered current acts)
+  pub settles : answer ≢ Err Disk → Settle effects
   pub stopped : IfErr answer (λ halt. (opening : Book) → Stops current opening acts (fault_of halt) (IsRefused halt) effects)

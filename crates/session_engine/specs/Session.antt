@@ -11,6 +11,7 @@ use Rattle.session_model.specs.Readings as of
 use Rattle.session_engine.specs.Acts.{book_after, commits_in, deeds_in, has_finish}
 use Rattle.session_engine.specs.Carries.{FailsOr, IsOnScript, Keeps, Opens, Runs, Serves, run, script}
 use Rattle.session_engine.specs.Doing.{items}
+use Rattle.session_engine.specs.Settled.{Settle}
 use Rattle.session_engine.specs.Machine.{after_all, start}
 use Rattle.session_engine.specs.Stops.{IsNumbered}
 use Rattle.session_engine.specs.Shown.{IsShown, Shows, all_cut}
@@ -34,6 +35,7 @@ pub record StandsFor (cookie : Cookie) (opening : Book) (current : Option Curren
   pub counts : next_generation session.store ≡ next_generation current + commits_in (script cookie opening (heard effects))
   pub opens : opened_in effects ≡ commits_in (script cookie opening (heard effects))
   pub numbered : IsNumbered current (script cookie opening (heard effects))
+  pub settles : Settle effects
 
 -- A device, the store or the memory cut the run short, and not the number of its turns.
 pub record IsCut (cookie : Cookie) (opening : Book) (current : Option Current) (fault : ServeFault) (effects : List Effect) : Type 0 where

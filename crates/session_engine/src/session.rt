@@ -1,4 +1,4 @@
-ghost use Rattle.std.specs.Prelude.{◌≡◌, ◌<◌, [], ◌∷◌, ◌++◌, ℕ, List, Option, Ok, IfOk, IfErr};
+ghost use Rattle.std.specs.Prelude.{◌≡◌, ◌≢◌, ◌<◌, [], ◌∷◌, ◌++◌, ℕ, List, Option, Ok, Err, IfOk, IfErr};
 ghost use Rattle.sm_world.specs.Effects.{heard};
 ghost use Rattle.sm_world.specs.Outside.{Added, NotFallen};
 ghost use Rattle.sm_world.specs.declared.effects.Effect.{Effect};
@@ -7,7 +7,7 @@ ghost use Rattle.checkpoint_records.specs.declared.records.Book.{Book as AnyBook
 ghost use Rattle.checkpoint_slots.specs.Causes.{IsSettled};
 ghost use Rattle.checkpoint_slots.specs.Recovery.{Recovers};
 ghost use Rattle.checkpoint_slots.specs.declared.turn.Current.{Current};
-ghost use Rattle.session_engine.specs.Carries.{KeepsItsWord};
+ghost use Rattle.session_engine.specs.Carries.{IsReady, KeepsItsWord};
 ghost use Rattle.checkpoint_records.specs.Rules.{KeepsRules};
 ghost use Rattle.session_model.specs.Readings as of;
 ghost use Rattle.session_engine.specs.Causes.{HasCause, HearsNone};
@@ -56,6 +56,7 @@ impl Session {
         ensures starts { Starts cookie (W.outside world.old) (W.outside world.new) result }
         ensures coming { (W.outside world.new).coming ≡ (W.outside world.old).coming }
         ensures input { (W.outside world.new).input ≡ (W.outside world.old).input }
+        ensures first { (W.outside world.new).first ≡ (W.outside world.old).first }
         ensures size { IfOk result (λ session. (W.outside world.new).size ≡ 16777280) }
         // So it can be stepped on.
         ensures shown { IfOk result (λ session. IsShown all_cut session.engine) }
@@ -87,6 +88,7 @@ impl Session {
         ensures steps { (cookie : Cookie) (opening : AnyBook) (current : Option Current) (effects : List Effect) → StandsFor cookie opening current self effects → Added (W.outside world.old).told (W.outside world.new).told (λ added. (heard added ≡ []) × StepsTo cookie opening current result (effects ++ Heard event ∷ added)) }
         ensures coming { (W.outside world.new).coming ≡ (W.outside world.old).coming }
         ensures input { (W.outside world.new).input ≡ (W.outside world.old).input }
+        ensures first { (W.outside world.new).first ≡ (W.outside world.old).first }
         ensures kept { (W.outside world.new).size ≡ (W.outside world.old).size }
         // A session that goes on can be stepped on.
         ensures shown { IfOk result ShowsOn }
@@ -169,8 +171,11 @@ pub fn serve<W: Disk + Links + Spawner + Console>(
     ensures serves { Serving cookie turns (W.outside world.old) (W.outside world.new) result }
     // The same for a store of which no byte was in doubt: at every point of the run each file that a crash could leave has a whole checkpoint.
     ensures headline { (file : List ℕ) (book : AnyBook) → IsSettled (W.outside world.old) file → Recovers file (Ok book) → Added (W.outside world.old).told (W.outside world.new).told (KeepsItsWord cookie book file result) }
+    // Where the disk didn't fail the same world can be served again, with the headline.
+    ensures ready { (file : List ℕ) → IsSettled (W.outside world.old) file → result ≢ Err ServeFault.DiskFault → Added (W.outside world.old).told (W.outside world.new).told (IsReady file (W.outside world.new)) }
     // The input is left alone.
     ensures input { (W.outside world.new).input ≡ (W.outside world.old).input }
+    ensures first { (W.outside world.new).first ≡ (W.outside world.old).first }
     ensures counts { NotFallen (W.outside world.old).faults (W.outside world.new).faults }
     ensures cause { IfErr result (HasCause (W.outside world.old).faults (W.outside world.new).faults) }
 {

@@ -25,6 +25,7 @@ pub fn hear<W: Links>(world: &mut W) -> Result<Event, Halt>
     ensures size { IfOk result HasPieceSize }
     ensures store { (W.outside world.new).size ≡ (W.outside world.old).size }
     ensures input { (W.outside world.new).input ≡ (W.outside world.old).input }
+    ensures first { (W.outside world.new).first ≡ (W.outside world.old).first }
     ensures able { IfErr result IsOfHearing }
     ensures counts { KeepsCounts (W.outside world.old).faults (W.outside world.new).faults result }
 {

@@ -13,6 +13,7 @@ loop-left-init g c = record {
   size = refl;
   coming = refl;
   input = refl;
+  first = refl;
   counts = never_fallen _;
 }
 
@@ -34,6 +35,7 @@ loop-left-preserved g c = record {
   size = c.in-Ok.ensures.alone.size ∙ c.loop-left.invariant.size;
   coming = c.in-Ok.ensures.alone.coming ∙ c.loop-left.invariant.coming;
   input = c.in-Ok.ensures.alone.input ∙ c.loop-left.invariant.input;
+  first = c.in-Ok.ensures.alone.first ∙ c.loop-left.invariant.first;
   counts = fallen_never _ _ _ c.loop-left.invariant.counts c.in-Ok.ensures.alone.counts.counts;
 }
 

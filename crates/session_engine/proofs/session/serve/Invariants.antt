@@ -10,5 +10,6 @@ invariant-loop g l = record {
   shown : IsShown all_cut l.session.engine;
   size : (g.W.Told.outside l.world).size ≡ 16777280;
   input : (g.W.Told.outside l.world).input ≡ (g.W.Told.outside l.fn.world).input;
+  first : (g.W.Told.outside l.world).first ≡ (g.W.Told.outside l.fn.world).first;
   counts : NotFallen (g.W.Told.outside l.fn.world).faults (g.W.Told.outside l.world).faults;
 }

@@ -14,6 +14,7 @@ loop-act-init g c = record {
   size = refl;
   coming = refl;
   input = refl;
+  first = refl;
   counts = never_fallen _;
 }
 
@@ -39,5 +40,6 @@ loop-act-preserved g c =
       size = c.in-Ok.ensures.alone.size ∙ c.loop-act.invariant.size;
       coming = c.in-Ok.ensures.alone.coming ∙ c.loop-act.invariant.coming;
       input = c.in-Ok.ensures.alone.input ∙ c.loop-act.invariant.input;
+      first = c.in-Ok.ensures.alone.first ∙ c.loop-act.invariant.first;
       counts = fallen_never _ _ _ c.loop-act.invariant.counts c.in-Ok.ensures.alone.counts.counts;
     }

@@ -12,5 +12,6 @@ invariant-loop-act g l = record {
   size : (g.W.Told.outside l.world).size ≡ (g.W.Told.outside l.fn.world).size;
   coming : (g.W.Told.outside l.world).coming ≡ (g.W.Told.outside l.fn.world).coming;
   input : (g.W.Told.outside l.world).input ≡ (g.W.Told.outside l.fn.world).input;
+  first : (g.W.Told.outside l.world).first ≡ (g.W.Told.outside l.fn.world).first;
   counts : NotFallen (g.W.Told.outside l.fn.world).faults (g.W.Told.outside l.world).faults;
 }
