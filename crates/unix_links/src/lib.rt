@@ -13,8 +13,6 @@ mod paths;
 mod reading;
 mod sockets;
 mod sources;
-#[cfg(test)]
-mod tests;
 
 pub use links::SocketLinks;
 pub use paths::{control_fault, path_fault};

@@ -1,11 +1,11 @@
-use crate::SocketLinks;
 use sm_world::{Event, Failure, Links, Order};
 use std::io::{ErrorKind, Read, Write};
 use std::os::unix::net::{UnixListener, UnixStream};
-use std::process::{Child, Command, Stdio};
+use std::process::{Abort, Child, Command, Stdio};
 use std::test::Fail;
 use std::time::Duration;
 use std::{env, fs, io, process, thread};
+use unix_links::SocketLinks;
 
 /// The paths of a test's sockets.
 #[derive(Drop)]
@@ -44,6 +44,20 @@ fn dial(rt: HostRuntime, path: &str) -> Result<UnixStream, Fail> {
     Ok(stream)
 }
 
+/// Whether these bytes come to a peer next.
+fn reads(peer: &mut UnixStream, want: &[u8]) -> io::Result<bool> {
+    let mut came = [0u8; 16];
+    let room = &mut came[..want.len().min(16)];
+    peer.read_exact(room)?;
+    Ok(&*room == want)
+}
+
+/// Whether a peer's stream is at its end.
+fn is_at_end(peer: &mut UnixStream) -> io::Result<bool> {
+    let mut came = [0u8; 1];
+    Ok(peer.read(&mut came)? == 0)
+}
+
 /// The next event that isn't a tick, and the end where there is none.
 fn next(links: &mut SocketLinks) -> Event {
     for _ in 0..100 {
@@ -56,40 +70,108 @@ fn next(links: &mut SocketLinks) -> Event {
     Event::End
 }
 
-fn is_piece(event: &Event, number: u32, text: &[u8]) -> bool {
-    match event {
+/// Whether this one joins next.
+fn joins(links: &mut SocketLinks, number: u32) -> bool {
+    matches!(next(links), Event::Joined(conn) if conn == number)
+}
+
+/// Whether this one is gone next.
+fn goes(links: &mut SocketLinks, number: u32) -> bool {
+    matches!(next(links), Event::Gone(conn) if conn == number)
+}
+
+/// Whether this one says these bytes next.
+fn says(links: &mut SocketLinks, number: u32, text: &[u8]) -> bool {
+    match &next(links) {
         Event::Piece(conn, bytes) => *conn == number && bytes.as_slice() == text,
         _ => false,
     }
+}
+
+/// Whether this one says something next.
+fn speaks(links: &mut SocketLinks, number: u32) -> bool {
+    matches!(next(links), Event::Piece(conn, _) if conn == number)
+}
+
+/// Whether an operator asks next how the session stands.
+fn asks_status(links: &mut SocketLinks) -> bool {
+    matches!(next(links), Event::Operator(Order::Status))
+}
+
+/// Whether an operator asks next that this connection is dropped.
+fn asks_drop(links: &mut SocketLinks, number: u32) -> bool {
+    matches!(next(links), Event::Operator(Order::DropConn(conn)) if conn == number)
+}
+
+/// Whether a tick comes now, a quarter of a second after the last one or later.
+fn ticks(links: &mut SocketLinks) -> bool {
+    matches!(links.next(), Ok(Event::Tick(passed)) if passed >= 250)
+}
+
+/// Whether this is sent.
+fn sends(links: &mut SocketLinks, number: u32, bytes: &[u8]) -> bool {
+    links.send(number, bytes) == Ok(())
+}
+
+/// Whether this one is shut.
+fn shuts(links: &mut SocketLinks, number: u32) -> bool {
+    links.shut(number) == Ok(())
 }
 
 fn refuses(rt: HostRuntime, socket: &str, control: &str) -> bool {
     SocketLinks::new(rt).listen(socket, control) == Err(Failure::Failed)
 }
 
+fn come_and_go(
+    rt: HostRuntime,
+    test: &impl Abort,
+    paths: &Paths,
+    links: &mut SocketLinks,
+) -> Result<(), Fail> {
+    let mut first = dial(rt, paths.socket.as_str())?;
+    assert!(test; joins(links, 1));
+    first.write_all(b"hello")?;
+    assert!(test; says(links, 1, b"hello"));
+    assert!(test; sends(links, 1, b"good day"));
+    assert!(test; reads(&mut first, b"good day")?);
+    first.write_all(b"bye")?;
+    drop(first);
+    assert!(test; says(links, 1, b"bye"));
+    assert!(test; goes(links, 1));
+    let mut second = dial(rt, paths.socket.as_str())?;
+    assert!(test; joins(links, 2));
+    assert!(test; shuts(links, 2));
+    assert!(test; is_at_end(&mut second)?);
+    Ok(())
+}
+
 #[test]
 fn clients_come_speak_and_go(rt: HostRuntime) -> Result<(), Fail> {
     let paths = room(rt, "clients")?;
     let mut links = open(rt, &paths)?;
-    let mut first = dial(rt, paths.socket.as_str())?;
-    assert!(rt; matches!(next(&mut links), Event::Joined(1)));
-    first.write_all(b"hello")?;
-    assert!(rt; is_piece(&next(&mut links), 1, b"hello"));
-    assert_eq!(rt; links.send(1, b"good day"), Ok(()));
-    let mut answer = [0u8; 8];
-    first.read_exact(&mut answer)?;
-    assert_eq!(rt; &answer, b"good day");
-    first.write_all(b"bye")?;
-    drop(first);
-    assert!(rt; is_piece(&next(&mut links), 1, b"bye"));
-    assert!(rt; matches!(next(&mut links), Event::Gone(1)));
-    let mut second = dial(rt, paths.socket.as_str())?;
-    assert!(rt; matches!(next(&mut links), Event::Joined(2)));
-    assert_eq!(rt; links.shut(2), Ok(()));
-    assert_eq!(rt; second.read(&mut answer)?, 0);
+    come_and_go(rt, &rt, &paths, &mut links)?;
     links.close();
     assert_eq!(rt; fs::exists(&rt, paths.socket.as_str())?, false);
     assert_eq!(rt; fs::exists(&rt, paths.control.as_str())?, false);
+    Ok(())
+}
+
+fn order(
+    rt: HostRuntime,
+    test: &impl Abort,
+    paths: &Paths,
+    links: &mut SocketLinks,
+) -> Result<(), Fail> {
+    let mut first = dial(rt, paths.control.as_str())?;
+    let mut second = dial(rt, paths.control.as_str())?;
+    first.write_all(b"nonsense\nstatus\nshut")?;
+    assert!(test; asks_status(links));
+    links.answer(b"idle\n");
+    second.write_all(b"drop 7\n")?;
+    assert!(test; asks_drop(links, 7));
+    links.answer(b"no connection\n");
+    assert!(test; reads(&mut first, b"bad order\nidle\n")?);
+    assert!(test; reads(&mut second, b"no connection\n")?);
     Ok(())
 }
 
@@ -97,20 +179,7 @@ fn clients_come_speak_and_go(rt: HostRuntime) -> Result<(), Fail> {
 fn orders_are_answered_where_they_came_from(rt: HostRuntime) -> Result<(), Fail> {
     let paths = room(rt, "orders")?;
     let mut links = open(rt, &paths)?;
-    let mut first = dial(rt, paths.control.as_str())?;
-    let mut second = dial(rt, paths.control.as_str())?;
-    first.write_all(b"nonsense\nstatus\nshut")?;
-    assert!(rt; matches!(next(&mut links), Event::Operator(Order::Status)));
-    links.answer(b"idle\n");
-    second.write_all(b"drop 7\n")?;
-    assert!(rt; matches!(next(&mut links), Event::Operator(Order::DropConn(7))));
-    links.answer(b"no connection\n");
-    let mut answer = [0u8; 15];
-    first.read_exact(&mut answer)?;
-    assert_eq!(rt; &answer, b"bad order\nidle\n");
-    let mut answer = [0u8; 14];
-    second.read_exact(&mut answer)?;
-    assert_eq!(rt; &answer, b"no connection\n");
+    order(rt, &rt, &paths, &mut links)?;
     links.close();
     Ok(())
 }
@@ -119,8 +188,24 @@ fn orders_are_answered_where_they_came_from(rt: HostRuntime) -> Result<(), Fail>
 fn a_quarter_of_a_second_is_told(rt: HostRuntime) -> Result<(), Fail> {
     let paths = room(rt, "ticks")?;
     let mut links = open(rt, &paths)?;
-    assert!(rt; matches!(links.next(), Ok(Event::Tick(passed)) if passed >= 250));
+    assert!(rt; ticks(&mut links));
     links.close();
+    Ok(())
+}
+
+fn stay_deaf(
+    rt: HostRuntime,
+    test: &impl Abort,
+    paths: &Paths,
+    links: &mut SocketLinks,
+) -> Result<(), Fail> {
+    let _client = dial(rt, paths.socket.as_str())?;
+    assert!(test; joins(links, 1));
+    let bytes = vec![in rt.alloc(); 0u8; 65_536]?;
+    for _ in 0..32 {
+        assert!(test; sends(links, 1, bytes.as_slice()));
+    }
+    assert!(test; goes(links, 1));
     Ok(())
 }
 
@@ -128,13 +213,7 @@ fn a_quarter_of_a_second_is_told(rt: HostRuntime) -> Result<(), Fail> {
 fn who_does_not_read_is_dropped(rt: HostRuntime) -> Result<(), Fail> {
     let paths = room(rt, "deaf")?;
     let mut links = open(rt, &paths)?;
-    let _client = dial(rt, paths.socket.as_str())?;
-    assert!(rt; matches!(next(&mut links), Event::Joined(1)));
-    let bytes = vec![in rt.alloc(); 0u8; 65_536]?;
-    for _ in 0..32 {
-        assert_eq!(rt; links.send(1, bytes.as_slice()), Ok(()));
-    }
-    assert!(rt; matches!(next(&mut links), Event::Gone(1)));
+    stay_deaf(rt, &rt, &paths, &mut links)?;
     links.close();
     Ok(())
 }
@@ -174,8 +253,27 @@ fn only_a_dead_socket_is_taken_over(rt: HostRuntime) -> Result<(), Fail> {
     let mut links = open(rt, &paths)?;
     assert!(rt; refuses(rt, socket, control));
     let _client = dial(rt, socket)?;
-    assert!(rt; matches!(next(&mut links), Event::Joined(1)));
+    assert!(rt; joins(&mut links, 1));
     links.close();
+    Ok(())
+}
+
+fn speak_on(
+    rt: HostRuntime,
+    test: &impl Abort,
+    paths: &Paths,
+    links: &mut SocketLinks,
+) -> Result<(), Fail> {
+    let mut client = dial(rt, paths.socket.as_str())?;
+    let mut ticked = false;
+    for _ in 0..10_000_000 {
+        client.write_all(b"x")?;
+        if ticks(links) {
+            ticked = true;
+            break;
+        }
+    }
+    assert!(test; ticked);
     Ok(())
 }
 
@@ -183,17 +281,28 @@ fn only_a_dead_socket_is_taken_over(rt: HostRuntime) -> Result<(), Fail> {
 fn ticks_come_while_a_client_speaks(rt: HostRuntime) -> Result<(), Fail> {
     let paths = room(rt, "busy")?;
     let mut links = open(rt, &paths)?;
-    let mut client = dial(rt, paths.socket.as_str())?;
-    let mut ticked = false;
-    for _ in 0..10_000_000 {
-        client.write_all(b"x")?;
-        if matches!(links.next(), Ok(Event::Tick(passed)) if passed >= 250) {
-            ticked = true;
-            break;
-        }
-    }
-    assert!(rt; ticked);
+    speak_on(rt, &rt, &paths, &mut links)?;
     links.close();
+    Ok(())
+}
+
+fn flood(
+    rt: HostRuntime,
+    test: &impl Abort,
+    paths: &Paths,
+    links: &mut SocketLinks,
+) -> Result<(), Fail> {
+    let mut first = dial(rt, paths.socket.as_str())?;
+    let mut second = dial(rt, paths.socket.as_str())?;
+    assert!(test; joins(links, 1));
+    assert!(test; joins(links, 2));
+    let many = vec![in rt.alloc(); b'a'; 100_000]?;
+    first.write_all(many.as_slice())?;
+    second.write_all(b"b")?;
+    let whole = &many[..65_536];
+    assert!(test; says(links, 1, whole));
+    assert!(test; says(links, 2, b"b"));
+    assert!(test; says(links, 1, &many[65_536..]));
     Ok(())
 }
 
@@ -201,17 +310,7 @@ fn ticks_come_while_a_client_speaks(rt: HostRuntime) -> Result<(), Fail> {
 fn a_client_with_much_to_say_lets_others_in(rt: HostRuntime) -> Result<(), Fail> {
     let paths = room(rt, "flood")?;
     let mut links = open(rt, &paths)?;
-    let mut first = dial(rt, paths.socket.as_str())?;
-    let mut second = dial(rt, paths.socket.as_str())?;
-    assert!(rt; matches!(next(&mut links), Event::Joined(1)));
-    assert!(rt; matches!(next(&mut links), Event::Joined(2)));
-    let many = vec![in rt.alloc(); b'a'; 100_000]?;
-    first.write_all(many.as_slice())?;
-    second.write_all(b"b")?;
-    let whole = &many[..65_536];
-    assert!(rt; is_piece(&next(&mut links), 1, whole));
-    assert!(rt; is_piece(&next(&mut links), 2, b"b"));
-    assert!(rt; is_piece(&next(&mut links), 1, &many[65_536..]));
+    flood(rt, &rt, &paths, &mut links)?;
     links.close();
     Ok(())
 }
@@ -250,19 +349,45 @@ fn heard(
     Ok(all)
 }
 
+fn take_much(
+    rt: HostRuntime,
+    test: &impl Abort,
+    paths: &Paths,
+    links: &mut SocketLinks,
+) -> Result<(), Fail> {
+    let mut client = dial(rt, paths.socket.as_str())?;
+    assert!(test; joins(links, 1));
+    let half = many(rt, 450_000)?;
+    assert!(test; sends(links, 1, half.as_slice()));
+    assert!(test; sends(links, 1, half.as_slice()));
+    let all = heard(rt, links, &mut client, 900_000)?;
+    assert_eq!(test; all.len(), 900_000);
+    assert!(test; all.starts_with(half.as_slice()) && all.ends_with(half.as_slice()));
+    Ok(())
+}
+
 #[test]
 fn more_than_a_socket_holds_is_delivered(rt: HostRuntime) -> Result<(), Fail> {
     let paths = room(rt, "much")?;
     let mut links = open(rt, &paths)?;
-    let mut client = dial(rt, paths.socket.as_str())?;
-    assert!(rt; matches!(next(&mut links), Event::Joined(1)));
-    let half = many(rt, 450_000)?;
-    assert_eq!(rt; links.send(1, half.as_slice()), Ok(()));
-    assert_eq!(rt; links.send(1, half.as_slice()), Ok(()));
-    let all = heard(rt, &mut links, &mut client, 900_000)?;
-    assert_eq!(rt; all.len(), 900_000);
-    assert!(rt; all.starts_with(half.as_slice()) && all.ends_with(half.as_slice()));
+    take_much(rt, &rt, &paths, &mut links)?;
     links.close();
+    Ok(())
+}
+
+fn take_what_was_sent(
+    rt: HostRuntime,
+    test: &impl Abort,
+    paths: &Paths,
+    links: &mut SocketLinks,
+) -> Result<(), Fail> {
+    let mut client = dial(rt, paths.socket.as_str())?;
+    assert!(test; joins(links, 1));
+    let bytes = many(rt, 300_000)?;
+    assert!(test; sends(links, 1, bytes.as_slice()));
+    assert!(test; shuts(links, 1));
+    let all = heard(rt, links, &mut client, 300_001)?;
+    assert!(test; all == bytes);
     Ok(())
 }
 
@@ -270,13 +395,7 @@ fn more_than_a_socket_holds_is_delivered(rt: HostRuntime) -> Result<(), Fail> {
 fn who_is_shut_gets_what_was_sent(rt: HostRuntime) -> Result<(), Fail> {
     let paths = room(rt, "shut")?;
     let mut links = open(rt, &paths)?;
-    let mut client = dial(rt, paths.socket.as_str())?;
-    assert!(rt; matches!(next(&mut links), Event::Joined(1)));
-    let bytes = many(rt, 300_000)?;
-    assert_eq!(rt; links.send(1, bytes.as_slice()), Ok(()));
-    assert_eq!(rt; links.shut(1), Ok(()));
-    let all = heard(rt, &mut links, &mut client, 300_001)?;
-    assert!(rt; all == bytes);
+    take_what_was_sent(rt, &rt, &paths, &mut links)?;
     links.close();
     Ok(())
 }
@@ -290,23 +409,33 @@ fn write_on(links: &mut SocketLinks, client: &mut UnixStream, ticks: u64) -> io:
     Ok(())
 }
 
+fn read_why(
+    rt: HostRuntime,
+    test: &impl Abort,
+    paths: &Paths,
+    links: &mut SocketLinks,
+) -> Result<(), Fail> {
+    let mut client = dial(rt, paths.socket.as_str())?;
+    assert!(test; joins(links, 1));
+    client.write_all(&[7; 70_000])?;
+    assert!(test; speaks(links, 1));
+    assert!(test; sends(links, 1, b"why"));
+    assert!(test; shuts(links, 1));
+    write_on(links, &mut client, 2)?;
+    let mut why = [0u8; 3];
+    client.read_exact(&mut why)?;
+    assert_eq!(test; &why, b"why");
+    assert_eq!(test; client.read(&mut why)?, 0);
+    // A second later it is closed.
+    assert!(test; write_on(links, &mut client, 8).is_err());
+    Ok(())
+}
+
 #[test]
 fn who_is_shut_while_writing_reads_why(rt: HostRuntime) -> Result<(), Fail> {
     let paths = room(rt, "writing")?;
     let mut links = open(rt, &paths)?;
-    let mut client = dial(rt, paths.socket.as_str())?;
-    assert!(rt; matches!(next(&mut links), Event::Joined(1)));
-    client.write_all(&[7; 70_000])?;
-    assert!(rt; matches!(next(&mut links), Event::Piece(1, _)));
-    assert_eq!(rt; links.send(1, b"why"), Ok(()));
-    assert_eq!(rt; links.shut(1), Ok(()));
-    write_on(&mut links, &mut client, 2)?;
-    let mut why = [0u8; 3];
-    client.read_exact(&mut why)?;
-    assert_eq!(rt; &why, b"why");
-    assert_eq!(rt; client.read(&mut why)?, 0);
-    // A second later it is closed.
-    assert!(rt; write_on(&mut links, &mut client, 8).is_err());
+    read_why(rt, &rt, &paths, &mut links)?;
     links.close();
     Ok(())
 }
@@ -316,10 +445,10 @@ fn who_is_shut_may_be_let_go_at_the_end(rt: HostRuntime) -> Result<(), Fail> {
     let paths = room(rt, "last")?;
     let mut links = open(rt, &paths)?;
     let mut client = dial(rt, paths.socket.as_str())?;
-    assert!(rt; matches!(next(&mut links), Event::Joined(1)));
+    assert!(rt; joins(&mut links, 1));
     client.write_all(b"never heard")?;
-    assert_eq!(rt; links.send(1, b"why"), Ok(()));
-    assert_eq!(rt; links.shut(1), Ok(()));
+    assert!(rt; sends(&mut links, 1, b"why"));
+    assert!(rt; shuts(&mut links, 1));
     links.close();
     let mut why = [0u8; 4];
     assert_eq!(rt; client.read(&mut why)?, 3);
@@ -346,7 +475,7 @@ fn as_holder(rt: HostRuntime) -> Result<(), Fail> {
 /// Starts this program, and waits until it listens.
 fn holder(rt: HostRuntime, paths: &Paths) -> io::Result<Child> {
     let mut command = Command::new(rt.alloc(), env::current_exe(&rt)?.as_str())?;
-    command.arg("tests::as_holder")?;
+    command.arg("links::as_holder")?;
     command.env(HELD, paths.socket.as_str())?;
     command.stdout(Stdio::null());
     let child = command.spawn(&rt)?;
