@@ -65,6 +65,7 @@ stands-quiet s h st = record {
   holder_is = st.holder_is;
   book_is = st.book_is;
   strays_is = st.strays_is;
+  newcomer_is = st.newcomer_is;
   given_is = st.given_is;
   expected_is = st.expected_is;
   counts_are = st.counts_are;

@@ -19,6 +19,7 @@ use Rattle.session_model.specs.declared.waits.Wait.{Wait}
 use Rattle.session_model.specs.Moves.{Outside}
 use Rattle.session_model.specs.Phases.{may_interact}
 use Rattle.session_model.specs.Reading.{wanted_in}
+use Rattle.session_model.specs.Readings.{newcomer_said}
 use Rattle.session_model.specs.Tables.{first_table, stopped, stopped_said, strays_with, table_said}
 use Rattle.session_model.specs.Waits.{waits_said}
 use Rattle.session_clients.specs.declared.client.Client.{Client}
@@ -73,18 +74,20 @@ stopped-spoken c m sequence frame first allowed before now e =
 
 -- The move
 
-pub said-by : (c : ℕ) (m : XsmpMessage) (sequence : ℕ) (frame : List ℕ) (s : Session) (clients : Held) (round : Option Agreement) (waits : List Wait) (turns : Turns) (strays : List Command)
+pub said-by : (c : ℕ) (m : XsmpMessage) (sequence : ℕ) (frame : List ℕ) (s : Session) (clients : Held) (round : Option Agreement) (waits : List Wait) (turns : Turns) (strays : List Command) (newcomer : Option ℕ)
     → ((first : List ℕ → List Property) → clients ≡ held_after (Outside (Said c m sequence frame)) first (may_interact (wanted_in s.round)) s.clients)
     → round ≡ round_said c m (λ d. phase_in d s.clients.rows) s.round
     → waits ≡ waits_said c m (λ d. phase_in d s.clients.rows) s.waits
     → turns ≡ turns_said c m (λ d. phase_in d s.clients.rows) (λ dialog. may_interact (wanted_in s.round) dialog) s.turns
     → strays ≡ strays_with s.book (stopped_said c m (λ d. phase_in d s.clients.rows) (λ d. table_in d s.clients.rows)) s.strays
-    → record s { clients = clients; round = round; waits = waits; turns = turns; strays = strays } ≡ moved (Outside (Said c m sequence frame)) s
-said-by c m sequence frame s clients round waits turns strays k r w t e = λ i. record s {
+    → newcomer ≡ newcomer_said c m s.newcomer
+    → record s { clients = clients; round = round; waits = waits; turns = turns; strays = strays; newcomer = newcomer } ≡ moved (Outside (Said c m sequence frame)) s
+said-by c m sequence frame s clients round waits turns strays newcomer k r w t e n = λ i. record s {
   clients = k (λ id. first_table s.book id) i;
   round = r i;
   waits = w i;
   turns = t i;
   strays = e i;
+  newcomer = n i;
   acts = sym (append-nil s.acts) i;
 }

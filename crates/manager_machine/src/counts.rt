@@ -35,9 +35,9 @@ pub(crate) fn count_more(counts: &mut Counts, id: Array8) -> Result<(), NoMemory
     Ok(())
 }
 
-/// How many new IDs were given, after one more was that is known or not.
-pub(crate) fn given_after(given: u32, is_known: bool) -> Result<u32, NoMemory>
-    ensures { IfOk result (λ after. after ≡ cond is_known given (given + 1)) }
+/// How many new IDs were given, after one more was that is new or not.
+pub(crate) fn given_after(given: u32, is_new: bool) -> Result<u32, NoMemory>
+    ensures { IfOk result (λ after. after ≡ cond is_new (given + 1) given) }
 {
-    if is_known { Ok(given) } else { one_more(given) }
+    if is_new { one_more(given) } else { Ok(given) }
 }

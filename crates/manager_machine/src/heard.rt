@@ -5,6 +5,7 @@ ghost use Rattle.session_state.specs.Session.{moved};
 ghost use Rattle.manager_machine.specs.Order.{InOrder};
 
 use crate::inner::Core;
+use crate::registration::newcomer_said;
 use crate::running::{hear_round, wanted_in};
 use crate::strays::{add_stray, stopped};
 use crate::token::hear_queue;
@@ -40,6 +41,7 @@ impl Core {
         hear_round(&mut self.round, conn, message, phase);
         hear_queue(&mut self.queue, conn, message, phase, wanted)?;
         hear_waits(&mut self.waits, conn, message, phase)?;
+        self.newcomer = newcomer_said(conn, message, self.newcomer);
         self.clients.hear(conn, message, wanted)?;
         let now = self.clients.discard(conn)?;
         add_stray(&mut self.ledger, &self.book, stopped(before, &now))?;

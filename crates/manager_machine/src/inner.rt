@@ -7,7 +7,7 @@ use interact_queue::InteractQueue;
 use round_agreement::Round;
 use session_clients::Clients;
 use session_model::{Act, Marks, Wait};
-use sm_world::NoMemory;
+use sm_world::{Conn, NoMemory};
 use std::marker::Model;
 
 /// How often the client of each ID was started again, as it departed.
@@ -26,6 +26,8 @@ pub struct Core {
     /// The book that was written last.
     pub(crate) book: Book,
     pub(crate) ledger: Ledger,
+    /// Who sent the last RegisterClient, where that asks for a new ID.
+    pub(crate) newcomer: Option<Conn>,
     /// How many new IDs were given.
     pub(crate) given: u32,
     /// The IDs of the opened book with which nobody has registered yet.
@@ -50,6 +52,7 @@ impl Model for Core {
       turns = record { waiting = core.queue.waiting; holder = core.queue.holder };
       book = core.book;
       strays = core.ledger.strays;
+      newcomer = core.newcomer;
       given = core.given;
       expected = core.expected.items;
       counts = core.counts.items;

@@ -49,6 +49,7 @@ impl Core {
             queue: InteractQueue::new(alloc),
             book,
             ledger,
+            newcomer: None,
             given: 0,
             expected,
             counts: Vec::new(alloc),

@@ -2,17 +2,36 @@ ghost use Rattle.std.specs.Prelude.{◌≡◌, ◌+◌, ◌++◌, ◌∷◌, [],
 ghost use Rattle.std.specs.Str.{bytes_eq};
 ghost use Rattle.xsmp_messages.specs.declared.message.XsmpMessage.TheVariants.{RegisterClientReply as ReplySaid};
 ghost use Rattle.session_model.specs.Moves.{Gave};
-ghost use Rattle.session_model.specs.Tables.{first_table, is_recorded};
-ghost use Rattle.session_model.specs.Waits.{first_save};
+ghost use Rattle.session_model.specs.Tables.{first_table};
+ghost use Rattle.session_model.specs.Waits.{first_save, is_only};
+ghost use Rattle.session_model.specs.Readings as of;
 ghost use Rattle.session_clients.specs.Clients.{held_after};
 
 use crate::counts::given_after;
 use crate::ids::drop_id;
 use crate::inner::Core;
-use crate::waits::add_newcomer;
+use crate::waits::{add_newcomer, is_only};
 use ice_values::Array8;
-use session_clients::{first_table, is_recorded};
+use session_clients::first_table;
 use sm_world::{Conn, Duplicate, NoMemory};
+use xsmp_messages::XsmpMessage;
+
+/// Who sent the last RegisterClient, where that asks for a new ID by an empty previous-ID, after a
+/// client said this.
+pub(crate) fn newcomer_said(
+    conn: Conn,
+    message: &XsmpMessage,
+    newcomer: Option<Conn>,
+) -> Option<Conn>
+    ensures { result ≡ of.newcomer_said conn message.now newcomer }
+{
+    match message {
+        XsmpMessage::RegisterClient { previous } => {
+            previous.as_slice().is_empty().then_some(conn)
+        }
+        _ => newcomer,
+    }
+}
 
 impl Core {
     /// A connection has this ID from now on, and begins with what the book has under it.
@@ -24,19 +43,19 @@ impl Core {
         Ok(())
     }
 
-    /// Nobody is expected under this ID any more. Where it is new it is counted, and a round for its
-    /// client waits.
+    /// Nobody is expected under this ID any more. Where its client asked for a new one it is
+    /// counted, and a round for the client waits.
     pub(crate) fn note_id(&mut self, conn: Conn, id: &Array8) -> Result<(), NoMemory>
         ensures { OnOk result (self.new ≡ record self.old {
-          waits = cond (is_recorded id.now self.old.book) self.old.waits (self.old.waits ++ first_save conn ∷ []);
-          given = cond (is_recorded id.now self.old.book) self.old.given (self.old.given + 1);
+          waits = cond (is_only conn self.old.newcomer) (self.old.waits ++ first_save conn ∷ []) self.old.waits;
+          given = cond (is_only conn self.old.newcomer) (self.old.given + 1) self.old.given;
           expected = filter (λ other. not (bytes_eq id.now other)) self.old.expected;
         }) }
     {
-        let is_known = is_recorded(&self.book, id.as_slice());
+        let is_new = is_only(conn, self.newcomer);
         drop_id(&mut self.expected, id);
-        add_newcomer(&mut self.waits, conn, is_known)?;
-        self.given = given_after(self.given, is_known)?;
+        add_newcomer(&mut self.waits, conn, is_new)?;
+        self.given = given_after(self.given, is_new)?;
         Ok(())
     }
 }

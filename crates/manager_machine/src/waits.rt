@@ -75,7 +75,8 @@ fn is_sender(conn: Conn, owner: Owner) -> bool
     }
 }
 
-fn is_only(conn: Conn, only: Option<Conn>) -> bool
+/// Whether a connection, and no other, is named.
+pub(crate) fn is_only(conn: Conn, only: Option<Conn>) -> bool
     ensures { result ≡ of.is_only conn only }
 {
     only.is_some_and(|other| other == conn)
@@ -120,14 +121,10 @@ pub(crate) fn add_ordered(
 }
 
 /// The round of a client that has just registered waits, where it is new.
-pub(crate) fn add_newcomer(
-    waits: &mut Vec<Wait>,
-    conn: Conn,
-    is_known: bool,
-) -> Result<(), NoMemory>
-    ensures { OnOk result (waits.new.items ≡ cond is_known waits.old.items (waits.old.items ++ of.first_save conn ∷ [])) }
+pub(crate) fn add_newcomer(waits: &mut Vec<Wait>, conn: Conn, is_new: bool) -> Result<(), NoMemory>
+    ensures { OnOk result (waits.new.items ≡ cond is_new (waits.old.items ++ of.first_save conn ∷ []) waits.old.items) }
 {
-    if !is_known {
+    if is_new {
         waits.push(first_save(conn))?;
     }
     Ok(())

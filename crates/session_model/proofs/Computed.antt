@@ -4,7 +4,7 @@ use Rattle.std.specs.Str.{is_utf8, chars}
 use Rattle.std.specs.Fmt.{digits}
 use Rattle.hex.specs.Hex.{encode_with}
 use lib.Utf8.{encode}
-use Rattle.session_model.specs.Examples.{ANewClientSaves, AnUnknownIdIsRefused, ALongIdIsShownInPart, PropertiesAreKept, AFullTableIsRefused, ThereIsRoomFor64, ACheckpointGoesOn, ACheckpointWaitsForAll, TheTokenGoesOn, TheTokenIsHeldByOne, TheTokenIsGivenBack, OnlyErrorsAreAllowed, AShutdownIsCancelled, AnEmptySessionEnds, OrdersAnswer, AnOldStateIsDiscarded, ExpectedEntriesStay, ASessionIsTakenUp}
+use Rattle.session_model.specs.Examples.{ANewClientSaves, AnUnknownIdIsRefused, ALongIdIsShownInPart, PropertiesAreKept, AFullTableIsRefused, ThereIsRoomFor64, ACheckpointGoesOn, ACheckpointWaitsForAll, TheTokenGoesOn, TheTokenIsHeldByOne, TheTokenIsGivenBack, OnlyErrorsAreAllowed, AShutdownIsCancelled, AnEmptySessionEnds, OrdersAnswer, AnOldStateIsDiscarded, ExpectedEntriesStay, TheRequestTellsWhoIsNew, ASessionIsTakenUp}
 
 pub a_new_client_saves : ANewClientSaves
 unfolding encode_with is_utf8 chars encode digits
@@ -73,6 +73,10 @@ an_old_state_is_discarded = refl
 pub expected_entries_stay : ExpectedEntriesStay
 unfolding encode_with is_utf8 chars encode digits
 expected_entries_stay = refl
+
+pub the_request_tells_who_is_new : TheRequestTellsWhoIsNew
+unfolding encode_with is_utf8 chars encode digits
+the_request_tells_who_is_new = refl
 
 pub a_session_is_taken_up : ASessionIsTakenUp
 unfolding encode_with is_utf8 chars encode digits

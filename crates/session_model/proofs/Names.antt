@@ -4,14 +4,15 @@ use Rattle.std.specs.Prelude.{Option, Some, None, is_some, ◌⊎◌}
 use Rattle.std.specs.List.{AllByRecursion}
 use Rattle.std.proofs.lemmas.Bool.Decides.{nat_tests}
 use Rattle.xsmp_messages.specs.declared.message.XsmpMessage.{XsmpMessage}
-use Rattle.xsmp_messages.specs.declared.message.XsmpMessage.TheVariants.{RegisterClientReply}
+use Rattle.xsmp_messages.specs.declared.message.XsmpMessage.TheVariants.{RegisterClient, RegisterClientReply}
 use Rattle.checkpoint_records.specs.declared.records.Entry.{Entry}
 use Rattle.checkpoint_records.specs.Rules.{client_id, IsClientId}
+use Rattle.round_agreement.specs.Agreement.{is_nil}
 use Rattle.interact_queue.specs.Queue.{is_in, without}
 use Rattle.session_model.specs.declared.events.SessionEvent.{SessionEvent}
-use Rattle.session_model.specs.declared.events.SessionEvent.TheVariants.{Left}
-use Rattle.session_model.specs.Tables.{is_recorded}
+use Rattle.session_model.specs.declared.events.SessionEvent.TheVariants.{Left, Said}
 use Rattle.session_model.specs.Moves.{Move, Outside, Gave, Closed, Committed, History, Opened, ◌▷◌}
+use Rattle.session_model.specs.Waits.{is_only}
 use Rattle.session_model.specs.Readings as of
 use Rattle.session_model.proofs.Lists.{in-without, in-append}
 use Rattle.session_model.proofs.Ids.{same-epoch, same-place}
@@ -51,6 +52,18 @@ ids-step m h k c = k c
 pub have-ids : (h : History) → HaveIds h
 have-ids (Opened book) c = refl
 have-ids (m ▷ h) c = ids-step m h (have-ids h) c
+
+-- Who asks for a new ID
+
+-- an empty previous-ID asks for one, and every other asks for itself
+pub asks-heard : (c : ℕ) (previous : List ℕ) (sequence : ℕ) (frame : List ℕ) (h : History) → of.asks_anew c (Outside (Said c (RegisterClient previous) sequence frame) ▷ h) ≡ is_nil previous
+asks-heard c previous sequence frame h = asks-at (is_nil previous) where
+  own-conn : (c : ℕ) → eqb c c ≡ true
+  own-conn c = grind (arith, nat_tests)
+
+  asks-at : (b : Bool) → is_only c (cond b (Some c) None) ≡ b
+  asks-at true = own-conn c
+  asks-at false = refl
 
 -- An ID that nobody has
 
@@ -120,13 +133,13 @@ pub record Numbered (epoch : ℕ) (h : History) : Type 0 where
   pub held : (c : ℕ) (id : List ℕ) → of.id_of c h ≡ Some id → IsBefore epoch (of.given h) id
   pub entries : AllByRecursion (λ (entry : Entry). IsBefore epoch (of.given h) entry.id) (of.book h).entries
 
--- an ID that is given is the next new one, unless it is recorded; the entries of a book that is written have known IDs
+-- an ID that is given is the next new one or was known before, and the entries of a book that is written have known IDs
 abbrev pub IsNumbered : ℕ → Move → History → Type 0
 IsNumbered epoch (Gave c (RegisterClientReply id)) h = IsBefore epoch (of.given (Gave c (RegisterClientReply id) ▷ h)) id
 IsNumbered epoch (Committed written) h = AllByRecursion (λ (entry : Entry). IsBefore epoch (of.given h) entry.id) written.entries
 IsNumbered epoch m h = Unit {0}
 
-given-more : (b : Bool) (n : ℕ) → n ≤ cond b n (n + 1)
+given-more : (b : Bool) (n : ℕ) → n ≤ cond b (n + 1) n
 given-more true n = omega arith
 given-more false n = omega arith
 
@@ -141,8 +154,8 @@ all-before epoch n m (entry ∷ entries) l a = (before-more epoch n m entry.id l
 numbered-given : (epoch d : ℕ) (m : XsmpMessage) (h : History) → IsNumbered epoch (Gave d m) h → Numbered epoch h → Numbered epoch (Gave d m ▷ h)
 numbered-given epoch d (RegisterClientReply given) h p n = record {
   held = λ c id e. held-case epoch (of.given (Gave d (RegisterClientReply given) ▷ h)) given id p (eqb d c) (of.id_of c h)
-      (λ x. before-more epoch (of.given h) (of.given (Gave d (RegisterClientReply given) ▷ h)) id (given-more (is_recorded given (of.book h)) (of.given h)) (n.held c id x)) e;
-  entries = all-before epoch (of.given h) (of.given (Gave d (RegisterClientReply given) ▷ h)) (of.book h).entries (given-more (is_recorded given (of.book h)) (of.given h)) n.entries;
+      (λ x. before-more epoch (of.given h) (of.given (Gave d (RegisterClientReply given) ▷ h)) id (given-more (of.asks_anew d h) (of.given h)) (n.held c id x)) e;
+  entries = all-before epoch (of.given h) (of.given (Gave d (RegisterClientReply given) ▷ h)) (of.book h).entries (given-more (of.asks_anew d h) (of.given h)) n.entries;
 }
 numbered-given epoch d m h p n = record { held = n.held; entries = n.entries }
 

@@ -38,7 +38,8 @@ use Rattle.session_model.proofs.Room.{within, held_ids, known_with, known-in, in
 abbrev pub Lawful : ℕ → Move → History → Type 0
 Lawful epoch (Gave c (RegisterClientReply id)) h =
     (of.phase_of c h ≡ Some Unregistered) × IsFree id h
-    × (is_recorded id (of.book h) ≡ false → (id ≡ client_id epoch (of.given h + 1)) × (of.given h + 1 < 4294967296) × (length (known_with (of.book h).entries (held_ids h)) < 128))
+    × (of.asks_anew c h ≡ true → (id ≡ client_id epoch (of.given h + 1)) × (of.given h + 1 < 4294967296) × (length (known_with (of.book h).entries (held_ids h)) < 128))
+    × (of.asks_anew c h ≡ false → is_recorded id (of.book h) ≡ true)
 Lawful epoch (Committed written) h =
     KeepsRules written × ((q : List ℕ) → has_id q (ids_of written.entries) ≡ true → (has_id q (ids_of (of.book h).entries) || has_id q (held_ids h)) ≡ true)
 Lawful epoch (Began conns wanted) h = Once conns
@@ -115,9 +116,9 @@ find-before epoch n id (entry ∷ entries) a e = find-at (is_of id entry) refl e
   find-at true s e g = subst (λ (x : List ℕ). IsBefore epoch n x) (sym (same_text id entry.id (sym s))) a.0
   find-at false s e g = g e
 
-reply-before : (b : Bool) (epoch n : ℕ) (id : List ℕ) → (b ≡ true → IsBefore epoch n id) → (b ≡ false → (id ≡ client_id epoch (n + 1)) × (n + 1 < 4294967296)) → IsBefore epoch (cond b n (n + 1)) id
-reply-before true epoch n id f g = f refl
-reply-before false epoch n id f g = subst (λ (x : List ℕ). IsBefore epoch (n + 1) x) (sym (g refl).0) (before-own epoch (n + 1) (g refl).1)
+reply-before : (b : Bool) (epoch n : ℕ) (id : List ℕ) → (b ≡ false → IsBefore epoch n id) → (b ≡ true → (id ≡ client_id epoch (n + 1)) × (n + 1 < 4294967296)) → IsBefore epoch (cond b (n + 1) n) id
+reply-before false epoch n id f g = f refl
+reply-before true epoch n id f g = subst (λ (x : List ℕ). IsBefore epoch (n + 1) x) (sym (g refl).0) (before-own epoch (n + 1) (g refl).1)
 
 all-by-has : (P : List ℕ → Type 0) (entries : List Entry) → ((q : List ℕ) → has_id q (ids_of entries) ≡ true → P q) → AllByRecursion (λ (entry : Entry). P entry.id) entries
 all-by-has P [] k = tt
@@ -131,7 +132,7 @@ known-before epoch q h n e =
 
 lawful-given-numbered : (epoch c : ℕ) (m : XsmpMessage) (h : History) → Lawful epoch (Gave c m) h → Numbered epoch h → IsNumbered epoch (Gave c m) h
 lawful-given-numbered epoch c (RegisterClientReply id) h l n =
-    reply-before (is_recorded id (of.book h)) epoch (of.given h) id (find-before epoch (of.given h) id (of.book h).entries n.entries) (λ e. ((l.2 e).0, (l.2 e).1))
+    reply-before (of.asks_anew c h) epoch (of.given h) id (λ e. find-before epoch (of.given h) id (of.book h).entries n.entries (l.3 e)) (λ e. ((l.2 e).0, (l.2 e).1))
 lawful-given-numbered epoch c m h l n = tt
 
 lawful-numbered : (epoch : ℕ) (m : Move) (h : History) → Lawful epoch m h → Numbered epoch h → IsNumbered epoch m h
@@ -296,20 +297,20 @@ given-case d id q h s =
       of-case c (inl x) = inl (sym x.1)
       of-case c (inr x) = inr (held-in c q h x)
 
-room-reply : (b : Bool) (d : ℕ) (id : List ℕ) (h : History) → is_recorded id (of.book h) ≡ b → (b ≡ false → length (known_with (of.book h).entries (held_ids h)) < 128) → IsDistinct bytes_eq (ids_of (of.book h).entries)
+room-reply : (b : Bool) (d : ℕ) (id : List ℕ) (h : History) → (b ≡ false → is_recorded id (of.book h) ≡ true) → (b ≡ true → length (known_with (of.book h).entries (held_ids h)) < 128) → IsDistinct bytes_eq (ids_of (of.book h).entries)
     → IsDistinct bytes_eq (held_ids (Gave d (RegisterClientReply id) ▷ h)) → length (known_with (of.book h).entries (held_ids h)) ≤ 128 → length (known_with (of.book h).entries (held_ids (Gave d (RegisterClientReply id) ▷ h))) ≤ 128
-room-reply true d id h r l i e k =
+room-reply false d id h r l i e k =
     let w : length (known_with (of.book h).entries (held_ids (Gave d (RegisterClientReply id) ▷ h))) ≤ length (known_with (of.book h).entries (held_ids h)) =
     room-less (of.book h).entries (held_ids h) (held_ids (Gave d (RegisterClientReply id) ▷ h)) i e (λ q s. known-case q (given-case d id q h s)) in
     omega (arith, w, k) where
       known-case : (q : List ℕ) → (q ≡ id) ⊎ (has_id q (held_ids h) ≡ true) → (has_id q (ids_of (of.book h).entries) || has_id q (held_ids h)) ≡ true
-      known-case q (inl s) = ap (λ (b : Bool). b || has_id q (held_ids h)) (ap (λ (x : List ℕ). has_id x (ids_of (of.book h).entries)) s ∙ sym (recorded-has id (of.book h).entries) ∙ r)
+      known-case q (inl s) = ap (λ (b : Bool). b || has_id q (held_ids h)) (ap (λ (x : List ℕ). has_id x (ids_of (of.book h).entries)) s ∙ sym (recorded-has id (of.book h).entries) ∙ r refl)
       known-case q (inr s) = ap (λ (b : Bool). has_id q (ids_of (of.book h).entries) || b) s ∙ or-true (has_id q (ids_of (of.book h).entries))
-room-reply false d id h r l i e k =
+room-reply true d id h r l i e k =
     omega (arith, room-more (of.book h).entries (held_ids h) (held_ids (Gave d (RegisterClientReply id) ▷ h)) id i e (λ q s. given-case d id q h s), l refl)
 
 room-given : (epoch d : ℕ) (m : XsmpMessage) (h : History) → Lawful epoch (Gave d m) h → IsDistinct bytes_eq (held_ids (Gave d m ▷ h)) → Ruly epoch h → length (known_with (of.book h).entries (held_ids (Gave d m ▷ h))) ≤ 128
-room-given epoch d (RegisterClientReply id) h l e r = room-reply (is_recorded id (of.book h)) d id h refl (λ n. (l.2 n).2) r.ids_differ e r.room
+room-given epoch d (RegisterClientReply id) h l e r = room-reply (of.asks_anew d h) d id h l.3 (λ n. (l.2 n).2) r.ids_differ e r.room
 room-given epoch d m h l e r = r.room
 
 room-heard : (epoch : ℕ) (event : SessionEvent) (h : History) → IsDistinct bytes_eq (held_ids (Outside event ▷ h)) → Ruly epoch h → length (known_with (of.book h).entries (held_ids (Outside event ▷ h))) ≤ 128

@@ -18,7 +18,6 @@ use Rattle.session_model.specs.declared.events.SessionEvent.TheVariants.{Joined,
 use Rattle.session_model.specs.Phases.{is_registered, is_interacting, is_dying, is_bound, is_shutdown, may_interact, phase_said, phase_given, registered_phase, ready_phase, held_phase}
 use Rattle.session_model.specs.Moves.{Move, Outside, Gave, Unset, Closed, Began, Over, Cancelled, Agreed, History, ◌▷◌, onto}
 use Rattle.session_model.specs.Waits.{first_save, checkpoint_wait, shutdown_wait, lone_wait, global_wait, is_only, is_sender, is_busy, with_request, waits_said, waits_ordered, disowned, waits_left}
-use Rattle.session_model.specs.Tables.{is_recorded}
 use Rattle.session_model.specs.Readings as of
 use Rattle.session_model.proofs.Lists.{in-without, in-append, Once, once-push, once-without}
 use Rattle.session_model.proofs.PhaseSteps.{quiet-said, quiet-ready, same-token, given-phase}
@@ -364,12 +363,13 @@ reply-phase : (b : Bool) (p : Option Phase) → (b ≡ true → p ≡ Some Unreg
 reply-phase true p e f = ap (λ (q : Option Phase). is_registered (registered_phase q)) (e refl)
 reply-phase false p e f = f refl
 
-reply-alone : (r : Bool) (c d : ℕ) (ws : List Wait) → eqb c d ≡ false → is_wanted_alone d (cond r ws (ws ++ first_save c ∷ [])) ≡ true → is_wanted_alone d ws ≡ true
-reply-alone r c d ws n e = more-alone r d ws (first_save c) n (λ x. x) e
+reply-alone : (anew : Bool) (c d : ℕ) (ws : List Wait) → eqb c d ≡ false → is_wanted_alone d (cond anew (ws ++ first_save c ∷ []) ws) ≡ true → is_wanted_alone d ws ≡ true
+reply-alone true c d ws n e = more-alone false d ws (first_save c) n (λ x. x) e
+reply-alone false c d ws n e = e
 
 wait-given : (c : ℕ) (m : XsmpMessage) (h : History) → Fits (Gave c m) h → WaitForRegistered h → WaitForRegistered (Gave c m ▷ h)
 wait-given c (RegisterClientReply id) h f k d e =
-    reply-phase (eqb c d) (of.phase_of d h) (phase-there d c h (Some Unregistered) f) (λ n. k d (reply-alone (is_recorded id (of.book h)) c d (of.waits h) n e))
+    reply-phase (eqb c d) (of.phase_of d h) (phase-there d c h (Some Unregistered) f) (λ n. k d (reply-alone (of.asks_anew c h) c d (of.waits h) n e))
 wait-given c m h f k d e = at-one (λ p. is_registered p) (eqb c d) (of.phase_of d h) (phase_given m (of.phase_of d h)) ((given-phase m (of.phase_of d h)).registered refl) ∙ k d e
 
 unset-phase : (b : Bool) (p : Option Phase) → (b ≡ true → p ≡ Some Unregistered) → is_registered p ≡ true → is_registered (cond b None p) ≡ true

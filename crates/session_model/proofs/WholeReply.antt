@@ -39,7 +39,7 @@ use Rattle.session_model.proofs.Tidy.{Proper, AllProper}
 use Rattle.session_model.proofs.Propers.{proper-reply, proper-tried, IsOf, is-forgetting}
 use Rattle.session_model.proofs.TidyRun.{orderly-onto, orderly-step, orderly-opened, later-entries, tidy-start}
 use Rattle.session_model.proofs.Pending.{filter-len}
-use Rattle.session_model.proofs.Names.{have-ids}
+use Rattle.session_model.proofs.Names.{asks-heard, have-ids}
 use Rattle.session_model.proofs.Room.{held_ids, known_with}
 use Rattle.session_model.proofs.Ruly.{Lawful, Ruly, own_text}
 use Rattle.session_model.proofs.Lawfuls.{rules-forgetting, forgetting-known, length-ids}
@@ -150,9 +150,12 @@ found-free h id n c e =
 part-heard : (epoch c : ℕ) (m : XsmpMessage) (sequence : ℕ) (frame : List ℕ) (h : History) → Part epoch h → Part epoch (Outside (Said c m sequence frame) ▷ h)
 part-heard epoch c m sequence frame h w = record { carried = carried-step epoch (Outside (Said c m sequence frame)) h tt tt w.carried.once w.carried; few_live = w.few_live; few_pending = w.few_pending }
 
-part-enter : (epoch c : ℕ) (previous : List ℕ) (sequence : ℕ) (frame : List ℕ) (h : History) (x : Arrival) → x.conn ≡ c → of.phase_of c (Outside (Said c (RegisterClient previous) sequence frame) ▷ h) ≡ Some Unregistered → AllProper epoch (enter (reading h) x) → Good (Outside (Said c (RegisterClient previous) sequence frame) ▷ h)
+asked-by : (x c : ℕ) (previous : List ℕ) (sequence : ℕ) (frame : List ℕ) (h : History) → x ≡ c → of.asks_anew x (Outside (Said c (RegisterClient previous) sequence frame) ▷ h) ≡ is_nil previous
+asked-by x c previous sequence frame h is = ap (λ (d : ℕ). of.asks_anew d (Outside (Said c (RegisterClient previous) sequence frame) ▷ h)) is ∙ asks-heard c previous sequence frame h
+
+part-enter : (epoch c : ℕ) (previous : List ℕ) (sequence : ℕ) (frame : List ℕ) (h : History) (x : Arrival) → x.conn ≡ c → is_nil previous ≡ true → of.phase_of c (Outside (Said c (RegisterClient previous) sequence frame) ▷ h) ≡ Some Unregistered → AllProper epoch (enter (reading h) x) → Good (Outside (Said c (RegisterClient previous) sequence frame) ▷ h)
     → Whole epoch h → Part epoch (onto (Outside (Said c (RegisterClient previous) sequence frame) ▷ h) (enter (reading h) x))
-part-enter epoch c previous sequence frame h x is u p g w = enter-at (has_no_room (reading h)) refl p where
+part-enter epoch c previous sequence frame h x is k u p g w = enter-at (has_no_room (reading h)) refl p where
   enter-at : (b : Bool) → has_no_room (reading h) ≡ b → AllProper epoch (cond b (Blamed x.conn (no_room x) ∷ Unset x.conn ∷ []) (Gave x.conn (RegisterClientReply (client_id (of.book h).epoch (of.given h + 1))) ∷ []))
       → Part epoch (onto (Outside (Said c (RegisterClient previous) sequence frame) ▷ h) (cond b (Blamed x.conn (no_room x) ∷ Unset x.conn ∷ []) (Gave x.conn (RegisterClientReply (client_id (of.book h).epoch (of.given h + 1))) ∷ [])))
   enter-at true e p = part-mild epoch (Blamed x.conn (no_room x) ∷ Unset x.conn ∷ []) (Outside (Said c (RegisterClient previous) sequence frame) ▷ h) (tt, (tt, tt)) p (part-heard epoch c (RegisterClient previous) sequence frame h (part-of epoch h w))
@@ -162,12 +165,13 @@ part-enter epoch c previous sequence frame h x is u p g w = enter-at (has_no_roo
         subst (λ (d : ℕ). of.phase_of d (Outside (Said c (RegisterClient previous) sequence frame) ▷ h) ≡ Some Unregistered) (sym is) u,
         new-free epoch h w.orderly.is_of w.carried.ruly room.1,
         (λ n. (ap (λ (k : ℕ). client_id k (of.given h + 1)) w.orderly.is_of, room.1, omega (arith, known-len h, room.0))),
+        (λ n. absurd (differ (asked-by x.conn c previous sequence frame h is ∙ k) n)),
       )
       p.0 g (part-heard epoch c (RegisterClient previous) sequence frame h (part-of epoch h w))
 
-part-rejoin : (epoch c : ℕ) (previous : List ℕ) (sequence : ℕ) (frame : List ℕ) (h : History) (x : Arrival) (id : List ℕ) → x.conn ≡ c → of.phase_of c (Outside (Said c (RegisterClient previous) sequence frame) ▷ h) ≡ Some Unregistered → AllProper epoch (rejoin (reading h) x id) → Good (Outside (Said c (RegisterClient previous) sequence frame) ▷ h)
+part-rejoin : (epoch c : ℕ) (previous : List ℕ) (sequence : ℕ) (frame : List ℕ) (h : History) (x : Arrival) (id : List ℕ) → x.conn ≡ c → is_nil previous ≡ false → of.phase_of c (Outside (Said c (RegisterClient previous) sequence frame) ▷ h) ≡ Some Unregistered → AllProper epoch (rejoin (reading h) x id) → Good (Outside (Said c (RegisterClient previous) sequence frame) ▷ h)
     → Whole epoch h → Part epoch (onto (Outside (Said c (RegisterClient previous) sequence frame) ▷ h) (rejoin (reading h) x id))
-part-rejoin epoch c previous sequence frame h x id is u p g w = rejoin-at (may_rejoin (reading h) id) refl p where
+part-rejoin epoch c previous sequence frame h x id is k u p g w = rejoin-at (may_rejoin (reading h) id) refl p where
   rejoin-at : (b : Bool) → may_rejoin (reading h) id ≡ b → AllProper epoch (cond b (Gave x.conn (RegisterClientReply id) ∷ []) (Blamed x.conn (bad_id x) ∷ []))
       → Part epoch (onto (Outside (Said c (RegisterClient previous) sequence frame) ▷ h) (cond b (Gave x.conn (RegisterClientReply id) ∷ []) (Blamed x.conn (bad_id x) ∷ [])))
   rejoin-at false e p = part-mild epoch (Blamed x.conn (bad_id x) ∷ []) (Outside (Said c (RegisterClient previous) sequence frame) ▷ h) (tt, tt) p (part-heard epoch c (RegisterClient previous) sequence frame h (part-of epoch h w))
@@ -175,21 +179,22 @@ part-rejoin epoch c previous sequence frame h x id is u p g w = rejoin-at (may_r
       part-replied epoch x.conn id (Outside (Said c (RegisterClient previous) sequence frame) ▷ h) (
         subst (λ (d : ℕ). of.phase_of d (Outside (Said c (RegisterClient previous) sequence frame) ▷ h) ≡ Some Unregistered) (sym is) u,
         found-free h id (and-right (is_recorded id (of.book h)) (is_none (client_of id (reading h).clients)) e),
-        (λ n. absurd (differ (and-left (is_recorded id (of.book h)) (is_none (client_of id (reading h).clients)) e) n)),
+        (λ n. absurd (differ n (asked-by x.conn c previous sequence frame h is ∙ k))),
+        (λ n. and-left (is_recorded id (of.book h)) (is_none (client_of id (reading h).clients)) e),
       )
       p.0 g (part-heard epoch c (RegisterClient previous) sequence frame h (part-of epoch h w))
 
-part-register : (epoch c : ℕ) (previous : List ℕ) (sequence : ℕ) (frame : List ℕ) (h : History) (x : Arrival) (id : List ℕ) → x.conn ≡ c → of.phase_of c (Outside (Said c (RegisterClient previous) sequence frame) ▷ h) ≡ Some Unregistered → AllProper epoch (register (reading h) x id) → Good (Outside (Said c (RegisterClient previous) sequence frame) ▷ h)
+part-register : (epoch c : ℕ) (previous : List ℕ) (sequence : ℕ) (frame : List ℕ) (h : History) (x : Arrival) (id : List ℕ) → x.conn ≡ c → is_nil previous ≡ is_nil id → of.phase_of c (Outside (Said c (RegisterClient previous) sequence frame) ▷ h) ≡ Some Unregistered → AllProper epoch (register (reading h) x id) → Good (Outside (Said c (RegisterClient previous) sequence frame) ▷ h)
     → Whole epoch h → Part epoch (onto (Outside (Said c (RegisterClient previous) sequence frame) ▷ h) (register (reading h) x id))
-part-register epoch c previous sequence frame h x [] is u p g w = part-enter epoch c previous sequence frame h x is u p g w
-part-register epoch c previous sequence frame h x (b ∷ id) is u p g w = part-rejoin epoch c previous sequence frame h x (b ∷ id) is u p g w
+part-register epoch c previous sequence frame h x [] is k u p g w = part-enter epoch c previous sequence frame h x is k u p g w
+part-register epoch c previous sequence frame h x (b ∷ id) is k u p g w = part-rejoin epoch c previous sequence frame h x (b ∷ id) is k u p g w
 
 -- Messages
 
 part-registers : (b : Bool) (epoch c : ℕ) (previous : List ℕ) (sequence : ℕ) (frame : List ℕ) (h : History) (x : Arrival) → x.conn ≡ c → (b ≡ true → of.phase_of c (Outside (Said c (RegisterClient previous) sequence frame) ▷ h) ≡ Some Unregistered)
     → AllProper epoch (or_bad_state b x (register (reading h) x previous)) → Good (Outside (Said c (RegisterClient previous) sequence frame) ▷ h) → Whole epoch h
     → Part epoch (onto (Outside (Said c (RegisterClient previous) sequence frame) ▷ h) (or_bad_state b x (register (reading h) x previous)))
-part-registers true epoch c previous sequence frame h x is u p g w = part-register epoch c previous sequence frame h x previous is (u refl) p g w
+part-registers true epoch c previous sequence frame h x is u p g w = part-register epoch c previous sequence frame h x previous is refl (u refl) p g w
 part-registers false epoch c previous sequence frame h x is u p g w = part-mild epoch (refused x) (Outside (Said c (RegisterClient previous) sequence frame) ▷ h) (tt, tt) p (part-heard epoch c (RegisterClient previous) sequence frame h (part-of epoch h w))
 
 part-answered : (epoch c : ℕ) (m : XsmpMessage) (sequence : ℕ) (frame : List ℕ) (h : History) (p : Option Phase) → of.phase_of c h ≡ p → AllProper epoch (answered (reading h) (record { conn = c; message = m; sequence = sequence; frame = frame }) m p) → Good (Outside (Said c m sequence frame) ▷ h) → Whole epoch h

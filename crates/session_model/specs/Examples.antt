@@ -268,6 +268,13 @@ ExpectedEntriesStay =
     ∷ Commit (second_book (last_entries ++ entry_7 ∷ []))
     ∷ Say 7 SaveComplete ∷ []
 
+-- Who is new is told by the previous-ID alone. The run over this book, which breaks the rules, gives anew an ID that the book has;
+-- its client is asked to save as each new one is.
+abbrev pub TheRequestTellsWhoIsNew : Type 0
+TheRequestTellsWhoIsNew =
+    all_acts (run (opened (record { entries = entry_of_run 1 1 (codes "c1") ∷ []; pending = []; epoch = 0 })) (logs_in 1))
+    ≡ Commit (first_book (entry_of_run 1 1 (codes "c1") ∷ []) []) ∷ Start Restart (plain (codes "c1" ∷ [])) ∷ Say 1 (RegisterClientReply (codes "smd-00000001-00000001")) ∷ asks_for_save 1 ∷ []
+
 -- Each client of the last run is started again. Those that come back get their IDs and aren't asked to save; a new one is, and gets an
 -- entry of its own. At the shutdown the entry of a client that isn't to be started again goes; that of one which never came
 -- back stays by its hint, and its command for the end is started.

@@ -9,7 +9,7 @@ use Rattle.sm_world.specs.declared.events.Dialog.{Dialog}
 use Rattle.ice_values.specs.declared.property.Property.{Property}
 use Rattle.checkpoint_records.specs.declared.records.Book.{Book}
 use Rattle.xsmp_messages.specs.declared.message.XsmpMessage.{XsmpMessage}
-use Rattle.xsmp_messages.specs.declared.message.XsmpMessage.TheVariants.{InteractRequest, RegisterClientReply, SaveYourself, SaveYourselfDone, ShutdownCancelled}
+use Rattle.xsmp_messages.specs.declared.message.XsmpMessage.TheVariants.{InteractRequest, RegisterClient, RegisterClientReply, SaveYourself, SaveYourselfDone, ShutdownCancelled}
 use Rattle.round_agreement.specs.declared.wanted.Wanted.{Wanted}
 use Rattle.session_model.specs.declared.phase.Phase.{Phase}
 use Rattle.session_model.specs.declared.waits.Wait.{Wait}
@@ -21,9 +21,9 @@ use Rattle.round_agreement.specs.Agreement.{Agreement, is_nil}
 use Rattle.discard_ledger.specs.Discards.{discard_of}
 use Rattle.session_model.specs.Phases.{is_asked, is_interacting, is_saving, is_shutdown, may_interact, phase_given, phase_said, ready_phase, step_of}
 use Rattle.checkpoint_records.specs.Rules.{ids_of}
-use Rattle.session_model.specs.Tables.{first_table, is_recorded, stopped_said, strays_with, table_said}
+use Rattle.session_model.specs.Tables.{first_table, stopped_said, strays_with, table_said}
 use Rattle.session_model.specs.Moves.{Agreed, Began, Cancelled, Cause, Closed, Committed, Gave, History, Move, Opened, Outside, Over, Respawn, Tried, Unset, departing, ◌▷◌}
-use Rattle.session_model.specs.Waits.{first_save, is_global, waits_left, waits_ordered, waits_said}
+use Rattle.session_model.specs.Waits.{first_save, is_global, is_only, waits_left, waits_ordered, waits_said}
 use Rattle.interact_queue.specs.Queue.{without}
 
 -- what stays for c, unless c departs with the move
@@ -75,16 +75,34 @@ abbrev pub id_of : ℕ → History → Option (List ℕ)
 id_of c (Opened opened) = None
 id_of c (m ▷ h) = id_after c m (id_of c h)
 
+-- who sent the last RegisterClient, where that asks for a new ID by an empty previous-ID
+abbrev pub newcomer_said : ℕ → XsmpMessage → Option ℕ → Option ℕ
+newcomer_said c (RegisterClient previous) newcomer = cond (is_nil previous) (Some c) None
+newcomer_said c m newcomer = newcomer
+
+abbrev pub newcomer_after : Move → Option ℕ → Option ℕ
+newcomer_after (Outside (Said c m sequence frame)) newcomer = newcomer_said c m newcomer
+newcomer_after m newcomer = newcomer
+
+abbrev pub newcomer : History → Option ℕ
+newcomer (Opened opened) = None
+newcomer (m ▷ h) = newcomer_after m (newcomer h)
+
+-- The last RegisterClient came from c, and its previous-ID was empty. A reply answers the last RegisterClient, so one that c is
+-- sent now gives it a new ID exactly where this holds.
+abbrev pub asks_anew : ℕ → History → Bool
+asks_anew c h = is_only c (newcomer h)
+
 -- The run
 
--- how many new IDs were given: those that the book has no entry for
-abbrev pub given_after : Move → (List ℕ → Bool) → ℕ → ℕ
-given_after (Gave c (RegisterClientReply id)) recorded n = cond (recorded id) n (n + 1)
-given_after m recorded n = n
+-- how many new IDs were given: by replies to an empty previous-ID
+abbrev pub given_after : Move → (ℕ → Bool) → ℕ → ℕ
+given_after (Gave c (RegisterClientReply id)) anew n = cond (anew c) (n + 1) n
+given_after m anew n = n
 
 abbrev pub given : History → ℕ
 given (Opened opened) = 0
-given (m ▷ h) = given_after m (λ id. is_recorded id (book h)) (given h)
+given (m ▷ h) = given_after m (λ c. asks_anew c h) (given h)
 
 -- the IDs of the opened book with which nobody has registered yet
 abbrev pub expected_after : Move → List (List ℕ) → List (List ℕ)
@@ -240,19 +258,19 @@ waits_heard (Operator order) phase ending waits = waits_ordered order ending wai
 waits_heard (Left c) phase ending waits = waits_left c waits
 waits_heard event phase ending waits = waits
 
--- A client that is new gets a round of its own. The first round goes when it begins, and all go when a shutdown is agreed.
-abbrev pub waits_after : Move → (List ℕ → Bool) → (ℕ → Option Phase) → Option Wanted → Bool → List Wait → List Wait
-waits_after (Outside event) recorded phase purpose ending waits = waits_heard event phase ending waits
-waits_after (Gave c (RegisterClientReply id)) recorded phase purpose ending waits = cond (recorded id) waits (waits ++ first_save c ∷ [])
-waits_after (Closed c) recorded phase purpose ending waits = waits_left c waits
-waits_after (Began begun begun_for) recorded phase purpose ending waits = drop 1 waits
-waits_after Agreed recorded phase purpose ending waits = cond (is_shutdown purpose) [] waits
-waits_after m recorded phase purpose ending waits = waits
+-- A client that got a new ID gets a round of its own. The first round goes when it begins, and all go when a shutdown is agreed.
+abbrev pub waits_after : Move → (ℕ → Bool) → (ℕ → Option Phase) → Option Wanted → Bool → List Wait → List Wait
+waits_after (Outside event) anew phase purpose ending waits = waits_heard event phase ending waits
+waits_after (Gave c (RegisterClientReply id)) anew phase purpose ending waits = cond (anew c) (waits ++ first_save c ∷ []) waits
+waits_after (Closed c) anew phase purpose ending waits = waits_left c waits
+waits_after (Began begun begun_for) anew phase purpose ending waits = drop 1 waits
+waits_after Agreed anew phase purpose ending waits = cond (is_shutdown purpose) [] waits
+waits_after m anew phase purpose ending waits = waits
 
 -- the rounds that wait, in order
 abbrev pub waits : History → List Wait
 waits (Opened opened) = []
-waits (m ▷ h) = waits_after m (λ id. is_recorded id (book h)) (λ c. phase_of c h) (wanted h) (is_ending h) (waits h)
+waits (m ▷ h) = waits_after m (λ c. asks_anew c h) (λ c. phase_of c h) (wanted h) (is_ending h) (waits h)
 
 -- The token
 

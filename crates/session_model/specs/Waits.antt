@@ -43,7 +43,7 @@ abbrev pub is_sender : ℕ → Owner → Bool
 is_sender c (Sender d) = d == c
 is_sender c owner = false
 
--- a round of this one member
+-- c, and only c, is named
 abbrev pub is_only : ℕ → Option ℕ → Bool
 is_only c None = false
 is_only c (Some d) = d == c

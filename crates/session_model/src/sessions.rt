@@ -1,4 +1,4 @@
-ghost use Rattle.session_model.specs.Examples.{ANewClientSaves, AnUnknownIdIsRefused, ALongIdIsShownInPart, PropertiesAreKept, AFullTableIsRefused, ThereIsRoomFor64, ACheckpointGoesOn, ACheckpointWaitsForAll, TheTokenGoesOn, TheTokenIsHeldByOne, TheTokenIsGivenBack, OnlyErrorsAreAllowed, AShutdownIsCancelled, AnEmptySessionEnds, OrdersAnswer, AnOldStateIsDiscarded, ExpectedEntriesStay, ASessionIsTakenUp};
+ghost use Rattle.session_model.specs.Examples.{ANewClientSaves, AnUnknownIdIsRefused, ALongIdIsShownInPart, PropertiesAreKept, AFullTableIsRefused, ThereIsRoomFor64, ACheckpointGoesOn, ACheckpointWaitsForAll, TheTokenGoesOn, TheTokenIsHeldByOne, TheTokenIsGivenBack, OnlyErrorsAreAllowed, AShutdownIsCancelled, AnEmptySessionEnds, OrdersAnswer, AnOldStateIsDiscarded, ExpectedEntriesStay, TheRequestTellsWhoIsNew, ASessionIsTakenUp};
 
 /// Does nothing: its contract is a list of worked sessions, each of which the definitions compute.
 pub fn sessions_compute()
@@ -19,5 +19,6 @@ pub fn sessions_compute()
     ensures orders_answer { OrdersAnswer }
     ensures an_old_state_is_discarded { AnOldStateIsDiscarded }
     ensures expected_entries_stay { ExpectedEntriesStay }
+    ensures the_request_tells_who_is_new { TheRequestTellsWhoIsNew }
     ensures a_session_is_taken_up { ASessionIsTakenUp }
 {}

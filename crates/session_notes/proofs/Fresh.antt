@@ -17,7 +17,7 @@ use Rattle.session_model.specs.Moves.{Move, Outside, Gave, Blamed, Committed, Hi
 use Rattle.session_model.specs.Readings as of
 use Rattle.session_model.proofs.Names.{IsBefore, Numbered, before-earlier, before-own, numbered-step}
 use Rattle.session_model.proofs.Pending.{all-more}
-use Rattle.session_model.proofs.Ruled.{denied, differ}
+use Rattle.session_model.proofs.Ruled.{denied}
 use Rattle.session_notes.specs.Notes.{Note, Given}
 use Rattle.session_notes.specs.Keeping.{book_in, given_ids, is_newcomer, new_ids}
 use Rattle.session_notes.specs.Laws.{IsFresh, IsOpenable}
@@ -56,33 +56,35 @@ later epoch g id b k lt fits e = b k (omega (arith, lt)) fits e
 one-more : (g : ℕ) → g + 1 ≡ suc g
 one-more g = omega arith
 
--- a reply, to a newcomer or not, of an ID that is recorded or not
-record Replied (epoch g : ℕ) (w r : Bool) (id : List ℕ) (n : List Note) : Type 0 where
-  before : IsBefore epoch (cond r g (g + 1)) id
-  given : AllByRecursion (IsBefore epoch (cond r g (g + 1))) (given_ids n)
-  new : cond w (id ∷ new_ids n) (new_ids n) ≡ numbered epoch (cond r g (g + 1))
+-- a reply, to a newcomer or not
+record Replied (epoch g : ℕ) (w : Bool) (id : List ℕ) (n : List Note) : Type 0 where
+  before : IsBefore epoch (cond w (g + 1) g) id
+  given : AllByRecursion (IsBefore epoch (cond w (g + 1) g)) (given_ids n)
+  new : cond w (id ∷ new_ids n) (new_ids n) ≡ numbered epoch (cond w (g + 1) g)
 
-replied-is : (w r : Bool) (epoch g : ℕ) (id : List ℕ) (n : List Note) → (w ≡ true → (id ≡ client_id epoch (g + 1)) × (g + 1 < 4294967296)) → (w ≡ false → r ≡ true) → (r ≡ true → IsBefore epoch g id)
-    → AllByRecursion (IsBefore epoch g) (given_ids n) → new_ids n ≡ numbered epoch g → Replied epoch g w r id n
-replied-is true true epoch g id n f k b a e = absurd (b refl (g + 1) (omega arith) (f refl).1 (f refl).0)
-replied-is true false epoch g id n f k b a e = record {
+replied-is : (w : Bool) (epoch g : ℕ) (id : List ℕ) (n : List Note) → (w ≡ true → (id ≡ client_id epoch (g + 1)) × (g + 1 < 4294967296)) → (w ≡ false → IsBefore epoch g id)
+    → AllByRecursion (IsBefore epoch g) (given_ids n) → new_ids n ≡ numbered epoch g → Replied epoch g w id n
+replied-is true epoch g id n f b a e = record {
   before = subst (λ (x : List ℕ). IsBefore epoch (g + 1) x) (sym (f refl).0) (before-own epoch (g + 1) (f refl).1);
   given = all-more (IsBefore epoch g) (IsBefore epoch (g + 1)) (later epoch g) (given_ids n) a;
   new = ap (λ (x : List ℕ). x ∷ new_ids n) (f refl).0 ∙ ap (λ (xs : List (List ℕ)). client_id epoch (g + 1) ∷ xs) e
       ∙ ap (λ (x : ℕ). client_id epoch x ∷ numbered epoch g) (one-more g) ∙ sym (ap (λ (x : ℕ). numbered epoch x) (one-more g));
 }
-replied-is false true epoch g id n f k b a e = record { before = b refl; given = a; new = e }
-replied-is false false epoch g id n f k b a e = absurd (differ (k refl) refl)
+replied-is false epoch g id n f b a e = record { before = b refl; given = a; new = e }
 
-aged-reply : (d : ℕ) (id : List ℕ) (h : History) (n : List Note) → IsGiven d id h n → (of.book h).epoch ≡ run_epoch h → Aged h n → Aged (Gave d (RegisterClientReply id) ▷ h) (Given d (RegisterClientReply id) ∷ n)
-aged-reply d id h n g e o =
-    let r : Replied (run_epoch h) (of.given h) (is_newcomer d n) (is_recorded id (of.book h)) id n =
-    replied-is (is_newcomer d n) (is_recorded id (of.book h)) (run_epoch h) (of.given h) id n (λ k. ((g.anew k).0 ∙ ap (λ (x : ℕ). client_id x (of.given h + 1)) e, (g.anew k).1)) g.again
-    (recorded-before (run_epoch h) (of.given h) id (of.book h).entries o.before.entries) o.given o.new in
-    record { before = numbered-step (run_epoch h) (Gave d (RegisterClientReply id)) h r.before o.before; given = (r.before, r.given); new = r.new }
+aged-reply : (d : ℕ) (id : List ℕ) (h : History) (n : List Note) → IsGiven d id h n → of.asks_anew d h ≡ is_newcomer d n → (of.book h).epoch ≡ run_epoch h → Aged h n → Aged (Gave d (RegisterClientReply id) ▷ h) (Given d (RegisterClientReply id) ∷ n)
+aged-reply d id h n g s e o =
+    let r : Replied (run_epoch h) (of.given h) (of.asks_anew d h) id n =
+    replied-is (of.asks_anew d h) (run_epoch h) (of.given h) id n (λ k. ((g.anew (sym s ∙ k)).0 ∙ ap (λ (x : ℕ). client_id x (of.given h + 1)) e, (g.anew (sym s ∙ k)).1))
+    (λ k. recorded-before (run_epoch h) (of.given h) id (of.book h).entries o.before.entries (g.again (sym s ∙ k))) o.given o.new in
+    record {
+      before = numbered-step (run_epoch h) (Gave d (RegisterClientReply id)) h r.before o.before;
+      given = (r.before, r.given);
+      new = ap (λ (b : Bool). cond b (id ∷ new_ids n) (new_ids n)) (sym s) ∙ r.new;
+    }
 
 aged-given : (d : ℕ) (m : XsmpMessage) (h : History) → Suits (Gave d m) h → (of.book h).epoch ≡ run_epoch h → Aged h (noted_of h) → Aged (Gave d m ▷ h) (noted_of (Gave d m ▷ h))
-aged-given d (RegisterClientReply id) h s e o = aged-reply d id h (noted_of h) s.1 e o
+aged-given d (RegisterClientReply id) h s e o = aged-reply d id h (noted_of h) s.1 s.2 e o
 aged-given d m h s e o = record { before = numbered-step (run_epoch h) (Gave d m) h tt o.before; given = o.given; new = o.new }
 
 aged-heard : (event : SessionEvent) (h : History) → Aged h (noted_of h) → Aged (Outside event ▷ h) (noted_of (Outside event ▷ h))

@@ -34,6 +34,7 @@ use Rattle.session_model.specs.Books.{discarded, command_anyway, book_forgetting
 use Rattle.session_model.specs.Replies.{or_bad_state, respawn_moves, entry_respawn, id_respawn, respawned, depart, has_no_room, known_ids, may_rejoin, register, called_off, want_cancel, answered, unless_dying, said, resigned, forgotten, forget_one, ordered, has_no_place, reply}
 use Rattle.session_model.proofs.Sound.{Sound, sound-step}
 use Rattle.session_model.proofs.Level.{Good}
+use Rattle.session_model.proofs.Names.{asks-heard}
 use Rattle.session_model.proofs.Ruled.{and-left, and-right, differ, nobody-level}
 use Rattle.session_model.proofs.Replied.{unregistered-is, cond-same}
 use Rattle.session_notes.specs.Notes.{Note, Heard}
@@ -211,7 +212,7 @@ newcomer-is c previous n = ap (λ (b : Bool). cond b (is_nil previous) (is_newco
 
 fine-reply : (c : ℕ) (previous : List ℕ) (sequence : ℕ) (frame id : List ℕ) (h : History) → of.phase_of c h ≡ Some Unregistered → IsGiven c id h (Heard c (RegisterClient previous) ∷ noted_of h) → Fine h → Fine (Gave c (RegisterClientReply id) ▷ heard c (RegisterClient previous) sequence frame h)
 fine-reply c previous sequence frame id h u g f =
-    fine-step (Gave c (RegisterClientReply id)) (heard c (RegisterClient previous) sequence frame h) (still-unregistered c previous sequence frame h u, record { anew = g.anew; again = g.again; free = g.free }) (fine-step (Outside (Said c (RegisterClient previous) sequence frame)) h tt f)
+    fine-step (Gave c (RegisterClientReply id)) (heard c (RegisterClient previous) sequence frame h) (still-unregistered c previous sequence frame h u, record { anew = g.anew; again = g.again; free = g.free }, asks-heard c previous sequence frame h ∙ sym (newcomer-is c previous (noted_of h))) (fine-step (Outside (Said c (RegisterClient previous) sequence frame)) h tt f)
 
 fine-turned-away : (c : ℕ) (previous : List ℕ) (sequence : ℕ) (frame : List ℕ) (error : ErrorFields) (h : History) → of.phase_of c h ≡ Some Unregistered → Fine h → Fine (Unset c ▷ Blamed c error ▷ heard c (RegisterClient previous) sequence frame h)
 fine-turned-away c previous sequence frame error h u f =

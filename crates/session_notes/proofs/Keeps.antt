@@ -70,7 +70,7 @@ abbrev FewTold : History → Type 0
 FewTold h = of.given h < 4294967296
 
 few-given : (d : ℕ) (m : XsmpMessage) (h : History) → Suits (Gave d m) h → FewTold h → FewTold (Gave d m ▷ h)
-few-given d (RegisterClientReply id) h s t = kept.few-reply d id h (noted_of h) s.1 t
+few-given d (RegisterClientReply id) h s t = kept.few-reply d id h (noted_of h) s.1 s.2 t
 few-given d m h s t = t
 
 few-step : (m : Move) (h : History) → Suits m h → FewTold h → FewTold (m ▷ h)

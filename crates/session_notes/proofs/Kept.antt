@@ -203,12 +203,11 @@ new-reply d id h n g e t = new-at (is_newcomer d n) refl where
   new-at true k = (record { number = of.given h + 1; fits = omega (arith, (g.anew k).1); is = (g.anew k).0 ∙ ap (λ (x : ℕ). client_id x (of.given h + 1)) e }, t)
   new-at false k = t
 
-pub few-reply : (c : ℕ) (id : List ℕ) (h : History) (n : List Note) → IsGiven c id h n → of.given h < 4294967296 → cond (is_recorded id (of.book h)) (of.given h) (of.given h + 1) < 4294967296
-few-reply c id h n g l = few-at (is_newcomer c n) (is_recorded id (of.book h)) refl refl where
-  few-at : (w b : Bool) → is_newcomer c n ≡ w → is_recorded id (of.book h) ≡ b → cond b (of.given h) (of.given h + 1) < 4294967296
-  few-at w true k e = l
-  few-at true false k e = (g.anew k).1
-  few-at false false k e = absurd (differ (g.again k) e)
+pub few-reply : (c : ℕ) (id : List ℕ) (h : History) (n : List Note) → IsGiven c id h n → of.asks_anew c h ≡ is_newcomer c n → of.given h < 4294967296 → of.given (Gave c (RegisterClientReply id) ▷ h) < 4294967296
+few-reply c id h n g e l = few-at (of.asks_anew c h) (λ k. (g.anew (sym e ∙ k)).1) where
+  few-at : (b : Bool) → (b ≡ true → of.given h + 1 < 4294967296) → cond b (of.given h + 1) (of.given h) < 4294967296
+  few-at true k = k refl
+  few-at false k = l
 
 -- Discards
 

@@ -12,6 +12,7 @@ use Rattle.session_model.specs.Readings as of
 use Rattle.session_model.proofs.Sound.{Fits}
 use Rattle.session_notes.specs.Laws.{IsOpenable}
 use Rattle.session_notes.specs.Watching.{is_to_save}
+use Rattle.session_notes.specs.Keeping.{is_newcomer}
 use Rattle.session_notes.proofs.Seen.{noted_of}
 use Rattle.session_notes.proofs.Steps.{is_at_work, has_replied}
 use Rattle.session_notes.proofs.Told as told
@@ -24,7 +25,7 @@ Suits (Outside (Said c (InteractRequest dialog) sequence frame)) h = HasPlace c 
 Suits (Outside (Said c (SetProperties list) sequence frame)) h = HasRoom c list h
 Suits (Outside (Said c (DeleteProperties names) sequence frame)) h = HasTable c h
 Suits (Outside (Said c (SaveYourselfDone success) sequence frame)) h = MaySave c h
-Suits (Gave c (RegisterClientReply id)) h = (of.phase_of c h ≡ Some Unregistered) × IsGiven c id h (noted_of h)
+Suits (Gave c (RegisterClientReply id)) h = (of.phase_of c h ≡ Some Unregistered) × IsGiven c id h (noted_of h) × (of.asks_anew c h ≡ is_newcomer c (noted_of h))
 Suits (Gave c (SaveYourself kind shutdown style fast)) h = told.BeginsToSave c h × (of.is_ending h ≡ false)
 Suits (Gave c Interact) h = ((d : ℕ) → is_interacting (of.phase_of d h) ≡ false) × ((others : List ℕ) × (of.waiting h ≡ c ∷ others))
 Suits (Gave c SaveYourselfPhase2) h = (of.is_ending h ≡ false) × ((d : ℕ) → is_member (of.phase_of d h) ≡ true → has_replied (of.phase_of d h) ≡ true)

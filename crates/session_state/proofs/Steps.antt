@@ -7,9 +7,10 @@ use Rattle.round_agreement.specs.Agreement.{Agreement}
 use Rattle.interact_queue.specs.Queue.{is_holder}
 use Rattle.session_model.specs.declared.events.Act.{Act}
 use Rattle.session_model.specs.Phases.{is_interacting, may_interact}
-use Rattle.session_model.specs.Tables.{first_table, is_recorded, strays_with}
+use Rattle.session_model.specs.Tables.{first_table, strays_with}
 use Rattle.session_model.specs.Moves.{History, Move, acts_of, all_acts, onto, ◌▷◌}
 use Rattle.session_model.specs.Reading.{reading, wanted_in}
+use Rattle.session_model.specs.Waits.{is_only}
 use Rattle.session_model.specs.Readings as of
 use Rattle.session_model.proofs.Sound.{AreRegistered}
 use Rattle.session_model.proofs.Ruled.{any-in, interacting-registered}
@@ -62,12 +63,13 @@ moved-by m s h w told queued round st = record {
   live_is = told.live_is;
   registered_is = λ i. of.registered_after m (st.registered_is i);
   round_is = round;
-  waits_is = λ i. of.waits_after m (λ id. is_recorded id (st.book_is i)) (λ c. st.phases_are c i) (w i) (st.ending_is i) (st.waits_is i);
+  waits_is = λ i. of.waits_after m (λ c. is_only c (st.newcomer_is i)) (λ c. st.phases_are c i) (w i) (st.ending_is i) (st.waits_is i);
   waiting_is = queued.waiting_is;
   holder_is = queued.holder_is;
   book_is = λ i. of.book_after m (st.book_is i);
   strays_is = λ i. of.strays_after m (of.stopped_by m (λ c. st.phases_are c i) (λ c. st.tables_are c i)) (λ command kept. strays_with (st.book_is i) command kept) (st.strays_is i);
-  given_is = λ i. of.given_after m (λ id. is_recorded id (st.book_is i)) (st.given_is i);
+  newcomer_is = λ i. of.newcomer_after m (st.newcomer_is i);
+  given_is = λ i. of.given_after m (λ c. is_only c (st.newcomer_is i)) (st.given_is i);
   expected_is = λ i. of.expected_after m (st.expected_is i);
   counts_are = λ id. counted-step m id s.counts h (st.counts_are id);
   ending_is = λ i. of.ending_after m (w i) (st.ending_is i);

@@ -19,9 +19,10 @@ use Rattle.session_model.specs.declared.events.SessionEvent.{SessionEvent}
 use Rattle.session_model.specs.declared.events.SessionEvent.TheVariants.{Left, Said}
 use Rattle.session_clients.specs.Clients.{Held, clients_in, held_after, phase_in, table_in}
 use Rattle.session_model.specs.Phases.{is_first_saving, is_interacting, is_saving, may_interact}
-use Rattle.session_model.specs.Tables.{first_table, is_recorded, strays_with}
+use Rattle.session_model.specs.Tables.{first_table, strays_with}
 use Rattle.session_model.specs.Moves.{Agreed, Began, Cancelled, Closed, Finished, Gave, Move, Outside, Over, Respawn, Tried, acts_of}
 use Rattle.session_model.specs.Reading.{Reading, wanted_in}
+use Rattle.session_model.specs.Waits.{is_only}
 use Rattle.session_model.specs.Books.{opening_moves}
 use Rattle.session_model.specs.Replies.{reply}
 use Rattle.session_model.specs.Rules.{rule}
@@ -103,6 +104,8 @@ pub record Session : Type 0 where
   pub turns : Turns
   pub book : Book
   pub strays : List Command
+  -- who sent the last RegisterClient, where that asks for a new ID
+  pub newcomer : Option ℕ
   pub given : ℕ
   pub expected : List (List ℕ)
   pub counts : List (List ℕ × ℕ)
@@ -116,11 +119,12 @@ abbrev pub moved : Move → Session → Session
 moved m s = record {
   clients = held_after m (λ id. first_table s.book id) (λ dialog. may_interact (wanted_in s.round) dialog) s.clients;
   round = round_after m (λ c. phase_in c s.clients.rows) s.round;
-  waits = of.waits_after m (λ id. is_recorded id s.book) (λ c. phase_in c s.clients.rows) (wanted_in s.round) s.is_ending s.waits;
+  waits = of.waits_after m (λ c. is_only c s.newcomer) (λ c. phase_in c s.clients.rows) (wanted_in s.round) s.is_ending s.waits;
   turns = turns_after m (λ c. phase_in c s.clients.rows) (λ dialog. may_interact (wanted_in s.round) dialog) s.turns;
   book = of.book_after m s.book;
   strays = of.strays_after m (of.stopped_by m (λ c. phase_in c s.clients.rows) (λ c. table_in c s.clients.rows)) (λ command kept. strays_with s.book command kept) s.strays;
-  given = of.given_after m (λ id. is_recorded id s.book) s.given;
+  newcomer = of.newcomer_after m s.newcomer;
+  given = of.given_after m (λ c. is_only c s.newcomer) s.given;
   expected = of.expected_after m s.expected;
   counts = counts_after m s.counts;
   is_ending = of.ending_after m (wanted_in s.round) s.is_ending;
@@ -173,6 +177,7 @@ session_of book = record {
   turns = record { waiting = []; holder = None };
   book = book;
   strays = [];
+  newcomer = None;
   given = 0;
   expected = ids_of book.entries;
   counts = [];

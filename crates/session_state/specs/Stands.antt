@@ -26,6 +26,7 @@ pub record Stands (s : Session) (h : History) : Type 0 where
   pub holder_is : (c : ℕ) → is_holder c s.turns.holder ≡ is_interacting (of.phase_of c h)
   pub book_is : s.book ≡ of.book h
   pub strays_is : s.strays ≡ of.strays h
+  pub newcomer_is : s.newcomer ≡ of.newcomer h
   pub given_is : s.given ≡ of.given h
   pub expected_is : s.expected ≡ of.expected h
   pub counts_are : (id : List ℕ) → counted id s.counts ≡ of.respawns id h

@@ -29,6 +29,6 @@ returns c = λ sequence frame.
     = c.stopped.ensures ∙ (λ i. stopped (c.in_ok-before.ensures i) (c.in_ok-now.ensures i)) ∙ stopped-spoken conn m sequence frame (λ id. []) (may_interact (wanted_in s.round)) s.clients c.hear.new.self (clients (λ id. [])) in
     let strays : c.add_stray.new.ledger.strays ≡ strays_with s.book (stopped_said conn m phase (λ d. table_in d s.clients.rows)) s.strays
     = c.in_ok-add_stray.ensures.strays ∙ ap (λ (x : Option Command). strays_with s.book x s.strays) command in
-    said-by conn m sequence frame s c.hear.new.self c.hear_round.new.round c.hear_waits.new.waits.items (record { waiting = queue.waiting; holder = queue.holder }) c.add_stray.new.ledger.strays
-    clients (c.hear_round.ensures phase (sym c.phase-phase.ensures)) (c.in_ok-hear_waits.ensures phase (sym c.phase-phase.ensures)) turns strays
+    said-by conn m sequence frame s c.hear.new.self c.hear_round.new.round c.hear_waits.new.waits.items (record { waiting = queue.waiting; holder = queue.holder }) c.add_stray.new.ledger.strays c.newcomer_said-self-inside.result
+    clients (c.hear_round.ensures phase (sym c.phase-phase.ensures)) (c.in_ok-hear_waits.ensures phase (sym c.phase-phase.ensures)) turns strays c.newcomer_said-self-inside.ensures
     ∙ ap (λ (t : Session). moved (Outside (Said conn m sequence frame)) t) c.self.view_is
