@@ -1,6 +1,6 @@
 -- How far a client is, and how that changes by what it says and by what it is given (XSMP, chapter 8: the
 -- state diagrams).
-use Rattle.std.specs.Prelude.{Bool, List, false, true, ℕ}
+use Rattle.std.specs.Prelude.{Bool, List, None, Option, Some, cond, false, true, ℕ}
 use Rattle.ice_values.specs.declared.severity.Severity.{Severity}
 use Rattle.ice_values.specs.declared.severity.Severity.TheVariants.{CanContinue}
 use Rattle.xsmp_messages.specs.declared.message.XsmpMessage.{XsmpMessage}
@@ -42,6 +42,10 @@ is_done phase = false
 abbrev pub is_owing : ClientPhase → Bool
 is_owing Owing = true
 is_owing phase = false
+
+-- the ID that the manager gave it
+abbrev pub id_of : ClientState → Option (List ℕ)
+id_of c = cond (is_registered c.phase) (Some c.id) None
 
 -- it has answered every SaveYourself
 abbrev pub is_resting : ClientPhase → Bool

@@ -1,9 +1,9 @@
-ghost use Rattle.std.specs.Prelude.{◌≡◌, Ok, IfOk, OnOk, OnErr, MatchResult};
+ghost use Rattle.std.specs.Prelude.{◌≡◌, None, Some, Ok, IfOk, OnOk, OnErr, MatchOption, MatchResult};
 ghost use Rattle.xsmp_messages.specs.declared.message.XsmpMessage.TheVariants.{Error as AnError, RegisterClient, RegisterClientReply, SaveYourself, Interact, SaveYourselfPhase2, SaveComplete, ShutdownCancelled, Die, GetPropertiesReply};
 ghost use Rattle.client_machine.specs.declared.saves.Stage.TheVariants.{First};
 ghost use Rattle.client_machine.specs.Taking.{act_taken, taken, registers_again};
 ghost use Rattle.client_machine.specs.Asking.{may_ask as may_ask_spec, answered, after_asked};
-ghost use Rattle.client_machine.specs.Phases.{phase_said};
+ghost use Rattle.client_machine.specs.Phases.{id_of, phase_said};
 ghost use Rattle.client_machine.specs.Saves.{first_ask};
 ghost use Rattle.client_machine.specs.declared.acts.ClientAct.TheVariants.{Save as ASave};
 
@@ -65,6 +65,17 @@ impl Client {
         ensures { result ≡ self.now.phase }
     {
         self.phase
+    }
+
+    /// The ID that the manager gave it; none before that, nor once the client is dead.
+    pub fn id(&self) -> Option<&[u8]>
+        ensures { MatchOption result (id_of self.now ≡ None) (λ id. id_of self.now ≡ Some id.now) }
+    {
+        if self.phase.is_registered() {
+            Some(self.id.as_slice())
+        } else {
+            None
+        }
     }
 
     /// Whether a request has its place.

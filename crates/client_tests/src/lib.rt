@@ -4,6 +4,8 @@
 #[cfg(test)]
 mod calls;
 #[cfg(test)]
+mod engine;
+#[cfg(test)]
 mod joining;
 #[cfg(test)]
 mod peers;
