@@ -1,0 +1,4 @@
+pub mod Changes
+pub mod Amendments
+pub mod Plain
+pub mod Laws
