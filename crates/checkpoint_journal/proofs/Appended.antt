@@ -28,7 +28,7 @@ use Rattle.checkpoint_journal.specs.Journal.{Appends, Compacted, Compacts, appen
 use Rattle.checkpoint_journal.specs.Writing.{ArePut, PutsAll, all_put, bytes_in}
 use Rattle.checkpoint_journal.proofs.Appending.{behind-stands, behind-swap, gate-stands, gate-swap}
 use Rattle.checkpoint_journal.proofs.Growing.{behind-size}
-use Rattle.checkpoint_journal.proofs.Swapping.{opened_both, store_both, swap_both}
+use Rattle.checkpoint_journal.proofs.Swapping.{opened_in-append, store_both, swap_both}
 use Rattle.checkpoint_journal.proofs.Written.{are-put, puts-bytes, puts-last, puts-then}
 
 puts-store : (puts : List (ℕ × List ℕ)) (added : List Effect) → ArePut puts added → AllByRecursion IsOfStore added
@@ -172,7 +172,7 @@ compacted-unfilled current closed body fault cs fs same closing filling =
     }
 
 opens-three : (result : Result (Option Current) StoreFault) (cs fs ls : List Effect) → opened_in cs ≡ 0 → opened_in fs ≡ 0 → IfOk result (λ steady. opened_in ls ≡ 1) → IfOk result (λ steady. opened_in (cs ++ (fs ++ ls)) ≡ 1)
-opens-three (Ok steady) cs fs ls a b c = omega (arith, a, b, c, opened_both cs (fs ++ ls), opened_both fs ls)
+opens-three (Ok steady) cs fs ls a b c = omega (arith, a, b, c, opened_in-append cs (fs ++ ls), opened_in-append fs ls)
 opens-three (Err fault) cs fs ls a b c = tt
 
 next-three : (result : Result (Option Current) StoreFault) (one two : Current) → one ≡ two → IfOk result (λ steady. steady ≡ Some one) → IfOk result (λ steady. steady ≡ Some two)

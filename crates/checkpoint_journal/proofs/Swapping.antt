@@ -30,9 +30,9 @@ pub store_both : (es ds : List Effect) → AllByRecursion IsOfStore es → AllBy
 store_both [] ds one two = two
 store_both (e ∷ es) ds one two = (one.0, store_both es ds one.1 two)
 
-pub opened_both : (es ds : List Effect) → opened_in (es ++ ds) ≡ opened_in es + opened_in ds
-opened_both [] ds = omega arith
-opened_both (e ∷ es) ds = let rest = opened_both es ds in omega (arith, rest)
+pub opened_in-append : (es ds : List Effect) → opened_in (es ++ ds) ≡ opened_in es + opened_in ds
+opened_in-append [] ds = omega arith
+opened_in-append (e ∷ es) ds = let rest = opened_in-append es ds in omega (arith, rest)
 
 -- Two calls that swap the same books, one after the other.
 pub swap_both : (first : List ℕ) (effects es ds : List Effect) (old new : Book) → Swap first effects es old new → Swap first (effects ++ es) ds old new → Swap first effects (es ++ ds) old new

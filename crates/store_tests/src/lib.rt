@@ -4,6 +4,8 @@
 #[cfg(test)]
 mod books;
 #[cfg(test)]
+mod journal;
+#[cfg(test)]
 mod properties;
 #[cfg(test)]
 mod records;
