@@ -1,0 +1,71 @@
+ghost use Rattle.std.specs.Prelude.{◌≡◌, IfOk};
+ghost use Rattle.std.specs.Option.{option_map};
+ghost use Rattle.ice_values.specs.Cells.{zeros};
+ghost use Rattle.checkpoint_records.specs.Finding.{Finds};
+ghost use Rattle.checkpoint_changes.specs.Changes.{IsChange, change_cells, number_of, part_cells};
+ghost use Rattle.checkpoint_changes.specs.Taking.{IsOfCode};
+
+use crate::Change;
+use crate::changes::{EPOCH, PEND, PUT, REMOVE, UNPEND};
+use checkpoint_records::{take_command, take_entry, take_id, take_number};
+use sm_world::NoMemory;
+use std::alloc::Global;
+
+fn take_remove(alloc: Global, bytes: &[u8]) -> Result<Option<(Change, &[u8])>, NoMemory>
+    ensures { IfOk result (λ found. Finds (λ change. zeros (part_cells change)) (IsOfCode 2) bytes.now (option_map (λ x. (x.0, x.1.now)) found)) }
+{
+    match take_id(alloc, bytes)? {
+        Some((id, rest)) => Ok(Some((Change::Remove(id), rest))),
+        None => Ok(None),
+    }
+}
+
+fn take_put(alloc: Global, bytes: &[u8]) -> Result<Option<(Change, &[u8])>, NoMemory>
+    ensures { IfOk result (λ found. Finds (λ change. zeros (part_cells change)) (IsOfCode 3) bytes.now (option_map (λ x. (x.0, x.1.now)) found)) }
+{
+    match take_entry(alloc, u32::MAX, bytes)? {
+        Some((entry, rest)) => Ok(Some((Change::Put(entry), rest))),
+        None => Ok(None),
+    }
+}
+
+fn take_pend(alloc: Global, bytes: &[u8]) -> Result<Option<(Change, &[u8])>, NoMemory>
+    ensures { IfOk result (λ found. Finds (λ change. zeros (part_cells change)) (IsOfCode 5) bytes.now (option_map (λ x. (x.0, x.1.now)) found)) }
+{
+    match take_command(alloc, bytes)? {
+        Some((command, rest)) => Ok(Some((Change::Pend(command), rest))),
+        None => Ok(None),
+    }
+}
+
+/// The change of this code, behind its code and its number.
+fn take_part(
+    alloc: Global,
+    code: u32,
+    number: u32,
+    bytes: &[u8],
+) -> Result<Option<(Change, &[u8])>, NoMemory>
+    ensures { IfOk result (λ found. Finds (λ change. zeros (part_cells change)) (λ change. IsOfCode code change × (number_of change ≡ number)) bytes.now (option_map (λ x. (x.0, x.1.now)) found)) }
+{
+    match (code, number) {
+        (EPOCH, _) => Ok(Some((Change::Epoch(number), bytes))),
+        (UNPEND, _) => Ok(Some((Change::Unpend(number), bytes))),
+        (REMOVE, 0) => take_remove(alloc, bytes),
+        (PUT, 0) => take_put(alloc, bytes),
+        (PEND, 0) => take_pend(alloc, bytes),
+        _ => Ok(None),
+    }
+}
+
+/// The change at the front of the bytes, and what follows it.
+pub(crate) fn take_change(alloc: Global, bytes: &[u8]) -> Result<Option<(Change, &[u8])>, NoMemory>
+    ensures { IfOk result (λ found. Finds (λ change. zeros (change_cells change)) IsChange bytes.now (option_map (λ x. (x.0, x.1.now)) found)) }
+{
+    let Some((code, rest)) = take_number(bytes) else {
+        return Ok(None);
+    };
+    let Some((number, rest)) = take_number(rest) else {
+        return Ok(None);
+    };
+    take_part(alloc, code, number, rest)
+}
