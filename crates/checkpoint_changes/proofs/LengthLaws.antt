@@ -35,8 +35,13 @@ length-entry entry = omega (arith, length-append (array8 Lsb entry.id) (property
 
 pub length-command : (command : Command) → length (command_cells Lsb command) ≡ length (flat_map (array8 Lsb) command.words) + length (array8 Lsb command.directory) + length (flat_map (array8 Lsb) (in_turn command.environment)) + 16
 length-command command =
-    omega (arith, length-append (array8_list Lsb command.words ++ array8 Lsb command.directory) (array8_list Lsb (in_turn command.environment)), length-append (array8_list Lsb command.words) (array8 Lsb command.directory),
-    length-listed (array8 Lsb) Lsb command.words, length-listed (array8 Lsb) Lsb (in_turn command.environment))
+    omega (
+      arith,
+      length-append (array8_list Lsb command.words ++ array8 Lsb command.directory) (array8_list Lsb (in_turn command.environment)),
+      length-append (array8_list Lsb command.words) (array8 Lsb command.directory),
+      length-listed (array8 Lsb) Lsb command.words,
+      length-listed (array8 Lsb) Lsb (in_turn command.environment),
+    )
 
 pub length-change : (change : Change) → length (change_cells change) ≡ 8 + length (part_cells change)
 length-change change = length-append (card32 Lsb (code_of change) ++ card32 Lsb (number_of change)) (part_cells change)

@@ -5,6 +5,7 @@ pub mod OnceLaws
 pub mod EqualLaws
 pub mod DeltaLaws
 pub mod PlainLaws
+pub mod DifferenceLaws
 pub mod RuleLaws
 pub mod ApplyLaws
 pub mod TakeLaws

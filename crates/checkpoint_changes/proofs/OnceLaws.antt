@@ -69,7 +69,7 @@ change_long change = omega (arith, length-append (card32 Lsb (code_of change) ++
 
 -- ---- fronts
 
-same_front : (a b xs ys : List ℕ) → length a ≡ length b → a ++ xs ≡ b ++ ys → (a ≡ b) × (xs ≡ ys)
+pub same_front : (a b xs ys : List ℕ) → length a ≡ length b → a ++ xs ≡ b ++ ys → (a ≡ b) × (xs ≡ ys)
 same_front [] [] xs ys len is = (refl, is)
 same_front [] (y ∷ b) xs ys len is = absurd (omega (arith, len))
 same_front (x ∷ a) [] xs ys len is = absurd (omega (arith, len))
@@ -85,7 +85,7 @@ IsLast cells Fits book rest = (is_at_end rest ≡ true) ⊎ ((delta : List Chang
 module _ (cells : Change → Cells) (Fits : Change → Type 0) (once : AreOnce cells Fits) (long : (change : Change) → 1 ≤ length (cells change)) where
   -- ---- one amendment
 
-  delta_once : (d e : List Change) → AllByRecursion Fits d → AllByRecursion Fits e → delta_bytes cells d ≡ delta_bytes cells e → d ≡ e
+  pub delta_once : (d e : List Change) → AllByRecursion Fits d → AllByRecursion Fits e → delta_bytes cells d ≡ delta_bytes cells e → d ≡ e
   delta_once [] [] fit_d fit_e is = refl
   delta_once [] (y ∷ e) fit_d fit_e is = absurd (omega (arith, ap length is, length-zeros (cells y ++ flat_map cells e), length-append (cells y) (flat_map cells e), long y))
   delta_once (x ∷ d) [] fit_d fit_e is = absurd (omega (arith, ap length is, length-zeros (cells x ++ flat_map cells d), length-append (cells x) (flat_map cells d), long x))

@@ -22,6 +22,12 @@ use Rattle.checkpoint_changes.proofs.EqualLaws.{DecidesEqual, command_decides, e
 
 -- ---- filters
 
+chosen : {X : Type 0} (b : Bool) (x y : X) → b ≡ true → cond b x y ≡ x
+chosen b x y e = rw e refl
+
+passed : {X : Type 0} (b : Bool) (x y : X) → b ≡ false → cond b x y ≡ y
+passed b x y e = rw e refl
+
 filter_same : {K : Type 0} (p q : K → Bool) (ks : List K) → AllByRecursion (λ k. p k ≡ q k) ks → filter p ks ≡ filter q ks
 filter_same p q [] h = refl
 filter_same p q (k ∷ ks) h = (let rest = filter_same p q ks h.1 in rw (h.0, rest) refl)
@@ -131,7 +137,10 @@ removed_plain (e ∷ old) (f ∷ new) d (inl s) =
     let id : e.id ≡ f.id = (bytes_decides e.id f.id).0 s.0 in
     let others : AllByRecursion (λ y. bytes_eq f.id y ≡ false) (ids_of old) = subst (λ (i : List ℕ). AllByRecursion (λ y. bytes_eq i y ≡ false) (ids_of old)) id d.0 in
     let rest = removed_plain old new d.1 s.1 ∙ sym (drops_one bytes_eq bytes_decides f.id (ids_of new) (ids_of old) others) in
-    rw s.0 (flat_map-append removed_in (kept_change e f) (entry_changes old new) ∙ ap (λ (l : List (List ℕ)). l ++ flat_map removed_in (entry_changes old new)) (kept_removes e f) ∙ rest)
+    ap (flat_map removed_in) (chosen (bytes_eq e.id f.id) (kept_change e f ++ entry_changes old new) (Remove e.id ∷ entry_changes old (f ∷ new)) s.0)
+    ∙ flat_map-append removed_in (kept_change e f) (entry_changes old new) ∙ ap (λ (l : List (List ℕ)). l ++ flat_map removed_in (entry_changes old new)) (kept_removes e f) ∙ rest
+    ∙ sym (passed (not (bytes_eq e.id f.id || list_any (bytes_eq e.id) (ids_of new))) (e.id ∷ missing_from bytes_eq (ids_of (f ∷ new)) (ids_of old)) (missing_from bytes_eq (ids_of (f ∷ new)) (ids_of old))
+    (ap (λ (b : Bool). not (b || list_any (bytes_eq e.id) (ids_of new))) s.0))
 removed_plain (e ∷ old) (f ∷ new) d (inr s) =
     let none : list_any (bytes_eq e.id) (ids_of (f ∷ new)) ≡ false = sym (any_map (bytes_eq e.id) id_of (f ∷ new)) ∙ s.0 in
     let parts = any_false (bytes_eq e.id f.id) (list_any (bytes_eq e.id) (ids_of new)) none in
@@ -165,12 +174,13 @@ put_plain (e ∷ old) (f ∷ new) d_old d_new (inl s) =
     let apart : list_any (equal_entry f) old ≡ false = same_none equal_entry f old (each_unequal e f old id d_old.0) in
     let rest : flat_map put_in (entry_changes old new) ≡ missing_from equal_entry (e ∷ old) new =
     put_plain old new d_old.1 d_new.1 s.1 ∙ sym (drops_one equal_entry entry_decides e old new (each_unequal f e new (sym id) d_new.0)) in
-    rw (s.0, apart) (by (equal_entry e f) refl rest)
+    ap (flat_map put_in) (chosen (bytes_eq e.id f.id) (kept_change e f ++ entry_changes old new) (Remove e.id ∷ entry_changes old (f ∷ new)) s.0) ∙ by (equal_entry e f) refl rest
+    ∙ sym (ap (λ (b : Bool). cond (not (equal_entry f e || b)) (f ∷ missing_from equal_entry (e ∷ old) new) (missing_from equal_entry (e ∷ old) new)) apart)
   where
-    by : (b : Bool) → equal_entry e f ≡ b → flat_map put_in (entry_changes old new) ≡ missing_from equal_entry (e ∷ old) new
-        → flat_map put_in (cond b [] (Put f ∷ []) ++ entry_changes old new) ≡ cond (not (equal_entry f e || false)) (f ∷ missing_from equal_entry (e ∷ old) new) (missing_from equal_entry (e ∷ old) new)
-    by true equal rest = rw (same_back equal_entry entry_decides e f equal) rest
-    by false other rest = rw (not_same equal_entry entry_decides e f other) (ap (λ (l : List Entry). f ∷ l) rest)
+    by : (b : Bool) → equal_entry e f ≡ b → flat_map put_in (entry_changes old new) ≡ missing_from equal_entry (e ∷ old) new → flat_map put_in (cond b [] (Put f ∷ []) ++ entry_changes old new) ≡ cond (not (equal_entry f e || false)) (f ∷ missing_from equal_entry (e ∷ old) new) (missing_from equal_entry (e ∷ old) new)
+    by true equal rest = rest ∙ sym (ap (λ (t : Bool). cond (not (t || false)) (f ∷ missing_from equal_entry (e ∷ old) new) (missing_from equal_entry (e ∷ old) new)) (same_back equal_entry entry_decides e f equal))
+    by false other rest =
+        ap (λ (l : List Entry). f ∷ l) rest ∙ sym (ap (λ (t : Bool). cond (not (t || false)) (f ∷ missing_from equal_entry (e ∷ old) new) (missing_from equal_entry (e ∷ old) new)) (not_same equal_entry entry_decides e f other))
 put_plain (e ∷ old) (f ∷ new) d_old d_new (inr s) =
     let parts = any_false (bytes_eq e.id f.id) (list_any (by_id e) new) s.0 in
     let rest : flat_map put_in (entry_changes old (f ∷ new)) ≡ missing_from equal_entry (e ∷ old) (f ∷ new) =

@@ -1,6 +1,7 @@
 -- What is taken from the front of the bytes of a delta.
-use Rattle.std.specs.Prelude.{◌≡◌, ℕ, List, ◌++◌, Option, None, Some, IfSome, IfNone}
+use Rattle.std.specs.Prelude.{◌≡◌, ℕ, List, ◌∷◌, ◌++◌, length, replicate, Option, None, Some, IfSome, IfNone}
 use Rattle.std.specs.List.{AllByRecursion}
+use Rattle.byteorder.specs.Endian.{little_bytes}
 use Rattle.checkpoint_records.specs.declared.records.Book.{Book}
 use Rattle.checkpoint_changes.specs.Changes.{IsChange, apply, change_cells, code_of}
 use Rattle.checkpoint_changes.specs.Amendments.{Amended, amendment_bytes, delta_bytes}
@@ -9,6 +10,10 @@ use Rattle.checkpoint_changes.specs.declared.changes.Change.{Change}
 -- a change of this code
 abbrev pub IsOfCode : ℕ → Change → Type 0
 IsOfCode code change = IsChange change × (code_of change ≡ code)
+
+-- the bytes of a delta behind an open gate, three zeros and how many they are
+abbrev pub framed : List ℕ → List ℕ
+framed delta = 165 ∷ (replicate 3 0 ++ (little_bytes 4 (length delta) ++ delta))
 
 -- A call gives the book after the changes that these bytes are. None where they are no changes, or one takes out what isn't there.
 pub record AppliesAll (book : Book) (bytes : List ℕ) (found : Option Book) : Type 0 where

@@ -3,6 +3,7 @@ ghost use Rattle.std.specs.List.{AllByRecursion, IsDistinct};
 ghost use Rattle.std.specs.Str.{bytes_eq};
 ghost use Rattle.std.specs.Cmp.Lexicographic.{pointwise};
 ghost use Rattle.sm_world.specs.declared.commands.Command.{Command as AnyCommand};
+ghost use Rattle.checkpoint_records.specs.Books.{same_command};
 ghost use Rattle.checkpoint_records.specs.Rules.{IsEntry, IsCommand, KeepsRules, ids_of};
 ghost use Rattle.checkpoint_records.specs.declared.records.Entry.{Entry as AnyEntry};
 ghost use Rattle.checkpoint_changes.specs.Changes.{IsChange, apply};
@@ -138,6 +139,8 @@ fn pend_all(commands: &[Command], delta: &mut Delta) -> Result<(), NoMemory>
 fn change_pending(old: &[Command], new: &[Command], delta: &mut Delta) -> Result<(), NoMemory>
     requires few { length old.now ≤ 320 }
     requires fit { AllByRecursion IsCommand new.now }
+    requires old_differ { IsDistinct same_command old.now }
+    requires new_differ { IsDistinct same_command new.now }
     ensures { OnOk result ((added : List AnyChange) × (delta.new ≡ delta.old ++ added) × TurnsPending old.now new.now added) }
 {
     let mut left = new;

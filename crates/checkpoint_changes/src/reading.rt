@@ -10,13 +10,10 @@ ghost use Rattle.checkpoint_changes.specs.Taking.{AppliesAll, TakesAmendment};
 
 use crate::applying::applied;
 use crate::rules::keeps_rules;
-use crate::taking::take_change;
-use checkpoint_records::{Book, BookRefusal, read_book, take_number};
+use crate::taking::{OPEN, take_change, take_delta};
+use checkpoint_records::{Book, BookRefusal, read_book};
 use sm_world::NoMemory;
 use std::alloc::Global;
-
-/// The byte of an open gate.
-const OPEN: u8 = 0xa5;
 
 /// Whether amendments end here: there is no room for one, or its gate isn't open.
 fn is_at_end(bytes: &[u8]) -> bool
@@ -42,16 +39,6 @@ fn apply_all(alloc: Global, book: Book, bytes: &[u8]) -> Result<Option<Book>, No
         left = rest;
     }
     Ok(Some(book))
-}
-
-/// The bytes of the delta of the amendment at the front, and what follows it.
-fn take_delta(bytes: &[u8]) -> Option<(&[u8], &[u8])> {
-    let (gate, rest) = take_number(bytes)?;
-    if gate != OPEN as u32 {
-        return None;
-    }
-    let (count, rest) = take_number(rest)?;
-    rest.split_at_checked(count as usize)
 }
 
 /// The book after the amendment at the front, and what follows it.

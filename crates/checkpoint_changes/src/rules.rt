@@ -4,7 +4,7 @@ ghost use Rattle.checkpoint_records.specs.Books.{same_command};
 ghost use Rattle.checkpoint_records.specs.Rules.{IsClientId, KeepsRules};
 ghost use Rattle.checkpoint_changes.specs.Parts.{HasParts};
 
-use checkpoint_records::{Book, Entry, discards_of, is_among, is_client_id, is_named};
+use checkpoint_records::{Book, Entry, discards_of, is_client_id, is_named};
 use sm_world::{Command, NoMemory};
 use std::alloc::Global;
 
@@ -16,9 +16,12 @@ const PENDING_LIMIT: usize = 320;
 fn are_of_runs(epoch: u32, entries: &[Entry]) -> bool
     ensures { IsTrue result ↔ AllByRecursion (λ entry. IsClientId epoch entry.id) entries.now }
 {
-    entries
-        .iter()
-        .all(|entry| is_client_id(epoch, entry.id.as_slice()))
+    for entry in entries {
+        if !is_client_id(epoch, entry.id.as_slice()) {
+            return false;
+        }
+    }
+    true
 }
 
 /// Whether no two commands are the same.
@@ -27,7 +30,7 @@ fn are_distinct(commands: &[Command]) -> bool
 {
     let mut left = commands;
     while let [command, others @ ..] = left {
-        if is_among(others, command) {
+        if is_named(others, command) {
             return false;
         }
         left = others;

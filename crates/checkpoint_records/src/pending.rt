@@ -111,17 +111,15 @@ pub fn discards_of(alloc: Global, entries: &[Entry]) -> Result<CommandList, NoMe
     Ok(commands)
 }
 
-/// Whether this command is the same as one that entries name.
-pub fn is_named(discards: &[Command], command: &Command) -> bool
-    ensures { result ≡ list_any (is_same command.now) discards.now }
+/// Whether this command is the same as one of these.
+pub fn is_named(commands: &[Command], command: &Command) -> bool
+    ensures { result ≡ list_any (is_same command.now) commands.now }
 {
-    discards
-        .iter()
-        .any(|discard| same_command(command, discard))
+    commands.iter().any(|other| same_command(command, other))
 }
 
 /// Whether one of the commands is the same as this one.
-pub fn is_among(commands: &[Command], command: &Command) -> bool
+fn is_among(commands: &[Command], command: &Command) -> bool
     ensures { result ≡ list_any (λ other. is_same other command.now) commands.now }
 {
     commands.iter().any(|other| same_command(other, command))
