@@ -19,7 +19,7 @@ use Rattle.checkpoint_changes.proofs.DeltaLaws.{Apart, apply_more, entries_lead,
 use Rattle.checkpoint_changes.proofs.EqualLaws.{commands_apart}
 use Rattle.checkpoint_changes.proofs.PlainLaws.{entries_bring, entries_fit, entries_stay, pended_plain, pending_brings, pending_stay, put_plain, removed_plain, unpended_plain}
 
-next_item : {A : Type 0} (i : ℕ) (xs : List A) (x : A) → i < length xs → x ≡ get_or xs i x → drop i xs ≡ x ∷ drop (i + 1) xs
+pub next_item : {A : Type 0} (i : ℕ) (xs : List A) (x : A) → i < length xs → x ≡ get_or xs i x → drop i xs ≡ x ∷ drop (i + 1) xs
 next_item {A} i xs x lt is = drop-cons xs i x lt ∙ ap₂ (λ (y : A) (n : ℕ). y ∷ drop n xs) (sym is) (sym (add-one i))
 
 -- ---- entries

@@ -10,3 +10,4 @@ pub mod RuleLaws
 pub mod ApplyLaws
 pub mod TakeLaws
 pub mod ReadLaws
+pub mod SlotLaws

@@ -1,7 +1,8 @@
 -- Reading what stands behind a book.
 use Rattle.std.proofs.Common.{◌≡◌, ℕ, ◌+◌, ◌-◌, ◌<◌, ◌≤◌, ◌^◌, inl, inr, true, false, List, [], ◌∷◌, ◌++◌, length, take, drop, Option, Some, None, refl, sym, ap, ap₂, ◌∙◌, subst, append_assoc, arith, length-append}
-use Rattle.std.specs.Prelude.{flat_map, option_and_then, Result, Ok, Err}
+use Rattle.std.specs.Prelude.{◌==◌, flat_map, option_and_then, Result, Ok, Err}
 use Rattle.std.specs.List.{AllByRecursion}
+use Rattle.std.proofs.lemmas.Bool.{eqb-true}
 use Rattle.std.proofs.lemmas.List.{append-nil}
 use Rattle.std.proofs.lemmas.Grind.{flat_map-append}
 use Rattle.ice_values.specs.Cells.{Cells, zeros}
@@ -180,3 +181,13 @@ module _ (bytes : List ℕ) (n : ℕ) (front behind : List ℕ) (is_front : fron
 
   pub slot_stops : (first : Book) (more : ℕ) → StandFor front (Ok first) → StopsAt change_cells IsChange first behind more → SlotDamaged bytes n (n + more)
   slot_stops first more stands stops = inr (first, more, subst (λ (l : List ℕ). StandFor l (Ok first)) is_front stands, subst (λ (l : List ℕ). StopsAt change_cells IsChange first l more) is_behind stops, refl)
+
+-- ---- tests of what is left
+
+pub some_left : (left : List ℕ) → false ≡ (length left == 0) → left ≡ [] → ⊥
+some_left [] test is = (let t : false ≡ true = test in absurd cc)
+some_left (b ∷ left) test is = omega (arith, ap length is)
+
+pub none_left : (left : List ℕ) → true ≡ (length left == 0) → left ≡ []
+none_left [] test = refl
+none_left (b ∷ left) test = absurd (omega (arith, eqb-true (length (b ∷ left)) 0 (sym test)))

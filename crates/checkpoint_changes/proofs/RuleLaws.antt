@@ -1,5 +1,5 @@
 -- The rules of a book that is put together from parts.
-use Rattle.std.proofs.Common.{◌≡◌, ℕ, zero, suc, ◌<◌, ◌≤◌, ◌^◌, Bool, true, false, cond, List, [], ◌∷◌, ◌++◌, length, Option, Some, None, refl, sym, ap, ◌∙◌, subst, arith}
+use Rattle.std.proofs.Common.{◌≡◌, ℕ, zero, suc, ◌+◌, ◌<◌, ◌≤◌, ◌^◌, Bool, true, false, cond, IsTrue, List, [], ◌∷◌, ◌++◌, length, drop, get_or, Option, Some, None, refl, sym, ap, ◌∙◌, subst, arith}
 use Rattle.std.specs.Prelude.{option_map, option_and_then, if◌then◌else◌}
 use Rattle.std.specs.List.{AllByRecursion, IsDistinct, list_any}
 use Rattle.std.specs.Str.{bytes_eq}
@@ -15,6 +15,7 @@ use Rattle.checkpoint_changes.specs.Changes.{IsChange, applied, apply, with_entr
 use Rattle.checkpoint_changes.specs.Parts.{HasParts}
 use Rattle.checkpoint_changes.specs.declared.changes.Change.{Change}
 use Rattle.checkpoint_changes.specs.declared.changes.Change.TheVariants.{Epoch, Pend, Put, Remove, Unpend}
+use Rattle.checkpoint_changes.proofs.DifferenceLaws.{next_item}
 
 -- ---- all rules from the rules of parts
 
@@ -145,3 +146,24 @@ parts_after (change ∷ delta) book next parts fits is = by (applied book change
     by : (o : Option Book) → applied book change ≡ o → option_and_then (λ b. apply b delta) o ≡ Some next → ((mid : Book) → HasParts mid → apply mid delta ≡ Some next → HasParts next) → HasParts next
     by None same is more = absurd (none_not_some next is)
     by (Some mid) same is more = more mid (parts_kept book change mid parts fits.0 same) is
+
+-- ---- the calls
+
+pub runs_step : (epoch : ℕ) (entries : List Entry) (i : ℕ) (e : Entry) (id : List ℕ) → i < length entries → e ≡ get_or entries i e → id ≡ e.id → IsClientId epoch id
+    → (AreOfRuns epoch (drop i entries) → AreOfRuns epoch entries) × (AreOfRuns epoch entries → AreOfRuns epoch (drop i entries)) → (AreOfRuns epoch (drop (i + 1) entries) → AreOfRuns epoch entries) × (AreOfRuns epoch entries → AreOfRuns epoch (drop (i + 1) entries))
+runs_step epoch entries i e id lt is is_id of_run so_far =
+    let parts : drop i entries ≡ e ∷ drop (i + 1) entries = next_item i entries e lt is in
+    let here : IsClientId epoch e.id = subst (IsClientId epoch) is_id of_run in
+    (λ rest. so_far.0 (subst (AreOfRuns epoch) (sym parts) (here, rest)), λ all. (subst (AreOfRuns epoch) parts (so_far.1 all)).1)
+
+abbrev AreUnnamed : List Command → List Command → Type 0
+AreUnnamed named commands = AllByRecursion (λ command. list_any (same_command command) named ≡ false) commands
+
+pub rules_decided : (book : Book) (result : Bool) (es : List Entry) (ps ds : List Command) → HasParts book → es ≡ book.entries → ps ≡ book.pending → ds ≡ discards es → length es ≤ 128 → length ps ≤ 320 → AreOfRuns book.epoch es → IsDistinct same_command ps
+    → (IsTrue result → AreUnnamed ds ps) × (AreUnnamed ds ps → IsTrue result) → (IsTrue result → KeepsRules book) × (KeepsRules book → IsTrue result)
+rules_decided book result es ps ds parts is_es is_ps is_ds few_entries few_pending runs differ named =
+    let named_is : ds ≡ discards book.entries = is_ds ∙ ap discards is_es in (
+      λ t. whole_rules book parts (subst (λ (l : List Entry). length l ≤ 128) is_es few_entries) (subst (λ (l : List Command). length l ≤ 320) is_ps few_pending) (subst (AreOfRuns book.epoch) is_es runs) (subst (IsDistinct same_command) is_ps differ)
+          (subst (AreUnnamed (discards book.entries)) is_ps (subst (λ (d : List Command). AreUnnamed d ps) named_is (named.0 t))),
+      λ k. named.1 (subst (λ (d : List Command). AreUnnamed d ps) (sym named_is) (subst (AreUnnamed (discards book.entries)) (sym is_ps) k.none_named)),
+    )

@@ -29,13 +29,14 @@ fn apply_all(alloc: Global, book: Book, bytes: &[u8]) -> Result<Option<Book>, No
     let mut book = book;
     let mut left = bytes;
     while !left.is_empty() {
-        let Some((change, rest)) = take_change(alloc, left)? else {
-            return Ok(None);
+        let (change, rest) = match take_change(alloc, left)? {
+            Some(taken) => taken,
+            None => return Ok(None),
         };
-        let Some(next) = applied(book, change)? else {
-            return Ok(None);
+        book = match applied(book, change)? {
+            Some(next) => next,
+            None => return Ok(None),
         };
-        book = next;
         left = rest;
     }
     Ok(Some(book))
@@ -47,7 +48,8 @@ fn take_amendment(
     book: Book,
     bytes: &[u8],
 ) -> Result<Option<(Book, &[u8])>, NoMemory>
-    requires { KeepsRules book }
+    requires rules { KeepsRules book }
+    requires epoch { book.epoch < 2 ^ 32 }
     ensures { IfOk result (λ found. TakesAmendment book bytes.now (option_map (λ x. (x.0, x.1.now)) found)) }
 {
     let Some((changes, rest)) = take_delta(bytes) else {
@@ -69,6 +71,7 @@ fn take_amendment(
 /// The book after all amendments, and how many bytes they have.
 fn read_on(alloc: Global, first: Book, bytes: &[u8]) -> Result<(Book, u32), BookRefusal>
     requires rules { KeepsRules first }
+    requires epoch { first.epoch < 2 ^ 32 }
     requires few { length bytes.now < 2 ^ 32 }
     ensures book { IfOk result (λ x. ReadsOn change_cells IsChange first bytes.now x.0 x.1) }
     ensures damaged { IfErr result (λ refusal. HasCause (StopsAt change_cells IsChange first bytes.now) refusal) }

@@ -5,7 +5,7 @@ ghost use Rattle.checkpoint_records.specs.Rules.{KeepsRules};
 
 use crate::books::book_shown;
 use crate::table::{bytes_of, digits_of, expect_rows, text_of};
-use checkpoint_changes::{delta_length, delta_of, read_slot, spell_delta};
+use checkpoint_changes::{delta_length, delta_of, keeps_rules, read_slot, spell_delta};
 use checkpoint_records::{Book, read_book};
 use std::alloc::{Alloc, Global};
 use std::process::Abort;
@@ -126,4 +126,21 @@ const DELTAS: &str = "\
 #[test]
 fn deltas_hold_what_differs(rt: HostRuntime) -> Result<(), Fail> {
     expect_rows(&rt, DELTAS, delta_shown)
+}
+
+/// Whether the book that bytes spell keeps the rules.
+#[tactic(auto, using(checkpoint_changes::proofs::RuleLaws::parts_of))]
+fn rules_shown(alloc: Global, digits: &str) -> Result<String, Fail> {
+    let book = read(alloc, digits)?;
+    text_of(alloc, &keeps_rules(alloc, &book)?)
+}
+
+/// The empty book, and one with an entry and a pending command.
+const RULES: &str = "\
+01000000010000000000000000000000 => true
+0100000001000000010000000100000015000000736d642d30303030303030312d3030303030303031000000000000000000000000000000020000000000000002000000726d0000010000006100000000000000000000000000000000000000 => true";
+
+#[test]
+fn books_keep_the_rules(rt: HostRuntime) -> Result<(), Fail> {
+    expect_rows(&rt, RULES, rules_shown)
 }
