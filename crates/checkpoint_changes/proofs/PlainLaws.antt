@@ -1,15 +1,14 @@
 -- Where what stays keeps its order, the changes are those that are missing.
 use Rattle.std.proofs.Common.{◌≡◌, ℕ, suc, ◌+◌, ◌⊎◌, inl, inr, Bool, true, false, cond, not, ◌&&◌, ◌||◌, List, [], ◌∷◌, ◌++◌, length, map, refl, sym, ap, ap₂, ◌∙◌, subst, get_or, drop}
-use Rattle.std.specs.Prelude.{filter, flat_map, if◌then◌else◌}
+use Rattle.std.specs.Prelude.{filter, flat_map}
 use Rattle.std.specs.List.{AllByRecursion, IsDistinct, list_any}
 use Rattle.std.specs.Str.{bytes_eq}
 use Rattle.std.specs.Cmp.Lexicographic.{pointwise}
-use Rattle.std.proofs.lemmas.Bool.{cases_Bool, both_ways}
 use Rattle.std.proofs.lemmas.Grind.{flat_map-append}
 use lib.Pointwise.{bytes_decides}
 use Rattle.sm_world.specs.declared.commands.Command.{Command}
 use Rattle.xsmp_properties.specs.Tables.{equal_property}
-use Rattle.checkpoint_records.specs.Rules.{IsCommand, IsEntry, ids_of}
+use Rattle.checkpoint_records.specs.Rules.{IsEntry, ids_of}
 use Rattle.checkpoint_records.specs.declared.records.Entry.{Entry}
 use Rattle.checkpoint_records.proofs.DistinctLaws.{all_append, any_false, any_map, none_same, same_none}
 use Rattle.checkpoint_records.proofs.SpellLaws.{id_short}

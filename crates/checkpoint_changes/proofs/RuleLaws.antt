@@ -1,16 +1,16 @@
 -- The rules of a book that is put together from parts.
 use Rattle.std.proofs.Common.{◌≡◌, ℕ, zero, suc, ◌+◌, ◌<◌, ◌≤◌, ◌^◌, Bool, true, false, cond, IsTrue, List, [], ◌∷◌, ◌++◌, length, drop, get_or, Option, Some, None, refl, sym, ap, ◌∙◌, subst, arith}
-use Rattle.std.specs.Prelude.{option_map, option_and_then, if◌then◌else◌}
+use Rattle.std.specs.Prelude.{option_map, option_and_then}
 use Rattle.std.specs.List.{AllByRecursion, IsDistinct, list_any}
 use Rattle.std.specs.Str.{bytes_eq}
 use lib.Pointwise.{bytes_decides}
 use Rattle.sm_world.specs.declared.commands.Command.{Command}
 use Rattle.ice_values.proofs.OptionLaws.{some_is, none_not_some}
-use Rattle.checkpoint_records.specs.Books.{discards, names, same_command}
+use Rattle.checkpoint_records.specs.Books.{discards, same_command}
 use Rattle.checkpoint_records.specs.Rules.{IsClientId, IsCommand, IsEntry, KeepsRules, ids_of}
 use Rattle.checkpoint_records.specs.declared.records.Book.{Book}
 use Rattle.checkpoint_records.specs.declared.records.Entry.{Entry}
-use Rattle.checkpoint_records.proofs.DistinctLaws.{all_more, distinct_cons}
+use Rattle.checkpoint_records.proofs.DistinctLaws.{all_more}
 use Rattle.checkpoint_changes.specs.Changes.{IsChange, applied, apply, with_entry, without, without_at}
 use Rattle.checkpoint_changes.specs.Parts.{HasParts}
 use Rattle.checkpoint_changes.specs.declared.changes.Change.{Change}

@@ -1,14 +1,14 @@
 -- What is answered of a slot.
-use Rattle.std.proofs.Common.{◌≡◌, ℕ, ◌+◌, List, take, drop, Option, Some, sym}
+use Rattle.std.proofs.Common.{◌≡◌, ℕ, List, take, drop, Option, Some}
 use Rattle.std.specs.Prelude.{Result, Ok, Err}
 use Rattle.checkpoint_records.specs.Damage.{Gives, IsRefused, StandFor}
 use Rattle.checkpoint_records.specs.declared.records.Book.{Book}
 use Rattle.checkpoint_records.specs.declared.refusals.BookRefusal.{BookRefusal}
 use Rattle.checkpoint_records.specs.declared.refusals.BookRefusal.TheVariants.{Damaged, NoMemory}
-use Rattle.checkpoint_changes.specs.Amendments.{HasCause, IsSlotRefused, ReadsOn, SlotReads, StopsAt}
+use Rattle.checkpoint_changes.specs.Amendments.{IsSlotRefused, ReadsOn, SlotReads}
 use Rattle.checkpoint_changes.specs.Changes.{IsChange, change_cells}
 use Rattle.checkpoint_changes.proofs.OnceLaws.{slot_reads_once}
-use Rattle.checkpoint_changes.proofs.ReadLaws.{front_damaged, slot_leads, slot_stops}
+use Rattle.checkpoint_changes.proofs.ReadLaws.{front_damaged, slot_leads}
 
 abbrev pub Answer : Type 0
 Answer = Result (Book × Option ℕ) ℕ

@@ -1,11 +1,10 @@
 -- What is taken from the front of bytes.
-use Rattle.std.proofs.Common.{◌≡◌, ℕ, ◌+◌, ◌<◌, ◌≤◌, ◌^◌, List, [], ◌∷◌, ◌++◌, length, take, drop, Option, Some, None, refl, sym, ap, ap₂, ◌∙◌, subst, append_assoc, arith, length-append}
+use Rattle.std.proofs.Common.{◌≡◌, ℕ, ◌<◌, ◌≤◌, ◌^◌, List, ◌++◌, length, Option, Some, None, refl, sym, ap, ap₂, ◌∙◌, subst, arith, length-append}
 use Rattle.std.specs.Prelude.{IfSome}
 use Rattle.sm_world.specs.declared.commands.Command.{Command}
 use Rattle.ice_values.specs.Cells.{zeros}
 use Rattle.ice_values.specs.Properties.{array8, IsArray8}
 use Rattle.ice_values.specs.declared.numbers.Endian.TheVariants.{Lsb}
-use Rattle.ice_values.proofs.OptionLaws.{some_is}
 use Rattle.checkpoint_records.specs.Finding.{Finds}
 use Rattle.checkpoint_records.specs.Rules.{IsCommand, IsEntry, command_cells}
 use Rattle.checkpoint_records.specs.Spelling.{entry_cells}

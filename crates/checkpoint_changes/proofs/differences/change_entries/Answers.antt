@@ -1,4 +1,4 @@
-use Rattle.std.proofs.Common.{◌++◌, ◌∙◌}
+use Rattle.std.proofs.Common.{◌++◌}
 use Rattle.std.proofs.lemmas.Result.{on_ok_weaker}
 use Rattle.checkpoint_changes.proofs.DeltaLaws.{entry_changes}
 use Rattle.checkpoint_changes.proofs.DifferenceLaws.{entries_turned, gone_more, kept_more}

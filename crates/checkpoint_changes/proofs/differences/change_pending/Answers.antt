@@ -1,4 +1,4 @@
-use Rattle.std.proofs.Common.{◌++◌, ◌∙◌, arith}
+use Rattle.std.proofs.Common.{◌++◌, arith}
 use Rattle.std.proofs.lemmas.Result.{on_ok_weaker}
 use Rattle.checkpoint_changes.proofs.DeltaLaws.{pending_changes}
 use Rattle.checkpoint_changes.proofs.DifferenceLaws.{goes_more, pending_turned, stays_more}

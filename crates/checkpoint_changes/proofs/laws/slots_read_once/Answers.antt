@@ -1,5 +1,3 @@
-use Rattle.checkpoint_changes.proofs.DeltaLaws.{entries_lead}
-use Rattle.checkpoint_changes.proofs.PlainLaws.{pending_stay}
 use Rattle.checkpoint_changes.proofs.OnceLaws.{slot_reads_once}
 use Rattle.checkpoint_changes.proofs.laws.slots_read_once.Goals as goal
 
