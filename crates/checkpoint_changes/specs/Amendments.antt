@@ -86,7 +86,10 @@ abbrev pub SlotReads : List ℕ → ℕ → Result (Book × Option ℕ) ℕ → 
 SlotReads bytes n (Ok x) = SlotLeads bytes n x.0 x.1
 SlotReads bytes n (Err at) = SlotDamaged bytes n at
 
--- want of memory has no cause in the bytes
+-- the cause of a refusal at a place; want of memory has no cause in the bytes
+abbrev pub HasCause : (ℕ → Type 0) → BookRefusal → Type 0
+HasCause Cause (Damaged at) = Cause at
+HasCause Cause NoMemory = Unit {0}
+
 abbrev pub IsSlotRefused : List ℕ → ℕ → BookRefusal → Type 0
-IsSlotRefused bytes n (Damaged at) = SlotDamaged bytes n at
-IsSlotRefused bytes n NoMemory = Unit {0}
+IsSlotRefused bytes n refusal = HasCause (SlotDamaged bytes n) refusal

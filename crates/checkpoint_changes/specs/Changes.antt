@@ -1,7 +1,6 @@
 -- Changes of a book: how each is spelled, which there are, and what each does to a book.
-use Rattle.std.specs.Prelude.{◌≡◌, ℕ, zero, suc, ◌<◌, ◌≤◌, ◌^◌, List, [], ◌∷◌, ◌++◌, length, Option, None, Some, option_map, option_and_then, if◌then◌else◌}
+use Rattle.std.specs.Prelude.{ℕ, zero, suc, ◌<◌, ◌≤◌, ◌^◌, List, [], ◌∷◌, ◌++◌, length, Option, None, Some, option_map, option_and_then, if◌then◌else◌}
 use Rattle.std.specs.Str.{bytes_eq}
-use Rattle.sm_world.specs.declared.commands.Command.{Command}
 use Rattle.ice_values.specs.Cells.{Cells}
 use Rattle.ice_values.specs.Numbers.{card32}
 use Rattle.ice_values.specs.Properties.{array8, IsArray8}

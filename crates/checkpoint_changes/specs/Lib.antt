@@ -2,3 +2,6 @@ pub mod Changes
 pub mod Amendments
 pub mod Plain
 pub mod Laws
+pub mod Parts
+pub mod Taking
+pub mod Differences

@@ -4,7 +4,7 @@ use Rattle.std.specs.List.{list_any}
 use Rattle.std.specs.Str.{bytes_eq}
 use Rattle.std.specs.Cmp.Lexicographic.{pointwise}
 use Rattle.sm_world.specs.declared.commands.Command.{Command}
-use Rattle.ice_values.specs.declared.property.Property.{Property}
+use Rattle.xsmp_properties.specs.Tables.{equal_property}
 use Rattle.checkpoint_records.specs.Rules.{ids_of}
 use Rattle.checkpoint_records.specs.declared.records.Book.{Book}
 use Rattle.checkpoint_records.specs.declared.records.Entry.{Entry}
@@ -12,9 +12,6 @@ use Rattle.checkpoint_changes.specs.declared.changes.Change.{Change}
 use Rattle.checkpoint_changes.specs.declared.changes.Change.TheVariants.{Epoch, Pend, Put, Remove, Unpend}
 
 -- Equal in all that they hold
-
-abbrev pub equal_property : Property → Property → Bool
-equal_property p q = bytes_eq p.name q.name && bytes_eq p.kind q.kind && pointwise bytes_eq p.values q.values
 
 abbrev pub equal_entry : Entry → Entry → Bool
 equal_entry e f = bytes_eq e.id f.id && pointwise equal_property e.table f.table

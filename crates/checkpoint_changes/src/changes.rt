@@ -19,3 +19,14 @@ pub enum Change {
 
 /// Changes of a book, each made to what the one before it left.
 pub type Delta = ListOf<Change>;
+
+/// The CARD32 with which each change begins.
+pub(crate) const EPOCH: u32 = 1;
+
+pub(crate) const REMOVE: u32 = 2;
+
+pub(crate) const PUT: u32 = 3;
+
+pub(crate) const UNPEND: u32 = 4;
+
+pub(crate) const PEND: u32 = 5;

@@ -2,6 +2,8 @@
 #![tactic(auto)]
 
 #[cfg(test)]
+mod amendments;
+#[cfg(test)]
 mod books;
 #[cfg(test)]
 mod journal;
