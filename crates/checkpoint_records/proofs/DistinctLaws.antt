@@ -10,11 +10,11 @@ first_and_rest {A} (y ∷ ys) x le is =
     let same : y ≡ x = sym is in
     rw all (ap (λ (z : A). z ∷ ys) same)
 
-any_false : (a b : Bool) → (a || b) ≡ false → (a ≡ false) × (b ≡ false)
+pub any_false : (a b : Bool) → (a || b) ≡ false → (a ≡ false) × (b ≡ false)
 any_false true b e = absurd (let t : true ≡ false = e in cc)
 any_false false b e = (refl, e)
 
-all_append : {A : Type 0} (P : A → Type 0) (xs ys : List A) → AllByRecursion P xs → AllByRecursion P ys → AllByRecursion P (xs ++ ys)
+pub all_append : {A : Type 0} (P : A → Type 0) (xs ys : List A) → AllByRecursion P xs → AllByRecursion P ys → AllByRecursion P (xs ++ ys)
 all_append P [] ys h k = k
 all_append P (x ∷ xs) ys h k = (h.0, all_append P xs ys h.1 k)
 

@@ -1,5 +1,5 @@
 -- What keeps the rules is short enough to be spelled.
-use Rattle.std.proofs.Common.{◌≡◌, ℕ, ◌+◌, ◌<◌, ◌≤◌, inl, inr, List, [], ◌∷◌, ◌++◌, length, refl, ap, ◌∙◌, arith, length-append, append_assoc, codes}
+use Rattle.std.proofs.Common.{◌≡◌, ℕ, ◌+◌, ◌^◌, ◌<◌, ◌≤◌, inl, inr, List, [], ◌∷◌, ◌++◌, length, refl, ap, ◌∙◌, arith, length-append, append_assoc, codes}
 use Rattle.std.specs.Prelude.{flat_map}
 use Rattle.std.specs.List.{AllByRecursion}
 use Rattle.sm_world.specs.declared.commands.Command.{Command}
@@ -37,18 +37,18 @@ count_within : (xs : List (List ℕ)) → length xs ≤ length (flat_map (array8
 count_within [] = omega arith
 count_within (x ∷ xs) = omega (arith, count_within xs, length-append (array8 Lsb x) (flat_map (array8 Lsb) xs), length-array8 Lsb x)
 
-each_within : (xs : List (List ℕ)) → length (flat_map (array8 Lsb) xs) ≤ 65536 → AllByRecursion IsArray8 xs
+each_within : (xs : List (List ℕ)) → length (flat_map (array8 Lsb) xs) < 2 ^ 32 → AllByRecursion IsArray8 xs
 each_within [] le = tt
 each_within (x ∷ xs) le =
     let whole = length-append (array8 Lsb x) (flat_map (array8 Lsb) xs) in
     (omega (arith, whole, le, length-array8 Lsb x), each_within xs (omega (arith, whole, le)))
 
-pub list_fits : (xs : List (List ℕ)) → length (array8_list Lsb xs) ≤ 65536 → IsListed IsArray8 xs
+pub list_fits : (xs : List (List ℕ)) → length (array8_list Lsb xs) < 2 ^ 32 → IsListed IsArray8 xs
 list_fits xs le =
     let len = length-listed (array8 Lsb) Lsb xs in
     (omega (arith, len, le, count_within xs), each_within xs (omega (arith, len, le)))
 
-pub bytes_fit : (bytes : List ℕ) → length (array8 Lsb bytes) ≤ 65536 → IsArray8 bytes
+pub bytes_fit : (bytes : List ℕ) → length (array8 Lsb bytes) < 2 ^ 32 → IsArray8 bytes
 bytes_fit bytes le = omega (arith, le, length-array8 Lsb bytes)
 
 -- Tables
@@ -56,7 +56,7 @@ bytes_fit bytes le = omega (arith, le, length-array8 Lsb bytes)
 length-property : (p : Property) → length (property Lsb p) ≡ length (array8 Lsb p.name) + length (array8 Lsb p.kind) + length (array8_list Lsb p.values)
 length-property p = length-append (array8 Lsb p.name ++ array8 Lsb p.kind) (array8_list Lsb p.values) ∙ ap (λ (n : ℕ). n + length (array8_list Lsb p.values)) (length-append (array8 Lsb p.name) (array8 Lsb p.kind))
 
-property_fits : (p : Property) → length (property Lsb p) ≤ 65536 → IsProperty p
+property_fits : (p : Property) → length (property Lsb p) < 2 ^ 32 → IsProperty p
 property_fits p le =
     let len = length-property p in
     record {
@@ -65,11 +65,21 @@ property_fits p le =
       values = list_fits p.values (omega (arith, len, le));
     }
 
-properties_fit : (items : List Property) → encoded_len items ≤ 65536 → AllByRecursion IsProperty items
+properties_fit : (items : List Property) → encoded_len items < 2 ^ 32 → AllByRecursion IsProperty items
 properties_fit [] le = tt
 properties_fit (p ∷ items) le =
     let len = encoded_len-cons p items in
     (property_fits p (omega (arith, len, le)), properties_fit items (omega (arith, len, le)))
+
+properties_within : (items : List Property) → length items ≤ encoded_len items
+properties_within [] = omega arith
+properties_within (p ∷ items) = omega (arith, properties_within items, encoded_len-cons p items, length-property p, length-array8 Lsb p.name)
+
+-- a list that has a spelling in so many bytes
+pub table_fits : (items : List Property) → length (property_list Lsb items) < 2 ^ 32 → IsListed IsProperty items
+table_fits items lt =
+    let len = length-listed (property Lsb) Lsb items in
+    (omega (arith, len, lt, properties_within items), properties_fit items (omega (arith, len, lt)))
 
 pub not_full : (items : List Property) → ¬ (IsTableFull items) → (length items ≤ 128) × (encoded_len items ≤ 16384)
 not_full items limits =
@@ -113,9 +123,9 @@ pub command_fits : (command : Command) → IsCommand command → HasCommandSpell
 command_fits command i =
     let h = command_short command i in
     record {
-      words = list_fits command.words h.for_words;
-      directory = bytes_fit command.directory h.for_directory;
-      environment = list_fits (in_turn command.environment) h.for_environment;
+      words = list_fits command.words (omega (arith, h.for_words));
+      directory = bytes_fit command.directory (omega (arith, h.for_directory));
+      environment = list_fits (in_turn command.environment) (omega (arith, h.for_environment));
     }
 
 pub commands_fit : (commands : List Command) → AllByRecursion IsCommand commands → AllByRecursion HasCommandSpelling commands

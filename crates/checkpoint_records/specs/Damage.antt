@@ -43,10 +43,10 @@ IsRefused bytes (Damaged at) = IsDamaged bytes at
 IsRefused bytes NoMemory = Unit {0}
 
 -- a call's answer is this one, unless memory was wanting
-abbrev pub RefusesAs : BookRefusal → Result Book ℕ → Type 0
+abbrev pub RefusesAs : {A : Type 0} → BookRefusal → Result A ℕ → Type 0
 RefusesAs (Damaged at) answer = answer ≡ Err at
 RefusesAs NoMemory answer = Unit {0}
 
-abbrev pub Gives : Result Book BookRefusal → Result Book ℕ → Type 0
+abbrev pub Gives : {A : Type 0} → Result A BookRefusal → Result A ℕ → Type 0
 Gives (Ok book) answer = answer ≡ Ok book
 Gives (Err refusal) answer = RefusesAs refusal answer

@@ -19,7 +19,9 @@ use ice_values::{Array8, PropertyList};
 use sm_world::NoMemory;
 use std::alloc::Global;
 
-fn take_id(alloc: Global, bytes: &[u8]) -> Result<Option<(Array8, &[u8])>, NoMemory>
+/// The ARRAY8 of an ID at the front, and what follows it. None where there is none, or one of more
+/// than 65,536 bytes.
+pub fn take_id(alloc: Global, bytes: &[u8]) -> Result<Option<(Array8, &[u8])>, NoMemory>
     ensures { IfOk result (λ found. Finds (λ id. zeros (array8 Lsb id)) (λ id. IsArray8 id × (length (array8 Lsb id) ≤ 65536)) bytes.now (option_map (λ x. (x.0, x.1.now)) found)) }
 {
     take_zeroed(alloc, bytes)
@@ -31,8 +33,13 @@ fn take_properties(alloc: Global, bytes: &[u8]) -> Result<Option<(PropertyList, 
     take_zeroed(alloc, bytes)
 }
 
-/// The entry at the front of the bytes, and what follows it.
-fn take_entry(alloc: Global, epoch: u32, bytes: &[u8]) -> Result<Option<(Entry, &[u8])>, NoMemory>
+/// The entry at the front of the bytes, and what follows it. Its ID is one of a run up to this
+/// epoch.
+pub fn take_entry(
+    alloc: Global,
+    epoch: u32,
+    bytes: &[u8],
+) -> Result<Option<(Entry, &[u8])>, NoMemory>
     ensures { IfOk result (λ found. Finds (λ entry. zeros (entry_cells entry)) (IsEntry epoch) bytes.now (option_map (λ x. (x.0, x.1.now)) found)) }
 {
     let (id, rest) = match take_id(alloc, bytes)? {

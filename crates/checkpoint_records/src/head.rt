@@ -27,7 +27,7 @@ pub(crate) struct Head {
 }
 
 /// The CARD32 at the front, and what follows it.
-fn take_number(bytes: &[u8]) -> Option<(u32, &[u8])>
+pub fn take_number(bytes: &[u8]) -> Option<(u32, &[u8])>
     ensures { Finds (number_bytes Lsb 4) (λ n. n < 2 ^ 32) bytes.now (option_map (λ x. (x.0, x.1.now)) result) }
 {
     if bytes.len() < 4 {

@@ -36,7 +36,7 @@ fn epoch_of(id: &[u8]) -> Option<u32>
 }
 
 /// Whether this is the ID of a client in a run up to the latest.
-pub(crate) fn is_client_id(latest: u32, id: &[u8]) -> bool
+pub fn is_client_id(latest: u32, id: &[u8]) -> bool
     ensures { IsTrue result ↔ IsClientId latest id.now }
 {
     match epoch_of(id) {

@@ -15,9 +15,13 @@ mod stops;
 mod tables;
 mod zeroed;
 
+pub use entries::{take_entry, take_id};
+pub use head::take_number;
+pub use ids::is_client_id;
 pub use laws::{books_read_back, bytes_stand_for_one};
+pub use pending::{discards_of, is_named, take_command};
 pub use reading::read_book;
 pub use records::{Book, Entry, EntryList, copy_book};
 pub use refusals::BookRefusal;
 pub use sameness::{names, same_command};
-pub use spelling::spell_book;
+pub use spelling::{put_command, put_entry, spell_book};

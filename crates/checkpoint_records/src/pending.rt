@@ -74,8 +74,9 @@ fn are_of_command(fields: &CommandFields) -> bool
         && is_environment(fields.environment.as_slice())
 }
 
-/// The command at the front of the bytes, and what follows it.
-fn take_command(alloc: Global, bytes: &[u8]) -> Result<Option<(Command, &[u8])>, NoMemory>
+/// The command at the front of the bytes, and what follows it. None where there is none as a table
+/// gives one, or one of more than 16,384 bytes.
+pub fn take_command(alloc: Global, bytes: &[u8]) -> Result<Option<(Command, &[u8])>, NoMemory>
     ensures { IfOk result (λ found. Finds (λ command. zeros (command_cells Lsb command)) IsCommand bytes.now (option_map (λ x. (x.0, x.1.now)) found)) }
 {
     let (fields, rest) = match take_fields(alloc, bytes)? {
@@ -98,7 +99,7 @@ fn take_command(alloc: Global, bytes: &[u8]) -> Result<Option<(Command, &[u8])>,
 }
 
 /// The DiscardCommands of entries, in order.
-fn discards_of(alloc: Global, entries: &[Entry]) -> Result<CommandList, NoMemory>
+pub fn discards_of(alloc: Global, entries: &[Entry]) -> Result<CommandList, NoMemory>
     ensures { IfOk result (λ commands. commands ≡ discards entries.now) }
 {
     let mut commands = CommandList::new(alloc);
@@ -110,13 +111,11 @@ fn discards_of(alloc: Global, entries: &[Entry]) -> Result<CommandList, NoMemory
     Ok(commands)
 }
 
-/// Whether this command is the same as one that entries name.
-fn is_named(discards: &[Command], command: &Command) -> bool
-    ensures { result ≡ list_any (is_same command.now) discards.now }
+/// Whether this command is the same as one of these.
+pub fn is_named(commands: &[Command], command: &Command) -> bool
+    ensures { result ≡ list_any (is_same command.now) commands.now }
 {
-    discards
-        .iter()
-        .any(|discard| same_command(command, discard))
+    commands.iter().any(|other| same_command(command, other))
 }
 
 /// Whether one of the commands is the same as this one.

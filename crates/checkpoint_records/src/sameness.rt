@@ -1,28 +1,10 @@
 ghost use Rattle.std.specs.Prelude.{◌≡◌, ◌↔◌, IsTrue, IfOk};
-ghost use Rattle.std.specs.Str.{bytes_eq};
-ghost use Rattle.std.specs.Cmp.Lexicographic.{pointwise};
 ghost use Rattle.checkpoint_records.specs.Books.{same_command as is_same, names as is_named};
 
 use crate::Book;
-use sm_world::{Command, NoMemory, Octets};
+use sm_world::{Command, NoMemory};
 use std::alloc::Global;
-use xsmp_properties::command_of;
-
-fn same_words(first: &[Octets], second: &[Octets]) -> bool
-    ensures { result ≡ pointwise bytes_eq first.now second.now }
-{
-    let mut left = second;
-    for word in first {
-        let [other, others @ ..] = left else {
-            return false;
-        };
-        if word.as_slice() != other.as_slice() {
-            return false;
-        }
-        left = others;
-    }
-    left.is_empty()
-}
+use xsmp_properties::{command_of, same_texts};
 
 /// Whether two commands are the same, which they are where their words are equal, whatever their
 /// directories and environments.
@@ -30,7 +12,7 @@ pub fn same_command(first: &Command, second: &Command) -> bool
     ensures value { result ≡ is_same first.now second.now }
     ensures exact { IsTrue result ↔ (first.now.words ≡ second.now.words) }
 {
-    same_words(first.words.as_slice(), second.words.as_slice())
+    same_texts(first.words.as_slice(), second.words.as_slice())
 }
 
 /// Whether the DiscardCommand of an entry of the book is the same command as this one.

@@ -21,7 +21,8 @@ fn put_head(epoch: u32, entries: u32, pending: u32, out: &mut Octets) -> Result<
     put_card32(Endian::Lsb, pending, out)
 }
 
-fn put_entry(entry: &Entry, out: &mut Octets) -> Result<(), NoMemory>
+/// Adds the bytes of an entry.
+pub fn put_entry(entry: &Entry, out: &mut Octets) -> Result<(), NoMemory>
     requires { HasEntrySpelling entry.now }
     ensures { OnOk result (out.new ≡ out.old ++ zeros (entry_cells entry.now)) }
 {
@@ -52,7 +53,8 @@ fn in_turn(alloc: Global, pairs: &[(Octets, Octets)]) -> Result<OctetsList, NoMe
     Ok(values)
 }
 
-fn put_command(alloc: Global, command: &Command, out: &mut Octets) -> Result<(), NoMemory>
+/// Adds the bytes of a command.
+pub fn put_command(alloc: Global, command: &Command, out: &mut Octets) -> Result<(), NoMemory>
     requires { HasCommandSpelling command.now }
     ensures { OnOk result (out.new ≡ out.old ++ zeros (command_cells Lsb command.now)) }
 {

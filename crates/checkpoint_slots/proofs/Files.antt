@@ -10,7 +10,7 @@ use Rattle.checkpoint_slots.specs.declared.layout.Slot.TheVariants.{First, Secon
 use Rattle.checkpoint_slots.specs.declared.turn.Current.{Current}
 use Rattle.checkpoint_slots.specs.Layout.{gate_at, is_gate_open, is_open, other, slot_of, start_of}
 use Rattle.checkpoint_slots.specs.Recovery.{Recovers, SlotStands, StandsBy, choose, chosen, generation_of}
-use Rattle.checkpoint_slots.specs.Turns.{ClosedFile, SteadyFile, target}
+use Rattle.checkpoint_slots.specs.Turns.{ClosedFile, HasBook, SteadyFile, target}
 use Rattle.checkpoint_slots.proofs.Images.{Agree}
 
 -- the parts of a file that a range leaves
@@ -119,7 +119,7 @@ module _ (at n : ℕ) (one two : List ℕ) (agree : Agree at n one two) (size : 
   kept-file None book leaves steady closed =
       let gates = none-open (is_open one First) (is_open one Second) _ _ steady.chooses in
       let none : chosen two ≡ Ok None = chosen-none two closed (sym (same-open Second leaves) ∙ gates.1) in
-      record { recovers = recovers-by two (Ok None) book none (stands-by one (Ok None) book steady.chooses steady.recovers); chooses = none }
+      record { recovers = recovers-by two (Ok None) book none (stands-by one (Ok None) book steady.chooses steady.recovers); chooses = none; ends = tt }
   kept-file (Some current) book leaves steady closed =
       let slots : slot_of one current.slot ≡ slot_of two current.slot = same-slot at n one two agree current.slot leaves.0 in
       let open-now : is_open two current.slot ≡ true = sym (same-open current.slot leaves.1) ∙ chosen-open one current.slot steady.chooses.0 in
@@ -127,6 +127,7 @@ module _ (at n : ℕ) (one two : List ℕ) (agree : Agree at n one two) (size : 
       record {
         recovers = recovers-by two (Ok (Some current.slot)) book choice (subst (λ (slot : List ℕ). SlotStands (start_of current.slot) slot (Ok book)) slots (stands-by one (Ok (Some current.slot)) book steady.chooses.0 steady.recovers));
         chooses = (choice, ap generation_of (sym slots) ∙ steady.chooses.1);
+        ends = subst (λ (slot : List ℕ). HasBook current.slot current.end book slot) slots steady.ends;
       }
 
 -- a gate lies apart from every slot, and from the other gate

@@ -8,4 +8,5 @@ pub mod Lifted
 pub mod Turning
 pub mod Reading
 pub mod Looking
+pub mod Leading
 pub mod Once

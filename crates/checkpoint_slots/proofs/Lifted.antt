@@ -1,16 +1,17 @@
 -- The file whose filled slot was opened.
-use Rattle.std.proofs.Common.{◌≡◌, ◌+◌, ℕ, true, false, nat_lt, List, length, take, slice_index, refl, ap, sym, ◌∙◌, arith}
+use Rattle.std.proofs.Common.{◌≡◌, ◌+◌, ◌-◌, ℕ, true, false, nat_lt, List, length, take, slice_index, refl, ap, sym, ◌∙◌, arith}
 use Rattle.std.specs.Prelude.{Option, Some, None, Ok}
 use Rattle.checkpoint_records.specs.declared.records.Book.{Book}
 use Rattle.checkpoint_slots.specs.declared.layout.Slot.{Slot}
 use Rattle.checkpoint_slots.specs.declared.layout.Slot.TheVariants.{First, Second}
 use Rattle.checkpoint_slots.specs.declared.turn.Current.{Current}
 use Rattle.checkpoint_slots.specs.Layout.{gate_at, is_gate_open, is_open, other, slot_of, start_of}
-use Rattle.checkpoint_slots.specs.Recovery.{SlotStands, chosen, generation_of, slot_bytes}
-use Rattle.checkpoint_slots.specs.Turns.{FilledFile, IsNext, SteadyFile, next_generation, target}
+use Rattle.checkpoint_slots.specs.Recovery.{chosen, generation_of, slot_bytes}
+use Rattle.checkpoint_slots.specs.Turns.{FilledFile, HasBook, IsNext, SteadyFile, following, next_generation, target}
 use Rattle.checkpoint_slots.proofs.Images.{Agree}
-use Rattle.checkpoint_slots.proofs.Files.{chosen-beside, chosen-open, gate-apart, none-open, recovers-by, same-open, same-slot}
+use Rattle.checkpoint_slots.proofs.Files.{chosen-beside, chosen-open, gate-apart, none-open, same-open, same-slot}
 use Rattle.checkpoint_slots.proofs.Bodies.{has-book, has-generation}
+use Rattle.checkpoint_slots.proofs.Looking.{steady-some}
 use Rattle.checkpoint_slots.proofs.Room.{book-room}
 use Rattle.sm_world.specs.Crash.{covers}
 
@@ -43,12 +44,12 @@ module _ (next : Book) (one two : List ℕ) (size : length two ≡ 16777280) whe
       choose-other current.slot two current.generation here opened old new
 
   pub lift-file : (current : Option Current) (book : Book) → IsNext current next → Agree (gate_at (target current)) 1 one two → slice_index two (gate_at (target current)) ≡ 165 → FilledFile current book next one
-      → SteadyFile (Some (record { slot = target current; generation = next_generation current })) next two
+      → SteadyFile (Some (following current (length (slot_bytes (next_generation current) next)))) next two
   lift-file current book is agree gate filled =
       let slots : slot_of one (target current) ≡ slot_of two (target current) = same-slot (gate_at (target current)) 1 one two agree (target current) (gate-apart (target current) (target current)) in
       let body : List ℕ = slot_bytes (next_generation current) next in
       let begins : take (length body) (slot_of two (target current)) ≡ body = ap (λ (slot : List ℕ). take (length body) slot) (sym slots) ∙ filled.begins in
       let new : generation_of (slot_of two (target current)) ≡ next_generation current = has-generation (next_generation current) next (slot_of two (target current)) begins is.generation in
       let choice : chosen two ≡ Ok (Some (target current)) = chosen-next current book agree (ap is_gate_open gate) filled new in
-      let there : SlotStands (start_of (target current)) (slot_of two (target current)) (Ok next) = has-book (next_generation current) next (slot_of two (target current)) begins (start_of (target current)) (book-room next is.rules) is.rules is.epoch in
-      record { recovers = recovers-by two (Ok (Some (target current))) next choice there; chooses = (choice, new) }
+      let there : HasBook (target current) (Some (start_of (target current) + (length body - 8))) next (slot_of two (target current)) = has-book (next_generation current) next (slot_of two (target current)) begins (target current) (book-room next is.rules) is.rules is.epoch in
+      steady-some two (following current (length body)) next (choice, new) there

@@ -3,18 +3,18 @@ use Rattle.std.proofs.Common.{◌≡◌, ◌+◌, ◌<◌, ℕ, Bool, true, fals
 use Rattle.std.specs.Prelude.{None, Option, Result, Some, Ok, Err}
 use Rattle.std.proofs.lemmas.Grind.{same_number_lists}
 use Rattle.sm_world.specs.Crash.{Image}
-use Rattle.checkpoint_records.proofs.BookLaws.{stands_for_one}
+use Rattle.checkpoint_changes.proofs.OnceLaws.{slot_reads_once}
 use Rattle.checkpoint_records.specs.declared.records.Book.{Book}
 use Rattle.checkpoint_slots.specs.declared.layout.Slot.{Slot}
-use Rattle.checkpoint_slots.specs.Layout.{is_gate_open, slot_of, start_of}
+use Rattle.checkpoint_slots.specs.Layout.{slot_of, start_of}
 use Rattle.checkpoint_slots.specs.Laws.{FilesRecoverToOne, SettledStoresStand}
-use Rattle.checkpoint_slots.specs.Recovery.{BookAt, SlotStands, StandsBy, chosen, length_of, may_be_length, with_gate}
+use Rattle.checkpoint_slots.specs.Recovery.{BookAt, SlotStands, StandsBy, chosen, length_of, may_be_length, placed}
 use Rattle.checkpoint_slots.specs.Turns.{SteadyFile}
 
 book-once : (b : Bool) (at n : ℕ) (bytes : List ℕ) (one two : Result Book ℕ) → BookAt b at n bytes one → BookAt b at n bytes two → one ≡ two
 book-once false at n bytes one two p q = p ∙ sym q
 book-once true at n bytes one two p q =
-    p.2 ∙ ap (λ (inner : Result Book ℕ). with_gate (at + 16) n (is_gate_open (slice_index bytes n)) inner) (stands_for_one (take n bytes) p.0 q.0 p.1 q.1) ∙ sym q.2
+    p.2 ∙ ap (λ (inner : Result (Book × Option ℕ) ℕ). placed (at + 16) inner) (slot_reads_once bytes n p.0 q.0 p.1 q.1) ∙ sym q.2
 
 slot-once : (at : ℕ) (slot : List ℕ) (one two : Result Book ℕ) → SlotStands at slot one → SlotStands at slot two → one ≡ two
 unfolding SlotStands

@@ -8,7 +8,7 @@ use Rattle.checkpoint_slots.specs.Recovery.{generation_of, length_of}
 use Rattle.checkpoint_slots.proofs.Files.{slot-byte}
 
 -- a number is that of its bytes
-little-same : (k n : ℕ) (xs ys : List ℕ) → ((i : ℕ) → i < k + n → slice_index xs i ≡ slice_index ys i) → little_from k n xs ≡ little_from k n ys
+pub little-same : (k n : ℕ) (xs ys : List ℕ) → ((i : ℕ) → i < k + n → slice_index xs i ≡ slice_index ys i) → little_from k n xs ≡ little_from k n ys
 little-same k zero xs ys same = refl
 little-same k (suc n) xs ys same = λ j. same k (omega arith) j + 256 * little-same (suc k) n xs ys (λ i within. same i (omega (arith, within))) j
 

@@ -16,7 +16,7 @@ use Rattle.checkpoint_slots.specs.declared.layout.Slot.TheVariants.{First, Secon
 use Rattle.checkpoint_slots.specs.declared.turn.Current.{Current}
 use Rattle.checkpoint_slots.specs.Layout.{gate_at, slot_of, start_of}
 use Rattle.checkpoint_slots.specs.Recovery.{Recovers, slot_bytes}
-use Rattle.checkpoint_slots.specs.Turns.{ClosedFile, ClosedStands, Closes, FilledFile, FilledStands, Fills, IsNext, IsOfStore, IsPut, Lifts, SteadyFile, SteadyStands, Swap, done, next_generation, nothing, opened_in, target, tore, unsynced, wrote}
+use Rattle.checkpoint_slots.specs.Turns.{ClosedFile, ClosedStands, Closes, EveryImage, FilledFile, Fills, IsNext, IsOfStore, IsPut, Lifts, SteadyFile, SteadyStands, Swap, done, following, next_generation, nothing, opened_in, target, tore, unsynced, wrote}
 use Rattle.checkpoint_slots.proofs.Puts.{put-front}
 use Rattle.checkpoint_slots.proofs.Images.{agree-before, done-bytes, every-after, file_before, image-before, old-or-new}
 use Rattle.checkpoint_slots.proofs.Files.{close-file, fill-file, slot-byte, slot-length}
@@ -30,12 +30,12 @@ put-store at bytes wrote = (tt, tt)
 put-store at bytes unsynced = (tt, (tt, tt))
 put-store at bytes done = (tt, (tt, tt))
 
-gate-within : (slot : Slot) → gate_at slot < 16777280
+pub gate-within : (slot : Slot) → gate_at slot < 16777280
 gate-within First = omega arith
 gate-within Second = omega arith
 
 -- after a put that is done, its byte stands there
-done-byte : (first : List ℕ) (effects : List Effect) (at x : ℕ) (file : List ℕ) → at < length first → Image first (effects ++ Wrote at (x ∷ []) ∷ Synced ∷ []) file → slice_index file at ≡ x
+pub done-byte : (first : List ℕ) (effects : List Effect) (at x : ℕ) (file : List ℕ) → at < length first → Image first (effects ++ Wrote at (x ∷ []) ∷ Synced ∷ []) file → slice_index file at ≡ x
 done-byte first effects at x file within image =
     let zero-more : at + 0 ≡ at = omega arith in
     subst (λ (i : ℕ). slice_index file i ≡ x) zero-more (done-bytes first effects at (x ∷ []) file image 0 (omega arith) (subst (λ (i : ℕ). i < length first) (sym zero-more) within))
@@ -111,38 +111,38 @@ module _ (current : Option Current) (first : List ℕ) (effects : List Effect) (
               get_or-take (length body) slot k 0 inside ∙ slot-byte file (target current) k (omega (arith, inside, short)) ∙ done-bytes first effects start body file image k inside there);
         }
 
-    fill-stands : FilledStands current book next first (effects ++ Wrote (start_of (target current)) (slot_bytes (next_generation current) next) ∷ Synced ∷ [])
-    fill-stands = (is, every-after (ClosedFile current book) first effects stands start body (Wrote start body ∷ Synced ∷ []) done (FilledFile current book next) filled-now)
+    fill-stands : EveryImage (FilledFile current book next) first (effects ++ Wrote (start_of (target current)) (slot_bytes (next_generation current) next) ∷ Synced ∷ [])
+    fill-stands = every-after (ClosedFile current book) first effects stands start body (Wrote start body ∷ Synced ∷ []) done (FilledFile current book next) filled-now
 
   -- Opening
 
-  module _ (next : Book) (stands : FilledStands current book next first effects) where
-    abbrev following : Option Current
-    following = Some (record { slot = target current; generation = next_generation current })
+  module _ (next : Book) (is : IsNext current next) (stands : EveryImage (FilledFile current book next) first effects) where
+    abbrev opened : Option Current
+    opened = Some (following current (length (slot_bytes (next_generation current) next)))
 
     module _ (added : List Effect) (put : IsPut (gate_at (target current)) (165 ∷ []) added) (file : List ℕ) (image : Image first (effects ++ added) file) where
-      lifted-now : slice_index file (gate_at (target current)) ≡ 165 → SteadyFile (Some (record { slot = target current; generation = next_generation current })) next file
+      lifted-now : slice_index file (gate_at (target current)) ≡ 165 → SteadyFile opened next file
       lifted-now gate =
-          let before : List ℕ = file_before (FilledFile current book next) first effects stands.1 (gate_at (target current)) (165 ∷ []) added put file image in
-          lift-file next before file (image.size ∙ stands.1.size) current book stands.0 (agree-before (FilledFile current book next) first effects stands.1 (gate_at (target current)) (165 ∷ []) added put file image) gate
-          (stands.1.images before (image-before (FilledFile current book next) first effects stands.1 (gate_at (target current)) (165 ∷ []) added put file image))
+          let before : List ℕ = file_before (FilledFile current book next) first effects stands (gate_at (target current)) (165 ∷ []) added put file image in
+          lift-file next before file (image.size ∙ stands.size) current book is (agree-before (FilledFile current book next) first effects stands (gate_at (target current)) (165 ∷ []) added put file image) gate
+          (stands.images before (image-before (FilledFile current book next) first effects stands (gate_at (target current)) (165 ∷ []) added put file image))
 
       lift-at : gate_at (target current) < length first
-      lift-at = subst (λ (n : ℕ). gate_at (target current) < n) (sym stands.1.size) (gate-within (target current))
+      lift-at = subst (λ (n : ℕ). gate_at (target current) < n) (sym stands.size) (gate-within (target current))
 
       lift-recovers : Recovers file (Ok book) ⊎ Recovers file (Ok next)
-      lift-recovers = elim (old-or-new (FilledFile current book next) first effects stands.1 (gate_at (target current)) 165 added put file image lift-at) [
-        | inl old ↦ inl (stands.1.images file old).closed.steady.recovers
+      lift-recovers = elim (old-or-new (FilledFile current book next) first effects stands (gate_at (target current)) 165 added put file image lift-at) [
+        | inl old ↦ inl (stands.images file old).closed.steady.recovers
         | inr gate ↦ inr (lifted-now gate).recovers
       ]
 
     lift-swap : (added : List Effect) → IsPut (gate_at (target current)) (165 ∷ []) added → Swap first effects added book next
     lift-swap added put n within file image = lift-recovers (take n added) (put-front (gate_at (target current)) (165 ∷ []) put n) file image
 
-    lift-stands : SteadyStands (Some (record { slot = target current; generation = next_generation current })) next first (effects ++ Wrote (gate_at (target current)) (165 ∷ []) ∷ Synced ∷ [])
+    lift-stands : SteadyStands opened next first (effects ++ Wrote (gate_at (target current)) (165 ∷ []) ∷ Synced ∷ [])
     lift-stands =
-        every-after (FilledFile current book next) first effects stands.1 (gate_at (target current)) (165 ∷ []) (Wrote (gate_at (target current)) (165 ∷ []) ∷ Synced ∷ []) done (SteadyFile (Some (record { slot = target current; generation = next_generation current })) next)
-        (λ file image. lifted-now (Wrote (gate_at (target current)) (165 ∷ []) ∷ Synced ∷ []) done file image (done-byte first effects (gate_at (target current)) 165 file (subst (λ (n : ℕ). gate_at (target current) < n) (sym stands.1.size) (gate-within (target current))) image))
+        every-after (FilledFile current book next) first effects stands (gate_at (target current)) (165 ∷ []) (Wrote (gate_at (target current)) (165 ∷ []) ∷ Synced ∷ []) done (SteadyFile opened next)
+        (λ file image. lifted-now (Wrote (gate_at (target current)) (165 ∷ []) ∷ Synced ∷ []) done file image (done-byte first effects (gate_at (target current)) 165 file (subst (λ (n : ℕ). gate_at (target current) < n) (sym stands.size) (gate-within (target current))) image))
 
 -- How often a gate is opened
 
@@ -151,12 +151,12 @@ never_both true = refl
 never_both false = refl
 
 -- more than one byte is not the one byte of an open gate
-no-gate : (bytes : List ℕ) → 2 ≤ length bytes → bytes_eq bytes (165 ∷ []) ≡ false
+pub no-gate : (bytes : List ℕ) → 2 ≤ length bytes → bytes_eq bytes (165 ∷ []) ≡ false
 no-gate [] two = absurd (omega (arith, two))
 no-gate (x ∷ []) two = absurd (omega (arith, two))
 no-gate (x ∷ y ∷ more) two = never_both (nat_eq x 165)
 
-opens-none : (at : ℕ) (bytes : List ℕ) → bytes_eq bytes (165 ∷ []) ≡ false → opened_in (Wrote at bytes ∷ Synced ∷ []) ≡ 0
+pub opens-none : (at : ℕ) (bytes : List ℕ) → bytes_eq bytes (165 ∷ []) ≡ false → opened_in (Wrote at bytes ∷ Synced ∷ []) ≡ 0
 opens-none at bytes other = rw other refl
 
 -- The calls, by what their put answered
@@ -167,7 +167,7 @@ IsDone at bytes added = added ≡ Wrote at bytes ∷ Synced ∷ []
 abbrev pub IsNotDone : ℕ → List ℕ → List Effect → Type 0
 IsNotDone at bytes added = IsPut at bytes added × (added ≢ Wrote at bytes ∷ Synced ∷ [])
 
-is-put : (at : ℕ) (bytes : List ℕ) {added : List Effect} → IsDone at bytes added → IsPut at bytes added
+pub is-put : (at : ℕ) (bytes : List ℕ) {added : List Effect} → IsDone at bytes added → IsPut at bytes added
 is-put at bytes p = subst (λ (es : List Effect). IsPut at bytes es) (sym p) done
 
 pub closes : (current : Option Current) (added : List Effect) → IsDone (gate_at (target current)) (0 ∷ []) added → Closes current (Ok current) added
@@ -199,13 +199,16 @@ module _ (current : Option Current) (body : List ℕ) (short : length body ≤ 8
   fills-swap added put first effects book next stands is e =
       fill-swap current first effects book next is stands (short-body next e) added (subst (λ (bytes : List ℕ). IsPut (start_of (target current)) bytes added) e put)
 
-  pub fills : (added : List Effect) → IsDone (start_of (target current)) body added → Fills current body (Ok current) added
-  fills added p = record {
+  pub fills : (next_is : Current) (added : List Effect) → (next_generation current < 2 ^ 64 → next_is ≡ following current (length body)) → IsDone (start_of (target current)) body added → Fills current body (Ok (current, next_is)) added
+  fills following_is added f p = record {
     puts = p;
     store = put-store (start_of (target current)) body (is-put (start_of (target current)) body p);
     swap = fills-swap added (is-put (start_of (target current)) body p);
-    turn = λ first effects book next stands is e.
-        subst (λ (es : List Effect). FilledStands current book next first (effects ++ es)) (sym (p ∙ ap (λ (bytes : List ℕ). Wrote (start_of (target current)) bytes ∷ Synced ∷ []) e)) (fill-stands current first effects book next is stands (short-body next e));
+    turn = λ first effects book next stands is e. record {
+      is = is;
+      follows = f is.generation ∙ ap (λ (bytes : List ℕ). following current (length bytes)) e;
+      every = subst (λ (es : List Effect). EveryImage (FilledFile current book next) first (effects ++ es)) (sym (p ∙ ap (λ (bytes : List ℕ). Wrote (start_of (target current)) bytes ∷ Synced ∷ []) e)) (fill-stands current first effects book next is stands (short-body next e));
+    };
     opens = λ next e. ap opened_in p ∙ opens-none (start_of (target current)) body (no-gate body (omega (arith, ap length e, body-length (next_generation current) next)));
   }
 
@@ -218,22 +221,22 @@ module _ (current : Option Current) (body : List ℕ) (short : length body ≤ 8
     opens = λ next e. tt;
   }
 
-pub lifts : (current : Option Current) (steady : Current) (added : List Effect) → (next_generation current < 2 ^ 64 → steady ≡ record { slot = target current; generation = next_generation current }) → IsDone (gate_at (target current)) (165 ∷ []) added → Lifts current (Ok (Some steady)) added
-lifts current steady added e p = record {
+pub lifts : (filled : Option Current × Current) (added : List Effect) → IsDone (gate_at (target filled.0)) (165 ∷ []) added → Lifts filled (Ok (Some filled.1)) added
+lifts filled added p = record {
   puts = p;
-  store = put-store (gate_at (target current)) (165 ∷ []) (is-put (gate_at (target current)) (165 ∷ []) p);
-  swap = λ first effects book next stands. lift-swap current first effects book next stands added (is-put (gate_at (target current)) (165 ∷ []) p);
+  store = put-store (gate_at (target filled.0)) (165 ∷ []) (is-put (gate_at (target filled.0)) (165 ∷ []) p);
+  swap = λ first effects book next stands. lift-swap filled.0 first effects book next stands.is stands.every added (is-put (gate_at (target filled.0)) (165 ∷ []) p);
   turn = λ first effects book next stands.
-      subst (λ (c : Current). SteadyStands (Some c) next first (effects ++ added)) (sym (e stands.0.generation))
-      (subst (λ (es : List Effect). SteadyStands (Some (record { slot = target current; generation = next_generation current })) next first (effects ++ es)) (sym p) (lift-stands current first effects book next stands));
+      subst (λ (c : Current). SteadyStands (Some c) next first (effects ++ added)) (sym stands.follows)
+      (subst (λ (es : List Effect). SteadyStands (Some (following filled.0 (length (slot_bytes (next_generation filled.0) next)))) next first (effects ++ es)) (sym p) (lift-stands filled.0 first effects book next stands.is stands.every));
   opens = ap opened_in p;
 }
 
-pub lifts-not : (current : Option Current) (fault : StoreFault) (added : List Effect) → IsNotDone (gate_at (target current)) (165 ∷ []) added → Lifts current (Err fault) added
-lifts-not current fault added put = record {
+pub lifts-not : (filled : Option Current × Current) (fault : StoreFault) (added : List Effect) → IsNotDone (gate_at (target filled.0)) (165 ∷ []) added → Lifts filled (Err fault) added
+lifts-not filled fault added put = record {
   puts = put;
-  store = put-store (gate_at (target current)) (165 ∷ []) put.0;
-  swap = λ first effects book next stands. lift-swap current first effects book next stands added put.0;
+  store = put-store (gate_at (target filled.0)) (165 ∷ []) put.0;
+  swap = λ first effects book next stands. lift-swap filled.0 first effects book next stands.is stands.every added put.0;
   turn = λ first effects book next stands. tt;
   opens = tt;
 }

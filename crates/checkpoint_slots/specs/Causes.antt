@@ -6,7 +6,7 @@ use Rattle.sm_world.specs.Outside.{Outside}
 use Rattle.sm_world.specs.declared.effects.Effect.{Effect}
 use Rattle.checkpoint_slots.specs.declared.fault.StoreFault.{StoreFault}
 use Rattle.checkpoint_slots.specs.declared.fault.StoreFault.TheVariants.{Damaged, DiskFault, NoMemory, Worn, WrongSize}
-use Rattle.checkpoint_records.specs.Damage.{StandFor}
+use Rattle.checkpoint_changes.specs.Amendments.{SlotDamaged}
 use Rattle.checkpoint_slots.specs.declared.layout.Slot.TheVariants.{First, Second}
 use Rattle.checkpoint_slots.specs.Layout.{is_open}
 use Rattle.checkpoint_slots.specs.Recovery.{Recovers}
@@ -72,10 +72,10 @@ Never = ⊥
 abbrev pub AreOpen : List ℕ → Type 0
 AreOpen file = (is_open file First ≡ true) × (is_open file Second ≡ true)
 
--- why bytes at a place of the file aren't read as a book
-abbrev pub IsBookFault : ℕ → List ℕ → StoreFault → Type 0
-IsBookFault at bytes (WrongSize size) = ⊥
-IsBookFault at bytes (Damaged place) = (damage : ℕ) × StandFor bytes (Err damage) × (place ≡ at + damage)
-IsBookFault at bytes DiskFault = ⊥
-IsBookFault at bytes Worn = ⊥
-IsBookFault at bytes NoMemory = Unit {0}
+-- why bytes behind the head of a slot, which lie at a place of the file and begin with a book of n bytes, aren't read
+abbrev pub IsBookFault : ℕ → List ℕ → ℕ → StoreFault → Type 0
+IsBookFault at bytes n (WrongSize size) = ⊥
+IsBookFault at bytes n (Damaged place) = (damage : ℕ) × SlotDamaged bytes n damage × (place ≡ at + damage)
+IsBookFault at bytes n DiskFault = ⊥
+IsBookFault at bytes n Worn = ⊥
+IsBookFault at bytes n NoMemory = Unit {0}

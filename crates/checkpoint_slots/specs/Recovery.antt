@@ -3,17 +3,17 @@
 --   0   its generation, eight bytes
 --   8   how many bytes its book has, four bytes
 --   12  four bytes that say nothing
---   16  the book, and behind it a gate, which is closed
+--   16  the book, and behind it amendments, as far as their gates are open
 -- Numbers have their least significant byte first.
-use Rattle.std.specs.Prelude.{Bool, List, None, Option, Some, Result, Ok, Err, drop, false, length, nat_le, nat_lt, replicate, slice_index, take, true, ℕ, ◌%◌, ◌&&◌, ◌++◌, ◌+◌, ◌==◌, ◌≡◌, if◌then◌else◌}
+use Rattle.std.specs.Prelude.{Bool, List, None, Option, Some, Result, Ok, Err, drop, false, length, nat_le, nat_lt, option_map, replicate, slice_index, take, true, ℕ, ◌%◌, ◌&&◌, ◌++◌, ◌+◌, ◌==◌, ◌≡◌, if◌then◌else◌}
 use Rattle.byteorder.specs.Endian.{little_bytes, little_number}
 use Rattle.checkpoint_records.specs.Books.{empty_book}
-use Rattle.checkpoint_records.specs.Damage.{StandFor}
+use Rattle.checkpoint_changes.specs.Amendments.{SlotLeads, SlotReads}
 use Rattle.checkpoint_records.specs.Spelling.{book_bytes}
 use Rattle.checkpoint_records.specs.declared.records.Book.{Book}
 use Rattle.checkpoint_slots.specs.declared.layout.Slot.{Slot}
 use Rattle.checkpoint_slots.specs.declared.layout.Slot.TheVariants.{First, Second}
-use Rattle.checkpoint_slots.specs.Layout.{is_gate_open, is_open, slot_of, start_of}
+use Rattle.checkpoint_slots.specs.Layout.{is_open, slot_of, start_of}
 
 unfoldable pub generation_of : List ℕ → ℕ
 generation_of slot = little_number 8 slot
@@ -36,16 +36,22 @@ chosen file = choose (is_open file First) (is_open file Second) (generation_of (
 abbrev pub may_be_length : ℕ → Bool
 may_be_length n = (n % 8 == 0) && nat_le n 8388584
 
--- A book of n bytes that lies at a place, with a gate behind it. An open gate there is a damage.
-abbrev pub with_gate : ℕ → ℕ → Bool → Result Book ℕ → Result Book ℕ
-with_gate at n opened (Err damage) = Err (at + damage)
-with_gate at n true (Ok book) = Err (at + n)
-with_gate at n false (Ok book) = Ok book
+-- what bytes that lie at a place stand for, in the file
+abbrev pub placed : ℕ → Result (Book × Option ℕ) ℕ → Result Book ℕ
+placed at (Ok found) = Ok found.0
+placed at (Err damage) = Err (at + damage)
 
--- These bytes from a place on begin with a book of n bytes; what that is for the file.
+-- These bytes, behind the head of a slot that lies at a place, begin with a book of n bytes; what they are for the file.
 abbrev pub BookAt : Bool → ℕ → ℕ → List ℕ → Result Book ℕ → Type 0
 BookAt false at n bytes answer = answer ≡ Err (at + 8)
-BookAt true at n bytes answer = (inner : Result Book ℕ) × StandFor (take n bytes) inner × (answer ≡ with_gate (at + 16) n (is_gate_open (slice_index bytes n)) inner)
+BookAt true at n bytes answer = (inner : Result (Book × Option ℕ) ℕ) × SlotReads bytes n inner × (answer ≡ placed (at + 16) inner)
+
+-- Bytes behind the head of a slot, which lie at a place of the file, begin with a book of n bytes and lead to this one; the next gate
+-- stands at this place, if any may stand there.
+pub record LeadsTo (at : ℕ) (bytes : List ℕ) (n : ℕ) (book : Book) (end : Option ℕ) : Type 0 where
+  pub more : Option ℕ
+  pub leads : SlotLeads bytes n book more
+  pub ends : end ≡ option_map (λ k. at + n + k) more
 
 -- what a slot that lies at a place stands for
 unfoldable pub SlotStands : ℕ → List ℕ → Result Book ℕ → Type 0

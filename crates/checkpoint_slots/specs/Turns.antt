@@ -1,5 +1,5 @@
 -- What a turn of the store stands for, and what its calls keep.
-use Rattle.std.specs.Prelude.{Err, IfOk, IsTrue, List, None, Ok, Option, Result, Some, [], length, slice_index, take, if◌then◌else◌, ℕ, ◌++◌, ◌+◌, ◌<◌, ◌^◌, ◌≡◌, ◌≢◌, ◌≤◌, ◌⊎◌, ◌∷◌}
+use Rattle.std.specs.Prelude.{Err, IfOk, IsTrue, List, None, Ok, Option, Result, Some, [], drop, length, option_map, slice_index, take, true, if◌then◌else◌, ℕ, ◌++◌, ◌+◌, ◌-◌, ◌<◌, ◌^◌, ◌≡◌, ◌≢◌, ◌≤◌, ◌⊎◌, ◌∷◌}
 use Rattle.std.specs.List.{AllByRecursion}
 use Rattle.std.specs.Str.{bytes_eq}
 use Rattle.sm_world.specs.Crash.{Image, cell_of, readable}
@@ -12,7 +12,7 @@ use Rattle.checkpoint_slots.specs.declared.layout.Slot.{Slot}
 use Rattle.checkpoint_slots.specs.declared.layout.Slot.TheVariants.{First}
 use Rattle.checkpoint_slots.specs.declared.turn.Current.{Current}
 use Rattle.checkpoint_slots.specs.Layout.{gate_at, other, slot_of, start_of}
-use Rattle.checkpoint_slots.specs.Recovery.{Recovers, chosen, generation_of, slot_bytes}
+use Rattle.checkpoint_slots.specs.Recovery.{LeadsTo, Recovers, chosen, generation_of, length_of, may_be_length, slot_bytes}
 
 -- At each of these effects, and before the first, every file that a crash may leave recovers to the old book or to the new one.
 abbrev pub Swap : List ℕ → List Effect → List Effect → Book → Book → Type 0
@@ -32,10 +32,45 @@ abbrev pub next_generation : Option Current → ℕ
 next_generation None = 1
 next_generation (Some current) = current.generation + 1
 
+-- What is current once the next slot is opened, which was filled with so many bytes: the last eight of them begin with the gate behind
+-- the book.
+abbrev pub following : Option Current → ℕ → Current
+following current filled = record { slot = target current; generation = next_generation current; end = Some (start_of (target current) + (filled - 8)) }
+
+-- the place of the next gate, where amendments may stand behind the current book
+abbrev pub end_in : Option Current → Option ℕ
+end_in None = None
+end_in (Some current) = current.end
+
+-- a delta of m bytes fits into the slot behind the gate at this place, with the next gate
+abbrev pub IsRoom : Slot → ℕ → Option ℕ → Type 0
+IsRoom slot m None = ⊥
+IsRoom slot m (Some end) = end + 8 + m < start_of slot + 8388608
+
+abbrev pub HasRoomFor : Option Current → ℕ → Type 0
+HasRoomFor None m = ⊥
+HasRoomFor (Some current) m = IsRoom current.slot m current.end
+
+-- what is current once a delta of m bytes stands behind an open gate
+abbrev pub advanced : Option Current → ℕ → Option Current
+advanced None m = None
+advanced (Some current) m = Some (record { slot = current.slot; generation = current.generation; end = option_map (λ end. end + 8 + m) current.end })
+
+-- The bytes of a slot lead to this book, and the next gate stands at this place of the file.
+pub record HasBook (slot : Slot) (end : Option ℕ) (book : Book) (bytes : List ℕ) : Type 0 where
+  pub may : may_be_length (length_of bytes) ≡ true
+  pub leads : LeadsTo (start_of slot + 16) (drop 16 bytes) (length_of bytes) book end
+
+-- the current slot has this book
+abbrev pub EndsAs : Option Current → Book → List ℕ → Type 0
+EndsAs None book file = Unit {0}
+EndsAs (Some current) book file = HasBook current.slot current.end book (slot_of file current.slot)
+
 -- One file of a turn: of a steady one,
 pub record SteadyFile (current : Option Current) (book : Book) (file : List ℕ) : Type 0 where
   pub recovers : Recovers file (Ok book)
   pub chooses : HasCurrent current file
+  pub ends : EndsAs current book file
 
 -- of one whose other gate is closed,
 pub record ClosedFile (current : Option Current) (book : Book) (file : List ℕ) : Type 0 where
@@ -66,8 +101,11 @@ pub record IsNext (current : Option Current) (next : Book) : Type 0 where
   pub epoch : next.epoch < 2 ^ 32
   pub generation : next_generation current < 2 ^ 64
 
-abbrev pub FilledStands : Option Current → Book → Book → List ℕ → List Effect → Type 0
-FilledStands current book next first effects = IsNext current next × EveryImage (FilledFile current book next) first effects
+-- the turn and what is current next
+pub record FilledStands (filled : Option Current × Current) (book next : Book) (first : List ℕ) (effects : List Effect) : Type 0 where
+  pub is : IsNext filled.0 next
+  pub follows : filled.1 ≡ following filled.0 (length (slot_bytes (next_generation filled.0) next))
+  pub every : EveryImage (FilledFile filled.0 book next) first effects
 
 -- an effect of the store's file, and so neither an event nor a deed
 abbrev pub IsOfStore : Effect → Type 0
@@ -121,7 +159,7 @@ pub record Closes (current : Option Current) (result : Result (Option Current) S
   pub turn : (first : List ℕ) (effects : List Effect) (book : Book) → SteadyStands current book first effects → IfOk result (λ closed. ClosedStands closed book first (effects ++ added))
   pub opens : IfOk result (λ closed. opened_in added ≡ 0)
 
-pub record Fills (current : Option Current) (body : List ℕ) (result : Result (Option Current) StoreFault) (added : List Effect) : Type 0 where
+pub record Fills (current : Option Current) (body : List ℕ) (result : Result (Option Current × Current) StoreFault) (added : List Effect) : Type 0 where
   pub puts : Puts (start_of (target current)) body result added
   pub store : AllByRecursion IsOfStore added
   pub swap : (first : List ℕ) (effects : List Effect) (book next : Book) → ClosedStands current book first effects → IsNext current next → body ≡ slot_bytes (next_generation current) next → Swap first effects added book next
@@ -129,9 +167,9 @@ pub record Fills (current : Option Current) (body : List ℕ) (result : Result (
       → IfOk result (λ filled. FilledStands filled book next first (effects ++ added))
   pub opens : (next : Book) → body ≡ slot_bytes (next_generation current) next → IfOk result (λ filled. opened_in added ≡ 0)
 
-pub record Lifts (current : Option Current) (result : Result (Option Current) StoreFault) (added : List Effect) : Type 0 where
-  pub puts : Puts (gate_at (target current)) (165 ∷ []) result added
+pub record Lifts (filled : Option Current × Current) (result : Result (Option Current) StoreFault) (added : List Effect) : Type 0 where
+  pub puts : Puts (gate_at (target filled.0)) (165 ∷ []) result added
   pub store : AllByRecursion IsOfStore added
-  pub swap : (first : List ℕ) (effects : List Effect) (book next : Book) → FilledStands current book next first effects → Swap first effects added book next
-  pub turn : (first : List ℕ) (effects : List Effect) (book next : Book) → FilledStands current book next first effects → IfOk result (λ steady. SteadyStands steady next first (effects ++ added))
+  pub swap : (first : List ℕ) (effects : List Effect) (book next : Book) → FilledStands filled book next first effects → Swap first effects added book next
+  pub turn : (first : List ℕ) (effects : List Effect) (book next : Book) → FilledStands filled book next first effects → IfOk result (λ steady. SteadyStands steady next first (effects ++ added))
   pub opens : IfOk result (λ steady. opened_in added ≡ 1)

@@ -5,7 +5,10 @@ ghost use Rattle.checkpoint_slots.specs.Layout.{gate_at, start_of, other as othe
 pub const STORE_BYTES: u64 = 16_777_280;
 
 /// The byte of an open gate.
-pub(crate) const OPEN: u8 = 0xa5;
+pub const OPEN: u8 = 0xa5;
+
+/// How many bytes a slot has.
+pub(crate) const SLOT_BYTES: u64 = 8_388_608;
 
 /// One of the two slots of the store.
 #[derive(Clone, Copy, Debug, PartialEq, Eq)]

@@ -1,21 +1,24 @@
-ghost use Rattle.std.specs.Prelude.{Some, ◌^◌, ◌≡◌, ◌+◌, ◌≤◌, ◌<◌, ℕ, List, length, take, drop, slice_index, IfOk, IfErr, OnOk, Ok, Err, false, true, nat_lt};
+ghost use Rattle.std.specs.Prelude.{Some, option_map, ◌^◌, ◌≡◌, ◌+◌, ◌≤◌, ◌<◌, ℕ, List, length, take, drop, slice_index, IfOk, IfErr, OnOk, Ok, Err, false, true, nat_lt};
 ghost use Rattle.sm_world.specs.Disk.{KeepsToldSize, UsesDisk, has_failed};
-ghost use Rattle.checkpoint_records.specs.Damage.{StandFor};
 ghost use Rattle.checkpoint_records.specs.Rules.{KeepsRules};
 ghost use Rattle.checkpoint_slots.specs.Layout.{start_of, gate_at, is_gate_open as opens, is_open, slot_of};
-ghost use Rattle.checkpoint_slots.specs.Recovery.{Recovers, SlotStands, chosen, generation_of, length_of, may_be_length};
-ghost use Rattle.checkpoint_slots.specs.Turns.{HasCurrent, SteadyFile};
+ghost use Rattle.checkpoint_slots.specs.Recovery.{LeadsTo, SlotStands, chosen, generation_of, length_of, may_be_length};
+ghost use Rattle.checkpoint_slots.specs.Turns.{HasBook, HasCurrent, SteadyFile};
 ghost use Rattle.checkpoint_slots.specs.Causes.{AreOpen, Finds, IsBookFault, Never, IsRecoveryFault, IsSettled, Looks, Tells, is_disk_fault};
 ghost use Rattle.checkpoint_slots.specs.declared.layout.Slot.TheVariants.{First as FirstSlot, Second as SecondSlot};
 
 use crate::layout::OPEN;
 use crate::{Current, STORE_BYTES, Slot, Steady, StoreFault};
 use byteorder::{ByteOrder, LittleEndian};
-use checkpoint_records::{Book, BookRefusal, read_book};
+use checkpoint_changes::read_slot;
+use checkpoint_records::{Book, BookRefusal};
 use sm_world::{Disk, Failure};
 use std::alloc::Global;
 
-/// How many bytes a book has at most: a slot's without its head and the gate behind the book.
+/// How many bytes a slot has behind its head.
+const BEHIND_HEAD: u32 = 8_388_592;
+
+/// How many bytes a book has at most: those, without the gate behind the book.
 const BOOK_BYTES: u32 = 8_388_584;
 
 /// Fills the buffer with the bytes at this place.
@@ -66,7 +69,7 @@ fn book_length<D: Disk>(disk: &mut D, slot: Slot) -> Result<u32, Failure>
     }
 }
 
-/// This slot as the current one.
+/// This slot as the current one. Where its book ends isn't known before it is read.
 fn current<D: Disk>(disk: &mut D, slot: Slot) -> Result<Current, Failure>
     requires { (D.outside disk.old).size ≡ 16777280 }
     ensures slot { IfOk result (λ current. current.slot ≡ slot) }
@@ -74,7 +77,11 @@ fn current<D: Disk>(disk: &mut D, slot: Slot) -> Result<Current, Failure>
     ensures world { Looks (D.outside disk.old) (D.outside disk.new) (has_failed result) }
 {
     match generation(disk, slot) {
-        Ok(generation) => Ok(Current { slot, generation }),
+        Ok(generation) => Ok(Current {
+            slot,
+            generation,
+            end: None,
+        }),
         Err(failure) => Err(failure),
     }
 }
@@ -120,6 +127,7 @@ fn read_bytes<D: Disk>(
     count: u32,
 ) -> Result<Vec<u8>, StoreFault>
     requires { at + count ≤ (D.outside disk.old).size }
+    ensures size { IfOk result (λ bytes. length bytes.items ≡ count) }
     ensures found { Finds (D.outside disk.old) (λ file bytes. bytes.items ≡ take count (drop at file)) (λ file at. Never) result }
     ensures world { Looks (D.outside disk.old) (D.outside disk.new) (is_disk_fault result) }
 {
@@ -130,24 +138,47 @@ fn read_bytes<D: Disk>(
     Ok(bytes)
 }
 
-/// The book that these bytes spell, which lie at a place of the file.
-fn whole_book(alloc: Global, at: u64, bytes: &[u8]) -> Result<Book, StoreFault>
-    requires { at + length bytes.now < 2 ^ 64 }
-    ensures ok { IfOk result (λ book. StandFor bytes.now (Ok book)) }
-    ensures err { IfErr result (IsBookFault at bytes.now) }
+/// The place of the next gate, which stands so many bytes behind the end of a book.
+fn end_behind(at: u64, more: Option<u32>) -> Option<u64>
+    requires { at + 2 ^ 32 ≤ 2 ^ 64 }
+    ensures { result ≡ option_map (λ k. at + k) more }
 {
-    match read_book(alloc, bytes) {
-        Ok(book) => Ok(book),
+    match more {
+        Some(more) => Some(at + u64::from(more)),
+        None => None,
+    }
+}
+
+/// The book that these bytes lead to, which lie at a place of the file, behind the head of a slot
+/// with a book of so many bytes; and the place of the next gate.
+fn whole_book(
+    alloc: Global,
+    at: u64,
+    bytes: &[u8],
+    count: u32,
+) -> Result<(Book, Option<u64>), StoreFault>
+    requires place { at + 2 ^ 34 ≤ 2 ^ 64 }
+    requires size { length bytes.now ≤ 8388592 }
+    requires book { count ≤ length bytes.now }
+    ensures ok { IfOk result (λ found. LeadsTo at bytes.now count found.0 found.1) }
+    ensures err { IfErr result (IsBookFault at bytes.now count) }
+{
+    match read_slot(alloc, bytes, count) {
+        Ok((book, more)) => Ok((book, end_behind(at + u64::from(count), more))),
         Err(BookRefusal::Damaged { at: damage }) => Err(StoreFault::Damaged { at: at + damage }),
         Err(BookRefusal::NoMemory) => Err(StoreFault::NoMemory),
     }
 }
 
-/// The book of a slot.
-fn read_slot<D: Disk>(alloc: Global, disk: &mut D, slot: Slot) -> Result<Book, StoreFault>
+/// The book of a slot, and the place of the next gate.
+fn read_chosen<D: Disk>(
+    alloc: Global,
+    disk: &mut D,
+    slot: Slot,
+) -> Result<(Book, Option<u64>), StoreFault>
     requires { (D.outside disk.old).size ≡ 16777280 }
-    ensures found { Finds (D.outside disk.old) (λ file book. SlotStands (start_of slot) (slot_of file slot) (Ok book)) (λ file at. SlotStands (start_of slot) (slot_of file slot) (Err at)) result }
-    ensures rules { IfOk result KeepsRules }
+    ensures found { Finds (D.outside disk.old) (λ file found. HasBook slot found.1 found.0 (slot_of file slot)) (λ file at. SlotStands (start_of slot) (slot_of file slot) (Err at)) result }
+    ensures rules { IfOk result (λ found. KeepsRules found.0) }
     ensures world { Looks (D.outside disk.old) (D.outside disk.new) (is_disk_fault result) }
 {
     let count = book_length(disk, slot)?;
@@ -157,26 +188,18 @@ fn read_slot<D: Disk>(alloc: Global, disk: &mut D, slot: Slot) -> Result<Book, S
         });
     }
     let at = slot.start() + 16;
-    let bytes = match read_bytes(alloc, disk, at, count) {
+    let bytes = match read_bytes(alloc, disk, at, BEHIND_HEAD) {
         Ok(bytes) => bytes,
         Err(fault) => return Err(fault),
     };
-    let book = match whole_book(alloc, at, &bytes) {
-        Ok(book) => book,
-        Err(fault) => return Err(fault),
-    };
-    if is_open_at(disk, at + u64::from(count))? {
-        return Err(StoreFault::Damaged {
-            at: at + u64::from(count),
-        });
-    }
-    Ok(book)
+    whole_book(alloc, at, &bytes, count)
 }
 
 impl Steady {
     /// The turn and the book that the store's file stands for. In this order: a file of another
     /// size than a store is WrongSize; then it is Damaged where its gates, the head of the chosen
-    /// slot, the book or the gate behind it say so. A file without an open gate has the empty book.
+    /// slot, the book or an amendment behind it say so. A file without an open gate has the empty
+    /// book. The rest of the chosen slot is read whole, 8,388,592 bytes.
     pub fn recover_from<D: Disk>(alloc: Global, disk: &mut D) -> Result<(Steady, Book), StoreFault>
         ensures told { (D.outside disk.new).told ≡ (D.outside disk.old).told }
         ensures size { IfOk result (λ recovered. (D.outside disk.new).size ≡ 16777280) }
@@ -190,11 +213,13 @@ impl Steady {
         if size != STORE_BYTES {
             return Err(StoreFault::WrongSize { size });
         }
-        let current = choose(disk)?;
-        let book = match current {
-            Some(current) => read_slot(alloc, disk, current.slot)?,
-            None => Book::empty(alloc)?,
-        };
-        Ok((Steady { current }, book))
+        match choose(disk)? {
+            None => Ok((Steady { current: None }, Book::empty(alloc)?)),
+            Some(current) => {
+                let (book, end) = read_chosen(alloc, disk, current.slot)?;
+                let current = Some(Current { end, ..current });
+                Ok((Steady { current }, book))
+            }
+        }
     }
 }

@@ -1,14 +1,14 @@
-ghost use Rattle.std.specs.Prelude.{◌≡◌, ◌+◌, ◌++◌, replicate, ◌≤◌, ◌<◌, ◌^◌, ◌∷◌, [], length, is_err, IfOk, IfErr, OnOk, Err, Some};
+ghost use Rattle.std.specs.Prelude.{◌≡◌, ◌↔◌, IsTrue, ◌+◌, ◌++◌, replicate, ◌≤◌, ◌<◌, ◌^◌, ◌∷◌, [], length, is_err, IfOk, IfErr, OnOk, Err, Some};
 ghost use Rattle.byteorder.specs.Endian.{little_bytes};
 ghost use Rattle.sm_world.specs.Disk.{UsesDisk};
 ghost use Rattle.sm_world.specs.Outside.{Added};
 ghost use Rattle.checkpoint_records.specs.Rules.{KeepsRules};
 ghost use Rattle.checkpoint_slots.specs.Recovery.{slot_bytes};
-ghost use Rattle.checkpoint_slots.specs.Turns.{Closes, Fills, Lifts, Puts, next_generation, target as next_slot};
+ghost use Rattle.checkpoint_slots.specs.Turns.{Closes, Fills, HasRoomFor, Lifts, Puts, advanced, end_in, following, next_generation, target as next_slot};
 ghost use Rattle.checkpoint_slots.specs.Causes.{IsSpellFault};
 ghost use Rattle.checkpoint_slots.specs.declared.fault.StoreFault.TheVariants.{DiskFault as FaultOfDisk, Worn as IsWorn};
 
-use crate::layout::OPEN;
+use crate::layout::{OPEN, SLOT_BYTES};
 use crate::{Slot, StoreFault};
 use byteorder::{ByteOrder, LittleEndian};
 use checkpoint_records::{Book, spell_book};
@@ -16,11 +16,13 @@ use sm_world::{Disk, Failed, NoMemory, Octets};
 use std::alloc::Global;
 use std::marker::Model;
 
-/// The slot whose book is in use, and its generation.
+/// The slot whose book is in use, its generation, and where its book ends.
 #[derive(Clone, Copy, Debug, PartialEq, Eq)]
 pub struct Current {
     pub slot: Slot,
     pub generation: u64,
+    /// The offset of the next gate, where amendments may stand behind the book.
+    pub end: Option<u64>,
 }
 
 /// A turn of the store between two commits. There is no current slot before the first one.
@@ -37,6 +39,8 @@ pub struct Closed {
 /// A turn in which the other slot is filled behind its closed gate.
 pub struct Filled {
     current: Option<Current>,
+    /// What is current once the gate is opened.
+    next: Current,
 }
 
 impl Model for Steady {
@@ -61,9 +65,9 @@ impl Model for Filled {
     ghost use Rattle.std.specs.Prelude.{Option};
     ghost use Rattle.checkpoint_slots.specs.declared.turn.Current.{Current};
 
-    ghost Value = { Option Current };
+    ghost Value = { Option Current × Current };
 
-    ghost view = { λ filled. filled.current };
+    ghost view = { λ filled. (filled.current, filled.next) };
 }
 
 /// The slot of the next book: the one that isn't current, and the first where none is.
@@ -76,22 +80,25 @@ fn target(current: Option<Current>) -> Slot
     }
 }
 
-/// What is current once the next book is opened.
-fn following(current: Option<Current>) -> Current
-    ensures { next_generation current < 2 ^ 64 → result ≡ record { slot = next_slot current; generation = next_generation current } }
+/// What is current once the next slot is opened, which was filled with so many bytes.
+fn next_current(current: Option<Current>, filled: u64) -> Current
+    requires { filled ≤ 8388608 }
+    ensures { next_generation current < 2 ^ 64 → result ≡ following current filled }
 {
     let generation = match current {
         Some(current) => current.generation.saturating_add(1),
         None => 1,
     };
+    let slot = target(current);
     Current {
-        slot: target(current),
+        slot,
         generation,
+        end: Some(slot.start() + filled.saturating_sub(8)),
     }
 }
 
-/// Writes these bytes and waits until they are on the disk.
-fn put<D: Disk>(disk: &mut D, at: u64, bytes: &[u8]) -> Result<(), Failed>
+/// Writes these bytes and waits until they are on the disk, by one write and one sync.
+pub fn put<D: Disk>(disk: &mut D, at: u64, bytes: &[u8]) -> Result<(), Failed>
     requires { at + length bytes.now ≤ (D.outside disk.old).size }
     ensures effects { Added (D.outside disk.old).told (D.outside disk.new).told (Puts at bytes.now result) }
     ensures size { (D.outside disk.new).size ≡ (D.outside disk.old).size }
@@ -126,6 +133,61 @@ fn body_of(alloc: Global, generation: u64, book: &Book) -> Result<Octets, NoMemo
 }
 
 impl Steady {
+    /// The offset of the next gate, behind the current book and its amendments; None where no slot
+    /// is current, or nothing may be appended to its book.
+    pub fn end(&self) -> Option<u64>
+        ensures { result ≡ end_in self.now }
+    {
+        match self.current {
+            Some(current) => current.end,
+            None => None,
+        }
+    }
+
+    /// Whether no generation is left: the current one is 18,446,744,073,709,551,615.
+    pub fn worn(&self) -> bool
+        ensures { IsTrue result ↔ next_generation self.now ≡ 2 ^ 64 }
+    {
+        match self.current {
+            Some(current) => current.generation == u64::MAX,
+            None => false,
+        }
+    }
+
+    /// Whether a delta of m bytes fits behind the current book, with the next gate.
+    pub fn has_room(&self, m: u64) -> bool
+        ensures { IsTrue result ↔ HasRoomFor self.now m }
+    {
+        let Some(current) = self.current else {
+            return false;
+        };
+        let Some(end) = current.end else {
+            return false;
+        };
+        let limit = current.slot.start() + SLOT_BYTES;
+        m < limit.saturating_sub(end).saturating_sub(8)
+    }
+
+    /// The turn once a delta of m bytes stands behind the current book: its next gate is so many
+    /// bytes and eight further on. Neither the generation nor the slot changes.
+    pub fn advance(self, m: u32) -> Steady
+        requires { HasRoomFor self m }
+        ensures { result ≡ advanced self m }
+    {
+        let Some(current) = self.current else {
+            return self;
+        };
+        let Some(end) = current.end else {
+            return self;
+        };
+        Steady {
+            current: Some(Current {
+                end: Some(end + 8 + u64::from(m)),
+                ..current
+            }),
+        }
+    }
+
     /// The bytes that `fill` writes for this book, and the turn, which no device has touched. A
     /// store whose generations are used up is Worn, which is tested first.
     pub fn spell(self, alloc: Global, book: &Book) -> Result<(Steady, Octets), (Steady, StoreFault)>
@@ -174,14 +236,18 @@ impl Closed {
         requires size { (D.outside disk.old).size ≡ 16777280 }
         requires room { length body.now ≤ 8388608 }
         ensures effects { Added (D.outside disk.old).told (D.outside disk.new).told (Fills self body.now result) }
-        ensures same { IfOk result (λ filled. filled ≡ self) }
+        ensures same { IfOk result (λ filled. filled.0 ≡ self) }
+        ensures next { next_generation self < 2 ^ 64 → IfOk result (λ filled. filled.1 ≡ following self (length body.now)) }
         ensures size { (D.outside disk.new).size ≡ (D.outside disk.old).size }
         ensures uses { UsesDisk (D.outside disk.old) (D.outside disk.new) (is_err result) }
         ensures cause { IfErr result (λ fault. fault ≡ FaultOfDisk) }
     {
         let Closed { current } = self;
         match put(disk, target(current).start(), body.as_slice()) {
-            Ok(()) => Ok(Filled { current }),
+            Ok(()) => Ok(Filled {
+                current,
+                next: next_current(current, body.len() as u64),
+            }),
             Err(Failed) => Err(StoreFault::DiskFault),
         }
     }
@@ -193,15 +259,15 @@ impl Filled {
     pub fn lift<D: Disk>(self, disk: &mut D) -> Result<Steady, StoreFault>
         requires { (D.outside disk.old).size ≡ 16777280 }
         ensures effects { Added (D.outside disk.old).told (D.outside disk.new).told (Lifts self result) }
-        ensures next { next_generation self < 2 ^ 64 → IfOk result (λ steady. steady ≡ Some (record { slot = next_slot self; generation = next_generation self })) }
+        ensures next { IfOk result (λ steady. steady ≡ Some self.1) }
         ensures size { (D.outside disk.new).size ≡ (D.outside disk.old).size }
         ensures uses { UsesDisk (D.outside disk.old) (D.outside disk.new) (is_err result) }
         ensures cause { IfErr result (λ fault. fault ≡ FaultOfDisk) }
     {
-        let Filled { current } = self;
+        let Filled { current, next } = self;
         match put(disk, target(current).gate(), &[OPEN]) {
             Ok(()) => Ok(Steady {
-                current: Some(following(current)),
+                current: Some(next),
             }),
             Err(Failed) => Err(StoreFault::DiskFault),
         }

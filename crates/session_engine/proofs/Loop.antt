@@ -11,12 +11,8 @@ use Rattle.sm_world.proofs.Adding.{adds-adds, adds-none}
 use Rattle.checkpoint_records.specs.Rules.{KeepsRules}
 use Rattle.checkpoint_records.specs.declared.records.Book.{Book}
 use Rattle.checkpoint_slots.specs.Causes.{IsRecoveryFault, IsSettled}
-use Rattle.checkpoint_records.specs.Books.{empty_book}
-use Rattle.checkpoint_records.specs.Damage.{StandFor}
-use Rattle.checkpoint_slots.specs.Layout.{is_gate_open, slot_of, start_of}
-use Rattle.checkpoint_slots.specs.declared.layout.Slot.{Slot}
-use Rattle.checkpoint_slots.specs.Recovery.{BookAt, Recovers, SlotStands, StandsBy, chosen, length_of, may_be_length, with_gate}
-use Rattle.checkpoint_slots.proofs.Looking.{rules-empty}
+use Rattle.checkpoint_slots.specs.Recovery.{Recovers}
+use Rattle.checkpoint_slots.proofs.Leading.{book-rules}
 use Rattle.checkpoint_slots.specs.Turns.{SteadyFile, SteadyStands}
 use Rattle.checkpoint_slots.specs.declared.fault.StoreFault.{StoreFault}
 use Rattle.checkpoint_slots.specs.declared.fault.StoreFault.TheVariants.{WrongSize as HasWrongSize, Damaged as IsDamaged, DiskFault as FailsOnDisk, Worn as IsWorn, NoMemory as LacksMemory}
@@ -340,32 +336,6 @@ unopened_cuts outside size Worn cause e = false≢true e
 unopened_cuts outside size Spent cause e = cause
 unopened_cuts outside size NoMemory cause e = false≢true e
 
--- a book that a file stands for keeps the rules
-gated_rules : (at n : ℕ) (opened : Bool) (bytes : List ℕ) (inner : Result Book ℕ) (book : Book) → StandFor bytes inner → Ok book ≡ with_gate at n opened inner → KeepsRules book
-gated_rules at n opened bytes (Err damage) book inside is = absurd cc
-gated_rules at n true bytes (Ok other) book inside is = absurd cc
-gated_rules at n false bytes (Ok other) book inside is = subst (λ (b : Book). KeepsRules b) (sym (the_book book other is)) inside.rules where
-  the_book : (one two : Book) → ◌≡◌ {A = Result Book ℕ} (Ok one) (Ok two) → one ≡ two
-  the_book one two e = cc
-
-placed_rules : (may : Bool) (at n : ℕ) (bytes : List ℕ) (book : Book) → BookAt may at n bytes (Ok book) → KeepsRules book
-placed_rules false at n bytes book is = absurd cc
-placed_rules true at n bytes book is = gated_rules (at + 16) n (is_gate_open (slice_index bytes n)) (take n bytes) is.0 book is.1 is.2
-
-slot_rules : (at : ℕ) (slot : List ℕ) (book : Book) → SlotStands at slot (Ok book) → KeepsRules book
-unfolding SlotStands
-slot_rules at slot book is = placed_rules (may_be_length (length_of slot)) at (length_of slot) (drop 16 slot) book is
-
-chosen_rules : (file : List ℕ) (choice : Result (Option Slot) ℕ) (book : Book) → StandsBy file choice (Ok book) → KeepsRules book
-chosen_rules file (Ok None) book is = rules-empty book (empty book is) where
-  empty : (b : Book) → ◌≡◌ {A = Result Book ℕ} (Ok b) (Ok empty_book) → b ≡ empty_book
-  empty b e = cc
-chosen_rules file (Ok (Some slot)) book is = slot_rules (start_of slot) (slot_of file slot) book is
-chosen_rules file (Err at) book is = absurd cc
-
-book_rules : (file : List ℕ) (book : Book) → Recovers file (Ok book) → KeepsRules book
-book_rules file book recovers = chosen_rules file (chosen file) book recovers
-
 -- where nothing was done the file is as it was
 word_unopened : (cookie : Cookie) (book : Book) (file : List ℕ) (old new : Outside) (fault : ServeFault) → Recovers file (Ok book) → Rests old new fault → Added old.told new.told (KeepsItsWord cookie book file (Err fault))
 word_unopened cookie book file old new fault recovers rests = record {
@@ -402,7 +372,7 @@ word_unopened cookie book file old new fault recovers rests = record {
       opens = inr refl;
       leaves = λ left image. inl (subst (λ (f : List ℕ). Recovers f (Ok book)) (sym (only-file file left image)) recovers);
     };
-    rules = book_rules file book recovers;
+    rules = book-rules file book recovers;
   };
 }
 

@@ -16,6 +16,7 @@ use Rattle.checkpoint_records.specs.declared.records.Book.{Book}
 use Rattle.checkpoint_slots.specs.Recovery.{Recovers}
 use Rattle.checkpoint_slots.specs.Turns.{SteadyStands, next_generation, opened_by, opened_in}
 use Rattle.checkpoint_slots.specs.declared.turn.Current.{Current}
+use Rattle.checkpoint_journal.proofs.Swapping.{fronts_two, opened_in-append}
 use Rattle.session_engine.specs.Acts.{book_after, book_with, commits_in, deed_in, deeds_in}
 use Rattle.session_engine.specs.Causes.{IsNotWorn, fault_of}
 use Rattle.session_engine.specs.Doing.{CarriesOut, Going}
@@ -39,10 +40,6 @@ book_after-append b (x ∷ xs) ys = book_after-append (book_with b x) xs ys
 pub commits_in-append : (xs ys : List Act) → commits_in (xs ++ ys) ≡ commits_in xs + commits_in ys
 commits_in-append [] ys = omega arith
 commits_in-append (x ∷ xs) ys = omega (arith, commits_in-append xs ys)
-
-pub opened_in-append : (es ds : List Effect) → opened_in (es ++ ds) ≡ opened_in es + opened_in ds
-opened_in-append [] ds = omega arith
-opened_in-append (e ∷ es) ds = omega (arith, opened_in-append es ds)
 
 -- an effect that leaves the store opens no gate
 unopened : (effect : Effect) → LeavesStore effect → opened_by effect ≡ 0
@@ -76,15 +73,6 @@ saved_behind b xs ys done file saved = record {
   same = flat_map-append deed_in xs saved.front ∙ ap (λ ds. deeds_in xs ++ ds) saved.same;
   recovers = rw (book_after-append b xs saved.front) saved.recovers;
 }
-
--- A fact about each front of two lists of effects.
-pub fronts_two : (P : List Effect → Type 0) (es ds : List Effect) → ((n : ℕ) → P (take n es)) → ((n : ℕ) → P (es ++ take n ds)) → (n : ℕ) → P (take n (es ++ ds))
-fronts_two P es ds before after n = elim (cases_lt n (length es)) [
-  | inl h ↦ let within : n ≤ length es = omega arith in rw (take-append-le n es ds within) (before n)
-  | inr h ↦ let place : length es + (n - length es) ≡ n = omega arith in
-      let Q : ℕ → Type 0 = λ k. P (take k (es ++ ds)) in
-      subst Q place (rw (take-append-add es ds (n - length es)) (after (n - length es)))
-]
 
 pub ok_map : {A E : Type 0} (P Q : A → Type 0) (r : Result A E) → ((x : A) → P x → Q x) → IfOk r P → IfOk r Q
 ok_map P Q (Ok x) f p = f x p

@@ -29,7 +29,8 @@ use Rattle.session_engine.specs.declared.fault.ServeFault.TheVariants.{Damaged, 
 use Rattle.session_engine.specs.declared.session.Session.{Session}
 use Rattle.session_engine.proofs.Opening.{opened_unfinished}
 use Rattle.session_engine.proofs.Settling.{settle_more}
-use Rattle.session_engine.proofs.Performing.{book_after-append, commits_in-append, numbered_then, opened_in-append, saved_behind, stands_quiet, stops_behind, whole_done}
+use Rattle.checkpoint_journal.proofs.Swapping.{opened_in-append}
+use Rattle.session_engine.proofs.Performing.{book_after-append, commits_in-append, numbered_then, saved_behind, stands_quiet, stops_behind, whole_done}
 use Rattle.session_engine.proofs.Running as of
 
 -- a halt cuts the run short

@@ -9,6 +9,7 @@ use Rattle.sm_world.specs.declared.events.Event.{Event}
 use Rattle.sm_world.specs.declared.effects.Effect.TheVariants.{Heard, Sent, Shut, Started, Wrote, Torn, Synced, SyncFailed, Published, Printed}
 use Rattle.sm_world.proofs.Cells.{cell_from-append, cell_of-more, place, quiet_cells, wrote_inside, wrote_outside}
 use Rattle.checkpoint_slots.specs.Causes.{IsSettled}
+use Rattle.checkpoint_journal.specs.Writing.{all_put}
 use Rattle.session_engine.specs.Carries.{IsReady}
 use Rattle.session_engine.specs.Settled.{NoneInDoubt, Settle}
 
@@ -54,7 +55,7 @@ put_left : (n new old other : ℕ) (cell : Cell) (inside : Bool) → cell.reads 
 put_left n new old other cell true reads is = equal_byte other new is
 put_left n new old other cell false reads is = equal_byte other old (rw reads at is)
 
-pub settle_put : (at : ℕ) (bytes : List ℕ) → Settle (Wrote at bytes ∷ Synced ∷ [])
+settle_put : (at : ℕ) (bytes : List ℕ) → Settle (Wrote at bytes ∷ Synced ∷ [])
 settle_put at bytes first before none =
     let cell : ℕ → Cell = λ i. cell_of first before i in
     let inside : ℕ → Bool = λ i. covers at (length bytes) i in
@@ -192,9 +193,10 @@ is_ready file old new effects is first added settle =
       };
     }
 
--- effects of a call that writes these bytes and syncs them
-pub settle_by : (at : ℕ) (bytes : List ℕ) (es : List Effect) → es ≡ Wrote at bytes ∷ Synced ∷ [] → Settle es
-settle_by at bytes es is = rw is (settle_put at bytes)
+-- all of some puts
+pub settle_all : (puts : List (ℕ × List ℕ)) → Settle (all_put puts)
+settle_all [] = settle_none
+settle_all (put ∷ puts) = settle_then (Wrote put.0 put.1 ∷ Synced ∷ []) (all_put puts) (settle_put put.0 put.1) (settle_all puts)
 
 -- what was done about one event more
 pub settle_more : (es ds : List Effect) (event : Event) → Settle es → Settle ds → Settle (es ++ Heard event ∷ ds)

@@ -1,19 +1,23 @@
 -- A commit: its effects are the store's, and swap the old checkpoint for the new one.
 use Rattle.std.proofs.Common.{◌≡◌, ◌⊎◌, inl, inr, arith, ℕ, ◌<◌, ◌≤◌, ◌^◌, zero, suc, List, [], ◌∷◌, ◌++◌, length, take, Option, Some, Result, Ok, Err, refl, sym, ◌∙◌, ap, subst, append_assoc}
 use Rattle.std.proofs.lemmas.List.{append-nil, take_all}
-use Rattle.std.proofs.lemmas.Bool.{cases_lt, false≢true}
+use Rattle.std.proofs.lemmas.Bool.{false≢true}
 use Rattle.std.specs.List.{AllByRecursion}
 use Rattle.sm_world.specs.Crash.{Image}
 use Rattle.sm_world.specs.Effects.{deeds, heard, published}
 use Rattle.sm_world.specs.Outside.{Added, adds}
 use Rattle.sm_world.specs.declared.effects.Effect.{Effect}
 use Rattle.sm_world.specs.declared.effects.Effect.TheVariants.{Heard, Sent, Shut, Started, Wrote, Torn, Synced, SyncFailed, Published, Printed}
-use Rattle.sm_world.proofs.Adding.{adds-adds, adds-none}
+use Rattle.sm_world.proofs.Adding.{adds-none}
 use Rattle.checkpoint_records.specs.declared.records.Book.{Book}
 use Rattle.checkpoint_slots.specs.Causes.{IsSpellFault}
-use Rattle.checkpoint_slots.specs.Layout.{gate_at, start_of}
 use Rattle.checkpoint_slots.specs.Recovery.{Recovers, slot_bytes}
-use Rattle.checkpoint_slots.specs.Turns.{Closes, FilledStands, Fills, IsNext, IsOfStore, Lifts, SteadyStands, next_generation, target}
+use Rattle.checkpoint_slots.specs.Turns.{Closes, Fills, IsNext, IsOfStore, Lifts, SteadyStands, following, next_generation}
+use Rattle.checkpoint_slots.proofs.Turning.{added-by}
+use Rattle.checkpoint_journal.specs.Journal.{Compacted, body_puts}
+use Rattle.checkpoint_journal.proofs.Appended.{compacted-unclosed, compacted-unfilled, compacted-whole}
+use Rattle.checkpoint_journal.proofs.Swapping.{any_front}
+use Rattle.checkpoint_journal.proofs.Written.{added-three, added-two}
 use Rattle.checkpoint_slots.specs.declared.fault.StoreFault.{StoreFault}
 use Rattle.checkpoint_slots.specs.declared.fault.StoreFault.TheVariants.{WrongSize, Damaged, DiskFault, Worn as IsWorn, NoMemory}
 use Rattle.checkpoint_slots.specs.declared.turn.Current.{Current}
@@ -25,8 +29,8 @@ use Rattle.session_engine.specs.declared.acts.Act.TheVariants.{Commit}
 use Rattle.session_engine.specs.declared.fault.ServeFault.TheVariants.{DiskFault as FailsOnDisk}
 use Rattle.session_engine.specs.declared.fault.Halt.TheVariants.{Disk}
 use Rattle.session_engine.proofs.Adding.{still}
-use Rattle.session_engine.proofs.Performing.{fronts_two, none_numbered, opened_in-append, performs_none, saved_still}
-use Rattle.session_engine.proofs.Settling.{settle_by, settle_none, settle_then}
+use Rattle.session_engine.proofs.Performing.{none_numbered, performs_none, saved_still}
+use Rattle.session_engine.proofs.Settling.{settle_all, settle_none}
 
 -- Effects of the store alone, at each of which every file that a crash may leave has the old checkpoint or the new one.
 pub record Swaps (current : Option Current) (book : Book) (es : List Effect) : Type 0 where
@@ -58,44 +62,11 @@ store_front zero es store = tt
 store_front (suc n) [] store = tt
 store_front (suc n) (e ∷ es) store = (store.0, store_front n es store.1)
 
-store_both : (es ds : List Effect) → AllByRecursion IsOfStore es → AllByRecursion IsOfStore ds → AllByRecursion IsOfStore (es ++ ds)
-store_both [] ds one two = two
-store_both (e ∷ es) ds one two = (one.0, store_both es ds one.1 two)
-
--- fronts past the end are the whole
-any_front : (P : List Effect → Type 0) (es : List Effect) → ((n : ℕ) → n ≤ length es → P (take n es)) → (n : ℕ) → P (take n es)
-any_front P es short n = elim (cases_lt (length es) n) [
-  | inl h ↦ subst P (take_all (length es) es (omega arith) ∙ sym (take_all n es (omega arith))) (short (length es) (omega arith))
-  | inr h ↦ short n h
-]
-
-pub swaps_close : (current : Option Current) (book : Book) (answer : Result (Option Current) StoreFault) (cs : List Effect) → Closes current answer cs → Swaps current book cs
-swaps_close current book answer cs closes = record {
-  store = closes.store;
-  either = λ first before opening stands. any_front (λ zs. (file : List ℕ) → Image first (before ++ zs) file → Recovers file (Ok opening) ⊎ Recovers file (Ok book)) cs (closes.swap first before opening book stands);
-}
-
-pub swaps_fill : (current : Option Current) (book : Book) (body : List ℕ) (answer : Result (Option Current) StoreFault) (cs fs : List Effect) → IsNext current book → body ≡ slot_bytes (next_generation current) book → Closes current (Ok current) cs → Fills current body answer fs → Swaps current book (cs ++ fs)
-swaps_fill current book body answer cs fs is_next is_body closes fills = record {
-  store = store_both cs fs closes.store fills.store;
-  either = λ first before opening stands. fronts_two (λ zs. (file : List ℕ) → Image first (before ++ zs) file → Recovers file (Ok opening) ⊎ Recovers file (Ok book)) cs fs
-      ((swaps_close current book (Ok current) cs closes).either first before opening stands)
-      (any_front (λ zs. (file : List ℕ) → Image first (before ++ (cs ++ zs)) file → Recovers file (Ok opening) ⊎ Recovers file (Ok book)) fs (λ n within file image.
-      fills.swap first (before ++ cs) opening book (closes.turn first before opening stands) is_next is_body n within file (rw (sym (append_assoc before cs (take n fs))) at image)));
-}
-
--- what stands once the slot is filled
-filled_stands : (current : Option Current) (book : Book) (body : List ℕ) (cs fs : List Effect) → IsNext current book → body ≡ slot_bytes (next_generation current) book → Closes current (Ok current) cs → Fills current body (Ok current) fs → (first : List ℕ) (before : List Effect) (opening : Book) → SteadyStands current opening first before → FilledStands current opening book first (before ++ (cs ++ fs))
-filled_stands current book body cs fs is_next is_body closes fills first before opening stands =
-    rw (sym (append_assoc before cs fs)) (fills.turn first (before ++ cs) opening book (closes.turn first before opening stands) is_next is_body)
-
-pub swaps_lift : (current : Option Current) (book : Book) (body : List ℕ) (answer : Result (Option Current) StoreFault) (cs fs ls : List Effect) → IsNext current book → body ≡ slot_bytes (next_generation current) book → Closes current (Ok current) cs → Fills current body (Ok current) fs → Lifts current answer ls → Swaps current book ((cs ++ fs) ++ ls)
-swaps_lift current book body answer cs fs ls is_next is_body closes fills lifts = record {
-  store = store_both (cs ++ fs) ls (store_both cs fs closes.store fills.store) lifts.store;
-  either = λ first before opening stands. fronts_two (λ zs. (file : List ℕ) → Image first (before ++ zs) file → Recovers file (Ok opening) ⊎ Recovers file (Ok book)) (cs ++ fs) ls
-      ((swaps_fill current book body (Ok current) cs fs is_next is_body closes fills).either first before opening stands)
-      (any_front (λ zs. (file : List ℕ) → Image first (before ++ ((cs ++ fs) ++ zs)) file → Recovers file (Ok opening) ⊎ Recovers file (Ok book)) ls (λ n within file image.
-      lifts.swap first (before ++ (cs ++ fs)) opening book (filled_stands current book body cs fs is_next is_body closes fills first before opening stands) n within file (rw (sym (append_assoc before (cs ++ fs) (take n ls))) at image)));
+-- A compaction, as far as it came
+pub swaps_of : (current : Option Current) (book : Book) (body : List ℕ) (answer : Result (Option Current) StoreFault) (es : List Effect) → IsNext current book → body ≡ slot_bytes (next_generation current) book → Compacted current body answer es → Swaps current book es
+swaps_of current book body answer es is_next is_body did = record {
+  store = did.store;
+  either = λ first before opening stands. any_front (λ zs. (file : List ℕ) → Image first (before ++ zs) file → Recovers file (Ok opening) ⊎ Recovers file (Ok book)) es (did.swap first before opening book stands is_next is_body);
 }
 
 -- either checkpoint stands behind a front of the commit, none of which is a deed
@@ -141,25 +112,23 @@ performs_refused current book es fits swaps =
     }
 
 -- a commit that stands in the store
-pub performs_commit : (current next : Option Current) (book : Book) (body : List ℕ) (cs fs ls : List Effect) → IsNext current book → body ≡ slot_bytes (next_generation current) book → Closes current (Ok current) cs → Fills current body (Ok current) fs → Lifts current (Ok next) ls → next ≡ Some (record { slot = target current; generation = next_generation current }) → Performs current (Commit book ∷ []) (Ok next) ((cs ++ fs) ++ ls)
-performs_commit current next book body cs fs ls is_next is_body closes fills lifts is =
-    let swaps = swaps_lift current book body (Ok next) cs fs ls is_next is_body closes fills lifts in
-    let s = silent ((cs ++ fs) ++ ls) swaps.store in
+pub performs_commit : (current next : Option Current) (book : Book) (body : List ℕ) (es : List Effect) → IsNext current book → body ≡ slot_bytes (next_generation current) book → Compacted current body (Ok next) es → Performs current (Commit book ∷ []) (Ok next) es
+performs_commit current next book body es is_next is_body did =
+    let swaps = swaps_of current book body (Ok next) es is_next is_body did in
+    let s = silent es swaps.store in
     record {
       out = record {
         left = [];
         going = record { deaf = s.deaf; quiet = s.quiet; done = Commit book ∷ []; parts = refl; so_far = s.still; in_order = rw (s.still) s.hidden };
         none_left = λ e. refl;
       };
-      saves = saves_swap current book ((cs ++ fs) ++ ls) swaps;
-      leaves = λ first before opening stands. rw (sym (append_assoc before (cs ++ fs) ls)) (lifts.turn first (before ++ (cs ++ fs)) opening book (filled_stands current book body cs fs is_next is_body closes fills first before opening stands));
-      counts = rw is (omega arith);
-      opens = omega (arith, opened_in-append (cs ++ fs) ls, opened_in-append cs fs, closes.opens, fills.opens book is_body, lifts.opens);
+      saves = saves_swap current book es swaps;
+      leaves = λ first before opening stands. did.turn first before opening book stands is_next is_body;
+      counts = rw (did.next is_next.generation) (omega arith);
+      opens = did.opens book is_body;
       worn = λ e. absurd cc;
       numbered = λ e. omega (arith, is_next.generation);
-      settles = λ not. settle_then (cs ++ fs) ls
-          (settle_then cs fs (settle_by (gate_at (target current)) (0 ∷ []) cs closes.puts) (settle_by (start_of (target current)) body fs fills.puts))
-          (settle_by (gate_at (target current)) (165 ∷ []) ls lifts.puts);
+      settles = λ not. rw did.puts (settle_all (body_puts current body));
       stopped = tt;
     }
 
@@ -196,34 +165,19 @@ told_unspelled current book IsWorn old cause = record {
 }
 told_unspelled current book NoMemory old cause = record { effects = []; added = sym (adds-none old); holds = performs_none current (Commit book ∷ []) (commit_halt_of NoMemory) tt tt (none_numbered current) }
 
-two_added : (old middle new : Option (List Effect)) (es ds : List Effect) → middle ≡ adds old es → new ≡ adds middle ds → new ≡ adds old (es ++ ds)
-two_added old middle new es ds one two = two ∙ (ap (λ t. adds t ds) one ∙ adds-adds old es ds)
-
-pub told_unclosed : (current : Option Current) (book : Book) (fault : StoreFault) (old new : Option (List Effect)) → next_generation current < 2 ^ 64 → fault ≡ DiskFault → Added old new (Closes current (Err fault)) → Added old new (Performs current (Commit book ∷ []) (Err (commit_halt_of fault)))
-told_unclosed current book fault old new fits is closes =
-    rw is (record { effects = closes.effects; added = closes.added; holds = performs_refused current book closes.effects fits (swaps_close current book (Err fault) closes.effects closes.holds) })
+pub told_unclosed : (current : Option Current) (book : Book) (body : List ℕ) (fault : StoreFault) (old new : Option (List Effect)) → IsNext current book → body ≡ slot_bytes (next_generation current) book → fault ≡ DiskFault → Added old new (Closes current (Err fault)) → Added old new (Performs current (Commit book ∷ []) (Err (commit_halt_of fault)))
+told_unclosed current book body fault old new is_next is_body is closes =
+    rw is (added-by (λ es did. performs_refused current book es is_next.generation (swaps_of current book body (Err fault) es is_next is_body (compacted-unclosed current body fault es did))) closes)
 
 pub told_unfilled : (current closed : Option Current) (book : Book) (body : List ℕ) (fault : StoreFault) (old middle new : Option (List Effect)) → IsNext current book → body ≡ slot_bytes (next_generation current) book → closed ≡ current → fault ≡ DiskFault → Added old middle (Closes current (Ok closed)) → Added middle new (Fills closed body (Err fault)) → Added old new (Performs current (Commit book ∷ []) (Err (commit_halt_of fault)))
 told_unfilled current closed book body fault old middle new is_next is_body same is closes fills =
-    rw is (record {
-      effects = closes.effects ++ fills.effects;
-      added = two_added old middle new closes.effects fills.effects closes.added fills.added;
-      holds = performs_refused current book (closes.effects ++ fills.effects) is_next.generation (swaps_fill current book body (Err fault) closes.effects fills.effects is_next is_body (rw same at closes.holds) (rw same at fills.holds));
-    })
+    rw is (added-two (λ cs fs one two. performs_refused current book (cs ++ fs) is_next.generation (swaps_of current book body (Err fault) (cs ++ fs) is_next is_body (compacted-unfilled current closed body fault cs fs same one two))) closes fills)
 
-pub told_unlifted : (current closed filled : Option Current) (book : Book) (body : List ℕ) (fault : StoreFault) (old middle late new : Option (List Effect)) → IsNext current book → body ≡ slot_bytes (next_generation current) book → closed ≡ current → filled ≡ closed → fault ≡ DiskFault → Added old middle (Closes current (Ok closed)) → Added middle late (Fills closed body (Ok filled)) → Added late new (Lifts filled (Err fault)) → Added old new (Performs current (Commit book ∷ []) (Err (commit_halt_of fault)))
-told_unlifted current closed filled book body fault old middle late new is_next is_body same again is closes fills lifts =
-    rw is (record {
-      effects = (closes.effects ++ fills.effects) ++ lifts.effects;
-      added = two_added old late new (closes.effects ++ fills.effects) lifts.effects (two_added old middle late closes.effects fills.effects closes.added fills.added) lifts.added;
-      holds = performs_refused current book ((closes.effects ++ fills.effects) ++ lifts.effects) is_next.generation
-          (swaps_lift current book body (Err fault) closes.effects fills.effects lifts.effects is_next is_body (rw same at closes.holds) (rw (again, same) at fills.holds) (rw (again, same) at lifts.holds));
-    })
+module _ (current closed : Option Current) (filled : Option Current × Current) (book : Book) (body : List ℕ) (is_next : IsNext current book) (is_body : body ≡ slot_bytes (next_generation current) book) (same : closed ≡ current) (again : filled.0 ≡ closed) (follows : next_generation closed < 2 ^ 64 → filled.1 ≡ following closed (length body)) where
+  pub told_unlifted : (fault : StoreFault) (old middle late new : Option (List Effect)) → fault ≡ DiskFault → Added old middle (Closes current (Ok closed)) → Added middle late (Fills closed body (Ok filled)) → Added late new (Lifts filled (Err fault)) → Added old new (Performs current (Commit book ∷ []) (Err (commit_halt_of fault)))
+  told_unlifted fault old middle late new is closes fills lifts =
+      rw is (added-three (λ cs fs ls one two three. performs_refused current book (cs ++ (fs ++ ls)) is_next.generation (swaps_of current book body (Err fault) (cs ++ (fs ++ ls)) is_next is_body (compacted-whole current closed filled body (Err fault) cs fs ls same again follows tt one two three))) closes fills lifts)
 
-pub told_commit : (current closed filled next : Option Current) (book : Book) (body : List ℕ) (old middle late new : Option (List Effect)) → IsNext current book → body ≡ slot_bytes (next_generation current) book → closed ≡ current → filled ≡ closed → (next_generation filled < 2 ^ 64 → next ≡ Some (record { slot = target filled; generation = next_generation filled })) → Added old middle (Closes current (Ok closed)) → Added middle late (Fills closed body (Ok filled)) → Added late new (Lifts filled (Ok next)) → Added old new (Performs current (Commit book ∷ []) (Ok next))
-told_commit current closed filled next book body old middle late new is_next is_body same again is closes fills lifts = record {
-  effects = (closes.effects ++ fills.effects) ++ lifts.effects;
-  added = two_added old late new (closes.effects ++ fills.effects) lifts.effects (two_added old middle late closes.effects fills.effects closes.added fills.added) lifts.added;
-  holds = performs_commit current next book body closes.effects fills.effects lifts.effects is_next is_body (rw same at closes.holds) (rw (again, same) at fills.holds) (rw (again, same) at lifts.holds)
-      ((rw (again, same) at is) is_next.generation);
-}
+  pub told_commit : (next : Option Current) (old middle late new : Option (List Effect)) → next ≡ Some filled.1 → Added old middle (Closes current (Ok closed)) → Added middle late (Fills closed body (Ok filled)) → Added late new (Lifts filled (Ok next)) → Added old new (Performs current (Commit book ∷ []) (Ok next))
+  told_commit next old middle late new opened closes fills lifts =
+      added-three (λ cs fs ls one two three. performs_commit current next book body (cs ++ (fs ++ ls)) is_next is_body (compacted-whole current closed filled body (Ok next) cs fs ls same again follows opened one two three)) closes fills lifts

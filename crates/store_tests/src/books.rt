@@ -37,7 +37,8 @@ fn command_shown(alloc: Global, command: &Command) -> Result<String, Fail> {
     Ok(text)
 }
 
-fn book_shown(alloc: Global, book: &Book) -> Result<String, Fail> {
+/// The epoch and the parts of a book.
+pub fn book_shown(alloc: Global, book: &Book) -> Result<String, Fail> {
     let mut text = text_of(alloc, &book.epoch)?;
     text.push(' ')?;
     for entry in book.entries.as_slice() {

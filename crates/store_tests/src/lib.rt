@@ -2,7 +2,11 @@
 #![tactic(auto)]
 
 #[cfg(test)]
+mod amendments;
+#[cfg(test)]
 mod books;
+#[cfg(test)]
+mod journal;
 #[cfg(test)]
 mod properties;
 #[cfg(test)]

@@ -23,14 +23,14 @@ const CHOICES: [Choice; 5] = [
 ];
 
 /// A store that nothing was written to: its bytes are 0.
-fn blank_store(alloc: Global) -> Result<Octets, NoMemory>
+pub fn blank_store(alloc: Global) -> Result<Octets, NoMemory>
     ensures { IfOk result (λ store. length store ≡ 16777280) }
 {
     Ok(Octets::from_vec(vec![in alloc; 0; STORE_LEN]?))
 }
 
 /// A blank store with these bytes at a place.
-fn store_with(alloc: Global, parts: &[(usize, &[u8])]) -> Result<Octets, NoMemory>
+pub fn store_with(alloc: Global, parts: &[(usize, &[u8])]) -> Result<Octets, NoMemory>
     ensures { IfOk result (λ store. length store ≡ 16777280) }
 {
     let mut store = blank_store(alloc)?;
@@ -46,7 +46,7 @@ fn store_with(alloc: Global, parts: &[(usize, &[u8])]) -> Result<Octets, NoMemor
 }
 
 /// A world with this store, in which the calls of these numbers fail.
-fn world_of(alloc: Global, store: Octets, failing: &[u64]) -> Result<MemWorld, NoMemory>
+pub fn world_of(alloc: Global, store: Octets, failing: &[u64]) -> Result<MemWorld, NoMemory>
     ensures { IfOk result (λ world. (mem_outside world).size ≡ length store) }
 {
     let mut numbers = NumberList::new(alloc);
@@ -63,14 +63,14 @@ fn world_of(alloc: Global, store: Octets, failing: &[u64]) -> Result<MemWorld, N
 }
 
 /// A book without entries, of an epoch below 256.
-fn book_of(alloc: Global, epoch: u8) -> Result<Book, BookRefusal>
+pub fn book_of(alloc: Global, epoch: u8) -> Result<Book, BookRefusal>
     ensures { IfOk result (λ book. KeepsRules book) }
 {
     read_book(alloc, &[1, 0, 0, 0, epoch, 0, 0, 0, 0, 0, 0, 0, 0, 0, 0, 0])
 }
 
 /// The epoch of the book that the store has.
-fn epoch_in<D: Disk>(alloc: Global, disk: &mut D) -> Result<u32, StoreFault> {
+pub fn epoch_in<D: Disk>(alloc: Global, disk: &mut D) -> Result<u32, StoreFault> {
     let (_, book) = Steady::recover_from(alloc, disk)?;
     Ok(book.epoch)
 }
@@ -90,14 +90,14 @@ fn commit<D: Disk>(alloc: Global, disk: &mut D, epoch: u8) -> Result<Steady, Sto
     filled.lift(disk)
 }
 
-fn is_write(effect: &Effect, at: u64, bytes: &[u8]) -> bool {
+pub fn is_write(effect: &Effect, at: u64, bytes: &[u8]) -> bool {
     match effect {
         Effect::Wrote(place, written) => *place == at && written.as_slice() == bytes,
         _ => false,
     }
 }
 
-fn is_sync(effect: &Effect) -> bool {
+pub fn is_sync(effect: &Effect) -> bool {
     match effect {
         Effect::Synced => true,
         _ => false,
@@ -105,7 +105,7 @@ fn is_sync(effect: &Effect) -> bool {
 }
 
 /// The slot of the first commit: generation 1, sixteen bytes of book, the book of epoch 1, zeros.
-const FIRST_BODY: [u8; 40] = [
+pub const FIRST_BODY: [u8; 40] = [
     1, 0, 0, 0, 0, 0, 0, 0, 16, 0, 0, 0, 0, 0, 0, 0, 1, 0, 0, 0, 1, 0, 0, 0, 0, 0, 0, 0, 0, 0, 0,
     0, 0, 0, 0, 0, 0, 0, 0, 0,
 ];
@@ -128,7 +128,7 @@ fn a_commit_closes_fills_and_lifts(rt: HostRuntime) -> Result<(), Fail> {
 }
 
 /// The epochs that recovery finds after a crash, by each choice.
-fn epochs_left(
+pub fn epochs_left(
     rt: &impl Alloc<A = Global>,
     world: &MemWorld,
     first: usize,
@@ -180,7 +180,7 @@ fn recovered(alloc: Global, store: Octets) -> Result<Result<u32, StoreFault>, No
     Ok(epoch_in(alloc, &mut world))
 }
 
-const OPEN_GATE: (usize, &[u8]) = (0, &[0xa5]);
+pub const OPEN_GATE: (usize, &[u8]) = (0, &[0xa5]);
 
 /// The head of a slot of the last generation, and a book of epoch 1.
 const LAST_SLOT: [u8; 24] = [
@@ -200,9 +200,9 @@ fn a_store_is_damaged_at_its_place(rt: HostRuntime) -> Result<(), Fail> {
         recovered(alloc, odd_length)?,
         Err(StoreFault::Damaged { at: 72 })
     );
-    let gate_behind = store_with(alloc, &[OPEN_GATE, (64, &FIRST_BODY), (96, &[0xa5])])?;
+    let no_amendment = store_with(alloc, &[OPEN_GATE, (64, &FIRST_BODY), (96, &[0xa5, 1])])?;
     assert_eq!(rt;
-        recovered(alloc, gate_behind)?,
+        recovered(alloc, no_amendment)?,
         Err(StoreFault::Damaged { at: 96 })
     );
     let equal = store_with(alloc, &[OPEN_GATE, (32, &[0xa5])])?;
@@ -238,7 +238,7 @@ fn a_store_wears_out(rt: HostRuntime) -> Result<(), Fail> {
 }
 
 /// The byte of the store at this place.
-fn byte_at(world: &MemWorld, at: usize) -> Option<u8> {
+pub fn byte_at(world: &MemWorld, at: usize) -> Option<u8> {
     world.file().get(at).copied()
 }
 

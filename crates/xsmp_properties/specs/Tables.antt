@@ -1,7 +1,8 @@
 -- What a client says of itself: a list of properties, in the order in which each name was first set.
-use Rattle.std.specs.Prelude.{ℕ, ◌<◌, Bool, not, cond, ◌⊎◌, List, [], ◌∷◌, length, map, flat_map, Option, find, filter}
+use Rattle.std.specs.Prelude.{ℕ, ◌<◌, Bool, not, cond, ◌&&◌, ◌⊎◌, List, [], ◌∷◌, length, map, flat_map, Option, find, filter}
 use Rattle.std.specs.List.{list_any, IsDistinct}
 use Rattle.std.specs.Str.{bytes_eq}
+use Rattle.std.specs.Cmp.Lexicographic.{pointwise}
 use Rattle.ice_values.specs.Properties.{property}
 use Rattle.ice_values.specs.declared.numbers.Endian.TheVariants.{Lsb}
 use Rattle.ice_values.specs.declared.property.Property.{Property}
@@ -25,6 +26,10 @@ without_names names items = filter (λ p. not (list_any (λ name. is_named name 
 
 abbrev pub find_property : List ℕ → List Property → Option Property
 find_property name items = find (is_named name) items
+
+-- properties that are equal in all that they hold
+abbrev pub equal_property : Property → Property → Bool
+equal_property p q = bytes_eq p.name q.name && bytes_eq p.kind q.kind && pointwise bytes_eq p.values q.values
 
 -- how many bytes spell the properties, which no byte order changes
 abbrev pub encoded_len : List Property → ℕ

@@ -12,4 +12,4 @@ pub use commands::{command_of, directory_of, environment_of, in_pairs, is_enviro
 pub use hints::{Hint, hint_of};
 pub use refusals::SetRefusal;
 pub use table::PropertyTable;
-pub use texts::{are_words, is_text};
+pub use texts::{are_words, is_text, same_texts};

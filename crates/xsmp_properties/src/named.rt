@@ -1,6 +1,8 @@
-ghost use Rattle.std.specs.Prelude.{◌≡◌, [], ◌∷◌, IfOk, OnOk, IsTrue, ◌↔◌, option_copied};
-ghost use Rattle.xsmp_properties.specs.Tables.{set_one, set_all, without_names, find_property, IsTableFull, AreNamesDistinct};
+ghost use Rattle.std.specs.Prelude.{◌≡◌, ◌<◌, ◌≤◌, [], ◌∷◌, IfOk, OnOk, IfNone, IfSome, IsTrue, ◌↔◌, option_copied};
+ghost use Rattle.std.specs.Cmp.Lexicographic.{pointwise};
+ghost use Rattle.xsmp_properties.specs.Tables.{set_one, set_all, without_names, find_property, encoded_len, equal_property as are_equal, IsTableFull, AreNamesDistinct};
 
+use crate::texts::same_texts;
 use ice_values::{Array8, Property, PropertyList, Spelled};
 use indexmap::IndexMap;
 use sm_world::{Duplicate, NoMemory};
@@ -10,6 +12,15 @@ use std::marker::Model;
 const NAME_LIMIT: usize = 128;
 
 const BYTE_LIMIT: usize = 16_384;
+
+/// Whether two properties are equal in all that they hold.
+fn equal_property(first: &Property, second: &Property) -> bool
+    ensures { result ≡ are_equal first.now second.now }
+{
+    first.name.as_slice() == second.name.as_slice()
+        && first.kind.as_slice() == second.kind.as_slice()
+        && same_texts(first.values.as_slice(), second.values.as_slice())
+}
 
 /// Properties of different names, in the order in which each name was first set, without a limit.
 #[derive(Drop)]
@@ -94,24 +105,42 @@ impl NamedProperties {
         Ok(list)
     }
 
+    /// How many bytes spell the properties. None where there are more than a client may say.
+    pub fn encoded_len(&self) -> Option<usize>
+        ensures none { IfNone result (16384 < encoded_len self.now) }
+        ensures some { IfSome result (λ n. (n ≡ encoded_len self.now) × (n ≤ 16384)) }
+    {
+        let mut total = 0;
+        for (_, property) in self.held.iter() {
+            total += property.size()?;
+            if total > BYTE_LIMIT {
+                return None;
+            }
+        }
+        Some(total)
+    }
+
     /// Whether these are more than a client may say.
     pub fn is_full(&self) -> bool
         ensures { IsTrue result ↔ IsTableFull self.now }
     {
-        if self.held.len() > NAME_LIMIT {
-            return true;
-        }
-        let mut total = 0;
+        self.held.len() > NAME_LIMIT || self.encoded_len().is_none()
+    }
+
+    /// Whether both hold equal properties in the same order.
+    pub fn is_same(&self, other: &NamedProperties) -> bool
+        ensures { result ≡ pointwise are_equal self.now other.now }
+    {
+        let mut others = other.held.iter();
         for (_, property) in self.held.iter() {
-            let Some(len) = property.size() else {
-                return true;
+            let Some((_, twin)) = others.next() else {
+                return false;
             };
-            total += len;
-            if total > BYTE_LIMIT {
-                return true;
+            if !equal_property(property, twin) {
+                return false;
             }
         }
-        false
+        others.next().is_none()
     }
 }
 

@@ -1,5 +1,6 @@
-ghost use Rattle.std.specs.Prelude.{◌≡◌, [], Err, IfOk, OnOk, OnErr, option_copied};
-ghost use Rattle.xsmp_properties.specs.Tables.{set_all, without_names, find_property, IsTableFull, AreNamesDistinct};
+ghost use Rattle.std.specs.Prelude.{◌≡◌, ◌≤◌, [], Err, IfOk, OnOk, OnErr, option_copied};
+ghost use Rattle.std.specs.Cmp.Lexicographic.{pointwise};
+ghost use Rattle.xsmp_properties.specs.Tables.{set_all, without_names, find_property, encoded_len, equal_property as are_equal, IsTableFull, AreNamesDistinct};
 ghost use Rattle.xsmp_properties.specs.declared.refusals.SetRefusal.TheVariants.{TableFull};
 
 use crate::SetRefusal;
@@ -78,6 +79,24 @@ impl PropertyTable {
         ensures limits { ¬ (IsTableFull self.now) }
     {
         self.named.list()
+    }
+
+    /// How many bytes spell the properties. This takes no memory.
+    pub fn encoded_len(&self) -> usize
+        ensures is { result ≡ encoded_len self.now }
+        ensures bound { result ≤ 16384 }
+    {
+        let Some(count) = self.named.encoded_len() else {
+            unreachable!()
+        };
+        count
+    }
+
+    /// Whether both tables hold equal properties in the same order. This takes no memory.
+    pub fn is_same(&self, other: &PropertyTable) -> bool
+        ensures { result ≡ pointwise are_equal self.now other.now }
+    {
+        self.named.is_same(&other.named)
     }
 }
 

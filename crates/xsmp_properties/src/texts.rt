@@ -1,6 +1,7 @@
 ghost use Rattle.std.specs.Prelude.{◌≡◌, option_copied};
 ghost use Rattle.std.specs.List.{list_all};
-ghost use Rattle.std.specs.Str.{is_utf8};
+ghost use Rattle.std.specs.Str.{bytes_eq, is_utf8};
+ghost use Rattle.std.specs.Cmp.Lexicographic.{pointwise};
 ghost use Rattle.xsmp_properties.specs.Readers.{values_of, is_text, is_variable, are_words};
 
 use crate::PropertyTable;
@@ -40,6 +41,23 @@ pub fn are_words(values: &[Array8]) -> bool
         return false;
     };
     !program.as_slice().is_empty() && are_texts(values)
+}
+
+/// Whether these are the same texts in the same order.
+pub fn same_texts(first: &[Array8], second: &[Array8]) -> bool
+    ensures { result ≡ pointwise bytes_eq first.now second.now }
+{
+    let mut left = second;
+    for text in first {
+        let [other, others @ ..] = left else {
+            return false;
+        };
+        if text.as_slice() != other.as_slice() {
+            return false;
+        }
+        left = others;
+    }
+    left.is_empty()
 }
 
 /// The values under a name, where they are of a kind.

@@ -8,9 +8,9 @@ use Rattle.checkpoint_slots.proofs.turn.Filled.lift.Goals as goal
 pub returns-in-Ok-clause-effects : goal.returns-in-Ok-clause-effects
 returns-in-Ok-clause-effects g c =
     let place : c.gate.result ≡ gate_at (target c.self.inside.current) = c.gate.ensures ∙ ap gate_at c.target.ensures in
-    rw (← c.self.view_is) (added-by (λ added p. lifts c.self.inside.current c.following.result added c.following.ensures (done-at (165 ∷ []) place p)) c.in-Ok.ensures.effects)
+    rw (← c.self.view_is) (added-by (λ added p. lifts (c.self.inside.current, c.self.inside.next) added (done-at (165 ∷ []) place p)) c.in-Ok.ensures.effects)
 
 pub returns-in-Err-clause-effects : goal.returns-in-Err-clause-effects
 returns-in-Err-clause-effects g c =
     let place : c.gate.result ≡ gate_at (target c.self.inside.current) = c.gate.ensures ∙ ap gate_at c.target.ensures in
-    rw (← c.self.view_is) (added-by (λ added p. lifts-not c.self.inside.current DiskFault added (put-at (165 ∷ []) place p)) c.in-Err.ensures.effects)
+    rw (← c.self.view_is) (added-by (λ added p. lifts-not (c.self.inside.current, c.self.inside.next) DiskFault added (put-at (165 ∷ []) place p)) c.in-Err.ensures.effects)

@@ -1,0 +1,13 @@
+pub mod WorkedBytes
+pub mod LengthLaws
+pub mod SpellLaws
+pub mod OnceLaws
+pub mod EqualLaws
+pub mod DeltaLaws
+pub mod PlainLaws
+pub mod DifferenceLaws
+pub mod RuleLaws
+pub mod ApplyLaws
+pub mod TakeLaws
+pub mod ReadLaws
+pub mod SlotLaws

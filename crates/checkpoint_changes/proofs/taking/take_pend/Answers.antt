@@ -1,0 +1,8 @@
+use Rattle.checkpoint_changes.proofs.TakeLaws.{no_pend, pend_found}
+use Rattle.checkpoint_changes.proofs.taking.take_pend.Goals as goal
+
+pub returns-in-Some : goal.returns-in-Some
+returns-in-Some c = pend_found c.args.bytes.now c.in-Some.command c.in-Some.rest.now (rw c.in-Some.is at c.in_ok-command.ensures)
+
+pub returns-in-None : goal.returns-in-None
+returns-in-None c = no_pend c.args.bytes.now (rw c.in-None.is at c.in_ok-command.ensures)

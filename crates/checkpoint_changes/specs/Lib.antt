@@ -1,0 +1,7 @@
+pub mod Changes
+pub mod Amendments
+pub mod Plain
+pub mod Laws
+pub mod Parts
+pub mod Taking
+pub mod Differences

@@ -1,0 +1,32 @@
+use checkpoint_records::Entry;
+use ice_values::Array8;
+use sm_world::{Command, ListOf};
+
+/// One change of a book.
+#[derive(Drop)]
+pub enum Change {
+    /// The manager has opened the book so often.
+    Epoch(u32),
+    /// The entry with this ID is taken out.
+    Remove(Array8),
+    /// This entry takes the place of the one with its ID. Where there is none it goes last.
+    Put(Entry),
+    /// The pending command at this place, counted from 0, is taken out.
+    Unpend(u32),
+    /// This pending command goes last.
+    Pend(Command),
+}
+
+/// Changes of a book, each made to what the one before it left.
+pub type Delta = ListOf<Change>;
+
+/// The CARD32 with which each change begins.
+pub(crate) const EPOCH: u32 = 1;
+
+pub(crate) const REMOVE: u32 = 2;
+
+pub(crate) const PUT: u32 = 3;
+
+pub(crate) const UNPEND: u32 = 4;
+
+pub(crate) const PEND: u32 = 5;

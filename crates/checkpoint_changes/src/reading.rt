@@ -1,0 +1,119 @@
+ghost use Rattle.std.specs.Prelude.{◌≡◌, ◌≤◌, ◌<◌, ◌^◌, ℕ, Option, Result, Ok, length, IfOk, IfErr};
+ghost use Rattle.std.specs.Option.{option_map};
+ghost use Rattle.checkpoint_records.specs.Damage.{Gives};
+ghost use Rattle.checkpoint_records.specs.Rules.{KeepsRules};
+ghost use Rattle.checkpoint_records.specs.declared.records.Book.{Book as AnyBook};
+ghost use Rattle.checkpoint_changes.specs.Amendments.{ReadsOn, StopsAt, SlotReads, HasCause, IsSlotRefused, is_at_end};
+ghost use Rattle.checkpoint_changes.specs.Changes.{IsChange, change_cells};
+ghost use Rattle.checkpoint_changes.specs.Parts.{HasParts};
+ghost use Rattle.checkpoint_changes.specs.Taking.{AppliesAll, TakesAmendment};
+
+use crate::applying::applied;
+use crate::rules::keeps_rules;
+use crate::taking::{OPEN, take_change, take_delta};
+use checkpoint_records::{Book, BookRefusal, read_book};
+use sm_world::NoMemory;
+use std::alloc::Global;
+
+/// Whether amendments end here: there is no room for one, or its gate isn't open.
+fn is_at_end(bytes: &[u8]) -> bool
+    ensures { result ≡ is_at_end bytes.now }
+{
+    bytes.len() < 8 || bytes[0] != OPEN
+}
+
+/// The book after all the changes that these bytes are.
+fn apply_all(alloc: Global, book: Book, bytes: &[u8]) -> Result<Option<Book>, NoMemory>
+    ensures { IfOk result (λ found. AppliesAll book bytes.now found) }
+{
+    let mut book = book;
+    let mut left = bytes;
+    while !left.is_empty() {
+        let (change, rest) = match take_change(alloc, left)? {
+            Some(taken) => taken,
+            None => return Ok(None),
+        };
+        book = match applied(book, change)? {
+            Some(next) => next,
+            None => return Ok(None),
+        };
+        left = rest;
+    }
+    Ok(Some(book))
+}
+
+/// The book after the amendment at the front, and what follows it.
+fn take_amendment(
+    alloc: Global,
+    book: Book,
+    bytes: &[u8],
+) -> Result<Option<(Book, &[u8])>, NoMemory>
+    requires rules { KeepsRules book }
+    requires epoch { book.epoch < 2 ^ 32 }
+    ensures { IfOk result (λ found. TakesAmendment book bytes.now (option_map (λ x. (x.0, x.1.now)) found)) }
+{
+    let Some((changes, rest)) = take_delta(bytes) else {
+        return Ok(None);
+    };
+    if changes.is_empty() {
+        return Ok(Some((book, rest)));
+    }
+    let Some(next) = apply_all(alloc, book, changes)? else {
+        return Ok(None);
+    };
+    if keeps_rules(alloc, &next)? {
+        Ok(Some((next, rest)))
+    } else {
+        Ok(None)
+    }
+}
+
+/// The book after all amendments, and how many bytes they have.
+fn read_on(alloc: Global, first: Book, bytes: &[u8]) -> Result<(Book, u32), BookRefusal>
+    requires rules { KeepsRules first }
+    requires epoch { first.epoch < 2 ^ 32 }
+    requires few { length bytes.now < 2 ^ 32 }
+    ensures book { IfOk result (λ x. ReadsOn change_cells IsChange first bytes.now x.0 x.1) }
+    ensures damaged { IfErr result (λ refusal. HasCause (StopsAt change_cells IsChange first bytes.now) refusal) }
+{
+    let mut book = first;
+    let mut left = bytes;
+    while !is_at_end(left) {
+        match take_amendment(alloc, book, left)? {
+            Some((next, rest)) => {
+                book = next;
+                left = rest;
+            }
+            None => {
+                let at = bytes.len() - left.len();
+                return Err(BookRefusal::Damaged { at: at as u64 });
+            }
+        }
+    }
+    Ok((book, (bytes.len() - left.len()) as u32))
+}
+
+/// The book that the bytes of a slot behind its head lead to, and how many bytes its amendments
+/// have, behind which the next may be appended. The first `n` bytes are those of a book, and the
+/// amendments stand behind it. They are damaged where `read_book` finds the book damaged, or at the
+/// gate of the first amendment that is none of the book so far: it passes the end, has bytes that
+/// aren't zero where they should be, can't be cut into changes, takes out what isn't there, or
+/// leads to a book that breaks a rule.
+pub fn read_slot(alloc: Global, bytes: &[u8], n: u32) -> Result<(Book, Option<u32>), BookRefusal>
+    requires within { n ≤ length bytes.now }
+    requires size { length bytes.now ≤ 8388592 }
+    ensures book { IfOk result (λ x. SlotReads bytes.now n (Ok x)) }
+    ensures damaged { IfErr result (λ refusal. IsSlotRefused bytes.now n refusal) }
+    ensures exact { (answer : Result (AnyBook × Option ℕ) ℕ) → SlotReads bytes.now n answer → Gives result answer }
+{
+    let (front, behind) = bytes.split_at(n as usize);
+    let first = match read_book(alloc, front) {
+        Ok(first) => first,
+        Err(refusal) => return Err(refusal),
+    };
+    match read_on(alloc, first, behind) {
+        Ok((book, more)) => Ok((book, Some(more))),
+        Err(BookRefusal::Damaged { at }) => Err(BookRefusal::Damaged { at: n as u64 + at }),
+        Err(BookRefusal::NoMemory) => Err(BookRefusal::NoMemory),
+    }
+}

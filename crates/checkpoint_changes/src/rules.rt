@@ -1,0 +1,65 @@
+ghost use Rattle.std.specs.Prelude.{◌≡◌, ◌↔◌, false, not, IsTrue, IfOk};
+ghost use Rattle.std.specs.List.{AllByRecursion, IsDistinct, list_any};
+ghost use Rattle.checkpoint_records.specs.Books.{same_command};
+ghost use Rattle.checkpoint_records.specs.Rules.{IsClientId, KeepsRules};
+ghost use Rattle.checkpoint_changes.specs.Parts.{HasParts};
+
+use checkpoint_records::{Book, Entry, discards_of, is_client_id, is_named};
+use sm_world::{Command, NoMemory};
+use std::alloc::Global;
+
+const ENTRY_LIMIT: usize = 128;
+
+const PENDING_LIMIT: usize = 320;
+
+/// Whether each ID is one of a run up to this epoch.
+fn are_of_runs(epoch: u32, entries: &[Entry]) -> bool
+    ensures { IsTrue result ↔ AllByRecursion (λ entry. IsClientId epoch entry.id) entries.now }
+{
+    for entry in entries {
+        if !is_client_id(epoch, entry.id.as_slice()) {
+            return false;
+        }
+    }
+    true
+}
+
+/// Whether no two commands are the same.
+fn are_distinct(commands: &[Command]) -> bool
+    ensures { IsTrue result ↔ IsDistinct same_command commands.now }
+{
+    let mut left = commands;
+    while let [command, others @ ..] = left {
+        if is_named(others, command) {
+            return false;
+        }
+        left = others;
+    }
+    true
+}
+
+/// Whether none of the commands is one that entries name.
+fn are_none_named(discards: &[Command], commands: &[Command]) -> bool
+    ensures { IsTrue result ↔ AllByRecursion (λ command. list_any (same_command command) discards.now ≡ false) commands.now }
+{
+    commands.iter().all(|command| !is_named(discards, command))
+}
+
+/// Whether a book that was put together from tested parts keeps the rules together too: it has at
+/// most 128 entries and at most 320 pending commands, each ID is of a run up to the book's epoch, no
+/// two pending commands are the same, and none is the DiscardCommand of an entry.
+pub fn keeps_rules(alloc: Global, book: &Book) -> Result<bool, NoMemory>
+    requires { HasParts book.now }
+    ensures { IfOk result (λ kept. IsTrue kept ↔ KeepsRules book.now) }
+{
+    let entries = book.entries.as_slice();
+    let pending = book.pending.as_slice();
+    if entries.len() > ENTRY_LIMIT || pending.len() > PENDING_LIMIT {
+        return Ok(false);
+    }
+    if !are_of_runs(book.epoch, entries) || !are_distinct(pending) {
+        return Ok(false);
+    }
+    let discards = discards_of(alloc, entries)?;
+    Ok(are_none_named(discards.as_slice(), pending))
+}

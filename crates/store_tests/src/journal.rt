@@ -1,0 +1,150 @@
+//! The journal over a world in memory: what an append writes, what a crash leaves of it after each
+//! effect, a slot that appends fill, and a compaction behind appends.
+
+ghost use Rattle.std.specs.Prelude.{◌≡◌, IfOk};
+ghost use Rattle.sm_world.specs.Worlds.{mem_outside};
+
+use crate::slots::{
+    FIRST_BODY, OPEN_GATE, blank_store, book_of, byte_at, epoch_in, epochs_left, is_sync, is_write,
+    store_with, world_of,
+};
+use checkpoint_changes::{Change, Delta};
+use checkpoint_journal::Journal;
+use checkpoint_slots::StoreFault;
+use sm_world::{Disk, MemWorld, NoMemory};
+use std::alloc::{Alloc, Global};
+use std::process::Abort;
+use std::test::Fail;
+
+/// So many changes, each of which sets this epoch.
+fn epochs(alloc: Global, epoch: u32, count: u32) -> Result<Delta, NoMemory> {
+    let mut delta = Delta::new(alloc);
+    for _ in 0..count {
+        delta.push(Change::Epoch(epoch))?;
+    }
+    Ok(delta)
+}
+
+/// Recovers the store, and appends a delta; false where it doesn't fit.
+fn append<D: Disk>(alloc: Global, disk: &mut D, delta: &Delta) -> Result<bool, StoreFault> {
+    let (journal, _) = Journal::recover_from(alloc, disk)?;
+    if !journal.fits(delta) {
+        return Ok(false);
+    }
+    match journal.append(alloc, disk, delta) {
+        Ok(_) => Ok(true),
+        Err((_, fault)) => Err(fault),
+    }
+}
+
+/// Recovers the store, and writes a book of this epoch whole.
+fn compact<D: Disk>(alloc: Global, disk: &mut D, epoch: u8) -> Result<(), StoreFault> {
+    let (journal, _) = Journal::recover_from(alloc, disk)?;
+    let Ok(book) = book_of(alloc, epoch) else {
+        return Err(StoreFault::NoMemory);
+    };
+    match journal.compact(alloc, disk, &book) {
+        Ok(_) => Ok(()),
+        Err((_, fault)) => Err(fault),
+    }
+}
+
+/// A world whose first slot has a book of epoch 1, in which the calls of these numbers fail.
+fn first_world(alloc: Global, failing: &[u64]) -> Result<MemWorld, NoMemory>
+    ensures { IfOk result (λ world. (mem_outside world).size ≡ 16777280) }
+{
+    world_of(
+        alloc,
+        store_with(alloc, &[OPEN_GATE, (64, &FIRST_BODY)])?,
+        failing,
+    )
+}
+
+/// What is put behind the gate for the epoch 2, with the next gate.
+const EPOCH_2: [u8; 16] = [0, 0, 0, 8, 0, 0, 0, 1, 0, 0, 0, 2, 0, 0, 0, 0];
+
+#[test]
+fn an_append_writes_behind_its_gate_and_opens_it(rt: HostRuntime) -> Result<(), Fail> {
+    let mut world = first_world(rt.alloc(), &[])?;
+    let delta = epochs(rt.alloc(), 2, 1)?;
+    assert_eq!(rt; append(rt.alloc(), &mut world, &delta), Ok(true));
+    let effects = world.effects();
+    assert_eq!(rt; effects.len(), 4);
+    if effects.len() == 4 {
+        assert!(rt; is_write(&effects[0], 97, &EPOCH_2));
+        assert!(rt; is_sync(&effects[1]));
+        assert!(rt; is_write(&effects[2], 96, &[0xa5]));
+        assert!(rt; is_sync(&effects[3]));
+    }
+    Ok(())
+}
+
+/// By each choice, the epoch after each of the four effects of an append.
+const EPOCHS: [[u8; 5]; 5] = [
+    [1, 1, 1, 1, 1],
+    [1, 1, 1, 1, 1],
+    [1, 1, 1, 1, 1],
+    [2, 1, 1, 2, 1],
+    [2, 2, 2, 2, 2],
+];
+
+#[test]
+fn a_crash_leaves_the_book_with_the_delta_or_without(rt: HostRuntime) -> Result<(), Fail> {
+    let mut world = first_world(rt.alloc(), &[])?;
+    let delta = epochs(rt.alloc(), 2, 1)?;
+    assert_eq!(rt; append(rt.alloc(), &mut world, &delta), Ok(true));
+    for (first, wanted) in EPOCHS.iter().enumerate() {
+        let left = epochs_left(&rt, &world, first)?;
+        assert_eq!(rt; left.as_slice(), wanted.as_slice(), "after {first} effects");
+    }
+    Ok(())
+}
+
+/// Appends the epoch 2 to a store of epoch 1 while the call of this number fails, and says whether
+/// recovery then gives one of the two books, whatever a crash leaves.
+fn survives(rt: &impl Alloc<A = Global>, number: u64) -> Result<bool, Fail> {
+    let mut world = first_world(rt.alloc(), &[number])?;
+    let delta = epochs(rt.alloc(), 2, 1)?;
+    let failed = append(rt.alloc(), &mut world, &delta) == Err(StoreFault::DiskFault);
+    let count = world.effects().len();
+    let left = epochs_left(rt, &world, count)?;
+    let whole = left
+        .as_slice()
+        .iter()
+        .all(|epoch| *epoch == 1 || *epoch == 2);
+    Ok(failed && whole)
+}
+
+#[test]
+fn each_call_of_an_append_may_fail(rt: HostRuntime) -> Result<(), Fail> {
+    for number in [1, 2, 3, 4, 5, 6, 7, 8, 9, 10] {
+        assert!(rt; survives(&rt, number)?, "call {number}");
+    }
+    Ok(())
+}
+
+#[test]
+fn nothing_is_appended_to_a_blank_store(rt: HostRuntime) -> Result<(), Fail> {
+    let mut world = world_of(rt.alloc(), blank_store(rt.alloc())?, &[])?;
+    let delta = epochs(rt.alloc(), 2, 0)?;
+    assert_eq!(rt; append(rt.alloc(), &mut world, &delta), Ok(false));
+    Ok(())
+}
+
+/// How many changes of an epoch fill the first slot behind a book of sixteen bytes, but for eight
+/// bytes with the last gate.
+const FILLING: u32 = 1_048_570;
+
+#[test]
+fn a_full_slot_is_compacted_into_the_other(rt: HostRuntime) -> Result<(), Fail> {
+    let mut world = first_world(rt.alloc(), &[])?;
+    let most = epochs(rt.alloc(), 7, FILLING)?;
+    assert_eq!(rt; append(rt.alloc(), &mut world, &most), Ok(true));
+    assert_eq!(rt; epoch_in(rt.alloc(), &mut world), Ok(7));
+    let none = epochs(rt.alloc(), 8, 0)?;
+    assert_eq!(rt; append(rt.alloc(), &mut world, &none), Ok(false));
+    assert_eq!(rt; compact(rt.alloc(), &mut world, 8), Ok(()));
+    assert_eq!(rt; epoch_in(rt.alloc(), &mut world), Ok(8));
+    assert_eq!(rt; byte_at(&world, 8_388_672), Some(2));
+    Ok(())
+}
