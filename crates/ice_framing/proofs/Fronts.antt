@@ -1,8 +1,8 @@
 -- Taking frames from the front of some bytes.
-use Rattle.std.proofs.Common.{◌≡◌, ℕ, ◌+◌, ◌-◌, ◌*◌, ◌≤◌, List, [], ◌∷◌, ◌++◌, length, drop, take, true, false, Option, Some, refl, sym, ap, ◌∙◌, arith, append_assoc, length-drop}
+use Rattle.std.proofs.Common.{◌≡◌, ℕ, ◌+◌, ◌-◌, ◌≤◌, List, [], ◌∷◌, ◌++◌, length, drop, take, true, false, Option, Some, sym, ap, ◌∙◌, arith, length-drop}
 use Rattle.std.proofs.lemmas.List.{drop-drop, take_all}
 use Rattle.ice_values.specs.declared.numbers.Endian.{Endian}
-use Rattle.ice_framing.specs.Frames.{Standing, Cut, endian, endian_in, has_frame, uncut, first_frame, without_first, wanted, behind, cut}
+use Rattle.ice_framing.specs.Frames.{Standing, endian, has_frame, uncut, first_frame, without_first, wanted, behind, cut}
 use Rattle.ice_framing.specs.declared.cutting.WholeFrame.{WholeFrame}
 use Rattle.ice_framing.proofs.Cuts.{has_frame-true, cut-whole, cut-none, frame_is as whole_is, standing_is}
 use Rattle.ice_framing.proofs.Pieces.{behind-behind}

@@ -3,6 +3,7 @@ pub mod Cuts
 pub mod Examples
 pub mod Feeding
 pub mod Fronts
+pub mod Parts
 pub mod Pieces
 pub mod Shapes
 pub mod Streams

@@ -15,11 +15,11 @@ use Rattle.session_model.specs.Readings as of
 use Rattle.session_model.specs.Rules.{Takes as TakesEvent}
 use Rattle.session_state.specs.Session.{reading_in}
 use Rattle.ice_framing.specs.Frames.{fed}
+use Rattle.ice_framing.specs.Parts.{Part, parts_at}
 use Rattle.session_engine.specs.Acts.{says}
 use Rattle.session_engine.specs.Answers.{outcome, sequence_after, speaks_xsmp, IsSpelled}
 use Rattle.session_engine.specs.Machine.{Connection, Machine, connection_of, changed, counted, does, noted, parted, asked, answered, told}
 use Rattle.session_engine.specs.Shown.{Agrees, IsShown, Matches, Shows, ShowsLive, Leaves, CutsAt, TakesPart, is_speaking, kept_at, parts_left, to_cut}
-use Rattle.session_engine.specs.Streams.{Part, parts_at}
 use Rattle.session_engine.specs.Telling.{AgreesFor, Answers, Departs, GivesBehind, IsAnswering, ShowsOthers, TakesAnswer, Tells}
 use Rattle.session_engine.specs.declared.acts.Act.{Act}
 use Rattle.session_engine.specs.declared.acts.Act.TheVariants.{Say, Shut}

@@ -1,5 +1,4 @@
 pub mod CutLemmas
-pub mod Parts
 pub mod Connections
 pub mod Adding
 pub mod Performing

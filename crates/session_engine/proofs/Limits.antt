@@ -22,7 +22,7 @@ use Rattle.session_engine.specs.Acts.{says}
 use Rattle.session_engine.specs.Answers.{outcome, sequence_after}
 use Rattle.session_engine.specs.Machine.{Connection, Machine, start, connection_of, without, joined, joining, fed_with, counted, unset_on, connections_after, connections_through, acts_since, told, live_limit, noted, fed_on, asked, answered, departs, parted, part_for, part_taken, parts_taken, piece_for, gone_for, join_for, step, after_all}
 use Rattle.session_engine.specs.Shown.{Agrees}
-use Rattle.session_engine.specs.Streams.{Part, new_parts}
+use Rattle.ice_framing.specs.Parts.{Part, new_parts}
 use Rattle.session_engine.specs.Telling.{AgreesFor}
 use Rattle.session_engine.specs.declared.acts.Act.{Act}
 use Rattle.session_engine.specs.declared.acts.Act.TheVariants.{Shut}

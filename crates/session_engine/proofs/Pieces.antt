@@ -19,7 +19,7 @@ use Rattle.session_engine.specs.Answers.{outcome, sequence_after}
 use Rattle.session_engine.specs.Saved.{Performs}
 use Rattle.session_engine.specs.Machine.{Connection, Machine, Step, Entry, act_in, acts_of, acts_since, asked, behind, connection_of, connections_after, connections_through, counted, departs, noted, fed_on, stays, unset_on, without, answered, part_taken, parts_taken, step}
 use Rattle.session_engine.specs.Shown.{Shows, Carried, TakesPart, TakesNone, parts_on, parts_left, all_cut, to_cut}
-use Rattle.session_engine.specs.Streams.{Part, parts_of}
+use Rattle.ice_framing.specs.Parts.{Part, parts_of}
 use Rattle.session_engine.specs.Turns.{is_end, either}
 use Rattle.session_engine.specs.declared.answers.Answer.{Answer}
 use Rattle.session_engine.specs.declared.answers.Answer.TheVariants.{Stays, Begins, Closes, Speaks, Asks}

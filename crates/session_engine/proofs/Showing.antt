@@ -11,8 +11,10 @@ use Rattle.sm_world.specs.declared.events.Event.TheVariants.{Piece}
 use Rattle.checkpoint_records.specs.declared.records.Book.{Book}
 use Rattle.ice_cookie.specs.declared.cookies.Cookie.{Cookie}
 use Rattle.ice_framing.specs.Frames.{fed, cut, standing_of, units, unit_limit}
+use Rattle.ice_framing.specs.Parts.{Part, parts_at, parts_of}
 use Rattle.ice_framing.proofs.Cuts.{fed-nil, cut-partial}
 use Rattle.ice_framing.proofs.Streams.{standing_of-append}
+use Rattle.ice_framing.proofs.Parts.{parts_at-partial, parts_of-append}
 use Rattle.manager_machine.specs.Keeper.{StandsFor}
 use Rattle.session_model.specs.Moves.{History, Outside, ◌▷◌, all_acts}
 use Rattle.session_model.specs.declared.events.Act.{Act as SessionAct}
@@ -24,7 +26,6 @@ use Rattle.session_engine.specs.Answers.{outcome, sequence_after, KeepsWhole}
 use Rattle.session_engine.specs.Cutting.{IsNew, TakesFirst, HoldsAll, Unsets}
 use Rattle.session_engine.specs.Machine.{Connection, Machine, Step, Does, act_in, acts_of, acts_since, behind, connection_of, changed, without, joined, fed_with, counted, unset_on, connections_after, connections_through, start, stays, noted, fed_on, parts_taken, told, step}
 use Rattle.session_engine.specs.Shown.{kept_at, ChangesAt, CutsAt, UnsetsAt, Leaves, IsKeptOf, Matches, Agrees, AreDistinct, ShowsLive, Shows, TakesNone, parts_on, parts_left, all_cut, to_cut}
-use Rattle.session_engine.specs.Streams.{Part, parts_at, parts_of}
 use Rattle.session_engine.specs.Telling.{Follows, GivesBehind, IsAnswering, Tells, AgreesFor}
 use Rattle.session_engine.specs.declared.acts.Act.{Act}
 use Rattle.session_engine.specs.declared.answers.Outcome.{Outcome}
@@ -35,7 +36,6 @@ use Rattle.session_engine.specs.declared.live.Connections.{Connections}
 use Rattle.session_engine.proofs.Opening.{opened_live, opened_phase}
 use Rattle.session_engine.proofs.Connections.{same, other, connection_of-changed, connection_of-without, connection_of-append, changed_absent, distinct-changed, distinct-without, distinct-append}
 use Rattle.session_engine.proofs.Following.{agrees-told, agrees-changed, since-is, through-append}
-use Rattle.session_engine.proofs.Parts.{parts_at-partial, parts_of-append}
 
 -- what a call's Ok brings
 pub given : {X E A B : Type 0} (result : Result X E) → OnOk result A → (A → B) → OnOk result B

@@ -8,6 +8,7 @@ use Rattle.ice_values.specs.declared.numbers.Endian.TheVariants.{Lsb, Msb}
 use Rattle.ice_values.specs.declared.severity.Severity.TheVariants.{CanContinue, FatalToConnection}
 use Rattle.ice_values.specs.declared.refusals.DecodeRefusal.{DecodeRefusal}
 use Rattle.ice_values.specs.declared.refusals.DecodeRefusal.TheVariants.{BadMinor, BadLength, BadValue, NoMemory}
+use Rattle.ice_framing.specs.Parts.{Part, Whole, TooMuch}
 use Rattle.ice_framing.specs.declared.cutting.WholeFrame.{WholeFrame}
 use Rattle.ice_messages.specs.Reading.{decode_at}
 use Rattle.ice_messages.specs.declared.message.IceMessage.{IceMessage}
@@ -26,7 +27,6 @@ use Rattle.xsmp_messages.specs.Messages.{Spells}
 use Rattle.xsmp_messages.specs.Reading.{decode_at as xsmp_at}
 use Rattle.xsmp_messages.specs.declared.message.XsmpMessage.{XsmpMessage}
 use Rattle.xsmp_messages.specs.declared.message.XsmpMessage.TheVariants.{Error as XsmpError}
-use Rattle.session_engine.specs.Streams.{Part, Whole, TooMuch}
 use Rattle.session_engine.specs.declared.messages.Message.{Message}
 use Rattle.session_engine.specs.declared.messages.Message.TheVariants.{Ice, Xsmp}
 use Rattle.session_engine.specs.declared.answers.Answer.{Answer}

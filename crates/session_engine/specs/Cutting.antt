@@ -2,9 +2,9 @@
 use Rattle.std.specs.Prelude.{◌≡◌, ℕ, List, [], ◌∷◌, drop, Option, Some, None}
 use Rattle.ice_cookie.specs.declared.cookies.Cookie.{Cookie}
 use Rattle.ice_framing.specs.Frames.{beginning, fed, cut}
+use Rattle.ice_framing.specs.Parts.{Part, parts_at}
 use Rattle.ice_setup.specs.declared.states.AnySetup.TheVariants.{AwaitOrder as AtOrder}
 use Rattle.session_engine.specs.Answers.{outcome, sequence_after, without_xsmp, KeepsWhole}
-use Rattle.session_engine.specs.Streams.{Part, parts_at}
 use Rattle.session_engine.specs.declared.connection.Connection.{Connection as Kept}
 use Rattle.session_engine.specs.declared.connection.Answered.{Answered}
 

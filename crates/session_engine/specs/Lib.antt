@@ -1,4 +1,3 @@
-pub mod Streams
 pub mod Messages
 pub mod Answers
 pub mod Acts

@@ -20,7 +20,7 @@ use Rattle.session_model.specs.declared.events.SessionEvent.{SessionEvent}
 use Rattle.session_model.specs.declared.events.SessionEvent.TheVariants.{Joined as HasJoined, Ready, Said, Left, Operator as Ordered}
 use Rattle.session_engine.specs.Acts.{deeds_in, has_finish, says, acts_for_all}
 use Rattle.session_engine.specs.Answers.{outcome, sequence_after, without_xsmp}
-use Rattle.session_engine.specs.Streams.{Part, new_parts}
+use Rattle.ice_framing.specs.Parts.{Part, new_parts}
 use Rattle.session_engine.specs.declared.acts.Act.{Act}
 use Rattle.session_engine.specs.declared.acts.Act.TheVariants.{Say, Shut, Finish}
 use Rattle.session_engine.specs.declared.messages.Message.TheVariants.{Ice}

@@ -5,6 +5,7 @@ use Rattle.std.specs.BTreeMap.{get as place_of}
 use Rattle.sm_world.specs.Outside.{Added}
 use Rattle.sm_world.specs.declared.effects.Effect.{Effect}
 use Rattle.ice_framing.specs.Frames.{fed, cut, standing_of}
+use Rattle.ice_framing.specs.Parts.{Part, parts_at, parts_of}
 use Rattle.checkpoint_slots.specs.declared.turn.Current.{Current}
 use Rattle.manager_machine.specs.Keeper.{StandsFor}
 use Rattle.session_model.specs.Moves.{History}
@@ -14,7 +15,6 @@ use Rattle.session_engine.specs.Cutting.{Cuts, Unsets}
 use Rattle.session_engine.specs.Machine.{Connection, Machine, Step, acts_of, connection_of, part_taken}
 use Rattle.session_engine.specs.Places.{kept_in}
 use Rattle.session_engine.specs.Saved.{Performs}
-use Rattle.session_engine.specs.Streams.{Part, parts_at, parts_of}
 use Rattle.session_engine.specs.declared.connection.Connection.{Connection as Kept}
 use Rattle.session_engine.specs.declared.connection.Answered.{Answered}
 use Rattle.session_engine.specs.declared.engine.Engine.{Engine}

@@ -15,7 +15,7 @@ use Rattle.session_model.proofs.Pending.{all-append}
 use Rattle.session_model.proofs.Ruled.{differ}
 use Rattle.session_model.specs.Tables.{first_table}
 use Rattle.session_engine.specs.Machine.{Does as DoesAct, Entry, Machine, Took as TookPart, step}
-use Rattle.session_engine.specs.Streams.{Part, TooMuch, Whole}
+use Rattle.ice_framing.specs.Parts.{Part, TooMuch, Whole}
 use Rattle.session_engine.specs.declared.acts.Act.TheVariants.{Commit, Say, Shut, Start}
 use Rattle.session_engine.specs.declared.messages.Message.{Message}
 use Rattle.session_engine.specs.declared.messages.Message.TheVariants.{Ice, Xsmp}

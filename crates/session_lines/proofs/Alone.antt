@@ -23,7 +23,7 @@ use Rattle.session_model.proofs.Ruled.{differ}
 use Rattle.session_engine.specs.Acts.{acts_for_all, says}
 use Rattle.session_engine.specs.Answers.{outcome, sequence_after}
 use Rattle.session_engine.specs.Machine.{Connection, Does as DoesAct, Entry, Machine, Step, Took as TookPart, acts_since, answered, asked, behind, changed, connection_of, connections_through, counted, departs, does, fed_on, fed_with, followed, gone_for, greeting, join_for, joined, joining, noted as with_setup, part_for, part_taken, parted, parts_taken, piece_for, step, told, unset_on, without}
-use Rattle.session_engine.specs.Streams.{Part, new_parts}
+use Rattle.ice_framing.specs.Parts.{Part, new_parts}
 use Rattle.session_engine.specs.declared.acts.Act.TheVariants.{Say, Shut}
 use Rattle.session_engine.specs.declared.answers.Answer.{Answer}
 use Rattle.session_engine.specs.declared.answers.Answer.TheVariants.{Stays, Begins, Closes, Speaks, Asks}

@@ -18,7 +18,7 @@ use Rattle.ice_cookie.specs.declared.cookies.Cookie.{Cookie}
 use Rattle.session_engine.specs.Acts.{book_after, book_with, deeds_in}
 use Rattle.session_engine.specs.Machine.{script_of}
 use Rattle.session_engine.specs.Saved.{IsSaved}
-use Rattle.session_engine.specs.Streams.{Part, TooMuch, Whole}
+use Rattle.ice_framing.specs.Parts.{Part, TooMuch, Whole}
 use Rattle.session_engine.specs.declared.acts.Act.{Act}
 use Rattle.session_engine.specs.declared.acts.Act.TheVariants.{Commit, Finish, Print, Say, Shut, Start}
 use Rattle.session_engine.specs.declared.messages.Message.{Message}

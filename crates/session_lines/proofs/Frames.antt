@@ -12,6 +12,7 @@ use Rattle.ice_values.specs.declared.refusals.DecodeRefusal.TheVariants.{BadMino
 use Rattle.ice_messages.specs.Reading.{decode_at as ice_at}
 use Rattle.ice_messages.specs.declared.message.IceMessage.{IceMessage}
 use Rattle.ice_messages.specs.declared.message.IceMessage.TheVariants.{ByteOrder}
+use Rattle.ice_framing.specs.Parts.{Part, Whole, TooMuch}
 use Rattle.ice_framing.specs.declared.cutting.WholeFrame.{WholeFrame}
 use Rattle.ice_setup.specs.Errors.{blame, opcode_values, wrong_byte}
 use Rattle.ice_setup.specs.Setup.{moved, opcode_of, connected}
@@ -24,7 +25,6 @@ use Rattle.ice_setup.specs.declared.states.Moved.TheVariants.{Goes, Ends, Close,
 use Rattle.xsmp_messages.specs.Reading.{decode_at}
 use Rattle.xsmp_messages.specs.declared.message.XsmpMessage.{XsmpMessage}
 use Rattle.session_engine.specs.Answers.{named_in, stated_order, going, speaks_xsmp, refused, outcome_of, first_outcome, read_outcome, xsmp_outcome, later_outcome, frame_outcome, is_opcode, outcome, error_about}
-use Rattle.session_engine.specs.Streams.{Part, Whole, TooMuch}
 use Rattle.session_engine.specs.declared.answers.Answer.{Answer}
 use Rattle.session_engine.specs.declared.answers.Answer.TheVariants.{Stays, Begins, Closes, Speaks, Asks}
 use Rattle.session_engine.specs.declared.answers.Outcome.{Outcome}

@@ -21,7 +21,7 @@ use Rattle.session_model.specs.declared.events.SessionEvent.TheVariants.{Joined 
 use Rattle.session_engine.specs.Acts.{acts_for_all, says}
 use Rattle.session_engine.specs.Answers.{outcome, sequence_after}
 use Rattle.session_engine.specs.Machine.{Connection, Does as DoesAct, Entry, Machine, Step, Took as TookPart, acts_since, answered, asked, behind, changed, connection_of, counted, departs, does, fed_on, fed_with, gone_for, greeted, greeting, join_for, joined, joining, noted as with_setup, part_for, part_taken, parted, parts_taken, piece_for, step, told}
-use Rattle.session_engine.specs.Streams.{Part, new_parts}
+use Rattle.ice_framing.specs.Parts.{Part, new_parts}
 use Rattle.session_engine.specs.declared.acts.Act.{Act}
 use Rattle.session_engine.specs.declared.acts.Act.TheVariants.{Say, Shut}
 use Rattle.session_engine.specs.declared.answers.Answer.{Answer}

@@ -7,7 +7,7 @@ use Rattle.ice_values.specs.Fields.{ErrorFields}
 use Rattle.ice_values.specs.declared.numbers.Endian.TheVariants.{Lsb}
 use Rattle.ice_messages.specs.declared.message.IceMessage.TheVariants.{Error as IceError}
 use Rattle.xsmp_messages.specs.declared.message.XsmpMessage.TheVariants.{Error as XsmpError, Interact, InteractRequest}
-use Rattle.session_engine.specs.Streams.{Whole}
+use Rattle.ice_framing.specs.Parts.{Whole}
 use Rattle.session_engine.specs.declared.acts.Act.TheVariants.{Say, Shut, Start}
 use Rattle.session_engine.specs.declared.messages.Message.TheVariants.{Ice, Xsmp}
 use Rattle.session_model.specs.declared.events.Reason.TheVariants.{Discard, Restart}

@@ -12,7 +12,7 @@ use Rattle.xsmp_messages.specs.declared.message.XsmpMessage.{XsmpMessage}
 use Rattle.xsmp_messages.specs.declared.message.XsmpMessage.TheVariants.{Error as XsmpError}
 use Rattle.session_engine.specs.Acts.{has_finish}
 use Rattle.session_engine.specs.Machine.{Entry, Does as DoesAct, Machine, Took as TookPart, acts_of, opening_acts, start, step}
-use Rattle.session_engine.specs.Streams.{Part, TooMuch, Whole}
+use Rattle.ice_framing.specs.Parts.{Part, TooMuch, Whole}
 use Rattle.session_engine.specs.declared.acts.Act.{Act}
 use Rattle.session_engine.specs.declared.acts.Act.TheVariants.{Commit, Say, Shut, Start}
 use Rattle.session_engine.specs.declared.messages.Message.{Message}

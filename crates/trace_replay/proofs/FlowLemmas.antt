@@ -3,11 +3,11 @@ use Rattle.std.proofs.Common.{◌≡◌, ℕ, zero, suc, ◌+◌, ◌*◌, ◌<�
 use Rattle.std.specs.List.{AllByRecursion}
 use Rattle.std.proofs.lemmas.List.{append-nil, length-map, drop_all}
 use Rattle.ice_framing.specs.Frames.{Standing, Cut, beginning, fed, cut, cut_upto, wanted, units, unit_limit, has_frame, first_frame, without_first, behind, uncut, frames_of, standing_of, is_oversize, IsOversize, StandsAt}
+use Rattle.ice_framing.specs.Parts.{Part, Whole, TooMuch, oversize_part, parts_at, parts_of, new_parts}
 use Rattle.ice_framing.specs.declared.cutting.WholeFrame.{WholeFrame}
 use Rattle.ice_framing.proofs.Cuts.{cond-both, has_frame-true, length-without_first, stated_whole, oversize-fed, is_oversize-true, true-is_oversize, false-is_oversize}
 use Rattle.ice_framing.proofs.Streams.{standing_of-append, frames_of-oversize, standing_of-oversize}
-use Rattle.session_engine.specs.Streams.{Part, Whole, TooMuch, oversize_part, parts_at, parts_of, new_parts}
-use Rattle.session_engine.proofs.Parts.{parts_of-append, new_parts-is}
+use Rattle.ice_framing.proofs.Parts.{parts_of-append, new_parts-is}
 use Rattle.trace_replay.specs.Parts.{IsHeaded, ShowsParts}
 use Rattle.trace_replay.specs.Shown.{part_text, shown_line, shown_parts, shown_piece}
 use Rattle.trace_replay.specs.declared.parts.Channel.{Channel}

@@ -1,7 +1,7 @@
 -- Showing frames one by one.
 use Rattle.std.proofs.Common.{◌≡◌, ℕ, ◌+◌, ◌<◌, ◌^◌, List, ◌++◌, length, drop, map}
+use Rattle.ice_framing.specs.Parts.{Whole}
 use Rattle.ice_framing.specs.declared.cutting.WholeFrame.{WholeFrame}
-use Rattle.session_engine.specs.Streams.{Whole}
 use Rattle.trace_replay.specs.Shown.{shown_parts}
 use Rattle.trace_replay.specs.declared.parts.Channel.{Channel}
 

@@ -12,7 +12,6 @@ use Rattle.program_frame.proofs.ProgramLemmas.{Took as TookWithin, ran as ran_wi
 use Rattle.trace_replay.specs.Faults.{fault_line, fault_status, console_fault}
 use Rattle.trace_replay.specs.Shows.{IsShown, IsMalformed}
 use Rattle.trace_replay.specs.Statuses.{AreShow, trace_of, Ending, HasEnding, Runs, Answers}
-use Rattle.trace_replay.specs.declared.fault.Fault.{Fault}
 use Rattle.trace_replay.specs.declared.fault.Fault.TheVariants.{BadWords, Malformed, Console, NoMemory}
 use Rattle.trace_replay.specs.declared.program.TheConstants.{TRACE_LIMIT}
 

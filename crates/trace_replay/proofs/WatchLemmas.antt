@@ -1,13 +1,13 @@
 -- What the tables keep of the streams.
-use Rattle.std.proofs.Common.{◌≡◌, ◌≢◌, inl, inr, ℕ, ◌<◌, ◌^◌, List, [], ◌++◌, length, Option, Some, None, Result, Ok, Err, OnOk, nat_eq, if◌then◌else◌, refl, sym, ◌∙◌, arith}
+use Rattle.std.proofs.Common.{◌≡◌, ◌≢◌, inl, inr, ℕ, ◌<◌, ◌^◌, List, [], ◌++◌, length, Option, Some, None, Result, Ok, Err, OnOk, nat_eq, false, if◌then◌else◌, refl, sym, ◌∙◌, arith, eq-eqb}
 use Rattle.std.specs.Ordering.{nat_cmp}
 use Rattle.std.specs.BTreeMap.{BTreeMap, get as row_in}
 use Rattle.std.proofs.lemmas.Bool.{cases_eq}
+use Rattle.std.proofs.lemmas.Bool.Decides.{nat_tests}
 use Rattle.sm_world.specs.declared.events.Event.TheVariants.{Piece}
 use Rattle.ice_framing.specs.Frames.{beginning, cut}
+use Rattle.ice_framing.specs.Parts.{parts_of}
 use Rattle.ice_framing.proofs.Streams.{standing_of-nil}
-use Rattle.session_engine.specs.Streams.{parts_of}
-use Rattle.session_engine.proofs.Connections.{same, other}
 use Rattle.trace_replay.specs.Flows.{IsReadTo, TakesPiece}
 use Rattle.trace_replay.specs.Shown.{replaced}
 use Rattle.trace_replay.specs.Watches.{IsRead, PutPiece, PutsPiece, FollowsLine}
@@ -40,8 +40,8 @@ put_piece streams channel piece before after row taken old new reads read takes 
     let took = takes small read in
     record {
       reads = λ q. elim (cases_eq q channel.conn) [
-        | inl here ↦ rw (changes q, same q channel.conn here) took.read
-        | inr apart ↦ rw (changes q, other q channel.conn apart) (reads q apart)
+        | inl here ↦ rw (changes q, eq-eqb q channel.conn here) took.read
+        | inr apart ↦ let elsewhere : nat_eq q channel.conn ≡ false = grind (arith, nat_tests) in rw (changes q, elsewhere) (reads q apart)
       ];
       lines = took.lines;
     }
@@ -51,7 +51,7 @@ on_ok_by (Ok x) P Q makes holds = makes holds
 on_ok_by (Err e) P Q makes holds = tt
 
 replaced-here : (streams : ℕ → List ℕ) (n : ℕ) (stream : List ℕ) → replaced streams n stream n ≡ stream
-replaced-here streams n stream = rw (same n n refl) refl
+replaced-here streams n stream = rw (eq-eqb n n refl) refl
 
 -- a piece came
 pub came : (n : ℕ) (bytes : List ℕ) (before : Watch) (table : Table) (old new : List ℕ) → PutsPiece (record { direction = In; conn = n }) bytes before.came table old new → FollowsLine (Heard (Piece n bytes)) before (record { came = table; went = before.went }) old new

@@ -1,7 +1,7 @@
 -- What is kept of a stream, and what a piece of it does to that.
 use Rattle.std.specs.Prelude.{◌≡◌, ℕ, ◌<◌, ◌^◌, List, ◌++◌, length, None}
 use Rattle.ice_framing.specs.Frames.{standing_of, StandsAt, IsOversize}
-use Rattle.session_engine.specs.Streams.{parts_of}
+use Rattle.ice_framing.specs.Parts.{parts_of}
 use Rattle.trace_replay.specs.Shown.{shown_piece}
 use Rattle.trace_replay.specs.declared.parts.Channel.{Channel}
 use Rattle.trace_replay.specs.declared.flows.Progress.{Progress}

@@ -1,7 +1,7 @@
 -- Showing the parts of a stream one by one.
 use Rattle.std.specs.Prelude.{◌≡◌, ℕ, ◌+◌, ◌<◌, ◌≤◌, ◌^◌, List, ◌++◌, length}
+use Rattle.ice_framing.specs.Parts.{Part}
 use Rattle.ice_framing.specs.declared.cutting.WholeFrame.{WholeFrame}
-use Rattle.session_engine.specs.Streams.{Part}
 use Rattle.trace_replay.specs.Shown.{shown_parts}
 use Rattle.trace_replay.specs.declared.parts.Channel.{Channel}
 

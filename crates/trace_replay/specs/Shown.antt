@@ -3,7 +3,7 @@ use Rattle.std.specs.Prelude.{ℕ, ◌+◌, List, [], ◌∷◌, ◌++◌, lengt
 use Rattle.std.specs.Fmt.{decimal}
 use Rattle.sm_world.specs.declared.events.Event.{Event}
 use Rattle.sm_world.specs.declared.events.Event.TheVariants.{Joined, Piece, Gone, Operator, Tick, End as AtEnd}
-use Rattle.session_engine.specs.Streams.{Part, Whole, TooMuch, parts_of, new_parts}
+use Rattle.ice_framing.specs.Parts.{Part, Whole, TooMuch, parts_of, new_parts}
 use Rattle.trace_replay.specs.Frames.{frame_text}
 use Rattle.trace_replay.specs.declared.parts.Direction.{Direction}
 use Rattle.trace_replay.specs.declared.parts.Direction.TheVariants.{In, Out}

@@ -1,5 +1,5 @@
 -- What `smtrace` prints, and what each of its statuses says.
-use Rattle.std.specs.Prelude.{◌≡◌, ℕ, ◌+◌, List, [], ◌∷◌, codes, Result, Ok, Err}
+use Rattle.std.specs.Prelude.{◌≡◌, ℕ, List, [], ◌∷◌, codes, Result, Ok, Err}
 use Rattle.sm_world.specs.Outside.{Outside, Rose}
 use Rattle.sm_world.specs.declared.effects.Effect.{Effect}
 use Rattle.program_frame.specs.Input.{front}

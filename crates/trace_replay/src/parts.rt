@@ -1,6 +1,6 @@
 ghost use Rattle.std.specs.Prelude.{◌≡◌, ◌++◌, ℕ, List, map, OnOk, IfOk};
 ghost use Rattle.std.specs.List.{AllByRecursion};
-ghost use Rattle.session_engine.specs.Streams.{Whole};
+ghost use Rattle.ice_framing.specs.Parts.{Whole};
 ghost use Rattle.trace_replay.specs.Parts.{IsHeaded, ShowsParts};
 ghost use Rattle.trace_replay.specs.Shown.{shown_line};
 

@@ -1,11 +1,11 @@
 use Rattle.std.proofs.Common.{rules, ◌≡◌, ◌∷◌, [], refl, sym, ◌∙◌, ap, take, drop}
 use Rattle.ice_framing.specs.Frames.{fed, cut, behind, IsOversize}
+use Rattle.ice_framing.specs.Parts.{Whole, TooMuch}
 use Rattle.ice_framing.specs.declared.cutting.WholeFrame.{WholeFrame}
+use Rattle.ice_framing.proofs.Parts.{parts_at-whole, parts_at-oversize, behind_standing, held_all, none_whole, forgotten}
 use Rattle.session_engine.specs.Answers.{outcome, oversize_answer, sequence_after}
-use Rattle.session_engine.specs.Streams.{Whole, TooMuch}
 use Rattle.session_engine.specs.declared.answers.Outcome.{Outcome}
-use Rattle.session_engine.proofs.CutLemmas.{behind_standing, held_all, none_whole, forgotten, oversize_ends}
-use Rattle.session_engine.proofs.Parts.{parts_at-whole, parts_at-oversize}
+use Rattle.session_engine.proofs.CutLemmas.{oversize_ends}
 use Rattle.session_engine.proofs.connection.Connection.cut.Goals as goal
 
 pub returns-in-Err-clause-cuts : goal.returns-in-Err-clause-cuts
