@@ -9,7 +9,7 @@ use Rattle.ice_framing.specs.Parts.{Part, parts_at, parts_of, new_parts}
 use Rattle.ice_framing.proofs.Parts.{parts_of-append, new_parts-is, parts_at-partial}
 use Rattle.ice_framing.proofs.Streams.{standing_of-append}
 use Rattle.ice_values.specs.declared.numbers.Endian.{Endian}
-use Rattle.byte_relay.specs.Relaying.{Line, partner, stream_of, parted, fed_on, are_none, is_fresh, passed}
+use Rattle.byte_relay.specs.Relaying.{Line, partner, stream_of, is_live, parted, fed_on, are_none, is_fresh, passed}
 use Rattle.byte_relay.specs.Rows.{Shows, ShowAll, parted_rows, Grows, passed_on}
 use Rattle.byte_relay.specs.declared.row.Row.{Row}
 use Rattle.byte_relay.proofs.Framed.{settled}
