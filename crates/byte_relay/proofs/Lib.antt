@@ -8,3 +8,4 @@ pub mod Shown
 pub mod Stepping
 pub mod Brought
 pub mod Running
+pub mod InOrder

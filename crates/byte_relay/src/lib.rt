@@ -12,7 +12,10 @@ mod serving;
 mod turning;
 
 pub use fault::RelayFault;
-pub use laws::{unspelled_frames_are_refused, what_was_respelled_is_decoded};
+pub use laws::{
+    messages_are_passed_on_in_their_order, unspelled_frames_are_refused,
+    what_was_respelled_is_decoded,
+};
 pub use respelling::{RespellFault, respell};
 pub use serving::serve_relay;
-pub use turning::{Leading, turn_ice, turn_xsmp};
+pub use turning::Leading;
