@@ -1,0 +1,11 @@
+pub mod Turned
+pub mod Lengths
+pub mod Respelled
+pub mod Doing
+pub mod Framed
+pub mod Passed
+pub mod Shown
+pub mod Stepping
+pub mod Brought
+pub mod Running
+pub mod InOrder

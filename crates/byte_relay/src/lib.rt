@@ -1,0 +1,21 @@
+//! A relay between two parties that write their numbers in different orders.
+#![tactic(auto)]
+
+mod fault;
+mod laws;
+mod passing;
+mod relay;
+mod respeller;
+mod respelling;
+mod row;
+mod serving;
+mod turning;
+
+pub use fault::RelayFault;
+pub use laws::{
+    messages_are_passed_on_in_their_order, unspelled_frames_are_refused,
+    what_was_respelled_is_decoded,
+};
+pub use respelling::{RespellFault, respell};
+pub use serving::serve_relay;
+pub use turning::Leading;

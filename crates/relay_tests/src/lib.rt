@@ -1,0 +1,7 @@
+//! Tests of the relay between byte orders.
+#![tactic(auto)]
+
+#[cfg(test)]
+mod frames;
+#[cfg(test)]
+mod pairs;
