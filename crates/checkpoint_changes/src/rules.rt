@@ -60,6 +60,9 @@ pub fn keeps_rules(alloc: Global, book: &Book) -> Result<bool, NoMemory>
     if !are_of_runs(book.epoch, entries) || !are_distinct(pending) {
         return Ok(false);
     }
+    if pending.is_empty() {
+        return Ok(true);
+    }
     let discards = discards_of(alloc, entries)?;
     Ok(are_none_named(discards.as_slice(), pending))
 }
