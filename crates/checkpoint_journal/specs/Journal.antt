@@ -46,6 +46,12 @@ is_lost (Ok journal) = false
 is_lost (Err (None, fault)) = true
 is_lost (Err (Some journal, fault)) = false
 
+-- where a device was touched, there was a number for one generation more
+abbrev pub HadNumber : Option Current → Answer → Type 0
+HadNumber current (Ok journal) = next_generation current < 2 ^ 64
+HadNumber current (Err (None, fault)) = next_generation current < 2 ^ 64
+HadNumber current (Err (Some journal, fault)) = Unit {0}
+
 -- Why not: before any device there was want of memory, or no generation is left; the journal is as it was. Or the disk failed.
 abbrev pub IsWhyNot : Option Current → List Effect → Option (Option Current) × StoreFault → Type 0
 IsWhyNot current added (None, fault) = fault ≡ DiskFault

@@ -6,7 +6,7 @@ ghost use Rattle.checkpoint_records.specs.Rules.{KeepsRules};
 ghost use Rattle.checkpoint_slots.specs.Causes.{IsRecoveryFault, IsSettled, is_disk_fault};
 ghost use Rattle.checkpoint_slots.specs.Turns.{HasRoomFor, SteadyFile, next_generation};
 ghost use Rattle.checkpoint_slots.specs.declared.fault.StoreFault.TheVariants.{DiskFault as FaultOfDisk, Worn as IsWorn};
-ghost use Rattle.checkpoint_journal.specs.Journal.{Appends, Compacts, Compacted, behind, is_lost, size_of};
+ghost use Rattle.checkpoint_journal.specs.Journal.{Appends, Compacts, Compacted, HadNumber, behind, is_lost, size_of};
 ghost use Rattle.checkpoint_journal.specs.Writing.{PutsAll};
 
 use byteorder::{ByteOrder, LittleEndian};
@@ -127,6 +127,7 @@ impl Journal {
         requires fits { HasRoomFor self (size_of delta.now) }
         ensures effects { Added (D.outside disk.old).told (D.outside disk.new).told (Appends self delta.now result) }
         ensures worn { next_generation self ≡ 2 ^ 64 → result ≡ Err (Some self, IsWorn) }
+        ensures numbered { HadNumber self result }
         ensures size { (D.outside disk.new).size ≡ (D.outside disk.old).size }
         ensures uses { UsesDisk (D.outside disk.old) (D.outside disk.new) (is_lost result) }
     {
@@ -162,6 +163,7 @@ impl Journal {
         requires rules { KeepsRules book.now }
         ensures effects { Added (D.outside disk.old).told (D.outside disk.new).told (Compacts self book.now result) }
         ensures worn { next_generation self ≡ 2 ^ 64 → result ≡ Err (Some self, IsWorn) }
+        ensures numbered { HadNumber self result }
         ensures size { (D.outside disk.new).size ≡ (D.outside disk.old).size }
         ensures uses { UsesDisk (D.outside disk.old) (D.outside disk.new) (is_lost result) }
     {

@@ -146,7 +146,8 @@ impl Steady {
 
     /// Whether no generation is left: the current one is 18,446,744,073,709,551,615.
     pub fn worn(&self) -> bool
-        ensures { IsTrue result ↔ next_generation self.now ≡ 2 ^ 64 }
+        ensures is { IsTrue result ↔ next_generation self.now ≡ 2 ^ 64 }
+        ensures bound { next_generation self.now ≤ 2 ^ 64 }
     {
         match self.current {
             Some(current) => current.generation == u64::MAX,

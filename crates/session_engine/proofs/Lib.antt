@@ -3,6 +3,7 @@ pub mod Connections
 pub mod Adding
 pub mod Performing
 pub mod Storing
+pub mod Writing
 pub mod Counting
 pub mod Following
 pub mod Showing

@@ -28,6 +28,7 @@ use Rattle.session_engine.specs.Machine.{Machine, acts_of, after_all, opening_ac
 use Rattle.session_engine.specs.Saved.{Performs}
 use Rattle.session_engine.specs.Stops.{Stops, StopsAt}
 use Rattle.session_engine.specs.Session.{Serving, StandsFor, Starts, StepsTo}
+use Rattle.session_engine.specs.Store.{Stored, store_of}
 use Rattle.session_engine.specs.Shown.{Carried, IsShown, Shows, all_cut}
 use Rattle.session_engine.specs.declared.engine.Engine.{Engine}
 use Rattle.session_engine.specs.declared.fault.Halt.{Halt}
@@ -240,7 +241,7 @@ step_goes old new session next event core carried same goes cookie opening curre
       );
     }
 
-pub step_ends : (old new : Outside) (session : Session) (event : Event) (core : Engine) (next : Option Current) (marks : Marks) → marks ≡ core.manager.session.marks → ((m : Machine) → Shows all_cut session.engine m → Carried old.told new.told session.store core (step m event) (Ok next)) → ((m : Machine) → Shows all_cut session.engine m → has_finish (acts_of (step m event)) ≡ true) → Stepping old new session event (Ok (Finished marks))
+pub step_ends : (old new : Outside) (session : Session) (event : Event) (core : Engine) (next : Stored) (marks : Marks) → marks ≡ core.manager.session.marks → ((m : Machine) → Shows all_cut session.engine m → Carried old.told new.told session.store core (step m event) (Ok next)) → ((m : Machine) → Shows all_cut session.engine m → has_finish (acts_of (step m event)) ≡ true) → Stepping old new session event (Ok (Finished marks))
 step_ends old new session event core next marks is_marks carried ends cookie opening current effects stands =
     let m : Machine = after_all (start cookie opening) (heard effects) in
     let out = carried m stands.shows in
@@ -283,10 +284,14 @@ unopened_by outside size LacksMemory cause = tt
 pub recovered_by : (old new : Outside) (opening : Book) (current : Option Current) → HasToldSize new → new.first ≡ old.first → new.size ≡ 16777280 → ((file : List ℕ) → IsSettled old file → SteadyFile current opening file) → IsRecovered old opening current
 recovered_by old new opening current sized same is_size recovers file settled = (settled.size ∙ (sized settled.began (same ∙ settled.first) ∙ is_size), recovers file settled)
 
-pub opens : (cookie : Cookie) (old between new : Outside) (opening : Book) (current : Option Current) (session : Session) → IsRecovered old opening current → new.size ≡ 16777280 → opening.epoch < 4294967295 → KeepsRules opening → between.told ≡ old.told → Added between.told new.told (Performs current (opening_acts opening) (Ok session.store)) → Shows all_cut session.engine (start cookie opening) → Starts cookie old new (Ok session)
-opens cookie old between new opening current session recovered sized below rules quiet done shows = record {
+-- the store's turn has the book that was opened
+as_opened : (store : Stored) (opening : Book) (P : Stored → Type 0) → store.book ≡ opening → P store → P (store_of store.journal opening)
+as_opened store opening P same p = subst (λ (book : Book). P (store_of store.journal book)) same p
+
+pub opens : (cookie : Cookie) (old between new : Outside) (opening : Book) (store : Stored) (session : Session) → store.book ≡ opening → IsRecovered old opening store.journal → new.size ≡ 16777280 → opening.epoch < 4294967295 → KeepsRules opening → between.told ≡ old.told → Added between.told new.told (Performs store (opening_acts opening) (Ok session.store)) → Shows all_cut session.engine (start cookie opening) → Starts cookie old new (Ok session)
+opens cookie old between new opening store session same recovered sized below rules quiet done shows = record {
   book = opening;
-  current = current;
+  current = store.journal;
   recovered = recovered;
   size = sized;
   below = below;
@@ -294,14 +299,14 @@ opens cookie old between new opening current session recovered sized below rules
   adds = record {
     effects = done.effects;
     added = done.added ∙ ap (λ t. adds t done.effects) quiet;
-    holds = (stands_begin cookie opening current session done.effects done.holds shows, done.holds.out.going.deaf);
+    holds = (stands_begin cookie opening store.journal session done.effects (as_opened store opening (λ s. Performs s (opening_acts opening) (Ok session.store) done.effects) same done.holds) shows, done.holds.out.going.deaf);
   };
 }
 
-pub opens_not : (cookie : Cookie) (old between new : Outside) (opening : Book) (current : Option Current) (halt : Halt) (fault : ServeFault) → fault ≡ fault_of halt → IsRecovered old opening current → new.size ≡ 16777280 → opening.epoch < 4294967295 → KeepsRules opening → between.told ≡ old.told → Added between.told new.told (Performs current (opening_acts opening) (Err halt)) → Starts cookie old new (Err fault)
-opens_not cookie old between new opening current halt fault is_fault recovered sized below rules quiet done = rw is_fault (inr (record {
+pub opens_not : (cookie : Cookie) (old between new : Outside) (opening : Book) (store : Stored) (halt : Halt) (fault : ServeFault) → store.book ≡ opening → fault ≡ fault_of halt → IsRecovered old opening store.journal → new.size ≡ 16777280 → opening.epoch < 4294967295 → KeepsRules opening → between.told ≡ old.told → Added between.told new.told (Performs store (opening_acts opening) (Err halt)) → Starts cookie old new (Err fault)
+opens_not cookie old between new opening store halt fault same is_fault recovered sized below rules quiet done = rw is_fault (inr (record {
   book = opening;
-  current = current;
+  current = store.journal;
   recovered = recovered;
   size = sized;
   below = below;
@@ -309,7 +314,7 @@ opens_not cookie old between new opening current halt fault is_fault recovered s
   adds = record {
     effects = done.effects;
     added = done.added ∙ ap (λ t. adds t done.effects) quiet;
-    holds = (record { runs = runs_unopened cookie opening current halt done.effects done.holds; in_time = never_spent halt }, done.holds.out.going.deaf);
+    holds = (record { runs = runs_unopened cookie opening store.journal halt done.effects (as_opened store opening (λ s. Performs s (opening_acts opening) (Err halt) done.effects) same done.holds); in_time = never_spent halt }, done.holds.out.going.deaf);
   };
 }))
 

@@ -1,5 +1,5 @@
 -- Acts that are done one after another: what was done, and what the store has at each point.
-use Rattle.std.proofs.Common.{◌≡◌, inl, inr, arith, ℕ, ◌+◌, ◌-◌, ◌<◌, ◌≤◌, ◌^◌, zero, suc, Bool, true, false, IsTrue, List, [], ◌∷◌, ◌++◌, length, take, Option, Result, Ok, Err, IfErr, IfOk, IsErrOf, is_ok, refl, sym, ◌∙◌, ap, subst, append_assoc}
+use Rattle.std.proofs.Common.{◌≡◌, ◌⊎◌, inl, inr, arith, ℕ, ◌+◌, ◌-◌, ◌<◌, ◌≤◌, ◌^◌, zero, suc, Bool, true, false, IsTrue, List, [], ◌∷◌, ◌++◌, length, take, Option, Result, Ok, Err, IfErr, IfOk, IsErrOf, is_ok, refl, sym, ◌∙◌, ap, subst, append_assoc}
 use Rattle.std.proofs.Math.Seq.{take-append-add}
 use Rattle.std.proofs.lemmas.List.{append-nil, take-append-le}
 use Rattle.std.proofs.lemmas.Bool.{cases_lt, false≢true}
@@ -20,8 +20,9 @@ use Rattle.checkpoint_journal.proofs.Swapping.{fronts_two, opened_in-append}
 use Rattle.session_engine.specs.Acts.{book_after, book_with, commits_in, deed_in, deeds_in}
 use Rattle.session_engine.specs.Causes.{IsNotWorn, fault_of}
 use Rattle.session_engine.specs.Doing.{CarriesOut, Going}
-use Rattle.session_engine.specs.Saved.{IsSaved, Leaves, Performs, Saves, WearsOut}
-use Rattle.session_engine.specs.Stops.{HasNumbers, HasOpened, IsLeft, IsNumbered, IsRefused, NextIs, Stops, is_commit, is_of_links, is_print}
+use Rattle.session_engine.specs.Saved.{IsSaved, Performs, Saves, WearsOut}
+use Rattle.session_engine.specs.Store.{IsRaised, Leaves, Stored, store_of}
+use Rattle.session_engine.specs.Stops.{HasFound, HasNumbers, HasOpened, IsLeft, IsNumbered, IsRefused, NextIs, Stops, is_commit, is_of_links, is_print}
 use Rattle.session_engine.specs.Starting.{Launches, handed_on}
 use Rattle.session_engine.specs.declared.acts.Act.{Act}
 use Rattle.session_model.specs.declared.events.Reason.{Reason}
@@ -113,25 +114,44 @@ out_stopped xs ys es out = record {
   none_left = λ e. absurd (false≢true e);
 }
 
+-- the turn behind acts, and behind others
+leaves_then : (store next last : Stored) (xs ys : List Act) (es ds : List Effect) → Leaves store xs es next → Leaves next ys ds last → Leaves store (xs ++ ys) (es ++ ds) last
+leaves_then store next last xs ys es ds one two = (
+  two.0 ∙ (ap (λ b. book_after b ys) one.0 ∙ sym (book_after-append store.book xs ys)),
+  λ first before stands. rw (sym (append_assoc before es ds)) (two.1 first (before ++ es) (one.1 first before stands)),
+)
+
+pub raised_then : (n middle last : ℕ) (xs ys : List Act) → IsRaised (commits_in xs) n middle → IsRaised (commits_in ys) middle last → IsRaised (commits_in (xs ++ ys)) n last
+raised_then n middle last xs ys one two = record {
+  at_least = omega (arith, one.at_least, two.at_least);
+  at_most = omega (arith, one.at_most, two.at_most, commits_in-append xs ys);
+}
+
 -- the store wears out behind other acts
-worn_behind : (current next : Option Current) (xs ys : List Act) (es ds : List Effect) → deeds es ≡ deeds_in xs → next_generation next ≡ next_generation current + commits_in xs → WearsOut next ys ds → WearsOut current (xs ++ ys) (es ++ ds)
-worn_behind current next xs ys es ds done counts worn = record {
+worn_behind : (store next : Stored) (xs ys : List Act) (es ds : List Effect) → deeds es ≡ deeds_in xs → Leaves store xs es next → IsRaised (commits_in xs) (next_generation store.journal) (next_generation next.journal) → WearsOut next ys ds → WearsOut store (xs ++ ys) (es ++ ds)
+worn_behind store next xs ys es ds done leaves raised worn = record {
   front = xs ++ worn.front;
   rest = worn.rest;
   book = worn.book;
   parts = append_assoc xs worn.front (Commit worn.book ∷ worn.rest) ∙ ap (λ zs. xs ++ zs) worn.parts;
   same = flat_map-append deed_of es ds ∙ (ap (λ zs. zs ++ deeds ds) done ∙ (ap (λ zs. deeds_in xs ++ zs) worn.same ∙ sym (flat_map-append deed_in xs worn.front)));
-  last = omega (arith, commits_in-append xs worn.front, counts, worn.last);
+  now = worn.now;
+  leaves = leaves_then store next worn.now xs worn.front es ds leaves worn.leaves;
+  last = worn.last;
+  raised = raised_then (next_generation store.journal) (next_generation next.journal) (next_generation worn.now.journal) xs worn.front raised worn.raised;
 }
 
-worn_before : (current : Option Current) (xs ys : List Act) (es : List Effect) → WearsOut current xs es → WearsOut current (xs ++ ys) es
-worn_before current xs ys es worn = record {
+worn_before : (store : Stored) (xs ys : List Act) (es : List Effect) → WearsOut store xs es → WearsOut store (xs ++ ys) es
+worn_before store xs ys es worn = record {
   front = worn.front;
   rest = worn.rest ++ ys;
   book = worn.book;
   parts = sym (append_assoc worn.front (Commit worn.book ∷ worn.rest) ys) ∙ ap (λ zs. zs ++ ys) worn.parts;
   same = worn.same;
+  now = worn.now;
+  leaves = worn.leaves;
   last = worn.last;
+  raised = worn.raised;
 }
 
 -- Where acts stop
@@ -172,22 +192,73 @@ left_behind : (fault : ServeFault) (b : Book) (xs front rest : List Act) (file :
 left_behind fault b xs front rest file (inl recovers) = inl (rw (book_after-append b xs front) recovers)
 left_behind fault b xs front rest file (inr torn) = inr (torn.0, rw (append_assoc xs front (take 1 rest), book_after-append b xs (front ++ take 1 rest)) torn.1)
 
-sums : (n a b m : ℕ) → m ≡ n + a → (0 < a → n + a ≤ 2 ^ 64) → (0 < b → m + b ≤ 2 ^ 64) → 0 < a + b → n + (a + b) ≤ 2 ^ 64
-sums n a zero m e one two some = omega (arith, one (omega (arith, some)))
-sums n a (suc b) m e one two some = omega (arith, e, two (omega arith))
+-- A commit has its place in one of two lists of acts.
 
-pub numbered_then : (current next : Option Current) (xs ys : List Act) → next_generation next ≡ next_generation current + commits_in xs → IsNumbered current xs → IsNumbered next ys → IsNumbered current (xs ++ ys)
-numbered_then current next xs ys counts one two = rw (commits_in-append xs ys) (sums (next_generation current) (commits_in xs) (commits_in ys) (next_generation next) counts one two)
+same_head : (x y : Act) (xs ys : List Act) → x ∷ xs ≡ y ∷ ys → x ≡ y
+same_head x y xs ys e = cc
 
-numbers_behind : (fault : ServeFault) (current next : Option Current) (xs ys : List Act) → next_generation next ≡ next_generation current + commits_in xs → IsNumbered current xs → HasNumbers next fault ys → HasNumbers current fault (xs ++ ys)
-numbers_behind (Damaged at) current next xs ys counts one two = numbered_then current next xs ys counts one two
-numbers_behind (WrongSize size) current next xs ys counts one two = numbered_then current next xs ys counts one two
-numbers_behind DiskFault current next xs ys counts one two = omega (arith, commits_in-append xs ys, counts, two)
-numbers_behind LinkFault current next xs ys counts one two = numbered_then current next xs ys counts one two
-numbers_behind ConsoleFault current next xs ys counts one two = numbered_then current next xs ys counts one two
-numbers_behind WornFault current next xs ys counts one two = omega (arith, commits_in-append xs ys, counts, two)
-numbers_behind Spent current next xs ys counts one two = numbered_then current next xs ys counts one two
-numbers_behind MemoryFault current next xs ys counts one two = numbered_then current next xs ys counts one two
+same_tail : (x y : Act) (xs ys : List Act) → x ∷ xs ≡ y ∷ ys → xs ≡ ys
+same_tail x y xs ys e = cc
+
+same_both : (x y : Act) (xs ys : List Act) → x ≡ y → xs ≡ ys → x ∷ xs ≡ y ∷ ys
+same_both x y xs ys one two = cc
+
+split_at : (front rest xs ys : List Act) (book : Book) → front ++ Commit book ∷ rest ≡ xs ++ ys → ((more : List Act) × (front ++ Commit book ∷ more ≡ xs)) ⊎ ((behind : List Act) × (front ≡ xs ++ behind) × (behind ++ Commit book ∷ rest ≡ ys))
+split_at [] rest [] ys book e = inr ([], refl, e)
+split_at [] rest (x ∷ xs) ys book e = inl (xs, same_both (Commit book) x xs xs (same_head (Commit book) x rest (xs ++ ys) e) refl)
+split_at (f ∷ front) rest [] ys book e = inr (f ∷ front, refl, e)
+split_at (f ∷ front) rest (x ∷ xs) ys book e =
+    let head : f ≡ x = same_head f x (front ++ Commit book ∷ rest) (xs ++ ys) e in
+    elim (split_at front rest xs ys book (same_tail f x (front ++ Commit book ∷ rest) (xs ++ ys) e)) [
+      | inl h ↦ inl (h.0, same_both f x (front ++ Commit book ∷ h.0) xs head h.1)
+      | inr h ↦ inr (h.0, same_both f x front (xs ++ h.0) head h.1, h.2)
+    ]
+
+pub found_more : (store : Stored) (front : List Act) (es ds : List Effect) → HasFound store front es → HasFound store front (es ++ ds)
+found_more store front es ds found = record {
+  done = found.done;
+  left = found.left ++ ds;
+  parts = sym (append_assoc found.done found.left ds) ∙ ap (λ zs. zs ++ ds) found.parts;
+  now = found.now;
+  leaves = found.leaves;
+  number = found.number;
+}
+
+found_behind : (store next : Stored) (xs front : List Act) (es ds : List Effect) → Leaves store xs es next → HasFound next front ds → HasFound store (xs ++ front) (es ++ ds)
+found_behind store next xs front es ds leaves found = record {
+  done = es ++ found.done;
+  left = found.left;
+  parts = append_assoc es found.done found.left ∙ ap (λ zs. es ++ zs) found.parts;
+  now = found.now;
+  leaves = leaves_then store next found.now xs front es found.done leaves found.leaves;
+  number = found.number;
+}
+
+pub found_now : (store : Stored) (es : List Effect) → next_generation store.journal < 2 ^ 64 → HasFound store [] es
+found_now store es number = record { done = []; left = es; parts = refl; now = store; leaves = (refl, λ first before stands. rw (append-nil before) stands); number = number }
+
+-- where nothing is committed
+numbered_none : (store : Stored) (acts : List Act) (es : List Effect) → commits_in acts ≡ 0 → IsNumbered store acts es
+numbered_none store acts es none front rest book parts = absurd (omega (arith, none, ap commits_in parts, commits_in-append front (Commit book ∷ rest)))
+
+pub numbered_then : (store next : Stored) (xs ys : List Act) (es ds : List Effect) → Leaves store xs es next → IsNumbered store xs es → IsNumbered next ys ds → IsNumbered store (xs ++ ys) (es ++ ds)
+numbered_then store next xs ys es ds leaves one two front rest book parts = elim (split_at front rest xs ys book parts) [
+  | inl h ↦ found_more store front es ds (one front h.0 book h.1)
+  | inr h ↦ subst (λ (zs : List Act). HasFound store zs (es ++ ds)) (sym h.1) (found_behind store next xs h.0 es ds leaves (two h.0 rest book h.2))
+]
+
+numbers_behind : (fault : ServeFault) (store next : Stored) (xs ys : List Act) (es ds : List Effect) → Leaves store xs es next → IsRaised (commits_in xs) (next_generation store.journal) (next_generation next.journal) → IsNumbered store xs es → HasNumbers next fault ys ds → HasNumbers store fault (xs ++ ys) (es ++ ds)
+numbers_behind (Damaged at) store next xs ys es ds leaves raised one two = numbered_then store next xs ys es ds leaves one two
+numbers_behind (WrongSize size) store next xs ys es ds leaves raised one two = numbered_then store next xs ys es ds leaves one two
+numbers_behind DiskFault store next xs ys es ds leaves raised one two = (numbered_then store next xs ys es ds leaves one two.0, found_behind store next xs ys es ds leaves two.1)
+numbers_behind LinkFault store next xs ys es ds leaves raised one two = numbered_then store next xs ys es ds leaves one two
+numbers_behind ConsoleFault store next xs ys es ds leaves raised one two = numbered_then store next xs ys es ds leaves one two
+numbers_behind WornFault store next xs ys es ds leaves raised one two = (
+  numbered_then store next xs ys es ds leaves one two.0,
+  raised_then (next_generation store.journal) (next_generation next.journal) (2 ^ 64) xs ys raised two.1,
+)
+numbers_behind Spent store next xs ys es ds leaves raised one two = numbered_then store next xs ys es ds leaves one two
+numbers_behind MemoryFault store next xs ys es ds leaves raised one two = numbered_then store next xs ys es ds leaves one two
 
 opened_behind : (fault : ServeFault) (xs front : List Act) (es ds : List Effect) → opened_in es ≡ commits_in xs → HasOpened fault front ds → HasOpened fault (xs ++ front) (es ++ ds)
 opened_behind fault xs front es ds one (inl disk) = inl disk
@@ -207,55 +278,54 @@ stops_before current b xs ys halt es stops = record {
 }
 
 -- and behind others that were done
-pub stops_behind : (current next : Option Current) (b : Book) (xs ys : List Act) (fault : ServeFault) (At : List Act → Type 0) (es ds : List Effect) → deeds es ≡ deeds_in xs → next_generation next ≡ next_generation current + commits_in xs → opened_in es ≡ commits_in xs → IsNumbered current xs
+pub stops_behind : (current next : Option Current) (b : Book) (xs ys : List Act) (fault : ServeFault) (At : List Act → Type 0) (es ds : List Effect) → deeds es ≡ deeds_in xs → IsRaised (commits_in xs) (next_generation current) (next_generation next) → opened_in es ≡ commits_in xs → IsNumbered (store_of current b) xs es
     → ((first : List ℕ) (before : List Effect) → SteadyStands current b first before → SteadyStands next (book_after b xs) first (before ++ es)) → Stops next (book_after b xs) ys fault At ds → Stops current b (xs ++ ys) fault At (es ++ ds)
-stops_behind current next b xs ys fault At es ds done counts opened numbered leaves stops = record {
+stops_behind current next b xs ys fault At es ds done raised opened numbered leaves stops = record {
   front = xs ++ stops.front;
   rest = stops.rest;
   parts = append_assoc xs stops.front stops.rest ∙ ap (λ zs. xs ++ zs) stops.parts;
   same = flat_map-append deed_of es ds ∙ (ap (λ zs. zs ++ deeds ds) done ∙ (ap (λ zs. deeds_in xs ++ zs) stops.same ∙ sym (flat_map-append deed_in xs stops.front)));
   at = stops.at;
   opens = opened_behind fault xs stops.front es ds opened stops.opens;
-  numbers = numbers_behind fault current next xs stops.front counts numbered stops.numbers;
+  numbers = numbers_behind fault (store_of current b) (store_of next (book_after b xs)) xs stops.front es ds (refl, leaves) raised numbered stops.numbers;
   leaves = λ first before stands file image. left_behind fault b xs stops.front stops.rest file (stops.leaves first (before ++ es) (leaves first before stands) file (rw (sym (append_assoc before es ds)) at image));
 }
 
 -- acts that were all done, and then others
-pub performs_then : (current next : Option Current) (xs ys : List Act) (answer : Result (Option Current) Halt) (es ds : List Effect) → Performs current xs (Ok next) es → Performs next ys answer ds → Performs current (xs ++ ys) answer (es ++ ds)
-performs_then current next xs ys answer es ds one two =
+pub performs_then : (store next : Stored) (xs ys : List Act) (answer : Result Stored Halt) (es ds : List Effect) → Performs store xs (Ok next) es → Performs next ys answer ds → Performs store (xs ++ ys) answer (es ++ ds)
+performs_then store next xs ys answer es ds one two =
     let done : deeds es ≡ deeds_in xs = whole_done xs es one.out in
     record {
       out = out_then xs ys (is_ok answer) es ds one.out two.out;
-      saves = λ first before book stands. fronts_two (λ zs. (file : List ℕ) → Image first (before ++ zs) file → IsSaved book (xs ++ ys) (deeds zs) file) es ds
-          (λ n file image. saved_before book xs ys (deeds (take n es)) file (one.saves first before book stands n file image))
+      saves = λ first before stands. fronts_two (λ zs. (file : List ℕ) → Image first (before ++ zs) file → IsSaved store.book (xs ++ ys) (deeds zs) file) es ds
+          (λ n file image. saved_before store.book xs ys (deeds (take n es)) file (one.saves first before stands n file image))
           (λ n file image.
-          let later = two.saves first (before ++ es) (book_after book xs) (one.leaves first before book stands) n file (rw (sym (append_assoc before es (take n ds))) at image) in
-          rw (flat_map-append deed_of es (take n ds), done) (saved_behind book xs ys (deeds (take n ds)) file later));
-      leaves = ok_map (Leaves next ys ds) (Leaves current (xs ++ ys) (es ++ ds)) answer (λ last leaves first before book stands.
-          rw (book_after-append book xs ys, sym (append_assoc before es ds)) (leaves first (before ++ es) (book_after book xs) (one.leaves first before book stands))) two.leaves;
-      counts = ok_map (λ last. next_generation last ≡ next_generation next + commits_in ys) (λ last. next_generation last ≡ next_generation current + commits_in (xs ++ ys)) answer (λ last counts.
-          omega (arith, counts, one.counts, commits_in-append xs ys)) two.counts;
+          let later = two.saves first (before ++ es) (one.leaves.1 first before stands) n file (rw (sym (append_assoc before es (take n ds))) at image) in
+          rw (flat_map-append deed_of es (take n ds), done) (saved_behind store.book xs ys (deeds (take n ds)) file (rw one.leaves.0 at later)));
+      leaves = ok_map (Leaves next ys ds) (Leaves store (xs ++ ys) (es ++ ds)) answer (λ last leaves. leaves_then store next last xs ys es ds one.leaves leaves) two.leaves;
+      counts = ok_map (λ last. IsRaised (commits_in ys) (next_generation next.journal) (next_generation last.journal)) (λ last. IsRaised (commits_in (xs ++ ys)) (next_generation store.journal) (next_generation last.journal)) answer (λ last raised.
+          raised_then (next_generation store.journal) (next_generation next.journal) (next_generation last.journal) xs ys one.counts raised) two.counts;
       opens = ok_map (λ last. opened_in ds ≡ commits_in ys) (λ last. opened_in (es ++ ds) ≡ commits_in (xs ++ ys)) answer (λ last opens.
           omega (arith, opens, one.opens, opened_in-append es ds, commits_in-append xs ys)) two.opens;
-      worn = λ e. worn_behind current next xs ys es ds done one.counts (two.worn e);
-      numbered = ok_map (λ last. IsNumbered next ys) (λ last. IsNumbered current (xs ++ ys)) answer (λ last numbered. numbered_then current next xs ys one.counts one.numbered numbered) two.numbered;
+      worn = λ e. worn_behind store next xs ys es ds done one.leaves one.counts (two.worn e);
+      numbered = ok_map (λ last. IsNumbered next ys ds) (λ last. IsNumbered store (xs ++ ys) (es ++ ds)) answer (λ last numbered. numbered_then store next xs ys es ds one.leaves one.numbered numbered) two.numbered;
       settles = λ not. settle_then es ds (one.settles (λ e. absurd cc)) (two.settles not);
-      stopped = err_map (λ halt. (b : Book) → Stops next b ys (fault_of halt) (IsRefused halt) ds) (λ halt. (b : Book) → Stops current b (xs ++ ys) (fault_of halt) (IsRefused halt) (es ++ ds)) answer (λ halt stops b.
-          stops_behind current next b xs ys (fault_of halt) (IsRefused halt) es ds done one.counts one.opens one.numbered (λ first before stands. one.leaves first before b stands) (stops (book_after b xs))) two.stopped;
+      stopped = err_map (λ halt. Stops next.journal next.book ys (fault_of halt) (IsRefused halt) ds) (λ halt. Stops store.journal store.book (xs ++ ys) (fault_of halt) (IsRefused halt) (es ++ ds)) answer (λ halt stops.
+          stops_behind store.journal next.journal store.book xs ys (fault_of halt) (IsRefused halt) es ds done one.counts one.opens one.numbered (λ first before stands. rw one.leaves.0 at (one.leaves.1 first before stands)) (rw one.leaves.0 at stops)) two.stopped;
     }
 
 -- acts of which one was refused, and others behind them
-pub performs_stopped : (current : Option Current) (xs ys : List Act) (halt : Halt) (es : List Effect) → Performs current xs (Err halt) es → Performs current (xs ++ ys) (Err halt) es
-performs_stopped current xs ys halt es one = record {
+pub performs_stopped : (store : Stored) (xs ys : List Act) (halt : Halt) (es : List Effect) → Performs store xs (Err halt) es → Performs store (xs ++ ys) (Err halt) es
+performs_stopped store xs ys halt es one = record {
   out = out_stopped xs ys es one.out;
-  saves = λ first before book stands n file image. saved_before book xs ys (deeds (take n es)) file (one.saves first before book stands n file image);
+  saves = λ first before stands n file image. saved_before store.book xs ys (deeds (take n es)) file (one.saves first before stands n file image);
   leaves = tt;
   counts = tt;
   opens = tt;
-  worn = λ e. worn_before current xs ys es (one.worn e);
+  worn = λ e. worn_before store xs ys es (one.worn e);
   numbered = tt;
   settles = one.settles;
-  stopped = λ b. stops_before current b xs ys halt es (one.stopped b);
+  stopped = stops_before store.journal store.book xs ys halt es one.stopped;
 }
 
 take_nothing : {A : Type 0} (n : ℕ) → ◌≡◌ {A = List A} (take n []) []
@@ -263,12 +333,12 @@ take_nothing zero = refl
 take_nothing (suc n) = refl
 
 -- at no effect the store has what it had
-pub saved_still : (current : Option Current) (acts : List Act) → Saves current acts []
-saved_still current acts first before book stands n file image =
+pub saved_still : (store : Stored) (acts : List Act) → Saves store acts []
+saved_still store acts first before stands n file image =
     let here : Image first before file = rw (take_nothing {A = Effect} n, append-nil before) at image in
     rw (take_nothing {A = Effect} n) (record { front = []; rest = acts; parts = refl; same = refl; recovers = (stands.images file here).recovers })
 
-not_worn : (halt : Halt) → IsNotWorn {A = Option Current} (Err halt) → IsErrOf {T = Option Current} (Err halt) Worn → ⊥
+not_worn : (halt : Halt) → IsNotWorn {A = Stored} (Err halt) → IsErrOf {T = Stored} (Err halt) Worn → ⊥
 not_worn Links able e = cc
 not_worn Console able e = cc
 not_worn Disk able e = cc
@@ -276,8 +346,8 @@ not_worn Worn able e = able
 not_worn NoMemory able e = cc
 
 -- at first there is nothing to be numbered
-pub none_numbered : (current : Option Current) → IsNumbered current []
-none_numbered current some = absurd (omega (arith, some))
+pub none_numbered : (store : Stored) (es : List Effect) → IsNumbered store [] es
+none_numbered store es = numbered_none store [] es refl
 
 -- a commit counts as one
 commit_counts : (act : Act) → IsTrue (is_commit act) → commits_in (act ∷ []) ≡ 1
@@ -289,32 +359,32 @@ commit_counts (Print text) is = absurd (false≢true is)
 commit_counts Finish is = absurd (false≢true is)
 
 -- the disk neither fails nor is worn at an act that is no commit
-deed_able : (halt : Halt) (act : Act) → commits_in (act ∷ []) ≡ 0 → IsRefused halt (act ∷ []) → IsNotWorn {A = Option Current} (Err halt)
+deed_able : (halt : Halt) (act : Act) → commits_in (act ∷ []) ≡ 0 → IsRefused halt (act ∷ []) → IsNotWorn {A = Stored} (Err halt)
 deed_able Links act none refused = tt
 deed_able Console act none refused = tt
 deed_able Disk act none refused = tt
 deed_able Worn act none refused = absurd (omega (arith, none, commit_counts act refused))
 deed_able NoMemory act none refused = tt
 
-deed_numbers : (current : Option Current) (halt : Halt) (act : Act) → commits_in (act ∷ []) ≡ 0 → IsRefused halt (act ∷ []) → HasNumbers current (fault_of halt) []
-deed_numbers current Links act none refused = none_numbered current
-deed_numbers current Console act none refused = none_numbered current
-deed_numbers current Disk act none refused = absurd (omega (arith, none, commit_counts act refused))
-deed_numbers current Worn act none refused = absurd (omega (arith, none, commit_counts act refused))
-deed_numbers current NoMemory act none refused = none_numbered current
+deed_numbers : (store : Stored) (halt : Halt) (act : Act) → commits_in (act ∷ []) ≡ 0 → IsRefused halt (act ∷ []) → HasNumbers store (fault_of halt) [] []
+deed_numbers store Links act none refused = none_numbered store []
+deed_numbers store Console act none refused = none_numbered store []
+deed_numbers store Disk act none refused = absurd (omega (arith, none, commit_counts act refused))
+deed_numbers store Worn act none refused = absurd (omega (arith, none, commit_counts act refused))
+deed_numbers store NoMemory act none refused = none_numbered store []
 
 -- nothing was done, for another cause than a worn store
-pub performs_none : (current : Option Current) (acts : List Act) (halt : Halt) → IsNotWorn {A = Option Current} (Err halt) → IsRefused halt acts → HasNumbers current (fault_of halt) [] → Performs current acts (Err halt) []
-performs_none current acts halt able refused numbers = record {
+pub performs_none : (store : Stored) (acts : List Act) (halt : Halt) → IsNotWorn {A = Stored} (Err halt) → IsRefused halt acts → HasNumbers store (fault_of halt) [] [] → Performs store acts (Err halt) []
+performs_none store acts halt able refused numbers = record {
   out = record { left = acts; going = still acts; none_left = λ e. absurd (false≢true e) };
-  saves = saved_still current acts;
+  saves = saved_still store acts;
   leaves = tt;
   counts = tt;
   opens = tt;
   worn = λ e. absurd (not_worn halt able e);
   numbered = tt;
   settles = λ not. settle_none;
-  stopped = λ b. record {
+  stopped = record {
     front = [];
     rest = acts;
     parts = refl;
@@ -327,15 +397,15 @@ performs_none current acts halt able refused numbers = record {
 }
 
 -- nothing had to be done
-pub performs_nothing : (current : Option Current) → Performs current [] (Ok current) []
-performs_nothing current = record {
+pub performs_nothing : (store : Stored) → Performs store [] (Ok store) []
+performs_nothing store = record {
   out = record { left = []; going = still []; none_left = λ e. refl };
-  saves = saved_still current [];
-  leaves = λ first before book stands. rw (append-nil before) stands;
-  counts = omega arith;
+  saves = saved_still store [];
+  leaves = (refl, λ first before stands. rw (append-nil before) stands);
+  counts = record { at_least = omega arith; at_most = omega arith };
   opens = refl;
   worn = λ e. absurd cc;
-  numbered = none_numbered current;
+  numbered = none_numbered store [];
   settles = λ not. settle_none;
   stopped = tt;
 }
@@ -361,37 +431,37 @@ one_front : (effect : Effect) (n : ℕ) (P : List Effect → Type 0) → P [] �
 one_front effect zero P none one = none
 one_front effect (suc n) P none one = rw (take_nothing {A = Effect} n) one
 
-pub performs_deed : (current : Option Current) (effect : Effect) (act : Act) → IsDeed effect act → Performs current (act ∷ []) (Ok current) (effect ∷ [])
-performs_deed current effect act deed = record {
+pub performs_deed : (store : Stored) (effect : Effect) (act : Act) → IsDeed effect act → Performs store (act ∷ []) (Ok store) (effect ∷ [])
+performs_deed store effect act deed = record {
   out = record { left = []; going = one_going effect act deed.done; none_left = λ e. refl };
-  saves = λ first before book stands n. one_front effect n (λ zs. (file : List ℕ) → Image first (before ++ zs) file → IsSaved book (act ∷ []) (deeds zs) file)
+  saves = λ first before stands n. one_front effect n (λ zs. (file : List ℕ) → Image first (before ++ zs) file → IsSaved store.book (act ∷ []) (deeds zs) file)
       (λ file image. record { front = []; rest = act ∷ []; parts = refl; same = refl; recovers = (stands.images file (rw (append-nil before) at image)).recovers })
       (λ file image. record {
         front = act ∷ [];
         rest = [];
         parts = refl;
         same = rw deed.done.does refl;
-        recovers = rw (deed.keeps book) ((stands_quiet current book first before effect deed.quiet stands).images file image).recovers;
+        recovers = rw (deed.keeps store.book) ((stands_quiet store.journal store.book first before effect deed.quiet stands).images file image).recovers;
       });
-  leaves = λ first before book stands. rw (deed.keeps book) (stands_quiet current book first before effect deed.quiet stands);
-  counts = omega (arith, deed.uncounted);
+  leaves = (sym (deed.keeps store.book), λ first before stands. stands_quiet store.journal store.book first before effect deed.quiet stands);
+  counts = record { at_least = omega arith; at_most = omega arith };
   opens = omega (arith, unopened effect deed.quiet, deed.uncounted);
   worn = λ e. absurd cc;
-  numbered = λ some. absurd (omega (arith, some, deed.uncounted));
+  numbered = numbered_none store (act ∷ []) (effect ∷ []) deed.uncounted;
   settles = λ not. settle_quiet effect deed.quiet;
   stopped = tt;
 }
 
 -- the end of the run is nothing that a device does
-pub performs_finish : (current : Option Current) → Performs current (Finish ∷ []) (Ok current) []
-performs_finish current = record {
+pub performs_finish : (store : Stored) → Performs store (Finish ∷ []) (Ok store) []
+performs_finish store = record {
   out = record { left = []; going = record { deaf = refl; quiet = refl; done = Finish ∷ []; parts = refl; so_far = refl; in_order = refl }; none_left = λ e. refl };
-  saves = saved_still current (Finish ∷ []);
-  leaves = λ first before book stands. rw (append-nil before) stands;
-  counts = omega arith;
+  saves = saved_still store (Finish ∷ []);
+  leaves = (refl, λ first before stands. rw (append-nil before) stands);
+  counts = record { at_least = omega arith; at_most = omega arith };
   opens = refl;
   worn = λ e. absurd cc;
-  numbered = none_numbered current;
+  numbered = numbered_none store (Finish ∷ []) [] refl;
   settles = λ not. settle_none;
   stopped = tt;
 }
@@ -399,35 +469,35 @@ performs_finish current = record {
 -- Calls, whether the world tells its effects or not
 
 -- one call of a device that isn't the store: at a refusal nothing was done
-pub told_deed : (current : Option Current) (effect : Effect) (act : Act) → IsDeed effect act → (old new : Option (List Effect)) (result : Result (Unit {0}) Halt) → IfErr result (λ halt. IsRefused halt (act ∷ [])) → new ≡ adds old (on_ok result (effect ∷ [])) → Added old new (Performs current (act ∷ []) (handed_on current result))
-told_deed current effect act deed old new (Ok x) able added = record { effects = effect ∷ []; added = added; holds = performs_deed current effect act deed }
-told_deed current effect act deed old new (Err halt) able added = record { effects = []; added = added; holds = performs_none current (act ∷ []) halt (deed_able halt act deed.uncounted able) able (deed_numbers current halt act deed.uncounted able) }
+pub told_deed : (store : Stored) (effect : Effect) (act : Act) → IsDeed effect act → (old new : Option (List Effect)) (result : Result (Unit {0}) Halt) → IfErr result (λ halt. IsRefused halt (act ∷ [])) → new ≡ adds old (on_ok result (effect ∷ [])) → Added old new (Performs store (act ∷ []) (handed_on store result))
+told_deed store effect act deed old new (Ok x) able added = record { effects = effect ∷ []; added = added; holds = performs_deed store effect act deed }
+told_deed store effect act deed old new (Err halt) able added = record { effects = []; added = added; holds = performs_none store (act ∷ []) halt (deed_able halt act deed.uncounted able) able (deed_numbers store halt act deed.uncounted able) }
 
 -- a command that was tried
-pub told_start : (current : Option Current) (reason : Reason) (command : Command) (old new : Option (List Effect)) (result : Result (Unit {0}) Halt) → IfErr result (λ halt. halt ≡ NoMemory) → Launches old new command result → Added old new (Performs current (Start reason command ∷ []) (handed_on current result))
-told_start current reason command old new (Ok x) able launches = record {
+pub told_start : (store : Stored) (reason : Reason) (command : Command) (old new : Option (List Effect)) (result : Result (Unit {0}) Halt) → IfErr result (λ halt. halt ≡ NoMemory) → Launches old new command result → Added old new (Performs store (Start reason command ∷ []) (handed_on store result))
+told_start store reason command old new (Ok x) able launches = record {
   effects = Started command launches.0 ∷ [];
   added = launches.1;
-  holds = performs_deed current (Started command launches.0) (Start reason command) (record { done = record { deaf = refl; quiet = refl; does = refl; shows = refl }; quiet = tt; keeps = λ book. refl; uncounted = refl });
+  holds = performs_deed store (Started command launches.0) (Start reason command) (record { done = record { deaf = refl; quiet = refl; does = refl; shows = refl }; quiet = tt; keeps = λ book. refl; uncounted = refl });
 }
-told_start current reason command old new (Err halt) able launches = record { effects = []; added = launches ∙ sym (adds-none old); holds = rw able (performs_none current (Start reason command ∷ []) NoMemory tt tt (none_numbered current)) }
+told_start store reason command old new (Err halt) able launches = record { effects = []; added = launches ∙ sym (adds-none old); holds = rw able (performs_none store (Start reason command ∷ []) NoMemory tt tt (none_numbered store [])) }
 
-pub told_finish : (current : Option Current) (old : Option (List Effect)) → Added old old (Performs current (Finish ∷ []) (Ok current))
-told_finish current old = record { effects = []; added = sym (adds-none old); holds = performs_finish current }
+pub told_finish : (store : Stored) (old : Option (List Effect)) → Added old old (Performs store (Finish ∷ []) (Ok store))
+told_finish store old = record { effects = []; added = sym (adds-none old); holds = performs_finish store }
 
-pub told_nothing : (current : Option Current) (old : Option (List Effect)) → Added old old (Performs current [] (Ok current))
-told_nothing current old = record { effects = []; added = sym (adds-none old); holds = performs_nothing current }
+pub told_nothing : (store : Stored) (old : Option (List Effect)) → Added old old (Performs store [] (Ok store))
+told_nothing store old = record { effects = []; added = sym (adds-none old); holds = performs_nothing store }
 
 -- nothing was done, for want of memory
-pub told_none : (current : Option Current) (acts : List Act) (old : Option (List Effect)) → Added old old (Performs current acts (Err NoMemory))
-told_none current acts old = record { effects = []; added = sym (adds-none old); holds = performs_none current acts NoMemory tt tt (none_numbered current) }
+pub told_none : (store : Stored) (acts : List Act) (old : Option (List Effect)) → Added old old (Performs store acts (Err NoMemory))
+told_none store acts old = record { effects = []; added = sym (adds-none old); holds = performs_none store acts NoMemory tt tt (none_numbered store []) }
 
-pub told_then : (current next : Option Current) (xs ys : List Act) (answer : Result (Option Current) Halt) (old middle new : Option (List Effect)) → Added old middle (Performs current xs (Ok next)) → Added middle new (Performs next ys answer) → Added old new (Performs current (xs ++ ys) answer)
-told_then current next xs ys answer old middle new one two = record {
+pub told_then : (store next : Stored) (xs ys : List Act) (answer : Result Stored Halt) (old middle new : Option (List Effect)) → Added old middle (Performs store xs (Ok next)) → Added middle new (Performs next ys answer) → Added old new (Performs store (xs ++ ys) answer)
+told_then store next xs ys answer old middle new one two = record {
   effects = one.effects ++ two.effects;
   added = two.added ∙ (ap (λ t. adds t two.effects) one.added ∙ adds-adds old one.effects two.effects);
-  holds = performs_then current next xs ys answer one.effects two.effects one.holds two.holds;
+  holds = performs_then store next xs ys answer one.effects two.effects one.holds two.holds;
 }
 
-pub told_stopped : (current : Option Current) (xs ys : List Act) (halt : Halt) (old new : Option (List Effect)) → Added old new (Performs current xs (Err halt)) → Added old new (Performs current (xs ++ ys) (Err halt))
-told_stopped current xs ys halt old new one = record { effects = one.effects; added = one.added; holds = performs_stopped current xs ys halt one.effects one.holds }
+pub told_stopped : (store : Stored) (xs ys : List Act) (halt : Halt) (old new : Option (List Effect)) → Added old new (Performs store xs (Err halt)) → Added old new (Performs store (xs ++ ys) (Err halt))
+told_stopped store xs ys halt old new one = record { effects = one.effects; added = one.added; holds = performs_stopped store xs ys halt one.effects one.holds }

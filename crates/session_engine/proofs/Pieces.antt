@@ -7,7 +7,7 @@ use Rattle.sm_world.specs.declared.effects.Effect.{Effect}
 use Rattle.sm_world.specs.declared.events.Event.TheVariants.{Piece}
 use Rattle.std.specs.Option.{option_map}
 use Rattle.std.proofs.lemmas.Bool.{cases_eq}
-use Rattle.checkpoint_slots.specs.declared.turn.Current.{Current}
+use Rattle.session_engine.specs.Store.{Stored}
 use Rattle.session_model.specs.Phases.{is_bound}
 use Rattle.session_model.specs.Readings as of
 use Rattle.session_model.specs.Rules.{taken}
@@ -127,7 +127,7 @@ acts_of-behind : (line : List Entry) (s : Step) → acts_of (behind line s) ≡ 
 acts_of-behind line s = flat_map-append act_in line s.line
 
 -- In the middle of a piece: what was done of its step, and what the rest of it still brings.
-pub record Taking (all : Step) (c : ℕ) (left : List ℕ) (old now : Option (List Effect)) (engine : Engine) (began current : Option Current) (turn : Turn) : Type 0 where
+pub record Taking (all : Step) (c : ℕ) (left : List ℕ) (old now : Option (List Effect)) (engine : Engine) (began current : Stored) (turn : Turn) : Type 0 where
   pub machine : Machine
   pub shows : Shows (to_cut c left) engine machine
   pub done : List Act
@@ -136,7 +136,7 @@ pub record Taking (all : Step) (c : ℕ) (left : List ℕ) (old now : Option (Li
   pub next : (rest_taken machine c).next ≡ all.next
   pub ended : has_finish (acts_of all) ≡ either (is_end turn) (has_finish (acts_of (rest_taken machine c)))
 
-pub begins : (m : Machine) (c : ℕ) (bytes : List ℕ) (old : Option (List Effect)) (engine : Engine) (current : Option Current) → Shows all_cut engine m → Taking (step m (Piece c bytes)) c bytes old old engine current current GoesOn
+pub begins : (m : Machine) (c : ℕ) (bytes : List ℕ) (old : Option (List Effect)) (engine : Engine) (current : Stored) → Shows all_cut engine m → Taking (step m (Piece c bytes)) c bytes old old engine current current GoesOn
 begins m c bytes old engine current shows = rw (piece_brings m c bytes engine shows) (record {
   machine = fed_on m c bytes;
   shows = piece_comes m c bytes engine shows;
@@ -152,7 +152,7 @@ either-assoc true b c = refl
 either-assoc false b c = refl
 
 -- one more part was taken, and what it brings was done
-pub takes : (all : Step) (c : ℕ) (left rest_left : List ℕ) (old now later : Option (List Effect)) (before after : Engine) (began current next : Option Current) (turn last both : Turn) → (taking : Taking all c left old now before began current turn) → TakesPart taking.machine c rest_left after → Added now later (Performs current after.acts (Ok next)) → is_end last ≡ has_finish after.acts → is_end both ≡ either (is_end turn) (is_end last) → Taking all c rest_left old later after began next both
+pub takes : (all : Step) (c : ℕ) (left rest_left : List ℕ) (old now later : Option (List Effect)) (before after : Engine) (began current next : Stored) (turn last both : Turn) → (taking : Taking all c left old now before began current turn) → TakesPart taking.machine c rest_left after → Added now later (Performs current after.acts (Ok next)) → is_end last ≡ has_finish after.acts → is_end both ≡ either (is_end turn) (is_end last) → Taking all c rest_left old later after began next both
 takes all c left rest_left old now later before after began current next turn last both taking part done is_last is_both =
     let s : Step = part_taken taking.machine c part.part in
     let first : rest_taken taking.machine c ≡ behind s.line (rest_taken s.next c) = first_of_rest taking.machine c part.part part.rest part.is_next in
@@ -169,7 +169,7 @@ takes all c left rest_left old now later before after began current next turn la
     }
 
 -- the run is cut short as what a part brings is done
-pub cut_short : (all : Step) (c : ℕ) (left rest_left : List ℕ) (old now later : Option (List Effect)) (before after : Engine) (began current : Option Current) (turn : Turn) (halt : Halt) → (taking : Taking all c left old now before began current turn) → TakesPart taking.machine c rest_left after → Added now later (Performs current after.acts (Err halt)) → Carried old later began after all (Err halt)
+pub cut_short : (all : Step) (c : ℕ) (left rest_left : List ℕ) (old now later : Option (List Effect)) (before after : Engine) (began current : Stored) (turn : Turn) (halt : Halt) → (taking : Taking all c left old now before began current turn) → TakesPart taking.machine c rest_left after → Added now later (Performs current after.acts (Err halt)) → Carried old later began after all (Err halt)
 cut_short all c left rest_left old now later before after began current turn halt taking part done =
     let s : Step = part_taken taking.machine c part.part in
     let acts : acts_of (rest_taken taking.machine c) ≡ after.acts ++ acts_of (rest_taken s.next c) = ap acts_of (first_of_rest taking.machine c part.part part.rest part.is_next) ∙ (acts_of-behind s.line (rest_taken s.next c) ∙ ap (λ xs. xs ++ acts_of (rest_taken s.next c)) (sym part.acts)) in
@@ -180,7 +180,7 @@ cut_short all c left rest_left old now later before after began current turn hal
     }
 
 -- no memory was found to go on
-pub given_up : (all : Step) (c : ℕ) (left : List ℕ) (old now : Option (List Effect)) (before after : Engine) (began current : Option Current) (turn : Turn) → (taking : Taking all c left old now before began current turn) → Carried old now began after all (Err NoMemory)
+pub given_up : (all : Step) (c : ℕ) (left : List ℕ) (old now : Option (List Effect)) (before after : Engine) (began current : Stored) (turn : Turn) → (taking : Taking all c left old now before began current turn) → Carried old now began after all (Err NoMemory)
 given_up all c left old now before after began current turn taking = record {
   acts = rw (sym taking.parts) (told_then began current taking.done (acts_of (rest_taken taking.machine c)) (Err NoMemory) old now now taking.performs (told_none current (acts_of (rest_taken taking.machine c)) now));
   shows = λ e. absurd cc;
@@ -190,7 +190,7 @@ none_taken : (m : Machine) (c : ℕ) → parts_left m c ≡ [] → rest_taken m 
 none_taken m c none = ap (parts_taken m c) none
 
 -- the rest of a piece is at its end
-pub ends : (all : Step) (c : ℕ) (left : List ℕ) (old now : Option (List Effect)) (before after : Engine) (began current : Option Current) (turn : Turn) → (taking : Taking all c left old now before began current turn) → TakesNone taking.machine c after → Carried old now began after all (Ok current)
+pub ends : (all : Step) (c : ℕ) (left : List ℕ) (old now : Option (List Effect)) (before after : Engine) (began current : Stored) (turn : Turn) → (taking : Taking all c left old now before began current turn) → TakesNone taking.machine c after → Carried old now began after all (Ok current)
 ends all c left old now before after began current turn taking none =
     let whole : taking.done ≡ acts_of all = sym (append-nil taking.done) ∙ (rw (none_taken taking.machine c none.none_left) at taking.parts) in
     record {
@@ -202,5 +202,5 @@ either_false : (b : _) → either b false ≡ b
 either_false true = refl
 either_false false = refl
 
-pub ended : (all : Step) (c : ℕ) (left : List ℕ) (old now : Option (List Effect)) (before after : Engine) (began current : Option Current) (turn : Turn) → (taking : Taking all c left old now before began current turn) → TakesNone taking.machine c after → is_end turn ≡ has_finish (acts_of all)
+pub ended : (all : Step) (c : ℕ) (left : List ℕ) (old now : Option (List Effect)) (before after : Engine) (began current : Stored) (turn : Turn) → (taking : Taking all c left old now before began current turn) → TakesNone taking.machine c after → is_end turn ≡ has_finish (acts_of all)
 ended all c left old now before after began current turn taking none = sym (rw (none_taken taking.machine c none.none_left) at taking.ended ∙ either_false (is_end turn))

@@ -9,7 +9,7 @@ use Rattle.sm_world.specs.declared.effects.Effect.{Effect}
 use Rattle.sm_world.specs.declared.effects.Effect.TheVariants.{Heard}
 use Rattle.sm_world.specs.declared.events.Event.{Event}
 use Rattle.checkpoint_records.specs.declared.records.Book.{Book}
-use Rattle.checkpoint_slots.specs.Turns.{SteadyStands, opened_in}
+use Rattle.checkpoint_slots.specs.Turns.{SteadyStands, next_generation, opened_in}
 use Rattle.checkpoint_slots.specs.declared.turn.Current.{Current}
 use Rattle.ice_cookie.specs.declared.cookies.Cookie.{Cookie}
 use Rattle.session_engine.specs.Acts.{book_after, commits_in, deed_in, deeds_in, has_finish}
@@ -20,6 +20,7 @@ use Rattle.session_engine.specs.Saved.{IsSaved, Performs, WearsOut}
 use Rattle.session_engine.specs.Stops.{HasNumbers, IsNumbered, IsRefused, Stops, StopsAt}
 use Rattle.session_engine.specs.Session.{StandsFor as StandsForWith}
 use Rattle.session_engine.specs.Shown.{Shows, all_cut}
+use Rattle.session_engine.specs.Store.{Leaves, Stored, store_of}
 use Rattle.session_engine.specs.declared.acts.Act.{Act}
 use Rattle.session_engine.specs.declared.acts.Act.TheVariants.{Commit}
 use Rattle.session_engine.specs.declared.fault.Halt.{Halt}
@@ -28,9 +29,9 @@ use Rattle.session_engine.specs.declared.fault.ServeFault.{ServeFault}
 use Rattle.session_engine.specs.declared.fault.ServeFault.TheVariants.{Damaged, WrongSize, DiskFault, LinkFault, ConsoleFault, Worn, Spent, NoMemory}
 use Rattle.session_engine.specs.declared.session.Session.{Session}
 use Rattle.session_engine.proofs.Opening.{opened_unfinished}
-use Rattle.session_engine.proofs.Settling.{settle_more}
 use Rattle.checkpoint_journal.proofs.Swapping.{opened_in-append}
-use Rattle.session_engine.proofs.Performing.{book_after-append, commits_in-append, numbered_then, saved_behind, stands_quiet, stops_behind, whole_done}
+use Rattle.session_engine.proofs.Settling.{settle_more}
+use Rattle.session_engine.proofs.Performing.{book_after-append, commits_in-append, found_more, numbered_then, raised_then, saved_behind, stands_quiet, stops_behind, whole_done}
 use Rattle.session_engine.proofs.Running as of
 
 -- a halt cuts the run short
@@ -50,7 +51,7 @@ halt_of_run WearsIt = tt
 halt_of_run WantsMemory = tt
 
 -- only a worn store makes a worn run
-worn_halt : (halt : Halt) → IsErrOf {T = Unit {0}} (Err (fault_of halt)) Worn → IsErrOf {T = Option Current} (Err halt) WearsIt
+worn_halt : (halt : Halt) → IsErrOf {T = Unit {0}} (Err (fault_of halt)) Worn → IsErrOf {T = Stored} (Err halt) WearsIt
 worn_halt Links e = absurd cc
 worn_halt Console e = absurd cc
 worn_halt Disk e = absurd cc
@@ -91,18 +92,18 @@ run_stops current b acts halt es stops = record {
 }
 
 -- at a fault that comes where nothing is left, each checkpoint had its number
-all_numbered : (fault : ServeFault) (current : Option Current) (acts : List Act) → StopsAt fault [] → IsNumbered current acts → HasNumbers current fault acts
-all_numbered (Damaged at) current acts stops numbered = numbered
-all_numbered (WrongSize size) current acts stops numbered = numbered
-all_numbered DiskFault current acts stops numbered = absurd stops
-all_numbered LinkFault current acts stops numbered = numbered
-all_numbered ConsoleFault current acts stops numbered = numbered
-all_numbered Worn current acts stops numbered = absurd stops
-all_numbered Spent current acts stops numbered = numbered
-all_numbered NoMemory current acts stops numbered = numbered
+all_numbered : (fault : ServeFault) (store : Stored) (acts : List Act) (es : List Effect) → StopsAt fault [] → IsNumbered store acts es → HasNumbers store fault acts es
+all_numbered (Damaged at) store acts es stops numbered = numbered
+all_numbered (WrongSize size) store acts es stops numbered = numbered
+all_numbered DiskFault store acts es stops numbered = absurd stops
+all_numbered LinkFault store acts es stops numbered = numbered
+all_numbered ConsoleFault store acts es stops numbered = numbered
+all_numbered Worn store acts es stops numbered = absurd stops
+all_numbered Spent store acts es stops numbered = numbered
+all_numbered NoMemory store acts es stops numbered = numbered
 
 -- where the disk halts a run, the disk is its fault
-disk_fails : (halt : Halt) → ◌≡◌ {A = Result (Option Current) Halt} (Err halt) (Err Disk) → ◌≡◌ {A = Result (Unit {0}) ServeFault} (Err (fault_of halt)) (Err DiskFault)
+disk_fails : (halt : Halt) → ◌≡◌ {A = Result Stored Halt} (Err halt) (Err Disk) → ◌≡◌ {A = Result (Unit {0}) ServeFault} (Err (fault_of halt)) (Err DiskFault)
 disk_fails Links e = absurd cc
 disk_fails Console e = absurd cc
 disk_fails Disk e = refl
@@ -136,13 +137,13 @@ module _ (cookie : Cookie) (opening : Book) where
   opening_script : (zs : List Effect) → heard zs ≡ [] → script (heard zs) ≡ of.opening_acts cookie opening
   opening_script zs deaf = ap script deaf ∙ append-nil (of.opening_acts cookie opening)
 
-  opening_keeps : (current : Option Current) (answer : Result (Option Current) Halt) (es : List Effect) → Performs current (of.opening_acts cookie opening) answer es → (first : List ℕ) (before : List Effect) → SteadyStands current opening first before → Keeps first before es
+  opening_keeps : (current : Option Current) (answer : Result Stored Halt) (es : List Effect) → Performs (store_of current opening) (of.opening_acts cookie opening) answer es → (first : List ℕ) (before : List Effect) → SteadyStands current opening first before → Keeps first before es
   opening_keeps current answer es performs first before stands = record {
-    saved = λ n file image. rw (opening_script (take n es) (deaf_take n es performs.out.going.deaf)) (performs.saves first before opening stands n file image);
+    saved = λ n file image. rw (opening_script (take n es) (deaf_take n es performs.out.going.deaf)) (performs.saves first before stands n file image);
     none_behind = λ n event more is_heard. absurd (of.none_is_heard event (heard more) (sym (ap heard is_heard) ∙ of.deaf_back (heard (take n es)) (heard (drop n es)) (of.heard_parts n es performs.out.going.deaf)));
   }
 
-  pub stands_begin : (current : Option Current) (session : Session) (es : List Effect) → Performs current (of.opening_acts cookie opening) (Ok session.store) es → Shows all_cut session.engine start → StandsFor current session es
+  pub stands_begin : (current : Option Current) (session : Session) (es : List Effect) → Performs (store_of current opening) (of.opening_acts cookie opening) (Ok session.store) es → Shows all_cut session.engine start → StandsFor current session es
   stands_begin current session es performs shows =
       let acts : List Act = of.opening_acts cookie opening in
       let deaf : heard es ≡ [] = performs.out.going.deaf in
@@ -155,14 +156,15 @@ module _ (cookie : Cookie) (opening : Book) where
         in_order = rw deaf (performs.out.going.in_order ∙ (ap (map Did) done ∙ sym (append-nil (map Did (deeds_in acts)))));
         on_script = of.opening_on_script cookie opening es performs.out.left performs.out.going;
         keeps = opening_keeps current (Ok session.store) es performs;
-        store = λ first before stands. rw scripts (performs.leaves first before opening stands);
+        store = λ first before stands. rw scripts (rw performs.leaves.0 at (performs.leaves.1 first before stands));
+        saved = rw scripts performs.leaves.0;
         counts = rw scripts performs.counts;
         opens = rw scripts performs.opens;
         numbered = rw scripts performs.numbered;
         settles = performs.settles (λ e. absurd cc);
       }
 
-  pub runs_unopened : (current : Option Current) (halt : Halt) (es : List Effect) → Performs current (of.opening_acts cookie opening) (Err halt) es → Runs current (Err (fault_of halt)) es
+  pub runs_unopened : (current : Option Current) (halt : Halt) (es : List Effect) → Performs (store_of current opening) (of.opening_acts cookie opening) (Err halt) es → Runs current (Err (fault_of halt)) es
   runs_unopened current halt es performs = record {
     carries = record {
       on_script = of.opening_on_script cookie opening es performs.out.left performs.out.going;
@@ -177,7 +179,7 @@ module _ (cookie : Cookie) (opening : Book) where
     worn = λ e. rw (opening_script es performs.out.going.deaf) (performs.worn (worn_halt halt e));
     numbered = λ e. absurd (halt_cuts halt e);
     settles = λ not. performs.settles (λ e. not (disk_fails halt e));
-    stopped = rw (opening_script es performs.out.going.deaf) (run_stops current opening (of.opening_acts cookie opening) halt es (performs.stopped opening));
+    stopped = rw (opening_script es performs.out.going.deaf) (run_stops current opening (of.opening_acts cookie opening) halt es performs.stopped);
   }
 
   -- One event more
@@ -186,17 +188,21 @@ module _ (cookie : Cookie) (opening : Book) where
   acts_at es event = acts_of (step (after_all start (heard es)) event)
 
   -- the store as the event was heard
-  stands_heard : (current : Option Current) (session : Session) (es : List Effect) (event : Event) → StandsFor current session es → (first : List ℕ) (before : List Effect) → SteadyStands current opening first before → SteadyStands session.store (book_after opening (script (heard es))) first ((before ++ es) ++ Heard event ∷ [])
+  stands_heard : (current : Option Current) (session : Session) (es : List Effect) (event : Event) → StandsFor current session es → (first : List ℕ) (before : List Effect) → SteadyStands current opening first before → SteadyStands session.store.journal (book_after opening (script (heard es))) first ((before ++ es) ++ Heard event ∷ [])
   stands_heard current session es event held first before stands =
-      stands_quiet session.store (book_after opening (script (heard es))) first (before ++ es) (Heard event) tt (held.store first before stands)
+      stands_quiet session.store.journal (book_after opening (script (heard es))) first (before ++ es) (Heard event) tt (held.store first before stands)
 
-  saved_more : (current : Option Current) (session : Session) (es ds : List Effect) (event : Event) (answer : Result (Option Current) Halt) → StandsFor current session es → Performs session.store (acts_at es event) answer ds → (first : List ℕ) (before : List Effect) → SteadyStands current opening first before → (k : ℕ) (file : List ℕ) → Image first (before ++ (es ++ Heard event ∷ take k ds)) file → IsSaved opening (script (heard (es ++ Heard event ∷ take k ds))) (deeds (es ++ Heard event ∷ take k ds)) file
+  -- and the turn of the store for the book that it has
+  turn_heard : (current : Option Current) (session : Session) (es : List Effect) (event : Event) → StandsFor current session es → (first : List ℕ) (before : List Effect) → SteadyStands current opening first before → SteadyStands session.store.journal session.store.book first ((before ++ es) ++ Heard event ∷ [])
+  turn_heard current session es event held first before stands = rw held.saved (stands_heard current session es event held first before stands)
+
+  saved_more : (current : Option Current) (session : Session) (es ds : List Effect) (event : Event) (answer : Result Stored Halt) → StandsFor current session es → Performs session.store (acts_at es event) answer ds → (first : List ℕ) (before : List Effect) → SteadyStands current opening first before → (k : ℕ) (file : List ℕ) → Image first (before ++ (es ++ Heard event ∷ take k ds)) file → IsSaved opening (script (heard (es ++ Heard event ∷ take k ds))) (deeds (es ++ Heard event ∷ take k ds)) file
   saved_more current session es ds event answer held performs first before stands k file image =
-      let later = performs.saves first ((before ++ es) ++ Heard event ∷ []) (book_after opening (script (heard es))) (stands_heard current session es event held first before stands) k file (rw (places before es (take k ds) event) at image) in
+      let later = performs.saves first ((before ++ es) ++ Heard event ∷ []) (turn_heard current session es event held first before stands) k file (rw (places before es (take k ds) event) at image) in
       rw (of.script-more cookie opening es (take k ds) event (deaf_take k ds performs.out.going.deaf) held.unfinished, of.deeds-more es (take k ds) event, held.all_done)
-      (saved_behind opening (script (heard es)) (acts_at es event) (deeds (take k ds)) file later)
+      (saved_behind opening (script (heard es)) (acts_at es event) (deeds (take k ds)) file (rw held.saved at later))
 
-  keeps_more : (current : Option Current) (session : Session) (es ds : List Effect) (event : Event) (answer : Result (Option Current) Halt) → StandsFor current session es → Performs session.store (acts_at es event) answer ds → (first : List ℕ) (before : List Effect) → SteadyStands current opening first before → Keeps first before (es ++ Heard event ∷ ds)
+  keeps_more : (current : Option Current) (session : Session) (es ds : List Effect) (event : Event) (answer : Result Stored Halt) → StandsFor current session es → Performs session.store (acts_at es event) answer ds → (first : List ℕ) (before : List Effect) → SteadyStands current opening first before → Keeps first before (es ++ Heard event ∷ ds)
   keeps_more current session es ds event answer held performs first before stands = record {
     saved = of.each_front (λ zs. (file : List ℕ) → Image first (before ++ zs) file → IsSaved opening (script (heard zs)) (deeds zs) file) es ds event
         ((held.keeps first before stands).saved)
@@ -206,19 +212,33 @@ module _ (cookie : Cookie) (opening : Book) where
         (λ file image. ((held.store first before stands).images file image).recovers);
   }
 
-  store_more : (current : Option Current) (session : Session) (next : Option Current) (es ds : List Effect) (event : Event) → StandsFor current session es → Performs session.store (acts_at es event) (Ok next) ds → (first : List ℕ) (before : List Effect) → SteadyStands current opening first before → SteadyStands next (book_after opening (script (heard (es ++ Heard event ∷ ds)))) first (before ++ (es ++ Heard event ∷ ds))
+  saved_next : (current : Option Current) (session : Session) (next : Stored) (es ds : List Effect) (event : Event) → StandsFor current session es → Performs session.store (acts_at es event) (Ok next) ds → next.book ≡ book_after opening (script (heard (es ++ Heard event ∷ ds)))
+  saved_next current session next es ds event held performs =
+      rw (of.script-more cookie opening es ds event performs.out.going.deaf held.unfinished, book_after-append opening (script (heard es)) (acts_at es event))
+      (performs.leaves.0 ∙ ap (λ b. book_after b (acts_at es event)) held.saved)
+
+  store_more : (current : Option Current) (session : Session) (next : Stored) (es ds : List Effect) (event : Event) → StandsFor current session es → Performs session.store (acts_at es event) (Ok next) ds → (first : List ℕ) (before : List Effect) → SteadyStands current opening first before → SteadyStands next.journal (book_after opening (script (heard (es ++ Heard event ∷ ds)))) first (before ++ (es ++ Heard event ∷ ds))
   store_more current session next es ds event held performs first before stands =
-      rw (of.script-more cookie opening es ds event performs.out.going.deaf held.unfinished, book_after-append opening (script (heard es)) (acts_at es event), places before es ds event)
-      (performs.leaves first ((before ++ es) ++ Heard event ∷ []) (book_after opening (script (heard es))) (stands_heard current session es event held first before stands))
+      rw (places before es ds event)
+      (rw (saved_next current session next es ds event held performs) at (performs.leaves.1 first ((before ++ es) ++ Heard event ∷ []) (turn_heard current session es event held first before stands)))
 
   -- how often a gate was opened, with what was done about one event more
-  opens_more : (current : Option Current) (session : Session) (next : Option Current) (es ds : List Effect) (event : Event) → StandsFor current session es → Performs session.store (acts_at es event) (Ok next) ds → opened_in (es ++ Heard event ∷ ds) ≡ commits_in (script (heard (es ++ Heard event ∷ ds)))
+  opens_more : (current : Option Current) (session : Session) (next : Stored) (es ds : List Effect) (event : Event) → StandsFor current session es → Performs session.store (acts_at es event) (Ok next) ds → opened_in (es ++ Heard event ∷ ds) ≡ commits_in (script (heard (es ++ Heard event ∷ ds)))
   opens_more current session next es ds event held performs =
       omega (arith, performs.opens, held.opens, opened_in-append es (Heard event ∷ ds), ap commits_in (of.script-more cookie opening es ds event performs.out.going.deaf held.unfinished), commits_in-append (script (heard es)) (acts_at es event))
 
-  numbered_more : (current : Option Current) (session : Session) (next : Option Current) (es ds : List Effect) (event : Event) → StandsFor current session es → Performs session.store (acts_at es event) (Ok next) ds → IsNumbered current (script (heard (es ++ Heard event ∷ ds)))
+  -- the store as the event was heard, and the commits before it
+  leaves_heard : (current : Option Current) (session : Session) (es : List Effect) (event : Event) → StandsFor current session es → Leaves (store_of current opening) (script (heard es)) (es ++ Heard event ∷ []) session.store
+  leaves_heard current session es event held = (held.saved, λ first before stands. rw (sym (append_assoc before es (Heard event ∷ []))) (turn_heard current session es event held first before stands))
+
+  numbered_heard : (current : Option Current) (session : Session) (es : List Effect) (event : Event) → StandsFor current session es → IsNumbered (store_of current opening) (script (heard es)) (es ++ Heard event ∷ [])
+  numbered_heard current session es event held front rest book parts = found_more (store_of current opening) front es (Heard event ∷ []) (held.numbered front rest book parts)
+
+  numbered_more : (current : Option Current) (session : Session) (next : Stored) (es ds : List Effect) (event : Event) → StandsFor current session es → Performs session.store (acts_at es event) (Ok next) ds → IsNumbered (store_of current opening) (script (heard (es ++ Heard event ∷ ds))) (es ++ Heard event ∷ ds)
   numbered_more current session next es ds event held performs =
-      rw (of.script-more cookie opening es ds event performs.out.going.deaf held.unfinished) (numbered_then current session.store (script (heard es)) (acts_at es event) held.counts held.numbered performs.numbered)
+      rw (of.script-more cookie opening es ds event performs.out.going.deaf held.unfinished)
+      (subst (λ (zs : List Effect). IsNumbered (store_of current opening) (script (heard es) ++ acts_at es event) zs) (append_assoc es (Heard event ∷ []) ds)
+      (numbered_then (store_of current opening) session.store (script (heard es)) (acts_at es event) (es ++ Heard event ∷ []) ds (leaves_heard current session es event held) (numbered_heard current session es event held) performs.numbered))
 
   -- where the acts of one event more were stopped
   stopped_more : (current : Option Current) (session : Session) (halt : Halt) (es ds : List Effect) (event : Event) → StandsFor current session es → Performs session.store (acts_at es event) (Err halt) ds → Stops current opening (script (heard (es ++ Heard event ∷ ds))) (fault_of halt) (StopsAt (fault_of halt)) (es ++ Heard event ∷ ds)
@@ -226,9 +246,9 @@ module _ (cookie : Cookie) (opening : Book) where
       let acts : List Act = script (heard es) in
       let done : deeds (es ++ Heard event ∷ []) ≡ deeds_in acts = flat_map-append deed_of es (Heard event ∷ []) ∙ (append-nil (deeds es) ∙ held.all_done) in
       let opened : opened_in (es ++ Heard event ∷ []) ≡ commits_in acts = omega (arith, opened_in-append es (Heard event ∷ []), held.opens) in
-      let stops = stops_behind current session.store opening acts (acts_at es event) (fault_of halt) (IsRefused halt) (es ++ Heard event ∷ []) ds done held.counts opened held.numbered
+      let stops = stops_behind current session.store.journal opening acts (acts_at es event) (fault_of halt) (IsRefused halt) (es ++ Heard event ∷ []) ds done held.counts opened (numbered_heard current session es event held)
       (λ first before stands. rw (sym (append_assoc before es (Heard event ∷ []))) (stands_heard current session es event held first before stands))
-      (performs.stopped (book_after opening acts)) in
+      (rw held.saved at performs.stopped) in
       rw (of.script-more cookie opening es ds event performs.out.going.deaf held.unfinished)
       (subst (λ (zs : List Effect). Stops current opening (acts ++ acts_at es event) (fault_of halt) (StopsAt (fault_of halt)) zs) (append_assoc es (Heard event ∷ []) ds) (run_stops current opening (acts ++ acts_at es event) halt ((es ++ Heard event ∷ []) ++ ds) stops))
 
@@ -244,14 +264,15 @@ module _ (cookie : Cookie) (opening : Book) where
         on_script = of.more_on_script cookie opening es ds event performs.out.left performs.out.going held.unfinished held.all_done held.on_script;
         keeps = keeps_more current session es ds event (Ok next.store) held performs;
         store = store_more current session next.store es ds event held performs;
-        counts = omega (arith, performs.counts, held.counts, ap commits_in (of.script-more cookie opening es ds event deaf held.unfinished), commits_in-append (script (heard es)) (acts_at es event));
+        saved = saved_next current session next.store es ds event held performs;
+        counts = rw (of.script-more cookie opening es ds event deaf held.unfinished) (raised_then (next_generation current) (next_generation session.store.journal) (next_generation next.store.journal) (script (heard es)) (acts_at es event) held.counts performs.counts);
         opens = opens_more current session next.store es ds event held performs;
         numbered = numbered_more current session next.store es ds event held performs;
         settles = settle_more es ds event held.settles (performs.settles (λ e. absurd cc));
       }
 
   -- the machine's own end
-  pub runs_end : (current next : Option Current) (session : Session) (es ds : List Effect) (event : Event) → StandsFor current session es → Performs session.store (acts_at es event) (Ok next) ds → has_finish (acts_at es event) ≡ true → Runs current (Ok tt) (es ++ Heard event ∷ ds)
+  pub runs_end : (current : Option Current) (next : Stored) (session : Session) (es ds : List Effect) (event : Event) → StandsFor current session es → Performs session.store (acts_at es event) (Ok next) ds → has_finish (acts_at es event) ≡ true → Runs current (Ok tt) (es ++ Heard event ∷ ds)
   runs_end current next session es ds event held performs finishes = record {
     carries = record {
       on_script = of.more_on_script cookie opening es ds event performs.out.left performs.out.going held.unfinished held.all_done held.on_script;
@@ -269,14 +290,20 @@ module _ (cookie : Cookie) (opening : Book) where
     stopped = tt;
   }
 
-  worn_more : (current : Option Current) (session : Session) (es ds : List Effect) (event : Event) → StandsFor current session es → heard ds ≡ [] → WearsOut session.store (acts_at es event) ds → WearsOut current (script (heard (es ++ Heard event ∷ ds))) (es ++ Heard event ∷ ds)
+  worn_more : (current : Option Current) (session : Session) (es ds : List Effect) (event : Event) → StandsFor current session es → heard ds ≡ [] → WearsOut session.store (acts_at es event) ds → WearsOut (store_of current opening) (script (heard (es ++ Heard event ∷ ds))) (es ++ Heard event ∷ ds)
   worn_more current session es ds event held deaf worn = record {
     front = script (heard es) ++ worn.front;
     rest = worn.rest;
     book = worn.book;
     parts = append_assoc (script (heard es)) worn.front (Commit worn.book ∷ worn.rest) ∙ (ap (λ zs. script (heard es) ++ zs) worn.parts ∙ sym (of.script-more cookie opening es ds event deaf held.unfinished));
     same = of.deeds-more es ds event ∙ (ap (λ zs. zs ++ deeds ds) held.all_done ∙ (ap (λ zs. deeds_in (script (heard es)) ++ zs) worn.same ∙ sym (flat_map-append deed_in (script (heard es)) worn.front)));
-    last = omega (arith, commits_in-append (script (heard es)) worn.front, held.counts, worn.last);
+    now = worn.now;
+    leaves = (
+      worn.leaves.0 ∙ (ap (λ b. book_after b worn.front) held.saved ∙ sym (book_after-append opening (script (heard es)) worn.front)),
+      λ first before stands. rw (places before es ds event) (worn.leaves.1 first ((before ++ es) ++ Heard event ∷ []) (turn_heard current session es event held first before stands)),
+    );
+    last = worn.last;
+    raised = raised_then (next_generation current) (next_generation session.store.journal) (next_generation worn.now.journal) (script (heard es)) worn.front held.counts worn.raised;
   }
 
   -- a halt as an event was answered
@@ -317,7 +344,7 @@ module _ (cookie : Cookie) (opening : Book) where
       same = held.all_done;
       at = stops;
       opens = inr held.opens;
-      numbers = all_numbered fault current (script (heard es)) stops held.numbered;
+      numbers = all_numbered fault (store_of current opening) (script (heard es)) es stops held.numbered;
       leaves = λ first before stands file image. inl ((held.store first before stands).images file image).recovers;
     };
   }

@@ -1,5 +1,5 @@
 -- A commit: its effects are the store's, and swap the old checkpoint for the new one.
-use Rattle.std.proofs.Common.{◌≡◌, ◌⊎◌, inl, inr, arith, ℕ, ◌<◌, ◌≤◌, ◌^◌, zero, suc, List, [], ◌∷◌, ◌++◌, length, take, Option, Some, Result, Ok, Err, refl, sym, ◌∙◌, ap, subst, append_assoc}
+use Rattle.std.proofs.Common.{◌≡◌, ◌⊎◌, inl, inr, arith, ℕ, ◌<◌, ◌≤◌, ◌^◌, zero, suc, List, [], ◌∷◌, ◌++◌, length, take, Option, Result, Ok, Err, refl, sym, ◌∙◌, ap}
 use Rattle.std.proofs.lemmas.List.{append-nil, take_all}
 use Rattle.std.proofs.lemmas.Bool.{false≢true}
 use Rattle.std.specs.List.{AllByRecursion}
@@ -8,34 +8,25 @@ use Rattle.sm_world.specs.Effects.{deeds, heard, published}
 use Rattle.sm_world.specs.Outside.{Added, adds}
 use Rattle.sm_world.specs.declared.effects.Effect.{Effect}
 use Rattle.sm_world.specs.declared.effects.Effect.TheVariants.{Heard, Sent, Shut, Started, Wrote, Torn, Synced, SyncFailed, Published, Printed}
-use Rattle.sm_world.proofs.Adding.{adds-none}
 use Rattle.checkpoint_records.specs.declared.records.Book.{Book}
-use Rattle.checkpoint_slots.specs.Causes.{IsSpellFault}
-use Rattle.checkpoint_slots.specs.Recovery.{Recovers, slot_bytes}
-use Rattle.checkpoint_slots.specs.Turns.{Closes, Fills, IsNext, IsOfStore, Lifts, SteadyStands, following, next_generation}
-use Rattle.checkpoint_slots.proofs.Turning.{added-by}
-use Rattle.checkpoint_journal.specs.Journal.{Compacted, body_puts}
-use Rattle.checkpoint_journal.proofs.Appended.{compacted-unclosed, compacted-unfilled, compacted-whole}
-use Rattle.checkpoint_journal.proofs.Swapping.{any_front}
-use Rattle.checkpoint_journal.proofs.Written.{added-three, added-two}
+use Rattle.checkpoint_slots.specs.Recovery.{Recovers}
+use Rattle.checkpoint_slots.specs.Turns.{IsOfStore, SteadyStands, next_generation}
 use Rattle.checkpoint_slots.specs.declared.fault.StoreFault.{StoreFault}
 use Rattle.checkpoint_slots.specs.declared.fault.StoreFault.TheVariants.{WrongSize, Damaged, DiskFault, Worn as IsWorn, NoMemory}
 use Rattle.checkpoint_slots.specs.declared.turn.Current.{Current}
+use Rattle.checkpoint_journal.proofs.Swapping.{any_front}
 use Rattle.session_engine.specs.Causes.{commit_halt_of}
 use Rattle.session_engine.specs.Doing.{items}
-use Rattle.session_engine.specs.Saved.{IsSaved, Performs}
-use Rattle.session_engine.specs.Stops.{IsLeft}
+use Rattle.session_engine.specs.Saved.{IsSaved, Performs, Saves}
+use Rattle.session_engine.specs.Stops.{IsLeft, IsNumbered}
+use Rattle.session_engine.specs.Store.{Stored, Writes}
+use Rattle.session_engine.specs.declared.acts.Act.{Act}
 use Rattle.session_engine.specs.declared.acts.Act.TheVariants.{Commit}
 use Rattle.session_engine.specs.declared.fault.ServeFault.TheVariants.{DiskFault as FailsOnDisk}
-use Rattle.session_engine.specs.declared.fault.Halt.TheVariants.{Disk}
+use Rattle.session_engine.specs.declared.fault.Halt.TheVariants.{Disk, Worn, NoMemory as WantsMemory}
 use Rattle.session_engine.proofs.Adding.{still}
-use Rattle.session_engine.proofs.Performing.{none_numbered, performs_none, saved_still}
-use Rattle.session_engine.proofs.Settling.{settle_all, settle_none}
-
--- Effects of the store alone, at each of which every file that a crash may leave has the old checkpoint or the new one.
-pub record Swaps (current : Option Current) (book : Book) (es : List Effect) : Type 0 where
-  pub store : AllByRecursion IsOfStore es
-  pub either : (first : List ℕ) (before : List Effect) (opening : Book) → SteadyStands current opening first before → (n : ℕ) (file : List ℕ) → Image first (before ++ take n es) file → Recovers file (Ok opening) ⊎ Recovers file (Ok book)
+use Rattle.session_engine.proofs.Performing.{found_now, none_numbered, performs_none, saved_still}
+use Rattle.session_engine.proofs.Settling.{settle_none}
 
 -- The store's effects are nothing to anyone else.
 record IsSilent (es : List Effect) : Type 0 where
@@ -62,122 +53,125 @@ store_front zero es store = tt
 store_front (suc n) [] store = tt
 store_front (suc n) (e ∷ es) store = (store.0, store_front n es store.1)
 
--- A compaction, as far as it came
-pub swaps_of : (current : Option Current) (book : Book) (body : List ℕ) (answer : Result (Option Current) StoreFault) (es : List Effect) → IsNext current book → body ≡ slot_bytes (next_generation current) book → Compacted current body answer es → Swaps current book es
-swaps_of current book body answer es is_next is_body did = record {
-  store = did.store;
-  either = λ first before opening stands. any_front (λ zs. (file : List ℕ) → Image first (before ++ zs) file → Recovers file (Ok opening) ⊎ Recovers file (Ok book)) es (did.swap first before opening book stands is_next is_body);
-}
+-- at each point of a commit every file that a crash may leave has the old checkpoint or the new one
+either_book : (current : Option Current) (old book : Book) (answer : Result (Option Current) StoreFault) (es : List Effect) → Writes current old book answer es → (first : List ℕ) (before : List Effect) → SteadyStands current old first before → (n : ℕ) (file : List ℕ) → Image first (before ++ take n es) file → Recovers file (Ok old) ⊎ Recovers file (Ok book)
+either_book current old book answer es writes first before stands =
+    any_front (λ zs. (file : List ℕ) → Image first (before ++ zs) file → Recovers file (Ok old) ⊎ Recovers file (Ok book)) es (writes.swap first before stands)
 
 -- either checkpoint stands behind a front of the commit, none of which is a deed
 saved_by : (opening book : Book) (file : List ℕ) → Recovers file (Ok opening) ⊎ Recovers file (Ok book) → IsSaved opening (Commit book ∷ []) [] file
 saved_by opening book file (inl old) = record { front = []; rest = Commit book ∷ []; parts = refl; same = refl; recovers = old }
 saved_by opening book file (inr new) = record { front = Commit book ∷ []; rest = []; parts = refl; same = refl; recovers = new }
 
-saves_swap : (current : Option Current) (book : Book) (es : List Effect) → Swaps current book es → (first : List ℕ) (before : List Effect) (opening : Book) → SteadyStands current opening first before → (n : ℕ) (file : List ℕ) → Image first (before ++ take n es) file → IsSaved opening (Commit book ∷ []) (deeds (take n es)) file
-saves_swap current book es swaps first before opening stands n file image =
-    rw ((silent (take n es) (store_front n es swaps.store)).still) (saved_by opening book file (swaps.either first before opening stands n file image))
+saves_book : (store : Stored) (book : Book) (answer : Result (Option Current) StoreFault) (es : List Effect) → Writes store.journal store.book book answer es → Saves store (Commit book ∷ []) es
+saves_book store book answer es writes first before stands n file image =
+    rw ((silent (take n es) (store_front n es writes.store)).still) (saved_by store.book book file (either_book store.journal store.book book answer es writes first before stands n file image))
 
 left_by : (opening book : Book) (file : List ℕ) → Recovers file (Ok opening) ⊎ Recovers file (Ok book) → IsLeft FailsOnDisk opening [] (Commit book ∷ []) file
 left_by opening book file (inl old) = inl old
 left_by opening book file (inr new) = inr (refl, new)
 
 -- a commit that the disk refused
-pub performs_refused : (current : Option Current) (book : Book) (es : List Effect) → next_generation current < 2 ^ 64 → Swaps current book es → Performs current (Commit book ∷ []) (Err Disk) es
-performs_refused current book es fits swaps =
-    let s = silent es swaps.store in
+performs_refused : (store : Stored) (book : Book) (es : List Effect) → Writes store.journal store.book book (Err DiskFault) es → Performs store (Commit book ∷ []) (Err Disk) es
+performs_refused store book es writes =
+    let s = silent es writes.store in
     record {
       out = record {
         left = Commit book ∷ [];
         going = record { deaf = s.deaf; quiet = s.quiet; done = []; parts = refl; so_far = s.still; in_order = rw (s.still) s.hidden };
         none_left = λ e. absurd (false≢true e);
       };
-      saves = saves_swap current book es swaps;
+      saves = saves_book store book (Err DiskFault) es writes;
       leaves = tt;
       counts = tt;
       opens = tt;
       worn = λ e. absurd cc;
       numbered = tt;
       settles = λ not. absurd (not refl);
-      stopped = λ opening. record {
+      stopped = record {
         front = [];
         rest = Commit book ∷ [];
         parts = refl;
         same = s.still;
         at = refl;
         opens = inl refl;
-        numbers = omega (arith, fits);
-        leaves = λ first before stands file image. left_by opening book file (swaps.either first before opening stands (length es) file (rw (take_all (length es) es (omega arith)) image));
+        numbers = (none_numbered store es, found_now store es writes.why_not);
+        leaves = λ first before stands file image. left_by store.book book file (either_book store.journal store.book book (Err DiskFault) es writes first before stands (length es) file (rw (take_all (length es) es (omega arith)) image));
       };
     }
 
+no_commit : (front rest : List Act) (book : Book) → front ++ Commit book ∷ rest ≡ [] → ⊥
+no_commit [] rest book e = cc
+no_commit (x ∷ front) rest book e = cc
+
+behind_first : (x y : Act) (xs ys : List Act) → x ∷ xs ≡ y ∷ ys → xs ≡ ys
+behind_first x y xs ys e = cc
+
+one_numbered : (store : Stored) (book : Book) (es : List Effect) → next_generation store.journal < 2 ^ 64 → IsNumbered store (Commit book ∷ []) es
+one_numbered store book es number [] rest other parts = found_now store es number
+one_numbered store book es number (x ∷ front) rest other parts = absurd (no_commit front rest other (behind_first x (Commit book) (front ++ Commit other ∷ rest) [] parts))
+
 -- a commit that stands in the store
-pub performs_commit : (current next : Option Current) (book : Book) (body : List ℕ) (es : List Effect) → IsNext current book → body ≡ slot_bytes (next_generation current) book → Compacted current body (Ok next) es → Performs current (Commit book ∷ []) (Ok next) es
-performs_commit current next book body es is_next is_body did =
-    let swaps = swaps_of current book body (Ok next) es is_next is_body did in
-    let s = silent es swaps.store in
+performs_commit : (store next : Stored) (book : Book) (es : List Effect) → next.book ≡ book → Writes store.journal store.book book (Ok next.journal) es → Performs store (Commit book ∷ []) (Ok next) es
+performs_commit store next book es same writes =
+    let s = silent es writes.store in
     record {
       out = record {
         left = [];
         going = record { deaf = s.deaf; quiet = s.quiet; done = Commit book ∷ []; parts = refl; so_far = s.still; in_order = rw (s.still) s.hidden };
         none_left = λ e. refl;
       };
-      saves = saves_swap current book es swaps;
-      leaves = λ first before opening stands. did.turn first before opening book stands is_next is_body;
-      counts = rw (did.next is_next.generation) (omega arith);
-      opens = did.opens book is_body;
+      saves = saves_book store book (Ok next.journal) es writes;
+      leaves = (same, λ first before stands. rw same (writes.turn first before stands));
+      counts = record { at_least = writes.raised.at_least; at_most = writes.raised.at_most };
+      opens = writes.opens;
       worn = λ e. absurd cc;
-      numbered = λ e. omega (arith, is_next.generation);
-      settles = λ not. rw did.puts (settle_all (body_puts current body));
+      numbered = one_numbered store book es writes.numbered;
+      settles = λ not. writes.settles (λ e. absurd cc);
       stopped = tt;
     }
 
--- Calls of the disk, whether the world tells its effects or not
-
--- a book that could not be spelled
-pub told_unspelled : (current : Option Current) (book : Book) (fault : StoreFault) (old : Option (List Effect)) → IsSpellFault (next_generation current) fault → Added old old (Performs current (Commit book ∷ []) (Err (commit_halt_of fault)))
-told_unspelled current book (WrongSize size) old cause = absurd cause
-told_unspelled current book (Damaged at) old cause = absurd cause
-told_unspelled current book DiskFault old cause = absurd cause
-told_unspelled current book IsWorn old cause = record {
-  effects = [];
-  added = sym (adds-none old);
-  holds = record {
-    out = record { left = Commit book ∷ []; going = still (Commit book ∷ []); none_left = λ e. absurd (false≢true e) };
-    saves = saved_still current (Commit book ∷ []);
-    leaves = tt;
-    counts = tt;
-    opens = tt;
-    worn = λ e. record { front = []; rest = []; book = book; parts = refl; same = refl; last = omega (arith, cause) };
-    numbered = tt;
-    settles = λ not. settle_none;
-    stopped = λ opening. record {
-      front = [];
-      rest = Commit book ∷ [];
-      parts = refl;
-      same = refl;
-      at = refl;
-      opens = inr refl;
-      numbers = omega (arith, cause);
-      leaves = λ first before stands file image. inl (stands.images file (rw (append-nil before) at image)).recovers;
-    };
+-- a commit that found no generation left
+performs_worn : (store : Stored) (book : Book) → next_generation store.journal ≡ 2 ^ 64 → Performs store (Commit book ∷ []) (Err Worn) []
+performs_worn store book last = record {
+  out = record { left = Commit book ∷ []; going = still (Commit book ∷ []); none_left = λ e. absurd (false≢true e) };
+  saves = saved_still store (Commit book ∷ []);
+  leaves = tt;
+  counts = tt;
+  opens = tt;
+  worn = λ e. record {
+    front = [];
+    rest = [];
+    book = book;
+    parts = refl;
+    same = refl;
+    now = store;
+    leaves = (refl, λ first before stands. rw (append-nil before) stands);
+    last = last;
+    raised = record { at_least = omega arith; at_most = omega arith };
+  };
+  numbered = tt;
+  settles = λ not. settle_none;
+  stopped = record {
+    front = [];
+    rest = Commit book ∷ [];
+    parts = refl;
+    same = refl;
+    at = refl;
+    opens = inr refl;
+    numbers = (none_numbered store [], record { at_least = omega (arith, last); at_most = omega (arith, last) });
+    leaves = λ first before stands file image. inl (stands.images file (rw (append-nil before) at image)).recovers;
   };
 }
-told_unspelled current book NoMemory old cause = record { effects = []; added = sym (adds-none old); holds = performs_none current (Commit book ∷ []) (commit_halt_of NoMemory) tt tt (none_numbered current) }
 
-pub told_unclosed : (current : Option Current) (book : Book) (body : List ℕ) (fault : StoreFault) (old new : Option (List Effect)) → IsNext current book → body ≡ slot_bytes (next_generation current) book → fault ≡ DiskFault → Added old new (Closes current (Err fault)) → Added old new (Performs current (Commit book ∷ []) (Err (commit_halt_of fault)))
-told_unclosed current book body fault old new is_next is_body is closes =
-    rw is (added-by (λ es did. performs_refused current book es is_next.generation (swaps_of current book body (Err fault) es is_next is_body (compacted-unclosed current body fault es did))) closes)
+-- Calls of the disk, whether the world tells its effects or not
 
-pub told_unfilled : (current closed : Option Current) (book : Book) (body : List ℕ) (fault : StoreFault) (old middle new : Option (List Effect)) → IsNext current book → body ≡ slot_bytes (next_generation current) book → closed ≡ current → fault ≡ DiskFault → Added old middle (Closes current (Ok closed)) → Added middle new (Fills closed body (Err fault)) → Added old new (Performs current (Commit book ∷ []) (Err (commit_halt_of fault)))
-told_unfilled current closed book body fault old middle new is_next is_body same is closes fills =
-    rw is (added-two (λ cs fs one two. performs_refused current book (cs ++ fs) is_next.generation (swaps_of current book body (Err fault) (cs ++ fs) is_next is_body (compacted-unfilled current closed body fault cs fs same one two))) closes fills)
+pub told_commit : (store next : Stored) (book : Book) (old new : Option (List Effect)) → next.book ≡ book → Added old new (Writes store.journal store.book book (Ok next.journal)) → Added old new (Performs store (Commit book ∷ []) (Ok next))
+told_commit store next book old new same did = record { effects = did.effects; added = did.added; holds = performs_commit store next book did.effects same did.holds }
 
-module _ (current closed : Option Current) (filled : Option Current × Current) (book : Book) (body : List ℕ) (is_next : IsNext current book) (is_body : body ≡ slot_bytes (next_generation current) book) (same : closed ≡ current) (again : filled.0 ≡ closed) (follows : next_generation closed < 2 ^ 64 → filled.1 ≡ following closed (length body)) where
-  pub told_unlifted : (fault : StoreFault) (old middle late new : Option (List Effect)) → fault ≡ DiskFault → Added old middle (Closes current (Ok closed)) → Added middle late (Fills closed body (Ok filled)) → Added late new (Lifts filled (Err fault)) → Added old new (Performs current (Commit book ∷ []) (Err (commit_halt_of fault)))
-  told_unlifted fault old middle late new is closes fills lifts =
-      rw is (added-three (λ cs fs ls one two three. performs_refused current book (cs ++ (fs ++ ls)) is_next.generation (swaps_of current book body (Err fault) (cs ++ (fs ++ ls)) is_next is_body (compacted-whole current closed filled body (Err fault) cs fs ls same again follows tt one two three))) closes fills lifts)
-
-  pub told_commit : (next : Option Current) (old middle late new : Option (List Effect)) → next ≡ Some filled.1 → Added old middle (Closes current (Ok closed)) → Added middle late (Fills closed body (Ok filled)) → Added late new (Lifts filled (Ok next)) → Added old new (Performs current (Commit book ∷ []) (Ok next))
-  told_commit next old middle late new opened closes fills lifts =
-      added-three (λ cs fs ls one two three. performs_commit current next book body (cs ++ (fs ++ ls)) is_next is_body (compacted-whole current closed filled body (Ok next) cs fs ls same again follows opened one two three)) closes fills lifts
+pub told_uncommitted : (store : Stored) (book : Book) (fault : StoreFault) (old new : Option (List Effect)) → Added old new (Writes store.journal store.book book (Err fault)) → Added old new (Performs store (Commit book ∷ []) (Err (commit_halt_of fault)))
+told_uncommitted store book (WrongSize size) old new did = absurd did.holds.why_not
+told_uncommitted store book (Damaged at) old new did = absurd did.holds.why_not
+told_uncommitted store book DiskFault old new did = record { effects = did.effects; added = did.added; holds = performs_refused store book did.effects did.holds }
+told_uncommitted store book IsWorn old new did = record { effects = []; added = did.added ∙ ap (adds old) did.holds.why_not.0; holds = performs_worn store book did.holds.why_not.1 }
+told_uncommitted store book NoMemory old new did = record { effects = []; added = did.added ∙ ap (adds old) did.holds.why_not; holds = performs_none store (Commit book ∷ []) WantsMemory tt tt (none_numbered store []) }

@@ -22,6 +22,7 @@ use Rattle.session_engine.specs.Machine.{Item, script_of, run_of}
 use Rattle.session_engine.specs.Saved.{IsSaved, WearsOut}
 use Rattle.session_engine.specs.Settled.{Settle}
 use Rattle.session_engine.specs.Stops.{HasOpened, IsLeft, IsNumbered, Stops, StopsAt}
+use Rattle.session_engine.specs.Store.{store_of}
 use Rattle.session_engine.specs.declared.acts.Act.{Act}
 use Rattle.session_engine.specs.declared.fault.ServeFault.{ServeFault}
 use Rattle.session_engine.specs.declared.fault.ServeFault.TheVariants.{Damaged, WrongSize, DiskFault, LinkFault, ConsoleFault, Worn, Spent, NoMemory}
@@ -105,9 +106,9 @@ module _ (cookie : Cookie) (opening : Book) where
     -- no fault of the recovery comes any more
     pub opened : IfErr answer IsOfRun
     -- the store is worn where a commit found no number more
-    pub worn : IsErrOf answer Worn → WearsOut current (script (heard effects)) effects
+    pub worn : IsErrOf answer Worn → WearsOut (store_of current opening) (script (heard effects)) effects
     -- and it is where one did: else there was a number for each
-    pub numbered : is_whole answer ≡ true → IsNumbered current (script (heard effects))
+    pub numbered : is_whole answer ≡ true → IsNumbered (store_of current opening) (script (heard effects)) effects
     -- a fault stopped it at one act, and what a crash leaves has the checkpoint before that act
     pub stopped : IfErr answer (λ fault. Stops current opening (script (heard effects)) fault (StopsAt fault) effects)
     -- only where the disk failed may a byte of the store be in doubt behind it

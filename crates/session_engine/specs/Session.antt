@@ -1,5 +1,5 @@
 -- What a session that is held between events stands for, and what its calls make of that.
-use Rattle.std.specs.Prelude.{◌≡◌, ◌≢◌, ℕ, ◌+◌, false, List, [], ◌++◌, Option, Result, Ok, Err}
+use Rattle.std.specs.Prelude.{◌≡◌, ◌≢◌, ℕ, false, List, [], ◌++◌, Option, Result, Ok, Err}
 use Rattle.sm_world.specs.Effects.{heard, deeds}
 use Rattle.sm_world.specs.Outside.{Outside}
 use Rattle.sm_world.specs.declared.effects.Effect.{Effect}
@@ -14,6 +14,7 @@ use Rattle.session_engine.specs.Doing.{items}
 use Rattle.session_engine.specs.Settled.{Settle}
 use Rattle.session_engine.specs.Machine.{after_all, start}
 use Rattle.session_engine.specs.Stops.{IsNumbered}
+use Rattle.session_engine.specs.Store.{IsRaised, Stored, store_of}
 use Rattle.session_engine.specs.Shown.{IsShown, Shows, all_cut}
 use Rattle.session_engine.specs.declared.fault.Halt.{Halt}
 use Rattle.session_engine.specs.declared.fault.ServeFault.{ServeFault}
@@ -31,10 +32,11 @@ pub record StandsFor (cookie : Cookie) (opening : Book) (current : Option Curren
   pub in_order : items effects ≡ run cookie opening (heard effects)
   pub on_script : IsOnScript cookie opening effects
   pub keeps : (first : List ℕ) (before : List Effect) → SteadyStands current opening first before → Keeps cookie opening first before effects
-  pub store : (first : List ℕ) (before : List Effect) → SteadyStands current opening first before → SteadyStands session.store (book_after opening (script cookie opening (heard effects))) first (before ++ effects)
-  pub counts : next_generation session.store ≡ next_generation current + commits_in (script cookie opening (heard effects))
+  pub store : (first : List ℕ) (before : List Effect) → SteadyStands current opening first before → SteadyStands session.store.journal (book_after opening (script cookie opening (heard effects))) first (before ++ effects)
+  pub saved : session.store.book ≡ book_after opening (script cookie opening (heard effects))
+  pub counts : IsRaised (commits_in (script cookie opening (heard effects))) (next_generation current) (next_generation session.store.journal)
   pub opens : opened_in effects ≡ commits_in (script cookie opening (heard effects))
-  pub numbered : IsNumbered current (script cookie opening (heard effects))
+  pub numbered : IsNumbered (store_of current opening) (script cookie opening (heard effects)) effects
   pub settles : Settle effects
 
 -- A device, the store or the memory cut the run short, and not the number of its turns.
@@ -43,7 +45,7 @@ pub record IsCut (cookie : Cookie) (opening : Book) (current : Option Current) (
   pub in_time : fault ≢ Spent
 
 -- the store's turn in a session that was opened
-abbrev pub kept : Result Session Halt → Result (Option Current) Halt
+abbrev pub kept : Result Session Halt → Result Stored Halt
 kept (Ok session) = Ok session.store
 kept (Err halt) = Err halt
 

@@ -6,7 +6,7 @@ use Rattle.sm_world.specs.Outside.{Added}
 use Rattle.sm_world.specs.declared.effects.Effect.{Effect}
 use Rattle.ice_framing.specs.Frames.{fed, cut, standing_of}
 use Rattle.ice_framing.specs.Parts.{Part, parts_at, parts_of}
-use Rattle.checkpoint_slots.specs.declared.turn.Current.{Current}
+use Rattle.session_engine.specs.Store.{Stored}
 use Rattle.manager_machine.specs.Keeper.{StandsFor}
 use Rattle.session_model.specs.Moves.{History}
 use Rattle.session_model.specs.Readings as of
@@ -129,6 +129,6 @@ Takes m c left None engine = TakesNone m c engine
 Takes m c left (Some count) engine = TakesPart m c (drop count left) engine
 
 -- The effects that were added do the acts of a step over a turn of the store, and the session shows the machine after it.
-pub record Carried (old new : Option (List Effect)) (current : Option Current) (engine : Engine) (step : Step) (answer : Result (Option Current) Halt) : Type 0 where
-  pub acts : Added old new (Performs current (acts_of step) answer)
+pub record Carried (old new : Option (List Effect)) (store : Stored) (engine : Engine) (step : Step) (answer : Result Stored Halt) : Type 0 where
+  pub acts : Added old new (Performs store (acts_of step) answer)
   pub shows : IsOk answer → Shows all_cut engine step.next

@@ -4,7 +4,7 @@ use Rattle.sm_world.specs.Outside.{adds}
 use Rattle.sm_world.specs.declared.commands.Command.{Command}
 use Rattle.sm_world.specs.declared.effects.Effect.{Effect}
 use Rattle.sm_world.specs.declared.effects.Effect.TheVariants.{Started}
-use Rattle.checkpoint_slots.specs.declared.turn.Current.{Current}
+use Rattle.session_engine.specs.Store.{Stored}
 use Rattle.session_engine.specs.declared.fault.Halt.{Halt}
 
 -- the command was tried, whatever came of it; or nothing was done
@@ -13,6 +13,6 @@ Launches old new command (Ok x) = (succeeded : Bool) × (new ≡ adds old (Start
 Launches old new command (Err halt) = new ≡ old
 
 -- the store's turn stays where an act was done that isn't the store's
-abbrev pub handed_on : Option Current → Result (Unit {0}) Halt → Result (Option Current) Halt
-handed_on current (Ok x) = Ok current
-handed_on current (Err halt) = Err halt
+abbrev pub handed_on : Stored → Result (Unit {0}) Halt → Result Stored Halt
+handed_on store (Ok x) = Ok store
+handed_on store (Err halt) = Err halt

@@ -1,5 +1,5 @@
 -- Where a fault stops a run: which acts it leaves undone, and what the store has then.
-use Rattle.std.specs.Prelude.{◌≡◌, ◌⊎◌, ℕ, ◌+◌, ◌<◌, ◌≤◌, ◌^◌, Bool, true, false, IsTrue, List, [], ◌∷◌, ◌++◌, take, Option, Ok}
+use Rattle.std.specs.Prelude.{◌≡◌, ◌⊎◌, ℕ, ◌<◌, ◌^◌, Bool, true, false, IsTrue, List, [], ◌∷◌, ◌++◌, take, Option, Ok}
 use Rattle.sm_world.specs.Crash.{Image}
 use Rattle.sm_world.specs.Effects.{deeds}
 use Rattle.sm_world.specs.declared.effects.Effect.{Effect}
@@ -8,6 +8,7 @@ use Rattle.checkpoint_slots.specs.Recovery.{Recovers}
 use Rattle.checkpoint_slots.specs.Turns.{SteadyStands, next_generation, opened_in}
 use Rattle.checkpoint_slots.specs.declared.turn.Current.{Current}
 use Rattle.session_engine.specs.Acts.{book_after, commits_in, deeds_in}
+use Rattle.session_engine.specs.Store.{IsRaised, Leaves, Stored, store_of}
 use Rattle.session_engine.specs.declared.acts.Act.{Act}
 use Rattle.session_engine.specs.declared.acts.Act.TheVariants.{Say, Shut, Start, Commit, Print, Finish}
 use Rattle.session_engine.specs.declared.fault.Halt.{Halt}
@@ -63,20 +64,30 @@ StopsAt Worn left = NextIs is_commit left
 StopsAt Spent left = left ≡ []
 StopsAt NoMemory left = Unit {0}
 
--- there was a number for the generation of each checkpoint among these acts
-abbrev pub IsNumbered : Option Current → List Act → Type 0
-IsNumbered current acts = 0 < commits_in acts → next_generation current + commits_in acts ≤ 2 ^ 64
+-- A commit behind these acts found a turn of the store with a number for one generation more.
+pub record HasFound (store : Stored) (front : List Act) (effects : List Effect) : Type 0 where
+  pub done : List Effect
+  pub left : List Effect
+  pub parts : done ++ left ≡ effects
+  pub now : Stored
+  pub leaves : Leaves store front done now
+  pub number : next_generation now.journal < 2 ^ 64
 
--- Behind these acts there was a number for a checkpoint at which the disk failed, and none for one that found the store worn.
-abbrev pub HasNumbers : Option Current → ServeFault → List Act → Type 0
-HasNumbers current (Damaged at) front = IsNumbered current front
-HasNumbers current (WrongSize size) front = IsNumbered current front
-HasNumbers current DiskFault front = next_generation current + commits_in front < 2 ^ 64
-HasNumbers current LinkFault front = IsNumbered current front
-HasNumbers current ConsoleFault front = IsNumbered current front
-HasNumbers current Worn front = next_generation current + commits_in front ≡ 2 ^ 64
-HasNumbers current Spent front = IsNumbered current front
-HasNumbers current NoMemory front = IsNumbered current front
+-- each commit among these acts did
+abbrev pub IsNumbered : Stored → List Act → List Effect → Type 0
+IsNumbered store acts effects = (front rest : List Act) (book : Book) → front ++ Commit book ∷ rest ≡ acts → HasFound store front effects
+
+-- So did each commit among these acts, and the one behind them where the disk failed at it. Where that one found the store worn, no more
+-- generations were used up than checkpoints were written.
+abbrev pub HasNumbers : Stored → ServeFault → List Act → List Effect → Type 0
+HasNumbers store (Damaged at) front effects = IsNumbered store front effects
+HasNumbers store (WrongSize size) front effects = IsNumbered store front effects
+HasNumbers store DiskFault front effects = IsNumbered store front effects × HasFound store front effects
+HasNumbers store LinkFault front effects = IsNumbered store front effects
+HasNumbers store ConsoleFault front effects = IsNumbered store front effects
+HasNumbers store Worn front effects = IsNumbered store front effects × IsRaised (commits_in front) (next_generation store.journal) (2 ^ 64)
+HasNumbers store Spent front effects = IsNumbered store front effects
+HasNumbers store NoMemory front effects = IsNumbered store front effects
 
 -- A file recovers to the checkpoint behind these acts. Only where the disk failed at the next one may it have that.
 abbrev pub IsLeft : ServeFault → Book → List Act → List Act → List ℕ → Type 0
@@ -95,5 +106,5 @@ pub record Stops (current : Option Current) (opening : Book) (acts : List Act) (
   pub same : deeds effects ≡ deeds_in front
   pub at : At rest
   pub opens : HasOpened fault front effects
-  pub numbers : HasNumbers current fault front
+  pub numbers : HasNumbers (store_of current opening) fault front effects
   pub leaves : (first : List ℕ) (before : List Effect) → SteadyStands current opening first before → (file : List ℕ) → Image first (before ++ effects) file → IsLeft fault opening front rest file

@@ -1,6 +1,6 @@
 -- Whether the run goes on, and who has the store then.
-use Rattle.std.specs.Prelude.{Bool, true, false, if◌then◌else◌, Option, Result, Ok, Err}
-use Rattle.checkpoint_slots.specs.declared.turn.Current.{Current}
+use Rattle.std.specs.Prelude.{Bool, true, false, if◌then◌else◌, Result, Ok, Err}
+use Rattle.session_engine.specs.Store.{Stored}
 use Rattle.session_engine.specs.declared.fault.Halt.{Halt}
 use Rattle.session_engine.specs.declared.serving.Turn.{Turn}
 use Rattle.session_engine.specs.declared.serving.Turn.TheVariants.{GoesOn, Ended}
@@ -14,6 +14,6 @@ abbrev pub either : Bool → Bool → Bool
 either first second = if first then true else second
 
 -- who has the store's turn behind some acts
-abbrev pub stored : Result (Option Current × Turn) Halt → Result (Option Current) Halt
+abbrev pub stored : Result (Stored × Turn) Halt → Result Stored Halt
 stored (Ok done) = Ok done.0
 stored (Err halt) = Err halt

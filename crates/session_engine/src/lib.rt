@@ -13,6 +13,7 @@ mod messages;
 mod serving;
 mod session;
 mod shell;
+mod store;
 
 pub use acts::Act;
 pub use answers::{Answer, Outcome};

@@ -13,7 +13,7 @@ use crate::acts::Act;
 use crate::engine::Engine;
 use crate::fault::Halt;
 use crate::shell::Shell;
-use checkpoint_slots::Steady;
+use crate::store::Store;
 use sm_world::{Conn, Console, Disk, Duplicate, Event, Links, NoMemory, Order, Spawner};
 use std::alloc::Global;
 
@@ -66,9 +66,9 @@ fn turn_of(acts: &[Act]) -> Turn
 fn carry_out<W: Disk + Links + Spawner + Console>(
     world: &mut W,
     shell: &mut Shell,
-    store: Steady,
+    store: Store,
     acts: &[Act],
-) -> Result<(Steady, Turn), Halt>
+) -> Result<(Store, Turn), Halt>
     requires size { (W.outside world.old).size ≡ 16777280 }
     requires can { AllByRecursion CanBeDone acts.now }
     ensures done { Added (W.outside world.old).told (W.outside world.new).told (Performs store acts.now (stored result)) }
@@ -87,10 +87,10 @@ fn take_piece<W: Disk + Links + Spawner + Console>(
     world: &mut W,
     engine: &mut Engine,
     shell: &mut Shell,
-    store: Steady,
+    store: Store,
     conn: Conn,
     bytes: &[u8],
-) -> Result<(Steady, Turn), Halt>
+) -> Result<(Store, Turn), Halt>
     requires size { (W.outside world.old).size ≡ 16777280 }
     requires shown { IsShown all_cut engine.old }
     ensures carried { (m : Machine) → Shows all_cut engine.old m → Carried (W.outside world.old).told (W.outside world.new).told store engine.new (step m (Piece conn bytes.now)) (stored result) }
@@ -125,9 +125,9 @@ fn take_join<W: Disk + Links + Spawner + Console>(
     world: &mut W,
     engine: &mut Engine,
     shell: &mut Shell,
-    store: Steady,
+    store: Store,
     conn: Conn,
-) -> Result<(Steady, Turn), Halt>
+) -> Result<(Store, Turn), Halt>
     requires size { (W.outside world.old).size ≡ 16777280 }
     requires shown { IsShown all_cut engine.old }
     ensures carried { (m : Machine) → Shows all_cut engine.old m → Carried (W.outside world.old).told (W.outside world.new).told store engine.new (step m (Joined conn)) (stored result) }
@@ -145,9 +145,9 @@ fn take_end<W: Disk + Links + Spawner + Console>(
     world: &mut W,
     engine: &mut Engine,
     shell: &mut Shell,
-    store: Steady,
+    store: Store,
     conn: Conn,
-) -> Result<(Steady, Turn), Halt>
+) -> Result<(Store, Turn), Halt>
     requires size { (W.outside world.old).size ≡ 16777280 }
     requires shown { IsShown all_cut engine.old }
     ensures carried { (m : Machine) → Shows all_cut engine.old m → Carried (W.outside world.old).told (W.outside world.new).told store engine.new (step m (Gone conn)) (stored result) }
@@ -164,9 +164,9 @@ fn hear_order<W: Disk + Links + Spawner + Console>(
     world: &mut W,
     engine: &mut Engine,
     shell: &mut Shell,
-    store: Steady,
+    store: Store,
     order: Order,
-) -> Result<(Steady, Turn), Halt>
+) -> Result<(Store, Turn), Halt>
     requires size { (W.outside world.old).size ≡ 16777280 }
     requires shown { IsShown all_cut engine.old }
     ensures carried { (m : Machine) → Shows all_cut engine.old m → Carried (W.outside world.old).told (W.outside world.new).told store engine.new (step m (Operator order)) (stored result) }
@@ -184,9 +184,9 @@ fn take_order<W: Disk + Links + Spawner + Console>(
     world: &mut W,
     engine: &mut Engine,
     shell: &mut Shell,
-    store: Steady,
+    store: Store,
     order: &Order,
-) -> Result<(Steady, Turn), Halt>
+) -> Result<(Store, Turn), Halt>
     requires size { (W.outside world.old).size ≡ 16777280 }
     requires shown { IsShown all_cut engine.old }
     ensures carried { (m : Machine) → Shows all_cut engine.old m → Carried (W.outside world.old).told (W.outside world.new).told store engine.new (step m (Operator order.now)) (stored result) }
@@ -205,9 +205,9 @@ pub fn take_event<W: Disk + Links + Spawner + Console>(
     world: &mut W,
     engine: &mut Engine,
     shell: &mut Shell,
-    store: Steady,
+    store: Store,
     event: &Event,
-) -> Result<(Steady, Turn), Halt>
+) -> Result<(Store, Turn), Halt>
     requires size { (W.outside world.old).size ≡ 16777280 }
     requires shown { IsShown all_cut engine.old }
     ensures carried { (m : Machine) → Shows all_cut engine.old m → Carried (W.outside world.old).told (W.outside world.new).told store engine.new (step m event.now) (stored result) }

@@ -20,8 +20,8 @@ use crate::engine::Engine;
 use crate::fault::{Halt, ServeFault, opening_fault};
 use crate::serving::{Turn, take_event};
 use crate::shell::{Shell, hear};
+use crate::store::Store;
 use checkpoint_records::Book;
-use checkpoint_slots::Steady;
 use ice_cookie::Cookie;
 use session_model::Marks;
 use sm_world::{Console, Disk, Event, Links, NoMemory, Spawner};
@@ -32,7 +32,7 @@ use std::alloc::Global;
 pub struct Session {
     engine: Engine,
     shell: Shell,
-    store: Steady,
+    store: Store,
 }
 
 /// What an event made of a session.
@@ -63,7 +63,7 @@ impl Session {
         ensures counts { NotFallen (W.outside world.old).faults (W.outside world.new).faults }
         ensures cause { IfErr result (HasCause (W.outside world.old).faults (W.outside world.new).faults) }
     {
-        let (store, book) = match Steady::recover_from(alloc, world) {
+        let (store, book) = match Store::recover_from(alloc, world) {
             Ok(recovered) => recovered,
             Err(fault) => return Err(opening_fault(fault)),
         };
@@ -132,7 +132,7 @@ impl Session {
 fn open<W: Disk + Links + Spawner + Console>(
     alloc: Global,
     world: &mut W,
-    store: Steady,
+    store: Store,
     cookie: Cookie,
     book: Book,
 ) -> Result<Session, Halt>

@@ -9,8 +9,8 @@ ghost use Rattle.session_engine.specs.Starting.{handed_on};
 use crate::acts::Act;
 use crate::fault::{Halt, commit_halt, console_halt, link_halt};
 use crate::messages::Message;
+use crate::store::Store;
 use checkpoint_records::Book;
-use checkpoint_slots::Steady;
 use ice_messages::encode_ice;
 use ice_setup::MANAGER_OPCODE;
 use ice_values::{EncodeRefusal, Endian};
@@ -53,7 +53,7 @@ fn put_line(text: &[u8], bytes: &mut Octets) -> Result<(), NoMemory>
 }
 
 /// The store's turn, where an act was done that isn't the store's.
-fn hand_on(done: Result<(), Halt>, store: Steady) -> Result<Steady, Halt>
+fn hand_on(done: Result<(), Halt>, store: Store) -> Result<Store, Halt>
     ensures { result ≡ handed_on store done }
 {
     match done {
@@ -140,29 +140,14 @@ impl Shell {
         world.print(self.bytes.as_slice()).map_err(console_halt)
     }
 
-    /// Writes a checkpoint: it is spelled before the disk is touched, and stands in the store once
-    /// its gate is lifted.
-    fn commit<W: Disk>(&mut self, world: &mut W, store: Steady, book: &Book) -> Result<Steady, Halt>
+    /// Writes a checkpoint, which stands in the store once a gate is opened.
+    fn commit<W: Disk>(&mut self, world: &mut W, store: Store, book: &Book) -> Result<Store, Halt>
         requires size { (W.outside world.old).size ≡ 16777280 }
         requires rules { KeepsRules book.now }
         ensures done { Added (W.outside world.old).told (W.outside world.new).told (Performs store (Commits book.now ∷ []) result) }
         ensures alone { HearsNone (W.outside world.old) (W.outside world.new) result }
     {
-        // The proof needs that the epoch has 32 bits.
-        let _epoch = book.epoch;
-        let (store, body) = match store.spell(self.alloc, book) {
-            Ok(spelled) => spelled,
-            Err((_, fault)) => return Err(commit_halt(fault)),
-        };
-        let closed = match store.close(world) {
-            Ok(closed) => closed,
-            Err(fault) => return Err(commit_halt(fault)),
-        };
-        let filled = match closed.fill(world, &body) {
-            Ok(filled) => filled,
-            Err(fault) => return Err(commit_halt(fault)),
-        };
-        match filled.lift(world) {
+        match store.commit(self.alloc, world, book) {
             Ok(store) => Ok(store),
             Err(fault) => Err(commit_halt(fault)),
         }
@@ -172,9 +157,9 @@ impl Shell {
     fn do_act<W: Disk + Links + Spawner + Console>(
         &mut self,
         world: &mut W,
-        store: Steady,
+        store: Store,
         act: &Act,
-    ) -> Result<Steady, Halt>
+    ) -> Result<Store, Halt>
         requires size { (W.outside world.old).size ≡ 16777280 }
         requires can { CanBeDone act.now }
         ensures done { Added (W.outside world.old).told (W.outside world.new).told (Performs store (act.now ∷ []) result) }
@@ -194,9 +179,9 @@ impl Shell {
     pub fn perform<W: Disk + Links + Spawner + Console>(
         &mut self,
         world: &mut W,
-        store: Steady,
+        store: Store,
         acts: &[Act],
-    ) -> Result<Steady, Halt>
+    ) -> Result<Store, Halt>
         requires size { (W.outside world.old).size ≡ 16777280 }
         requires can { AllByRecursion CanBeDone acts.now }
         ensures done { Added (W.outside world.old).told (W.outside world.new).told (Performs store acts.now result) }

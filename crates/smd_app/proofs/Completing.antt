@@ -16,6 +16,7 @@ use Rattle.program_frame.specs.Programs.{status_by, line_by}
 use Rattle.session_engine.specs.Acts.{commits_in, has_finish}
 use Rattle.session_engine.specs.Carries.{is_whole, script}
 use Rattle.session_engine.specs.Saved.{WearsOut}
+use Rattle.session_engine.specs.Store.{store_of}
 use Rattle.session_engine.specs.declared.acts.Act.{Act}
 use Rattle.session_engine.specs.declared.acts.Act.TheVariants.{Commit}
 use Rattle.session_engine.specs.declared.fault.ServeFault.{ServeFault}
@@ -181,12 +182,13 @@ module _ (identity : Identity) (places : Places) (old new : Outside) (turns stat
         finish = finish;
       })
 
-  not_worn : (answer : Result (Unit {0}) ServeFault) (ending : Ending) → (opened : Opened identity.cookie turns old new answer own) → EndsWith begun ending effects → WearsOut opened.current (script identity.cookie opened.book (heard own)) own → ⊥
+  not_worn : (answer : Result (Unit {0}) ServeFault) (ending : Ending) → (opened : Opened identity.cookie turns old new answer own) → EndsWith begun ending effects → WearsOut (store_of opened.current opened.book) (script identity.cookie opened.book (heard own)) own → ⊥
   not_worn answer ending opened all worn =
       let left = can.generations opened.current (opened.recovered file can.settled).1.chooses in
       let same : commits_in (script identity.cookie book (heard effects)) ≡ commits_in (script identity.cookie opened.book (heard own)) = ap (λ (b : Book). commits_in (script identity.cookie b (heard effects))) (sym (same_book answer opened)) ∙ ap (λ (events : List Event). commits_in (script identity.cookie opened.book events)) (all_heard identity places own effects ending all) in
       let more = subst (λ (acts : List Act). commits_in worn.front < commits_in acts) worn.parts (one_more worn.front worn.rest worn.book) in
-      omega (arith, left, same, more, worn.last)
+      let most : next_generation worn.now.journal ≤ next_generation opened.current + commits_in worn.front = worn.raised.at_most in
+      omega (arith, left, same, more, most, worn.last)
 
   session_ends : (answer : Result (Unit {0}) ServeFault) → NoneRose old.faults new.faults → IsSession identity.cookie turns old new answer own → Closing (served answer) begun effects status → ServesWell identity places old.coming book turns status effects
   session_ends (Ok x) calm session closing =

@@ -34,15 +34,15 @@ const LOGIN: &str = "printed SESSION_MANAGER=local/h:/s / started 6331 / started
 
 /// What is done in the login, a letter for each effect: `p` for the file of the cookie, `l` for a line
 /// that is printed, `h` for what is heard, `m` for a message, `x` where a connection is shut, `s` for a
-/// start. A commit closes a gate, fills its slot and opens the gate, with a sync (a dot) behind each.
-const DONE: &str = "plc.f.o.sssssshmhmmmmhmhmhmmmmhmhmhmmmmhmhmhmmmmhmhmhmmmmhmhhmhmmmmhmmhhc.f.o.m\
-    hlmmmmmmhhhhhhc.f.o.mmmmmmshxhxhxhxhxhx";
+/// start. A commit writes what changed and opens the gate in front of it, with a sync (a dot) behind each.
+const DONE: &str = "plf.o.sssssshmhmmmmhmhmhmmmmhmhmhmmmmhmhmhmmmmhmhmhmmmmhmhhmhmmmmhmmhhf.o.m\
+    hlmmmmmmhhhhhhf.o.mmmmmmshxhxhxhxhxhx";
 
 /// How the login ends where each of its calls fails, by its status, or an `s` where all was done but for
 /// one start. Then no call is left that could fail.
-const ENDINGS: &str = "4456 4444444 444444 ssssss \
-    555555555 555555555 555555555 555555555 555555555 5 5555555 555 5 5 444444 5 \
-    5 6 555555 555555 444444 555555 s 55 55 55 55 55 55 0";
+const ENDINGS: &str = "4456 444444 4444 ssssss \
+    555555555 555555555 555555555 555555555 555555555 5 5555555 555 5 5 4444 5 \
+    5 6 555555 555555 4444 555555 s 55 55 55 55 55 55 0";
 
 /// A store whose first slot has the book of six entries.
 fn six_entries(alloc: Global) -> Result<Octets, Fail> {
@@ -329,7 +329,7 @@ fn put_left(alloc: Global, out: &mut String, fronts: &MemWorld, first: usize) ->
 }
 
 /// After each effect of a commit, by each choice: `-` for the old book, and `+` for the new one.
-const LEFT: &str = "-----/-----/-----/-----/+--+-/+++++/";
+const LEFT: &str = "-----/-----/+--+-/+++++/";
 
 /// Appends these books.
 fn put_books(out: &mut String, old: &str, new: &str) -> Result<(), Fail> {
@@ -346,7 +346,7 @@ fn put_books(out: &mut String, old: &str, new: &str) -> Result<(), Fail> {
     Ok(())
 }
 
-/// Expects what is left behind each of six effects, of which this is the first.
+/// Expects what is left behind each of four effects, of which this is the first.
 fn expect_left(
     rt: &(impl Abort + Alloc<A = Global>),
     fronts: &MemWorld,
@@ -355,7 +355,7 @@ fn expect_left(
 ) -> Result<(), Fail> {
     let mut found = String::new(rt.alloc());
     let mut count = first;
-    for _ in 0..6 {
+    for _ in 0..4 {
         put_left(rt.alloc(), &mut found, fronts, count)?;
         count = count.saturating_add(1);
     }
@@ -368,8 +368,8 @@ fn expect_left(
 #[test]
 fn a_crash_of_a_login_leaves_the_old_book_or_the_new(rt: HostRuntime) -> Result<(), Fail> {
     let fronts = login_fronts(&rt)?;
-    assert_eq!(rt; fronts.effects().len(), 18);
+    assert_eq!(rt; fronts.effects().len(), 12);
     expect_left(&rt, &fronts, 1, ("1/6", "2/6"))?;
-    expect_left(&rt, &fronts, 7, ("2/6", "2/7"))?;
-    expect_left(&rt, &fronts, 13, ("2/7", "2/6"))
+    expect_left(&rt, &fronts, 5, ("2/6", "2/7"))?;
+    expect_left(&rt, &fronts, 9, ("2/7", "2/6"))
 }

@@ -11,7 +11,7 @@ use Rattle.checkpoint_journal.proofs.journal.Journal.append.Goals as goal
 
 pub returns-then-worn-clause-effects : goal.returns-then-worn-clause-effects
 returns-then-worn-clause-effects g c =
-    let worn : next_generation c.args.self ≡ 2 ^ 64 = ap next_generation (sym c.self.view_is) ∙ c.if-worn.ensures.0 refl in
+    let worn : next_generation c.args.self ≡ 2 ^ 64 = ap next_generation (sym c.self.view_is) ∙ c.if-worn.ensures.is.0 refl in
     appends-refused c.args.self c.args.delta.now Worn _ worn
 
 pub returns-in-Err-clause-effects : goal.returns-in-Err-clause-effects
