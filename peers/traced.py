@@ -61,18 +61,26 @@ def commit(gate, slot, count):
     )
 
 
-# An epoch begins with a commit, and the order that ends the session has one too.
-FIRST_SESSION = "read store 1 bytes at 0\nread store 1 bytes at 32\n" + commit(0, 64, 40) + commit(32, 8388672, 40)
+def append(gate, size):
+    """Changes of this size are written behind a gate, with their head and the next gate, and then the gate is opened, each on the disk
+    before the next."""
+    return "write store %d bytes at %d\nsync store\nwrite store 1 bytes at %d\nsync store\n" % (size + 8, gate + 1, gate)
 
-GATES_AND_SLOTS = """read store 1 bytes at 0
+
+# An epoch begins with a commit, and the order that ends the session has one too, which changes nothing.
+FIRST_SESSION = "read store 1 bytes at 0\nread store 1 bytes at 32\n" + commit(0, 64, 40) + append(96, 0)
+
+GATES_AND_SLOT = """read store 1 bytes at 0
 read store 1 bytes at 32
-read store 8 bytes at 64
-read store 12 bytes at 8388672
-read store 17 bytes at 8388688
+read store 12 bytes at 64
+read store 8388592 bytes at 80
 """
 
-# The client is told that its save is complete once it is on the disk.
-SAVING = commit(0, 64, 40) + commit(32, 8388672, 184) + "send SaveComplete\n" + commit(0, 64, 40)
+# The next epoch, and the end of its session.
+NEXT_SESSION = append(104, 8) + append(120, 0)
+
+# The client is told that its save is complete once it is on the disk. It has gone when the session ends.
+SAVING = append(104, 8) + append(120, 152) + "send SaveComplete\n" + append(280, 40)
 
 
 class Traced(Manager):
@@ -138,12 +146,12 @@ def one_round(smd, room, *faults):
     client, _ = manager.saved()
     client.close()
     manager.shutdown()
-    manager.expect_calls(TAKEN, PUBLISHED, LISTENING, GATES_AND_SLOTS, SAVING, CLOSED)
+    manager.expect_calls(TAKEN, PUBLISHED, LISTENING, GATES_AND_SLOT, SAVING, CLOSED)
 
 
 def short_writes(smd, room):
     """Where the system takes a part of a write, the rest is written behind it."""
-    one_round(smd, room, "pwrite64:retval=1:when=2", "pwrite64:retval=100:when=5")
+    one_round(smd, room, "pwrite64:retval=1:when=1", "pwrite64:retval=100:when=4")
 
 
 def short_publishing(smd, room):
@@ -152,7 +160,7 @@ def short_publishing(smd, room):
     manager = Traced(smd, room, "short", "write:retval=7:when=1")
     manager.start()
     manager.shutdown()
-    manager.expect_calls(TAKEN, PUBLISHED, LISTENING, GATES_AND_SLOTS, commit(0, 64, 40), commit(32, 8388672, 40), CLOSED)
+    manager.expect_calls(TAKEN, PUBLISHED, LISTENING, GATES_AND_SLOT, NEXT_SESSION, CLOSED)
 
 
 def short_making(smd, room):
