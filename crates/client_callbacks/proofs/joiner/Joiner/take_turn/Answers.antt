@@ -1,5 +1,5 @@
 use Rattle.std.proofs.Common.{ap, refl, rules, take, Some}
-use Rattle.client_machine.specs.declared.client.ClientPhase.{ClientPhase}
+use Rattle.client_machine.specs.declared.phase.ClientPhase.{ClientPhase}
 use Rattle.client_callbacks.specs.Doing.{failure_in}
 use Rattle.client_callbacks.specs.Script.{Keeper}
 use Rattle.client_callbacks.specs.declared.ends.Ending.TheVariants.{StreamEnded}
