@@ -8,7 +8,7 @@ use Rattle.client_machine.specs.declared.saves.SaveAnswer.{SaveAnswer}
 use Rattle.client_machine.specs.declared.saves.SaveAsk.{SaveAsk}
 use Rattle.client_machine.specs.declared.saves.Stage.{Stage}
 use Rattle.client_engine.specs.Answering.{after_answer, answer_messages, closes, stage_again}
-use Rattle.client_engine.specs.Driving.{Run, Step, part_taken, parts_taken, reply, standing_at, stays}
+use Rattle.client_engine.specs.Driving.{Run, Step, part_taken, parts_taken, reply, stays}
 use Rattle.client_engine.specs.Hearing.{part_heard}
 use Rattle.client_engine.specs.declared.hearing.Cue.{Cue}
 use Rattle.client_engine.specs.declared.hearing.Cue.TheVariants.{Nothing, Registered, Save, Cancelled, Complete, Die, Properties, Refused, Malformed}

@@ -16,7 +16,7 @@ use Rattle.client_engine.specs.declared.hearing.Cue.{Cue}
 use Rattle.client_engine.specs.declared.messages.Message.{Message}
 use Rattle.client_callbacks.specs.Answers.{Replies, unasked}
 use Rattle.client_callbacks.specs.Doing.{Callbacks, Desk, desk, CarriesOut, Follows, Sends, Takes}
-use Rattle.client_callbacks.specs.Script.{Entry, Keeper, Says, AsksSave, AsksReasons, TellsCancelled, Notes, answer_line, answered, answered_again, cancelled, closed, completed, cued, died, doing, on_client, saved}
+use Rattle.client_callbacks.specs.Script.{Entry, Keeper, Says, AsksSave, AsksReasons, TellsCancelled, Notes, answer_line, answered, answered_again, cancelled, closed, completed, cued, died, on_client, saved}
 use Rattle.client_callbacks.specs.declared.ends.Ending.TheVariants.{Closed, Died}
 use Rattle.client_callbacks.proofs.DoingLaws.{carries_asked, carries_cut, carries_more, carries_never, carries_none, carries_noted, carries_sent}
 

@@ -1,5 +1,5 @@
 -- Parts one after another, and pieces.
-use Rattle.std.proofs.Common.{◌≡◌, ℕ, ◌≤◌, Bool, true, false, List, [], ◌∷◌, ◌++◌, length, map, drop, Option, None, Some, refl, sym, ◌∙◌, ap, subst, append-nil}
+use Rattle.std.proofs.Common.{◌≡◌, ℕ, ◌≤◌, Bool, true, false, List, [], ◌∷◌, ◌++◌, map, drop, Option, None, Some, refl, sym, ◌∙◌, ap, subst}
 use Rattle.std.proofs.lemmas.Bool.{false≢true}
 use Rattle.sm_world.specs.declared.failures.Failure.{Failure}
 use Rattle.sm_world.specs.declared.failures.Failure.TheVariants.{NoMemory}
@@ -10,16 +10,15 @@ use Rattle.client_machine.specs.Phases.{ClientState}
 use Rattle.client_machine.specs.declared.saves.SaveAnswer.{SaveAnswer}
 use Rattle.client_machine.specs.declared.saves.SaveAsk.{SaveAsk}
 use Rattle.client_machine.specs.declared.saves.Stage.{Stage}
-use Rattle.client_engine.specs.Answering.{after_answer, after_owed, answer_messages, changed, stage_again, stopped}
-use Rattle.client_engine.specs.Cutting.{Deaf, Holds, HoldsAll, IsDeaf, TakesFirst, TakesNothing}
-use Rattle.client_engine.specs.Driving.{Run, StaysStopped, Step, behind, part_taken, parts_taken, piece_taken, stays}
+use Rattle.client_engine.specs.Answering.{after_answer, after_owed, stage_again}
+use Rattle.client_engine.specs.Cutting.{Deaf, Holds, TakesFirst, TakesNothing}
+use Rattle.client_engine.specs.Driving.{Run, StaysStopped, Step, behind, parts_taken, piece_taken, stays}
 use Rattle.client_engine.specs.Hearing.{part_heard}
 use Rattle.client_engine.specs.Places.{is_listening, on_client as place_after}
 use Rattle.client_engine.specs.declared.engine.Core.{Core}
 use Rattle.client_engine.specs.declared.engine.Taken.{Taken}
 use Rattle.client_engine.specs.declared.hearing.Cue.{Cue}
 use Rattle.client_engine.specs.declared.hearing.Cue.TheVariants.{Nothing, Registered, Save, Cancelled, Complete, Die, Properties, Refused, Malformed}
-use Rattle.client_engine.specs.declared.hearing.Heard.{Heard}
 use Rattle.client_engine.specs.declared.place.Place.{Place}
 use Rattle.client_engine.specs.declared.place.Place.TheVariants.{Opening, Speaking, Stopped}
 use Rattle.client_engine.proofs.Driven.{Middle, begins, deaf_parts, ends, further, held_stands, holds, in_parts, nothing_left}

@@ -1,12 +1,10 @@
 -- One receive after another.
-use Rattle.std.proofs.Common.{◌≡◌, ℕ, ◌+◌, ◌-◌, ◌<◌, ◌≤◌, ◌⊎◌, inl, inr, arith, Bool, true, false, List, [], ◌∷◌, ◌++◌, length, take, drop, Option, None, Some, Result, Ok, Err, refl, sym, ◌∙◌, ap, subst, append_assoc, append-nil, length-append}
-use Rattle.std.proofs.lemmas.Bool.{false≢true}
+use Rattle.std.proofs.Common.{◌≡◌, ℕ, ◌+◌, ◌-◌, ◌<◌, ◌≤◌, ◌⊎◌, inl, inr, arith, Bool, true, false, List, [], ◌∷◌, ◌++◌, length, take, drop, Option, None, Some, Result, Err, refl, sym, ◌∙◌, ap, subst, append_assoc, append-nil, length-append}
 use Rattle.std.proofs.lemmas.List.{length-drop, length-take, map-append, take_all}
 use Rattle.sm_world.specs.declared.failures.Failure.{Failure}
 use Rattle.sm_world.specs.declared.failures.Failure.TheVariants.{Failed, NoMemory}
 use Rattle.sm_world.specs.declared.effects.Effect.TheVariants.{Heard}
 use Rattle.sm_world.specs.Outside.{Outside, adds, NotFallen}
-use Rattle.ice_framing.specs.Frames.{beginning}
 use Rattle.client_peer.specs.Peers.{received}
 use Rattle.ice_cookie.specs.declared.cookies.Cookie.{Cookie}
 use Rattle.ice_messages.specs.declared.message.IceMessage.TheVariants.{ByteOrder}
@@ -18,7 +16,7 @@ use Rattle.client_engine.specs.Places.{is_listening, phase_at}
 use Rattle.client_engine.specs.declared.messages.Message.TheVariants.{Ice}
 use Rattle.client_callbacks.specs.Answers.{Replies}
 use Rattle.client_callbacks.specs.Doing.{Callbacks, CarriesOut, Sends, Desk, desk, Does, IsCaused, IsRun, IsUnsent, TakesPiece, TakesTurn, bytes_in, heard_in, keeper_of}
-use Rattle.client_callbacks.specs.Script.{Came, Entry, Hears, Keeper, ended, is_over, over, run_after, Says, script, script_from, start, turn}
+use Rattle.client_callbacks.specs.Script.{Came, Entry, Hears, Keeper, is_over, over, run_after, Says, script, script_from, start, turn}
 use Rattle.client_callbacks.specs.Running.{FollowsRun, IsAnswer, Joins, answer_of, failure_of, fault_of}
 use Rattle.client_callbacks.specs.declared.ends.ClientEnd.{ClientEnd}
 use Rattle.client_callbacks.specs.declared.ends.Ending.{Ending}

@@ -10,7 +10,6 @@ use Rattle.sm_world.specs.declared.failures.Faults.{Faults}
 use Rattle.client_peer.specs.Peers.{received}
 use Rattle.client_machine.specs.declared.saves.SaveAnswer.{SaveAnswer}
 use Rattle.client_machine.specs.declared.saves.SaveAsk.{SaveAsk}
-use Rattle.ice_framing.specs.Frames.{Standing}
 use Rattle.client_engine.specs.Driving.{Run, Step, piece_taken}
 use Rattle.client_engine.specs.Messages.{spelled}
 use Rattle.client_engine.specs.Places.{is_listening}

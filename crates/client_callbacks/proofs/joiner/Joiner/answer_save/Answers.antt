@@ -1,6 +1,5 @@
-use Rattle.std.proofs.Common.{◌∙◌, None, Some, ap, subst}
+use Rattle.std.proofs.Common.{◌∙◌, Some, ap, subst}
 use Rattle.sm_world.specs.declared.failures.Failure.TheVariants.{NoMemory}
-use Rattle.client_engine.specs.declared.messages.Message.{Message}
 use Rattle.client_engine.specs.declared.place.Talk.{Talk}
 use Rattle.client_callbacks.specs.Doing.{Sends, failure_in, keeper_of}
 use Rattle.client_callbacks.specs.Script.{Keeper}

@@ -1,7 +1,7 @@
-use Rattle.std.proofs.Common.{refl, Some, codes, ◌++◌}
+use Rattle.std.proofs.Common.{refl}
 use Rattle.client_engine.specs.declared.hearing.Cue.TheVariants.{Cancelled, Complete, Die}
-use Rattle.client_callbacks.specs.Answers.{Replies, unasked}
-use Rattle.client_callbacks.specs.Doing.{failure_in, keeper_of}
+use Rattle.client_callbacks.specs.Answers.{unasked}
+use Rattle.client_callbacks.specs.Doing.{keeper_of}
 use Rattle.client_callbacks.specs.Script.{cued}
 use Rattle.client_callbacks.proofs.HeedLaws.{because, takes_as, takes_noted, takes_silent, takes_unnoted}
 use Rattle.client_callbacks.proofs.joiner.Joiner.heed.Goals as goal

@@ -1,4 +1,4 @@
-use Rattle.std.proofs.Common.{◌≡◌, ℕ, List, None, refl, sym, ap, subst}
+use Rattle.std.proofs.Common.{◌≡◌, ℕ, List, None, sym, ap, subst}
 use Rattle.client_engine.specs.Driving.{Run}
 use Rattle.client_callbacks.specs.Doing.{IsRun, desk}
 use Rattle.client_callbacks.specs.Running.{FollowsRun}

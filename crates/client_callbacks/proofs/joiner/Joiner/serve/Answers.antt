@@ -1,5 +1,4 @@
-use Rattle.std.proofs.Common.{subst}
-use Rattle.client_callbacks.specs.Doing.{Sends, failure_in, keeper_of}
+use Rattle.client_callbacks.specs.Doing.{failure_in, keeper_of}
 use Rattle.client_callbacks.proofs.HeedLaws.{served, served_failed}
 use Rattle.client_callbacks.proofs.joiner.Joiner.serve.Goals as goal
 

@@ -1,4 +1,4 @@
-use Rattle.std.proofs.Common.{rules, ◌≡◌, ℕ, List, drop, length, Option, None, Some, refl, sym, subst}
+use Rattle.std.proofs.Common.{rules, ◌≡◌, ℕ, List, length, Option, None, Some, refl, sym, subst}
 use Rattle.sm_world.specs.declared.failures.Failure.TheVariants.{NoMemory}
 use Rattle.client_engine.specs.Cutting.{Cuts}
 use Rattle.client_engine.specs.declared.engine.Taken.{Taken}
