@@ -127,7 +127,7 @@ save_agrees keeper r q ask =
     let again : (k : Keeper) → Step Keeper Entry = λ k. answered_again k ask q.again stage in
     let first : Agree (answer_line ask r.first) (answer_line ask q.first) = answer_agrees ask r.first q.first in
     let rest : answer_line ask r.first ≡ answer_line ask q.first → StepsAgree (answered_again one ask r.again stage) (again other) = λ same.
-        subst (λ (k : Keeper). StepsAgree (answered_again one ask r.again stage) (again k)) (ap (λ (x : SaveAnswer). on_client (after_answer x) keeper) (answer_is ask r.first q.first same)) (again_agrees one ask r.again q.again stage) in
+    subst (λ (k : Keeper). StepsAgree (answered_again one ask r.again stage) (again k)) (ap (λ (x : SaveAnswer). on_client (after_answer x) keeper) (answer_is ask r.first q.first same)) (again_agrees one ask r.again q.again stage) in
     record {
       lines = agree_append (answer_line ask r.first) (answer_line ask q.first) (answered_again one ask r.again stage).line (again other).line first (λ same. (rest same).lines);
       next = λ same.

@@ -116,7 +116,7 @@ module _ {S D C : Type 0} (answers : S → SaveAsk → SaveAnswer → S → Type
       let is : part_step keeper core taken takes.said ≡ step = step_is keeper before.core core left taken cuts refl takes.said in
       let next : step.next ≡ keeper_of after = ap (λ (s : Step Keeper Entry). s.next) (sym is) ∙ sym (takes.next refl) in
       let more : Middle unasked talk_of reacts (keeper_of first) step.next first.core.splitter core.splitter piece (drop taken.count left) (amid.replies ++ takes.said ∷ []) (amid.line ++ step.line) =
-          further unasked talk_of reacts stays_stopped (keeper_of first) keeper first.core.splitter before.core.splitter core.splitter piece left (drop taken.count left) amid.replies amid.line cuts.part takes.said amid.middle cuts.parts (λ still. cuts.stands (ap (λ t. is_listening t.place) cuts.talk ∙ still)) cuts.listens in
+      further unasked talk_of reacts stays_stopped (keeper_of first) keeper first.core.splitter before.core.splitter core.splitter piece left (drop taken.count left) amid.replies amid.line cuts.part takes.said amid.middle cuts.parts (λ still. cuts.stands (ap (λ t. is_listening t.place) cuts.talk ∙ still)) cuts.listens in
       record {
         replies = amid.replies ++ takes.said ∷ [];
         line = amid.line ++ step.line;
@@ -130,7 +130,7 @@ module _ {S D C : Type 0} (answers : S → SaveAsk → SaveAnswer → S → Type
       → (is_listening after.core.talk.place ≡ true → after.core.splitter ≡ (cut (fed first.core.splitter piece)).standing) → PieceIn old now (own_run first) piece after None
   piece_ended old now first before after piece left amid silent same feeds =
       let whole : piece_in (own_run first) piece amid.replies ≡ record { line = amid.line; next = record { standing = (cut (fed first.core.splitter piece)).standing; keeper = keeper_of before } } =
-          ends unasked talk_of reacts (keeper_of first) (keeper_of before) first.core.splitter before.core.splitter piece left amid.replies amid.line amid.middle silent in
+      ends unasked talk_of reacts (keeper_of first) (keeper_of before) first.core.splitter before.core.splitter piece left amid.replies amid.line amid.middle silent in
       record {
         replies = amid.replies;
         does = subst (λ (s : Step (Run Keeper) Entry). CarriesIn old now s.line None) (sym whole) amid.does;
@@ -178,7 +178,7 @@ module _ {S D C : Type 0} (answers : S → SaveAsk → SaveAnswer → S → Type
       let is : part_step keeper core taken takes.said ≡ step = step_is keeper before.core core left taken cuts refl takes.said in
       let rest : Step Keeper Entry = all_in step.next (parts_at (fed core.splitter (drop taken.count left))) [] in
       let line : (all_in (keeper_of first) (parts_at (fed first.core.splitter piece)) (amid.replies ++ takes.said ∷ [])).line ≡ amid.line ++ (step.line ++ rest.line) =
-          ap (λ (s : Step Keeper Entry). s.line) (amid.middle.goes_on (takes.said ∷ [])) ∙ ap (λ (ps : List Part). amid.line ++ (all_in keeper ps (takes.said ∷ [])).line) cuts.parts in
+      ap (λ (s : Step Keeper Entry). s.line) (amid.middle.goes_on (takes.said ∷ [])) ∙ ap (λ (ps : List Part). amid.line ++ (all_in keeper ps (takes.said ∷ [])).line) cuts.parts in
       record {
         replies = amid.replies ++ takes.said ∷ [];
         does = subst (λ (es : List Entry). CarriesIn old later es (Some failure)) (sym line)
