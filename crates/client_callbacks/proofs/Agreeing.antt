@@ -1,28 +1,21 @@
 -- Two scripts for the same receives differ only where the callbacks say otherwise.
 use Rattle.std.proofs.Common.{◌≡◌, ℕ, Bool, true, false, List, [], ◌∷◌, ◌++◌, map, drop, Option, None, Some, refl, sym, ◌∙◌, ap, subst}
 use Rattle.std.specs.Prelude.{if◌then◌else◌}
-use Rattle.ice_framing.specs.Frames.{Cut, cut, fed, is_oversize}
-use Rattle.ice_framing.specs.declared.cutting.WholeFrame.{WholeFrame}
-use Rattle.ice_setup.specs.declared.opener.Joined.{Joined}
-use Rattle.client_machine.specs.Phases.{ClientState}
+use Rattle.ice_framing.specs.Frames.{cut, fed}
+use Rattle.ice_framing.specs.Parts.{Part, parts_at}
 use Rattle.client_machine.specs.Saves.{at_stage}
-use Rattle.client_machine.specs.Taking.{act_taken, taken}
-use Rattle.client_machine.specs.declared.acts.ClientAct.{ClientAct}
-use Rattle.client_machine.specs.declared.acts.ClientAct.TheVariants.{Nothing, Registered, Again, Save, Die, Cancelled, Complete, Properties, Refused, Unexpected}
 use Rattle.client_machine.specs.declared.saves.SaveAnswer.{SaveAnswer}
 use Rattle.client_machine.specs.declared.saves.SaveAsk.{SaveAsk}
 use Rattle.client_machine.specs.declared.saves.Stage.{Stage}
-use Rattle.client_callbacks.specs.Answers.{Replies}
+use Rattle.client_engine.specs.Answering.{after_answer, answer_messages, closes, stage_again}
+use Rattle.client_engine.specs.Driving.{Run, Step, part_taken, parts_taken, reply, stays}
+use Rattle.client_engine.specs.Hearing.{part_heard}
+use Rattle.client_engine.specs.declared.hearing.Cue.{Cue}
+use Rattle.client_engine.specs.declared.hearing.Cue.TheVariants.{Nothing, Registered, Save, Cancelled, Complete, Die, Properties, Refused, Malformed}
+use Rattle.client_engine.specs.declared.hearing.Heard.{Heard}
+use Rattle.client_callbacks.specs.Answers.{Replies, unasked}
 use Rattle.client_callbacks.specs.Doing.{bytes_in}
-use Rattle.client_callbacks.specs.Received.{received_of}
-use Rattle.client_callbacks.specs.Script.{Came, Entry, Hears, Says, AsksSave, AsksReasons, TellsCancelled, Notes, Run, Step, Turn, acted, after_again, after_answer, again_line, answer_line, answer_messages, arrived, closes, cut_off, die_line, frame_at, frame_taken, frames_taken, is_over, reply, run_after, script_from, speaking_took, stage_again, stays, turn}
-use Rattle.client_callbacks.specs.declared.received.Received.{Received}
-use Rattle.client_callbacks.specs.declared.received.Received.TheVariants.{Ice, Xsmp, Stray, Unspelled}
-use Rattle.client_callbacks.specs.declared.talk.Arrival.{Arrival}
-use Rattle.client_callbacks.specs.declared.talk.Counts.{Counts}
-use Rattle.client_callbacks.specs.declared.talk.Place.{Place}
-use Rattle.client_callbacks.specs.declared.talk.Place.TheVariants.{Opening, Over, Speaking, Stopped}
-use Rattle.client_callbacks.specs.declared.talk.Talk.{Talk}
+use Rattle.client_callbacks.specs.Script.{Came, Entry, Hears, Says, AsksSave, AsksReasons, TellsCancelled, Notes, Keeper, answer_line, answered_again, cued, died, is_over, on_client, reacts, run_after, saved, script_from, talk_of, turn}
 
 -- the same entry, but for what a callback says in it
 abbrev pub Alike : Entry → Entry → Type 0
@@ -99,12 +92,12 @@ agree_drop (e ∷ front) xs ys agree =
 
 -- ---- steps
 
--- Two steps agree, and lead to the same place where they are the same.
-record StepsAgree (one other : Step) : Type 0 where
+-- Two steps agree, and lead to the same where they are the same.
+record StepsAgree {K : Type 0} (one other : Step K Entry) : Type 0 where
   pub lines : Agree one.line other.line
   pub next : one.line ≡ other.line → one.next ≡ other.next
 
-steps_same : (step : Step) → StepsAgree step step
+steps_same : (step : Step Keeper Entry) → StepsAgree step step
 steps_same step = record { lines = agree_refl step.line; next = λ same. refl }
 
 said_of : (ask : SaveAsk) (a b : SaveAnswer) (xs ys : List Entry) → AsksSave ask a ∷ xs ≡ AsksSave ask b ∷ ys → a ≡ b
@@ -119,65 +112,74 @@ answer_agrees ask a b = agree_one (AsksSave ask a) (AsksSave ask b) (map Says (a
 answer_is : (ask : SaveAsk) (a b : SaveAnswer) → answer_line ask a ≡ answer_line ask b → a ≡ b
 answer_is ask a b same = said_of ask a b (map Says (answer_messages a)) (map Says (answer_messages b)) same
 
-again_agrees : (ask : SaveAsk) (a b : SaveAnswer) (stage : Option Stage) → Agree (again_line ask a stage) (again_line ask b stage)
-again_agrees ask a b None = refl
-again_agrees ask a b (Some stage) = answer_agrees (at_stage stage ask) a b
+again_agrees : (keeper : Keeper) (ask : SaveAsk) (a b : SaveAnswer) (stage : Option Stage) → StepsAgree (answered_again keeper ask a stage) (answered_again keeper ask b stage)
+again_agrees keeper ask a b None = record { lines = refl; next = λ same. refl }
+again_agrees keeper ask a b (Some stage) = record {
+  lines = answer_agrees (at_stage stage ask) a b;
+  next = λ same. ap (λ (x : SaveAnswer). on_client (after_answer x) keeper) (answer_is (at_stage stage ask) a b same);
+}
 
-after_again_is : (ask : SaveAsk) (a b : SaveAnswer) (c d : ClientState) (stage : Option Stage) → c ≡ d → again_line ask a stage ≡ again_line ask b stage → after_again a c stage ≡ after_again b d stage
-after_again_is ask a b c d None stands same = stands
-after_again_is ask a b c d (Some stage) stands same = ap (λ (x : ClientState). after_answer a x) stands ∙ ap (λ (x : SaveAnswer). after_answer x d) (answer_is (at_stage stage ask) a b same)
-
-save_agrees : (a : Arrival) (joined : Joined) (r q : Replies) (c : ClientState) (ask : SaveAsk) → StepsAgree (acted a joined r c (Save ask)) (acted a joined q c (Save ask))
-save_agrees a joined r q c ask =
-    let first : Agree (answer_line ask r.first) (answer_line ask q.first) = answer_agrees ask r.first q.first in
+save_agrees : (keeper : Keeper) (r q : Replies) (ask : SaveAsk) → StepsAgree (saved keeper ask r) (saved keeper ask q)
+save_agrees keeper r q ask =
     let stage : Option Stage = stage_again ask.stage in
+    let one : Keeper = on_client (after_answer r.first) keeper in
+    let other : Keeper = on_client (after_answer q.first) keeper in
+    let again : (k : Keeper) → Step Keeper Entry = λ k. answered_again k ask q.again stage in
+    let first : Agree (answer_line ask r.first) (answer_line ask q.first) = answer_agrees ask r.first q.first in
+    let rest : answer_line ask r.first ≡ answer_line ask q.first → StepsAgree (answered_again one ask r.again stage) (again other) = λ same.
+    subst (λ (k : Keeper). StepsAgree (answered_again one ask r.again stage) (again k)) (ap (λ (x : SaveAnswer). on_client (after_answer x) keeper) (answer_is ask r.first q.first same)) (again_agrees one ask r.again q.again stage) in
     record {
-      lines = agree_append (answer_line ask r.first) (answer_line ask q.first) (again_line ask r.again stage) (again_line ask q.again stage) first (λ same. again_agrees ask r.again q.again stage);
+      lines = agree_append (answer_line ask r.first) (answer_line ask q.first) (answered_again one ask r.again stage).line (again other).line first (λ same. (rest same).lines);
       next = λ same.
-          let parts = agree_front (answer_line ask r.first) (answer_line ask q.first) (again_line ask r.again stage) (again_line ask q.again stage) first same in
-          let stands : after_answer r.first c ≡ after_answer q.first c = ap (λ (x : SaveAnswer). after_answer x c) (answer_is ask r.first q.first parts.0) in
-          ap (λ (x : ClientState). let t : Talk = record { place = Speaking joined x; counts = a.counts } in t) (after_again_is ask r.again q.again (after_answer r.first c) (after_answer q.first c) stage stands parts.1);
+          let parts = agree_front (answer_line ask r.first) (answer_line ask q.first) (answered_again one ask r.again stage).line (again other).line first same in
+          (rest parts.0).next parts.1;
     }
 
 reasons_of : (x y : List (List ℕ)) → AsksReasons x ≡ AsksReasons y → x ≡ y
 reasons_of x y same = cc
 
-die_agrees : (x y : List (List ℕ)) → Agree (die_line x) (die_line y)
-die_agrees x y = (_, _, refl, refl, λ same. agree_one (AsksReasons x) (AsksReasons y) (Says (closes x) ∷ []) (Says (closes y) ∷ []) (y, refl) (λ is. agree_is (Says (closes x) ∷ []) (Says (closes y) ∷ []) (ap (λ (rs : List (List ℕ)). Says (closes rs) ∷ []) (reasons_of x y is))))
+die_agrees : (keeper : Keeper) (x y : List (List ℕ)) → Agree (died keeper x).line (died keeper y).line
+die_agrees keeper x y = (_, _, refl, refl, λ same. agree_one (AsksReasons x) (AsksReasons y) (Says (closes x) ∷ []) (Says (closes y) ∷ []) (y, refl) (λ is. agree_is (Says (closes x) ∷ []) (Says (closes y) ∷ []) (ap (λ (rs : List (List ℕ)). Says (closes rs) ∷ []) (reasons_of x y is))))
 
-acted_agrees : (a : Arrival) (joined : Joined) (r q : Replies) (c : ClientState) (act : ClientAct) → StepsAgree (acted a joined r c act) (acted a joined q c act)
-acted_agrees a joined r q c Nothing = steps_same (acted a joined r c Nothing)
-acted_agrees a joined r q c (Registered id) = steps_same (acted a joined r c (Registered id))
-acted_agrees a joined r q c (Again message) = steps_same (acted a joined r c (Again message))
-acted_agrees a joined r q c (Save ask) = save_agrees a joined r q c ask
-acted_agrees a joined r q c Die = record { lines = die_agrees r.reasons q.reasons; next = λ same. refl }
-acted_agrees a joined r q c Cancelled = steps_same (acted a joined r c Cancelled)
-acted_agrees a joined r q c Complete = steps_same (acted a joined r c Complete)
-acted_agrees a joined r q c (Properties list) = steps_same (acted a joined r c (Properties list))
-acted_agrees a joined r q c (Refused class) = steps_same (acted a joined r c (Refused class))
-acted_agrees a joined r q c Unexpected = steps_same (acted a joined r c Unexpected)
+cued_agrees : (keeper : Keeper) (r q : Replies) (cue : Cue) → StepsAgree (cued keeper r cue) (cued keeper q cue)
+cued_agrees keeper r q Nothing = steps_same (cued keeper r Nothing)
+cued_agrees keeper r q (Registered id) = steps_same (cued keeper r (Registered id))
+cued_agrees keeper r q (Save ask) = save_agrees keeper r q ask
+cued_agrees keeper r q Cancelled = steps_same (cued keeper r Cancelled)
+cued_agrees keeper r q Complete = steps_same (cued keeper r Complete)
+cued_agrees keeper r q Die = record { lines = die_agrees keeper r.reasons q.reasons; next = λ same. refl }
+cued_agrees keeper r q (Properties list) = steps_same (cued keeper r (Properties list))
+cued_agrees keeper r q (Refused class) = steps_same (cued keeper r (Refused class))
+cued_agrees keeper r q (Malformed at) = steps_same (cued keeper r (Malformed at))
 
-speaking_agrees : (a : Arrival) (joined : Joined) (r q : Replies) (c : ClientState) (received : Received) → StepsAgree (speaking_took a joined r c received) (speaking_took a joined q c received)
-speaking_agrees a joined r q c (Ice message) = steps_same (speaking_took a joined r c (Ice message))
-speaking_agrees a joined r q c (Xsmp message) = acted_agrees a joined r q (taken message c) (act_taken message c)
-speaking_agrees a joined r q c Stray = steps_same (speaking_took a joined r c Stray)
-speaking_agrees a joined r q c Unspelled = steps_same (speaking_took a joined r c Unspelled)
+reacts_agree : (keeper : Keeper) (heard : Heard) (r q : Replies) → StepsAgree (reacts keeper heard r) (reacts keeper heard q)
+reacts_agree keeper heard r q =
+    let now : Keeper = record keeper { talk = heard.next } in
+    let cue : StepsAgree (cued now r heard.cue) (cued now q heard.cue) = cued_agrees now r q heard.cue in
+    let said : List Entry = map Says heard.said in
+    record {
+      lines = agree_append said said (cued now r heard.cue).line (cued now q heard.cue).line (agree_refl said) (λ same. cue.lines);
+      next = λ same. cue.next (agree_front said said (cued now r heard.cue).line (cued now q heard.cue).line (agree_refl said) same).1;
+    }
 
-frame_agrees : (counts : Counts) (frame : WholeFrame) (r q : Replies) (place : Place) → StepsAgree (frame_at counts frame r place) (frame_at counts frame q place)
-frame_agrees counts frame r q (Opening opener previous) = steps_same (frame_at counts frame r (Opening opener previous))
-frame_agrees counts frame r q (Speaking joined c) = speaking_agrees (arrived counts frame.bytes) joined r q c (received_of (Some joined.opcode) frame)
-frame_agrees counts frame r q Stopped = steps_same (frame_at counts frame r Stopped)
-frame_agrees counts frame r q (Over answer) = steps_same (frame_at counts frame r (Over answer))
+abbrev all_in : Keeper → List Part → List Replies → Step Keeper Entry
+all_in keeper parts rs = parts_taken unasked talk_of reacts keeper parts rs
 
-frames_agree : (t : Talk) (frames : List WholeFrame) (rs qs : List Replies) → StepsAgree (frames_taken t frames rs) (frames_taken t frames qs)
-frames_agree t [] rs qs = steps_same (stays t)
-frames_agree t (frame ∷ frames) rs qs =
-    let one : Step = frame_taken t frame (reply rs) in
-    let other : Step = frame_taken t frame (reply qs) in
-    let first : StepsAgree one other = frame_agrees t.counts frame (reply rs) (reply qs) t.place in
-    let more : Step = frames_taken one.next frames (drop 1 rs) in
-    let others : Step = frames_taken other.next frames (drop 1 qs) in
-    let rest : one.line ≡ other.line → StepsAgree more others = λ same. subst (λ (n : Talk). StepsAgree more (frames_taken n frames (drop 1 qs))) (first.next same) (frames_agree one.next frames (drop 1 rs) (drop 1 qs)) in
+abbrev one_in : Keeper → Part → Replies → Step Keeper Entry
+one_in keeper part r = part_taken unasked talk_of reacts keeper part r
+
+abbrev first_of : List Replies → Replies
+first_of rs = reply unasked talk_of reacts rs
+
+parts_agree : (keeper : Keeper) (parts : List Part) (rs qs : List Replies) → StepsAgree (all_in keeper parts rs) (all_in keeper parts qs)
+parts_agree keeper [] rs qs = steps_same (stays keeper)
+parts_agree keeper (part ∷ parts) rs qs =
+    let one : Step Keeper Entry = one_in keeper part (first_of rs) in
+    let other : Step Keeper Entry = one_in keeper part (first_of qs) in
+    let first : StepsAgree one other = reacts_agree keeper (part_heard keeper.talk part) (first_of rs) (first_of qs) in
+    let more : Step Keeper Entry = all_in one.next parts (drop 1 rs) in
+    let others : Step Keeper Entry = all_in other.next parts (drop 1 qs) in
+    let rest : one.line ≡ other.line → StepsAgree more others = λ same. subst (λ (n : Keeper). StepsAgree more (all_in n parts (drop 1 qs))) (first.next same) (parts_agree one.next parts (drop 1 rs) (drop 1 qs)) in
     record {
       lines = agree_append one.line other.line more.line others.line first.lines (λ same. (rest same).lines);
       next = λ same.
@@ -187,16 +189,15 @@ frames_agree t (frame ∷ frames) rs qs =
 
 -- ---- turns
 
-record TurnsAgree (one other : Turn) : Type 0 where
-  pub lines : Agree one.line other.line
-  pub next : one.line ≡ other.line → one.next ≡ other.next
+abbrev TurnsAgree : Step (Run Keeper) Entry → Step (Run Keeper) Entry → Type 0
+TurnsAgree one other = StepsAgree one other
 
-turns_agree : (run : Run) (bytes : List ℕ) (rs qs : List Replies) → TurnsAgree (turn run bytes rs) (turn run bytes qs)
+turns_agree : (run : Run Keeper) (bytes : List ℕ) (rs qs : List Replies) → TurnsAgree (turn run bytes rs) (turn run bytes qs)
 turns_agree run [] rs qs = record { lines = refl; next = λ same. refl }
 turns_agree run (b ∷ bytes) rs qs =
-    let c : Cut = cut (fed run.standing (b ∷ bytes)) in
-    let steps : StepsAgree (frames_taken run.talk c.frames rs) (frames_taken run.talk c.frames qs) = frames_agree run.talk c.frames rs qs in
-    record { lines = steps.lines; next = λ same. ap (λ (t : Talk). let r : Run = record { standing = c.standing; talk = cut_off (is_oversize c.standing) t } in r) (steps.next same) }
+    let at = fed run.standing (b ∷ bytes) in
+    let steps : StepsAgree (all_in run.keeper (parts_at at) rs) (all_in run.keeper (parts_at at) qs) = parts_agree run.keeper (parts_at at) rs qs in
+    record { lines = steps.lines; next = λ same. ap (λ (k : Keeper). let r : Run Keeper = record { standing = (cut at).standing; keeper = k } in r) (steps.next same) }
 
 first_bytes : (x y : List ℕ) (xs ys : List (List ℕ)) → x ∷ xs ≡ y ∷ ys → x ≡ y
 first_bytes x y xs ys same = cc
@@ -205,10 +206,10 @@ later_bytes : (x y : List ℕ) (xs ys : List (List ℕ)) → x ∷ xs ≡ y ∷ 
 later_bytes x y xs ys same = cc
 
 -- The scripts for these receives agree, and lead to the same end where they are the same.
-abbrev ScriptsAgree : Run → Run → List Came → List Came → Type 0
+abbrev ScriptsAgree : Run Keeper → Run Keeper → List Came → List Came → Type 0
 ScriptsAgree one other xs ys = Agree (script_from one xs) (script_from other ys) × (script_from one xs ≡ script_from other ys → run_after one xs ≡ run_after other ys)
 
-one_more : (over : Bool) (run : Run) (bytes others : List ℕ) (one other : Turn) (xs ys : List Came) → bytes ≡ others → TurnsAgree one other → (one.next ≡ other.next → ScriptsAgree one.next other.next xs ys) → (Agree (if over then [] else Hears bytes ∷ (one.line ++ script_from one.next xs)) (if over then [] else Hears others ∷ (other.line ++ script_from other.next ys))) × ((if over then [] else Hears bytes ∷ (one.line ++ script_from one.next xs)) ≡ (if over then [] else Hears others ∷ (other.line ++ script_from other.next ys)) → (if over then run else run_after one.next xs) ≡ (if over then run else run_after other.next ys))
+one_more : (over : Bool) (run : Run Keeper) (bytes others : List ℕ) (one other : Step (Run Keeper) Entry) (xs ys : List Came) → bytes ≡ others → TurnsAgree one other → (one.next ≡ other.next → ScriptsAgree one.next other.next xs ys) → (Agree (if over then [] else Hears bytes ∷ (one.line ++ script_from one.next xs)) (if over then [] else Hears others ∷ (other.line ++ script_from other.next ys))) × ((if over then [] else Hears bytes ∷ (one.line ++ script_from one.next xs)) ≡ (if over then [] else Hears others ∷ (other.line ++ script_from other.next ys)) → (if over then run else run_after one.next xs) ≡ (if over then run else run_after other.next ys))
 one_more true run bytes others one other xs ys same turns rest = (refl, λ is. refl)
 one_more false run bytes others one other xs ys same turns rest =
     let more : List Entry = script_from one.next xs in
@@ -219,14 +220,14 @@ one_more false run bytes others one other xs ys same turns rest =
           (rest (turns.next parts.0)).1 parts.1,
     )
 
-pub scripts_agree : (run : Run) (xs ys : List Came) → bytes_in xs ≡ bytes_in ys → ScriptsAgree run run xs ys
+pub scripts_agree : (run : Run Keeper) (xs ys : List Came) → bytes_in xs ≡ bytes_in ys → ScriptsAgree run run xs ys
 scripts_agree run [] [] same = (refl, λ is. refl)
 scripts_agree run [] (y ∷ ys) same = absurd cc
 scripts_agree run (x ∷ xs) [] same = absurd cc
 scripts_agree run (x ∷ xs) (y ∷ ys) same =
     let bytes : x.bytes ≡ y.bytes = first_bytes x.bytes y.bytes (bytes_in xs) (bytes_in ys) same in
-    let one : Turn = turn run x.bytes x.replies in
-    let other : Turn = turn run y.bytes y.replies in
+    let one : Step (Run Keeper) Entry = turn run x.bytes x.replies in
+    let other : Step (Run Keeper) Entry = turn run y.bytes y.replies in
     let turns : TurnsAgree one other = subst (λ (b : List ℕ). TurnsAgree one (turn run b y.replies)) bytes (turns_agree run x.bytes x.replies y.replies) in
-    let rest : one.next ≡ other.next → ScriptsAgree one.next other.next xs ys = λ again. subst (λ (n : Run). ScriptsAgree one.next n xs ys) again (scripts_agree one.next xs ys (later_bytes x.bytes y.bytes (bytes_in xs) (bytes_in ys) same)) in
-    one_more (is_over run.talk.place) run x.bytes y.bytes one other xs ys bytes turns rest
+    let rest : one.next ≡ other.next → ScriptsAgree one.next other.next xs ys = λ again. subst (λ (n : Run Keeper). ScriptsAgree one.next n xs ys) again (scripts_agree one.next xs ys (later_bytes x.bytes y.bytes (bytes_in xs) (bytes_in ys) same)) in
+    one_more (is_over run.keeper.ending) run x.bytes y.bytes one other xs ys bytes turns rest

@@ -1,17 +1,19 @@
 -- One call after another: what is sent, what is done, and the cause of a failure.
-use Rattle.std.proofs.Common.{◌≡◌, ◌≢◌, inl, inr, arith, ℕ, List, [], ◌∷◌, ◌++◌, map, Option, None, Some, Result, Ok, Err, refl, sym, ◌∙◌, ap, append_assoc}
-use Rattle.std.proofs.lemmas.List.{append-nil, map-append}
+use Rattle.std.proofs.Common.{◌≡◌, ◌≢◌, inl, inr, arith, ℕ, zero, suc, ◌+◌, ◌<◌, ◌≤◌, List, [], ◌∷◌, ◌++◌, length, take, drop, slice_index_or, map, Option, None, Some, Result, Ok, Err, refl, sym, ◌∙◌, ap, subst, append_assoc}
+use Rattle.std.proofs.lemmas.List.{append-nil, map-append, take-append-drop, take_all, take_more}
 use Rattle.std.proofs.lemmas.Grind.{flat_map-append}
-use Rattle.sm_world.specs.Outside.{Outside, adds, on_ok, NotFallen}
+use Rattle.sm_world.specs.Outside.{Outside, UsesLinks, adds, on_ok, NotFallen}
+use Rattle.sm_world.specs.declared.effects.Effect.TheVariants.{Sent}
 use Rattle.sm_world.specs.declared.failures.Failure.{Failure}
 use Rattle.sm_world.specs.declared.failures.Failure.TheVariants.{Failed, NoMemory}
 use Rattle.sm_world.specs.declared.failures.Faults.{Faults}
 use Rattle.sm_world.proofs.Adding.{adds-adds, adds-none, never_fallen, fallen_never}
 use Rattle.client_machine.specs.declared.saves.SaveAnswer.{SaveAnswer}
 use Rattle.client_machine.specs.declared.saves.SaveAsk.{SaveAsk}
+use Rattle.client_engine.specs.Messages.{AreShort, IsTooLong, spelled}
 use Rattle.client_callbacks.specs.Doing.{Callbacks, CarriesOut, Desk, desk, Does, Follows, IsCaused, IsUnsent, Sends, effect_of, effects_in, failure_in, line_of, lines_in, sent}
 use Rattle.client_callbacks.specs.Script.{Entry, Hears, Says, AsksSave, AsksReasons, TellsCancelled, Notes}
-use Rattle.client_callbacks.specs.declared.messages.Message.{Message}
+use Rattle.client_engine.specs.declared.messages.Message.{Message}
 
 pub cause_later : (first second third : Faults) (failure : Option Failure) → NotFallen first second → IsCaused second third failure → IsCaused first third failure
 cause_later first second third None one cause = tt
@@ -80,6 +82,40 @@ lines-said : (ms : List Message) → lines_in (map Says ms) ≡ []
 lines-said [] = refl
 lines-said (m ∷ ms) = lines-said ms
 
+-- what a call of the links does to the counts
+pub links_counts : {A : Type 0} (old new : Outside) (result : Result A Failure) → UsesLinks old new result → NotFallen old.faults new.faults
+links_counts old new result uses = record { disk = omega (arith, uses.disk); links = uses.links; spawner = omega (arith, uses.spawner); console = omega (arith, uses.console) }
+
+pub links_cause : {A : Type 0} (old new : Outside) (failure : Failure) → UsesLinks {A = A} old new (Err failure) → IsCaused old.faults new.faults (Some failure)
+links_cause old new Failed uses = uses.cause refl
+links_cause old new NoMemory uses = tt
+
+-- a message that the links took, or didn't
+pub links_sends : (old new : Outside) (message : Message) (bytes : List ℕ) (result : Result (Unit {0}) Failure) → bytes ≡ spelled message → new.told ≡ adds old.told (on_ok result (Sent 0 bytes ∷ [])) → UsesLinks old new result → Sends old new (message ∷ []) (failure_in result)
+links_sends old new message bytes (Ok x) is told uses = sends_one old new message (Ok x) (rw is at told) (links_counts old new (Ok x) uses) tt
+links_sends old new message bytes (Err failure) is told uses = sends_one {A = Unit {0}} old new message (Err failure) told (links_counts old new (Err failure) uses) (links_cause {A = Unit {0}} old new failure uses)
+
+-- ---- messages one after the other
+
+said_grown : (all : List Message) (i : ℕ) (message : Message) → i < length all → message ≡ slice_index_or all i message → take (i + 1) all ≡ take i all ++ message ∷ []
+said_grown all i message inside is = take_more all i message inside ∙ ap (λ (m : Message). take i all ++ m ∷ []) (sym is)
+
+pub said_more : (old mid new : Outside) (all : List Message) (i : ℕ) (message : Message) → i < length all → message ≡ slice_index_or all i message → Sends old mid (take i all) None → Sends mid new (message ∷ []) None → Sends old new (take (i + 1) all) None
+said_more old mid new all i message inside is one two = rw (said_grown all i message inside is) (sends_more old mid new (take i all) (message ∷ []) None one two)
+
+pub said_failed : (old mid new : Outside) (all : List Message) (i : ℕ) (message : Message) (failure : Failure) → i < length all → message ≡ slice_index_or all i message → Sends old mid (take i all) None → Sends mid new (message ∷ []) (Some failure) → Sends old new all (Some failure)
+said_failed old mid new all i message failure inside is one two =
+    let whole : (take i all ++ message ∷ []) ++ drop (i + 1) all ≡ all = ap (λ (ms : List Message). ms ++ drop (i + 1) all) (sym (said_grown all i message inside is)) ∙ take-append-drop (i + 1) all in
+    subst (λ (ms : List Message). Sends old new ms (Some failure)) whole (sends_cut old new (take i all ++ message ∷ []) (drop (i + 1) all) failure (sends_more old mid new (take i all) (message ∷ []) (Some failure) one two))
+
+pub said_all : (old new : Outside) (all : List Message) (i : ℕ) → length all ≤ i → Sends old new (take i all) None → Sends old new all None
+said_all old new all i over sends = subst (λ (ms : List Message). Sends old new ms None) (take_all i all over) sends
+
+pub short_at : (all : List Message) (i : ℕ) (message : Message) → i < length all → message ≡ slice_index_or all i message → AreShort all → ¬ (IsTooLong message)
+short_at [] i message inside is short = absurd (omega (arith, inside))
+short_at (m ∷ all) zero message inside is short = rw is short.0
+short_at (m ∷ all) (suc i) message inside is short = short_at all i message (omega (arith, inside)) is short.1
+
 -- ---- callbacks
 
 module _ {S D C : Type 0} (answers : S → SaveAsk → SaveAnswer → S → Type 0) (gives : D → List (List ℕ) → D → Type 0) (hears : C → C → Type 0) where
@@ -109,7 +145,7 @@ module _ {S D C : Type 0} (answers : S → SaveAsk → SaveAnswer → S → Type
   does_none d = record { done = []; left = []; parts = refl; none_left = λ e. refl; told = sym (adds-none d.told); lines = sym (append-nil d.lines); follows = refl; counts = never_fallen d.faults; cause = tt }
 
   -- nothing was done, for want of memory
-  pub does_never : (d : Desk S D C) (all : List Entry) → DoesIn d d all (Some NoMemory)
+  unfoldable pub does_never : (d : Desk S D C) (all : List Entry) → DoesIn d d all (Some NoMemory)
   does_never d all = record { done = []; left = all; parts = refl; none_left = λ e. absurd cc; told = sym (adds-none d.told); lines = sym (append-nil d.lines); follows = refl; counts = never_fallen d.faults; cause = tt }
 
   -- all of these, and then some of those
@@ -203,6 +239,7 @@ module _ {S D C : Type 0} (answers : S → SaveAsk → SaveAnswer → S → Type
   carries_none d = record { does = does_none d; unsent = λ e. absurd cc }
 
   pub carries_never : (d : Desk S D C) (all : List Entry) → CarriesIn d d all (Some NoMemory)
+  unfolding does_never
   carries_never d all = record { does = does_never d all; unsent = λ e. absurd cc }
 
   pub carries_more : (a b c : Desk S D C) (xs ys : List Entry) (failure : Option Failure) → CarriesIn a b xs None → CarriesIn b c ys failure → CarriesIn a c (xs ++ ys) failure

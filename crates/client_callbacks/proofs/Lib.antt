@@ -1,10 +1,7 @@
-pub mod ActLaws
 pub mod Agreeing
 pub mod DoingLaws
+pub mod HeedLaws
 pub mod OneEnd
-pub mod PartLaws
+pub mod PieceLaws
 pub mod Quiet
 pub mod RunLaws
-pub mod Short
-pub mod Shortness
-pub mod SpeakLaws

@@ -10,17 +10,16 @@ use Rattle.sm_world.specs.declared.events.Event.TheVariants.{Gone, Piece}
 use Rattle.ice_cookie.specs.declared.cookies.Cookie.{Cookie}
 use Rattle.client_machine.specs.declared.saves.SaveAnswer.{SaveAnswer}
 use Rattle.client_machine.specs.declared.saves.SaveAsk.{SaveAsk}
-use Rattle.client_callbacks.specs.Doing.{Callbacks, Follows, IsUnsent, bytes_in, effect_of, effects_in, heard_in, sent}
+use Rattle.client_engine.specs.Driving.{Run}
+use Rattle.client_engine.specs.declared.messages.Message.{Message}
+use Rattle.client_callbacks.specs.Doing.{Callbacks, Follows, IsUnsent, bytes_in, effect_of, effects_in, heard_in}
 use Rattle.client_callbacks.specs.Laws.{HasOneEnd, SayOne}
 use Rattle.client_callbacks.specs.Running.{IsAnswer, answer_of, failure_of}
-use Rattle.client_callbacks.specs.Script.{Came, Entry, Hears, Says, AsksSave, AsksReasons, TellsCancelled, Notes, Run, is_over, run_after, script, script_from, start}
+use Rattle.client_callbacks.specs.Script.{Came, Entry, Hears, Says, AsksSave, AsksReasons, TellsCancelled, Notes, Keeper, is_over, run_after, script, script_from, start}
 use Rattle.client_callbacks.specs.declared.ends.ClientEnd.{ClientEnd}
 use Rattle.client_callbacks.specs.declared.ends.Ending.{Ending}
 use Rattle.client_callbacks.specs.declared.ends.JoinFault.{JoinFault}
 use Rattle.client_callbacks.specs.declared.ends.JoinFault.TheVariants.{LinkFault, Refused, Malformed, Spent, NoMemory}
-use Rattle.client_callbacks.specs.declared.messages.Message.{Message}
-use Rattle.client_callbacks.specs.declared.talk.Place.{Place}
-use Rattle.client_callbacks.specs.declared.talk.Place.TheVariants.{Over}
 use Rattle.client_callbacks.proofs.Agreeing.{Agree, Alike, agree_drop, agree_sym, scripts_agree}
 
 -- ---- what was done
@@ -117,13 +116,13 @@ did_same done left other others agree same one two (inr longer) =
 -- ---- ends
 
 -- how a run ended that didn't want for memory
-data End (answer : Result ClientEnd JoinFault) (place : Place) (heard turns : ℕ) (left : List Entry) : Type 0 where
-  Ended : (ending : Ending) → place ≡ Over ending → answer ≡ answer_of ending → left ≡ [] → End answer place heard turns left
+data End (answer : Result ClientEnd JoinFault) (place : Option Ending) (heard turns : ℕ) (left : List Entry) : Type 0 where
+  Ended : (ending : Ending) → place ≡ Some ending → answer ≡ answer_of ending → left ≡ [] → End answer place heard turns left
   IsSpent : answer ≡ Err Spent → heard ≡ turns → is_over place ≡ false → left ≡ [] → End answer place heard turns left
   Unsent : answer ≡ Err LinkFault → IsUnsent left → End answer place heard turns left
   Unheard : answer ≡ Err LinkFault → heard < turns → is_over place ≡ false → left ≡ [] → End answer place heard turns left
 
-end_of : (answer : Result ClientEnd JoinFault) (place : Place) (heard turns : ℕ) (left : List Entry) → answer ≢ Err NoMemory → (failure_of answer ≡ None → left ≡ []) → IsAnswer answer place heard turns left → End answer place heard turns left
+end_of : (answer : Result ClientEnd JoinFault) (place : Option Ending) (heard turns : ℕ) (left : List Entry) → answer ≢ Err NoMemory → (failure_of answer ≡ None → left ≡ []) → IsAnswer answer place heard turns left → End answer place heard turns left
 end_of (Ok end) place heard turns left some none is = Ended is.0 is.1 is.2 (none refl)
 end_of (Err LinkFault) place heard turns left some none (inl unsent) = Unsent refl unsent
 end_of (Err LinkFault) place heard turns left some none (inr silent) = Unheard refl silent.1 silent.2 silent.0
@@ -132,7 +131,7 @@ end_of (Err (Malformed at)) place heard turns left some none is = Ended is.0 is.
 end_of (Err Spent) place heard turns left some none is = IsSpent refl is.0 is.1 (none refl)
 end_of (Err NoMemory) place heard turns left some none is = absurd (some refl)
 
-stops : (answer : Result ClientEnd JoinFault) (place : Place) (heard turns : ℕ) (left : List Entry) → End answer place heard turns left → Stopped left
+stops : (answer : Result ClientEnd JoinFault) (place : Option Ending) (heard turns : ℕ) (left : List Entry) → End answer place heard turns left → Stopped left
 stops answer place heard turns left (Ended ending over is none) = inr none
 stops answer place heard turns left (IsSpent is all going none) = inr none
 stops answer place heard turns left (Unsent is unsent) = inl unsent
@@ -144,23 +143,23 @@ not_unsent left none unsent = nothing unsent.0 unsent.1 (sym none ∙ unsent.2)
     nothing : (message : Message) (more : List Entry) → [] ≡ Says message ∷ more → ⊥
     nothing message more is = cc
 
-unsent_end : (answer : Result ClientEnd JoinFault) (place : Place) (heard turns : ℕ) (left : List Entry) → End answer place heard turns left → IsUnsent left → answer ≡ Err LinkFault
+unsent_end : (answer : Result ClientEnd JoinFault) (place : Option Ending) (heard turns : ℕ) (left : List Entry) → End answer place heard turns left → IsUnsent left → answer ≡ Err LinkFault
 unsent_end answer place heard turns left (Ended ending over is none) unsent = absurd (not_unsent left none unsent)
 unsent_end answer place heard turns left (IsSpent is all going none) unsent = absurd (not_unsent left none unsent)
 unsent_end answer place heard turns left (Unsent is some) unsent = is
 unsent_end answer place heard turns left (Unheard is some going none) unsent = absurd (not_unsent left none unsent)
 
-not_over : (place : Place) (ending : Ending) → place ≡ Over ending → is_over place ≡ false → ⊥
+not_over : (place : Option Ending) (ending : Ending) → place ≡ Some ending → is_over place ≡ false → ⊥
 not_over place ending over going = cc (ap is_over over, going)
 
-same_ending : (place : Place) (one other : Ending) → place ≡ Over one → place ≡ Over other → one ≡ other
+same_ending : (place : Option Ending) (one other : Ending) → place ≡ Some one → place ≡ Some other → one ≡ other
 same_ending place one other first second = by (sym first ∙ second)
   where
-    by : Over one ≡ Over other → one ≡ other
+    by : Some one ≡ Some other → one ≡ other
     by same = cc
 
 -- the same place, and as many receives
-ends_same : (one other : Result ClientEnd JoinFault) (place : Place) (heard turns : ℕ) (left others : List Entry) → left ≡ [] → others ≡ [] → End one place heard turns left → End other place heard turns others → one ≡ other
+ends_same : (one other : Result ClientEnd JoinFault) (place : Option Ending) (heard turns : ℕ) (left others : List Entry) → left ≡ [] → others ≡ [] → End one place heard turns left → End other place heard turns others → one ≡ other
 ends_same one other place heard turns left others none nothing (Ended ending over is empty) (Ended last ends so done) = is ∙ (ap answer_of (same_ending place ending last over ends) ∙ sym so)
 ends_same one other place heard turns left others none nothing (Ended ending over is empty) (IsSpent so all going done) = absurd (not_over place ending over going)
 ends_same one other place heard turns left others none nothing (Ended ending over is empty) (Unsent so unsent) = absurd (not_unsent others nothing unsent)
@@ -179,16 +178,16 @@ behind : (first : Entry) (es fs : List Entry) → first ∷ es ≡ first ∷ fs 
 behind first es fs is = cc
 
 -- two ends of one run
-ends_one : (cookie : Cookie) (previous : List ℕ) (saves turns : ℕ) (xs ys : List Came) (done left other others : List Entry) (one two : Result ClientEnd JoinFault) → done ++ left ≡ script cookie previous saves xs → other ++ others ≡ script cookie previous saves ys → heard_in done ≡ bytes_in xs → heard_in other ≡ bytes_in ys → End one (run_after (start cookie previous saves) xs).talk.place (length xs) turns left → End two (run_after (start cookie previous saves) ys).talk.place (length ys) turns others → DidTheSame done left other others → one ≡ two
-ends_one cookie previous saves turns xs ys done left other others one two parts whole hears_one hears_two first second (same, inr unsent) = unsent_end one (run_after (start cookie previous saves) xs).talk.place (length xs) turns left first unsent.0 ∙ sym (unsent_end two (run_after (start cookie previous saves) ys).talk.place (length ys) turns others second unsent.1)
+ends_one : (cookie : Cookie) (previous : List ℕ) (saves turns : ℕ) (xs ys : List Came) (done left other others : List Entry) (one two : Result ClientEnd JoinFault) → done ++ left ≡ script cookie previous saves xs → other ++ others ≡ script cookie previous saves ys → heard_in done ≡ bytes_in xs → heard_in other ≡ bytes_in ys → End one (run_after (start cookie previous saves) xs).keeper.ending (length xs) turns left → End two (run_after (start cookie previous saves) ys).keeper.ending (length ys) turns others → DidTheSame done left other others → one ≡ two
+ends_one cookie previous saves turns xs ys done left other others one two parts whole hears_one hears_two first second (same, inr unsent) = unsent_end one (run_after (start cookie previous saves) xs).keeper.ending (length xs) turns left first unsent.0 ∙ sym (unsent_end two (run_after (start cookie previous saves) ys).keeper.ending (length ys) turns others second unsent.1)
 ends_one cookie previous saves turns xs ys done left other others one two parts whole hears_one hears_two first second (same, inl none) =
-    let begin : Run = start cookie previous saves in
+    let begin : Run Keeper = start cookie previous saves in
     let bytes : bytes_in xs ≡ bytes_in ys = sym hears_one ∙ (ap heard_in same ∙ hears_two) in
     let scripts : script cookie previous saves xs ≡ script cookie previous saves ys = sym parts ∙ (ap (λ (es : List Entry). es ++ left) same ∙ (ap (λ (es : List Entry). other ++ es) (none.0 ∙ sym none.1) ∙ whole)) in
     let after : run_after begin xs ≡ run_after begin ys = (scripts_agree begin xs ys bytes).1 (behind _ (script_from begin xs) (script_from begin ys) scripts) in
     let many : length xs ≡ length ys = omega (arith, length-map xs (λ (came : Came). came.bytes), length-map ys (λ (came : Came). came.bytes), ap length bytes) in
-    let again : End two (run_after begin xs).talk.place (length xs) turns others = subst (λ (n : ℕ). End two (run_after begin xs).talk.place n turns others) (sym many) (subst (λ (run : Run). End two run.talk.place (length ys) turns others) (sym after) second) in
-    ends_same one two (run_after begin xs).talk.place (length xs) turns left others none.0 none.1 first again
+    let again : End two (run_after begin xs).keeper.ending (length xs) turns others = subst (λ (n : ℕ). End two (run_after begin xs).keeper.ending n turns others) (sym many) (subst (λ (run : Run Keeper). End two run.keeper.ending (length ys) turns others) (sym after) second) in
+    ends_same one two (run_after begin xs).keeper.ending (length xs) turns left others none.0 none.1 first again
 
 module _ {S D C : Type 0} (answers : S → SaveAsk → SaveAnswer → S → Type 0) (gives : D → List (List ℕ) → D → Type 0) (hears : C → C → Type 0) (say_one : SayOne answers gives hears) where
   abbrev FollowsIn : List Entry → Callbacks S D C → Callbacks S D C → Type 0
@@ -239,8 +238,8 @@ module _ {S D C : Type 0} (answers : S → SaveAsk → SaveAnswer → S → Type
 
 pub one_end : {S D C : Type 0} (answers : S → SaveAsk → SaveAnswer → S → Type 0) (gives : D → List (List ℕ) → D → Type 0) (hears : C → C → Type 0) → HasOneEnd answers gives hears
 one_end answers gives hears say_one cookie previous saves turns old new before one other told first second some more =
-    let end_one = end_of one (run_after (start cookie previous saves) first.cames).talk.place (length first.cames) turns first.does.left some first.does.none_left first.answer in
-    let end_two = end_of other (run_after (start cookie previous saves) second.cames).talk.place (length second.cames) turns second.does.left more second.does.none_left second.answer in
+    let end_one = end_of one (run_after (start cookie previous saves) first.cames).keeper.ending (length first.cames) turns first.does.left some first.does.none_left first.answer in
+    let end_two = end_of other (run_after (start cookie previous saves) second.cames).keeper.ending (length second.cames) turns second.does.left more second.does.none_left second.answer in
     let same : effects_in first.does.done ≡ effects_in second.does.done = told_once before (effects_in first.does.done) (effects_in second.does.done) (ap (λ t. adds t (effects_in first.does.done)) (sym told) ∙ (sym first.does.told ∙ (second.does.told ∙ ap (λ t. adds t (effects_in second.does.done)) told))) in
     let bytes : bytes_in first.cames ≡ bytes_in second.cames = sym first.heard ∙ (same_heard first.does.done second.does.done same ∙ second.heard) in
     let begins : Agree (script cookie previous saves first.cames) (script cookie previous saves second.cames) = (_, _, refl, refl, λ is. (scripts_agree (start cookie previous saves) first.cames second.cames bytes).0) in

@@ -1,15 +1,9 @@
 -- What the callbacks of a client answer.
-use Rattle.std.specs.Prelude.{ℕ, ◌≤◌, false, List, [], length}
-use Rattle.std.specs.List.{AllByRecursion}
+use Rattle.std.specs.Prelude.{ℕ, false, List, []}
 use Rattle.client_machine.specs.declared.saves.SaveAnswer.{SaveAnswer}
 use Rattle.client_machine.specs.declared.saves.Step.TheVariants.{Done}
 
--- At most 16 reasons to close, of at most 1,024 bytes each.
-pub record AreFew (reasons : List (List ℕ)) : Type 0 where
-  pub count : length reasons ≤ 16
-  pub short : AllByRecursion (λ reason. length reason ≤ 1024) reasons
-
--- What the callbacks say while one frame is taken, as far as they are asked: to a save, to the same save once the client
+-- What the callbacks say while one part of the stream is taken, as far as they are asked: to a save, to the same save once the client
 -- has talked to the user, and as reasons to close.
 pub record Replies : Type 0 where
   pub first : SaveAnswer

@@ -1,5 +1,5 @@
 -- What the calls of a run do: to the peer, to the noted lines and to the callbacks.
-use Rattle.std.specs.Prelude.{◌≡◌, ◌≢◌, ◌⊎◌, ℕ, ◌≤◌, true, length, IsOk, List, [], ◌∷◌, ◌++◌, map, Option, None, Some, Result, Ok, Err, IfOk}
+use Rattle.std.specs.Prelude.{◌≡◌, ◌≢◌, ◌⊎◌, ℕ, ◌≤◌, true, length, List, [], ◌∷◌, ◌++◌, map, Option, None, Some, Result, Ok, Err}
 use Rattle.std.specs.List.{flat_map}
 use Rattle.sm_world.specs.Outside.{Outside, adds, Rose, NotFallen}
 use Rattle.sm_world.specs.declared.effects.Effect.{Effect}
@@ -8,24 +8,15 @@ use Rattle.sm_world.specs.declared.failures.Failure.{Failure}
 use Rattle.sm_world.specs.declared.failures.Failure.TheVariants.{Failed, NoMemory}
 use Rattle.sm_world.specs.declared.failures.Faults.{Faults}
 use Rattle.client_peer.specs.Peers.{received}
-use Rattle.client_machine.specs.Laws.{stage_phase}
-use Rattle.client_machine.specs.Phases.{ClientState}
-use Rattle.client_machine.specs.Saves.{IsLawful}
-use Rattle.client_machine.specs.declared.acts.ClientAct.{ClientAct}
-use Rattle.client_machine.specs.declared.acts.ClientAct.TheVariants.{Again, Save}
 use Rattle.client_machine.specs.declared.saves.SaveAnswer.{SaveAnswer}
 use Rattle.client_machine.specs.declared.saves.SaveAsk.{SaveAsk}
-use Rattle.client_callbacks.specs.Answers.{Replies}
-use Rattle.client_callbacks.specs.Messages.{spelled, IsTooLong}
-use Rattle.client_callbacks.specs.Script.{Entry, Hears, Says, AsksSave, AsksReasons, TellsCancelled, Notes, Step, Run, Came, answer_line, after_answer, save_line, after_save, behind, frames_taken, piece_taken, script_from, run_after}
-use Rattle.client_callbacks.specs.Listening.{is_listening}
-use Rattle.ice_framing.specs.Frames.{Standing, fed, cut, behind as cut_behind, IsPartial, units, unit_limit}
-use Rattle.ice_framing.specs.declared.cutting.WholeFrame.{WholeFrame}
-use Rattle.client_callbacks.specs.declared.messages.Message.{Message}
-use Rattle.client_callbacks.specs.declared.messages.Message.TheVariants.{Xsmp}
-use Rattle.client_callbacks.specs.declared.talk.Place.{Place}
-use Rattle.client_callbacks.specs.declared.talk.Place.TheVariants.{Opening}
-use Rattle.client_callbacks.specs.declared.talk.Talk.{Talk}
+use Rattle.client_engine.specs.Driving.{Run, Step, piece_taken}
+use Rattle.client_engine.specs.Messages.{spelled}
+use Rattle.client_engine.specs.Places.{is_listening}
+use Rattle.client_engine.specs.declared.messages.Message.{Message}
+use Rattle.client_callbacks.specs.Answers.{Replies, unasked}
+use Rattle.client_callbacks.specs.Script.{Entry, Hears, Says, AsksSave, AsksReasons, TellsCancelled, Notes, Came, Keeper, reacts, talk_of, run_after, script_from}
+use Rattle.client_callbacks.specs.declared.progress.Progress.{Progress}
 
 -- The effects of an entry, under the connection's number 0.
 abbrev pub effect_of : Entry → List Effect
@@ -113,34 +104,14 @@ pub record Sends (old new : Outside) (all : List Message) (failure : Option Fail
   pub counts : NotFallen old.faults new.faults
   pub cause : IsCaused old.faults new.faults failure
 
--- A step that only sends was made, and the client stands where it ends.
-pub record Speaks (old new : Outside) (step : Step) (result : Result Talk Failure) : Type 0 where
-  pub messages : List Message
-  pub line : step.line ≡ map Says messages
-  pub sends : Sends old new messages (failure_in result)
-  pub next : IfOk result (λ talk. talk ≡ step.next)
+-- how far a run is, as its script sees it
+abbrev pub keeper_of : Progress → Keeper
+keeper_of progress = record { talk = progress.core.talk; saves = progress.saves; ending = progress.ending }
 
--- what a client must be for an act: it has its place where it is asked, and a message that it repeats is not too long
-abbrev pub MayAct : ClientState → ClientAct → Type 0
-MayAct c (Save ask) = (c.phase ≡ stage_phase ask.stage) × (c.asked ≡ ask)
-MayAct c (Again message) = ¬ (IsTooLong (Xsmp message))
-MayAct c act = Unit {0}
-
--- A splitter can be fed, and holds what the stream's frames leave.
-pub record IsFed (standing splitter : Standing) : Type 0 where
-  pub same : splitter ≡ standing
-  pub partial : IsPartial splitter
-  pub within : units splitter ≤ unit_limit
-
--- The client stands where the run does, and as long as it takes frames so does its splitter.
-pub record IsRun (run : Run) (splitter : Standing) (talk : Talk) : Type 0 where
-  pub talks : talk ≡ run.talk
-  pub feeds : is_listening talk.place ≡ true → IsFed run.standing splitter
-
--- the previous ID of a client that will register with it is short
-abbrev pub HasShortId : Place → Type 0
-HasShortId (Opening opener previous) = length previous ≤ 512
-HasShortId place = Unit {0}
+-- The client stands where the run does, and as long as it takes parts its core holds what the stream has left.
+pub record IsRun (run : Run Keeper) (progress : Progress) : Type 0 where
+  pub keeper : keeper_of progress ≡ run.keeper
+  pub feeds : is_listening progress.core.talk.place ≡ true → progress.core.splitter ≡ run.standing
 
 -- All that follows is said of callbacks that answer so.
 module _ {S D C : Type 0} (answers : S → SaveAsk → SaveAnswer → S → Type 0) (gives : D → List (List ℕ) → D → Type 0) (hears : C → C → Type 0) where
@@ -171,52 +142,24 @@ module _ {S D C : Type 0} (answers : S → SaveAsk → SaveAnswer → S → Type
     pub does : Does old new all failure
     pub unsent : failure ≡ Some Failed → IsUnsent does.left
 
-  -- An answer to a save came and was sent.
-  pub record Answered (ask : SaveAsk) (client : ClientState) (old new : Outside) (before after : Callbacks S D C) (result : Result ClientState Failure) : Type 0 where
-    pub answer : SaveAnswer
-    pub lawful : IsLawful ask answer
-    pub does : (lines : List (List ℕ)) → CarriesOut (desk old lines before) (desk new lines after) (answer_line ask answer) (failure_in result)
-    pub next : IfOk result (λ c. c ≡ after_answer answer client)
+  -- For something that the callbacks said the step was made, and so the client's keeper is then.
+  pub record Takes {A : Type 0} (old new : Desk S D C) (step : A → Step Keeper Entry) (after : Keeper) (failure : Option Failure) : Type 0 where
+    pub said : A
+    pub does : CarriesOut old new (step said).line failure
+    pub next : failure ≡ None → after ≡ (step said).next
 
-  -- A save was answered, once or twice.
-  pub record Saved (ask : SaveAsk) (client : ClientState) (old new : Outside) (before after : Callbacks S D C) (result : Result ClientState Failure) : Type 0 where
-    pub replies : Replies
-    pub does : (lines : List (List ℕ)) → CarriesOut (desk old lines before) (desk new lines after) (save_line ask replies) (failure_in result)
-    pub next : IfOk result (λ c. c ≡ after_save ask replies client)
-
-  -- For some replies of the callbacks the step was made, and the client stands where it ends.
-  pub record Takes (old new : Desk S D C) (step : Replies → Step) (result : Result Talk Failure) : Type 0 where
-    pub replies : Replies
-    pub does : CarriesOut old new (step replies).line (failure_in result)
-    pub next : IfOk result (λ talk. talk ≡ (step replies).next)
-
-  -- These frames were taken one by one, and those behind them can be.
-  pub record TakesFrames (old new : Desk S D C) (talk : Talk) (frames : List WholeFrame) (result : Result Talk Failure) : Type 0 where
-    pub line : List Entry
-    pub next : Talk
+  -- The parts were taken that a piece completes.
+  pub record TakesPiece (old new : Desk S D C) (run : Run Keeper) (bytes : List ℕ) (after : Progress) (failure : Option Failure) : Type 0 where
     pub replies : List Replies
-    pub goes_on : (more : List WholeFrame) (others : List Replies) → frames_taken talk (frames ++ more) (replies ++ others) ≡ behind line (frames_taken next more others)
-    pub does : CarriesOut old new line (failure_in result)
-    pub stands : IfOk result (λ talk. talk ≡ next)
-
-  -- A frame was taken, where the splitter holds one.
-  pub record TakesHeld (old new : Desk S D C) (talk : Talk) (before after : Standing) (result : Result Talk Failure) : Type 0 where
-    pub frames : List WholeFrame
-    pub cuts : (more : List ℕ) → cut (fed before more) ≡ cut_behind frames (cut (fed after more))
-    pub takes : TakesFrames old new talk frames result
-
-  -- The frames were taken that a piece completes.
-  pub record TakesPiece (old new : Desk S D C) (run : Run) (bytes : List ℕ) (after : Standing) (result : Result Talk Failure) : Type 0 where
-    pub replies : List Replies
-    pub does : CarriesOut old new (piece_taken run bytes replies).line (failure_in result)
-    pub next : IfOk result (λ talk. IsRun (piece_taken run bytes replies).next after talk)
+    pub does : CarriesOut old new (piece_taken unasked talk_of reacts run bytes replies).line failure
+    pub next : failure ≡ None → IsRun (piece_taken unasked talk_of reacts run bytes replies).next after
 
   -- At most one receive was made, and what it brought was done. Where the connection failed, a message wasn't sent, or nothing was received.
-  pub record TakesTurn (old new : Desk S D C) (run : Run) (after : Standing) (result : Result Talk Failure) : Type 0 where
+  pub record TakesTurn (old new : Desk S D C) (run : Run Keeper) (after : Progress) (failure : Option Failure) : Type 0 where
     pub cames : List Came
     pub few : length cames ≤ 1
-    pub does : Does old new (script_from run cames) (failure_in result)
+    pub does : Does old new (script_from run cames) failure
     pub heard : heard_in does.done ≡ bytes_in cames
-    pub unsent : failure_in result ≡ Some Failed → IsUnsent does.left ⊎ ((does.left ≡ []) × (cames ≡ []))
-    pub one : IsOk result → length cames ≡ 1
-    pub next : IfOk result (λ talk. IsRun (run_after run cames) after talk)
+    pub unsent : failure ≡ Some Failed → IsUnsent does.left ⊎ ((does.left ≡ []) × (cames ≡ []))
+    pub one : failure ≡ None → length cames ≡ 1
+    pub next : failure ≡ None → IsRun (run_after run cames) after

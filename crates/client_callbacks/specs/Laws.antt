@@ -2,24 +2,22 @@
 use Rattle.std.specs.Prelude.{◌≡◌, ◌≢◌, ℕ, List, ◌++◌, length, Some, Result, Err}
 use Rattle.sm_world.specs.declared.effects.Effect.{Effect}
 use Rattle.ice_cookie.specs.declared.cookies.Cookie.{Cookie}
-use Rattle.ice_framing.specs.Frames.{cut, fed}
+use Rattle.ice_framing.specs.Frames.{fed}
+use Rattle.ice_framing.specs.Parts.{parts_at}
 use Rattle.client_machine.specs.declared.saves.SaveAnswer.{SaveAnswer}
 use Rattle.client_machine.specs.declared.saves.SaveAsk.{SaveAsk}
-use Rattle.client_callbacks.specs.Answers.{Replies}
+use Rattle.client_engine.specs.Driving.{Run, both, piece_taken}
+use Rattle.client_callbacks.specs.Answers.{Replies, unasked}
 use Rattle.client_callbacks.specs.Doing.{Desk}
 use Rattle.client_callbacks.specs.Running.{Joins}
-use Rattle.client_callbacks.specs.Script.{Run, Turn, piece_taken}
+use Rattle.client_callbacks.specs.Script.{Keeper, reacts, talk_of}
 use Rattle.client_callbacks.specs.declared.ends.ClientEnd.{ClientEnd}
 use Rattle.client_callbacks.specs.declared.ends.JoinFault.{JoinFault}
 use Rattle.client_callbacks.specs.declared.ends.JoinFault.TheVariants.{NoMemory}
 
--- what one piece brings and then another
-abbrev pub both : Turn → Turn → Turn
-both first second = record { line = first.line ++ second.line; next = second.next }
-
--- A piece brings what its two parts bring, one after the other, where the callbacks say the same at each frame.
-abbrev pub ComesInParts : Type 0
-ComesInParts = (run : Run) (xs ys : List ℕ) (rs qs : List Replies) → length rs ≡ length (cut (fed run.standing xs)).frames → piece_taken run (xs ++ ys) (rs ++ qs) ≡ both (piece_taken run xs rs) (piece_taken (piece_taken run xs rs).next ys qs)
+-- A piece brings what its two parts bring, one after the other, where the callbacks say the same at each part of the stream.
+abbrev pub PiecesMakeNoDifference : Type 0
+PiecesMakeNoDifference = (run : Run Keeper) (xs ys : List ℕ) (rs qs : List Replies) → length rs ≡ length (parts_at (fed run.standing xs)) → piece_taken unasked talk_of reacts run (xs ++ ys) (rs ++ qs) ≡ both (piece_taken unasked talk_of reacts run xs rs) (piece_taken unasked talk_of reacts (piece_taken unasked talk_of reacts run xs rs).next ys qs)
 
 module _ {S D C : Type 0} (answers : S → SaveAsk → SaveAnswer → S → Type 0) (gives : D → List (List ℕ) → D → Type 0) (hears : C → C → Type 0) where
   -- Each callback says one thing in each state, and is left in one.

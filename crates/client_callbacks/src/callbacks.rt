@@ -2,7 +2,7 @@ ghost use Rattle.std.specs.Prelude.{ℕ, List};
 ghost use Rattle.client_machine.specs.Saves.{IsLawful};
 ghost use Rattle.client_machine.specs.declared.saves.SaveAsk.{SaveAsk};
 ghost use Rattle.client_machine.specs.declared.saves.SaveAnswer.{SaveAnswer};
-ghost use Rattle.client_callbacks.specs.Answers.{AreFew};
+ghost use Rattle.client_engine.specs.Answering.{AreFew};
 
 use client_machine::{SaveAnswer, SaveAsk};
 use ice_values::Array8List;

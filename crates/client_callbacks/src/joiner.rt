@@ -1,6 +1,6 @@
 ghost use Rattle.std.specs.Prelude.{◌≡◌, [], ◌∷◌};
 ghost use Rattle.client_machine.specs.Saves.{IsLawful};
-ghost use Rattle.client_callbacks.specs.Answers.{AreFew};
+ghost use Rattle.client_engine.specs.Answering.{AreFew};
 ghost use Rattle.client_callbacks.specs.Script.{AsksSave, AsksReasons, TellsCancelled};
 ghost use Rattle.client_callbacks.specs.Doing.{Follows};
 

@@ -1,11 +1,11 @@
-ghost use Rattle.client_callbacks.specs.Laws.{ComesInParts, HasOneEnd};
+ghost use Rattle.client_callbacks.specs.Laws.{PiecesMakeNoDifference, HasOneEnd};
 
 use crate::callbacks::{Cancels, Dies, Saves};
 
 /// Does nothing: its contract is a law. What a client does about a stream doesn't depend on the pieces
 /// in which it comes.
 pub fn pieces_make_no_difference()
-    ensures { ComesInParts }
+    ensures { PiecesMakeNoDifference }
 {}
 
 /// Does nothing: its contract is a law of `Joiner::run`'s clause `joins`. Where each callback says

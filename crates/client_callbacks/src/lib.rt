@@ -1,18 +1,14 @@
 //! A client that joins a session, and leaves what it saves and why it closes to its callbacks.
 #![tactic(auto)]
 
-mod acting;
 mod callbacks;
 mod ends;
+mod heeding;
 mod joiner;
 mod laws;
-mod messages;
-mod received;
+mod progress;
 mod running;
 mod saying;
-mod speaking;
-mod taking;
-mod talk;
 
 pub use callbacks::{Cancels, Dies, Saves};
 pub use ends::{ClientEnd, JoinFault};

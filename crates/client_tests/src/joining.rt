@@ -3,7 +3,7 @@
 
 ghost use Rattle.std.specs.Prelude.{◌≡◌, []};
 ghost use Rattle.client_machine.specs.Saves.{IsLawful};
-ghost use Rattle.client_callbacks.specs.Answers.{AreFew};
+ghost use Rattle.client_engine.specs.Answering.{AreFew};
 
 use client_callbacks::{
     Cancels, ClientEnd, Dies, Join, JoinFault, Joiner, Saves, ends_exclude_each_other,

@@ -20,8 +20,6 @@ use Rattle.client_callbacks.specs.declared.ends.ClientEnd.TheVariants.{Died, Clo
 use Rattle.client_callbacks.specs.declared.ends.Ending.{Ending as ClientEnding}
 use Rattle.client_callbacks.specs.declared.ends.JoinFault.{JoinFault}
 use Rattle.client_callbacks.specs.declared.ends.JoinFault.TheVariants.{LinkFault, Refused as IsRefused, Malformed as IsMalformed, Spent as IsSpent, NoMemory as IsMissing}
-use Rattle.client_callbacks.specs.declared.talk.Place.{Place}
-use Rattle.client_callbacks.specs.declared.talk.Place.TheVariants.{Over}
 use Rattle.client_peer.specs.Peers.{Fetches, file_at, received}
 use Rattle.client_words.specs.Reading.{AreBad, AreChosen}
 use Rattle.client_words.specs.declared.choices.Choices.{Choices}
@@ -101,7 +99,7 @@ no_line effects tries = tries.printed ∙ ap (map Printed) tries.tried
 -- A client that joined, and whose lines were printed, came to its end so.
 module _ (words : List (List ℕ)) (cookie : Cookie) (old new : Outside) (turns status : ℕ) (effects first last : List Effect) (ending : Ending) (choices : Choices) (chosen : AreChosen words choices) (number : status ≡ status_by fault_status ending) (parts : effects ≡ first ++ last) (tried : Tries (line_by fault_line ending) last) where
   -- all was done, and the ending has no line
-  came : (joined : Joined choices old new turns ending first) → joined.cookie ≡ cookie → IsOk joined.printed → failure_of joined.answer ≡ None → line_by fault_line ending ≡ None → Follows (AnswersBy choices) NoReasons Listens joined.joins.does.done (remembers false) (remembers joined.last) → IsEndStatus status (run_after (start joined.cookie choices.id.now choices.saves) joined.joins.cames).talk.place (length joined.joins.cames) turns → ComesToItsEnd words cookie turns status effects
+  came : (joined : Joined choices old new turns ending first) → joined.cookie ≡ cookie → IsOk joined.printed → failure_of joined.answer ≡ None → line_by fault_line ending ≡ None → Follows (AnswersBy choices) NoReasons Listens joined.joins.does.done (remembers false) (remembers joined.last) → IsEndStatus status (run_after (start joined.cookie choices.id.now choices.saves) joined.joins.cames).keeper.ending (length joined.joins.cames) turns → ComesToItsEnd words cookie turns status effects
   came joined same printed whole silent follows ends =
       let does = joined.joins.does in
       let all : List Entry = script joined.cookie choices.id.now choices.saves joined.joins.cames in
@@ -129,14 +127,14 @@ module _ (words : List (List ℕ)) (cookie : Cookie) (old new : Outside) (turns 
         ends = ends;
       })
 
-  abbrev place_of : Joined choices old new turns ending first → Place
-  place_of joined = (run_after (start joined.cookie choices.id.now choices.saves) joined.joins.cames).talk.place
+  abbrev place_of : Joined choices old new turns ending first → Option ClientEnding
+  place_of joined = (run_after (start joined.cookie choices.id.now choices.saves) joined.joins.cames).keeper.ending
 
   printed_end : (joined : Joined choices old new turns ending first) (x : Unit {0}) (answer : Result ClientEnd JoinFault) → joined.printed ≡ Ok x → joined.answer ≡ answer → ending ≡ end_of answer
   printed_end joined x answer printed is = joined.ends ∙ (ap (λ p. after_printing p (end_of joined.answer)) printed ∙ ap end_of is)
 
   -- The client came to an end of its script.
-  came_to : (joined : Joined choices old new turns ending first) (x : Unit {0}) (answer : Result ClientEnd JoinFault) → joined.cookie ≡ cookie → joined.printed ≡ Ok x → joined.answer ≡ answer → failure_of answer ≡ None → line_by fault_line (end_of answer) ≡ None → Follows (AnswersBy choices) NoReasons Listens joined.joins.does.done (remembers false) (remembers joined.last) → (end : ClientEnding) × (place_of joined ≡ Over end) × (answer ≡ client_answer end) → ComesToItsEnd words cookie turns status effects
+  came_to : (joined : Joined choices old new turns ending first) (x : Unit {0}) (answer : Result ClientEnd JoinFault) → joined.cookie ≡ cookie → joined.printed ≡ Ok x → joined.answer ≡ answer → failure_of answer ≡ None → line_by fault_line (end_of answer) ≡ None → Follows (AnswersBy choices) NoReasons Listens joined.joins.does.done (remembers false) (remembers joined.last) → (end : ClientEnding) × (place_of joined ≡ Some end) × (answer ≡ client_answer end) → ComesToItsEnd words cookie turns status effects
   came_to joined x answer same printed is whole silent follows over =
       let ends : ending ≡ end_of answer = printed_end joined x answer printed is in
       came joined same (rw printed refl) (ap failure_of is ∙ whole) (ap (line_by fault_line) ends ∙ silent) follows (inl (over.0, over.1, number ∙ ap (status_by fault_status) (ends ∙ ap end_of over.2)))

@@ -1,9 +1,8 @@
 -- A client whose callbacks are closures, as one by its words.
-use Rattle.std.proofs.Common.{◌≡◌, ◌⊎◌, inl, inr, ℕ, ℤ, pos, Bool, false, List, [], ◌∷◌, Option, None, Some, Result, Ok, Err, refl, sym, ◌∙◌, ap, subst}
+use Rattle.std.proofs.Common.{◌≡◌, inl, inr, ℕ, ℤ, pos, Bool, false, List, [], ◌∷◌, Result, Ok, Err, sym, ◌∙◌, ap, subst}
 use Rattle.sm_world.specs.Outside.{Outside}
-use Rattle.sm_world.specs.declared.failures.Failure.{Failure}
-use Rattle.client_callbacks.specs.Doing.{Callbacks, Does, Follows, desk}
-use Rattle.client_callbacks.specs.Running.{Joins, failure_of}
+use Rattle.client_callbacks.specs.Doing.{Callbacks, Follows, desk}
+use Rattle.client_callbacks.specs.Running.{Joins}
 use Rattle.client_callbacks.specs.Script.{Entry, Hears, Says, AsksSave, AsksReasons, TellsCancelled, Notes}
 use Rattle.client_callbacks.specs.declared.ends.ClientEnd.{ClientEnd}
 use Rattle.client_callbacks.specs.declared.ends.JoinFault.{JoinFault}
@@ -13,7 +12,7 @@ use Rattle.client_machine.specs.declared.saves.SaveAnswer.{SaveAnswer}
 use Rattle.client_machine.specs.declared.saves.SaveAsk.{SaveAsk}
 use Rattle.client_words.specs.declared.choices.Choices.{Choices}
 use Rattle.smclient_app.specs.Joining.{AnswersIn, JoinsBy, Listens, Memory, NoReasons, Ran, remembers}
-use Rattle.smclient_app.specs.Rules.{Answers, MayAnswer, Remembers, answer_by, is_talking}
+use Rattle.smclient_app.specs.Rules.{Answers, MayAnswer, Remembers}
 
 one≢zero : (n : ℤ) → n ≡ pos 1 → n ≡ pos 0 → ⊥
 one≢zero n one zero = let bad : pos 1 ≡ pos 0 = sym one ∙ zero in cc

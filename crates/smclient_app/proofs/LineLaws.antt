@@ -1,14 +1,11 @@
 -- Lines that are printed one after the other.
-use Rattle.std.proofs.Common.{◌≡◌, ℕ, ◌+◌, ◌<◌, ◌≤◌, List, [], ◌∷◌, ◌++◌, length, take, drop, slice_index_or, map, Option, Result, Ok, Err, IsErrOf, IsOk, refl, sym, ◌∙◌, ap, arith}
-use Rattle.std.proofs.lemmas.List.{append-nil, map-append, take-append-drop, take_all, take_more}
-use Rattle.sm_world.specs.Outside.{Outside, Added, adds, on_ok, NotFallen, Rose, UsesConsole}
-use Rattle.sm_world.specs.declared.effects.Effect.{Effect}
+use Rattle.std.proofs.Common.{◌≡◌, ℕ, ◌+◌, ◌<◌, ◌≤◌, List, [], ◌∷◌, ◌++◌, length, take, drop, slice_index_or, map, Result, IsOk, refl, sym, ◌∙◌, ap, arith}
+use Rattle.std.proofs.lemmas.List.{map-append, take-append-drop, take_more}
+use Rattle.sm_world.specs.Outside.{Outside, Added, adds, NotFallen, UsesConsole}
 use Rattle.sm_world.specs.declared.effects.Effect.TheVariants.{Printed}
 use Rattle.sm_world.specs.declared.failures.Failure.{Failure}
-use Rattle.sm_world.specs.declared.failures.Failure.TheVariants.{Failed}
 use Rattle.sm_world.proofs.Adding.{adds-none, adds-adds, never_fallen, fallen_never}
-use Rattle.program_frame.specs.Printing.{ArePrinted, line}
-use Rattle.program_frame.proofs.InputLemmas.{rose_since}
+use Rattle.program_frame.specs.Printing.{line}
 use Rattle.smclient_app.specs.Lines.{PrintsFirst}
 
 -- these lines were printed, and nothing else was done

@@ -1,5 +1,5 @@
 -- How a call of `smclient` ends.
-use Rattle.std.proofs.Common.{◌≡◌, ◌≢◌, ◌⊎◌, inl, inr, ℕ, ◌-◌, ◌^◌, ◌<◌, ◌≤◌, Bool, false, List, [], ◌∷◌, ◌++◌, Option, None, Some, Result, Ok, Err, refl, sym, ◌∙◌, ap, subst, arith}
+use Rattle.std.proofs.Common.{◌≡◌, ◌⊎◌, inl, inr, ℕ, ◌-◌, ◌^◌, ◌<◌, ◌≤◌, List, [], ◌++◌, Option, None, Some, Result, Ok, Err, refl, sym, ◌∙◌, ap, subst, arith}
 use Rattle.std.proofs.lemmas.Bool.{cases_lt}
 use Rattle.sm_world.specs.Outside.{Outside, Added, adds, NotFallen, Rose}
 use Rattle.sm_world.specs.declared.effects.Effect.{Effect}
@@ -23,7 +23,7 @@ use Rattle.program_frame.proofs.ProgramLemmas.{concluded}
 use Rattle.smclient_app.specs.Faults.{Ending, after_printing, end_of, fault_line, fault_status, unprinted_end}
 use Rattle.smclient_app.specs.Joining.{JoinsBy}
 use Rattle.smclient_app.specs.Lines.{PrintsFirst}
-use Rattle.smclient_app.specs.Statuses.{Answers, IsEarly, IsReady, Joined, Runs, RunsBy}
+use Rattle.smclient_app.specs.Statuses.{Answers, IsEarly, IsReady, Runs, RunsBy}
 use Rattle.smclient_app.specs.declared.fault.Fault.{Fault}
 use Rattle.smclient_app.specs.declared.fault.Fault.TheVariants.{BadWords, Refused, StreamEnded, NoEntry, Link, Console, Spent, NoMemory, Malformed}
 

@@ -1,6 +1,5 @@
 -- The answers of the words are lawful.
-use Rattle.std.proofs.Common.{◌≡◌, ◌⊎◌, inl, inr, ℕ, ◌+◌, ◌<◌, ◌≤◌, ◌%◌, ◌&&◌, Bool, true, false, not, IsTrue, List, [], ◌∷◌, ◌++◌, length, if◌then◌else◌, codes, refl, sym, ◌∙◌, ap, arith, length-append}
-use Rattle.std.specs.Prelude.{flat_map}
+use Rattle.std.proofs.Common.{◌≡◌, inl, inr, ℕ, ◌+◌, ◌<◌, ◌≤◌, ◌&&◌, Bool, true, false, not, List, [], ◌∷◌, ◌++◌, length, if◌then◌else◌, codes, refl, ◌∙◌, ap, arith, length-append}
 use Rattle.ice_values.specs.Cells.{pad_len}
 use Rattle.ice_values.specs.Properties.{array8, array8_list, property}
 use Rattle.ice_values.specs.declared.numbers.Endian.TheVariants.{Lsb}

@@ -9,8 +9,6 @@ use Rattle.client_callbacks.specs.Doing.{Follows, bytes_in, effects_in, lines_in
 use Rattle.client_callbacks.specs.Running.{answer_of}
 use Rattle.client_callbacks.specs.Script.{Came, is_over, run_after, script, start}
 use Rattle.client_callbacks.specs.declared.ends.Ending.{Ending}
-use Rattle.client_callbacks.specs.declared.talk.Place.{Place}
-use Rattle.client_callbacks.specs.declared.talk.Place.TheVariants.{Over}
 use Rattle.client_peer.specs.Peers.{file_at, received}
 use Rattle.client_words.specs.Reading.{AreChosen}
 use Rattle.client_words.specs.declared.choices.Choices.{Choices}
@@ -43,8 +41,8 @@ abbrev pub end_status : Ending → ℕ
 end_status ending = status_by fault_status (end_of (answer_of ending))
 
 -- It is the status of the end to which the client came, or 9 where it came to none in all its turns.
-abbrev pub IsEndStatus : ℕ → Place → ℕ → ℕ → Type 0
-IsEndStatus status place receives turns = ((ending : Ending) × (place ≡ Over ending) × (status ≡ end_status ending)) ⊎ ((is_over place ≡ false) × (receives ≡ turns) × (status ≡ 9))
+abbrev pub IsEndStatus : ℕ → Option Ending → ℕ → ℕ → Type 0
+IsEndStatus status ending receives turns = ((end : Ending) × (ending ≡ Some end) × (status ≡ end_status end)) ⊎ ((is_over ending ≡ false) × (receives ≡ turns) × (status ≡ 9))
 
 -- For what was received, and with the answers that the words give, all was done that the script says, each line that it notes was printed, and the status is that of its end.
 pub record ComesToItsEnd (words : List (List ℕ)) (cookie : Cookie) (turns status : ℕ) (effects : List Effect) : Type 0 where
@@ -56,7 +54,7 @@ pub record ComesToItsEnd (words : List (List ℕ)) (cookie : Cookie) (turns stat
   pub answered : Follows (AnswersBy choices) NoReasons Listens (script cookie choices.id.now choices.saves cames) (remembers false) (remembers last)
   pub done : effects ≡ effects_in (script cookie choices.id.now choices.saves cames) ++ map Printed (map line (lines_in (script cookie choices.id.now choices.saves cames)))
   pub in_turns : length cames ≤ turns
-  pub ends : IsEndStatus status (run_after (start cookie choices.id.now choices.saves) cames).talk.place (length cames) turns
+  pub ends : IsEndStatus status (run_after (start cookie choices.id.now choices.saves) cames).keeper.ending (length cames) turns
 
 -- A call whose words and authority file let the client in, and in which no count rose, comes to the client's end, or answers 10.
 abbrev pub CallsComplete : Type 0

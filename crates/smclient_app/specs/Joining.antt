@@ -1,5 +1,5 @@
 -- What a client does that joins as its words say.
-use Rattle.std.specs.Prelude.{◌≡◌, ℕ, Bool, false, List, [], Result, Ok, Err}
+use Rattle.std.specs.Prelude.{◌≡◌, ℕ, Bool, false, List, [], Result, Err}
 use Rattle.sm_world.specs.Outside.{Outside}
 use Rattle.client_callbacks.specs.Doing.{Callbacks, desk}
 use Rattle.client_callbacks.specs.Running.{Joins}

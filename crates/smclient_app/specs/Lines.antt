@@ -1,5 +1,5 @@
 -- The lines that a client noted, as they are printed.
-use Rattle.std.specs.Prelude.{◌≡◌, ℕ, List, [], ◌++◌, map, Result, Ok, IsOk}
+use Rattle.std.specs.Prelude.{◌≡◌, ℕ, List, [], ◌++◌, map, Result, IsOk}
 use Rattle.sm_world.specs.declared.effects.Effect.{Effect}
 use Rattle.sm_world.specs.declared.failures.Failure.{Failure}
 use Rattle.program_frame.specs.Printing.{ArePrinted, line}

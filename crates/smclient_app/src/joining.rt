@@ -1,5 +1,5 @@
 ghost use Rattle.std.specs.Prelude.{◌≡◌, ◌≤◌, length, [], false, pos};
-ghost use Rattle.client_callbacks.specs.Answers.{AreFew};
+ghost use Rattle.client_engine.specs.Answering.{AreFew};
 ghost use Rattle.smclient_app.specs.Joining.{JoinsBy, Ran};
 
 use crate::rules::Saver;

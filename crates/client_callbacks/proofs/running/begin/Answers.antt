@@ -1,9 +1,5 @@
 use Rattle.client_callbacks.proofs.DoingLaws.{sends_never}
-use Rattle.client_callbacks.proofs.Short.{short-order}
 use Rattle.client_callbacks.proofs.running.begin.Goals as goal
-
-pub say-requires : goal.say-requires
-say-requires g c = short-order
 
 pub returns-in-Err-clause-sends : goal.returns-in-Err-clause-sends
 returns-in-Err-clause-sends g c = sends_never _ _

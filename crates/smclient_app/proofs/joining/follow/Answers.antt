@@ -1,4 +1,3 @@
-use Rattle.std.proofs.Common.{ap, sym}
 use Rattle.smclient_app.proofs.Following.{came_back}
 use Rattle.smclient_app.proofs.joining.follow.Goals as goal
 

@@ -1,27 +1,42 @@
-use Rattle.std.proofs.Common.{rules, ◌≡◌, ℕ, List, drop, length, sym, subst}
+use Rattle.std.proofs.Common.{rules, ◌≡◌, ℕ, List, length, Option, None, Some, refl, sym, subst}
+use Rattle.sm_world.specs.declared.failures.Failure.TheVariants.{NoMemory}
+use Rattle.client_engine.specs.Cutting.{Cuts}
+use Rattle.client_engine.specs.declared.engine.Taken.{Taken}
 use Rattle.client_callbacks.specs.Doing.{desk}
-use Rattle.client_callbacks.proofs.RunLaws.{Middle, all_taken, at_begin, cut_taken, deaf_taken, fails, from_place, goes_on, none_left}
+use Rattle.client_callbacks.specs.declared.progress.Progress.{Progress}
+use Rattle.client_callbacks.proofs.PieceLaws.{Amid, amid_begun, amid_done, amid_failed, amid_held, amid_more, amid_never, for_run}
+use Rattle.client_callbacks.proofs.RunLaws.{from_place, none_left}
 use Rattle.client_callbacks.proofs.joiner.Joiner.take_piece.Goals as goal
 
 pub loop-left-init : goal.loop-left-init
-loop-left-init g c = at_begin g.S.Saves.answers g.D.Dies.gives g.C.Cancels.hears _ c.args.talk c.args.splitter.now c.args.piece.now c.requires.partial c.requires.within c.requires.short
+loop-left-init g c = amid_begun g.S.Saves.answers g.D.Dies.gives g.C.Cancels.hears _ c.args.progress.now c.args.piece.now
 
 pub loop-left-preserved : goal.loop-left-preserved
 loop-left-preserved g c =
-    let P : List ℕ → Type 0 = λ left. Middle g.S.Saves.answers g.D.Dies.gives g.C.Cancels.hears (desk (g.P.Told.outside c.args.peer.now) c.args.lines.now c.args.self.now) (desk (g.P.Told.outside c.take_held.new.peer) c.take_held.new.lines c.take_held.new.self) c.args.talk c.in-Ok-take_held.talk c.args.splitter.now c.take_held.new.splitter c.args.piece.now left in
-    subst P (sym (from_place c.in-Ok.count c.loop-left.left.now))
-    (goes_on g.S.Saves.answers g.D.Dies.gives g.C.Cancels.hears _ _ _ c.args.talk c.loop-left.talk c.in-Ok-take_held.talk c.args.splitter.now c.loop-left.splitter c.feed.new.self c.take_held.new.splitter c.args.piece.now c.loop-left.left.now (drop c.in-Ok.count c.loop-left.left.now) c.loop-left.invariant c.in-Ok.ensures.frames c.in-Ok-take_held.ensures.takes c.in-Ok-take_held.ensures.partial c.in-Ok-take_held.ensures.within c.in-Ok-take_held.ensures.short)
+    subst (λ (l : List ℕ). Amid g.S.Saves.answers g.D.Dies.gives g.C.Cancels.hears (desk (g.P.Told.outside c.args.peer.now) c.args.progress.now.lines c.args.self.now) (desk (g.P.Told.outside c.serve.new.peer) c.serve.new.progress.lines c.serve.new.self) c.args.progress.now c.args.piece.now l c.serve.new.progress) (sym (from_place c.in-Ok-Some.taken.count c.loop-left.left.now))
+    (amid_more g.S.Saves.answers g.D.Dies.gives g.C.Cancels.hears (desk (g.P.Told.outside c.args.peer.now) c.args.progress.now.lines c.args.self.now) (desk (g.P.Told.outside c.loop-left.peer) c.loop-left.progress.lines c.loop-left.self) (desk (g.P.Told.outside c.serve.new.peer) c.serve.new.progress.lines c.serve.new.self)
+    c.args.progress.now c.loop-left.progress c.serve.new.progress c.cut.new.self c.args.piece.now c.loop-left.left.now c.in-Ok-Some.taken c.loop-left.invariant (subst (λ (o : Option Taken). Cuts c.loop-left.progress.core c.loop-left.left.now o c.cut.new.self) c.in-Ok-Some.field-0-is c.in-Ok-Some.ensures.cuts) c.in-Ok.ensures.takes c.serve.ensures.splitter)
 
-pub returns-clause-takes : goal.returns-clause-takes
-returns-clause-takes g c =
+pub returns-in-Ok-None : goal.returns-in-Ok-None
+returns-in-Ok-None g c =
+    let after : Progress = record c.loop-left.progress { core = c.cut.new.self } in
+    λ run is_run. for_run g.S.Saves.answers g.D.Dies.gives g.C.Cancels.hears _ _ run c.args.progress.now after c.args.piece.now None is_run
+    (amid_held g.S.Saves.answers g.D.Dies.gives g.C.Cancels.hears _ _ c.args.progress.now c.loop-left.progress after c.args.piece.now c.loop-left.left.now c.loop-left.invariant
+    (subst (λ (o : Option Taken). Cuts c.loop-left.progress.core c.loop-left.left.now o c.cut.new.self) c.in-Ok-None.field-0-is c.in-Ok-None.ensures.cuts) c.cut.new.self.partial refl refl)
+
+pub returns-in-Err : goal.returns-in-Err
+returns-in-Err g c =
+    let after : Progress = record c.loop-left.progress { core = c.cut.new.self } in
+    λ run is_run. for_run g.S.Saves.answers g.D.Dies.gives g.C.Cancels.hears _ _ run c.args.progress.now after c.args.piece.now (Some NoMemory) is_run
+    (amid_never g.S.Saves.answers g.D.Dies.gives g.C.Cancels.hears _ _ c.args.progress.now c.loop-left.progress after c.args.piece.now c.loop-left.left.now c.loop-left.invariant)
+
+pub returns-in-Err-serve : goal.returns-in-Err-serve
+returns-in-Err-serve g c =
+    λ run is_run. for_run g.S.Saves.answers g.D.Dies.gives g.C.Cancels.hears _ _ run c.args.progress.now c.serve.new.progress c.args.piece.now (Some c.in-Err-serve.failure) is_run
+    (amid_failed g.S.Saves.answers g.D.Dies.gives g.C.Cancels.hears (desk (g.P.Told.outside c.args.peer.now) c.args.progress.now.lines c.args.self.now) (desk (g.P.Told.outside c.loop-left.peer) c.loop-left.progress.lines c.loop-left.self) (desk (g.P.Told.outside c.serve.new.peer) c.serve.new.progress.lines c.serve.new.self)
+    c.args.progress.now c.loop-left.progress c.serve.new.progress c.cut.new.self c.args.piece.now c.loop-left.left.now c.in-Ok-Some.taken c.in-Err-serve.failure c.loop-left.invariant (subst (λ (o : Option Taken). Cuts c.loop-left.progress.core c.loop-left.left.now o c.cut.new.self) c.in-Ok-Some.field-0-is c.in-Ok-Some.ensures.cuts) c.in-Err-serve.ensures.takes)
+
+pub returns : goal.returns
+returns g c =
     let none : length c.loop-left.left.now ≡ 0 = search rules in
-    all_taken g.S.Saves.answers g.D.Dies.gives g.C.Cancels.hears _ _ c.args.talk c.loop-left.talk c.args.splitter.now c.loop-left.splitter c.args.piece.now c.loop-left.left.now c.loop-left.invariant (none_left c.loop-left.left.now none)
-
-pub returns-then-not-is_listening-clause-takes : goal.returns-then-not-is_listening-clause-takes
-returns-then-not-is_listening-clause-takes g c = deaf_taken g.S.Saves.answers g.D.Dies.gives g.C.Cancels.hears _ _ c.args.talk c.loop-left.talk c.args.splitter.now c.loop-left.splitter c.args.piece.now c.loop-left.left.now c.loop-left.invariant (sym c.if-not-is_listening.ensures)
-
-pub returns-in-Err-clause-takes : goal.returns-in-Err-clause-takes
-returns-in-Err-clause-takes g c = cut_taken g.S.Saves.answers g.D.Dies.gives g.C.Cancels.hears _ _ c.args.talk c.loop-left.talk c.cut_off.result c.args.splitter.now c.loop-left.splitter c.feed.new.self c.args.piece.now c.loop-left.left.now c.loop-left.invariant c.in-Err.ensures.oversize.0 (sym c.if-not-is_listening.ensures) c.cut_off.ensures
-
-pub returns-in-Err-take_held-clause-takes : goal.returns-in-Err-take_held-clause-takes
-returns-in-Err-take_held-clause-takes g c = fails g.S.Saves.answers g.D.Dies.gives g.C.Cancels.hears _ _ _ c.args.talk c.loop-left.talk c.args.splitter.now c.loop-left.splitter c.feed.new.self c.take_held.new.splitter c.args.piece.now c.loop-left.left.now (drop c.in-Ok.count c.loop-left.left.now) c.in-Err-take_held.failure c.loop-left.invariant c.in-Ok.ensures.frames c.in-Err-take_held.ensures.takes
+    λ run is_run. for_run g.S.Saves.answers g.D.Dies.gives g.C.Cancels.hears _ _ run c.args.progress.now c.loop-left.progress c.args.piece.now None is_run (amid_done g.S.Saves.answers g.D.Dies.gives g.C.Cancels.hears _ _ c.args.progress.now c.loop-left.progress c.args.piece.now c.loop-left.left.now c.loop-left.invariant (none_left c.loop-left.left.now none) c.loop-left.progress.core.partial c.loop-left.progress.core.within)
