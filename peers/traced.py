@@ -151,7 +151,7 @@ def one_round(smd, room, *faults):
 
 def short_writes(smd, room):
     """Where the system takes a part of a write, the rest is written behind it."""
-    one_round(smd, room, "pwrite64:retval=1:when=1", "pwrite64:retval=100:when=4")
+    one_round(smd, room, "pwrite64:retval=1:when=1", "pwrite64:retval=100:when=3")
 
 
 def short_publishing(smd, room):
