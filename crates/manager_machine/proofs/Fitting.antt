@@ -1,10 +1,9 @@
 -- What is done in a run fits: messages and Errors into a frame, and books into the store.
 use Rattle.std.proofs.Common.{◌≡◌, ◌<◌, List, [], ◌∷◌, ◌++◌, arith, subst, sym}
-use Rattle.checkpoint_records.specs.declared.records.Book.{Book}
 use Rattle.checkpoint_records.specs.Rules.{KeepsRules}
 use Rattle.session_model.specs.declared.events.Act.{Act}
 use Rattle.session_model.specs.declared.events.SessionEvent.{SessionEvent}
-use Rattle.session_model.specs.Moves.{Blamed, Committed, Gave, History, Move, Opened, acts_of, all_acts, ◌▷◌}
+use Rattle.session_model.specs.Moves.{Blamed, Committed, Gave, History, Move, Opened, Opening, acts_of, all_acts, ◌▷◌}
 use Rattle.session_model.specs.Reading.{reading}
 use Rattle.session_model.specs.Rules.{Takes, opened, taken}
 use Rattle.session_model.specs.Laws.{EachMove, IsShort, IsWritten}
@@ -22,13 +21,13 @@ move-fit (Committed book) a b = (b, tt)
 move-fit m a b = grind arith
 
 each-fit : (h : History) → EachMove IsShort h → EachMove IsWritten h → AreFit (all_acts h)
-each-fit (Opened book) a b = tt
+each-fit (Opened opening) a b = tt
 each-fit (m ▷ h) a b = all-append IsFit (all_acts h) (acts_of m) (each-fit h a.1 b.1) (move-fit m a.0 b.0)
 
 pub fit-made : (h : History) → IsMade h → AreFit (all_acts h)
 fit-made h m =
-    each-fit h (subst (λ (g : History). EachMove IsShort g) (sym m.is) (messages-fit m.book m.events m.rules))
-    (subst (λ (g : History). EachMove IsWritten g) (sym m.is) (books-keep m.book m.events m.rules m.below m.takes))
+    each-fit h (subst (λ (g : History). EachMove IsShort g) (sym m.is) (messages-fit m.opening m.events m.rules))
+    (subst (λ (g : History). EachMove IsWritten g) (sym m.is) (books-keep m.opening m.events m.rules m.below m.takes))
 
 fit-end : (xs ys : List Act) → AreFit (xs ++ ys) → AreFit ys
 fit-end [] ys a = a
@@ -39,5 +38,5 @@ pub fit-taken : (event : SessionEvent) (acts : List Act) (h : History) → IsMad
 fit-taken event acts h m t e = fit-end (all_acts h) acts (subst (λ (xs : List Act). AreFit xs) e (fit-made (taken event h) (made-taken event h m t)))
 
 -- what is done at the start
-pub fit-opened : (book : Book) (acts : List Act) → KeepsRules book → book.epoch < 4294967295 → acts ≡ all_acts (opened book) → AreFit acts
-fit-opened book acts k l e = subst (λ (xs : List Act). AreFit xs) (sym e) (fit-made (opened book) (made-opened book k l))
+pub fit-opened : (opening : Opening) (acts : List Act) → KeepsRules opening.book → opening.book.epoch < 4294967295 → acts ≡ all_acts (opened opening) → AreFit acts
+fit-opened opening acts k l e = subst (λ (xs : List Act). AreFit xs) (sym e) (fit-made (opened opening) (made-opened opening k l))

@@ -4,11 +4,10 @@ use Rattle.std.proofs.Common.{◌≡◌, refl, ◌<◌, false, List, [], ◌∷�
 use Rattle.std.proofs.Math.Bool.{Bool-set}
 use Rattle.std.proofs.Math.Logic.{∥∥₁_elim, ∥∥₁_map}
 use Rattle.std.specs.Coded.{Coded-set, coded_list, coded_ℕ}
-use Rattle.checkpoint_records.specs.declared.records.Book.{Book}
 use Rattle.checkpoint_records.specs.Rules.{KeepsRules}
 use Rattle.session_model.specs.declared.events.Act.{Act}
 use Rattle.session_model.specs.declared.events.SessionEvent.{SessionEvent}
-use Rattle.session_model.specs.Moves.{History, Outside, all_acts, onto, ◌▷◌}
+use Rattle.session_model.specs.Moves.{History, Opening, Outside, all_acts, onto, ◌▷◌}
 use Rattle.session_model.specs.Reading.{Reading, reading}
 use Rattle.session_model.specs.Replies.{reply}
 use Rattle.session_model.specs.Rules.{Takes, opened, taken}
@@ -57,6 +56,7 @@ stands-quiet s h st = record {
   ids_are = st.ids_are;
   tables_are = st.tables_are;
   snapshots_are = st.snapshots_are;
+  quiets_are = st.quiets_are;
   live_is = st.live_is;
   registered_is = st.registered_is;
   round_is = st.round_is;
@@ -70,6 +70,7 @@ stands-quiet s h st = record {
   expected_is = st.expected_is;
   counts_are = st.counts_are;
   ending_is = st.ending_is;
+  patience_is = st.patience_is;
   marks_are = st.marks_are;
 }
 
@@ -96,17 +97,17 @@ acts-taken event k acts h f takes e =
 
 -- a book is opened
 
-pub keeper-opened : (book : Book) (t : Session) → KeepsRules book → book.epoch < 4294967295 → t ≡ record (opened_in book) { acts = [] } → StandsFor (record { session = t; stopped = false }) (opened book)
-keeper-opened book t k l e = record {
+pub keeper-opened : (opening : Opening) (t : Session) → KeepsRules opening.book → opening.book.epoch < 4294967295 → t ≡ record (opened_in opening) { acts = [] } → StandsFor (record { session = t; stopped = false }) (opened opening)
+keeper-opened opening t k l e = record {
   running = refl;
-  made = made-opened book k l;
-  stands = subst (λ (x : Session). Stands x (opened book)) (sym e) (stands-quiet (opened_in book) (opened book) (openings-stand book).0);
+  made = made-opened opening k l;
+  stands = subst (λ (x : Session). Stands x (opened opening)) (sym e) (stands-quiet (opened_in opening) (opened opening) (openings-stand opening).0);
 }
 
-pub run-opened : (book : Book) (t : Session) → KeepsRules book → book.epoch < 4294967295 → t ≡ record (opened_in book) { acts = [] } → (t.acts ≡ []) × IsOfRun t
-run-opened book t k l e =
-    let f : StandsFor (record { session = t; stopped = false }) (opened book) = keeper-opened book t k l e in
-    (ap (λ (x : Session). x.acts) e, ∣ (opened book, f.made, f.stands) ∣₁)
+pub run-opened : (opening : Opening) (t : Session) → KeepsRules opening.book → opening.book.epoch < 4294967295 → t ≡ record (opened_in opening) { acts = [] } → (t.acts ≡ []) × IsOfRun t
+run-opened opening t k l e =
+    let f : StandsFor (record { session = t; stopped = false }) (opened opening) = keeper-opened opening t k l e in
+    (ap (λ (x : Session). x.acts) e, ∣ (opened opening, f.made, f.stands) ∣₁)
 
-pub acts-opened : (book : Book) (acts : List Act) → acts ≡ (opened_in book).acts → acts ≡ all_acts (opened book)
-acts-opened book acts e = e ∙ (openings-stand book).1
+pub acts-opened : (opening : Opening) (acts : List Act) → acts ≡ (opened_in opening).acts → acts ≡ all_acts (opened opening)
+acts-opened opening acts e = e ∙ (openings-stand opening).1

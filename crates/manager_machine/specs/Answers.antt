@@ -1,5 +1,5 @@
 -- What is done about an event, as moves; and whether a message has its place, and what it brings where it has.
-use Rattle.std.specs.Prelude.{Bool, List, None, Option, Some, [], codes, cond, false, not, true, ℕ, ◌&&◌, ◌++◌, ◌||◌, ◌∷◌}
+use Rattle.std.specs.Prelude.{Bool, List, None, Option, Some, [], codes, cond, false, flat_map, not, true, ℕ, ◌&&◌, ◌++◌, ◌||◌, ◌∷◌}
 use Rattle.xsmp_properties.specs.Tables.{set_all}
 use Rattle.checkpoint_records.specs.declared.records.Book.{Book}
 use Rattle.xsmp_messages.specs.declared.message.XsmpMessage.{XsmpMessage}
@@ -16,9 +16,10 @@ use Rattle.session_model.specs.Books.{issue, with_entries}
 use Rattle.session_model.specs.Replies.{register, resigned, want_cancel}
 use Rattle.session_state.specs.Session.{Session, reading_in}
 use Rattle.manager_machine.specs.declared.replies.Again.{Again}
+use Rattle.manager_machine.specs.declared.replies.Departure.{Departure}
 use Rattle.manager_machine.specs.declared.replies.Forgetting.{Forgetting}
 use Rattle.manager_machine.specs.declared.replies.Reply.{Reply}
-use Rattle.manager_machine.specs.declared.replies.Reply.TheVariants.{Blame, CallOff, Forget, Print, PrintAndCallOff, PrintAndShut, Quiet, Register, Shut, StartAgain, Tell, TurnAway}
+use Rattle.manager_machine.specs.declared.replies.Reply.TheVariants.{Blame, CallOff, Forget, Print, PrintAndCallOff, PrintAndShut, Quiet, Register, Shut, ShutEach, StartAgain, Tell, TurnAway}
 
 -- What is done
 
@@ -35,6 +36,10 @@ call_off_moves conns = Cancelled ∷ gave_each ShutdownCancelled conns
 abbrev pub shut_moves : ℕ → Option Again → List Move
 shut_moves c again = Closed c ∷ again_moves again
 
+-- each of these connections is shut, one after another
+abbrev pub departures_moves : List Departure → List Move
+departures_moves departures = flat_map (λ departure. shut_moves departure.conn departure.again) departures
+
 -- this book is written; then the client's ResignCommand is started, and the pending commands that stand in no table
 abbrev pub forget_moves : Forgetting → Book → List Move
 forget_moves plan book = Printed (codes "ok") ∷ Committed book ∷ resigned plan.resign ++ issue book (issuable plan.standing book.pending)
@@ -48,6 +53,7 @@ moves_of s (Register c id) = Gave c (RegisterClientReply id) ∷ []
 moves_of s (Tell c properties) = Gave c (GetPropertiesReply properties) ∷ []
 moves_of s (CallOff conns) = call_off_moves conns
 moves_of s (Shut c again) = shut_moves c again
+moves_of s (ShutEach departures) = departures_moves departures
 moves_of s (StartAgain again) = again_moves again
 moves_of s (Print text) = Printed text ∷ []
 moves_of s (PrintAndCallOff conns) = Printed (codes "ok") ∷ call_off_moves conns

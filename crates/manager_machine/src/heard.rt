@@ -1,6 +1,6 @@
 ghost use Rattle.std.specs.Prelude.{◌≡◌, ℕ, List, OnOk};
 ghost use Rattle.session_model.specs.Moves.{Outside};
-ghost use Rattle.session_model.specs.declared.events.SessionEvent.TheVariants.{Joined as HasJoined, Ready as IsReady, Said as HasSaid, Operator as HasOrdered};
+ghost use Rattle.session_model.specs.declared.events.SessionEvent.TheVariants.{Joined as HasJoined, Ready as IsReady, Said as HasSaid, Operator as HasOrdered, Tick as HasTicked};
 ghost use Rattle.session_state.specs.Session.{moved};
 ghost use Rattle.manager_machine.specs.Order.{InOrder};
 
@@ -46,6 +46,13 @@ impl Core {
         let now = self.clients.discard(conn)?;
         add_stray(&mut self.ledger, &self.book, stopped(before, &now))?;
         Ok(())
+    }
+
+    /// So many milliseconds have passed.
+    pub(crate) fn tick(&mut self, milliseconds: u64)
+        ensures { self.new ≡ moved (Outside (HasTicked milliseconds)) self.old }
+    {
+        self.clients.tick(milliseconds);
     }
 
     /// The operator asked for this.

@@ -35,6 +35,8 @@ pub struct Core {
     pub(crate) counts: Counts,
     /// A shutdown was agreed.
     pub(crate) is_ending: bool,
+    /// For how many milliseconds a client may be silent that is waited for; 0 is for ever.
+    pub(crate) patience: u64,
     pub(crate) marks: Marks,
     pub(crate) acts: Vec<Act>,
 }
@@ -57,6 +59,7 @@ impl Model for Core {
       expected = core.expected.items;
       counts = core.counts.items;
       is_ending = core.is_ending;
+      patience = core.patience;
       marks = core.marks;
       acts = core.acts.items;
     } };

@@ -2,7 +2,7 @@ ghost use Rattle.std.specs.Prelude.{◌≡◌, ◌++◌, ◌<◌, ◌↔◌, tru
 ghost use Rattle.checkpoint_records.specs.Rules.{KeepsRules};
 ghost use Rattle.interact_queue.specs.Queue.{is_in};
 ghost use Rattle.session_clients.specs.Clients.{conns_in, phase_in};
-ghost use Rattle.session_model.specs.Moves.{History, all_acts};
+ghost use Rattle.session_model.specs.Moves.{History, all_acts, waits_for};
 ghost use Rattle.session_model.specs.Phases.{is_bound as is_bound_phase};
 ghost use Rattle.session_model.specs.Rules.{Takes, opened, taken};
 ghost use Rattle.session_state.specs.Session.{reading_in};
@@ -39,15 +39,20 @@ impl Model for Manager {
 
 impl Manager {
     /// Opens a book: a run begins, with the next epoch. The acts write the book anew, start its
-    /// pending commands and drop them from it, and start the clients of the last run again.
-    pub fn begin(alloc: Global, book: Book) -> Result<(Manager, Acts), NoMemory>
+    /// pending commands and drop them from it, and start the clients of the last run again. A
+    /// client that is waited for may be silent for `patience` milliseconds; 0 is for ever.
+    pub fn begin(
+        alloc: Global,
+        book: Book,
+        patience: u64,
+    ) -> Result<(Manager, Acts), NoMemory>
         requires rules { KeepsRules book }
         requires epoch { book.epoch < 4294967295 }
-        ensures stands { IfOk result (λ begun. StandsFor begun.0 (opened book)) }
-        ensures acts { IfOk result (λ begun. begun.1 ≡ all_acts (opened book)) }
+        ensures stands { IfOk result (λ begun. StandsFor begun.0 (opened (waits_for patience book))) }
+        ensures acts { IfOk result (λ begun. begun.1 ≡ all_acts (opened (waits_for patience book))) }
         ensures fit { IfOk result (λ begun. AreFit begun.1) }
     {
-        let mut core = Core::open(alloc, book)?;
+        let mut core = Core::open(alloc, book, patience)?;
         core.begin_run()?;
         let acts = core.hand_over();
         let manager = Manager {

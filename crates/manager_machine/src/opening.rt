@@ -1,6 +1,7 @@
 ghost use Rattle.std.specs.Prelude.{◌≡◌, ◌+◌, ◌<◌, IfOk, OnOk};
 ghost use Rattle.checkpoint_records.specs.Rules.{ids_of};
 ghost use Rattle.session_model.specs.Books.{opening_moves, raised as as_raised};
+ghost use Rattle.session_model.specs.Moves.{waits_for};
 ghost use Rattle.session_state.specs.Session.{moved_all, session_of};
 
 use crate::inner::Core;
@@ -37,8 +38,8 @@ fn raised(book: &Book) -> Result<Book, NoMemory>
 
 impl Core {
     /// Nobody is there yet, and this book was opened.
-    pub(crate) fn open(alloc: Global, book: Book) -> Result<Core, NoMemory>
-        ensures { IfOk result (λ core. core ≡ session_of book) }
+    pub(crate) fn open(alloc: Global, book: Book, patience: u64) -> Result<Core, NoMemory>
+        ensures { IfOk result (λ core. core ≡ session_of (waits_for patience book)) }
     {
         let ledger = Ledger::new(alloc, book.pending.copy()?);
         let expected = ids_in(alloc, book.entries.as_slice())?;
@@ -54,6 +55,7 @@ impl Core {
             expected,
             counts: Vec::new(alloc),
             is_ending: false,
+            patience,
             marks: Marks {
                 begun: 0,
                 ended: 0,

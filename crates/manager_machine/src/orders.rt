@@ -1,7 +1,7 @@
 ghost use Rattle.std.specs.Prelude.{◌≡◌, ◌∷◌, [], List, Some, codes, cond, filter, not, ℕ, IfOk};
 ghost use Rattle.sm_world.specs.declared.events.Order.TheVariants.{Cancel as ToCancel, DropConn as ToDrop};
 ghost use Rattle.session_answers.specs.Answers.{doing_text};
-ghost use Rattle.session_model.specs.declared.events.SessionEvent.TheVariants.{Joined as HasJoined, Left as HasLeft, Operator as HasOrdered};
+ghost use Rattle.session_model.specs.declared.events.SessionEvent.TheVariants.{Joined as HasJoined, Left as HasLeft, Operator as HasOrdered, Tick as HasTicked};
 ghost use Rattle.session_model.specs.Books.{command_anyway as command_at_all, standing as standing_of};
 ghost use Rattle.session_model.specs.Moves.{Printed};
 ghost use Rattle.session_model.specs.Replies as of;
@@ -156,6 +156,14 @@ impl Core {
             Order::Forget(id) => self.reply_to_forget(id),
             Order::Status => self.reply_to_status(),
         }
+    }
+
+    /// The answer to the passing of so many milliseconds.
+    pub(crate) fn reply_to_tick(&self, milliseconds: u64) -> Result<Reply, NoMemory>
+        ensures { IfOk result (λ reply. (s : Session) → moves_of s reply ≡ of.reply (reading_in self.now) (HasTicked milliseconds)) }
+    {
+        let late = self.clients.overdue(self.patience, milliseconds)?;
+        Ok(Reply::ShutEach(self.departures(late.as_slice())?))
     }
 
     /// The answer to a connection that is gone.

@@ -1,17 +1,18 @@
 ghost use Rattle.std.specs.Prelude.{◌≡◌, ◌∷◌, [], codes, OnOk};
-ghost use Rattle.session_model.specs.declared.events.SessionEvent.TheVariants.{Joined as HasJoined, Left as HasLeft, Operator as HasOrdered, Said as HasSaid};
+ghost use Rattle.session_model.specs.declared.events.SessionEvent.TheVariants.{Joined as HasJoined, Left as HasLeft, Operator as HasOrdered, Said as HasSaid, Tick as HasTicked};
 ghost use Rattle.session_model.specs.Books.{with_entries};
 ghost use Rattle.session_model.specs.Moves.{Blamed, Outside, Printed, Unset};
 ghost use Rattle.session_model.specs.Replies.{reply as answer_to, resigned};
 ghost use Rattle.session_state.specs.Session.{moved, moved_all, reading_in};
-ghost use Rattle.manager_machine.specs.Answers.{again_moves, call_off_moves, forget_moves, moves_of, shut_moves};
+ghost use Rattle.manager_machine.specs.Answers.{again_moves, call_off_moves, departures_moves, forget_moves, moves_of, shut_moves};
 ghost use Rattle.manager_machine.specs.Order.{InOrder};
 
 use crate::inner::Core;
-use crate::replies::{Again, Forgetting, Reply};
+use crate::replies::{Again, Departure, Forgetting, Reply};
 use ice_values::ErrorBody;
 use session_model::{Reason, SessionEvent};
-use sm_world::{Command, Conn, ConnList, NoMemory, Octets, Order};
+use sm_world::{Command, Conn, ConnList, ListOf, NoMemory, Octets, Order};
+use std::collections::VecDeque;
 use xsmp_messages::XsmpMessage;
 
 impl Core {
@@ -31,6 +32,17 @@ impl Core {
     {
         self.close(conn)?;
         self.start_departed(again)?;
+        Ok(())
+    }
+
+    /// Each of these connections is shut, and its client is started again, where it has to be.
+    fn shut_each(&mut self, departures: ListOf<Departure>) -> Result<(), NoMemory>
+        ensures { OnOk result (self.new ≡ moved_all (departures_moves departures) self.old) }
+    {
+        let mut left = VecDeque::from(departures.into_vec());
+        while let Some(departure) = left.pop_front() {
+            self.shut(departure.conn, departure.again)?;
+        }
         Ok(())
     }
 
@@ -114,6 +126,7 @@ impl Core {
             }
             Reply::CallOff(conns) => self.call_off_for(&conns),
             Reply::Shut(conn, again) => self.shut(conn, again),
+            Reply::ShutEach(departures) => self.shut_each(departures),
             Reply::StartAgain(again) => self.start_departed(again),
             Reply::Print(text) => self.print(text),
             Reply::PrintAndCallOff(conns) => self.print_and_call_off(&conns),
@@ -169,6 +182,16 @@ impl Core {
         Ok(())
     }
 
+    /// So many milliseconds have passed.
+    fn answer_tick(&mut self, milliseconds: u64) -> Result<(), NoMemory>
+        ensures { OnOk result (self.new ≡ moved_all (Outside (HasTicked milliseconds) ∷ answer_to (reading_in self.old) (HasTicked milliseconds)) self.old) }
+    {
+        let reply = self.reply_to_tick(milliseconds)?;
+        self.tick(milliseconds);
+        self.perform(reply)?;
+        Ok(())
+    }
+
     /// Hears an event, and answers it. What settles then is another call's.
     pub(crate) fn answer(&mut self, event: SessionEvent) -> Result<(), NoMemory>
         requires { InOrder self.old }
@@ -182,6 +205,7 @@ impl Core {
             }
             SessionEvent::Left(conn) => self.answer_leaving(conn),
             SessionEvent::Operator(order) => self.answer_order(&order),
+            SessionEvent::Tick(milliseconds) => self.answer_tick(milliseconds),
         }
     }
 }

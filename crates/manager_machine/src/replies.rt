@@ -1,6 +1,6 @@
 use checkpoint_records::EntryList;
 use ice_values::{Array8, ErrorBody, PropertyList};
-use sm_world::{Command, CommandList, Conn, ConnList, Octets};
+use sm_world::{Command, CommandList, Conn, ConnList, ListOf, Octets};
 
 /// A client that is started again at once, as it departs.
 #[derive(Drop)]
@@ -9,6 +9,14 @@ pub(crate) struct Again {
     pub(crate) id: Array8,
     /// Its RestartCommand.
     pub(crate) command: Command,
+}
+
+/// A connection that is shut.
+#[derive(Drop)]
+pub(crate) struct Departure {
+    pub(crate) conn: Conn,
+    /// Its client, where it has to be started again.
+    pub(crate) again: Option<Again>,
 }
 
 /// What goes with a client that is forgotten.
@@ -39,6 +47,8 @@ pub(crate) enum Reply {
     CallOff(ConnList),
     /// A connection is shut, and its client is started again, where it has to be.
     Shut(Conn, Option<Again>),
+    /// Each of these connections is shut, and its client is started again, where it has to be.
+    ShutEach(ListOf<Departure>),
     /// The client that left is started again, where it has to be.
     StartAgain(Option<Again>),
     /// A line is printed.

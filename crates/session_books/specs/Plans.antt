@@ -11,7 +11,7 @@ seen held book expected = record {
   rounds = record { running = None; waits = [] };
   token = record { waiting = []; is_held = false };
   store = record { book = book; strays = [] };
-  run = record { given = 0; expected = expected; respawns = λ id. 0; is_ending = false };
+  run = record { given = 0; expected = expected; respawns = λ id. 0; is_ending = false; patience = 0 };
 }
 
 -- where nothing counts but whose clients are still expected

@@ -37,6 +37,9 @@ table_in c rows = part_in [] (λ k. k.table) c rows
 abbrev pub saved_in : ℕ → List Client → Option (List Property)
 saved_in c rows = part_in None (λ k. k.saved) c rows
 
+abbrev pub quiet_in : ℕ → List Client → ℕ
+quiet_in c rows = part_in 0 (λ k. k.quiet) c rows
+
 abbrev pub conns_in : List Client → List ℕ
 conns_in rows = map (λ k. k.conn) rows
 
@@ -47,6 +50,7 @@ clients_in held = record {
   id = λ c. id_in c held.rows;
   table = λ c. table_in c held.rows;
   saved = λ c. saved_in c held.rows;
+  quiet = λ c. quiet_in c held.rows;
   live = conns_in held.rows;
   registered = held.registered;
 }
@@ -55,7 +59,7 @@ clients_in held = record {
 
 -- a connection that has just joined
 abbrev pub no_client : ℕ → Client
-no_client c = record { conn = c; phase = None; id = None; table = []; saved = None }
+no_client c = record { conn = c; phase = None; id = None; table = []; saved = None; quiet = 0 }
 
 -- the row of a connection after a move, where `first` gives the table with which an ID begins and these dialogs are allowed
 abbrev pub client_after : Move → (List ℕ → List Property) → (Dialog → Bool) → Client → Client
@@ -65,6 +69,7 @@ client_after m first allowed k = record {
   id = of.id_after k.conn m k.id;
   table = of.table_after k.conn m first (λ d. k.phase) k.table;
   saved = of.saved_after k.conn m (λ d. k.phase) (λ d. k.table) k.saved;
+  quiet = of.quiet_after k.conn m k.phase k.quiet;
 }
 
 abbrev pub without_row : ℕ → List Client → List Client

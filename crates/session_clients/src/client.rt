@@ -1,5 +1,5 @@
 ghost use Rattle.std.specs.Prelude.{◌≡◌, false, IfOk, OnOk};
-ghost use Rattle.session_model.specs.declared.events.SessionEvent.TheVariants.{Ready};
+ghost use Rattle.session_model.specs.declared.events.SessionEvent.TheVariants.{Ready, Tick};
 ghost use Rattle.session_model.specs.Moves.{Gave, Outside, Unset};
 ghost use Rattle.session_model.specs.Phases.{may_interact};
 ghost use Rattle.session_model.specs.Readings as of;
@@ -31,6 +31,9 @@ pub struct Client {
     /// What it said of itself as its last save was a success (the snapshot). There is none before
     /// that, from each SaveYourself on, and after its round was cancelled.
     pub saved: Option<PropertyTable>,
+    /// For how many milliseconds it was neither sent a message nor said one other than an Error; at
+    /// most the largest number. The time counts only where XSMP has begun.
+    pub quiet: u64,
 }
 
 impl Client {
@@ -44,6 +47,7 @@ impl Client {
             id: None,
             table: PropertyTable::new(alloc)?,
             saved: None,
+            quiet: 0,
         })
     }
 
@@ -62,6 +66,16 @@ impl Client {
     {
         if conn == self.conn {
             self.phase = None;
+            self.quiet = 0;
+        }
+    }
+
+    /// So many milliseconds have passed.
+    pub(crate) fn tick(&mut self, milliseconds: u64)
+        ensures { self.new ≡ client_by (Outside (Tick milliseconds)) self.old }
+    {
+        if self.phase.is_some() {
+            self.quiet = self.quiet.saturating_add(milliseconds);
         }
     }
 
@@ -78,6 +92,7 @@ impl Client {
             self.phase = registered(self.phase);
             self.id = Some(id.copy()?);
             self.table = table.copy()?;
+            self.quiet = 0;
         }
         Ok(())
     }
@@ -90,6 +105,7 @@ impl Client {
         if conn == self.conn {
             self.phase = given(self.phase, message);
             self.saved = kept(self.saved.take(), message);
+            self.quiet = 0;
         }
     }
 
@@ -106,6 +122,7 @@ impl Client {
             self.take_snapshot(message)?;
             self.change_table(message)?;
             self.phase = said(self.phase, message, wanted);
+            self.quiet = still_quiet(self.quiet, message);
         }
         Ok(())
     }
@@ -147,6 +164,16 @@ fn kept(saved: Option<PropertyTable>, message: &XsmpMessage) -> Option<PropertyT
     match message {
         XsmpMessage::SaveYourself { .. } | XsmpMessage::ShutdownCancelled => None,
         _ => saved,
+    }
+}
+
+/// For how long a client has been quiet once it has said this: an Error is no sign of life.
+fn still_quiet(quiet: u64, message: &XsmpMessage) -> u64
+    ensures { result ≡ of.quiet_said message.now quiet }
+{
+    match message {
+        XsmpMessage::Error { .. } => quiet,
+        _ => 0,
     }
 }
 

@@ -5,22 +5,22 @@ ghost use Rattle.xsmp_messages.specs.declared.message.XsmpMessage.TheVariants.{R
 ghost use Rattle.xsmp_properties.specs.Tables.{set_all};
 ghost use Rattle.interact_queue.specs.Queue.{is_in};
 ghost use Rattle.discard_ledger.specs.Discards.{discard_of};
-ghost use Rattle.session_model.specs.declared.events.SessionEvent.TheVariants.{Joined, Left, Ready, Said};
+ghost use Rattle.session_model.specs.declared.events.SessionEvent.TheVariants.{Joined, Left, Ready, Said, Tick};
 ghost use Rattle.session_model.specs.Moves.{Closed, Gave, Outside, Unset};
 ghost use Rattle.session_model.specs.Phases.{is_owing, may_interact};
 ghost use Rattle.session_model.specs.Tables.{is_full};
 ghost use Rattle.session_model.specs.Reading.{Reading, client_of};
 ghost use Rattle.session_model.specs.Books.{standing};
-ghost use Rattle.session_model.specs.Replies.{known_ids};
+ghost use Rattle.session_model.specs.Replies.{is_overdue, known_ids};
 ghost use Rattle.session_clients.specs.Clients.{clients_in, conns_in, held_after, held_by, id_in, is_reply, phase_in, saved_in, table_in};
 
 use crate::Client;
 use crate::rows::{
     give_each, has_row, hear_each, id_in, phase_in, ready_each, register_each, saved_in, table_in,
-    unset_each,
+    tick_each, unset_each,
 };
 use crate::summaries::{
-    client_in, conns_beside, count_new_ids, discard_in, discards_in, is_any_owing,
+    client_in, conns_beside, count_new_ids, discard_in, discards_in, is_any_owing, late_among,
 };
 use crate::tables::would_be_full;
 use checkpoint_records::Book;
@@ -156,6 +156,15 @@ impl Clients {
         discard_in(*self.rows.allocator(), &self.rows, conn)
     }
 
+    /// The registered connections that are overdue once these milliseconds have passed, in the order
+    /// in which they registered. This takes no memory where there is none.
+    pub fn overdue(&self, patience: u64, milliseconds: u64) -> Result<ConnList, NoMemory>
+        ensures { IfOk result (λ conns. (r : Reading) → r.clients ≡ clients_in self.now → r.run.patience ≡ patience → conns ≡ filter (is_overdue r milliseconds) r.clients.registered) }
+    {
+        let alloc = *self.rows.allocator();
+        late_among(alloc, &self.rows, &self.registered, patience, milliseconds)
+    }
+
     /// The live connections that aren't registered, in the order in which they joined.
     pub fn unregistered(&self) -> Result<ConnList, NoMemory>
         ensures { IfOk result (λ conns. conns ≡ filter (λ c. not (is_in c self.now.registered)) (conns_in self.now.rows)) }
@@ -188,6 +197,13 @@ impl Clients {
         ensures { self.new ≡ held_by (Outside (Ready conn)) self.old }
     {
         ready_each(&mut self.rows, conn);
+    }
+
+    /// So many milliseconds have passed. This takes no memory.
+    pub fn tick(&mut self, milliseconds: u64)
+        ensures { self.new ≡ held_by (Outside (Tick milliseconds)) self.old }
+    {
+        tick_each(&mut self.rows, milliseconds);
     }
 
     /// A connection is gone, or was shut. This takes no memory.

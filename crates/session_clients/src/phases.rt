@@ -1,5 +1,6 @@
 ghost use Rattle.std.specs.Prelude.{◌≡◌};
 ghost use Rattle.session_model.specs.Phases as of;
+ghost use Rattle.session_model.specs.Replies.{is_late};
 
 use round_agreement::Wanted;
 use session_model::Phase;
@@ -46,6 +47,24 @@ pub fn is_first_saving(phase: Option<Phase>) -> bool
     ensures { result ≡ of.is_first_saving phase }
 {
     matches!(phase, Some(Phase::Saving))
+}
+
+/// Whether a client is waited for: it saves, or owes an answer.
+fn is_awaited(phase: Option<Phase>) -> bool
+    ensures { result ≡ of.is_awaited phase }
+{
+    matches!(
+        phase,
+        Some(Phase::Saving | Phase::SavingTwo | Phase::Owing)
+    )
+}
+
+/// Whether a client of this phase, which has been quiet for so long, is overdue once these
+/// milliseconds have passed. All three are in milliseconds; with a patience of 0 nobody is.
+pub(crate) fn is_late(patience: u64, milliseconds: u64, phase: Option<Phase>, quiet: u64) -> bool
+    ensures { result ≡ is_late patience milliseconds phase quiet }
+{
+    0 < patience && is_awaited(phase) && patience <= quiet.saturating_add(milliseconds)
 }
 
 /// Whether a client has the token.

@@ -1,10 +1,10 @@
 ghost use Rattle.std.specs.Prelude.{◌≡◌, [], false, is_some, map, option_copied, unwrap_or, OnOk};
-ghost use Rattle.session_model.specs.declared.events.SessionEvent.TheVariants.{Ready};
+ghost use Rattle.session_model.specs.declared.events.SessionEvent.TheVariants.{Ready, Tick};
 ghost use Rattle.interact_queue.specs.Queue.{is_in};
 ghost use Rattle.session_model.specs.Moves.{Gave, Outside, Unset};
 ghost use Rattle.session_model.specs.Phases.{may_interact};
 ghost use Rattle.session_model.specs.Reading.{has_that_id};
-ghost use Rattle.session_clients.specs.Clients.{conns_in, id_in, is_reply, phase_in, saved_in, table_in};
+ghost use Rattle.session_clients.specs.Clients.{conns_in, id_in, is_reply, phase_in, quiet_in, saved_in, table_in};
 ghost use Rattle.session_clients.specs.Rows.{client_by, client_heard, client_registered, row_in};
 
 use crate::Client;
@@ -39,6 +39,16 @@ pub(crate) fn id_in(rows: &[Client], conn: Conn) -> Option<&Array8>
     ensures { option_copied result ≡ id_in conn rows.now }
 {
     row_in(rows, conn)?.id.as_ref()
+}
+
+/// For how many milliseconds a connection has been quiet; 0 where it has no row.
+pub(crate) fn quiet_in(rows: &[Client], conn: Conn) -> u64
+    ensures { result ≡ quiet_in conn rows.now }
+{
+    match row_in(rows, conn) {
+        Some(row) => row.quiet,
+        None => 0,
+    }
 }
 
 pub(crate) fn table_in(rows: &[Client], conn: Conn) -> Option<&PropertyTable>
@@ -76,6 +86,15 @@ pub(crate) fn unset_each(rows: &mut [Client], conn: Conn)
 {
     for row in rows {
         row.unset(conn);
+    }
+}
+
+/// So many milliseconds have passed.
+pub(crate) fn tick_each(rows: &mut [Client], milliseconds: u64)
+    ensures { rows.new ≡ map (client_by (Outside (Tick milliseconds))) rows.old }
+{
+    for row in rows {
+        row.tick(milliseconds);
     }
 }
 

@@ -5,12 +5,13 @@ ghost use Rattle.discard_ledger.specs.Discards.{discard_of};
 ghost use Rattle.session_model.specs.Phases.{is_owing};
 ghost use Rattle.session_model.specs.Tables.{is_recorded};
 ghost use Rattle.session_model.specs.Reading.{has_that_id};
-ghost use Rattle.session_clients.specs.Clients.{conns_in, id_in, phase_in, table_in};
+ghost use Rattle.session_clients.specs.Clients.{conns_in, id_in, phase_in, quiet_in, table_in};
+ghost use Rattle.session_model.specs.Replies.{is_late};
 
 use crate::Client;
 use crate::entries::is_recorded;
-use crate::phases::is_owing;
-use crate::rows::{has_id, id_in, phase_in, table_in};
+use crate::phases::{is_late, is_owing};
+use crate::rows::{has_id, id_in, phase_in, quiet_in, table_in};
 use checkpoint_records::Book;
 use sm_world::{Command, CommandList, Conn, ConnList, NoMemory};
 use std::alloc::Global;
@@ -75,6 +76,30 @@ pub(crate) fn conns_beside(
         }
     }
     Ok(others)
+}
+
+/// Those of these connections that are overdue once these milliseconds have passed, in their order.
+pub(crate) fn late_among(
+    alloc: Global,
+    rows: &[Client],
+    conns: &[Conn],
+    patience: u64,
+    milliseconds: u64,
+) -> Result<ConnList, NoMemory>
+    ensures { IfOk result (λ late. late ≡ filter (λ c. is_late patience milliseconds (phase_in c rows.now) (quiet_in c rows.now)) conns.now) }
+{
+    let mut late = ConnList::new(alloc);
+    for conn in conns {
+        if is_late(
+            patience,
+            milliseconds,
+            phase_in(rows, *conn),
+            quiet_in(rows, *conn),
+        ) {
+            late.push(*conn)?;
+        }
+    }
+    Ok(late)
 }
 
 /// Whether one of these connections owes an answer to a SaveYourself.

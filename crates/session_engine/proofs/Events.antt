@@ -7,10 +7,10 @@ use Rattle.std.proofs.lemmas.Grind.{flat_map-append}
 use Rattle.std.specs.List.{flat_map}
 use Rattle.ice_messages.specs.declared.message.IceMessage.TheVariants.{ByteOrder}
 use Rattle.ice_values.specs.declared.numbers.Endian.TheVariants.{Lsb}
-use Rattle.sm_world.specs.declared.events.Event.TheVariants.{Joined, Gone, Operator}
+use Rattle.sm_world.specs.declared.events.Event.TheVariants.{Joined, Gone, Operator, Tick}
 use Rattle.sm_world.specs.declared.events.Order.{Order}
 use Rattle.session_model.specs.Rules.{Takes as TakesEvent}
-use Rattle.session_model.specs.declared.events.SessionEvent.TheVariants.{Joined as HasJoined, Left, Operator as Ordered}
+use Rattle.session_model.specs.declared.events.SessionEvent.TheVariants.{Joined as HasJoined, Left, Operator as Ordered, Tick as Ticked}
 use Rattle.session_state.specs.Session.{reading_in}
 use Rattle.session_engine.specs.Cutting.{IsNew}
 use Rattle.session_engine.specs.Machine.{Connection, Machine, Step, Does, act_in, acts_of, connection_of, joining, greeting, greeted, gone_for, join_for, parted, stays, told, step}
@@ -22,7 +22,7 @@ use Rattle.session_engine.specs.declared.connection.Connection.{Connection as Ke
 use Rattle.session_engine.specs.declared.engine.Engine.{Engine}
 use Rattle.session_engine.specs.declared.messages.Message.TheVariants.{Ice}
 use Rattle.session_engine.proofs.Answering.{takes-joined, takes-left}
-use Rattle.session_engine.proofs.Following.{agrees-joined, agrees-left, agrees-ordered}
+use Rattle.session_engine.proofs.Following.{agrees-joined, agrees-left, agrees-ordered, agrees-ticked}
 use Rattle.session_engine.proofs.Showing.{acts_noted, joined_shows, live_some, others_shown, tell_gives}
 
 -- acts behind none
@@ -55,6 +55,13 @@ pub gives-order : (order : Order) (m : Machine) (before middle after : Engine) �
 gives-order order m before middle after shows cookie live manager none tells =
     let same : Shows all_cut middle m = same-shown m before middle shows cookie live manager in
     gives-all middle.acts (told m (Ordered order)) after none (tell_gives (Ordered order) all_cut m middle after tells same.live same.cookie same.stands (agrees-ordered order m.connections m.session shows.agrees))
+
+-- ---- time passes
+
+pub gives-tick : (milliseconds : ℕ) (m : Machine) (before middle after : Engine) → Shows all_cut before m → middle.cookie ≡ before.cookie → middle.live ≡ before.live → middle.manager ≡ before.manager → middle.acts ≡ [] → Tells (Ticked milliseconds) middle after → Gives (step m (Tick milliseconds)) after
+gives-tick milliseconds m before middle after shows cookie live manager none tells =
+    let same : Shows all_cut middle m = same-shown m before middle shows cookie live manager in
+    gives-all middle.acts (told m (Ticked milliseconds)) after none (tell_gives (Ticked milliseconds) all_cut m middle after tells same.live same.cookie same.stands (agrees-ticked milliseconds m.connections m.session shows.agrees))
 
 -- ---- a connection is gone
 

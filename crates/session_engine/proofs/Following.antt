@@ -15,7 +15,7 @@ use Rattle.session_model.specs.declared.phase.Phase.{Phase}
 use Rattle.session_model.specs.declared.phase.Phase.TheVariants.{Asked, AskedTwo, Done, Idle, Interacting, InteractingTwo, Owing, Saving, SavingTwo, Unregistered, WantsTwo}
 use Rattle.session_model.specs.declared.events.Act.{Act as SessionAct}
 use Rattle.session_model.specs.declared.events.SessionEvent.{SessionEvent}
-use Rattle.session_model.specs.declared.events.SessionEvent.TheVariants.{Joined as HasJoined, Ready, Said, Left, Operator}
+use Rattle.session_model.specs.declared.events.SessionEvent.TheVariants.{Joined as HasJoined, Ready, Said, Left, Operator, Tick}
 use Rattle.session_model.specs.Moves.{Move, Outside, Gave, Blamed, Unset, Closed, Began, Over, Cancelled, Agreed, Tried, Committed, Printed, Finished, History, ◌▷◌, acts_of, all_acts}
 use Rattle.session_model.specs.Phases.{phase_given, phase_said, registered_phase, begun_phase, held_phase, second_begun_phase, completed_phase, cancelled_phase, dying_phase, asked_phase, talked_phase, saved_phase, second_phase, ready_phase, may_interact}
 use Rattle.session_model.specs.Readings as of
@@ -214,6 +214,9 @@ agrees-said c m sequence frame ks h agrees = record {
 
 pub agrees-ordered : (order : _) (ks : List Connection) (h : History) → Agrees ks h → Agrees ks (Outside (Operator order) ▷ h)
 agrees-ordered order ks h agrees = record { numbers = agrees.numbers; phases = agrees.phases }
+
+pub agrees-ticked : (milliseconds : ℕ) (ks : List Connection) (h : History) → Agrees ks h → Agrees ks (Outside (Tick milliseconds) ▷ h)
+agrees-ticked milliseconds ks h agrees = record { numbers = agrees.numbers; phases = agrees.phases }
 
 some_speaking : (k : Option Connection) (setup : AnySetup) → is_some k ≡ true → speaks_xsmp setup ≡ true → is_speaking (option_map (counted setup) k) ≡ true
 some_speaking None setup live speaks = absurd cc

@@ -8,7 +8,8 @@ use Rattle.sm_world.specs.declared.events.Event.{Event}
 use Rattle.sm_world.specs.declared.events.Event.TheVariants.{Joined, Piece, Gone, Operator, Tick, End}
 use Rattle.checkpoint_records.specs.declared.records.Book.{Book}
 use Rattle.ice_cookie.specs.declared.cookies.Cookie.{Cookie}
-use Rattle.session_model.specs.Moves.{History, Move, ◌▷◌, acts_of as acts_by, all_acts}
+use Rattle.session_engine.specs.declared.config.Config.{Config}
+use Rattle.session_model.specs.Moves.{History, Move, ◌▷◌, acts_of as acts_by, all_acts, waits_for}
 use Rattle.session_model.specs.Phases.{is_bound}
 use Rattle.session_model.specs.Reading.{reading}
 use Rattle.session_model.specs.Readings as of
@@ -17,7 +18,7 @@ use Rattle.session_model.specs.Rules.{taken}
 use Rattle.session_model.specs.declared.events.Act.{Act as SessionAct}
 use Rattle.session_model.specs.declared.events.Act.TheVariants.{Shut as ShutsConn, Unset}
 use Rattle.session_model.specs.declared.events.SessionEvent.{SessionEvent}
-use Rattle.session_model.specs.declared.events.SessionEvent.TheVariants.{Joined as HasJoined, Ready, Said, Left, Operator as Ordered}
+use Rattle.session_model.specs.declared.events.SessionEvent.TheVariants.{Joined as HasJoined, Ready, Said, Left, Operator as Ordered, Tick as Ticked}
 use Rattle.session_engine.specs.Acts.{says}
 use Rattle.session_engine.specs.Answers.{outcome, sequence_after}
 use Rattle.session_engine.specs.Machine.{Connection, Machine, start, connection_of, without, joined, joining, fed_with, counted, unset_on, connections_after, connections_through, acts_since, told, live_limit, noted, fed_on, asked, answered, departs, parted, part_for, part_taken, parts_taken, piece_for, gone_for, join_for, step, after_all}
@@ -32,7 +33,7 @@ use Rattle.session_engine.specs.declared.answers.Outcome.{Outcome}
 use Rattle.session_engine.proofs.Opening.{opened_live, opened_phase}
 use Rattle.session_engine.proofs.Answering.{agrees-for}
 use Rattle.session_engine.proofs.Connections.{same, length-changed}
-use Rattle.session_engine.proofs.Following.{agrees-changed, agrees-joined, agrees-left, agrees-ordered, agrees-said, agrees-told, since-is}
+use Rattle.session_engine.proofs.Following.{agrees-changed, agrees-joined, agrees-left, agrees-ordered, agrees-said, agrees-told, since-is, agrees-ticked}
 use Rattle.session_model.proofs.Inner.{IsInner, kept-replied}
 use Rattle.session_engine.proofs.Outcomes.{fits-part}
 
@@ -79,7 +80,7 @@ agrees-step m (Joined c) agrees = agrees-join m c (connection_of c m.connections
 agrees-step m (Piece c bytes) agrees = agrees-piece m c bytes (connection_of c m.connections) agrees
 agrees-step m (Gone c) agrees = agrees-gone m c (connection_of c m.connections) agrees
 agrees-step m (Operator order) agrees = agrees-told (Ordered order) m.connections m.session (agrees-ordered order m.connections m.session agrees)
-agrees-step m (Tick milliseconds) agrees = agrees
+agrees-step m (Tick milliseconds) agrees = agrees-told (Ticked milliseconds) m.connections m.session (agrees-ticked milliseconds m.connections m.session agrees)
 agrees-step m End agrees = agrees
 
 -- ---- how many are live
@@ -178,15 +179,15 @@ few-step m (Joined c) agrees few = few-join m c (connection_of c m.connections) 
 few-step m (Piece c bytes) agrees few = omega (arith, few, fewer-piece m c bytes (connection_of c m.connections))
 few-step m (Gone c) agrees few = omega (arith, few, fewer-gone m c (connection_of c m.connections))
 few-step m (Operator order) agrees few = omega (arith, few, fewer-told m (Ordered order))
-few-step m (Tick milliseconds) agrees few = few
+few-step m (Tick milliseconds) agrees few = omega (arith, few, fewer-told m (Ticked milliseconds))
 few-step m End agrees few = few
 
 few-all : (m : Machine) (events : List Event) → Agrees m.connections m.session → AreFew m.connections → AreFew (after_all m events).connections
 few-all m [] agrees few = few
 few-all m (event ∷ events) agrees few = few-all (step m event).next events (agrees-step m event agrees) (few-step m event agrees few)
 
-pub agrees-start : (cookie : Cookie) (book : Book) → Agrees (start cookie book).connections (start cookie book).session
-agrees-start cookie book = record { numbers = sym (opened_live book); phases = λ q. ap is_some (opened_phase book q) }
+pub agrees-start : (config : Config) (book : Book) → Agrees (start config book).connections (start config book).session
+agrees-start config book = record { numbers = sym (opened_live (waits_for config.patience book)); phases = λ q. ap is_some (opened_phase (waits_for config.patience book) q) }
 
-pub always_few : (cookie : Cookie) (book : Book) (events : List Event) → length (after_all (start cookie book) events).connections ≤ live_limit
-always_few cookie book events = few-all (start cookie book) events (agrees-start cookie book) (omega arith)
+pub always_few : (config : Config) (book : Book) (events : List Event) → length (after_all (start config book) events).connections ≤ live_limit
+always_few config book events = few-all (start config book) events (agrees-start config book) (omega arith)

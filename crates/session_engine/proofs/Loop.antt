@@ -18,7 +18,7 @@ use Rattle.checkpoint_slots.specs.declared.fault.StoreFault.{StoreFault}
 use Rattle.checkpoint_slots.specs.declared.fault.StoreFault.TheVariants.{WrongSize as HasWrongSize, Damaged as IsDamaged, DiskFault as FailsOnDisk, Worn as IsWorn, NoMemory as LacksMemory}
 use Rattle.checkpoint_slots.specs.declared.turn.Current.{Current}
 use Rattle.checkpoint_slots.proofs.Once.{only-file, recovers-once, settled-stands}
-use Rattle.ice_cookie.specs.declared.cookies.Cookie.{Cookie}
+use Rattle.session_engine.specs.declared.config.Config.{Config}
 use Rattle.session_model.specs.Readings as of
 use Rattle.session_model.specs.declared.marks.Marks.{Marks}
 use Rattle.session_engine.specs.Acts.{deeds_in, has_finish}
@@ -49,17 +49,17 @@ use Rattle.session_engine.proofs.Sessions.{halt_of_run, ok_is_no_fault, runs_cut
 -- The loop
 
 -- between two events: what the session stands for, and how much was heard
-pub record Holds (cookie : Cookie) (coming left : Option (List Event)) (n : ℕ) (session : Session) (opening : Book) (current : Option Current) (effects : List Effect) : Type 0 where
-  pub stands : StandsFor cookie opening current session effects
+pub record Holds (config : Config) (coming left : Option (List Event)) (n : ℕ) (session : Session) (opening : Book) (current : Option Current) (effects : List Effect) : Type 0 where
+  pub stands : StandsFor config opening current session effects
   pub count : length (heard effects) ≡ n
   pub brought : BroughtSoFar coming left (heard effects)
 
 -- what holds as a turn of the loop begins
-abbrev pub InLoop : Cookie → Outside → Outside → ℕ → Session → Type 0
-InLoop cookie old now n session = Opens old now (Holds cookie old.coming now.coming n session)
+abbrev pub InLoop : Config → Outside → Outside → ℕ → Session → Type 0
+InLoop config old now n session = Opens old now (Holds config old.coming now.coming n session)
 
-pub loop_begins : (cookie : Cookie) (old now : Outside) (session : Session) → now.coming ≡ old.coming → Starts cookie old now (Ok session) → InLoop cookie old now 0 session
-loop_begins cookie old now session same starts = record {
+pub loop_begins : (config : Config) (old now : Outside) (session : Session) → now.coming ≡ old.coming → Starts config old now (Ok session) → InLoop config old now 0 session
+loop_begins config old now session same starts = record {
   book = starts.book;
   current = starts.current;
   recovered = starts.recovered;
@@ -78,13 +78,13 @@ loop_begins cookie old now session same starts = record {
 }
 
 -- the session in memory shows a machine
-pub shown_in : (cookie : Cookie) (old now : Outside) (n : ℕ) (session : Session) → InLoop cookie old now n session → IsShown all_cut session.engine
-shown_in cookie old now n session held = (after_all (start cookie held.book) (heard held.adds.effects), held.adds.holds.stands.shows)
+pub shown_in : (config : Config) (old now : Outside) (n : ℕ) (session : Session) → InLoop config old now n session → IsShown all_cut session.engine
+shown_in config old now n session held = (after_all (start config held.book) (heard held.adds.effects), held.adds.holds.stands.shows)
 
 -- a fault as the store was opened
-pub loop_unopened : (cookie : Cookie) (turns : ℕ) (old new : Outside) (fault : ServeFault) → Starts cookie old new (Err fault) → Serving cookie turns old new (Err fault)
-loop_unopened cookie turns old new fault (inl rests) = inl rests
-loop_unopened cookie turns old new fault (inr opens) = inr (record {
+pub loop_unopened : (config : Config) (turns : ℕ) (old new : Outside) (fault : ServeFault) → Starts config old new (Err fault) → Serving config turns old new (Err fault)
+loop_unopened config turns old new fault (inl rests) = inl rests
+loop_unopened config turns old new fault (inr opens) = inr (record {
   book = opens.book;
   current = opens.current;
   recovered = opens.recovered;
@@ -119,8 +119,8 @@ not_worn WearsIt able e = able
 not_worn WantsMemory able e = cc
 
 -- no more came
-pub loop_over : (cookie : Cookie) (turns n : ℕ) (old now new : Outside) (session : Session) (fault : ServeFault) → n ≤ turns → (fault ≡ Worn → ⊥) → StopsAt fault [] → IsOfRun fault → (fault ≡ Spent → n ≡ turns) → new.told ≡ now.told → new.size ≡ now.size → InLoop cookie old now n session → Serving cookie turns old new (Err fault)
-loop_over cookie turns n old now new session fault in_turns able stops opened at_end quiet sized held = inr (record {
+pub loop_over : (config : Config) (turns n : ℕ) (old now new : Outside) (session : Session) (fault : ServeFault) → n ≤ turns → (fault ≡ Worn → ⊥) → StopsAt fault [] → IsOfRun fault → (fault ≡ Spent → n ≡ turns) → new.told ≡ now.told → new.size ≡ now.size → InLoop config old now n session → Serving config turns old new (Err fault)
+loop_over config turns n old now new session fault in_turns able stops opened at_end quiet sized held = inr (record {
   book = held.book;
   current = held.current;
   recovered = held.recovered;
@@ -131,7 +131,7 @@ loop_over cookie turns n old now new session fault in_turns able stops opened at
     effects = held.adds.effects;
     added = quiet ∙ held.adds.added;
     holds = record {
-      runs = runs_over cookie held.book held.current session fault held.adds.effects able stops opened held.adds.holds.stands;
+      runs = runs_over config held.book held.current session fault held.adds.effects able stops opened held.adds.holds.stands;
       brought = brought_is old.coming now.coming (heard held.adds.effects) held.adds.holds.brought;
       in_turns = omega (arith, held.adds.holds.count);
       spent = λ e. (held.adds.holds.count ∙ at_end (the_fault fault Spent e), held.adds.holds.stands.unfinished);
@@ -139,9 +139,9 @@ loop_over cookie turns n old now new session fault in_turns able stops opened at
   };
 })
 
-pub loop_silent : (cookie : Cookie) (turns n : ℕ) (old now new : Outside) (session : Session) (halt : Halt) → n < turns → IsOfHearing halt → new.told ≡ adds now.told [] → new.size ≡ now.size → InLoop cookie old now n session → Serving cookie turns old new (Err (fault_of halt))
-loop_silent cookie turns n old now new session halt in_turns able quiet sized held =
-    loop_over cookie turns n old now new session (fault_of halt) (omega arith) (not_worn halt able) (none_left halt able) (halt_of_run halt) (λ e. absurd (never_spent halt e)) (quiet ∙ adds-none now.told) sized held
+pub loop_silent : (config : Config) (turns n : ℕ) (old now new : Outside) (session : Session) (halt : Halt) → n < turns → IsOfHearing halt → new.told ≡ adds now.told [] → new.size ≡ now.size → InLoop config old now n session → Serving config turns old new (Err (fault_of halt))
+loop_silent config turns n old now new session halt in_turns able quiet sized held =
+    loop_over config turns n old now new session (fault_of halt) (omega arith) (not_worn halt able) (none_left halt able) (halt_of_run halt) (λ e. absurd (never_spent halt e)) (quiet ∙ adds-none now.told) sized held
 
 -- what was heard, and what its step added
 heard_step : (old now between later : Option (List Effect)) (es ds : List Effect) (event : Event) → now ≡ adds old es → between ≡ adds now (Heard event ∷ []) → later ≡ adds between ds → later ≡ adds old (es ++ Heard event ∷ ds)
@@ -152,13 +152,13 @@ heard_step old now between later es ds event first second third =
 -- what a step was called with and what it promised, in the loop
 abbrev pub Stepping : Outside → Outside → Session → Event → Result Stepped ServeFault → Type 0
 Stepping between later session event answer =
-    (cookie : Cookie) (opening : Book) (current : Option Current) (effects : List Effect) → StandsFor cookie opening current session effects
-    → Added between.told later.told (λ added. (heard added ≡ []) × StepsTo cookie opening current answer (effects ++ Heard event ∷ added))
+    (config : Config) (opening : Book) (current : Option Current) (effects : List Effect) → StandsFor config opening current session effects
+    → Added between.told later.told (λ added. (heard added ≡ []) × StepsTo config opening current answer (effects ++ Heard event ∷ added))
 
-pub loop_goes_on : (cookie : Cookie) (n more : ℕ) (old now between later : Outside) (session next : Session) (event : Event) → more ≡ suc n → InLoop cookie old now n session → between.told ≡ adds now.told (Heard event ∷ []) → TakesNext {E = Halt} now.coming between.coming (Ok event) → later.coming ≡ between.coming → later.size ≡ 16777280 → Stepping between later session event (Ok (Goes next)) → InLoop cookie old later more next
-loop_goes_on cookie n more old now between later session next event is_more held was_heard takes same sized steps =
+pub loop_goes_on : (config : Config) (n more : ℕ) (old now between later : Outside) (session next : Session) (event : Event) → more ≡ suc n → InLoop config old now n session → between.told ≡ adds now.told (Heard event ∷ []) → TakesNext {E = Halt} now.coming between.coming (Ok event) → later.coming ≡ between.coming → later.size ≡ 16777280 → Stepping between later session event (Ok (Goes next)) → InLoop config old later more next
+loop_goes_on config n more old now between later session next event is_more held was_heard takes same sized steps =
     let es = held.adds.effects in
-    let step = steps cookie held.book held.current es held.adds.holds.stands in
+    let step = steps config held.book held.current es held.adds.holds.stands in
     let is_heard = heard-more es step.effects event step.holds.0 in
     record {
       book = held.book;
@@ -178,11 +178,11 @@ loop_goes_on cookie n more old now between later session next event is_more held
       };
     }
 
-pub loop_ends : (cookie : Cookie) (turns n : ℕ) (old now between later : Outside) (session : Session) (event : Event) (stepped : Stepped) (marks : Marks) → stepped ≡ Finished marks → n < turns → InLoop cookie old now n session → between.told ≡ adds now.told (Heard event ∷ []) → TakesNext {E = Halt} now.coming between.coming (Ok event) → later.size ≡ 16777280 → Stepping between later session event (Ok stepped) → Serving cookie turns old later (Ok tt)
-loop_ends cookie turns n old now between later session event stepped marks is in_turns held was_heard takes sized steps =
+pub loop_ends : (config : Config) (turns n : ℕ) (old now between later : Outside) (session : Session) (event : Event) (stepped : Stepped) (marks : Marks) → stepped ≡ Finished marks → n < turns → InLoop config old now n session → between.told ≡ adds now.told (Heard event ∷ []) → TakesNext {E = Halt} now.coming between.coming (Ok event) → later.size ≡ 16777280 → Stepping between later session event (Ok stepped) → Serving config turns old later (Ok tt)
+loop_ends config turns n old now between later session event stepped marks is in_turns held was_heard takes sized steps =
     let es = held.adds.effects in
     let finished : Stepping between later session event (Ok (Finished marks)) = rw is at steps in
-    let step = finished cookie held.book held.current es held.adds.holds.stands in
+    let step = finished config held.book held.current es held.adds.holds.stands in
     let is_heard = heard-more es step.effects event step.holds.0 in
     record {
       book = held.book;
@@ -203,10 +203,10 @@ loop_ends cookie turns n old now between later session event stepped marks is in
       };
     }
 
-pub loop_cut_short : (cookie : Cookie) (turns n : ℕ) (old now between later : Outside) (session : Session) (event : Event) (fault : ServeFault) → n < turns → InLoop cookie old now n session → between.told ≡ adds now.told (Heard event ∷ []) → TakesNext {E = Halt} now.coming between.coming (Ok event) → later.size ≡ 16777280 → Stepping between later session event (Err fault) → Serving cookie turns old later (Err fault)
-loop_cut_short cookie turns n old now between later session event fault in_turns held was_heard takes sized steps =
+pub loop_cut_short : (config : Config) (turns n : ℕ) (old now between later : Outside) (session : Session) (event : Event) (fault : ServeFault) → n < turns → InLoop config old now n session → between.told ≡ adds now.told (Heard event ∷ []) → TakesNext {E = Halt} now.coming between.coming (Ok event) → later.size ≡ 16777280 → Stepping between later session event (Err fault) → Serving config turns old later (Err fault)
+loop_cut_short config turns n old now between later session event fault in_turns held was_heard takes sized steps =
     let es = held.adds.effects in
-    let step = steps cookie held.book held.current es held.adds.holds.stands in
+    let step = steps config held.book held.current es held.adds.holds.stands in
     let is_heard = heard-more es step.effects event step.holds.0 in
     inr (record {
       book = held.book;
@@ -230,45 +230,45 @@ loop_cut_short cookie turns n old now between later session event fault in_turns
 -- One step
 
 pub step_goes : (old new : Outside) (session next : Session) (event : Event) (core : Engine) → ((m : Machine) → Shows all_cut session.engine m → Carried old.told new.told session.store core (step m event) (Ok next.store)) → next.engine ≡ core → ((m : Machine) → Shows all_cut session.engine m → has_finish (acts_of (step m event)) ≡ false) → Stepping old new session event (Ok (Goes next))
-step_goes old new session next event core carried same goes cookie opening current effects stands =
-    let m : Machine = after_all (start cookie opening) (heard effects) in
+step_goes old new session next event core carried same goes config opening current effects stands =
+    let m : Machine = after_all (start config opening) (heard effects) in
     let out = carried m stands.shows in
     record {
       effects = out.acts.effects;
       added = out.acts.added;
       holds = (
         out.acts.holds.out.going.deaf,
-        stands_more cookie opening current session next effects out.acts.effects event stands out.acts.holds (rw same (out.shows refl)) (goes m stands.shows),
+        stands_more config opening current session next effects out.acts.effects event stands out.acts.holds (rw same (out.shows refl)) (goes m stands.shows),
       );
     }
 
 pub step_ends : (old new : Outside) (session : Session) (event : Event) (core : Engine) (next : Stored) (marks : Marks) → marks ≡ core.manager.session.marks → ((m : Machine) → Shows all_cut session.engine m → Carried old.told new.told session.store core (step m event) (Ok next)) → ((m : Machine) → Shows all_cut session.engine m → has_finish (acts_of (step m event)) ≡ true) → Stepping old new session event (Ok (Finished marks))
-step_ends old new session event core next marks is_marks carried ends cookie opening current effects stands =
-    let m : Machine = after_all (start cookie opening) (heard effects) in
+step_ends old new session event core next marks is_marks carried ends config opening current effects stands =
+    let m : Machine = after_all (start config opening) (heard effects) in
     let out = carried m stands.shows in
     let shown : Shows all_cut core (step m event).next = out.shows refl in
-    let after : after_all (start cookie opening) (heard (effects ++ Heard event ∷ out.acts.effects)) ≡ (step m event).next = ap (after_all (start cookie opening)) (heard-more effects out.acts.effects event out.acts.holds.out.going.deaf) ∙ after_all-more (start cookie opening) (heard effects) event in
+    let after : after_all (start config opening) (heard (effects ++ Heard event ∷ out.acts.effects)) ≡ (step m event).next = ap (after_all (start config opening)) (heard-more effects out.acts.effects event out.acts.holds.out.going.deaf) ∙ after_all-more (start config opening) (heard effects) event in
     record {
       effects = out.acts.effects;
       added = out.acts.added;
       holds = (
         out.acts.holds.out.going.deaf,
         (
-          runs_end cookie opening current next session effects out.acts.effects event stands out.acts.holds (ends m stands.shows),
+          runs_end config opening current next session effects out.acts.effects event stands out.acts.holds (ends m stands.shows),
           is_marks ∙ (shown.stands.stands.marks_are ∙ ap (λ (n : Machine). of.marks n.session) (sym after)),
         ),
       );
     }
 
 pub step_cut_short : (old new : Outside) (session : Session) (event : Event) (core : Engine) (halt : Halt) (fault : ServeFault) → fault ≡ fault_of halt → ((m : Machine) → Shows all_cut session.engine m → Carried old.told new.told session.store core (step m event) (Err halt)) → Stepping old new session event (Err fault)
-step_cut_short old new session event core halt fault is_fault carried cookie opening current effects stands =
-    let out = carried (after_all (start cookie opening) (heard effects)) stands.shows in
+step_cut_short old new session event core halt fault is_fault carried config opening current effects stands =
+    let out = carried (after_all (start config opening) (heard effects)) stands.shows in
     rw is_fault (record {
       effects = out.acts.effects;
       added = out.acts.added;
       holds = (
         out.acts.holds.out.going.deaf,
-        record { runs = runs_cut_short cookie opening current session halt effects out.acts.effects event stands out.acts.holds; in_time = never_spent halt },
+        record { runs = runs_cut_short config opening current session halt effects out.acts.effects event stands out.acts.holds; in_time = never_spent halt },
       );
     })
 
@@ -289,8 +289,8 @@ recovered_by old new opening current sized same is_size recovers file settled = 
 as_opened : (store : Stored) (opening : Book) (P : Stored → Type 0) → store.book ≡ opening → P store → P (store_of store.journal opening)
 as_opened store opening P same p = subst (λ (book : Book). P (store_of store.journal book)) same p
 
-pub opens : (cookie : Cookie) (old between new : Outside) (opening : Book) (store : Stored) (session : Session) → store.book ≡ opening → IsRecovered old opening store.journal → new.size ≡ 16777280 → opening.epoch < 4294967295 → KeepsRules opening → between.told ≡ old.told → Added between.told new.told (Performs store (opening_acts opening) (Ok session.store)) → Shows all_cut session.engine (start cookie opening) → Starts cookie old new (Ok session)
-opens cookie old between new opening store session same recovered sized below rules quiet done shows = record {
+pub opens : (config : Config) (old between new : Outside) (opening : Book) (store : Stored) (session : Session) → store.book ≡ opening → IsRecovered old opening store.journal → new.size ≡ 16777280 → opening.epoch < 4294967295 → KeepsRules opening → between.told ≡ old.told → Added between.told new.told (Performs store (opening_acts opening) (Ok session.store)) → Shows all_cut session.engine (start config opening) → Starts config old new (Ok session)
+opens config old between new opening store session same recovered sized below rules quiet done shows = record {
   book = opening;
   current = store.journal;
   recovered = recovered;
@@ -300,12 +300,12 @@ opens cookie old between new opening store session same recovered sized below ru
   adds = record {
     effects = done.effects;
     added = done.added ∙ ap (λ t. adds t done.effects) quiet;
-    holds = (stands_begin cookie opening store.journal session done.effects (as_opened store opening (λ s. Performs s (opening_acts opening) (Ok session.store) done.effects) same done.holds) shows, done.holds.out.going.deaf);
+    holds = (stands_begin config opening store.journal session done.effects (as_opened store opening (λ s. Performs s (opening_acts opening) (Ok session.store) done.effects) same done.holds) shows, done.holds.out.going.deaf);
   };
 }
 
-pub opens_not : (cookie : Cookie) (old between new : Outside) (opening : Book) (store : Stored) (halt : Halt) (fault : ServeFault) → store.book ≡ opening → fault ≡ fault_of halt → IsRecovered old opening store.journal → new.size ≡ 16777280 → opening.epoch < 4294967295 → KeepsRules opening → between.told ≡ old.told → Added between.told new.told (Performs store (opening_acts opening) (Err halt)) → Starts cookie old new (Err fault)
-opens_not cookie old between new opening store halt fault same is_fault recovered sized below rules quiet done = rw is_fault (inr (record {
+pub opens_not : (config : Config) (old between new : Outside) (opening : Book) (store : Stored) (halt : Halt) (fault : ServeFault) → store.book ≡ opening → fault ≡ fault_of halt → IsRecovered old opening store.journal → new.size ≡ 16777280 → opening.epoch < 4294967295 → KeepsRules opening → between.told ≡ old.told → Added between.told new.told (Performs store (opening_acts opening) (Err halt)) → Starts config old new (Err fault)
+opens_not config old between new opening store halt fault same is_fault recovered sized below rules quiet done = rw is_fault (inr (record {
   book = opening;
   current = store.journal;
   recovered = recovered;
@@ -315,7 +315,7 @@ opens_not cookie old between new opening store halt fault same is_fault recovere
   adds = record {
     effects = done.effects;
     added = done.added ∙ ap (λ t. adds t done.effects) quiet;
-    holds = (record { runs = runs_unopened cookie opening store.journal halt done.effects (as_opened store opening (λ s. Performs s (opening_acts opening) (Err halt) done.effects) same done.holds); in_time = never_spent halt }, done.holds.out.going.deaf);
+    holds = (record { runs = runs_unopened config opening store.journal halt done.effects (as_opened store opening (λ s. Performs s (opening_acts opening) (Err halt) done.effects) same done.holds); in_time = never_spent halt }, done.holds.out.going.deaf);
   };
 }))
 
@@ -343,14 +343,14 @@ unopened_cuts outside size Spent cause e = cause
 unopened_cuts outside size NoMemory cause e = false≢true e
 
 -- where nothing was done the file is as it was
-word_unopened : (cookie : Cookie) (book : Book) (file : List ℕ) (old new : Outside) (fault : ServeFault) → Recovers file (Ok book) → Rests old new fault → Added old.told new.told (KeepsItsWord cookie book file (Err fault))
-word_unopened cookie book file old new fault recovers rests = record {
+word_unopened : (config : Config) (book : Book) (file : List ℕ) (old new : Outside) (fault : ServeFault) → Recovers file (Ok book) → Rests old new fault → Added old.told new.told (KeepsItsWord config book file (Err fault))
+word_unopened config book file old new fault recovers rests = record {
   effects = [];
   added = rests.told ∙ sym (adds-none old.told);
   holds = record {
     carries = record {
       on_script = record {
-        no_other_deed = λ n. rw (take_none n) (deeds_in (script cookie book []), refl);
+        no_other_deed = λ n. rw (take_none n) (deeds_in (script config book []), refl);
         no_deed_missing = λ n event more e. absurd (none_heard_yet n event more e);
         heard_in_time = λ n event more e. absurd (none_heard_yet n event more e);
         none_published = refl;
@@ -361,7 +361,7 @@ word_unopened cookie book file old new fault recovers rests = record {
     keeps = record {
       saved = λ n left image. rw (take_none n) (record {
         front = [];
-        rest = script cookie book [];
+        rest = script config book [];
         parts = refl;
         same = refl;
         recovers = subst (λ (f : List ℕ). Recovers f (Ok book)) (sym (only-file file left (rw (take_none n) at image))) recovers;
@@ -371,7 +371,7 @@ word_unopened cookie book file old new fault recovers rests = record {
     is_current = λ e. absurd (unopened_cuts old new.size fault rests.cause e);
     stopped = record {
       front = [];
-      rest = script cookie book [];
+      rest = script config book [];
       parts = refl;
       same = refl;
       at = inl refl;
@@ -383,8 +383,8 @@ word_unopened cookie book file old new fault recovers rests = record {
 }
 
 -- what a run promises of where a fault stopped it, for the file that it began with
-word_stopped : (cookie : Cookie) (book : Book) (file : List ℕ) (current : Option Current) (answer : Result (Unit {0}) ServeFault) (effects : List Effect) → SteadyStands current book file [] → IfErr answer (λ fault. Stops current book (script cookie book (heard effects)) fault (StopsAt fault) effects) → IfErr answer (λ fault. IsCutShort cookie book file fault effects)
-word_stopped cookie book file current answer effects stands stopped = err_map (λ fault. Stops current book (script cookie book (heard effects)) fault (StopsAt fault) effects) (λ fault. IsCutShort cookie book file fault effects) answer (λ fault stops. record {
+word_stopped : (config : Config) (book : Book) (file : List ℕ) (current : Option Current) (answer : Result (Unit {0}) ServeFault) (effects : List Effect) → SteadyStands current book file [] → IfErr answer (λ fault. Stops current book (script config book (heard effects)) fault (StopsAt fault) effects) → IfErr answer (λ fault. IsCutShort config book file fault effects)
+word_stopped config book file current answer effects stands stopped = err_map (λ fault. Stops current book (script config book (heard effects)) fault (StopsAt fault) effects) (λ fault. IsCutShort config book file fault effects) answer (λ fault stops. record {
   front = stops.front;
   rest = stops.rest;
   parts = stops.parts;
@@ -397,8 +397,8 @@ word_stopped cookie book file current answer effects stands stopped = err_map (�
 ok_book : (one two : Book) → ◌≡◌ {A = Result Book ℕ} (Ok one) (Ok two) → one ≡ two
 ok_book one two e = cc
 
-word_opened : (cookie : Cookie) (turns : ℕ) (book : Book) (file : List ℕ) (old new : Outside) (answer : Result (Unit {0}) ServeFault) → IsSettled old file → Recovers file (Ok book) → Opens old new (λ opening current effects. Serves cookie opening current old.coming turns answer effects) → Added old.told new.told (KeepsItsWord cookie book file answer)
-word_opened cookie turns book file old new answer settled recovers opens =
+word_opened : (config : Config) (turns : ℕ) (book : Book) (file : List ℕ) (old new : Outside) (answer : Result (Unit {0}) ServeFault) → IsSettled old file → Recovers file (Ok book) → Opens old new (λ opening current effects. Serves config opening current old.coming turns answer effects) → Added old.told new.told (KeepsItsWord config book file answer)
+word_opened config turns book file old new answer settled recovers opens =
     let found = opens.recovered file settled in
     let same : opens.book ≡ book = ok_book opens.book book (recovers-once file (Ok opens.book) (Ok book) found.1.recovers recovers) in
     let stands : SteadyStands opens.current opens.book file [] = settled-stands opens.current opens.book file found.0 found.1 in
@@ -409,20 +409,20 @@ word_opened cookie turns book file old new answer settled recovers opens =
         carries = opens.adds.holds.runs.carries;
         keeps = opens.adds.holds.runs.keeps file [] stands;
         is_current = λ e left image. opens.adds.holds.runs.is_current e file [] stands left image;
-        stopped = word_stopped cookie opens.book file opens.current answer opens.adds.effects stands opens.adds.holds.runs.stopped;
+        stopped = word_stopped config opens.book file opens.current answer opens.adds.effects stands opens.adds.holds.runs.stopped;
         rules = opens.rules;
       };
     })
 
-pub keeps_word : (cookie : Cookie) (turns : ℕ) (old new : Outside) (answer : Result (Unit {0}) ServeFault) → Serving cookie turns old new answer → (file : List ℕ) (book : Book) → IsSettled old file → Recovers file (Ok book) → Added old.told new.told (KeepsItsWord cookie book file answer)
-keeps_word cookie turns old new (Ok x) opens file book settled recovers = word_opened cookie turns book file old new (Ok x) settled recovers opens
-keeps_word cookie turns old new (Err fault) (inl rests) file book settled recovers = word_unopened cookie book file old new fault recovers rests
-keeps_word cookie turns old new (Err fault) (inr opens) file book settled recovers = word_opened cookie turns book file old new (Err fault) settled recovers opens
+pub keeps_word : (config : Config) (turns : ℕ) (old new : Outside) (answer : Result (Unit {0}) ServeFault) → Serving config turns old new answer → (file : List ℕ) (book : Book) → IsSettled old file → Recovers file (Ok book) → Added old.told new.told (KeepsItsWord config book file answer)
+keeps_word config turns old new (Ok x) opens file book settled recovers = word_opened config turns book file old new (Ok x) settled recovers opens
+keeps_word config turns old new (Err fault) (inl rests) file book settled recovers = word_unopened config book file old new fault recovers rests
+keeps_word config turns old new (Err fault) (inr opens) file book settled recovers = word_opened config turns book file old new (Err fault) settled recovers opens
 
 -- The next run on the same world
 
-ready_opened : (cookie : Cookie) (turns : ℕ) (old new : Outside) (answer : Result (Unit {0}) ServeFault) (file : List ℕ) → new.first ≡ old.first → IsSettled old file → answer ≢ Err DiskFault → Opens old new (λ opening current effects. Serves cookie opening current old.coming turns answer effects) → Added old.told new.told (IsReady file new)
-ready_opened cookie turns old new answer file first settled able opens = record {
+ready_opened : (config : Config) (turns : ℕ) (old new : Outside) (answer : Result (Unit {0}) ServeFault) (file : List ℕ) → new.first ≡ old.first → IsSettled old file → answer ≢ Err DiskFault → Opens old new (λ opening current effects. Serves config opening current old.coming turns answer effects) → Added old.told new.told (IsReady file new)
+ready_opened config turns old new answer file first settled able opens = record {
   effects = opens.adds.effects;
   added = opens.adds.added;
   holds = is_ready file old new opens.adds.effects settled first opens.adds.added (opens.adds.holds.runs.settles able);
@@ -433,7 +433,7 @@ ready_unopened old new file first quiet settled =
     let added = quiet ∙ sym (adds-none old.told) in
     record { effects = []; added = added; holds = is_ready file old new [] settled first added settle_none }
 
-pub ready : (cookie : Cookie) (turns : ℕ) (old new : Outside) (answer : Result (Unit {0}) ServeFault) → Serving cookie turns old new answer → new.first ≡ old.first → (file : List ℕ) → IsSettled old file → answer ≢ Err DiskFault → Added old.told new.told (IsReady file new)
-ready cookie turns old new (Ok x) opens first file settled able = ready_opened cookie turns old new (Ok x) file first settled able opens
-ready cookie turns old new (Err fault) (inl rests) first file settled able = ready_unopened old new file first rests.told settled
-ready cookie turns old new (Err fault) (inr opens) first file settled able = ready_opened cookie turns old new (Err fault) file first settled able opens
+pub ready : (config : Config) (turns : ℕ) (old new : Outside) (answer : Result (Unit {0}) ServeFault) → Serving config turns old new answer → new.first ≡ old.first → (file : List ℕ) → IsSettled old file → answer ≢ Err DiskFault → Added old.told new.told (IsReady file new)
+ready config turns old new (Ok x) opens first file settled able = ready_opened config turns old new (Ok x) file first settled able opens
+ready config turns old new (Err fault) (inl rests) first file settled able = ready_unopened old new file first rests.told settled
+ready config turns old new (Err fault) (inr opens) first file settled able = ready_opened config turns old new (Err fault) file first settled able opens

@@ -1,15 +1,15 @@
 -- As a book is opened, books are written and commands are tried, and nothing else is done.
-use Rattle.std.proofs.Common.{◌≡◌, ℕ, Bool, true, false, List, [], ◌∷◌, ◌++◌, None, refl, ◌∙◌, ap, if◌then◌else◌}
-use Rattle.std.proofs.lemmas.Grind.{flat_map-append}
+use Rattle.std.proofs.Common.{◌≡◌, ℕ, false, List, [], ◌∷◌, ◌++◌, None, refl, sym, ◌∙◌, append_assoc}
+use Rattle.std.proofs.lemmas.List.{append-nil}
+use Rattle.std.specs.List.{flat_map}
 use Rattle.sm_world.specs.declared.commands.Command.{Command}
 use Rattle.checkpoint_records.specs.declared.records.Book.{Book}
 use Rattle.session_model.specs.Books.{issue, opening_moves}
-use Rattle.session_model.specs.Moves.{Agreed, Began, Blamed, Cancelled, Cause, Closed, Committed, Discard, Finished, Gave, History, Move, Opened, Outside, Over, Printed, Tried, Unset, all_acts, onto, tried_each, ◌▷◌}
+use Rattle.session_model.specs.Moves.{Agreed, Began, Blamed, Cancelled, Cause, Closed, Committed, Discard, Finished, Gave, History, Move, Opened, Opening, Outside, Over, Printed, Tried, Unset, acts_of as acts_by, all_acts, onto, tried_each, ◌▷◌}
 use Rattle.session_model.specs.Readings as of
 use Rattle.session_model.specs.Rules.{opened}
-use Rattle.session_engine.specs.Acts.{acts_for, acts_for_all, has_finish}
+use Rattle.session_engine.specs.Acts.{acts_for_all, has_finish}
 use Rattle.session_engine.specs.Machine.{opening_acts}
-use Rattle.session_engine.proofs.Running.{has_finish-append}
 
 -- a book is written, or a command is tried
 abbrev IsOfOpening : Move → Type 0
@@ -66,29 +66,29 @@ phase_all : (q : ℕ) (moves : List Move) (h : History) → AreOfOpening moves �
 phase_all q [] h are = refl
 phase_all q (m ∷ moves) h are = phase_all q moves (m ▷ h) are.1 ∙ phase_one q m h are.0
 
-abbrev ends : History → Bool
-ends h = has_finish (acts_for_all (all_acts h))
+-- no move of an opening ends the run
+finish_none : (moves : List Move) → AreOfOpening moves → has_finish (acts_for_all (flat_map acts_by moves)) ≡ false
+finish_none [] are = refl
+finish_none (Tried cause command ∷ moves) are = finish_none moves are.1
+finish_none (Committed book ∷ moves) are = finish_none moves are.1
+finish_none (m ∷ moves) are = absurd are.0
 
-either_false : (b : Bool) → (if b then true else false) ≡ b
-either_false true = refl
-either_false false = refl
+-- the acts of the moves are behind those of the history
+pub acts-onto : (moves : List Move) (h : History) → all_acts (onto h moves) ≡ all_acts h ++ flat_map acts_by moves
+acts-onto [] h = sym (append-nil (all_acts h))
+acts-onto (m ∷ moves) h = acts-onto moves (m ▷ h) ∙ append_assoc (all_acts h) (acts_by m) (flat_map acts_by moves)
 
-ends_one : (m : Move) (h : History) → IsOfOpening m → ends (m ▷ h) ≡ ends h
-ends_one (Tried cause command) h is = ap has_finish (flat_map-append acts_for (all_acts h) _) ∙ (has_finish-append (acts_for_all (all_acts h)) _ ∙ either_false (ends h))
-ends_one (Committed book) h is = ap has_finish (flat_map-append acts_for (all_acts h) _) ∙ (has_finish-append (acts_for_all (all_acts h)) _ ∙ either_false (ends h))
-ends_one m h is = absurd is
-
-ends_all : (moves : List Move) (h : History) → AreOfOpening moves → ends (onto h moves) ≡ ends h
-ends_all [] h are = refl
-ends_all (m ∷ moves) h are = ends_all moves (m ▷ h) are.1 ∙ ends_one m h are.0
+-- what is done as a book is opened, whatever the patience
+pub opened_acts : (begin : Opening) → all_acts (opened begin) ≡ flat_map acts_by (opening_moves begin.book)
+opened_acts begin = acts-onto (opening_moves begin.book) (Opened begin)
 
 -- nobody is live once a book is opened
-pub opened_live : (book : Book) → of.live (opened book) ≡ []
-opened_live book = live_all (opening_moves book) (Opened book) (opening book)
+pub opened_live : (begin : Opening) → of.live (opened begin) ≡ []
+opened_live begin = live_all (opening_moves begin.book) (Opened begin) (opening begin.book)
 
-pub opened_phase : (book : Book) (q : ℕ) → of.phase_of q (opened book) ≡ None
-opened_phase book q = phase_all q (opening_moves book) (Opened book) (opening book)
+pub opened_phase : (begin : Opening) (q : ℕ) → of.phase_of q (opened begin) ≡ None
+opened_phase begin q = phase_all q (opening_moves begin.book) (Opened begin) (opening begin.book)
 
 -- and the run goes on
 pub opened_unfinished : (book : Book) → has_finish (opening_acts book) ≡ false
-opened_unfinished book = ends_all (opening_moves book) (Opened book) (opening book)
+opened_unfinished book = finish_none (opening_moves book) (opening book)

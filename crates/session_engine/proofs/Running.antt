@@ -16,7 +16,7 @@ use Rattle.heard_events.specs.Brought.{IsPrefix}
 use Rattle.session_engine.specs.Carries.{IsOnScript as IsOnScriptOf, script as script_with, run as run_with}
 use Rattle.session_engine.specs.Doing.{Going, CarriesOut, items, item_of}
 use Rattle.checkpoint_records.specs.declared.records.Book.{Book}
-use Rattle.ice_cookie.specs.declared.cookies.Cookie.{Cookie}
+use Rattle.session_engine.specs.declared.config.Config.{Config}
 
 -- Finish in two lists of acts
 pub has_finish-append : (xs ys : List Act) → has_finish (xs ++ ys) ≡ (if has_finish xs then true else has_finish ys)
@@ -119,21 +119,21 @@ each_front P es ds event before after n = elim (cases_lt (length es) n) [
 ]
 
 -- All that follows is said of a session with this cookie that opens this book.
-module _ (cookie : Cookie) (opening : Book) where
+module _ (config : Config) (opening : Book) where
   abbrev pub start : Machine
-  start = start_with cookie opening
+  start = start_with config opening
 
   abbrev pub opening_acts : List Act
   opening_acts = opening_acts_of opening
 
   abbrev pub script : List Event → List Act
-  script events = script_with cookie opening events
+  script events = script_with config opening events
 
   abbrev pub run : List Event → List Item
-  run events = run_with cookie opening events
+  run events = run_with config opening events
 
   abbrev pub IsOnScript : List Effect → Type 0
-  IsOnScript effects = IsOnScriptOf cookie opening effects
+  IsOnScript effects = IsOnScriptOf config opening effects
 
   -- one more event after events without Finish
   one-more : (events : List Event) (event : Event) → has_finish (script events) ≡ false → script (events ++ event ∷ []) ≡ script events ++ acts_of (step (after_all start events) event)

@@ -11,7 +11,7 @@ use Rattle.sm_world.specs.declared.events.Event.{Event}
 use Rattle.checkpoint_records.specs.declared.records.Book.{Book}
 use Rattle.checkpoint_slots.specs.Turns.{SteadyStands, next_generation, opened_in}
 use Rattle.checkpoint_slots.specs.declared.turn.Current.{Current}
-use Rattle.ice_cookie.specs.declared.cookies.Cookie.{Cookie}
+use Rattle.session_engine.specs.declared.config.Config.{Config}
 use Rattle.session_engine.specs.Acts.{book_after, commits_in, deed_in, deeds_in, has_finish}
 use Rattle.session_engine.specs.Carries.{IsCurrent as IsCurrentWith, Keeps as KeepsWith, Runs as RunsWith, is_whole}
 use Rattle.session_engine.specs.Causes.{IsOfRun, fault_of}
@@ -110,42 +110,42 @@ disk_fails Disk e = refl
 disk_fails WearsIt e = absurd cc
 disk_fails WantsMemory e = absurd cc
 
-module _ (cookie : Cookie) (opening : Book) where
+module _ (config : Config) (opening : Book) where
   abbrev pub StandsFor : Option Current → Session → List Effect → Type 0
-  StandsFor current session effects = StandsForWith cookie opening current session effects
+  StandsFor current session effects = StandsForWith config opening current session effects
 
   abbrev pub Runs : Option Current → Result (Unit {0}) ServeFault → List Effect → Type 0
-  Runs current answer effects = RunsWith cookie opening current answer effects
+  Runs current answer effects = RunsWith config opening current answer effects
 
   abbrev Keeps : List ℕ → List Effect → List Effect → Type 0
-  Keeps first before effects = KeepsWith cookie opening first before effects
+  Keeps first before effects = KeepsWith config opening first before effects
 
   abbrev IsCurrent : List Effect → List ℕ → Type 0
-  IsCurrent effects file = IsCurrentWith cookie opening effects file
+  IsCurrent effects file = IsCurrentWith config opening effects file
 
   abbrev script : List Event → List Act
-  script events = of.script cookie opening events
+  script events = of.script config opening events
 
   abbrev start : Machine
-  start = of.start cookie opening
+  start = of.start config opening
 
   -- The opening
 
   deaf_take : (n : ℕ) (es : List Effect) → heard es ≡ [] → heard (take n es) ≡ []
   deaf_take n es deaf = of.deaf_front (heard (take n es)) (heard (drop n es)) (of.heard_parts n es deaf)
 
-  opening_script : (zs : List Effect) → heard zs ≡ [] → script (heard zs) ≡ of.opening_acts cookie opening
-  opening_script zs deaf = ap script deaf ∙ append-nil (of.opening_acts cookie opening)
+  opening_script : (zs : List Effect) → heard zs ≡ [] → script (heard zs) ≡ of.opening_acts config opening
+  opening_script zs deaf = ap script deaf ∙ append-nil (of.opening_acts config opening)
 
-  opening_keeps : (current : Option Current) (answer : Result Stored Halt) (es : List Effect) → Performs (store_of current opening) (of.opening_acts cookie opening) answer es → (first : List ℕ) (before : List Effect) → SteadyStands current opening first before → Keeps first before es
+  opening_keeps : (current : Option Current) (answer : Result Stored Halt) (es : List Effect) → Performs (store_of current opening) (of.opening_acts config opening) answer es → (first : List ℕ) (before : List Effect) → SteadyStands current opening first before → Keeps first before es
   opening_keeps current answer es performs first before stands = record {
     saved = λ n file image. rw (opening_script (take n es) (deaf_take n es performs.out.going.deaf)) (performs.saves first before stands n file image);
     none_behind = λ n event more is_heard. absurd (of.none_is_heard event (heard more) (sym (ap heard is_heard) ∙ of.deaf_back (heard (take n es)) (heard (drop n es)) (of.heard_parts n es performs.out.going.deaf)));
   }
 
-  pub stands_begin : (current : Option Current) (session : Session) (es : List Effect) → Performs (store_of current opening) (of.opening_acts cookie opening) (Ok session.store) es → Shows all_cut session.engine start → StandsFor current session es
+  pub stands_begin : (current : Option Current) (session : Session) (es : List Effect) → Performs (store_of current opening) (of.opening_acts config opening) (Ok session.store) es → Shows all_cut session.engine start → StandsFor current session es
   stands_begin current session es performs shows =
-      let acts : List Act = of.opening_acts cookie opening in
+      let acts : List Act = of.opening_acts config opening in
       let deaf : heard es ≡ [] = performs.out.going.deaf in
       let done : deeds es ≡ deeds_in acts = whole_done acts es performs.out in
       let scripts : script (heard es) ≡ acts = opening_script es deaf in
@@ -154,7 +154,7 @@ module _ (cookie : Cookie) (opening : Book) where
         unfinished = ap has_finish scripts ∙ opened_unfinished opening;
         all_done = done ∙ ap deeds_in (sym scripts);
         in_order = rw deaf (performs.out.going.in_order ∙ (ap (map Did) done ∙ sym (append-nil (map Did (deeds_in acts)))));
-        on_script = of.opening_on_script cookie opening es performs.out.left performs.out.going;
+        on_script = of.opening_on_script config opening es performs.out.left performs.out.going;
         keeps = opening_keeps current (Ok session.store) es performs;
         store = λ first before stands. rw scripts (rw performs.leaves.0 at (performs.leaves.1 first before stands));
         saved = rw scripts performs.leaves.0;
@@ -164,10 +164,10 @@ module _ (cookie : Cookie) (opening : Book) where
         settles = performs.settles (λ e. absurd cc);
       }
 
-  pub runs_unopened : (current : Option Current) (halt : Halt) (es : List Effect) → Performs (store_of current opening) (of.opening_acts cookie opening) (Err halt) es → Runs current (Err (fault_of halt)) es
+  pub runs_unopened : (current : Option Current) (halt : Halt) (es : List Effect) → Performs (store_of current opening) (of.opening_acts config opening) (Err halt) es → Runs current (Err (fault_of halt)) es
   runs_unopened current halt es performs = record {
     carries = record {
-      on_script = of.opening_on_script cookie opening es performs.out.left performs.out.going;
+      on_script = of.opening_on_script config opening es performs.out.left performs.out.going;
       all_done = λ e. absurd (halt_cuts halt e);
       ended = λ e. absurd (fault_is_no_ok (fault_of halt) e);
     };
@@ -179,7 +179,7 @@ module _ (cookie : Cookie) (opening : Book) where
     worn = λ e. rw (opening_script es performs.out.going.deaf) (performs.worn (worn_halt halt e));
     numbered = λ e. absurd (halt_cuts halt e);
     settles = λ not. performs.settles (λ e. not (disk_fails halt e));
-    stopped = rw (opening_script es performs.out.going.deaf) (run_stops current opening (of.opening_acts cookie opening) halt es performs.stopped);
+    stopped = rw (opening_script es performs.out.going.deaf) (run_stops current opening (of.opening_acts config opening) halt es performs.stopped);
   }
 
   -- One event more
@@ -199,7 +199,7 @@ module _ (cookie : Cookie) (opening : Book) where
   saved_more : (current : Option Current) (session : Session) (es ds : List Effect) (event : Event) (answer : Result Stored Halt) → StandsFor current session es → Performs session.store (acts_at es event) answer ds → (first : List ℕ) (before : List Effect) → SteadyStands current opening first before → (k : ℕ) (file : List ℕ) → Image first (before ++ (es ++ Heard event ∷ take k ds)) file → IsSaved opening (script (heard (es ++ Heard event ∷ take k ds))) (deeds (es ++ Heard event ∷ take k ds)) file
   saved_more current session es ds event answer held performs first before stands k file image =
       let later = performs.saves first ((before ++ es) ++ Heard event ∷ []) (turn_heard current session es event held first before stands) k file (rw (places before es (take k ds) event) at image) in
-      rw (of.script-more cookie opening es (take k ds) event (deaf_take k ds performs.out.going.deaf) held.unfinished, of.deeds-more es (take k ds) event, held.all_done)
+      rw (of.script-more config opening es (take k ds) event (deaf_take k ds performs.out.going.deaf) held.unfinished, of.deeds-more es (take k ds) event, held.all_done)
       (saved_behind opening (script (heard es)) (acts_at es event) (deeds (take k ds)) file (rw held.saved at later))
 
   keeps_more : (current : Option Current) (session : Session) (es ds : List Effect) (event : Event) (answer : Result Stored Halt) → StandsFor current session es → Performs session.store (acts_at es event) answer ds → (first : List ℕ) (before : List Effect) → SteadyStands current opening first before → Keeps first before (es ++ Heard event ∷ ds)
@@ -214,7 +214,7 @@ module _ (cookie : Cookie) (opening : Book) where
 
   saved_next : (current : Option Current) (session : Session) (next : Stored) (es ds : List Effect) (event : Event) → StandsFor current session es → Performs session.store (acts_at es event) (Ok next) ds → next.book ≡ book_after opening (script (heard (es ++ Heard event ∷ ds)))
   saved_next current session next es ds event held performs =
-      rw (of.script-more cookie opening es ds event performs.out.going.deaf held.unfinished, book_after-append opening (script (heard es)) (acts_at es event))
+      rw (of.script-more config opening es ds event performs.out.going.deaf held.unfinished, book_after-append opening (script (heard es)) (acts_at es event))
       (performs.leaves.0 ∙ ap (λ b. book_after b (acts_at es event)) held.saved)
 
   store_more : (current : Option Current) (session : Session) (next : Stored) (es ds : List Effect) (event : Event) → StandsFor current session es → Performs session.store (acts_at es event) (Ok next) ds → (first : List ℕ) (before : List Effect) → SteadyStands current opening first before → SteadyStands next.journal (book_after opening (script (heard (es ++ Heard event ∷ ds)))) first (before ++ (es ++ Heard event ∷ ds))
@@ -225,7 +225,7 @@ module _ (cookie : Cookie) (opening : Book) where
   -- how often a gate was opened, with what was done about one event more
   opens_more : (current : Option Current) (session : Session) (next : Stored) (es ds : List Effect) (event : Event) → StandsFor current session es → Performs session.store (acts_at es event) (Ok next) ds → opened_in (es ++ Heard event ∷ ds) ≡ commits_in (script (heard (es ++ Heard event ∷ ds)))
   opens_more current session next es ds event held performs =
-      omega (arith, performs.opens, held.opens, opened_in-append es (Heard event ∷ ds), ap commits_in (of.script-more cookie opening es ds event performs.out.going.deaf held.unfinished), commits_in-append (script (heard es)) (acts_at es event))
+      omega (arith, performs.opens, held.opens, opened_in-append es (Heard event ∷ ds), ap commits_in (of.script-more config opening es ds event performs.out.going.deaf held.unfinished), commits_in-append (script (heard es)) (acts_at es event))
 
   -- the store as the event was heard, and the commits before it
   leaves_heard : (current : Option Current) (session : Session) (es : List Effect) (event : Event) → StandsFor current session es → Leaves (store_of current opening) (script (heard es)) (es ++ Heard event ∷ []) session.store
@@ -236,7 +236,7 @@ module _ (cookie : Cookie) (opening : Book) where
 
   numbered_more : (current : Option Current) (session : Session) (next : Stored) (es ds : List Effect) (event : Event) → StandsFor current session es → Performs session.store (acts_at es event) (Ok next) ds → IsNumbered (store_of current opening) (script (heard (es ++ Heard event ∷ ds))) (es ++ Heard event ∷ ds)
   numbered_more current session next es ds event held performs =
-      rw (of.script-more cookie opening es ds event performs.out.going.deaf held.unfinished)
+      rw (of.script-more config opening es ds event performs.out.going.deaf held.unfinished)
       (subst (λ (zs : List Effect). IsNumbered (store_of current opening) (script (heard es) ++ acts_at es event) zs) (append_assoc es (Heard event ∷ []) ds)
       (numbered_then (store_of current opening) session.store (script (heard es)) (acts_at es event) (es ++ Heard event ∷ []) ds (leaves_heard current session es event held) (numbered_heard current session es event held) performs.numbered))
 
@@ -249,7 +249,7 @@ module _ (cookie : Cookie) (opening : Book) where
       let stops = stops_behind current session.store.journal opening acts (acts_at es event) (fault_of halt) (IsRefused halt) (es ++ Heard event ∷ []) ds done held.counts opened (numbered_heard current session es event held)
       (λ first before stands. rw (sym (append_assoc before es (Heard event ∷ []))) (stands_heard current session es event held first before stands))
       (rw held.saved at performs.stopped) in
-      rw (of.script-more cookie opening es ds event performs.out.going.deaf held.unfinished)
+      rw (of.script-more config opening es ds event performs.out.going.deaf held.unfinished)
       (subst (λ (zs : List Effect). Stops current opening (acts ++ acts_at es event) (fault_of halt) (StopsAt (fault_of halt)) zs) (append_assoc es (Heard event ∷ []) ds) (run_stops current opening (acts ++ acts_at es event) halt ((es ++ Heard event ∷ []) ++ ds) stops))
 
   -- the run goes on
@@ -258,14 +258,14 @@ module _ (cookie : Cookie) (opening : Book) where
       let deaf : heard ds ≡ [] = performs.out.going.deaf in
       record {
         shows = rw (of.heard-more es ds event deaf, of.after_all-more start (heard es) event) shows;
-        unfinished = of.finish-more cookie opening es ds event deaf held.unfinished ∙ goes;
-        all_done = of.done-more cookie opening es ds event performs.out held.unfinished held.all_done;
-        in_order = of.shown-more cookie opening es ds event performs.out held.unfinished held.in_order;
-        on_script = of.more_on_script cookie opening es ds event performs.out.left performs.out.going held.unfinished held.all_done held.on_script;
+        unfinished = of.finish-more config opening es ds event deaf held.unfinished ∙ goes;
+        all_done = of.done-more config opening es ds event performs.out held.unfinished held.all_done;
+        in_order = of.shown-more config opening es ds event performs.out held.unfinished held.in_order;
+        on_script = of.more_on_script config opening es ds event performs.out.left performs.out.going held.unfinished held.all_done held.on_script;
         keeps = keeps_more current session es ds event (Ok next.store) held performs;
         store = store_more current session next.store es ds event held performs;
         saved = saved_next current session next.store es ds event held performs;
-        counts = rw (of.script-more cookie opening es ds event deaf held.unfinished) (raised_then (next_generation current) (next_generation session.store.journal) (next_generation next.store.journal) (script (heard es)) (acts_at es event) held.counts performs.counts);
+        counts = rw (of.script-more config opening es ds event deaf held.unfinished) (raised_then (next_generation current) (next_generation session.store.journal) (next_generation next.store.journal) (script (heard es)) (acts_at es event) held.counts performs.counts);
         opens = opens_more current session next.store es ds event held performs;
         numbered = numbered_more current session next.store es ds event held performs;
         settles = settle_more es ds event held.settles (performs.settles (λ e. absurd cc));
@@ -275,11 +275,11 @@ module _ (cookie : Cookie) (opening : Book) where
   pub runs_end : (current : Option Current) (next : Stored) (session : Session) (es ds : List Effect) (event : Event) → StandsFor current session es → Performs session.store (acts_at es event) (Ok next) ds → has_finish (acts_at es event) ≡ true → Runs current (Ok tt) (es ++ Heard event ∷ ds)
   runs_end current next session es ds event held performs finishes = record {
     carries = record {
-      on_script = of.more_on_script cookie opening es ds event performs.out.left performs.out.going held.unfinished held.all_done held.on_script;
-      all_done = λ e. of.done-more cookie opening es ds event performs.out held.unfinished held.all_done;
-      ended = λ e. of.finish-more cookie opening es ds event performs.out.going.deaf held.unfinished ∙ finishes;
+      on_script = of.more_on_script config opening es ds event performs.out.left performs.out.going held.unfinished held.all_done held.on_script;
+      all_done = λ e. of.done-more config opening es ds event performs.out held.unfinished held.all_done;
+      ended = λ e. of.finish-more config opening es ds event performs.out.going.deaf held.unfinished ∙ finishes;
     };
-    in_order = λ e. of.shown-more cookie opening es ds event performs.out held.unfinished held.in_order;
+    in_order = λ e. of.shown-more config opening es ds event performs.out held.unfinished held.in_order;
     keeps = keeps_more current session es ds event (Ok next) held performs;
     is_current = λ e first before stands file image. ((store_more current session next es ds event held performs first before stands).images file image).recovers;
     opens = λ e. opens_more current session next es ds event held performs;
@@ -295,7 +295,7 @@ module _ (cookie : Cookie) (opening : Book) where
     front = script (heard es) ++ worn.front;
     rest = worn.rest;
     book = worn.book;
-    parts = append_assoc (script (heard es)) worn.front (Commit worn.book ∷ worn.rest) ∙ (ap (λ zs. script (heard es) ++ zs) worn.parts ∙ sym (of.script-more cookie opening es ds event deaf held.unfinished));
+    parts = append_assoc (script (heard es)) worn.front (Commit worn.book ∷ worn.rest) ∙ (ap (λ zs. script (heard es) ++ zs) worn.parts ∙ sym (of.script-more config opening es ds event deaf held.unfinished));
     same = of.deeds-more es ds event ∙ (ap (λ zs. zs ++ deeds ds) held.all_done ∙ (ap (λ zs. deeds_in (script (heard es)) ++ zs) worn.same ∙ sym (flat_map-append deed_in (script (heard es)) worn.front)));
     now = worn.now;
     leaves = (
@@ -310,7 +310,7 @@ module _ (cookie : Cookie) (opening : Book) where
   pub runs_cut_short : (current : Option Current) (session : Session) (halt : Halt) (es ds : List Effect) (event : Event) → StandsFor current session es → Performs session.store (acts_at es event) (Err halt) ds → Runs current (Err (fault_of halt)) (es ++ Heard event ∷ ds)
   runs_cut_short current session halt es ds event held performs = record {
     carries = record {
-      on_script = of.more_on_script cookie opening es ds event performs.out.left performs.out.going held.unfinished held.all_done held.on_script;
+      on_script = of.more_on_script config opening es ds event performs.out.left performs.out.going held.unfinished held.all_done held.on_script;
       all_done = λ e. absurd (halt_cuts halt e);
       ended = λ e. absurd (fault_is_no_ok (fault_of halt) e);
     };

@@ -10,13 +10,14 @@ use Rattle.std.proofs.lemmas.Grind.{flat_map-append}
 use Rattle.sm_world.specs.declared.events.Event.TheVariants.{Piece}
 use Rattle.checkpoint_records.specs.declared.records.Book.{Book}
 use Rattle.ice_cookie.specs.declared.cookies.Cookie.{Cookie}
+use Rattle.session_engine.specs.declared.config.Config.{Config}
 use Rattle.ice_framing.specs.Frames.{fed, cut, standing_of, units, unit_limit}
 use Rattle.ice_framing.specs.Parts.{Part, parts_at, parts_of}
 use Rattle.ice_framing.proofs.Cuts.{fed-nil, cut-partial}
 use Rattle.ice_framing.proofs.Streams.{standing_of-append}
 use Rattle.ice_framing.proofs.Parts.{parts_at-partial, parts_of-append}
 use Rattle.manager_machine.specs.Keeper.{StandsFor}
-use Rattle.session_model.specs.Moves.{History, Outside, ◌▷◌, all_acts}
+use Rattle.session_model.specs.Moves.{History, Outside, ◌▷◌, all_acts, waits_for}
 use Rattle.session_model.specs.declared.events.Act.{Act as SessionAct}
 use Rattle.session_model.specs.declared.events.Act.TheVariants.{Shut as ShutsConn, Unset}
 use Rattle.session_model.specs.declared.events.SessionEvent.{SessionEvent}
@@ -156,14 +157,14 @@ through-none [] = refl
 through-none (act ∷ acts) = ap (connections_through acts) (after-none act) ∙ through-none acts
 
 -- the opening is followed
-pub opens : (cookie : Cookie) (book : Book) (acts : List SessionAct) (first engine : Engine) → first.cookie ≡ cookie → ((q : ℕ) → kept_at first.live q ≡ None) → StandsFor first.manager (opened book) → Follows acts first engine → Shows all_cut engine (start cookie book)
-opens cookie book acts first engine same_cookie none stands follows =
+pub opens : (config : Config) (book : Book) (acts : List SessionAct) (first engine : Engine) → first.cookie ≡ config.cookie → ((q : ℕ) → kept_at first.live q ≡ None) → StandsFor first.manager (opened (waits_for config.patience book)) → Follows acts first engine → Shows all_cut engine (start config book)
+opens config book acts first engine same_cookie none stands follows =
     let none_shown : ShowsLive all_cut first.live [] = record { each = λ q. rw (none q) tt; distinct = tt } in
     record {
       cookie = sym (follows.cookie ∙ same_cookie);
       live = subst (λ (ks : List Connection). ShowsLive all_cut engine.live ks) (through-none acts) (follows.live all_cut [] none_shown);
       stands = rw (follows.manager) stands;
-      agrees = record { numbers = sym (opened_live book); phases = λ q. ap is_some (opened_phase book q) };
+      agrees = record { numbers = sym (opened_live (waits_for config.patience book)); phases = λ q. ap is_some (opened_phase (waits_for config.patience book) q) };
     }
 
 -- acts that were given before the session was told

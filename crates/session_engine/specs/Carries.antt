@@ -14,7 +14,7 @@ use Rattle.checkpoint_slots.specs.Causes.{IsSettled}
 use Rattle.checkpoint_slots.specs.Recovery.{Recovers}
 use Rattle.checkpoint_slots.specs.Turns.{SteadyFile, SteadyStands, opened_in}
 use Rattle.checkpoint_slots.specs.declared.turn.Current.{Current}
-use Rattle.ice_cookie.specs.declared.cookies.Cookie.{Cookie}
+use Rattle.session_engine.specs.declared.config.Config.{Config}
 use Rattle.session_engine.specs.Acts.{book_after, commits_in, deeds_in, has_finish}
 use Rattle.session_engine.specs.Causes.{IsOfRun}
 use Rattle.session_engine.specs.Doing.{items}
@@ -40,14 +40,14 @@ is_whole (Err Worn) = false
 is_whole (Err NoMemory) = false
 
 -- All that follows is said of a session with this cookie that opens this book.
-module _ (cookie : Cookie) (opening : Book) where
+module _ (config : Config) (opening : Book) where
   -- the acts of the session machine for these events
   abbrev pub script : List Event → List Act
-  script events = script_of cookie opening events
+  script events = script_of config opening events
 
   -- each of these events followed by its deeds
   abbrev pub run : List Event → List Item
-  run events = run_of cookie opening events
+  run events = run_of config opening events
 
   -- The first effects of a run, against the script of the events among them.
   pub record IsOnScript (effects : List Effect) : Type 0 where

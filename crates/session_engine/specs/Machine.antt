@@ -10,17 +10,19 @@ use Rattle.ice_setup.specs.declared.states.AnySetup.{AnySetup}
 use Rattle.ice_setup.specs.declared.states.AnySetup.TheVariants.{AwaitOrder as AtOrder}
 use Rattle.ice_messages.specs.declared.message.IceMessage.TheVariants.{ByteOrder, NoClose}
 use Rattle.checkpoint_records.specs.declared.records.Book.{Book}
-use Rattle.session_model.specs.Moves.{History, all_acts}
+use Rattle.session_model.specs.Books.{opening_moves}
+use Rattle.session_model.specs.Moves.{History, acts_of as acts_by, all_acts, waits_for}
 use Rattle.session_model.specs.Phases.{is_bound}
 use Rattle.session_model.specs.Readings as of
 use Rattle.session_model.specs.Rules.{opened, taken}
 use Rattle.session_model.specs.declared.events.Act.{Act as SessionAct}
 use Rattle.session_model.specs.declared.events.Act.TheVariants.{Shut as ShutsConn, Unset}
 use Rattle.session_model.specs.declared.events.SessionEvent.{SessionEvent}
-use Rattle.session_model.specs.declared.events.SessionEvent.TheVariants.{Joined as HasJoined, Ready, Said, Left, Operator as Ordered}
+use Rattle.session_model.specs.declared.events.SessionEvent.TheVariants.{Joined as HasJoined, Ready, Said, Left, Operator as Ordered, Tick as Ticked}
 use Rattle.session_engine.specs.Acts.{deeds_in, has_finish, says, acts_for_all}
 use Rattle.session_engine.specs.Answers.{outcome, sequence_after, without_xsmp}
 use Rattle.ice_framing.specs.Parts.{Part, new_parts}
+use Rattle.session_engine.specs.declared.config.Config.{Config}
 use Rattle.session_engine.specs.declared.acts.Act.{Act}
 use Rattle.session_engine.specs.declared.acts.Act.TheVariants.{Say, Shut, Finish}
 use Rattle.session_engine.specs.declared.messages.Message.TheVariants.{Ice}
@@ -62,11 +64,11 @@ acts_of step = flat_map act_in step.line
 
 -- what is done as a book is opened
 abbrev pub opening_acts : Book → List Act
-opening_acts book = acts_for_all (all_acts (opened book))
+opening_acts book = acts_for_all (flat_map acts_by (opening_moves book))
 
 -- a run that opens this book, before anything came
-abbrev pub start : Cookie → Book → Machine
-start cookie book = record { cookie = cookie; connections = []; session = opened book }
+abbrev pub start : Config → Book → Machine
+start config book = record { cookie = config.cookie; connections = []; session = opened (waits_for config.patience book) }
 
 abbrev pub connection_of : ℕ → List Connection → Option Connection
 connection_of c [] = None
@@ -215,7 +217,7 @@ step m (Joined c) = join_for m c (connection_of c m.connections)
 step m (Piece c bytes) = piece_for m c bytes (connection_of c m.connections)
 step m (Gone c) = gone_for m c (connection_of c m.connections)
 step m (Operator order) = told m (Ordered order)
-step m (Tick milliseconds) = stays m
+step m (Tick milliseconds) = told m (Ticked milliseconds)
 step m End = does m (Finish ∷ [])
 
 -- the machine after these events
@@ -229,8 +231,8 @@ script_from m [] = []
 script_from m (event ∷ events) = acts_of (step m event) ++ (if has_finish (acts_of (step m event)) then [] else script_from (step m event).next events)
 
 -- the opening acts, and those for the events
-abbrev pub script_of : Cookie → Book → List Event → List Act
-script_of cookie book events = opening_acts book ++ script_from (start cookie book) events
+abbrev pub script_of : Config → Book → List Event → List Act
+script_of config book events = opening_acts book ++ script_from (start config book) events
 
 -- what the run shows, in its order: an event came, or a deed was done
 pub data Item : Type 0 where
@@ -242,5 +244,5 @@ run_from m [] = []
 run_from m (event ∷ events) = Came event ∷ (map Did (deeds_in (acts_of (step m event))) ++ (if has_finish (acts_of (step m event)) then [] else run_from (step m event).next events))
 
 -- the deeds of the opening, and each event followed by its deeds, up to the end of the run
-abbrev pub run_of : Cookie → Book → List Event → List Item
-run_of cookie book events = map Did (deeds_in (opening_acts book)) ++ run_from (start cookie book) events
+abbrev pub run_of : Config → Book → List Event → List Item
+run_of config book events = map Did (deeds_in (opening_acts book)) ++ run_from (start config book) events

@@ -6,7 +6,7 @@ use Rattle.sm_world.specs.declared.effects.Effect.{Effect}
 use Rattle.checkpoint_records.specs.declared.records.Book.{Book}
 use Rattle.checkpoint_slots.specs.Turns.{SteadyStands, next_generation, opened_in}
 use Rattle.checkpoint_slots.specs.declared.turn.Current.{Current}
-use Rattle.ice_cookie.specs.declared.cookies.Cookie.{Cookie}
+use Rattle.session_engine.specs.declared.config.Config.{Config}
 use Rattle.session_model.specs.Readings as of
 use Rattle.session_engine.specs.Acts.{book_after, commits_in, deeds_in, has_finish}
 use Rattle.session_engine.specs.Carries.{FailsOr, IsOnScript, Keeps, Opens, Runs, Serves, run, script}
@@ -25,23 +25,23 @@ use Rattle.session_engine.specs.declared.session.Stepped.TheVariants.{Goes, Fini
 
 -- After these effects of a run that goes on, over a store whose turn stood for the opened book: all was done, and the session, its
 -- connections and its store are what the machine leaves after the events among them.
-pub record StandsFor (cookie : Cookie) (opening : Book) (current : Option Current) (session : Session) (effects : List Effect) : Type 0 where
-  pub shows : Shows all_cut session.engine (after_all (start cookie opening) (heard effects))
-  pub unfinished : has_finish (script cookie opening (heard effects)) ≡ false
-  pub all_done : deeds effects ≡ deeds_in (script cookie opening (heard effects))
-  pub in_order : items effects ≡ run cookie opening (heard effects)
-  pub on_script : IsOnScript cookie opening effects
-  pub keeps : (first : List ℕ) (before : List Effect) → SteadyStands current opening first before → Keeps cookie opening first before effects
-  pub store : (first : List ℕ) (before : List Effect) → SteadyStands current opening first before → SteadyStands session.store.journal (book_after opening (script cookie opening (heard effects))) first (before ++ effects)
-  pub saved : session.store.book ≡ book_after opening (script cookie opening (heard effects))
-  pub counts : IsRaised (commits_in (script cookie opening (heard effects))) (next_generation current) (next_generation session.store.journal)
-  pub opens : opened_in effects ≡ commits_in (script cookie opening (heard effects))
-  pub numbered : IsNumbered (store_of current opening) (script cookie opening (heard effects)) effects
+pub record StandsFor (config : Config) (opening : Book) (current : Option Current) (session : Session) (effects : List Effect) : Type 0 where
+  pub shows : Shows all_cut session.engine (after_all (start config opening) (heard effects))
+  pub unfinished : has_finish (script config opening (heard effects)) ≡ false
+  pub all_done : deeds effects ≡ deeds_in (script config opening (heard effects))
+  pub in_order : items effects ≡ run config opening (heard effects)
+  pub on_script : IsOnScript config opening effects
+  pub keeps : (first : List ℕ) (before : List Effect) → SteadyStands current opening first before → Keeps config opening first before effects
+  pub store : (first : List ℕ) (before : List Effect) → SteadyStands current opening first before → SteadyStands session.store.journal (book_after opening (script config opening (heard effects))) first (before ++ effects)
+  pub saved : session.store.book ≡ book_after opening (script config opening (heard effects))
+  pub counts : IsRaised (commits_in (script config opening (heard effects))) (next_generation current) (next_generation session.store.journal)
+  pub opens : opened_in effects ≡ commits_in (script config opening (heard effects))
+  pub numbered : IsNumbered (store_of current opening) (script config opening (heard effects)) effects
   pub settles : Settle effects
 
 -- A device, the store or the memory cut the run short, and not the number of its turns.
-pub record IsCut (cookie : Cookie) (opening : Book) (current : Option Current) (fault : ServeFault) (effects : List Effect) : Type 0 where
-  pub runs : Runs cookie opening current (Err fault) effects
+pub record IsCut (config : Config) (opening : Book) (current : Option Current) (fault : ServeFault) (effects : List Effect) : Type 0 where
+  pub runs : Runs config opening current (Err fault) effects
   pub in_time : fault ≢ Spent
 
 -- the store's turn in a session that was opened
@@ -50,9 +50,9 @@ kept (Ok session) = Ok session.store
 kept (Err halt) = Err halt
 
 -- a start hears nothing, and hands out a session that stands for what it added; or it did nothing, or its opening was cut short
-abbrev pub Starts : Cookie → Outside → Outside → Result Session ServeFault → Type 0
-Starts cookie old new (Ok session) = Opens old new (λ opening current effects. StandsFor cookie opening current session effects × (heard effects ≡ []))
-Starts cookie old new (Err fault) = FailsOr old new (λ opening current effects. IsCut cookie opening current fault effects × (heard effects ≡ [])) fault
+abbrev pub Starts : Config → Outside → Outside → Result Session ServeFault → Type 0
+Starts config old new (Ok session) = Opens old new (λ opening current effects. StandsFor config opening current session effects × (heard effects ≡ []))
+Starts config old new (Err fault) = FailsOr old new (λ opening current effects. IsCut config opening current fault effects × (heard effects ≡ [])) fault
 
 -- a session that goes on shows a machine
 abbrev pub ShowsOn : Stepped → Type 0
@@ -60,12 +60,12 @@ ShowsOn (Goes next) = IsShown all_cut next.engine
 ShowsOn (Finished marks) = Unit {0}
 
 -- what a step makes of a session, where these are the effects with the event and what the step added
-abbrev pub StepsTo : Cookie → Book → Option Current → Result Stepped ServeFault → List Effect → Type 0
-StepsTo cookie opening current (Ok (Goes next)) effects = StandsFor cookie opening current next effects
-StepsTo cookie opening current (Ok (Finished marks)) effects = Runs cookie opening current (Ok tt) effects × (marks ≡ of.marks (after_all (start cookie opening) (heard effects)).session)
-StepsTo cookie opening current (Err fault) effects = IsCut cookie opening current fault effects
+abbrev pub StepsTo : Config → Book → Option Current → Result Stepped ServeFault → List Effect → Type 0
+StepsTo config opening current (Ok (Goes next)) effects = StandsFor config opening current next effects
+StepsTo config opening current (Ok (Finished marks)) effects = Runs config opening current (Ok tt) effects × (marks ≡ of.marks (after_all (start config opening) (heard effects)).session)
+StepsTo config opening current (Err fault) effects = IsCut config opening current fault effects
 
 -- a run over the recovered book; or nothing was done
-abbrev pub Serving : Cookie → ℕ → Outside → Outside → Result (Unit {0}) ServeFault → Type 0
-Serving cookie turns old new (Ok x) = Opens old new (λ opening current effects. Serves cookie opening current old.coming turns (Ok x) effects)
-Serving cookie turns old new (Err fault) = FailsOr old new (λ opening current effects. Serves cookie opening current old.coming turns (Err fault) effects) fault
+abbrev pub Serving : Config → ℕ → Outside → Outside → Result (Unit {0}) ServeFault → Type 0
+Serving config turns old new (Ok x) = Opens old new (λ opening current effects. Serves config opening current old.coming turns (Ok x) effects)
+Serving config turns old new (Err fault) = FailsOr old new (λ opening current effects. Serves config opening current old.coming turns (Err fault) effects) fault

@@ -1,6 +1,7 @@
 use crate::act_list::ActList;
 use crate::acts::Act;
 use crate::answers::Answer;
+use crate::config::Config;
 use crate::live::Connections;
 use crate::messages::Message;
 use checkpoint_records::Book;
@@ -28,7 +29,7 @@ pub struct Engine {
 impl Engine {
     ghost use Rattle.std.specs.Prelude.{◌≡◌, ◌≤◌, ◌<◌, ◌++◌, [], ◌∷◌, length, IfOk, IfSome, OnOk};
     ghost use Rattle.std.specs.List.{AllByRecursion};
-    ghost use Rattle.sm_world.specs.declared.events.Event.TheVariants.{Joined, Gone, Operator};
+    ghost use Rattle.sm_world.specs.declared.events.Event.TheVariants.{Joined, Gone, Operator, Tick};
     ghost use Rattle.checkpoint_records.specs.Rules.{KeepsRules};
     ghost use Rattle.manager_machine.specs.Keeper.{AreFit, IsFit};
     ghost use Rattle.session_model.specs.Rules.{Takes as TakesEvent};
@@ -42,16 +43,16 @@ impl Engine {
     ghost use Rattle.session_engine.specs.Telling.{Tells, Follows, TakesAnswer, Answers, Departs, IsStanding};
     ghost use Rattle.session_engine.specs.declared.acts.Act.TheVariants.{Shut};
 
-    /// A session with this cookie over a book, before anything came. It gives what opens the book.
-    pub fn new(alloc: Global, cookie: Cookie, book: Book) -> Result<Engine, NoMemory>
+    /// A session over a book, before anything came. It gives what opens the book.
+    pub fn new(alloc: Global, config: Config, book: Book) -> Result<Engine, NoMemory>
         requires rules { KeepsRules book }
         requires below { book.epoch < 4294967295 }
-        ensures shows { IfOk result (λ engine. Shows all_cut engine (start cookie book)) }
+        ensures shows { IfOk result (λ engine. Shows all_cut engine (start config book)) }
         ensures acts { IfOk result (λ engine. engine.acts ≡ opening_acts book) }
     {
-        let (manager, acts) = Manager::begin(alloc, book)?;
+        let (manager, acts) = Manager::begin(alloc, book, config.patience)?;
         let mut engine = Engine {
-            cookie,
+            cookie: config.cookie,
             live: Connections::new(alloc),
             manager,
             acts: ActList::new(alloc),
@@ -240,5 +241,14 @@ impl Engine {
     {
         self.acts.clear();
         self.tell(SessionEvent::Operator(order))
+    }
+
+    /// Hears that so many milliseconds have passed.
+    pub fn tick(&mut self, milliseconds: u64) -> Result<(), NoMemory>
+        requires { IsShown all_cut self.old }
+        ensures { (m : Machine) → Shows all_cut self.old m → OnOk result (Gives (step m (Tick milliseconds)) self.new) }
+    {
+        self.acts.clear();
+        self.tell(SessionEvent::Tick(milliseconds))
     }
 }

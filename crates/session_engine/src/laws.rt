@@ -4,12 +4,12 @@ ghost use Rattle.checkpoint_records.specs.declared.records.Book.{Book as AnyBook
 ghost use Rattle.session_engine.specs.Counted.{SavedIsPlaced};
 ghost use Rattle.session_engine.specs.Machine.{start, after_all, live_limit};
 
-use ice_cookie::Cookie;
+use crate::config::Config;
 
 /// Does nothing: its contract is a law of the session machine. Whatever came, at most 64
 /// connections are live.
-pub fn at_most_64_live(cookie: Cookie)
-    ensures { (book : AnyBook) (events : List AnyEvent) → length (after_all (start cookie book) events).connections ≤ live_limit }
+pub fn at_most_64_live(config: Config)
+    ensures { (book : AnyBook) (events : List AnyEvent) → length (after_all (start config book) events).connections ≤ live_limit }
 {}
 
 /// Does nothing: its contract is a law of crashes. A file that has a checkpoint behind a front of the

@@ -4,6 +4,7 @@
 mod act_list;
 mod acts;
 mod answers;
+mod config;
 mod connection;
 mod engine;
 mod fault;
@@ -17,6 +18,7 @@ mod store;
 
 pub use acts::Act;
 pub use answers::{Answer, Outcome};
+pub use config::Config;
 pub use fault::ServeFault;
 pub use laws::{at_most_64_live, checkpoints_are_in_their_place};
 pub use messages::Message;

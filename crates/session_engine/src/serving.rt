@@ -1,6 +1,6 @@
 ghost use Rattle.std.specs.Prelude.{◌≡◌, IfOk};
 ghost use Rattle.std.specs.List.{AllByRecursion};
-ghost use Rattle.sm_world.specs.declared.events.Event.TheVariants.{Joined, Piece, Gone, Operator};
+ghost use Rattle.sm_world.specs.declared.events.Event.TheVariants.{Joined, Piece, Gone, Operator, Tick};
 ghost use Rattle.sm_world.specs.Outside.{Added};
 ghost use Rattle.session_engine.specs.Acts.{CanBeDone, is_finish, has_finish};
 ghost use Rattle.session_engine.specs.Causes.{HearsNone};
@@ -199,6 +199,26 @@ fn take_order<W: Disk + Links + Spawner + Console>(
     }
 }
 
+/// Does what the passing of so many milliseconds brings.
+fn take_tick<W: Disk + Links + Spawner + Console>(
+    world: &mut W,
+    engine: &mut Engine,
+    shell: &mut Shell,
+    store: Store,
+    milliseconds: u64,
+) -> Result<(Store, Turn), Halt>
+    requires size { (W.outside world.old).size ≡ 16777280 }
+    requires shown { IsShown all_cut engine.old }
+    ensures carried { (m : Machine) → Shows all_cut engine.old m → Carried (W.outside world.old).told (W.outside world.new).told store engine.new (step m (Tick milliseconds)) (stored result) }
+    ensures turn { (m : Machine) → Shows all_cut engine.old m → IfOk result (λ done. is_end done.1 ≡ has_finish (acts_of (step m (Tick milliseconds)))) }
+    ensures alone { HearsNone (W.outside world.old) (W.outside world.new) result }
+{
+    match engine.tick(milliseconds) {
+        Ok(()) => carry_out(world, shell, store, engine.acts()),
+        Err(NoMemory) => Err(Halt::NoMemory),
+    }
+}
+
 /// Does all that an event brings.
 pub fn take_event<W: Disk + Links + Spawner + Console>(
     alloc: Global,
@@ -221,7 +241,7 @@ pub fn take_event<W: Disk + Links + Spawner + Console>(
         }
         Event::Gone(conn) => take_end(world, engine, shell, store, *conn),
         Event::Operator(order) => take_order(world, engine, shell, store, order),
-        Event::Tick(_) => Ok((store, Turn::GoesOn)),
+        Event::Tick(milliseconds) => take_tick(world, engine, shell, store, *milliseconds),
         Event::End => carry_out(world, shell, store, &[Act::Finish]),
     }
 }

@@ -16,13 +16,13 @@ ghost use Rattle.session_engine.specs.Saved.{Performs};
 ghost use Rattle.session_engine.specs.Session.{ShowsOn, Starts, StandsFor, StepsTo, Serving, kept};
 ghost use Rattle.session_engine.specs.Shown.{IsShown, Shows, all_cut};
 
+use crate::config::Config;
 use crate::engine::Engine;
 use crate::fault::{Halt, ServeFault, opening_fault};
 use crate::serving::{Turn, take_event};
 use crate::shell::{Shell, hear};
 use crate::store::Store;
 use checkpoint_records::Book;
-use ice_cookie::Cookie;
 use session_model::Marks;
 use sm_world::{Console, Disk, Event, Links, NoMemory, Spawner};
 use std::alloc::Global;
@@ -51,9 +51,9 @@ impl Session {
     pub fn start<W: Disk + Links + Spawner + Console>(
         alloc: Global,
         world: &mut W,
-        cookie: Cookie,
+        config: Config,
     ) -> Result<Session, ServeFault>
-        ensures starts { Starts cookie (W.outside world.old) (W.outside world.new) result }
+        ensures starts { Starts config (W.outside world.old) (W.outside world.new) result }
         ensures coming { (W.outside world.new).coming ≡ (W.outside world.old).coming }
         ensures input { (W.outside world.new).input ≡ (W.outside world.old).input }
         ensures first { (W.outside world.new).first ≡ (W.outside world.old).first }
@@ -70,7 +70,7 @@ impl Session {
         if book.epoch == u32::MAX {
             return Err(ServeFault::Worn);
         }
-        match open(alloc, world, store, cookie, book) {
+        match open(alloc, world, store, config, book) {
             Ok(session) => Ok(session),
             Err(halt) => Err(halt.fault()),
         }
@@ -85,7 +85,7 @@ impl Session {
     ) -> Result<Stepped, ServeFault>
         requires size { (W.outside world.old).size ≡ 16777280 }
         requires shown { IsShown all_cut self.engine }
-        ensures steps { (cookie : Cookie) (opening : AnyBook) (current : Option Current) (effects : List Effect) → StandsFor cookie opening current self effects → Added (W.outside world.old).told (W.outside world.new).told (λ added. (heard added ≡ []) × StepsTo cookie opening current result (effects ++ Heard event ∷ added)) }
+        ensures steps { (config : Config) (opening : AnyBook) (current : Option Current) (effects : List Effect) → StandsFor config opening current self effects → Added (W.outside world.old).told (W.outside world.new).told (λ added. (heard added ≡ []) × StepsTo config opening current result (effects ++ Heard event ∷ added)) }
         ensures coming { (W.outside world.new).coming ≡ (W.outside world.old).coming }
         ensures input { (W.outside world.new).input ≡ (W.outside world.old).input }
         ensures first { (W.outside world.new).first ≡ (W.outside world.old).first }
@@ -133,17 +133,17 @@ fn open<W: Disk + Links + Spawner + Console>(
     alloc: Global,
     world: &mut W,
     store: Store,
-    cookie: Cookie,
+    config: Config,
     book: Book,
 ) -> Result<Session, Halt>
     requires size { (W.outside world.old).size ≡ 16777280 }
     requires rules { KeepsRules book }
     requires below { book.epoch < 4294967295 }
     ensures done { Added (W.outside world.old).told (W.outside world.new).told (Performs store (opening_acts book) (kept result)) }
-    ensures shows { IfOk result (λ session. Shows all_cut session.engine (begun cookie book)) }
+    ensures shows { IfOk result (λ session. Shows all_cut session.engine (begun config book)) }
     ensures alone { HearsNone (W.outside world.old) (W.outside world.new) result }
 {
-    let engine = match Engine::new(alloc, cookie, book) {
+    let engine = match Engine::new(alloc, config, book) {
         Ok(engine) => engine,
         Err(NoMemory) => return Err(Halt::NoMemory),
     };
@@ -164,13 +164,13 @@ fn open<W: Disk + Links + Spawner + Console>(
 pub fn serve<W: Disk + Links + Spawner + Console>(
     alloc: Global,
     world: &mut W,
-    cookie: Cookie,
+    config: Config,
     turns: u64,
 ) -> Result<(), ServeFault>
     // What it adds to the effects is a run of the session machine over the events that it was brought.
-    ensures serves { Serving cookie turns (W.outside world.old) (W.outside world.new) result }
+    ensures serves { Serving config turns (W.outside world.old) (W.outside world.new) result }
     // The same for a store of which no byte was in doubt: at every point of the run each file that a crash could leave has a whole checkpoint.
-    ensures headline { (file : List ℕ) (book : AnyBook) → IsSettled (W.outside world.old) file → Recovers file (Ok book) → Added (W.outside world.old).told (W.outside world.new).told (KeepsItsWord cookie book file result) }
+    ensures headline { (file : List ℕ) (book : AnyBook) → IsSettled (W.outside world.old) file → Recovers file (Ok book) → Added (W.outside world.old).told (W.outside world.new).told (KeepsItsWord config book file result) }
     // Where the disk didn't fail the same world can be served again, with the headline.
     ensures ready { (file : List ℕ) → IsSettled (W.outside world.old) file → result ≢ Err ServeFault.DiskFault → Added (W.outside world.old).told (W.outside world.new).told (IsReady file (W.outside world.new)) }
     // The input is left alone.
@@ -179,7 +179,7 @@ pub fn serve<W: Disk + Links + Spawner + Console>(
     ensures counts { NotFallen (W.outside world.old).faults (W.outside world.new).faults }
     ensures cause { IfErr result (HasCause (W.outside world.old).faults (W.outside world.new).faults) }
 {
-    let mut session = match Session::start(alloc, world, cookie) {
+    let mut session = match Session::start(alloc, world, config) {
         Ok(session) => session,
         Err(fault) => return Err(fault),
     };

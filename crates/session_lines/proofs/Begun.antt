@@ -39,9 +39,9 @@ opening-shown book =
     ∙ ap (λ (xs : List Seen). shown (before book) ++ xs) (shown-again (opening_restarts book.entries))
 
 pub lines-begin : LinesBeginAgain
-lines-begin cookie book events =
+lines-begin config book events =
     let again_all : List Seen = map again (opening_restarts book.entries) in
-    let later : List Seen = line_from (start cookie book) events in
+    let later : List Seen = line_from (start config book) events in
     record {
       first = shown (before book);
       later = later;

@@ -14,7 +14,7 @@ use Rattle.xsmp_messages.specs.Reading.{decode_at}
 use Rattle.xsmp_messages.specs.declared.message.XsmpMessage.{XsmpMessage}
 use Rattle.xsmp_messages.specs.declared.message.XsmpMessage.TheVariants.{Error as XsmpError}
 use Rattle.checkpoint_slots.specs.Recovery.{Recovers}
-use Rattle.ice_cookie.specs.declared.cookies.Cookie.{Cookie}
+use Rattle.session_engine.specs.declared.config.Config.{Config}
 use Rattle.session_engine.specs.Acts.{book_after, book_with, deeds_in}
 use Rattle.session_engine.specs.Machine.{script_of}
 use Rattle.session_engine.specs.Saved.{IsSaved}
@@ -284,16 +284,16 @@ ids-turned book xs ys vs ws e d =
     ap (λ (zs : List Seen). new_ids (noted zs)) (sym (turned-is xs)) ∙ same-ids book xs ys vs ws [] e d ∙ ap (λ (zs : List Seen). new_ids (noted zs)) (turned-is ys)
 
 -- the front of the line behind which a file's checkpoint stands
-record SavedAt (cookie : Cookie) (book saved : Book) (events : List Event) (done : List Deed) : Type 0 where
+record SavedAt (config : Config) (book saved : Book) (events : List Event) (done : List Deed) : Type 0 where
   front : List Seen
   later : List Seen
-  parts : front ++ later ≡ line cookie book events
+  parts : front ++ later ≡ line config book events
   same : deeds_seen front ≡ done
   is : saved ≡ book_in book (notes front)
 
-saved-at : (cookie : Cookie) (book saved : Book) (events : List Event) (done : List Deed) (file : List ℕ) → IsSaved book (script_of cookie book events) done file → Recovers file (Ok saved) → SavedAt cookie book saved events done
-saved-at cookie book saved events done file s recovered =
-    let at : ActsAt (line cookie book events) s.front = acts-at (line cookie book events) s.front s.rest (s.parts ∙ sym (acts-line cookie book events)) in
+saved-at : (config : Config) (book saved : Book) (events : List Event) (done : List Deed) (file : List ℕ) → IsSaved book (script_of config book events) done file → Recovers file (Ok saved) → SavedAt config book saved events done
+saved-at config book saved events done file s recovered =
+    let at : ActsAt (line config book events) s.front = acts-at (line config book events) s.front s.rest (s.parts ∙ sym (acts-line config book events)) in
     record {
       front = at.front;
       later = at.later;
@@ -304,34 +304,34 @@ saved-at cookie book saved events done file s recovered =
     }
 
 pub files-keep-up : FilesKeepUp
-files-keep-up cookie book saved events done file s recovered seen later parts same some =
-    let at : SavedAt cookie book saved events done = saved-at cookie book saved events done file s recovered in
+files-keep-up config book saved events done file s recovered seen later parts same some =
+    let at : SavedAt config book saved events done = saved-at config book saved events done file s recovered in
     let ids : new_ids (notes seen) ≡ new_ids (notes at.front) = ids-turned book seen at.front later at.later (parts ∙ sym at.parts) (same ∙ sym at.same) in
     let epoch : (book_in book (notes at.front)).epoch ≡ book.epoch + 1 =
     with-one (IsOfRun (book.epoch + 1)) ((book_in book (notes at.front)).epoch ≡ book.epoch + 1) (new_ids (notes at.front)) (λ none. some (ids ∙ none))
-    (laws-hold cookie book at.front (record { events = events; later = at.later; parts = at.parts })).new_ids_are_of_the_run in
+    (laws-hold config book at.front (record { events = events; later = at.later; parts = at.parts })).new_ids_are_of_the_run in
     ap (λ (b : Book). b.epoch) at.is ∙ epoch
 
 pub files-forget : FilesForgetDiscards
-files-forget cookie book saved events done file rules s recovered seen later parts same next command is =
-    let at : SavedAt cookie book saved events done = saved-at cookie book saved events done file s recovered in
+files-forget config book saved events done file rules s recovered seen later parts same next command is =
+    let at : SavedAt config book saved events done = saved-at config book saved events done file s recovered in
     let there : is_discarded command (notes at.front) ≡ true = discarded-turned command at.front seen at.later later (at.parts ∙ sym parts) (at.same ∙ sym same) next is in
-    ap (λ (b : Book). names b command) at.is ∙ (laws-hold cookie book at.front (record { events = events; later = at.later; parts = at.parts })).discarded_states_are_not_named rules command there
+    ap (λ (b : Book). names b command) at.is ∙ (laws-hold config book at.front (record { events = events; later = at.later; parts = at.parts })).discarded_states_are_not_named rules command there
 
 pub files-keep : FilesKeepWhatWasSaved
-files-keep cookie book saved events done file o s recovered seen later parts same next id some =
-    let at : SavedAt cookie book saved events done = saved-at cookie book saved events done file s recovered in
+files-keep config book saved events done file o s recovered seen later parts same next id some =
+    let at : SavedAt config book saved events done = saved-at config book saved events done file s recovered in
     let there : Holding saved id (kept_in book id (notes at.front)) =
-    subst (λ (b : Book). Holding b id (kept_in book id (notes at.front))) (sym at.is) (λ k. (laws-hold cookie book at.front (record { events = events; later = at.later; parts = at.parts })).saves_are_kept o id k) in
+    subst (λ (b : Book). Holding b id (kept_in book id (notes at.front))) (sym at.is) (λ k. (laws-hold config book at.front (record { events = events; later = at.later; parts = at.parts })).saves_are_kept o id k) in
     kept-turned book saved id at.front seen at.later later (at.parts ∙ sym parts) (at.same ∙ sym same) next there some
 
 pub every-file : EveryFileIsSafe
-every-file cookie book saved first left answer effects word n image recovered =
-    let done : IsDone cookie book (heard (take n effects)) (deeds (take n effects)) = done-is cookie book effects word.carries.on_script n in
-    let s : IsSaved book (script_of cookie book (heard (take n effects))) (deeds (take n effects)) left = word.keeps.saved n left image in
+every-file config book saved first left answer effects word n image recovered =
+    let done : IsDone config book (heard (take n effects)) (deeds (take n effects)) = done-is config book effects word.carries.on_script n in
+    let s : IsSaved book (script_of config book (heard (take n effects))) (deeds (take n effects)) left = word.keeps.saved n left image in
     record {
       done = done;
-      ids = λ some. files-keep-up cookie book saved (heard (take n effects)) (deeds (take n effects)) left s recovered done.front done.later done.parts done.same some;
-      discards = λ rules command is. files-forget cookie book saved (heard (take n effects)) (deeds (take n effects)) left rules s recovered done.front done.later done.parts done.same done.next command is;
-      saves = λ o id some. files-keep cookie book saved (heard (take n effects)) (deeds (take n effects)) left o s recovered done.front done.later done.parts done.same done.next id some;
+      ids = λ some. files-keep-up config book saved (heard (take n effects)) (deeds (take n effects)) left s recovered done.front done.later done.parts done.same some;
+      discards = λ rules command is. files-forget config book saved (heard (take n effects)) (deeds (take n effects)) left rules s recovered done.front done.later done.parts done.same done.next command is;
+      saves = λ o id some. files-keep config book saved (heard (take n effects)) (deeds (take n effects)) left o s recovered done.front done.later done.parts done.same done.next id some;
     }

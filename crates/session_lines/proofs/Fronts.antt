@@ -4,7 +4,7 @@ use Rattle.std.specs.Prelude.{reverse}
 use Rattle.std.specs.List.{Contains}
 use Rattle.std.proofs.lemmas.List.{append-nil, append_assoc, reverse-append}
 use Rattle.sm_world.specs.declared.events.Event.{Event}
-use Rattle.ice_cookie.specs.declared.cookies.Cookie.{Cookie}
+use Rattle.session_engine.specs.declared.config.Config.{Config}
 use Rattle.checkpoint_records.specs.declared.records.Book.{Book}
 use Rattle.xsmp_messages.specs.declared.message.XsmpMessage.TheVariants.{Interact, RegisterClientReply, SaveComplete, SaveYourselfPhase2}
 use Rattle.session_engine.specs.Acts.{has_finish}
@@ -41,18 +41,18 @@ run-holds book m (event ∷ events) seen at =
     subst (λ (xs : List Seen). Holds book xs) (sym (along-append taken (if◌then◌else◌ {A = List Seen} ends [] (line_from next events)) (Comes event ∷ seen)))
     (rest-holds book ends next (line_from next events) (along (Comes event ∷ seen) taken) after (run-holds book next events (along (Comes event ∷ seen) taken) after))
 
-line-holds : (cookie : Cookie) (book : Book) (events : List Event) → Holds book (along [] (line cookie book events))
-line-holds cookie book events =
-    subst (λ (xs : List Seen). Holds book xs) (sym (along-append (map Does (opening_acts book)) (line_from (start cookie book) events) []))
-    (run-holds book (start cookie book) events (along [] (map Does (opening_acts book))) (opened-at book))
+line-holds : (config : Config) (book : Book) (events : List Event) → Holds book (along [] (line config book events))
+line-holds config book events =
+    subst (λ (xs : List Seen). Holds book xs) (sym (along-append (map Does (opening_acts book)) (line_from (start config book) events) []))
+    (run-holds book (start config book) events (along [] (map Does (opening_acts book))) (opened-at book))
 
 pub turned-is : (xs : List Seen) → along [] xs ≡ reverse xs
 turned-is xs = along-is xs [] ∙ append-nil (reverse xs)
 
-front-holds : (cookie : Cookie) (book : Book) (seen : List Seen) → IsSeen cookie book seen → Holds book (along [] seen)
-front-holds cookie book seen s =
+front-holds : (config : Config) (book : Book) (seen : List Seen) → IsSeen config book seen → Holds book (along [] seen)
+front-holds config book seen s =
     holds-front book (reverse s.later) (along [] seen)
-    (subst (λ (xs : List Seen). Holds book xs) (sym (ap (λ (xs : List Seen). along [] xs) s.parts) ∙ along-append seen s.later [] ∙ along-is s.later (along [] seen)) (line-holds cookie book s.events))
+    (subst (λ (xs : List Seen). Holds book xs) (sym (ap (λ (xs : List Seen). along [] xs) s.parts) ∙ along-append seen s.later [] ∙ along-is s.later (along [] seen)) (line-holds config book s.events))
 
 -- what an entry of a front asked of the notes before it
 due-at : (book : Book) (seen before after : List Seen) (entry : Seen) → before ++ entry ∷ after ≡ seen → Holds book (along [] seen) → Due book (notes before) entry
@@ -62,24 +62,24 @@ due-at book seen before after entry e h =
     (subst (λ (xs : List Seen). Holds book xs) (sym (ap (λ (xs : List Seen). along [] xs) e) ∙ along-append before (entry ∷ after) [] ∙ along-is after (entry ∷ along [] before)) h)).1.0
 
 -- what is kept stands behind each front
-kept-there : (cookie : Cookie) (book : Book) (seen : List Seen) → IsSeen cookie book seen → KeptHolds book (notes seen)
-kept-there cookie book seen s = (kept-top book (reverse seen) (subst (λ (xs : List Seen). Holds book xs) (turned-is seen) (front-holds cookie book seen s))).1.1.1
+kept-there : (config : Config) (book : Book) (seen : List Seen) → IsSeen config book seen → KeptHolds book (notes seen)
+kept-there config book seen s = (kept-top book (reverse seen) (subst (λ (xs : List Seen). Holds book xs) (turned-is seen) (front-holds config book seen s))).1.1.1
 
-complete-there : (cookie : Cookie) (book : Book) (seen before after : List Seen) (c : ℕ) (id : List ℕ) (table : List Property) → IsSeen cookie book seen → before ++ Does (Say c (Xsmp SaveComplete)) ∷ after ≡ seen → IsOpenable book
+complete-there : (config : Config) (book : Book) (seen before after : List Seen) (c : ℕ) (id : List ℕ) (table : List Property) → IsSeen config book seen → before ++ Does (Say c (Xsmp SaveComplete)) ∷ after ≡ seen → IsOpenable book
     → id_in c (notes before) ≡ Some id → snapshot_in book c (notes before) ≡ Some table → is_eligible table ≡ true → Contains (book_in book (notes before)).entries (record { id = id; table = table })
-complete-there cookie book seen before after c id table s e o i k l =
+complete-there config book seen before after c id table s e o i k l =
     let told : List Seen = before ++ Does (Say c (Xsmp SaveComplete)) ∷ [] in
-    let there : IsSeen cookie book told = record {
+    let there : IsSeen config book told = record {
       events = s.events;
       later = after ++ s.later;
       parts = sym (append_assoc told after s.later) ∙ ap (λ (xs : List Seen). xs ++ s.later) (append_assoc before (Does (Say c (Xsmp SaveComplete)) ∷ []) after ∙ e) ∙ s.parts;
     } in
     let is : notes told ≡ Given c SaveComplete ∷ notes before = ap (λ (xs : List Seen). noted xs) (reverse-append before (Does (Say c (Xsmp SaveComplete)) ∷ [])) ∙ noted-given c SaveComplete (reverse before) refl in
-    complete-stands book (notes before) c id table (subst (λ (x : List Note). Holding (book_in book x) id (kept_in book id x)) is (kept-there cookie book told there o id)) i k l
+    complete-stands book (notes before) c id table (subst (λ (x : List Note). Holding (book_in book x) id (kept_in book id x)) is (kept-there config book told there o id)) i k l
 
-pub laws-hold : (cookie : Cookie) (book : Book) (seen : List Seen) → IsSeen cookie book seen → KeepsLaws book seen
-laws-hold cookie book seen s =
-    let h : Holds book (along [] seen) = front-holds cookie book seen s in
+pub laws-hold : (config : Config) (book : Book) (seen : List Seen) → IsSeen config book seen → KeepsLaws book seen
+laws-hold config book seen s =
+    let h : Holds book (along [] seen) = front-holds config book seen s in
     let k = kept-top book (reverse seen) (subst (λ (xs : List Seen). Holds book xs) (turned-is seen) h) in
     record {
       one_has_the_token = k.0;
@@ -92,6 +92,6 @@ laws-hold cookie book seen s =
       entries_were_saved = λ written before after e. (due-at book seen before after (Does (Commit written)) e h).0;
       discarded_states_are_not_named = λ rules command e. k.1.1.0 (none-named-by_rules book rules) command e;
       saves_are_kept = λ o id some. k.1.1.1 o id some;
-      completed_saves_stand = λ o c id table before after e i w l. complete-there cookie book seen before after c id table s e o i w l;
+      completed_saves_stand = λ o c id table before after e i w l. complete-there config book seen before after c id table s e o i w l;
       pending_is_not_lost = λ written command before after e p. (due-at book seen before after (Does (Commit written)) e h).1 command p;
     }

@@ -22,8 +22,8 @@ of-run : (book : Book) (ids : List (List ℕ)) (b : Book) (id : List ℕ) → Al
 of-run book ids b id all has = (contains-all (λ i. IsOfRun (book.epoch + 1) i × (b.epoch ≡ book.epoch + 1)) id ids has all).0
 
 pub later-runs : LaterRunsGiveOtherIds
-later-runs cookie next book saved before room seen later first second id new again =
-    let one : IsOfRun (book.epoch + 1) id = of-run book (new_ids (notes seen)) (book_in book (notes seen)) id (laws-hold cookie book seen first).new_ids_are_of_the_run new in
+later-runs config next book saved before room seen later first second id new again =
+    let one : IsOfRun (book.epoch + 1) id = of-run book (new_ids (notes seen)) (book_in book (notes seen)) id (laws-hold config book seen first).new_ids_are_of_the_run new in
     let two : IsOfRun (saved.epoch + 1) id = of-run saved (new_ids (notes later)) (book_in saved (notes later)) id (laws-hold next saved later second).new_ids_are_of_the_run again in
     not-same book.epoch saved.epoch before
     (same-epoch (book.epoch + 1) (saved.epoch + 1) one.number two.number (later-below book.epoch saved.epoch before room) room (sym one.is ∙ two.is))

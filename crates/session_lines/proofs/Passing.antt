@@ -8,7 +8,7 @@ use Rattle.sm_world.specs.Outside.{Outside}
 use Rattle.sm_world.specs.declared.effects.Effect.{Effect}
 use Rattle.sm_world.specs.declared.effects.Effect.TheVariants.{Heard}
 use Rattle.sm_world.specs.declared.events.Event.{Event}
-use Rattle.ice_cookie.specs.declared.cookies.Cookie.{Cookie}
+use Rattle.session_engine.specs.declared.config.Config.{Config}
 use Rattle.checkpoint_records.specs.declared.records.Book.{Book}
 use Rattle.session_engine.specs.Acts.{deed_in, deeds_in, has_finish}
 use Rattle.heard_events.specs.Brought.{IsPrefix}
@@ -116,15 +116,15 @@ last-of (effect ∷ effects) = elim (last-of effects) [
 
 -- Points of a run
 
-deeds-line : (cookie : Cookie) (book : Book) (events : List Event) → deeds_seen (line cookie book events) ≡ deeds_in (script_of cookie book events)
-deeds-line cookie book events = ap (λ (acts : List Act). deeds_in acts) (acts-line cookie book events)
+deeds-line : (config : Config) (book : Book) (events : List Event) → deeds_seen (line config book events) ≡ deeds_in (script_of config book events)
+deeds-line config book events = ap (λ (acts : List Act). deeds_in acts) (acts-line config book events)
 
 -- before anything was heard
-done-first : (cookie : Cookie) (book : Book) (done : List Deed) → IsPrefix done (deeds_in (script_of cookie book [])) → IsDone cookie book [] done
-done-first cookie book done (rest, e) =
-    let cut : Cut (line cookie book []) done = cut-at (line cookie book []) done rest (e ∙ sym (deeds-line cookie book [])) in
-    let none : events_in (line cookie book []) ≡ [] = flat_map-append event_of (map Does (opening_acts book)) [] ∙ ap (λ (xs : List Event). xs ++ []) (events-does (opening_acts book)) in
-    record { front = cut.front; later = cut.later; parts = cut.parts; came = cut-deaf (line cookie book []) done none cut; same = cut.same; next = cut.next }
+done-first : (config : Config) (book : Book) (done : List Deed) → IsPrefix done (deeds_in (script_of config book [])) → IsDone config book [] done
+done-first config book done (rest, e) =
+    let cut : Cut (line config book []) done = cut-at (line config book []) done rest (e ∙ sym (deeds-line config book [])) in
+    let none : events_in (line config book []) ≡ [] = flat_map-append event_of (map Does (opening_acts book)) [] ∙ ap (λ (xs : List Event). xs ++ []) (events-does (opening_acts book)) in
+    record { front = cut.front; later = cut.later; parts = cut.parts; came = cut-deaf (line config book []) done none cut; same = cut.same; next = cut.next }
 
 pub left-same : (xs ys zs : List Deed) → xs ++ ys ≡ xs ++ zs → ys ≡ zs
 left-same xs ys zs e = sym (drop-append_seam xs ys) ∙ ap (λ (ds : List Deed). drop (length xs) ds) e ∙ drop-append_seam xs zs
@@ -142,23 +142,23 @@ parts-behind : (event : Event) (first front later tail whole : List Seen) → fr
 parts-behind event first front later tail whole e f = append_assoc first (Comes event ∷ front) later ∙ ap (λ (xs : List Seen). first ++ Comes event ∷ xs) e ∙ sym f
 
 -- behind an event before which all was done
-done-behind : (cookie : Cookie) (book : Book) (events : List Event) (event : Event) (more : List Deed) → has_finish (script_of cookie book events) ≡ false
-    → IsPrefix (deeds_in (script_of cookie book events) ++ more) (deeds_in (script_of cookie book (events ++ event ∷ []))) → IsDone cookie book (events ++ event ∷ []) (deeds_in (script_of cookie book events) ++ more)
-done-behind cookie book events event more unfinished (rest, e) =
-    let m : Machine = after_all (start cookie book) events in
-    let first : List Seen = line cookie book events in
+done-behind : (config : Config) (book : Book) (events : List Event) (event : Event) (more : List Deed) → has_finish (script_of config book events) ≡ false
+    → IsPrefix (deeds_in (script_of config book events) ++ more) (deeds_in (script_of config book (events ++ event ∷ []))) → IsDone config book (events ++ event ∷ []) (deeds_in (script_of config book events) ++ more)
+done-behind config book events event more unfinished (rest, e) =
+    let m : Machine = after_all (start config book) events in
+    let first : List Seen = line config book events in
     let tail : List Seen = map seen_of (step m event).line in
-    let was : List Deed = deeds_in (script_of cookie book events) in
-    let whole : line cookie book (events ++ event ∷ []) ≡ first ++ step_line m event = line-more cookie book events event unfinished in
-    let all : deeds_in (script_of cookie book (events ++ event ∷ [])) ≡ was ++ deeds_seen tail =
-    sym (deeds-line cookie book (events ++ event ∷ [])) ∙ ap (λ (xs : List Seen). deeds_seen xs) whole ∙ seen-behind was (deeds_seen tail) event first tail (deeds-line cookie book events) refl in
+    let was : List Deed = deeds_in (script_of config book events) in
+    let whole : line config book (events ++ event ∷ []) ≡ first ++ step_line m event = line-more config book events event unfinished in
+    let all : deeds_in (script_of config book (events ++ event ∷ [])) ≡ was ++ deeds_seen tail =
+    sym (deeds-line config book (events ++ event ∷ [])) ∙ ap (λ (xs : List Seen). deeds_seen xs) whole ∙ seen-behind was (deeds_seen tail) event first tail (deeds-line config book events) refl in
     let cut : Cut tail more = cut-at tail more rest (left-same was (more ++ rest) (deeds_seen tail) (sym (append_assoc was more rest) ∙ e ∙ all)) in
     record {
       front = first ++ Comes event ∷ cut.front;
       later = cut.later;
-      parts = parts-behind event first cut.front cut.later tail (line cookie book (events ++ event ∷ [])) cut.parts whole;
-      came = events-behind events event first cut.front (events-line cookie book events unfinished) (cut-deaf tail more (events-step (step m event).line) cut);
-      same = seen-behind was more event first cut.front (deeds-line cookie book events) cut.same;
+      parts = parts-behind event first cut.front cut.later tail (line config book (events ++ event ∷ [])) cut.parts whole;
+      came = events-behind events event first cut.front (events-line config book events unfinished) (cut-deaf tail more (events-step (step m event).line) cut);
+      same = seen-behind was more event first cut.front (deeds-line config book events) cut.same;
       next = cut.next;
     }
 
@@ -173,49 +173,49 @@ heard-behind effects l = ap (λ (xs : List Effect). heard xs) (sym l.parts) ∙ 
 parts-at : (effects : List Effect) (n : ℕ) (l : Last (take n effects)) → l.before ++ (Heard l.event ∷ (l.after ++ drop n effects)) ≡ effects
 parts-at effects n l = sym (append_assoc l.before (Heard l.event ∷ l.after) (drop n effects)) ∙ ap (λ (xs : List Effect). xs ++ drop n effects) l.parts ∙ take-append-drop n effects
 
-done-last : (cookie : Cookie) (book : Book) (effects : List Effect) → IsOnScript cookie book effects → (n : ℕ) → Last (take n effects) → IsDone cookie book (heard (take n effects)) (deeds (take n effects))
-done-last cookie book effects on n l =
+done-last : (config : Config) (book : Book) (effects : List Effect) → IsOnScript config book effects → (n : ℕ) → Last (take n effects) → IsDone config book (heard (take n effects)) (deeds (take n effects))
+done-last config book effects on n l =
     let more : List Effect = l.after ++ drop n effects in
     let k : ℕ = length l.before in
     let is_heard : drop k effects ≡ Heard l.event ∷ more = ap (λ (xs : List Effect). drop k xs) (sym (parts-at effects n l)) ∙ drop-append_seam l.before (Heard l.event ∷ more) in
     let front : take k effects ≡ l.before = ap (λ (xs : List Effect). take k xs) (sym (parts-at effects n l)) ∙ take-append_seam l.before (Heard l.event ∷ more) in
-    let was : deeds l.before ≡ deeds_in (script_of cookie book (heard l.before)) = subst (λ (xs : List Effect). deeds xs ≡ deeds_in (script_of cookie book (heard xs))) front (on.no_deed_missing k l.event more is_heard) in
-    let unfinished : has_finish (script_of cookie book (heard l.before)) ≡ false = subst (λ (xs : List Effect). has_finish (script_of cookie book (heard xs)) ≡ false) front (on.heard_in_time k l.event more is_heard) in
-    let done : deeds (take n effects) ≡ deeds_in (script_of cookie book (heard l.before)) ++ deeds l.after = deeds-behind (take n effects) l ∙ ap (λ (ds : List Deed). ds ++ deeds l.after) was in
+    let was : deeds l.before ≡ deeds_in (script_of config book (heard l.before)) = subst (λ (xs : List Effect). deeds xs ≡ deeds_in (script_of config book (heard xs))) front (on.no_deed_missing k l.event more is_heard) in
+    let unfinished : has_finish (script_of config book (heard l.before)) ≡ false = subst (λ (xs : List Effect). has_finish (script_of config book (heard xs)) ≡ false) front (on.heard_in_time k l.event more is_heard) in
+    let done : deeds (take n effects) ≡ deeds_in (script_of config book (heard l.before)) ++ deeds l.after = deeds-behind (take n effects) l ∙ ap (λ (ds : List Deed). ds ++ deeds l.after) was in
     let came : heard (take n effects) ≡ heard l.before ++ l.event ∷ [] = heard-behind (take n effects) l in
-    subst (λ (ds : List Deed). IsDone cookie book (heard (take n effects)) ds) (sym done)
-    (subst (λ (events : List Event). IsDone cookie book events (deeds_in (script_of cookie book (heard l.before)) ++ deeds l.after)) (sym came)
-    (done-behind cookie book (heard l.before) l.event (deeds l.after) unfinished
-    (subst (λ (events : List Event). IsPrefix (deeds_in (script_of cookie book (heard l.before)) ++ deeds l.after) (deeds_in (script_of cookie book events))) came
-    (subst (λ (ds : List Deed). IsPrefix ds (deeds_in (script_of cookie book (heard (take n effects))))) done (on.no_other_deed n)))))
+    subst (λ (ds : List Deed). IsDone config book (heard (take n effects)) ds) (sym done)
+    (subst (λ (events : List Event). IsDone config book events (deeds_in (script_of config book (heard l.before)) ++ deeds l.after)) (sym came)
+    (done-behind config book (heard l.before) l.event (deeds l.after) unfinished
+    (subst (λ (events : List Event). IsPrefix (deeds_in (script_of config book (heard l.before)) ++ deeds l.after) (deeds_in (script_of config book events))) came
+    (subst (λ (ds : List Deed). IsPrefix ds (deeds_in (script_of config book (heard (take n effects))))) done (on.no_other_deed n)))))
 
-pub done-is : (cookie : Cookie) (book : Book) (effects : List Effect) → IsOnScript cookie book effects → (n : ℕ) → IsDone cookie book (heard (take n effects)) (deeds (take n effects))
-done-is cookie book effects on n = elim (last-of (take n effects)) [
-  | inl none ↦ subst (λ (events : List Event). IsDone cookie book events (deeds (take n effects))) (sym none)
-      (done-first cookie book (deeds (take n effects)) (subst (λ (events : List Event). IsPrefix (deeds (take n effects)) (deeds_in (script_of cookie book events))) none (on.no_other_deed n)))
-  | inr l ↦ done-last cookie book effects on n l
+pub done-is : (config : Config) (book : Book) (effects : List Effect) → IsOnScript config book effects → (n : ℕ) → IsDone config book (heard (take n effects)) (deeds (take n effects))
+done-is config book effects on n = elim (last-of (take n effects)) [
+  | inl none ↦ subst (λ (events : List Event). IsDone config book events (deeds (take n effects))) (sym none)
+      (done-first config book (deeds (take n effects)) (subst (λ (events : List Event). IsPrefix (deeds (take n effects)) (deeds_in (script_of config book events))) none (on.no_other_deed n)))
+  | inr l ↦ done-last config book effects on n l
 ]
 
 -- Runs
 
-lawful : (cookie : Cookie) (book : Book) (effects : List Effect) → IsOnScript cookie book effects → IsAlwaysLawful cookie book effects
-lawful cookie book effects on n =
-    let done : IsDone cookie book (heard (take n effects)) (deeds (take n effects)) = done-is cookie book effects on n in
-    record { done = done; laws = laws-hold cookie book done.front (record { events = heard (take n effects); later = done.later; parts = done.parts }) }
+lawful : (config : Config) (book : Book) (effects : List Effect) → IsOnScript config book effects → IsAlwaysLawful config book effects
+lawful config book effects on n =
+    let done : IsDone config book (heard (take n effects)) (deeds (take n effects)) = done-is config book effects on n in
+    record { done = done; laws = laws-hold config book done.front (record { events = heard (take n effects); later = done.later; parts = done.parts }) }
 
-opens-lawfully : (cookie : Cookie) (turns : ℕ) (old new : Outside) (answer : Result (Unit {0}) ServeFault) → Opens old new (λ opening current effects. Serves cookie opening current old.coming turns answer effects)
-    → Opens old new (λ book current effects. IsAlwaysLawful cookie book effects)
-opens-lawfully cookie turns old new answer o = record {
+opens-lawfully : (config : Config) (turns : ℕ) (old new : Outside) (answer : Result (Unit {0}) ServeFault) → Opens old new (λ opening current effects. Serves config opening current old.coming turns answer effects)
+    → Opens old new (λ book current effects. IsAlwaysLawful config book effects)
+opens-lawfully config turns old new answer o = record {
   book = o.book;
   current = o.current;
   recovered = o.recovered;
   size = o.size;
   below = o.below;
   rules = o.rules;
-  adds = record { effects = o.adds.effects; added = o.adds.added; holds = lawful cookie o.book o.adds.effects o.adds.holds.runs.carries.on_script };
+  adds = record { effects = o.adds.effects; added = o.adds.added; holds = lawful config o.book o.adds.effects o.adds.holds.runs.carries.on_script };
 }
 
-pub serves-lawfully : (cookie : Cookie) (turns : ℕ) (old new : Outside) (answer : Result (Unit {0}) ServeFault) → Serving cookie turns old new answer → ServesLawfully cookie old new answer
-serves-lawfully cookie turns old new (Ok x) s = opens-lawfully cookie turns old new (Ok x) s
-serves-lawfully cookie turns old new (Err fault) (inl r) = inl r
-serves-lawfully cookie turns old new (Err fault) (inr o) = inr (opens-lawfully cookie turns old new (Err fault) o)
+pub serves-lawfully : (config : Config) (turns : ℕ) (old new : Outside) (answer : Result (Unit {0}) ServeFault) → Serving config turns old new answer → ServesLawfully config old new answer
+serves-lawfully config turns old new (Ok x) s = opens-lawfully config turns old new (Ok x) s
+serves-lawfully config turns old new (Err fault) (inl r) = inl r
+serves-lawfully config turns old new (Err fault) (inr o) = inr (opens-lawfully config turns old new (Err fault) o)

@@ -5,7 +5,7 @@ use Rattle.std.proofs.lemmas.Bool.{false≢true}
 use Rattle.std.proofs.lemmas.Grind.{flat_map-append}
 use Rattle.std.proofs.lemmas.List.{append-nil}
 use Rattle.sm_world.specs.declared.events.Event.{Event}
-use Rattle.ice_cookie.specs.declared.cookies.Cookie.{Cookie}
+use Rattle.session_engine.specs.declared.config.Config.{Config}
 use Rattle.checkpoint_records.specs.declared.records.Book.{Book}
 use Rattle.session_engine.specs.Acts.{has_finish}
 use Rattle.session_engine.specs.Machine.{Does as DoesAct, Entry, Machine, Took as TookPart, act_in, acts_of, after_all, opening_acts, script_from, script_of, start, step}
@@ -38,10 +38,10 @@ acts-from m (event ∷ events) =
     flat_map-append act_of taken rest ∙ ap (λ (xs : List Act). xs ++ acts_in rest) (acts-step (step m event).line)
     ∙ ap (λ (xs : List Act). acts_of (step m event) ++ xs) (acts-rest ends (line_from next events) (script_from next events) (acts-from next events))
 
-pub acts-line : (cookie : Cookie) (book : Book) (events : List Event) → acts_in (line cookie book events) ≡ script_of cookie book events
-acts-line cookie book events =
-    flat_map-append act_of (map Does (opening_acts book)) (line_from (start cookie book) events) ∙ ap (λ (xs : List Act). xs ++ acts_in (line_from (start cookie book) events)) (acts-does (opening_acts book))
-    ∙ ap (λ (xs : List Act). opening_acts book ++ xs) (acts-from (start cookie book) events)
+pub acts-line : (config : Config) (book : Book) (events : List Event) → acts_in (line config book events) ≡ script_of config book events
+acts-line config book events =
+    flat_map-append act_of (map Does (opening_acts book)) (line_from (start config book) events) ∙ ap (λ (xs : List Act). xs ++ acts_in (line_from (start config book) events)) (acts-does (opening_acts book))
+    ∙ ap (λ (xs : List Act). opening_acts book ++ xs) (acts-from (start config book) events)
 
 -- Finish
 
@@ -57,8 +57,8 @@ finish-by false rest e = (refl, e)
 finish-parts : (acts rest : List Act) → has_finish (acts ++ (if◌then◌else◌ {A = List Act} (has_finish acts) [] rest)) ≡ false → (has_finish acts ≡ false) × (has_finish rest ≡ false)
 finish-parts acts rest e = finish-by (has_finish acts) rest (sym (has_finish-append acts (if◌then◌else◌ {A = List Act} (has_finish acts) [] rest)) ∙ e)
 
-later-unfinished : (cookie : Cookie) (book : Book) (events : List Event) → has_finish (script_of cookie book events) ≡ false → has_finish (script_from (start cookie book) events) ≡ false
-later-unfinished cookie book events e = second_by (has_finish (opening_acts book)) (has_finish (script_from (start cookie book) events)) (sym (has_finish-append (opening_acts book) (script_from (start cookie book) events)) ∙ e)
+later-unfinished : (config : Config) (book : Book) (events : List Event) → has_finish (script_of config book events) ≡ false → has_finish (script_from (start config book) events) ≡ false
+later-unfinished config book events e = second_by (has_finish (opening_acts book)) (has_finish (script_from (start config book) events)) (sym (has_finish-append (opening_acts book) (script_from (start config book) events)) ∙ e)
 
 -- Events
 
@@ -86,10 +86,10 @@ events-from m (event ∷ events) e =
     ap (λ (xs : List Event). event ∷ xs)
     (flat_map-append event_of taken rest ∙ ap (λ (xs : List Event). xs ++ events_in rest) (events-step (step m event).line) ∙ events-rest ends (line_from next events) events parts.0 (events-from next events parts.1))
 
-pub events-line : (cookie : Cookie) (book : Book) (events : List Event) → has_finish (script_of cookie book events) ≡ false → events_in (line cookie book events) ≡ events
-events-line cookie book events e =
-    flat_map-append event_of (map Does (opening_acts book)) (line_from (start cookie book) events) ∙ ap (λ (xs : List Event). xs ++ events_in (line_from (start cookie book) events)) (events-does (opening_acts book))
-    ∙ events-from (start cookie book) events (later-unfinished cookie book events e)
+pub events-line : (config : Config) (book : Book) (events : List Event) → has_finish (script_of config book events) ≡ false → events_in (line config book events) ≡ events
+events-line config book events e =
+    flat_map-append event_of (map Does (opening_acts book)) (line_from (start config book) events) ∙ ap (λ (xs : List Event). xs ++ events_in (line_from (start config book) events)) (events-does (opening_acts book))
+    ∙ events-from (start config book) events (later-unfinished config book events e)
 
 -- One event more
 
@@ -110,7 +110,7 @@ line_from-more m (first ∷ events) event e =
     rw (parts.0)
     (ap (λ (xs : List Seen). Comes first ∷ (taken ++ xs)) (line_from-more next events event parts.1) ∙ ap (λ (xs : List Seen). Comes first ∷ xs) (sym (append_assoc taken (line_from next events) (step_line (after_all next events) event))))
 
-pub line-more : (cookie : Cookie) (book : Book) (events : List Event) (event : Event) → has_finish (script_of cookie book events) ≡ false → line cookie book (events ++ event ∷ []) ≡ line cookie book events ++ step_line (after_all (start cookie book) events) event
-line-more cookie book events event e =
-    ap (λ (xs : List Seen). map Does (opening_acts book) ++ xs) (line_from-more (start cookie book) events event (later-unfinished cookie book events e))
-    ∙ sym (append_assoc (map Does (opening_acts book)) (line_from (start cookie book) events) (step_line (after_all (start cookie book) events) event))
+pub line-more : (config : Config) (book : Book) (events : List Event) (event : Event) → has_finish (script_of config book events) ≡ false → line config book (events ++ event ∷ []) ≡ line config book events ++ step_line (after_all (start config book) events) event
+line-more config book events event e =
+    ap (λ (xs : List Seen). map Does (opening_acts book) ++ xs) (line_from-more (start config book) events event (later-unfinished config book events e))
+    ∙ sym (append_assoc (map Does (opening_acts book)) (line_from (start config book) events) (step_line (after_all (start config book) events) event))

@@ -6,7 +6,7 @@ use Rattle.sm_world.specs.Effects.{Deed, deeds, heard}
 use Rattle.sm_world.specs.declared.commands.Command.{Command}
 use Rattle.sm_world.specs.declared.effects.Effect.{Effect}
 use Rattle.sm_world.specs.declared.events.Event.{Event}
-use Rattle.ice_cookie.specs.declared.cookies.Cookie.{Cookie}
+use Rattle.session_engine.specs.declared.config.Config.{Config}
 use Rattle.checkpoint_records.specs.declared.records.Book.{Book}
 use Rattle.checkpoint_records.specs.Books.{names}
 use Rattle.checkpoint_records.specs.Rules.{KeepsRules}
@@ -27,16 +27,16 @@ use Rattle.session_lines.specs.Runs.{IsDone, IsNextDeed}
 -- The next run has the epoch after that of its file, so it doesn't give this ID again.
 abbrev pub FilesKeepUp : Type 0
 FilesKeepUp =
-    (cookie : Cookie) (book saved : Book) (events : List Event) (done : List Deed) (file : List ℕ) → IsSaved book (script_of cookie book events) done file → Recovers file (Ok saved)
-    → (seen later : List Seen) → seen ++ later ≡ line cookie book events → deeds_in (acts_in seen) ≡ done → new_ids (notes seen) ≢ [] → saved.epoch ≡ book.epoch + 1
+    (config : Config) (book saved : Book) (events : List Event) (done : List Deed) (file : List ℕ) → IsSaved book (script_of config book events) done file → Recovers file (Ok saved)
+    → (seen later : List Seen) → seen ++ later ≡ line config book events → deeds_in (acts_in seen) ≡ done → new_ids (notes seen) ≢ [] → saved.epoch ≡ book.epoch + 1
 
 -- Once a command was started to discard a state, no file that a crash could leave recovers to a book that names it, unless somebody
 -- has set it as his DiscardCommand again. What is seen goes up to the first deed that was not done. This asks that the opened book
 -- keeps the rules.
 abbrev pub FilesForgetDiscards : Type 0
 FilesForgetDiscards =
-    (cookie : Cookie) (book saved : Book) (events : List Event) (done : List Deed) (file : List ℕ) → KeepsRules book → IsSaved book (script_of cookie book events) done file → Recovers file (Ok saved)
-    → (seen later : List Seen) → seen ++ later ≡ line cookie book events → deeds_in (acts_in seen) ≡ done → IsNextDeed later
+    (config : Config) (book saved : Book) (events : List Event) (done : List Deed) (file : List ℕ) → KeepsRules book → IsSaved book (script_of config book events) done file → Recovers file (Ok saved)
+    → (seen later : List Seen) → seen ++ later ≡ line config book events → deeds_in (acts_in seen) ≡ done → IsNextDeed later
     → (command : Command) → is_discarded command (notes seen) ≡ true → names saved command ≡ false
 
 -- Each file that a crash could leave recovers to a book that has what is kept: under each ID the table of its last completed save, or
@@ -44,13 +44,13 @@ FilesForgetDiscards =
 -- the rules, and that its epoch has one after it.
 abbrev pub FilesKeepWhatWasSaved : Type 0
 FilesKeepWhatWasSaved =
-    (cookie : Cookie) (book saved : Book) (events : List Event) (done : List Deed) (file : List ℕ) → IsOpenable book → IsSaved book (script_of cookie book events) done file → Recovers file (Ok saved)
-    → (seen later : List Seen) → seen ++ later ≡ line cookie book events → deeds_in (acts_in seen) ≡ done → IsNextDeed later
+    (config : Config) (book saved : Book) (events : List Event) (done : List Deed) (file : List ℕ) → IsOpenable book → IsSaved book (script_of config book events) done file → Recovers file (Ok saved)
+    → (seen later : List Seen) → seen ++ later ≡ line config book events → deeds_in (acts_in seen) ≡ done → IsNextDeed later
     → (id : List ℕ) → kept_in book id (notes seen) ≢ [] → Stands saved id (kept_in book id (notes seen))
 
 -- The checkpoint of a file, against what was done in a run up to here.
-pub record IsSafe (cookie : Cookie) (book : Book) (effects : List Effect) (saved : Book) : Type 0 where
-  pub done : IsDone cookie book (heard effects) (deeds effects)
+pub record IsSafe (config : Config) (book : Book) (effects : List Effect) (saved : Book) : Type 0 where
+  pub done : IsDone config book (heard effects) (deeds effects)
   -- where an ID was new, the checkpoint is of the run's epoch
   pub ids : new_ids (notes done.front) ≢ [] → saved.epoch ≡ book.epoch + 1
   -- it names no state that was discarded and not set again
@@ -61,12 +61,12 @@ pub record IsSafe (cookie : Cookie) (book : Book) (effects : List Effect) (saved
 -- So it is at each point of every run that keeps its word, with each file that a crash could leave.
 abbrev pub EveryFileIsSafe : Type 0
 EveryFileIsSafe =
-    (cookie : Cookie) (book saved : Book) (first left : List ℕ) (answer : Result (Unit {0}) ServeFault) (effects : List Effect) → KeepsItsWord cookie book first answer effects
-    → (n : ℕ) → Image first (take n effects) left → Recovers left (Ok saved) → IsSafe cookie book (take n effects) saved
+    (config : Config) (book saved : Book) (first left : List ℕ) (answer : Result (Unit {0}) ServeFault) (effects : List Effect) → KeepsItsWord config book first answer effects
+    → (n : ℕ) → Image first (take n effects) left → Recovers left (Ok saved) → IsSafe config book (take n effects) saved
 
 -- A run over a book of a later epoch gives none of the IDs that were new in this one. A run is over a book whose epoch has one after it.
 abbrev pub LaterRunsGiveOtherIds : Type 0
 LaterRunsGiveOtherIds =
-    (cookie next : Cookie) (book saved : Book) → book.epoch < saved.epoch → saved.epoch + 1 < 2 ^ 32
-    → (seen later : List Seen) → IsSeen cookie book seen → IsSeen next saved later
+    (config next : Config) (book saved : Book) → book.epoch < saved.epoch → saved.epoch + 1 < 2 ^ 32
+    → (seen later : List Seen) → IsSeen config book seen → IsSeen next saved later
     → (id : List ℕ) → Contains (new_ids (notes seen)) id → ¬ (Contains (new_ids (notes later)) id)

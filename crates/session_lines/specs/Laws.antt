@@ -6,7 +6,7 @@ use Rattle.std.specs.List.{AllByRecursion, Contains, IsDistinct}
 use Rattle.std.specs.Str.{bytes_eq}
 use Rattle.sm_world.specs.declared.commands.Command.{Command}
 use Rattle.sm_world.specs.declared.events.Event.{Event}
-use Rattle.ice_cookie.specs.declared.cookies.Cookie.{Cookie}
+use Rattle.session_engine.specs.declared.config.Config.{Config}
 use Rattle.ice_values.specs.declared.property.Property.{Property}
 use Rattle.checkpoint_records.specs.declared.records.Book.{Book}
 use Rattle.checkpoint_records.specs.Books.{names}
@@ -26,18 +26,18 @@ use Rattle.session_notes.specs.Watching.{has_answered, has_token, is_to_save, re
 use Rattle.session_lines.specs.Lines.{Does, Seen, acts_in, events_in, line, notes}
 
 -- Somebody who watches has seen this so far, the oldest first: a run with this cookie over this book shows it, and then goes on.
-pub record IsSeen (cookie : Cookie) (book : Book) (seen : List Seen) : Type 0 where
+pub record IsSeen (config : Config) (book : Book) (seen : List Seen) : Type 0 where
   pub events : List Event
   pub later : List Seen
-  pub parts : seen ++ later ≡ line cookie book events
+  pub parts : seen ++ later ≡ line config book events
 
 -- all that the manager does is seen: the acts of a line are those of the script
 abbrev pub AllActsAreSeen : Type 0
-AllActsAreSeen = (cookie : Cookie) (book : Book) (events : List Event) → acts_in (line cookie book events) ≡ script_of cookie book events
+AllActsAreSeen = (config : Config) (book : Book) (events : List Event) → acts_in (line config book events) ≡ script_of config book events
 
 -- each event is seen, unless one before it ended the run
 abbrev pub AllEventsAreSeen : Type 0
-AllEventsAreSeen = (cookie : Cookie) (book : Book) (events : List Event) → has_finish (script_of cookie book events) ≡ false → events_in (line cookie book events) ≡ events
+AllEventsAreSeen = (config : Config) (book : Book) (events : List Event) → has_finish (script_of config book events) ≡ false → events_in (line config book events) ≡ events
 
 -- one connection has the token at most
 abbrev pub OneHasTheToken : List Seen → Type 0
@@ -118,4 +118,4 @@ pub record KeepsLaws (book : Book) (seen : List Seen) : Type 0 where
 
 -- this holds of each front of every line
 abbrev pub Always : (Book → List Seen → Type 0) → Type 0
-Always Holds = (cookie : Cookie) (book : Book) (seen : List Seen) → IsSeen cookie book seen → Holds book seen
+Always Holds = (config : Config) (book : Book) (seen : List Seen) → IsSeen config book seen → Holds book seen

@@ -4,7 +4,7 @@ use Rattle.std.specs.List.{flat_map}
 use Rattle.sm_world.specs.declared.events.Event.{Event}
 use Rattle.sm_world.specs.declared.events.Event.TheVariants.{Gone as HasGone, Joined, Operator}
 use Rattle.ice_values.specs.declared.refusals.DecodeRefusal.{DecodeRefusal}
-use Rattle.ice_cookie.specs.declared.cookies.Cookie.{Cookie}
+use Rattle.session_engine.specs.declared.config.Config.{Config}
 use Rattle.ice_messages.specs.declared.message.IceMessage.TheVariants.{Error as IceError}
 use Rattle.checkpoint_records.specs.declared.records.Book.{Book}
 use Rattle.xsmp_messages.specs.Reading.{decode_at}
@@ -39,8 +39,8 @@ line_from m [] = []
 line_from m (event ∷ events) = Comes event ∷ (map seen_of (step m event).line ++ (if has_finish (acts_of (step m event)) then [] else line_from (step m event).next events))
 
 -- all that is seen of a run, the oldest first: the opening acts, and then the events with what they bring
-abbrev pub line : Cookie → Book → List Event → List Seen
-line cookie book events = map Does (opening_acts book) ++ line_from (start cookie book) events
+abbrev pub line : Config → Book → List Event → List Seen
+line config book events = map Does (opening_acts book) ++ line_from (start config book) events
 
 -- the events among what is seen
 abbrev pub event_of : Seen → List Event

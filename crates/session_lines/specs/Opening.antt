@@ -2,7 +2,7 @@
 use Rattle.std.specs.Prelude.{List, [], map, ◌++◌, ◌≡◌}
 use Rattle.sm_world.specs.declared.commands.Command.{Command}
 use Rattle.sm_world.specs.declared.events.Event.{Event}
-use Rattle.ice_cookie.specs.declared.cookies.Cookie.{Cookie}
+use Rattle.session_engine.specs.declared.config.Config.{Config}
 use Rattle.checkpoint_records.specs.declared.records.Book.{Book}
 use Rattle.restart_plan.specs.Restarts.{opening_restarts}
 use Rattle.session_engine.specs.declared.acts.Act.TheVariants.{Start}
@@ -23,4 +23,4 @@ pub record BeginsAgain (book : Book) (seen : List Seen) : Type 0 where
 
 -- so every line begins
 abbrev pub LinesBeginAgain : Type 0
-LinesBeginAgain = (cookie : Cookie) (book : Book) (events : List Event) → BeginsAgain book (line cookie book events)
+LinesBeginAgain = (config : Config) (book : Book) (events : List Event) → BeginsAgain book (line config book events)

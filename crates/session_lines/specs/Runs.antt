@@ -4,7 +4,7 @@ use Rattle.sm_world.specs.Effects.{Deed, deeds, heard}
 use Rattle.sm_world.specs.Outside.{Outside}
 use Rattle.sm_world.specs.declared.effects.Effect.{Effect}
 use Rattle.sm_world.specs.declared.events.Event.{Event}
-use Rattle.ice_cookie.specs.declared.cookies.Cookie.{Cookie}
+use Rattle.session_engine.specs.declared.config.Config.{Config}
 use Rattle.checkpoint_records.specs.declared.records.Book.{Book}
 use Rattle.session_engine.specs.Acts.{deeds_in}
 use Rattle.session_engine.specs.Carries.{FailsOr, IsOnScript, Opens}
@@ -19,32 +19,32 @@ IsNextDeed [] = Unit {0}
 IsNextDeed (entry ∷ later) = (deed : Deed) × (deeds_in (act_of entry) ≡ deed ∷ [])
 
 -- A front of the line of these events, which has all of them and exactly these deeds, and ends before the first deed that is missing.
-pub record IsDone (cookie : Cookie) (book : Book) (events : List Event) (done : List Deed) : Type 0 where
+pub record IsDone (config : Config) (book : Book) (events : List Event) (done : List Deed) : Type 0 where
   pub front : List Seen
   pub later : List Seen
-  pub parts : front ++ later ≡ line cookie book events
+  pub parts : front ++ later ≡ line config book events
   pub came : events_in front ≡ events
   pub same : deeds_in (acts_in front) ≡ done
   pub next : IsNextDeed later
 
 -- at each point of a run what was done is a front of the line of what was heard
 abbrev pub WhatWasDoneIsAFront : Type 0
-WhatWasDoneIsAFront = (cookie : Cookie) (book : Book) (effects : List Effect) → IsOnScript cookie book effects → (n : ℕ) → IsDone cookie book (heard (take n effects)) (deeds (take n effects))
+WhatWasDoneIsAFront = (config : Config) (book : Book) (effects : List Effect) → IsOnScript config book effects → (n : ℕ) → IsDone config book (heard (take n effects)) (deeds (take n effects))
 
 -- what was done of a run up to here, and that it keeps the laws
-pub record IsLawful (cookie : Cookie) (book : Book) (effects : List Effect) : Type 0 where
-  pub done : IsDone cookie book (heard effects) (deeds effects)
+pub record IsLawful (config : Config) (book : Book) (effects : List Effect) : Type 0 where
+  pub done : IsDone config book (heard effects) (deeds effects)
   pub laws : KeepsLaws book done.front
 
 -- it is so at each point of a run
-abbrev pub IsAlwaysLawful : Cookie → Book → List Effect → Type 0
-IsAlwaysLawful cookie book effects = (n : ℕ) → IsLawful cookie book (take n effects)
+abbrev pub IsAlwaysLawful : Config → Book → List Effect → Type 0
+IsAlwaysLawful config book effects = (n : ℕ) → IsLawful config book (take n effects)
 
 -- what a call of the engine added is lawful; or it did nothing
-abbrev pub ServesLawfully : Cookie → Outside → Outside → Result (Unit {0}) ServeFault → Type 0
-ServesLawfully cookie old new (Ok x) = Opens old new (λ book current effects. IsAlwaysLawful cookie book effects)
-ServesLawfully cookie old new (Err fault) = FailsOr old new (λ book current effects. IsAlwaysLawful cookie book effects) fault
+abbrev pub ServesLawfully : Config → Outside → Outside → Result (Unit {0}) ServeFault → Type 0
+ServesLawfully config old new (Ok x) = Opens old new (λ book current effects. IsAlwaysLawful config book effects)
+ServesLawfully config old new (Err fault) = FailsOr old new (λ book current effects. IsAlwaysLawful config book effects) fault
 
 -- So every call of the engine that serves keeps the laws.
 abbrev pub EveryRunKeepsTheLaws : Type 0
-EveryRunKeepsTheLaws = (cookie : Cookie) (turns : ℕ) (old new : Outside) (answer : Result (Unit {0}) ServeFault) → Serving cookie turns old new answer → ServesLawfully cookie old new answer
+EveryRunKeepsTheLaws = (config : Config) (turns : ℕ) (old new : Outside) (answer : Result (Unit {0}) ServeFault) → Serving config turns old new answer → ServesLawfully config old new answer

@@ -8,7 +8,7 @@ use Rattle.interact_queue.specs.Queue.{is_in, without}
 use Rattle.session_model.specs.declared.phase.Phase.{Phase}
 use Rattle.session_model.specs.declared.phase.Phase.TheVariants.{Unregistered, Idle, Saving, Asked, Interacting, WantsTwo, SavingTwo, AskedTwo, InteractingTwo, Done, Owing, Dying}
 use Rattle.session_model.specs.declared.events.SessionEvent.{SessionEvent}
-use Rattle.session_model.specs.declared.events.SessionEvent.TheVariants.{Joined, Ready, Said, Left, Operator}
+use Rattle.session_model.specs.declared.events.SessionEvent.TheVariants.{Joined, Ready, Said, Left, Operator, Tick}
 use Rattle.session_model.specs.Phases.{is_asked, is_saving, may_interact, asked_phase, talked_phase, saved_phase, second_phase, cancelled_phase, dying_phase, phase_given, ready_phase}
 use Rattle.session_model.specs.Moves.{Move, Outside, Gave, Unset, Closed, History, Opened, ◌▷◌}
 use Rattle.session_model.specs.Readings as of
@@ -121,6 +121,7 @@ asked-heard (Ready d) h k c e = k c (none-at (eqb d c) (of.phase_of c h) (ready_
 asked-heard (Said d m sequence frame) h k c e = asked-said d m sequence frame h k c e
 asked-heard (Left d) h k c e = k c (none-gone (eqb d c) (of.phase_of c h) e)
 asked-heard (Operator order) h k c e = k c e
+asked-heard (Tick milliseconds) h k c e = k c e
 
 asked-step : (m : Move) (h : History) → HaveAsked h → HaveAsked (m ▷ h)
 asked-step (Outside event) h k c e = asked-heard event h k c e
@@ -130,7 +131,7 @@ asked-step (Closed d) h k c e = k c (none-gone (eqb d c) (of.phase_of c h) e)
 asked-step m h k c e = k c e
 
 have-asked : (h : History) → HaveAsked h
-have-asked (Opened book) c e = absurd (grind arith)
+have-asked (Opened opening) c e = absurd (grind arith)
 have-asked (m ▷ h) c e = asked-step m h (have-asked h) c e
 
 and-false : (b : Bool) → false ≡ (b && false)
@@ -184,7 +185,7 @@ once-step (Outside event) h o = once-heard event h o
 once-step m h o = o
 
 once-askers : (h : History) → Once (of.askers h)
-once-askers (Opened book) = tt
+once-askers (Opened opening) = tt
 once-askers (m ▷ h) = once-step m h (once-askers h)
 
 in-fewer : (x i : Bool) → i ≡ false → (x && i) ≡ false

@@ -4,7 +4,7 @@ use Rattle.std.specs.Str.{is_utf8, chars}
 use Rattle.std.specs.Fmt.{digits}
 use Rattle.hex.specs.Hex.{encode_with}
 use lib.Utf8.{encode}
-use Rattle.session_model.specs.Examples.{ANewClientSaves, AnUnknownIdIsRefused, ALongIdIsShownInPart, PropertiesAreKept, AFullTableIsRefused, ThereIsRoomFor64, ACheckpointGoesOn, ACheckpointWaitsForAll, TheTokenGoesOn, TheTokenIsHeldByOne, TheTokenIsGivenBack, OnlyErrorsAreAllowed, AShutdownIsCancelled, AnEmptySessionEnds, OrdersAnswer, AnOldStateIsDiscarded, ExpectedEntriesStay, TheRequestTellsWhoIsNew, ASessionIsTakenUp}
+use Rattle.session_model.specs.Examples.{ANewClientSaves, AnUnknownIdIsRefused, ALongIdIsShownInPart, PropertiesAreKept, AFullTableIsRefused, ThereIsRoomFor64, ACheckpointGoesOn, ACheckpointWaitsForAll, TheTokenGoesOn, TheTokenIsHeldByOne, TheTokenIsGivenBack, OnlyErrorsAreAllowed, AShutdownIsCancelled, AnEmptySessionEnds, OrdersAnswer, AnOldStateIsDiscarded, ExpectedEntriesStay, TheRequestTellsWhoIsNew, ASessionIsTakenUp, ASilentClientIsShut, TalkingIsNoSilence, ADebtEndsWithPatience, TwoAreShutAtOnce, WithoutPatienceNobodyIsShut}
 
 pub a_new_client_saves : ANewClientSaves
 unfolding encode_with is_utf8 chars encode digits
@@ -81,3 +81,23 @@ the_request_tells_who_is_new = refl
 pub a_session_is_taken_up : ASessionIsTakenUp
 unfolding encode_with is_utf8 chars encode digits
 a_session_is_taken_up = refl
+
+pub a_silent_client_is_shut : ASilentClientIsShut
+unfolding encode_with is_utf8 chars encode digits
+a_silent_client_is_shut = refl
+
+pub talking_is_no_silence : TalkingIsNoSilence
+unfolding encode_with is_utf8 chars encode digits
+talking_is_no_silence = refl
+
+pub a_debt_ends_with_patience : ADebtEndsWithPatience
+unfolding encode_with is_utf8 chars encode digits
+a_debt_ends_with_patience = refl
+
+pub two_are_shut_at_once : TwoAreShutAtOnce
+unfolding encode_with is_utf8 chars encode digits
+two_are_shut_at_once = refl
+
+pub without_patience_nobody_is_shut : WithoutPatienceNobodyIsShut
+unfolding encode_with is_utf8 chars encode digits
+without_patience_nobody_is_shut = refl

@@ -1,10 +1,9 @@
 -- None of the session's own moves comes from outside: what they keep holds once an event is taken.
 use Rattle.std.proofs.Common.{ℕ, zero, suc, ◌+◌, ◌*◌, Bool, true, false, cond, ◌&&◌, List, [], ◌∷◌, length}
 use Rattle.std.specs.List.{AllByRecursion}
-use Rattle.checkpoint_records.specs.declared.records.Book.{Book}
 use Rattle.round_agreement.specs.Agreement.{is_nil}
 use Rattle.session_model.specs.declared.events.SessionEvent.{SessionEvent}
-use Rattle.session_model.specs.Moves.{Blamed, Finished, History, Move, Opened, Outside, onto, ◌▷◌}
+use Rattle.session_model.specs.Moves.{Blamed, Finished, History, Move, Opened, Outside, onto, ◌▷◌, Opening}
 use Rattle.session_model.specs.Readings as of
 use Rattle.session_model.specs.Reading.{reading}
 use Rattle.session_model.specs.Books.{opening_moves}
@@ -61,5 +60,5 @@ module _ (P : History → Type 0) (keeps : (m : Move) (h : History) → IsInner 
   kept-taken event h p = kept-replied event h (kept-onto (reply (reading h) event) (Outside event ▷ h) (inner-answer (reply (reading h) event) (own-reply (reading h) event)) p)
 
   -- and so it holds once a book is opened
-  pub kept-opening : (book : Book) → P (Opened book) → P (opened book)
-  kept-opening book p = kept-onto (opening_moves book) (Opened book) (all-inner (opening_moves book) (own-opening book)) p
+  pub kept-opening : (opening : Opening) → P (Opened opening) → P (opened opening)
+  kept-opening opening p = kept-onto (opening_moves opening.book) (Opened opening) (all-inner (opening_moves opening.book) (own-opening opening.book)) p

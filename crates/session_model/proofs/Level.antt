@@ -8,7 +8,7 @@ use Rattle.interact_queue.specs.Queue.{is_in, without}
 use Rattle.session_model.specs.declared.phase.Phase.{Phase}
 use Rattle.session_model.specs.declared.phase.Phase.TheVariants.{Unregistered, Idle, Done}
 use Rattle.session_model.specs.declared.events.SessionEvent.{SessionEvent}
-use Rattle.session_model.specs.declared.events.SessionEvent.TheVariants.{Joined, Ready, Said, Left, Operator}
+use Rattle.session_model.specs.declared.events.SessionEvent.TheVariants.{Joined, Ready, Said, Left, Operator, Tick}
 use Rattle.session_model.specs.Phases.{is_member, may_interact, phase_said, phase_given, ready_phase, dying_phase, begun_phase, completed_phase, cancelled_phase}
 use Rattle.session_model.specs.Moves.{Move, Cause, Outside, Gave, Unset, Closed, Began, Over, Cancelled, Agreed, History, ◌▷◌, onto, gave_each, tried_each}
 use Rattle.session_model.specs.Readings as of
@@ -35,6 +35,7 @@ level-heard (Said d m sequence frame) h l c =
     l c ∙ sym (at-one (λ p. is_member p) (eqb d c) (of.phase_of c h) (phase_said (λ dialog. may_interact (of.wanted h) dialog) m (of.phase_of c h)) (quiet-said (λ dialog. may_interact (of.wanted h) dialog) m (of.phase_of c h)).member)
 level-heard (Left d) h l c = level-left d h l c
 level-heard (Operator order) h l c = l c
+level-heard (Tick milliseconds) h l c = l c
 
 level-by : (d : ℕ) (m : XsmpMessage) (h : History) → ((p : Option Phase) → is_member (phase_given m p) ≡ is_member p) → Level h → Level (Gave d m ▷ h)
 level-by d m h k l c = l c ∙ sym (at-one (λ p. is_member p) (eqb d c) (of.phase_of c h) (phase_given m (of.phase_of c h)) (k (of.phase_of c h)))

@@ -28,3 +28,4 @@ pub mod Whole
 pub mod WholeReply
 pub mod Own
 pub mod Inner
+pub mod Silent

@@ -50,7 +50,7 @@ ids-step (Closed d) h k c = ids-gone d h k c
 ids-step m h k c = k c
 
 pub have-ids : (h : History) → HaveIds h
-have-ids (Opened book) c = refl
+have-ids (Opened opening) c = refl
 have-ids (m ▷ h) c = ids-step m h (have-ids h) c
 
 -- Who asks for a new ID

@@ -1,7 +1,7 @@
 -- What the session does about something that came from outside: its own moves are no events, and an Error stands only at the front
 -- of an answer.
 use Rattle.std.proofs.Common.{◌≡◌, refl, sym, ap, ◌∙◌, ℕ, zero, suc, ◌+◌, ◌*◌, Bool, true, false, cond, not, ◌&&◌, ◌||◌, List, [], ◌∷◌, ◌++◌, map, filter, length}
-use Rattle.std.specs.Prelude.{Option, Some, None, is_some, filter_map, codes}
+use Rattle.std.specs.Prelude.{Option, Some, None, is_some, filter_map, codes, flat_map}
 use Rattle.sm_world.specs.declared.commands.Command.{Command}
 use Rattle.sm_world.specs.declared.events.Order.{Order}
 use Rattle.sm_world.specs.declared.events.Order.TheVariants.{Checkpoint, Shutdown, Cancel, Status, DropConn, Forget}
@@ -19,7 +19,7 @@ use Rattle.session_model.specs.declared.phase.Phase.{Phase}
 use Rattle.session_model.specs.declared.phase.Phase.TheVariants.{Dying}
 use Rattle.session_model.specs.declared.waits.Wait.{Wait}
 use Rattle.session_model.specs.declared.events.SessionEvent.{SessionEvent}
-use Rattle.session_model.specs.declared.events.SessionEvent.TheVariants.{Joined, Ready, Said, Left, Operator}
+use Rattle.session_model.specs.declared.events.SessionEvent.TheVariants.{Joined, Ready, Said, Left, Operator, Tick}
 use Rattle.session_model.specs.Phases.{is_bound, is_unregistered, is_dying, is_owing, is_saving, is_first_saving, is_interacting, is_shutdown, may_interact}
 use Rattle.session_model.specs.Tables.{is_full, entry_of}
 use Rattle.session_model.specs.Errors.{Arrival, no_room, bad_id, full_table, lone_shutdown}
@@ -27,7 +27,7 @@ use Rattle.session_model.specs.Moves.{Move, Cause, Outside, Gave, Blamed, Unset,
 use Rattle.session_model.specs.Readings as of
 use Rattle.session_model.specs.Reading.{Clients, Reading, reading, wanted_in, client_of}
 use Rattle.session_model.specs.Books.{next_book, book_forgetting, standing, issue, discarded, command_anyway, opening_moves, raised}
-use Rattle.session_model.specs.Replies.{or_bad_state, respawn_moves, entry_respawn, id_respawn, respawned, depart, has_no_room, may_rejoin, register, called_off, want_cancel, answered, unless_dying, said, resigned, forgotten, forget_one, ordered, has_no_place, reply}
+use Rattle.session_model.specs.Replies.{or_bad_state, respawn_moves, entry_respawn, id_respawn, respawned, depart, has_no_room, may_rejoin, register, called_off, want_cancel, answered, unless_dying, said, resigned, forgotten, forget_one, ordered, has_no_place, reply, is_overdue, waited}
 use Rattle.session_model.specs.Rules.{last_command, ended, completed, agreement_with, wanting_two, over_rule, agreed_rule, running_rule, save_yourself, members_for, begin_first, is_free, idle_rule, round_rule, token_rule, rule, go_on, settle, settled, taken}
 use Rattle.session_model.proofs.Level.{onto-append}
 
@@ -158,6 +158,10 @@ own-id r (Some id) = own-entry r id (entry_of id r.store.book)
 own-respawned : (r : Reading) (c : ℕ) → AllOwn (respawned r c)
 own-respawned r c = own-cond (is_dying (r.clients.phase c)) [] (id_respawn r (r.clients.id c)) tt (own-id r (r.clients.id c))
 
+own-departs : (r : Reading) (conns : List ℕ) → AllOwn (flat_map (depart r) conns)
+own-departs r [] = tt
+own-departs r (c ∷ conns) = own-append (depart r c) (flat_map (depart r) conns) (tt, own-respawned r c) (own-departs r conns)
+
 own-resigned : (command : Option Command) → AllOwn (resigned command)
 own-resigned None = tt
 own-resigned (Some command) = (tt, tt)
@@ -223,6 +227,7 @@ own-reply r (Ready c) = tt
 own-reply r (Said c m sequence frame) = own-said r (record { conn = c; message = m; sequence = sequence; frame = frame }) m
 own-reply r (Left c) = answer-of (respawned r c) (own-respawned r c)
 own-reply r (Operator order) = answer-of (ordered r order) (own-ordered r order)
+own-reply r (Tick milliseconds) = answer-of (waited r milliseconds) (own-departs r (filter (is_overdue r milliseconds) r.clients.registered))
 
 -- Settling
 

@@ -1,6 +1,6 @@
 -- Rules and answers move as the kept tables and IDs ask.
 use Rattle.std.proofs.Common.{◌≡◌, refl, ℕ, ◌+◌, ◌<◌, ◌≤◌, Bool, true, false, cond, not, ◌&&◌, ◌||◌, List, [], ◌∷◌, ◌++◌, map, filter, sym, subst, arith}
-use Rattle.std.specs.Prelude.{Option, Some, None, is_some, is_none, find, filter_map, nat_le, codes}
+use Rattle.std.specs.Prelude.{Option, Some, None, is_some, is_none, find, filter_map, nat_le, codes, flat_map}
 use Rattle.std.specs.List.{AllByRecursion, cons_option}
 use Rattle.std.specs.Cmp.Lexicographic.{same_text}
 use Rattle.std.proofs.lemmas.Bool.Decides.{nat_tests}
@@ -22,7 +22,7 @@ use Rattle.session_model.specs.declared.phase.Phase.{Phase}
 use Rattle.session_model.specs.declared.phase.Phase.TheVariants.{Dying}
 use Rattle.session_model.specs.declared.waits.Wait.{Wait}
 use Rattle.session_model.specs.declared.events.SessionEvent.{SessionEvent}
-use Rattle.session_model.specs.declared.events.SessionEvent.TheVariants.{Joined, Ready, Said, Left, Operator}
+use Rattle.session_model.specs.declared.events.SessionEvent.TheVariants.{Joined, Ready, Said, Left, Operator, Tick}
 use Rattle.session_model.specs.Phases.{is_bound, is_unregistered, is_dying, is_owing, is_saving, is_first_saving, is_interacting, is_shutdown, may_interact}
 use Rattle.session_model.specs.Tables.{is_full, is_of, entry_of, is_recorded}
 use Rattle.session_model.specs.Errors.{Arrival, no_room, bad_id, full_table, lone_shutdown}
@@ -30,7 +30,7 @@ use Rattle.session_model.specs.Moves.{Move, Cause, Gave, Blamed, Unset, Closed, 
 use Rattle.session_model.specs.Readings as of
 use Rattle.session_model.specs.Reading.{Reading, reading, wanted_in, client_of}
 use Rattle.session_model.specs.Books.{is_eligible, recorded, is_kept, snapshot, entry_saved, entry_for, next_entry, new_saved, new_entry, next_book, book_forgetting, standing, issue, discarded, command_anyway}
-use Rattle.session_model.specs.Replies.{refused, or_bad_state, respawn_moves, entry_respawn, id_respawn, respawned, depart, has_no_room, known_ids, may_rejoin, register, called_off, want_cancel, answered, unless_dying, said, resigned, forgotten, forget_one, ordered, has_no_place, reply}
+use Rattle.session_model.specs.Replies.{refused, or_bad_state, respawn_moves, entry_respawn, id_respawn, respawned, depart, has_no_room, known_ids, may_rejoin, register, called_off, want_cancel, answered, unless_dying, said, resigned, forgotten, forget_one, ordered, has_no_place, reply, is_overdue, waited}
 use Rattle.session_model.specs.Rules.{last_command, ended, completed, agreement_with, wanting_two, over_rule, agreed_rule, running_rule, save_yourself, members_for, begin_first, is_free, idle_rule, round_rule, token_rule, rule}
 use Rattle.session_model.proofs.Tidy.{either, IsSnapshot, HasId, Tidy, Proper, AllProper, proper-append}
 use Rattle.session_model.proofs.Short.{error-state, error-id, error-room, error-full, error-lone}
@@ -181,6 +181,10 @@ proper-id epoch r (Some id) = proper-entry epoch r id (entry_of id r.store.book)
 proper-respawned : (epoch : ℕ) (r : Reading) (c : ℕ) → AllProper epoch (respawned r c)
 proper-respawned epoch r c = proper-cond epoch (is_dying (r.clients.phase c)) [] (id_respawn r (r.clients.id c)) tt (proper-id epoch r (r.clients.id c))
 
+proper-departs : (epoch : ℕ) (r : Reading) (conns : List ℕ) → AllProper epoch (flat_map (depart r) conns)
+proper-departs epoch r [] = tt
+proper-departs epoch r (c ∷ conns) = proper-append epoch (depart r c) (flat_map (depart r) conns) (tt, proper-respawned epoch r c) (proper-departs epoch r conns)
+
 proper-resigned : (epoch : ℕ) (command : Option Command) → AllProper epoch (resigned command)
 proper-resigned epoch None = tt
 proper-resigned epoch (Some command) = (tt, tt)
@@ -282,3 +286,4 @@ proper-reply epoch h (Ready c) one e t = tt
 proper-reply epoch h (Said c m sequence frame) one e t = proper-said epoch h (record { conn = c; message = m; sequence = sequence; frame = frame }) m one e t
 proper-reply epoch h (Left c) one e t = proper-respawned epoch (reading h) c
 proper-reply epoch h (Operator order) one e t = proper-ordered epoch h order e t
+proper-reply epoch h (Tick milliseconds) one e t = proper-departs epoch (reading h) (filter (is_overdue (reading h) milliseconds) (of.registered h))

@@ -1,6 +1,6 @@
 -- The answers keep what holds between events, and so does all that an event brings.
-use Rattle.std.proofs.Common.{◌≡◌, refl, ℕ, Bool, true, false, cond, not, ◌&&◌, ◌||◌, List, [], ◌∷◌, ◌+◌, ◌*◌, length, eqb, sym, ap, ◌∙◌, arith}
-use Rattle.std.specs.Prelude.{Option, Some, None, is_some, codes}
+use Rattle.std.proofs.Common.{◌≡◌, refl, ℕ, Bool, true, false, cond, not, ◌&&◌, ◌||◌, List, [], ◌∷◌, ◌+◌, ◌*◌, length, eqb, sym, ap, ◌∙◌, arith, filter}
+use Rattle.std.specs.Prelude.{Option, Some, None, is_some, codes, flat_map}
 use Rattle.sm_world.specs.declared.commands.Command.{Command}
 use Rattle.sm_world.specs.declared.events.Order.{Order}
 use Rattle.sm_world.specs.declared.events.Order.TheVariants.{Checkpoint, Shutdown, Cancel, Status, DropConn, Forget}
@@ -15,16 +15,16 @@ use Rattle.interact_queue.specs.Queue.{is_in}
 use Rattle.session_model.specs.declared.phase.Phase.{Phase}
 use Rattle.session_model.specs.declared.phase.Phase.TheVariants.{Unregistered, Done, Dying}
 use Rattle.session_model.specs.declared.events.SessionEvent.{SessionEvent}
-use Rattle.session_model.specs.declared.events.SessionEvent.TheVariants.{Joined, Ready, Said, Left, Operator}
+use Rattle.session_model.specs.declared.events.SessionEvent.TheVariants.{Joined, Ready, Said, Left, Operator, Tick}
 use Rattle.session_model.specs.Phases.{is_bound, is_unregistered, is_member, is_dying, is_owing, is_saving, is_first_saving, is_interacting, is_shutdown, may_interact, cancelled_phase}
 use Rattle.session_model.specs.Tables.{is_full, entry_of}
 use Rattle.checkpoint_records.specs.Rules.{client_id}
 use Rattle.session_model.specs.Errors.{Arrival, no_room, bad_id, full_table, lone_shutdown}
-use Rattle.session_model.specs.Moves.{Move, Outside, Gave, Blamed, Unset, Closed, Cancelled, Printed, Restart, History, Opened, ◌▷◌, onto, gave_each, tried_each}
+use Rattle.session_model.specs.Moves.{Move, Outside, Gave, Blamed, Unset, Closed, Cancelled, Printed, Restart, History, Opened, ◌▷◌, onto, gave_each, tried_each, Opening}
 use Rattle.session_model.specs.Readings as of
 use Rattle.session_model.specs.Reading.{Reading, reading, wanted_in, client_of}
 use Rattle.session_model.specs.Books.{issue, discarded, standing, command_anyway, book_forgetting, opening_moves, raised}
-use Rattle.session_model.specs.Replies.{refused, or_bad_state, respawn_moves, entry_respawn, id_respawn, respawned, depart, has_no_room, may_rejoin, register, called_off, want_cancel, answered, unless_dying, said, resigned, forgotten, forget_one, forget, may_wait, ordered, has_no_place, reply, status_text}
+use Rattle.session_model.specs.Replies.{refused, or_bad_state, respawn_moves, entry_respawn, id_respawn, respawned, depart, has_no_room, may_rejoin, register, called_off, want_cancel, answered, unless_dying, said, resigned, forgotten, forget_one, forget, may_wait, ordered, has_no_place, reply, status_text, is_overdue, waited}
 use Rattle.session_model.specs.Rules.{settled, taken, opened, run}
 use Rattle.session_model.proofs.Sound.{AllFit}
 use Rattle.session_model.proofs.Level.{Good, AllPlain, good-by, good-plain, level-reply, level-unset, plain-append, plain-tried, level-emptied, once-cancelled}
@@ -54,6 +54,10 @@ plain-id r (Some id) = plain-entry r id (entry_of id r.store.book)
 
 plain-respawned : (r : Reading) (c : ℕ) → AllPlain (respawned r c)
 plain-respawned r c = plain-cond (is_dying (r.clients.phase c)) [] (id_respawn r (r.clients.id c)) tt (plain-id r (r.clients.id c))
+
+plain-departs : (r : Reading) (conns : List ℕ) → AllPlain (flat_map (depart r) conns)
+plain-departs r [] = tt
+plain-departs r (c ∷ conns) = plain-append (depart r c) (flat_map (depart r) conns) (tt, plain-respawned r c) (plain-departs r conns)
 
 plain-resigned : (command : Option Command) → AllPlain (resigned command)
 plain-resigned None = tt
@@ -204,6 +208,8 @@ good-reply (Ready c) h g = good-outside (Ready c) h g
 good-reply (Said c m sequence frame) h g = good-said c m sequence frame h (good-outside (Said c m sequence frame) h g)
 good-reply (Left c) h g = good-plain (respawned (reading h) c) (Outside (Left c) ▷ h) (plain-respawned (reading h) c) (good-outside (Left c) h g)
 good-reply (Operator order) h g = good-ordered order h (good-outside (Operator order) h g)
+good-reply (Tick milliseconds) h g =
+    good-plain (waited (reading h) milliseconds) (Outside (Tick milliseconds) ▷ h) (plain-departs (reading h) (filter (is_overdue (reading h) milliseconds) (of.registered h))) (good-outside (Tick milliseconds) h g)
 
 pub good-taken : (event : SessionEvent) (h : History) → Good h → Good (taken event h)
 good-taken event h g =
@@ -212,8 +218,8 @@ good-taken event h g =
 
 -- Runs
 
-good-start : (book : Book) → Good (Opened book)
-good-start book = record {
+good-start : (opening : Opening) → Good (Opened opening)
+good-start opening = record {
   sound = record {
     registered_are = λ c. refl;
     once = tt;
@@ -228,8 +234,8 @@ good-start book = record {
 plain-opening : (book : Book) → AllPlain (opening_moves book)
 plain-opening book = (tt, plain-append (issue (raised book) book.pending) (tried_each Restart (opening_restarts book.entries)) (plain-issue (raised book) book.pending) (plain-tried Restart (opening_restarts book.entries)))
 
-pub good-opened : (book : Book) → Good (opened book)
-good-opened book = good-plain (opening_moves book) (Opened book) (plain-opening book) (good-start book)
+pub good-opened : (opening : Opening) → Good (opened opening)
+good-opened opening = good-plain (opening_moves opening.book) (Opened opening) (plain-opening opening.book) (good-start opening)
 
 pub good-run : (events : List SessionEvent) (h : History) → Good h → Good (run h events)
 good-run [] h g = g

@@ -6,7 +6,7 @@ use Rattle.interact_queue.specs.Queue.{next_holder}
 use Rattle.restart_plan.specs.Restarts.{opening_restarts}
 use Rattle.session_model.specs.declared.waits.Wait.{Wait}
 use Rattle.session_model.specs.declared.events.SessionEvent.{SessionEvent}
-use Rattle.session_model.specs.Moves.{Outside, Restart, History, Opened, ◌▷◌, onto, tried_each}
+use Rattle.session_model.specs.Moves.{Outside, Restart, History, Opened, ◌▷◌, onto, tried_each, Opening}
 use Rattle.session_model.specs.Readings as of
 use Rattle.session_model.specs.Reading.{reading}
 use Rattle.session_model.specs.Replies.{reply}
@@ -20,16 +20,16 @@ use Rattle.session_model.proofs.Falls.{Same, AllSilent, silent-all, silent-appen
 silent-opening : (book : Book) → AllSilent (opening_moves book)
 silent-opening book = (tt, silent-append (issue (raised book) book.pending) (tried_each Restart (opening_restarts book.entries)) (silent-issue (raised book) book.pending) (silent-tried Restart (opening_restarts book.entries)))
 
-nothing-left : (book : Book) (h : History) → Same (Opened book) h → left_to_do h ≤ 0
-nothing-left book h s =
+nothing-left : (opening : Opening) (h : History) → Same (Opened opening) h → left_to_do h ≤ 0
+nothing-left opening h s =
     let w : length (of.waits h) ≡ 0 = ap (λ (ws : List Wait). length ws) s.waits in
     let r : round_part (of.round h) ≡ 0 = no-round h s.running in
-    let t : token_part (next_holder (of.is_held h) (of.waiting h)) ≡ 0 = ap (λ (o : Option ℕ). token_part o) (same-next (Opened book) h s.token) in
+    let t : token_part (next_holder (of.is_held h) (of.waiting h)) ≡ 0 = ap (λ (o : Option ℕ). token_part o) (same-next (Opened opening) h s.token) in
     omega (arith, w, r, t)
 
-rests-opened : (book : Book) → rule (reading (opened book)) ≡ []
-rests-opened book =
-    rests-zero (opened book) (rule (reading (opened book))) (falls-rule (opened book) (good-opened book)) (nothing-left book (opened book) (silent-all (opening_moves book) (Opened book) (silent-opening book)))
+rests-opened : (opening : Opening) → rule (reading (opened opening)) ≡ []
+rests-opened opening =
+    rests-zero (opened opening) (rule (reading (opened opening))) (falls-rule (opened opening) (good-opened opening)) (nothing-left opening (opened opening) (silent-all (opening_moves opening.book) (Opened opening) (silent-opening opening.book)))
 
 rests-taken : (event : SessionEvent) (h : History) → Good h → rule (reading (taken event h)) ≡ []
 rests-taken event h g =
@@ -40,5 +40,5 @@ rests-run : (events : List SessionEvent) (h : History) → Good h → rule (read
 rests-run [] h g e = e
 rests-run (event ∷ events) h g e = rests-run events (taken event h) (good-taken event h g) (rests-taken event h g)
 
-pub rests-always : (book : Book) (events : List SessionEvent) → rule (reading (run (opened book) events)) ≡ []
-rests-always book events = rests-run events (opened book) (good-opened book) (rests-opened book)
+pub rests-always : (opening : Opening) (events : List SessionEvent) → rule (reading (run (opened opening) events)) ≡ []
+rests-always opening events = rests-run events (opened opening) (good-opened opening) (rests-opened opening)

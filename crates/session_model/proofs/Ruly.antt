@@ -18,7 +18,7 @@ use Rattle.discard_ledger.specs.Discards.{discard_of, is_stray}
 use Rattle.session_model.specs.declared.phase.Phase.{Phase}
 use Rattle.session_model.specs.declared.phase.Phase.TheVariants.{Unregistered}
 use Rattle.session_model.specs.declared.events.SessionEvent.{SessionEvent}
-use Rattle.session_model.specs.declared.events.SessionEvent.TheVariants.{Joined, Ready, Said, Left, Operator}
+use Rattle.session_model.specs.declared.events.SessionEvent.TheVariants.{Joined, Ready, Said, Left, Operator, Tick}
 use Rattle.sm_world.specs.declared.events.Dialog.{Dialog}
 use Rattle.session_model.specs.Phases.{may_interact, phase_said, phase_given, ready_phase}
 use Rattle.session_model.specs.Tables.{is_same, stopped, stopped_said, strays_with, table_said, has_id, is_of, is_recorded}
@@ -201,6 +201,7 @@ there-heard epoch (Said d m sequence frame) h l t c e =
     t c (some-at (eqb d c) (of.phase_of c h) (phase_said (λ dialog. may_interact (of.wanted h) dialog) m (of.phase_of c h)) (some-said (λ dialog. may_interact (of.wanted h) dialog) m (of.phase_of c h)) e)
 there-heard epoch (Left d) h l t c e = there-left d h t c e
 there-heard epoch (Operator order) h l t c e = t c e
+there-heard epoch (Tick milliseconds) h l t c e = t c e
 
 there-step : (epoch : ℕ) (m : Move) (h : History) → Lawful epoch m h → AreThere h → AreThere (m ▷ h)
 there-step epoch (Outside event) h l t c e = there-heard epoch event h l t c e

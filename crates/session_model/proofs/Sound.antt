@@ -14,7 +14,7 @@ use Rattle.sm_world.specs.declared.events.SaveKind.{SaveKind}
 use Rattle.sm_world.specs.declared.events.SaveStyle.{SaveStyle}
 use Rattle.session_model.specs.declared.waits.Wait.{Wait}
 use Rattle.session_model.specs.declared.events.SessionEvent.{SessionEvent}
-use Rattle.session_model.specs.declared.events.SessionEvent.TheVariants.{Joined, Ready, Said, Left, Operator}
+use Rattle.session_model.specs.declared.events.SessionEvent.TheVariants.{Joined, Ready, Said, Left, Operator, Tick}
 use Rattle.session_model.specs.Phases.{is_registered, is_interacting, is_dying, is_bound, is_shutdown, may_interact, phase_said, phase_given, registered_phase, ready_phase, held_phase}
 use Rattle.session_model.specs.Moves.{Move, Outside, Gave, Unset, Closed, Began, Over, Cancelled, Agreed, History, ◌▷◌, onto}
 use Rattle.session_model.specs.Waits.{first_save, checkpoint_wait, shutdown_wait, lone_wait, global_wait, is_only, is_sender, is_busy, with_request, waits_said, waits_ordered, disowned, waits_left}
@@ -76,6 +76,7 @@ registered-heard (Said d m sequence frame) h r c =
     r c ∙ sym (at-one (λ p. is_registered p) (eqb d c) (of.phase_of c h) (phase_said (λ dialog. may_interact (of.wanted h) dialog) m (of.phase_of c h)) (quiet-said (λ dialog. may_interact (of.wanted h) dialog) m (of.phase_of c h)).registered)
 registered-heard (Left d) h r c = in-without c d (of.registered h) ∙ left-by (eqb d c) (is_in c (of.registered h)) (of.phase_of c h) (r c)
 registered-heard (Operator order) h r c = r c
+registered-heard (Tick milliseconds) h r c = r c
 
 given-registered : (d : ℕ) (m : XsmpMessage) (h : History) (c : ℕ) → (is_registered (phase_given m (of.phase_of c h)) ≡ is_registered (of.phase_of c h)) → AreRegistered h → is_in c (of.registered h) ≡ is_registered (cond (eqb d c) (phase_given m (of.phase_of c h)) (of.phase_of c h))
 given-registered d m h c e r = r c ∙ sym (at-one (λ p. is_registered p) (eqb d c) (of.phase_of c h) (phase_given m (of.phase_of c h)) e)
@@ -138,6 +139,7 @@ tokens-heard (Said d m sequence frame) h c =
     tokens-at (eqb d c) (of.phase_of c h) (phase_said (λ dialog. may_interact (of.wanted h) dialog) m (of.phase_of c h)) (quiet-said (λ dialog. may_interact (of.wanted h) dialog) m (of.phase_of c h)).token
 tokens-heard (Left d) h c = tokens-at (eqb d c) (of.phase_of c h) None refl
 tokens-heard (Operator order) h c = same-token (is_interacting (of.phase_of c h))
+tokens-heard (Tick milliseconds) h c = same-token (is_interacting (of.phase_of c h))
 
 tokens-given : (d : ℕ) (m : XsmpMessage) (h : History) → ((p : Option Phase) → (is_interacting (phase_given m p) && not (is_interacting p)) ≡ false) → KeepsTokens (Gave d m) h
 tokens-given d m h k c = tokens-at (eqb d c) (of.phase_of c h) (phase_given m (of.phase_of c h)) (k (of.phase_of c h))
@@ -187,6 +189,7 @@ die-heard (Said d m sequence frame) h k c e =
     k c (dies-before (eqb d c) (of.phase_of c h) (phase_said (λ dialog. may_interact (of.wanted h) dialog) m (of.phase_of c h)) (quiet-said (λ dialog. may_interact (of.wanted h) dialog) m (of.phase_of c h)).dying e)
 die-heard (Left d) h k c e = k c (dies-left (eqb d c) (of.phase_of c h) e)
 die-heard (Operator order) h k c e = k c e
+die-heard (Tick milliseconds) h k c e = k c e
 
 die-given : (d : ℕ) (m : XsmpMessage) (h : History) → Fits (Gave d m) h → DieAtEnd h → DieAtEnd (Gave d m ▷ h)
 die-given d Die h f k c e = f
@@ -358,6 +361,7 @@ wait-heard (Said c m sequence frame) h k d e =
     ∙ said-alone c d m (λ x. of.phase_of x h) (of.waits h) (k d) e
 wait-heard (Left c) h k d e = wait-left c d h k e
 wait-heard (Operator order) h k d e = ordered-alone d order (of.is_ending h) (of.waits h) (k d) e
+wait-heard (Tick milliseconds) h k d e = k d e
 
 reply-phase : (b : Bool) (p : Option Phase) → (b ≡ true → p ≡ Some Unregistered) → (b ≡ false → is_registered p ≡ true) → is_registered (cond b (registered_phase p) p) ≡ true
 reply-phase true p e f = ap (λ (q : Option Phase). is_registered (registered_phase q)) (e refl)

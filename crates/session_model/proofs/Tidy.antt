@@ -10,7 +10,7 @@ use Rattle.xsmp_messages.specs.declared.message.XsmpMessage.{XsmpMessage}
 use Rattle.xsmp_messages.specs.declared.message.XsmpMessage.TheVariants.{RegisterClientReply, SaveYourself, Interact, SaveYourselfDone, Die, ShutdownCancelled, SetProperties, DeleteProperties, GetPropertiesReply, SaveYourselfPhase2, SaveComplete}
 use Rattle.session_model.specs.declared.phase.Phase.{Phase}
 use Rattle.session_model.specs.declared.events.SessionEvent.{SessionEvent}
-use Rattle.session_model.specs.declared.events.SessionEvent.TheVariants.{Joined, Ready, Said, Left, Operator}
+use Rattle.session_model.specs.declared.events.SessionEvent.TheVariants.{Joined, Ready, Said, Left, Operator, Tick}
 use Rattle.session_model.specs.Phases.{is_bound, is_saving}
 use Rattle.session_model.specs.Tables.{set_table, table_said, is_of, table_in, first_table}
 use Rattle.session_model.specs.Moves.{Move, Outside, Gave, Blamed, Closed, Committed, History, ◌▷◌}
@@ -73,6 +73,7 @@ tables-heard epoch (Ready d) h t c = t.tables c
 tables-heard epoch (Said d m sequence frame) h t c = either IsTable (eqb d c) (table_said c m (λ x. of.phase_of x h) (of.table_of c h)) (of.table_of c h) (table-of-said c m (λ x. of.phase_of x h) (of.table_of c h) (t.tables c)) (t.tables c)
 tables-heard epoch (Left d) h t c = either IsTable (eqb d c) [] (of.table_of c h) empty-table (t.tables c)
 tables-heard epoch (Operator order) h t c = t.tables c
+tables-heard epoch (Tick milliseconds) h t c = t.tables c
 
 tables-given : (epoch d : ℕ) (m : XsmpMessage) (h : History) → Tidy epoch h → (c : ℕ) → IsTable (of.table_of c (Gave d m ▷ h))
 tables-given epoch d (RegisterClientReply id) h t c = either IsTable (eqb d c) (first_table (of.book h) id) (of.table_of c h) (found-table epoch (is_of id) (of.book h).entries t.entries) (t.tables c)

@@ -1,7 +1,6 @@
 -- Whatever is kept and sent in a run keeps the rules for it.
 use Rattle.std.proofs.Common.{◌≡◌, refl, ℕ, zero, suc, ◌+◌, ◌*◌, ◌≤◌, Bool, true, false, cond, ◌&&◌, List, [], ◌∷◌, ◌++◌, length, arith}
 use Rattle.std.specs.List.{AllByRecursion}
-use Rattle.checkpoint_records.specs.declared.records.Book.{Book}
 use Rattle.checkpoint_records.specs.declared.records.Entry.{Entry}
 use Rattle.checkpoint_records.specs.Rules.{IsClientId, IsEntry, KeepsRules}
 use Rattle.restart_plan.specs.Restarts.{opening_restarts}
@@ -9,7 +8,7 @@ use Rattle.round_agreement.specs.Agreement.{is_nil}
 use Rattle.xsmp_messages.specs.declared.message.XsmpMessage.{XsmpMessage}
 use Rattle.xsmp_messages.specs.declared.message.XsmpMessage.TheVariants.{RegisterClientReply, GetPropertiesReply}
 use Rattle.session_model.specs.declared.events.SessionEvent.{SessionEvent}
-use Rattle.session_model.specs.Moves.{Move, Outside, Gave, Blamed, Committed, Finished, Restart, History, Opened, ◌▷◌, onto, tried_each}
+use Rattle.session_model.specs.Moves.{Move, Outside, Gave, Blamed, Committed, Finished, Restart, History, Opened, ◌▷◌, onto, tried_each, Opening}
 use Rattle.session_model.specs.Readings as of
 use Rattle.session_model.specs.Reading.{reading}
 use Rattle.session_model.specs.Books.{raised, issue}
@@ -69,23 +68,23 @@ pub later-entries : (epoch : ℕ) (entries : List Entry) → AllByRecursion (IsE
 later-entries epoch [] a = tt
 later-entries epoch (entry ∷ entries) a = (record { id = later-id epoch entry.id a.0.id; table = a.0.table }, later-entries epoch entries a.1)
 
-pub tidy-start : (book : Book) → AllByRecursion (IsEntry book.epoch) book.entries → Tidy (book.epoch + 1) (Opened book)
-tidy-start book a = record { tables = λ c. empty-table; snapshots = λ c. tt; ids = λ c. tt; entries = later-entries book.epoch book.entries a }
+pub tidy-start : (opening : Opening) → AllByRecursion (IsEntry opening.book.epoch) opening.book.entries → Tidy (opening.book.epoch + 1) (Opened opening)
+tidy-start opening a = record { tables = λ c. empty-table; snapshots = λ c. tt; ids = λ c. tt; entries = later-entries opening.book.epoch opening.book.entries a }
 
-orderly-raised : (book : Book) → AllByRecursion (IsEntry book.epoch) book.entries → Orderly (book.epoch + 1) (Committed (raised book) ▷ Opened book)
-orderly-raised book a =
-    let p : Proper (book.epoch + 1) (Committed (raised book)) = (refl, later-entries book.epoch book.entries a) in
-    record { is_of = refl; tidy = tidy-step (book.epoch + 1) (Committed (raised book)) (Opened book) p (tidy-start book a); each = (p, tt) }
+orderly-raised : (opening : Opening) → AllByRecursion (IsEntry opening.book.epoch) opening.book.entries → Orderly (opening.book.epoch + 1) (Committed (raised opening.book) ▷ Opened opening)
+orderly-raised opening a =
+    let p : Proper (opening.book.epoch + 1) (Committed (raised opening.book)) = (refl, later-entries opening.book.epoch opening.book.entries a) in
+    record { is_of = refl; tidy = tidy-step (opening.book.epoch + 1) (Committed (raised opening.book)) (Opened opening) p (tidy-start opening a); each = (p, tt) }
 
-pub orderly-opened : (book : Book) → AllByRecursion (IsEntry book.epoch) book.entries → Orderly (book.epoch + 1) (opened book)
-orderly-opened book a =
-    orderly-onto (book.epoch + 1) (issue (raised book) book.pending ++ tried_each Restart (opening_restarts book.entries)) (Committed (raised book) ▷ Opened book)
-    (proper-append (book.epoch + 1) (issue (raised book) book.pending) (tried_each Restart (opening_restarts book.entries))
-    (proper-issue (book.epoch + 1) (raised book) book.pending (refl, later-entries book.epoch book.entries a)) (proper-tried (book.epoch + 1) Restart (opening_restarts book.entries)))
-    (orderly-raised book a)
+pub orderly-opened : (opening : Opening) → AllByRecursion (IsEntry opening.book.epoch) opening.book.entries → Orderly (opening.book.epoch + 1) (opened opening)
+orderly-opened opening a =
+    orderly-onto (opening.book.epoch + 1) (issue (raised opening.book) opening.book.pending ++ tried_each Restart (opening_restarts opening.book.entries)) (Committed (raised opening.book) ▷ Opened opening)
+    (proper-append (opening.book.epoch + 1) (issue (raised opening.book) opening.book.pending) (tried_each Restart (opening_restarts opening.book.entries))
+    (proper-issue (opening.book.epoch + 1) (raised opening.book) opening.book.pending (refl, later-entries opening.book.epoch opening.book.entries a)) (proper-tried (opening.book.epoch + 1) Restart (opening_restarts opening.book.entries)))
+    (orderly-raised opening a)
 
-pub orderly : (book : Book) (events : List SessionEvent) → KeepsRules book → Orderly (book.epoch + 1) (run (opened book) events)
-orderly book events k = orderly-run (book.epoch + 1) events (opened book) (omega arith) (orderly-opened book k.entries)
+pub orderly : (opening : Opening) (events : List SessionEvent) → KeepsRules opening.book → Orderly (opening.book.epoch + 1) (run (opened opening) events)
+orderly opening events k = orderly-run (opening.book.epoch + 1) events (opened opening) (omega arith) (orderly-opened opening k.entries)
 
 -- The laws
 
@@ -107,8 +106,8 @@ proper-entries : (epoch : ℕ) (m : Move) → Proper epoch m → HasEntries epoc
 proper-entries epoch (Committed written) p = p
 proper-entries epoch m p = tt
 
-pub messages-fit : (book : Book) (events : List SessionEvent) → KeepsRules book → EachMove IsShort (run (opened book) events)
-messages-fit book events k = each-more (Proper (book.epoch + 1)) IsShort (proper-short (book.epoch + 1)) (run (opened book) events) (orderly book events k).each
+pub messages-fit : (opening : Opening) (events : List SessionEvent) → KeepsRules opening.book → EachMove IsShort (run (opened opening) events)
+messages-fit opening events k = each-more (Proper (opening.book.epoch + 1)) IsShort (proper-short (opening.book.epoch + 1)) (run (opened opening) events) (orderly opening events k).each
 
-pub entries-keep : (book : Book) (events : List SessionEvent) → KeepsRules book → EachMove (HasEntries (book.epoch + 1)) (run (opened book) events)
-entries-keep book events k = each-more (Proper (book.epoch + 1)) (HasEntries (book.epoch + 1)) (proper-entries (book.epoch + 1)) (run (opened book) events) (orderly book events k).each
+pub entries-keep : (opening : Opening) (events : List SessionEvent) → KeepsRules opening.book → EachMove (HasEntries (opening.book.epoch + 1)) (run (opened opening) events)
+entries-keep opening events k = each-more (Proper (opening.book.epoch + 1)) (HasEntries (opening.book.epoch + 1)) (proper-entries (opening.book.epoch + 1)) (run (opened opening) events) (orderly opening events k).each

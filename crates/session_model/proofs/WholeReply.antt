@@ -1,6 +1,6 @@
 -- The answers write books that keep the rules, and so does every run.
 use Rattle.std.proofs.Common.{◌≡◌, refl, ℕ, suc, ◌+◌, ◌*◌, ◌<◌, ◌≤◌, Bool, true, false, cond, not, ◌&&◌, ◌||◌, List, [], ◌∷◌, ◌++◌, filter, length, eqb, sym, ap, subst, ◌∙◌, arith, length-append}
-use Rattle.std.specs.Prelude.{Option, Some, None, is_some, is_none, find, codes, nat_le}
+use Rattle.std.specs.Prelude.{Option, Some, None, is_some, is_none, find, codes, nat_le, flat_map}
 use Rattle.std.specs.List.{AllByRecursion, IsDistinct, list_any}
 use Rattle.std.proofs.lemmas.Bool.Decides.{nat_tests}
 use Rattle.sm_world.specs.declared.commands.Command.{Command}
@@ -20,15 +20,15 @@ use Rattle.xsmp_messages.specs.declared.message.XsmpMessage.TheVariants.{Error, 
 use Rattle.session_model.specs.declared.phase.Phase.{Phase}
 use Rattle.session_model.specs.declared.phase.Phase.TheVariants.{Unregistered, Dying}
 use Rattle.session_model.specs.declared.events.SessionEvent.{SessionEvent}
-use Rattle.session_model.specs.declared.events.SessionEvent.TheVariants.{Joined, Ready, Said, Left, Operator}
+use Rattle.session_model.specs.declared.events.SessionEvent.TheVariants.{Joined, Ready, Said, Left, Operator, Tick}
 use Rattle.session_model.specs.Phases.{is_bound, is_registered, is_unregistered, is_dying, is_owing, is_saving, is_first_saving, is_interacting, is_shutdown, may_interact}
 use Rattle.session_model.specs.Tables.{is_full, entry_of, is_recorded}
 use Rattle.session_model.specs.Errors.{Arrival, no_room, bad_id, full_table, lone_shutdown}
-use Rattle.session_model.specs.Moves.{Move, Outside, Gave, Blamed, Unset, Closed, Committed, Printed, Finished, Restart, History, Opened, ◌▷◌, onto, tried_each}
+use Rattle.session_model.specs.Moves.{Move, Outside, Gave, Blamed, Unset, Closed, Committed, Printed, Finished, Restart, History, Opened, ◌▷◌, onto, tried_each, Opening}
 use Rattle.session_model.specs.Readings as of
 use Rattle.session_model.specs.Reading.{Reading, reading, wanted_in, client_of, has_that_id}
 use Rattle.session_model.specs.Books.{book_forgetting, issue, command_anyway, raised}
-use Rattle.session_model.specs.Replies.{refused, or_bad_state, respawn_moves, entry_respawn, id_respawn, respawned, depart, has_no_room, known_ids, enter, may_rejoin, rejoin, register, called_off, want_cancel, answered, unless_dying, said, resigned, forgotten, forget_one, may_wait, ordered, has_no_place, reply, status_text}
+use Rattle.session_model.specs.Replies.{refused, or_bad_state, respawn_moves, entry_respawn, id_respawn, respawned, depart, has_no_room, known_ids, enter, may_rejoin, rejoin, register, called_off, want_cancel, answered, unless_dying, said, resigned, forgotten, forget_one, may_wait, ordered, has_no_place, reply, status_text, is_overdue, waited}
 use Rattle.session_model.specs.Rules.{settled, taken, Takes, opened, run}
 use Rattle.session_model.specs.Laws.{EachMove, IsWritten, AllTake}
 use Rattle.session_model.proofs.Lists.{once-push, once-without}
@@ -46,7 +46,7 @@ use Rattle.session_model.proofs.Lawfuls.{rules-forgetting, forgetting-known, len
 use Rattle.session_model.proofs.Left.{left-few, without-none}
 use Rattle.session_model.proofs.Ruled.{any-in}
 use Rattle.session_model.proofs.Names.{IsFree, IsBefore, before-earlier}
-use Rattle.session_model.proofs.Whole.{AllMild, mild-gave, mild-tried, Carried, carried-step, carried-issue, Whole, Part, part-of, part-mild, part-written, whole-with, whole-settle, pending-issue, live-issue}
+use Rattle.session_model.proofs.Whole.{mild-append, AllMild, mild-gave, mild-tried, Carried, carried-step, carried-issue, Whole, Part, part-of, part-mild, part-written, whole-with, whole-settle, pending-issue, live-issue}
 
 -- Mild answers
 
@@ -72,6 +72,10 @@ mild-id r (Some id) = mild-entry r id (entry_of id r.store.book)
 
 mild-respawned : (r : Reading) (c : ℕ) → AllMild (respawned r c)
 mild-respawned r c = mild-cond (is_dying (r.clients.phase c)) [] (id_respawn r (r.clients.id c)) tt (mild-id r (r.clients.id c))
+
+mild-departs : (r : Reading) (conns : List ℕ) → AllMild (flat_map (depart r) conns)
+mild-departs r [] = tt
+mild-departs r (c ∷ conns) = mild-append (depart r c) (flat_map (depart r) conns) (tt, mild-respawned r c) (mild-departs r conns)
 
 mild-resigned : (command : Option Command) → AllMild (resigned command)
 mild-resigned None = tt
@@ -305,6 +309,9 @@ part-reply epoch (Left c) h t p g w =
     part-mild epoch (respawned (reading h) c) (Outside (Left c) ▷ h) (mild-respawned (reading h) c) p
     (record { carried = carried-step epoch (Outside (Left c)) h tt tt (once-without c (of.registered h) w.carried.once) w.carried; few_live = omega (arith, filter-len (λ other. not (eqb other c)) (of.live h), w.few_live); few_pending = w.few_pending })
 part-reply epoch (Operator order) h t p g w = part-ordered epoch order h p w
+part-reply epoch (Tick milliseconds) h t p g w =
+    part-mild epoch (waited (reading h) milliseconds) (Outside (Tick milliseconds) ▷ h) (mild-departs (reading h) (filter (is_overdue (reading h) milliseconds) (of.registered h))) p
+    (record { carried = carried-step epoch (Outside (Tick milliseconds)) h tt tt w.carried.once w.carried; few_live = w.few_live; few_pending = w.few_pending })
 
 whole-finish : (b : Bool) (epoch : ℕ) (h : History) → Whole epoch h → Whole epoch (cond b (Finished ▷ h) h)
 whole-finish true epoch h w = whole-with epoch (Finished ▷ h) (good-plain (Finished ∷ []) h (tt, tt) w.good) (orderly-step epoch Finished h tt w.orderly) (part-mild epoch (Finished ∷ []) h (tt, tt) (tt, tt) (part-of epoch h w))
@@ -341,16 +348,16 @@ all-earlier : (epoch : ℕ) (entries : List Entry) → epoch + 1 < 4294967296 �
 all-earlier epoch [] l a = tt
 all-earlier epoch (entry ∷ entries) l a = (before-earlier epoch entry.id l a.0.id, all-earlier epoch entries l a.1)
 
-carried-start : (book : Book) → KeepsRules book → book.epoch < 4294967295 → Carried (book.epoch + 1) (Opened book)
-carried-start book k l = record {
-  tidy = tidy-start book k.entries;
+carried-start : (opening : Opening) → KeepsRules opening.book → opening.book.epoch < 4294967295 → Carried (opening.book.epoch + 1) (Opened opening)
+carried-start opening k l = record {
+  tidy = tidy-start opening k.entries;
   once = tt;
   ruly = record {
     own = λ c d id e f. absurd (grind arith);
-    numbered = record { held = λ c id e. absurd (grind arith); entries = all-earlier book.epoch book.entries (omega arith) k.entries };
+    numbered = record { held = λ c id e. absurd (grind arith); entries = all-earlier opening.book.epoch opening.book.entries (omega arith) k.entries };
     once_members = tt;
     ids_differ = k.ids_differ;
-    room = omega (arith, length-append (ids_of book.entries) [], length-ids book.entries, k.few_entries);
+    room = omega (arith, length-append (ids_of opening.book.entries) [], length-ids opening.book.entries, k.few_entries);
     commands = k.commands;
     commands_differ = k.commands_differ;
     strays = tt;
@@ -360,28 +367,28 @@ carried-start book k l = record {
   written = tt;
 }
 
-carried-raised : (book : Book) → KeepsRules book → book.epoch < 4294967295 → Carried (book.epoch + 1) (Committed (raised book) ▷ Opened book)
-carried-raised book k l =
-    carried-step (book.epoch + 1) (Committed (raised book)) (Opened book) (rules-raised book k, λ q e. ap (λ (b : Bool). b || false) e) (refl, later-entries book.epoch book.entries k.entries) tt (carried-start book k l)
+carried-raised : (opening : Opening) → KeepsRules opening.book → opening.book.epoch < 4294967295 → Carried (opening.book.epoch + 1) (Committed (raised opening.book) ▷ Opened opening)
+carried-raised opening k l =
+    carried-step (opening.book.epoch + 1) (Committed (raised opening.book)) (Opened opening) (rules-raised opening.book k, λ q e. ap (λ (b : Bool). b || false) e) (refl, later-entries opening.book.epoch opening.book.entries k.entries) tt (carried-start opening k l)
 
 none-left : (pending : List Command) → IsDistinct same_command pending → length (without_commands pending pending) ≤ 0
 none-left pending d = subst (λ (xs : List Command). length (without_commands xs pending) ≤ 0) (without-none pending) (left-few [] pending d)
 
-part-opened : (book : Book) → KeepsRules book → book.epoch < 4294967295 → Part (book.epoch + 1) (opened book)
-part-opened book k l =
-    let epoch : ℕ = book.epoch + 1 in
-    let start : History = Committed (raised book) ▷ Opened book in
-    let i : IsOf epoch (raised book) = (refl, later-entries book.epoch book.entries k.entries) in
-    let issued : History = onto start (issue (raised book) book.pending) in
-    let n : length (of.book issued).pending ≡ length (without_commands book.pending book.pending) = ap (λ (xs : List Command). length xs) (pending-issue (raised book) book.pending start refl) in
+part-opened : (opening : Opening) → KeepsRules opening.book → opening.book.epoch < 4294967295 → Part (opening.book.epoch + 1) (opened opening)
+part-opened opening k l =
+    let epoch : ℕ = opening.book.epoch + 1 in
+    let start : History = Committed (raised opening.book) ▷ Opened opening in
+    let i : IsOf epoch (raised opening.book) = (refl, later-entries opening.book.epoch opening.book.entries k.entries) in
+    let issued : History = onto start (issue (raised opening.book) opening.book.pending) in
+    let n : length (of.book issued).pending ≡ length (without_commands opening.book.pending opening.book.pending) = ap (λ (xs : List Command). length xs) (pending-issue (raised opening.book) opening.book.pending start refl) in
     let p : Part epoch issued = record {
-      carried = carried-issue epoch (raised book) book.pending start (rules-raised book k) i refl (carried-raised book k l);
-      few_live = omega (arith, live-issue (raised book) book.pending start);
-      few_pending = omega (arith, n, none-left book.pending k.commands_differ);
+      carried = carried-issue epoch (raised opening.book) opening.book.pending start (rules-raised opening.book k) i refl (carried-raised opening k l);
+      few_live = omega (arith, live-issue (raised opening.book) opening.book.pending start);
+      few_pending = omega (arith, n, none-left opening.book.pending k.commands_differ);
     } in
-    subst (λ (x : History). Part epoch x) (sym (onto-append start (issue (raised book) book.pending) (tried_each Restart (opening_restarts book.entries))))
-    (part-mild epoch (tried_each Restart (opening_restarts book.entries)) issued (mild-tried Restart (opening_restarts book.entries)) (proper-tried epoch Restart (opening_restarts book.entries)) p)
+    subst (λ (x : History). Part epoch x) (sym (onto-append start (issue (raised opening.book) opening.book.pending) (tried_each Restart (opening_restarts opening.book.entries))))
+    (part-mild epoch (tried_each Restart (opening_restarts opening.book.entries)) issued (mild-tried Restart (opening_restarts opening.book.entries)) (proper-tried epoch Restart (opening_restarts opening.book.entries)) p)
 
-pub books-keep : (book : Book) (events : List SessionEvent) → KeepsRules book → book.epoch < 4294967295 → AllTake (opened book) events → EachMove IsWritten (run (opened book) events)
-books-keep book events k l a =
-    (whole-run (book.epoch + 1) events (opened book) (omega arith) a (whole-with (book.epoch + 1) (opened book) (good-opened book) (orderly-opened book k.entries) (part-opened book k l))).carried.written
+pub books-keep : (opening : Opening) (events : List SessionEvent) → KeepsRules opening.book → opening.book.epoch < 4294967295 → AllTake (opened opening) events → EachMove IsWritten (run (opened opening) events)
+books-keep opening events k l a =
+    (whole-run (opening.book.epoch + 1) events (opened opening) (omega arith) a (whole-with (opening.book.epoch + 1) (opened opening) (good-opened opening) (orderly-opened opening k.entries) (part-opened opening k l))).carried.written

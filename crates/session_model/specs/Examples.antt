@@ -15,17 +15,24 @@ use Rattle.xsmp_messages.specs.Messages.{canon}
 use Rattle.xsmp_messages.specs.declared.message.XsmpMessage.{XsmpMessage}
 use Rattle.xsmp_messages.specs.declared.message.XsmpMessage.TheVariants.{ConnectionClosed, Die, GetProperties, GetPropertiesReply, Interact, InteractDone, InteractRequest, RegisterClient, RegisterClientReply, SaveComplete, SaveYourself, SaveYourselfDone, SaveYourselfPhase2, SaveYourselfPhase2Request, SaveYourselfRequest, SetProperties, ShutdownCancelled}
 use Rattle.session_model.specs.declared.events.SessionEvent.{SessionEvent}
-use Rattle.session_model.specs.declared.events.SessionEvent.TheVariants.{Joined, Left, Operator, Ready, Said}
+use Rattle.session_model.specs.declared.events.SessionEvent.TheVariants.{Joined, Left, Operator, Ready, Said, Tick}
 use Rattle.session_model.specs.declared.events.Act.{Act}
 use Rattle.session_model.specs.declared.events.Act.TheVariants.{Blame, Commit, Finish, Print, Say, Shut, Start}
 use Rattle.session_model.specs.declared.events.Reason.TheVariants.{Discard, End, Restart}
 use Rattle.checkpoint_records.specs.Rules.{client_id}
-use Rattle.session_model.specs.Moves.{all_acts}
+use Rattle.session_model.specs.Moves.{Opening, all_acts, waits_for}
 use Rattle.session_model.specs.Rules.{opened, run}
 
+-- a run in which each may be silent for ever
+abbrev pub waits_forever : Book → Opening
+waits_forever book = waits_for 0 book
+
 -- after these events, those bring these acts
+abbrev pub BringsIn : Opening → List SessionEvent → List SessionEvent → List Act → Type 0
+BringsIn opening before events acts = drop (length (all_acts (run (opened opening) before))) (all_acts (run (opened opening) (before ++ events))) ≡ acts
+
 abbrev pub Brings : List SessionEvent → List SessionEvent → List Act → Type 0
-Brings before events acts = drop (length (all_acts (run (opened empty_book) before))) (all_acts (run (opened empty_book) (before ++ events))) ≡ acts
+Brings before events acts = BringsIn (waits_forever empty_book) before events acts
 
 -- the numbers from 1 to n
 abbrev pub up_to : ℕ → List ℕ
@@ -260,7 +267,7 @@ entry_7 = entry_of_run 2 1 (codes "c7")
 -- Before any of them comes back a new client saves. The entries stay, since their clients are expected.
 abbrev pub ExpectedEntriesStay : Type 0
 ExpectedEntriesStay =
-    all_acts (run (opened last_book) (logs_in 7 ++ sets 7 (restarts (codes "c7")) ∷ saved 7 ∷ []))
+    all_acts (run (opened (waits_forever last_book)) (logs_in 7 ++ sets 7 (restarts (codes "c7")) ∷ saved 7 ∷ []))
     ≡ Commit (second_book last_entries)
     ∷ map (λ n. Start Restart (plain ((99 ∷ (48 + n) ∷ []) ∷ []))) (up_to 6)
     ++ Say 7 (RegisterClientReply (codes "smd-00000002-00000001"))
@@ -272,7 +279,7 @@ ExpectedEntriesStay =
 -- its client is asked to save as each new one is.
 abbrev pub TheRequestTellsWhoIsNew : Type 0
 TheRequestTellsWhoIsNew =
-    all_acts (run (opened (record { entries = entry_of_run 1 1 (codes "c1") ∷ []; pending = []; epoch = 0 })) (logs_in 1))
+    all_acts (run (opened (waits_forever (record { entries = entry_of_run 1 1 (codes "c1") ∷ []; pending = []; epoch = 0 }))) (logs_in 1))
     ≡ Commit (first_book (entry_of_run 1 1 (codes "c1") ∷ []) []) ∷ Start Restart (plain (codes "c1" ∷ [])) ∷ Say 1 (RegisterClientReply (codes "smd-00000001-00000001")) ∷ asks_for_save 1 ∷ []
 
 -- Each client of the last run is started again. Those that come back get their IDs and aren't asked to save; a new one is, and gets an
@@ -280,7 +287,7 @@ TheRequestTellsWhoIsNew =
 -- back stays by its hint, and its command for the end is started.
 abbrev pub ASessionIsTakenUp : Type 0
 ASessionIsTakenUp =
-    all_acts (run (opened last_book)
+    all_acts (run (opened (waits_forever last_book))
     (come_back ++ sets 5 (hints 3) ∷ logs_in 7 ++ sets 7 (restarts (codes "c7")) ∷ saved 7 ∷ Operator Shutdown
     ∷ map saved (1 ∷ 2 ∷ 3 ∷ 4 ∷ 5 ∷ 7 ∷ []) ++ map (λ c. says c (ConnectionClosed [])) (1 ∷ 2 ∷ 3 ∷ 4 ∷ 5 ∷ 7 ∷ [])))
     ≡ Commit (second_book last_entries)
@@ -295,3 +302,40 @@ ASessionIsTakenUp =
     ++ Start End (plain (codes "s6" ∷ []))
     ∷ map Shut (1 ∷ 2 ∷ 3 ∷ 4 ∷ 5 ∷ 7 ∷ [])
     ++ Finish ∷ []
+
+-- Patience
+
+-- A client that is asked to save and says nothing is shut after a second, here in two parts; the round goes on without it.
+abbrev pub ASilentClientIsShut : Type 0
+ASilentClientIsShut =
+    BringsIn (waits_for 1000 empty_book) (log_in_and_save (1 ∷ 2 ∷ []))
+    (Operator Checkpoint ∷ saved 1 ∷ Tick 600 ∷ Tick 400 ∷ [])
+    (prints (codes "ok") ∷ asks_for_save 1 ∷ asks_for_save 2 ∷ Shut 2 ∷ Commit no_entries ∷ Say 1 SaveComplete ∷ [])
+
+-- Who talks with the user may take as long as that takes. It has a second again once it has given the token back.
+abbrev pub TalkingIsNoSilence : Type 0
+TalkingIsNoSilence =
+    BringsIn (waits_for 1000 empty_book) (log_in_and_save (1 ∷ 2 ∷ []))
+    (Operator Shutdown ∷ saved 1 ∷ says 2 (InteractRequest Normal) ∷ Tick 5000 ∷ says 2 (InteractDone false) ∷ Tick 999 ∷ Tick 1 ∷ [])
+    (prints (codes "ok") ∷ asks_for_shutdown 1 ∷ asks_for_shutdown 2 ∷ Say 2 Interact ∷ Shut 2 ∷ Commit no_entries ∷ Say 1 Die ∷ [])
+
+-- Who still owes an answer to a shutdown that was called off is waited for; a round of its own begins for nobody until then.
+abbrev pub ADebtEndsWithPatience : Type 0
+ADebtEndsWithPatience =
+    BringsIn (waits_for 1000 empty_book) (log_in_and_save (1 ∷ 2 ∷ []))
+    (Operator Shutdown ∷ saved 1 ∷ Operator Cancel ∷ Operator Checkpoint ∷ Tick 999 ∷ Tick 1 ∷ saved 1 ∷ [])
+    (prints (codes "ok") ∷ asks_for_shutdown 1 ∷ asks_for_shutdown 2 ∷ prints (codes "ok") ∷ Say 1 ShutdownCancelled ∷ Say 2 ShutdownCancelled
+    ∷ prints (codes "ok") ∷ Shut 2 ∷ asks_for_save 1 ∷ Commit no_entries ∷ Say 1 SaveComplete ∷ [])
+
+-- Two are overdue at once, and are shut in the order in which they registered. Settling comes behind both.
+abbrev pub TwoAreShutAtOnce : Type 0
+TwoAreShutAtOnce =
+    BringsIn (waits_for 1000 empty_book) (log_in_and_save (1 ∷ 2 ∷ 3 ∷ []))
+    (Operator Checkpoint ∷ saved 2 ∷ Tick 18446744073709551615 ∷ [])
+    (prints (codes "ok") ∷ asks_for_save 1 ∷ asks_for_save 2 ∷ asks_for_save 3 ∷ Shut 1 ∷ Shut 3 ∷ Commit no_entries ∷ Say 2 SaveComplete ∷ [])
+
+-- With a patience of 0 nobody is ever overdue.
+abbrev pub WithoutPatienceNobodyIsShut : Type 0
+WithoutPatienceNobodyIsShut =
+    Brings (log_in_and_save (1 ∷ [])) (Operator Checkpoint ∷ Tick 18446744073709551615 ∷ Tick 18446744073709551615 ∷ [])
+    (prints (codes "ok") ∷ asks_for_save 1 ∷ [])

@@ -1,12 +1,12 @@
 -- Laws of the session, whatever comes from outside.
-use Rattle.std.specs.Prelude.{List, [], ◌∷◌, true, ℕ, ◌≡◌, ◌+◌, ◌<◌}
+use Rattle.std.specs.Prelude.{Bool, List, [], ◌∷◌, cond, false, min, true, ℕ, ◌≡◌, ◌==◌, ◌+◌, ◌<◌}
 use Rattle.std.specs.List.{AllByRecursion, list_any}
-use Rattle.checkpoint_records.specs.declared.records.Book.{Book}
 use Rattle.session_model.specs.declared.events.SessionEvent.{SessionEvent}
+use Rattle.session_model.specs.declared.events.SessionEvent.TheVariants.{Left, Said, Tick}
 use Rattle.round_agreement.specs.Agreement.{are_distinct}
 use Rattle.interact_queue.specs.Queue.{is_in}
 use Rattle.session_model.specs.Phases.{is_asked, is_dying, is_interacting, is_member, is_registered}
-use Rattle.session_model.specs.Moves.{Move, Gave, Blamed, Committed, History, Opened, ◌▷◌}
+use Rattle.session_model.specs.Moves.{Move, Outside, Gave, Blamed, Unset, Closed, Committed, History, Opened, Opening, ◌▷◌}
 use Rattle.session_model.specs.Waits.{is_only}
 use Rattle.session_model.specs.Reading.{reading}
 use Rattle.checkpoint_records.specs.Rules.{KeepsRules, IsEntry}
@@ -18,7 +18,7 @@ use Rattle.session_model.specs.Readings as of
 
 -- this holds at the start and between the events of every run
 abbrev pub Always : (History → Type 0) → Type 0
-Always Holds = (book : Book) (events : List SessionEvent) → Holds (run (opened book) events)
+Always Holds = (opening : Opening) (events : List SessionEvent) → Holds (run (opened opening) events)
 
 -- nobody is registered twice
 abbrev pub NobodyRegistersTwice : Type 0
@@ -58,7 +58,7 @@ SettlingComesToRest = Always (λ h. rule (reading h) ≡ [])
 
 -- this holds of each move of a history
 abbrev pub EachMove : (Move → Type 0) → History → Type 0
-EachMove Holds (Opened book) = Unit {0}
+EachMove Holds (Opened opening) = Unit {0}
 EachMove Holds (m ▷ h) = Holds m × EachMove Holds h
 
 -- the body of a message that is sent has 65,536 bytes at most
@@ -69,7 +69,7 @@ IsShort m = Unit {0}
 
 -- every message that is sent fits, where the opened book keeps the rules
 abbrev pub MessagesFit : Type 0
-MessagesFit = (book : Book) (events : List SessionEvent) → KeepsRules book → EachMove IsShort (run (opened book) events)
+MessagesFit = (opening : Opening) (events : List SessionEvent) → KeepsRules opening.book → EachMove IsShort (run (opened opening) events)
 
 -- the entries of a book that is written
 abbrev pub HasEntries : ℕ → Move → Type 0
@@ -78,7 +78,7 @@ HasEntries epoch m = Unit {0}
 
 -- Every book that is written is of the run's epoch, and each of its entries keeps the rules, where the opened book does.
 abbrev pub EntriesKeepRules : Type 0
-EntriesKeepRules = (book : Book) (events : List SessionEvent) → KeepsRules book → EachMove (HasEntries (book.epoch + 1)) (run (opened book) events)
+EntriesKeepRules = (opening : Opening) (events : List SessionEvent) → KeepsRules opening.book → EachMove (HasEntries (opening.book.epoch + 1)) (run (opened opening) events)
 
 -- a book that is written keeps the rules
 abbrev pub IsWritten : Move → Type 0
@@ -92,4 +92,28 @@ AllTake h (event ∷ events) = Takes event (reading h) × AllTake (taken event h
 
 -- Every book that is written keeps the rules of the store, where the opened book does and has an epoch below the largest.
 abbrev pub BooksKeepRules : Type 0
-BooksKeepRules = (book : Book) (events : List SessionEvent) → KeepsRules book → book.epoch < 4294967295 → AllTake (opened book) events → EachMove IsWritten (run (opened book) events)
+BooksKeepRules = (opening : Opening) (events : List SessionEvent) → KeepsRules opening.book → opening.book.epoch < 4294967295 → AllTake (opened opening) events → EachMove IsWritten (run (opened opening) events)
+
+-- Silence
+
+-- c was given a message, or said one other than an Error
+abbrev pub is_sign : ℕ → Move → Bool
+is_sign c (Gave d m) = d == c
+is_sign c (Outside (Said d (Error error) sequence frame)) = false
+is_sign c (Outside (Said d m sequence frame)) = d == c
+is_sign c m = false
+
+-- how many milliseconds passed with a move
+abbrev pub ticked : Move → ℕ
+ticked (Outside (Tick milliseconds)) = milliseconds
+ticked m = 0
+
+-- how many milliseconds have passed since the last sign of c
+abbrev pub silence : ℕ → History → ℕ
+silence c (Opened opening) = 0
+silence c (m ▷ h) = cond (is_sign c m) 0 (silence c h + ticked m)
+
+-- For each registered client what a history says of its silence is the sum of the milliseconds since its last sign, up to the largest
+-- number. This holds of each history.
+abbrev pub SilenceIsCounted : Type 0
+SilenceIsCounted = (h : History) (c : ℕ) → is_registered (of.phase_of c h) ≡ true → of.quiet c h ≡ min (silence c h) 18446744073709551615

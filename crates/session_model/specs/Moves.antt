@@ -62,9 +62,19 @@ pub data Move : Type 0 where
   -- the run ended
   Finished : Move
 
+-- How a run begins: with the book that it opened, and with so many milliseconds for which a client may be silent that owes an
+-- answer (0: for ever).
+pub record Opening : Type 0 where
+  pub book : Book
+  pub patience : ℕ
+
+-- over this book, with so much patience
+abbrev pub waits_for : ℕ → Book → Opening
+waits_for patience book = record { book = book; patience = patience }
+
 -- the moves since a book was opened, the latest first
 pub data History : Type 0 where
-  Opened : Book → History
+  Opened : Opening → History
   ◌▷◌ : Move → History → History
 
 infixr 67 ◌▷◌
@@ -88,7 +98,7 @@ acts_of m = []
 
 -- all acts so far, the oldest first
 abbrev pub all_acts : History → List Act
-all_acts (Opened book) = []
+all_acts (Opened opening) = []
 all_acts (m ▷ h) = all_acts h ++ acts_of m
 
 -- Moves of one kind

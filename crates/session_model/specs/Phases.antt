@@ -62,6 +62,13 @@ is_interacting (Some Interacting) = true
 is_interacting (Some InteractingTwo) = true
 is_interacting phase = false
 
+-- It is waited for: it saves, or owes an answer. Who waits for the token or has it, and who waits for the second phase, isn't.
+abbrev pub is_awaited : Option Phase → Bool
+is_awaited (Some Saving) = true
+is_awaited (Some SavingTwo) = true
+is_awaited (Some Owing) = true
+is_awaited phase = false
+
 -- it was asked to save by a round that still runs
 abbrev pub is_member : Option Phase → Bool
 is_member None = false

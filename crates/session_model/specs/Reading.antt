@@ -11,13 +11,14 @@ use Rattle.round_agreement.specs.Agreement.{Agreement}
 use Rattle.session_model.specs.Moves.{History}
 use Rattle.session_model.specs.Readings as of
 
--- of each connection its phase, the ID under which it registered, its table and its snapshot; who is live, in
--- order of joining, and who is registered, in order of registration
+-- of each connection its phase, the ID under which it registered, its table, its snapshot and for how long it has been silent;
+-- who is live, in order of joining, and who is registered, in order of registration
 pub record Clients : Type 0 where
   pub phase : ℕ → Option Phase
   pub id : ℕ → Option (List ℕ)
   pub table : ℕ → List Property
   pub saved : ℕ → Option (List Property)
+  pub quiet : ℕ → ℕ
   pub live : List ℕ
   pub registered : List ℕ
 
@@ -37,12 +38,13 @@ pub record Store : Type 0 where
   pub strays : List Command
 
 -- how many new IDs were given, which IDs of the opened book nobody has registered with yet, how often the client of
--- an ID was started again at once, and whether a shutdown was agreed
+-- an ID was started again at once, whether a shutdown was agreed, and for how long a client may be silent
 pub record Run : Type 0 where
   pub given : ℕ
   pub expected : List (List ℕ)
   pub respawns : List ℕ → ℕ
   pub is_ending : Bool
+  pub patience : ℕ
 
 pub record Reading : Type 0 where
   pub clients : Clients
@@ -59,6 +61,7 @@ reading h = record {
     id = λ c. of.id_of c h;
     table = λ c. of.table_of c h;
     saved = λ c. of.saved_of c h;
+    quiet = λ c. of.quiet c h;
     live = of.live h;
     registered = of.registered h;
   };
@@ -70,6 +73,7 @@ reading h = record {
     expected = of.expected h;
     respawns = λ id. of.respawns id h;
     is_ending = of.is_ending h;
+    patience = of.patience h;
   };
 }
 

@@ -1,6 +1,6 @@
 -- What a history says now. Each reading is told for one move more; what a step needs of other readings is
 -- handed to it. So the same steps serve whoever keeps these things up to date from move to move.
-use Rattle.std.specs.Prelude.{Bool, List, None, Option, Some, [], cond, drop, false, filter, is_some, map, not, true, ℕ, ◌&&◌, ◌++◌, ◌+◌, ◌==◌, ◌||◌, ◌∷◌}
+use Rattle.std.specs.Prelude.{Bool, List, None, Option, Some, [], cond, drop, false, filter, is_some, map, min, not, true, ℕ, ◌&&◌, ◌++◌, ◌+◌, ◌==◌, ◌||◌, ◌∷◌}
 use Rattle.std.specs.List.{list_any}
 use Rattle.std.specs.Str.{bytes_eq}
 use Rattle.sm_world.specs.Calls.{one_more}
@@ -9,13 +9,13 @@ use Rattle.sm_world.specs.declared.events.Dialog.{Dialog}
 use Rattle.ice_values.specs.declared.property.Property.{Property}
 use Rattle.checkpoint_records.specs.declared.records.Book.{Book}
 use Rattle.xsmp_messages.specs.declared.message.XsmpMessage.{XsmpMessage}
-use Rattle.xsmp_messages.specs.declared.message.XsmpMessage.TheVariants.{InteractRequest, RegisterClient, RegisterClientReply, SaveYourself, SaveYourselfDone, ShutdownCancelled}
+use Rattle.xsmp_messages.specs.declared.message.XsmpMessage.TheVariants.{Error, InteractRequest, RegisterClient, RegisterClientReply, SaveYourself, SaveYourselfDone, ShutdownCancelled}
 use Rattle.round_agreement.specs.declared.wanted.Wanted.{Wanted}
 use Rattle.session_model.specs.declared.phase.Phase.{Phase}
 use Rattle.session_model.specs.declared.waits.Wait.{Wait}
 use Rattle.session_model.specs.declared.marks.Marks.{Marks}
 use Rattle.session_model.specs.declared.events.SessionEvent.{SessionEvent}
-use Rattle.session_model.specs.declared.events.SessionEvent.TheVariants.{Joined, Left, Operator, Ready, Said}
+use Rattle.session_model.specs.declared.events.SessionEvent.TheVariants.{Joined, Left, Operator, Ready, Said, Tick}
 use Rattle.round_agreement.specs.declared.round.Member.{Member}
 use Rattle.round_agreement.specs.Agreement.{Agreement, is_nil}
 use Rattle.discard_ledger.specs.Discards.{discard_of}
@@ -39,8 +39,13 @@ book_after (Committed written) book = written
 book_after m book = book
 
 abbrev pub book : History → Book
-book (Opened opened) = opened
+book (Opened opening) = opening.book
 book (m ▷ h) = book_after m (book h)
+
+-- for how long a client may be silent that owes an answer
+abbrev pub patience : History → ℕ
+patience (Opened opening) = opening.patience
+patience (m ▷ h) = patience h
 
 -- Connections
 
@@ -52,7 +57,7 @@ live_after (Closed c) conns = without c conns
 live_after m conns = conns
 
 abbrev pub live : History → List ℕ
-live (Opened opened) = []
+live (Opened opening) = []
 live (m ▷ h) = live_after m (live h)
 
 -- the registered connections, in the order in which they registered
@@ -63,7 +68,7 @@ registered_after (Closed c) conns = without c conns
 registered_after m conns = conns
 
 abbrev pub registered : History → List ℕ
-registered (Opened opened) = []
+registered (Opened opening) = []
 registered (m ▷ h) = registered_after m (registered h)
 
 -- the ID under which c registered
@@ -72,7 +77,7 @@ id_after c (Gave d (RegisterClientReply given)) id = cond (d == c) (Some given) 
 id_after c m id = unless_left c (departing m) None id
 
 abbrev pub id_of : ℕ → History → Option (List ℕ)
-id_of c (Opened opened) = None
+id_of c (Opened opening) = None
 id_of c (m ▷ h) = id_after c m (id_of c h)
 
 -- who sent the last RegisterClient, where that asks for a new ID by an empty previous-ID
@@ -85,7 +90,7 @@ newcomer_after (Outside (Said c m sequence frame)) newcomer = newcomer_said c m 
 newcomer_after m newcomer = newcomer
 
 abbrev pub newcomer : History → Option ℕ
-newcomer (Opened opened) = None
+newcomer (Opened opening) = None
 newcomer (m ▷ h) = newcomer_after m (newcomer h)
 
 -- The last RegisterClient came from c, and its previous-ID was empty. A reply answers the last RegisterClient, so one that c is
@@ -101,7 +106,7 @@ given_after (Gave c (RegisterClientReply id)) anew n = cond (anew c) (n + 1) n
 given_after m anew n = n
 
 abbrev pub given : History → ℕ
-given (Opened opened) = 0
+given (Opened opening) = 0
 given (m ▷ h) = given_after m (λ c. asks_anew c h) (given h)
 
 -- the IDs of the opened book with which nobody has registered yet
@@ -110,7 +115,7 @@ expected_after (Gave c (RegisterClientReply id)) ids = filter (λ other. not (by
 expected_after m ids = ids
 
 abbrev pub expected : History → List (List ℕ)
-expected (Opened opened) = ids_of opened.entries
+expected (Opened opening) = ids_of opening.book.entries
 expected (m ▷ h) = expected_after m (expected h)
 
 -- how often a command was started because the client of this ID departed
@@ -123,7 +128,7 @@ respawns_after id (Tried cause command) n = respawned_by id cause n
 respawns_after id m n = n
 
 abbrev pub respawns : List ℕ → History → ℕ
-respawns id (Opened opened) = 0
+respawns id (Opened opening) = 0
 respawns id (m ▷ h) = respawns_after id m (respawns id h)
 
 -- The round
@@ -142,7 +147,7 @@ running_after m r = r
 
 -- the round that runs, as it began
 abbrev pub running : History → Option Begun
-running (Opened opened) = None
+running (Opened opening) = None
 running (m ▷ h) = running_after m (running h)
 
 abbrev pub wanted_of : Option Begun → Option Wanted
@@ -164,7 +169,7 @@ members_after (Closed c) conns = without c conns
 members_after m conns = conns
 
 abbrev pub members : History → List ℕ
-members (Opened opened) = []
+members (Opened opening) = []
 members (m ▷ h) = members_after m (members h)
 
 -- a shutdown was agreed
@@ -173,7 +178,7 @@ ending_after Agreed purpose ending = ending || is_shutdown purpose
 ending_after m purpose ending = ending
 
 abbrev pub is_ending : History → Bool
-is_ending (Opened opened) = false
+is_ending (Opened opening) = false
 is_ending (m ▷ h) = ending_after m (wanted h) (is_ending h)
 
 -- Phases
@@ -194,8 +199,38 @@ phase_after c m allowed phase = phase
 
 -- how far c is
 abbrev pub phase_of : ℕ → History → Option Phase
-phase_of c (Opened opened) = None
+phase_of c (Opened opening) = None
 phase_of c (m ▷ h) = phase_after c m (λ dialog. may_interact (wanted h) dialog) (phase_of c h)
+
+-- Silence
+
+-- so many milliseconds more, up to the largest number
+abbrev pub quiet_for : ℕ → ℕ → ℕ
+quiet_for n milliseconds = min (n + milliseconds) 18446744073709551615
+
+-- an Error is no sign of life; every other message is
+abbrev pub quiet_said : XsmpMessage → ℕ → ℕ
+quiet_said (Error error) n = n
+quiet_said m n = 0
+
+-- the time goes on for each connection on which XSMP has begun
+abbrev pub quiet_heard : ℕ → SessionEvent → Option Phase → ℕ → ℕ
+quiet_heard c (Said d m sequence frame) phase n = cond (d == c) (quiet_said m n) n
+quiet_heard c (Tick milliseconds) phase n = cond (is_some phase) (quiet_for n milliseconds) n
+quiet_heard c (Left d) phase n = cond (d == c) 0 n
+quiet_heard c event phase n = n
+
+abbrev pub quiet_after : ℕ → Move → Option Phase → ℕ → ℕ
+quiet_after c (Outside event) phase n = quiet_heard c event phase n
+quiet_after c (Gave d m) phase n = cond (d == c) 0 n
+quiet_after c (Unset d) phase n = cond (d == c) 0 n
+quiet_after c (Closed d) phase n = cond (d == c) 0 n
+quiet_after c m phase n = n
+
+-- for how many milliseconds c was neither given a message nor said one other than an Error
+abbrev pub quiet : ℕ → History → ℕ
+quiet c (Opened opening) = 0
+quiet c (m ▷ h) = quiet_after c m (phase_of c h) (quiet c h)
 
 -- Tables
 
@@ -213,7 +248,7 @@ table_after c (Closed d) first phase table = cond (d == c) [] table
 table_after c m first phase table = table
 
 abbrev pub table_of : ℕ → History → List Property
-table_of c (Opened opened) = []
+table_of c (Opened opening) = []
 table_of c (m ▷ h) = table_after c m (λ id. first_table (book h) id) (λ d. phase_of d h) (table_of c h)
 
 -- Snapshots
@@ -235,7 +270,7 @@ saved_after c m phase table saved = unless_left c (departing m) None saved
 -- The table of c as it said that its save was a success. There is none before that, from each SaveYourself on, and
 -- after its round was cancelled.
 abbrev pub saved_of : ℕ → History → Option (List Property)
-saved_of c (Opened opened) = None
+saved_of c (Opened opening) = None
 saved_of c (m ▷ h) = saved_after c m (λ d. phase_of d h) (λ d. table_of d h) (saved_of c h)
 
 -- how far each of these connections is in its round
@@ -269,7 +304,7 @@ waits_after m anew phase purpose ending waits = waits
 
 -- the rounds that wait, in order
 abbrev pub waits : History → List Wait
-waits (Opened opened) = []
+waits (Opened opening) = []
 waits (m ▷ h) = waits_after m (λ c. asks_anew c h) (λ c. phase_of c h) (wanted h) (is_ending h) (waits h)
 
 -- The token
@@ -285,7 +320,7 @@ askers_after m phase allowed conns = conns
 
 -- who ever asked for the token, in the order in which they did so last
 abbrev pub askers : History → List ℕ
-askers (Opened opened) = []
+askers (Opened opening) = []
 askers (m ▷ h) = askers_after m (λ c. phase_of c h) (λ dialog. may_interact (wanted h) dialog) (askers h)
 
 -- those that still wait for the token, in order
@@ -312,7 +347,7 @@ strays_after m command keep strays = keep command strays
 
 -- the commands that stopped standing since the last book was written
 abbrev pub strays : History → List Command
-strays (Opened opened) = []
+strays (Opened opening) = []
 strays (m ▷ h) = strays_after m (stopped_by m (λ c. phase_of c h) (λ c. table_of c h)) (λ command kept. strays_with (book h) command kept) (strays h)
 
 -- How far the rounds of all clients are
@@ -329,5 +364,5 @@ marks_after Agreed purpose marks = cond (is_global_round purpose) (record marks 
 marks_after m purpose marks = marks
 
 abbrev pub marks : History → Marks
-marks (Opened opened) = record { begun = 0; ended = 0; agreed = 0 }
+marks (Opened opening) = record { begun = 0; ended = 0; agreed = 0 }
 marks (m ▷ h) = marks_after m (wanted h) (marks h)

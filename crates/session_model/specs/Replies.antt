@@ -1,5 +1,5 @@
 -- The direct answer to what comes from outside, before anything settles. All moves of an answer are told from one reading.
-use Rattle.std.specs.Prelude.{Bool, List, None, Option, Some, [], codes, cond, decimal, false, filter, filter_map, is_none, is_some, length, nat_le, not, true, ℕ, ◌&&◌, ◌++◌, ◌+◌, ◌||◌, ◌∷◌}
+use Rattle.std.specs.Prelude.{Bool, List, None, Option, Some, [], codes, cond, decimal, false, filter, filter_map, flat_map, is_none, is_some, length, nat_le, nat_lt, not, true, ℕ, ◌&&◌, ◌++◌, ◌+◌, ◌||◌, ◌∷◌}
 use Rattle.sm_world.specs.declared.commands.Command.{Command}
 use Rattle.sm_world.specs.declared.events.Order.{Order}
 use Rattle.sm_world.specs.declared.events.Order.TheVariants.{Cancel, Checkpoint, DropConn, Forget, Shutdown, Status}
@@ -12,15 +12,16 @@ use Rattle.round_agreement.specs.declared.wanted.Wanted.{Wanted}
 use Rattle.session_model.specs.declared.phase.Phase.{Phase}
 use Rattle.session_model.specs.declared.phase.Phase.TheVariants.{Dying}
 use Rattle.session_model.specs.declared.events.SessionEvent.{SessionEvent}
-use Rattle.session_model.specs.declared.events.SessionEvent.TheVariants.{Joined, Left, Operator, Ready, Said}
+use Rattle.session_model.specs.declared.events.SessionEvent.TheVariants.{Joined, Left, Operator, Ready, Said, Tick}
 use Rattle.round_agreement.specs.Agreement.{Agreement, conns_of}
 use Rattle.interact_queue.specs.Queue.{is_in}
 use Rattle.restart_plan.specs.Restarts.{respawn}
-use Rattle.session_model.specs.Phases.{is_bound, is_dying, is_first_saving, is_interacting, is_owing, is_saving, is_shutdown, is_unregistered, may_interact}
+use Rattle.session_model.specs.Phases.{is_awaited, is_bound, is_dying, is_first_saving, is_interacting, is_owing, is_saving, is_shutdown, is_unregistered, may_interact}
 use Rattle.session_model.specs.Tables.{entry_of, is_full, is_recorded}
 use Rattle.checkpoint_records.specs.Rules.{client_id}
 use Rattle.session_model.specs.Errors.{Arrival, bad_id, bad_state, full_table, lone_shutdown, no_room}
 use Rattle.session_model.specs.Moves.{Blamed, Cancelled, Closed, Committed, Gave, Move, Printed, Resign, Respawn, Tried, Unset, gave_each}
+use Rattle.session_model.specs.Readings.{quiet_for}
 use Rattle.session_model.specs.Waits.{is_busy}
 use Rattle.session_model.specs.Reading.{Reading, client_of, wanted_in}
 use Rattle.session_model.specs.Books.{book_forgetting, command_anyway, discarded}
@@ -160,6 +161,19 @@ ordered r (DropConn c) = cond (is_in c r.clients.live) (Printed (codes "ok") ∷
 ordered r (Forget id) = forget r id
 ordered r Status = Printed (status_text r) ∷ []
 
+-- The passing of time
+
+-- it is waited for, and will then have been silent for too long; with a patience of 0 nothing is too long
+abbrev pub is_late : ℕ → ℕ → Option Phase → ℕ → Bool
+is_late patience milliseconds phase quiet = nat_lt 0 patience && is_awaited phase && nat_le patience (quiet_for quiet milliseconds)
+
+abbrev pub is_overdue : Reading → ℕ → ℕ → Bool
+is_overdue r milliseconds c = is_late r.run.patience milliseconds (r.clients.phase c) (r.clients.quiet c)
+
+-- each registered client that is overdue once these milliseconds have passed is shut, in order of registration
+abbrev pub waited : Reading → ℕ → List Move
+waited r milliseconds = flat_map (depart r) (filter (is_overdue r milliseconds) r.clients.registered)
+
 -- What comes from outside
 
 -- no connection more: a shutdown was agreed, or 64 are live
@@ -173,3 +187,4 @@ reply r (Ready c) = []
 reply r (Said c m sequence frame) = said r (record { conn = c; message = m; sequence = sequence; frame = frame }) m
 reply r (Left c) = respawned r c
 reply r (Operator order) = ordered r order
+reply r (Tick milliseconds) = waited r milliseconds

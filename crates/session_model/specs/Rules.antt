@@ -11,12 +11,12 @@ use Rattle.xsmp_messages.specs.declared.message.XsmpMessage.TheVariants.{Die, In
 use Rattle.round_agreement.specs.declared.wanted.Wanted.{Wanted}
 use Rattle.session_model.specs.declared.waits.Wait.{Wait}
 use Rattle.session_model.specs.declared.events.SessionEvent.{SessionEvent}
-use Rattle.session_model.specs.declared.events.SessionEvent.TheVariants.{Joined, Left, Operator, Ready, Said}
+use Rattle.session_model.specs.declared.events.SessionEvent.TheVariants.{Joined, Left, Operator, Ready, Said, Tick}
 use Rattle.round_agreement.specs.declared.round.Member.{Member}
 use Rattle.round_agreement.specs.Agreement.{Agreement, agreed, conns_of, deserted, is_nil, two_ready, wants_two}
 use Rattle.interact_queue.specs.Queue.{is_in, next_holder}
 use Rattle.session_model.specs.Phases.{is_owing}
-use Rattle.session_model.specs.Moves.{Agreed, Began, Closed, Committed, End, Finished, Gave, History, Move, Opened, Outside, Over, gave_each, onto, tried_each, ◌▷◌}
+use Rattle.session_model.specs.Moves.{Agreed, Began, Closed, Committed, End, Finished, Gave, History, Move, Opened, Opening, Outside, Over, gave_each, onto, tried_each, ◌▷◌}
 use Rattle.session_model.specs.Reading.{Clients, Reading, client_of, reading}
 use Rattle.session_model.specs.Books.{command_anyway, discarded, next_book, opening_moves}
 use Rattle.session_model.specs.Replies.{reply}
@@ -135,12 +135,13 @@ Takes (Said c m sequence frame) r =
     (is_in c r.clients.live ≡ true) × (is_some (r.clients.phase c) ≡ true) × (length frame ≤ 65544) × ((e : Endian) × (opcode : ℕ) × Spells e opcode m frame)
 Takes (Left c) r = is_in c r.clients.live ≡ true
 Takes (Operator order) r = Unit {0}
+Takes (Tick milliseconds) r = Unit {0}
 
 -- Runs
 
--- the history with which a run begins over a book
-abbrev pub opened : Book → History
-opened book = onto (Opened book) (opening_moves book)
+-- the history with which a run begins
+abbrev pub opened : Opening → History
+opened opening = onto (Opened opening) (opening_moves opening.book)
 
 -- after these events more
 abbrev pub run : History → List SessionEvent → History

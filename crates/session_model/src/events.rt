@@ -17,6 +17,8 @@ pub enum SessionEvent {
     Left(Conn),
     /// The operator asks for something.
     Operator(Order),
+    /// So many milliseconds have passed.
+    Tick(u64),
 }
 
 /// Why a command is started.

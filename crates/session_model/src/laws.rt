@@ -1,4 +1,4 @@
-ghost use Rattle.session_model.specs.Laws.{NobodyRegistersTwice, PhasesTellWhoIsRegistered, OneHasTheToken, MembersAreAskedToSave, RoundsWaitForRegistered, DeathIsOfShutdown, PhasesTellWhoWaits, NobodyWaitsTwice, SettlingComesToRest, BooksKeepRules, MessagesFit, EntriesKeepRules};
+ghost use Rattle.session_model.specs.Laws.{NobodyRegistersTwice, PhasesTellWhoIsRegistered, OneHasTheToken, MembersAreAskedToSave, RoundsWaitForRegistered, DeathIsOfShutdown, PhasesTellWhoWaits, NobodyWaitsTwice, SettlingComesToRest, BooksKeepRules, MessagesFit, EntriesKeepRules, SilenceIsCounted};
 
 /// Does nothing: its contract is a law of every history. Nobody is registered twice.
 pub fn nobody_registers_twice()
@@ -58,4 +58,9 @@ pub fn messages_fit()
 /// Does nothing: its contract is a law of every history. Each entry of a book that is written keeps the rules, where the opened book does.
 pub fn entries_keep_rules()
     ensures { EntriesKeepRules }
+{}
+
+/// Does nothing: its contract is a law of every history. What it says of a registered client's silence is the sum of the milliseconds since the client's last sign.
+pub fn silence_is_counted()
+    ensures { SilenceIsCounted }
 {}

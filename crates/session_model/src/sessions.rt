@@ -1,4 +1,4 @@
-ghost use Rattle.session_model.specs.Examples.{ANewClientSaves, AnUnknownIdIsRefused, ALongIdIsShownInPart, PropertiesAreKept, AFullTableIsRefused, ThereIsRoomFor64, ACheckpointGoesOn, ACheckpointWaitsForAll, TheTokenGoesOn, TheTokenIsHeldByOne, TheTokenIsGivenBack, OnlyErrorsAreAllowed, AShutdownIsCancelled, AnEmptySessionEnds, OrdersAnswer, AnOldStateIsDiscarded, ExpectedEntriesStay, TheRequestTellsWhoIsNew, ASessionIsTakenUp};
+ghost use Rattle.session_model.specs.Examples.{ANewClientSaves, AnUnknownIdIsRefused, ALongIdIsShownInPart, PropertiesAreKept, AFullTableIsRefused, ThereIsRoomFor64, ACheckpointGoesOn, ACheckpointWaitsForAll, TheTokenGoesOn, TheTokenIsHeldByOne, TheTokenIsGivenBack, OnlyErrorsAreAllowed, AShutdownIsCancelled, AnEmptySessionEnds, OrdersAnswer, AnOldStateIsDiscarded, ExpectedEntriesStay, TheRequestTellsWhoIsNew, ASessionIsTakenUp, ASilentClientIsShut, TalkingIsNoSilence, ADebtEndsWithPatience, TwoAreShutAtOnce, WithoutPatienceNobodyIsShut};
 
 /// Does nothing: its contract is a list of worked sessions, each of which the definitions compute.
 pub fn sessions_compute()
@@ -21,4 +21,9 @@ pub fn sessions_compute()
     ensures expected_entries_stay { ExpectedEntriesStay }
     ensures the_request_tells_who_is_new { TheRequestTellsWhoIsNew }
     ensures a_session_is_taken_up { ASessionIsTakenUp }
+    ensures a_silent_client_is_shut { ASilentClientIsShut }
+    ensures talking_is_no_silence { TalkingIsNoSilence }
+    ensures a_debt_ends_with_patience { ADebtEndsWithPatience }
+    ensures two_are_shut_at_once { TwoAreShutAtOnce }
+    ensures without_patience_nobody_is_shut { WithoutPatienceNobodyIsShut }
 {}

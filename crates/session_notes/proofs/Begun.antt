@@ -6,7 +6,7 @@ use Rattle.checkpoint_records.specs.declared.records.Book.{Book}
 use Rattle.restart_plan.specs.Restarts.{opening_restarts}
 use Rattle.session_model.specs.declared.events.SessionEvent.{SessionEvent}
 use Rattle.session_model.specs.Books.{issue, raised}
-use Rattle.session_model.specs.Moves.{Committed, History, Move, Opened, Outside, Restart, onto, tried_each, ◌▷◌}
+use Rattle.session_model.specs.Moves.{Committed, History, Move, Opened, Outside, Restart, onto, tried_each, ◌▷◌, Opening}
 use Rattle.session_model.specs.Rules.{opened, run, taken}
 use Rattle.session_model.proofs.Inner.{kept-opening, kept-taken}
 use Rattle.session_model.proofs.Level.{onto-append}
@@ -38,23 +38,23 @@ restarts-seen (command ∷ commands) h = restarts-seen commands _ ∙ append_ass
 abbrev before : Book → List Move
 before book = Committed (raised book) ∷ issue (raised book) book.pending
 
-opened-seen : (book : Book) → entries (opened book) ≡ entries (onto (Opened book) (before book)) ++ map again (opening_restarts book.entries)
-opened-seen book =
-    ap (λ (h : History). entries h) (onto-append (Opened book) (before book) (tried_each Restart (opening_restarts book.entries))) ∙ restarts-seen (opening_restarts book.entries) (onto (Opened book) (before book))
+opened-seen : (opening : Opening) → entries (opened opening) ≡ entries (onto (Opened opening) (before opening.book)) ++ map again (opening_restarts opening.book.entries)
+opened-seen opening =
+    ap (λ (h : History). entries h) (onto-append (Opened opening) (before opening.book) (tried_each Restart (opening_restarts opening.book.entries))) ∙ restarts-seen (opening_restarts opening.book.entries) (onto (Opened opening) (before opening.book))
 
 none-first : (xs ys : List SessionEvent) → xs ++ ys ≡ [] → xs ≡ []
 none-first [] ys e = refl
 none-first (x ∷ xs) ys e = absurd (grind arith)
 
 pub begins-again : RunsBeginAgain
-begins-again book events =
-    let first : List Entry = entries (onto (Opened book) (before book)) in
-    let again_all : List Entry = map again (opening_restarts book.entries) in
-    let g : Goes (entries (opened book)) (run (opened book) events) = goes-run (entries (opened book)) events (opened book) ([], append-nil (entries (opened book))) in
+begins-again opening events =
+    let first : List Entry = entries (onto (Opened opening) (before opening.book)) in
+    let again_all : List Entry = map again (opening_restarts opening.book.entries) in
+    let g : Goes (entries (opened opening)) (run (opened opening) events) = goes-run (entries (opened opening)) events (opened opening) ([], append-nil (entries (opened opening))) in
     record {
       first = first;
       later = g.0;
-      parts = sym (append_assoc first again_all g.0) ∙ ap (λ (xs : List Entry). xs ++ g.0) (sym (opened-seen book)) ∙ g.1;
+      parts = sym (append_assoc first again_all g.0) ∙ ap (λ (xs : List Entry). xs ++ g.0) (sym (opened-seen opening)) ∙ g.1;
       deaf = none-first (came_in first) (came_in again_all)
-          (sym (came-append first again_all) ∙ ap (λ (xs : List Entry). came_in xs) (sym (opened-seen book)) ∙ kept-opening (λ h. came h ≡ []) (λ m h i e. came-inner m h i ∙ e) book refl);
+          (sym (came-append first again_all) ∙ ap (λ (xs : List Entry). came_in xs) (sym (opened-seen opening)) ∙ kept-opening (λ h. came h ≡ []) (λ m h i e. came-inner m h i ∙ e) opening refl);
     }

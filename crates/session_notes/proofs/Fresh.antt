@@ -13,7 +13,7 @@ use Rattle.session_model.specs.declared.events.SessionEvent.{SessionEvent}
 use Rattle.session_model.specs.declared.events.SessionEvent.TheVariants.{Left, Said}
 use Rattle.session_model.specs.Tables.{is_of, is_recorded}
 use Rattle.session_model.specs.Books.{raised}
-use Rattle.session_model.specs.Moves.{Move, Outside, Gave, Blamed, Committed, History, Opened, ◌▷◌}
+use Rattle.session_model.specs.Moves.{Move, Outside, Gave, Blamed, Committed, History, Opened, ◌▷◌, Opening}
 use Rattle.session_model.specs.Readings as of
 use Rattle.session_model.proofs.Names.{IsBefore, Numbered, before-earlier, before-own, numbered-step}
 use Rattle.session_model.proofs.Pending.{all-more}
@@ -114,11 +114,11 @@ aged-refused c m sequence frame error h n o = record { before = record { held = 
 no-id : (id : List ℕ) → None ≡ Some id → ⊥
 no-id id e = grind arith
 
-pub aged-opening : (book : Book) → IsOpenable book → Aged (Committed (raised book) ▷ Opened book) (noted_of (Committed (raised book) ▷ Opened book))
-aged-opening book o = record {
+pub aged-opening : (opening : Opening) → IsOpenable opening.book → Aged (Committed (raised opening.book) ▷ Opened opening) (noted_of (Committed (raised opening.book) ▷ Opened opening))
+aged-opening opening o = record {
   before = record {
     held = λ c id e. absurd (no-id id e);
-    entries = all-more (IsEntry book.epoch) (λ (entry : Entry). IsBefore (book.epoch + 1) 0 entry.id) (λ entry i. before-earlier book.epoch entry.id (omega (arith, o.room)) i.id) book.entries o.rules.entries;
+    entries = all-more (IsEntry opening.book.epoch) (λ (entry : Entry). IsBefore (opening.book.epoch + 1) 0 entry.id) (λ entry i. before-earlier opening.book.epoch entry.id (omega (arith, o.room)) i.id) opening.book.entries o.rules.entries;
   };
   given = tt;
   new = refl;

@@ -1,6 +1,6 @@
 -- Messages that come, and the answers to events.
 use Rattle.std.proofs.Common.{◌≡◌, refl, ℕ, Bool, true, false, cond, not, ◌&&◌, ◌||◌, List, [], ◌∷◌, ◌++◌, ◌+◌, ◌<◌, filter, eqb, sym, ap, subst, ◌∙◌, arith}
-use Rattle.std.specs.Prelude.{Option, Some, None, is_some, is_none, codes, nat_le}
+use Rattle.std.specs.Prelude.{Option, Some, None, is_some, is_none, codes, nat_le, flat_map}
 use Rattle.std.proofs.lemmas.Bool.Decides.{nat_tests}
 use Rattle.sm_world.specs.declared.commands.Command.{Command}
 use Rattle.sm_world.specs.declared.events.Order.{Order}
@@ -23,7 +23,7 @@ use Rattle.interact_queue.specs.Queue.{is_in, without}
 use Rattle.session_model.specs.declared.phase.Phase.{Phase}
 use Rattle.session_model.specs.declared.phase.Phase.TheVariants.{Unregistered, Saving, SavingTwo, Interacting, InteractingTwo, Owing, Dying}
 use Rattle.session_model.specs.declared.events.SessionEvent.{SessionEvent}
-use Rattle.session_model.specs.declared.events.SessionEvent.TheVariants.{Joined, Ready, Said, Left, Operator}
+use Rattle.session_model.specs.declared.events.SessionEvent.TheVariants.{Joined, Ready, Said, Left, Operator, Tick}
 use Rattle.session_model.specs.Phases.{is_asked, is_bound, is_unregistered, is_dying, is_owing, is_saving, is_first_saving, is_interacting, is_member, is_registered, is_shutdown, may_interact, phase_said, asked_phase, talked_phase, saved_phase, second_phase}
 use Rattle.session_model.specs.Tables.{is_full, is_recorded, is_same, entry_of, set_table, table_said}
 use Rattle.session_model.specs.Errors.{Arrival, no_room, bad_id, full_table, lone_shutdown}
@@ -31,7 +31,7 @@ use Rattle.session_model.specs.Moves.{Move, Outside, Gave, Blamed, Unset, Closed
 use Rattle.session_model.specs.Readings as of
 use Rattle.session_model.specs.Reading.{Reading, reading, wanted_in, client_of}
 use Rattle.session_model.specs.Books.{discarded, command_anyway, book_forgetting}
-use Rattle.session_model.specs.Replies.{or_bad_state, respawn_moves, entry_respawn, id_respawn, respawned, depart, has_no_room, known_ids, may_rejoin, register, called_off, want_cancel, answered, unless_dying, said, resigned, forgotten, forget_one, ordered, has_no_place, reply}
+use Rattle.session_model.specs.Replies.{or_bad_state, respawn_moves, entry_respawn, id_respawn, respawned, depart, has_no_room, known_ids, may_rejoin, register, called_off, want_cancel, answered, unless_dying, said, resigned, forgotten, forget_one, ordered, has_no_place, reply, waited, is_overdue}
 use Rattle.session_model.proofs.Sound.{Sound, sound-step}
 use Rattle.session_model.proofs.Level.{Good}
 use Rattle.session_model.proofs.Names.{asks-heard}
@@ -71,6 +71,14 @@ calm-id r (Some id) = calm-entry r id (entry_of id r.store.book)
 
 calm-respawned : (r : Reading) (c : ℕ) → AllCalm (respawned r c)
 calm-respawned r c = calm-cond (is_dying (r.clients.phase c)) [] (id_respawn r (r.clients.id c)) tt (calm-id r (r.clients.id c))
+
+calm-append : (xs ys : List Move) → AllCalm xs → AllCalm ys → AllCalm (xs ++ ys)
+calm-append [] ys p q = q
+calm-append (x ∷ xs) ys p q = (p.0, calm-append xs ys p.1 q)
+
+calm-departs : (r : Reading) (conns : List ℕ) → AllCalm (flat_map (depart r) conns)
+calm-departs r [] = tt
+calm-departs r (c ∷ conns) = calm-append (depart r c) (flat_map (depart r) conns) (tt, calm-respawned r c) (calm-departs r conns)
 
 calm-resigned : (command : Option Command) → AllCalm (resigned command)
 calm-resigned None = tt
@@ -158,7 +166,7 @@ one-heard : (c : ℕ) (m : XsmpMessage) (n : List Note) → OneHas n → OneHas 
 one-heard c m n o a b e f = o a b (token-before c m a n e) (token-before c m b n f)
 
 top-one : (P : List Note → Type 0) (h : History) → AtEach P h → P (noted_of h)
-top-one P (Opened book) a = a
+top-one P (Opened opening) a = a
 top-one P (m ▷ h) a = a.0
 
 taken-back : (c : ℕ) (m : XsmpMessage) (n : List Note) → cond (eqb c c) n (Heard c m ∷ n) ≡ n
@@ -433,3 +441,5 @@ fine-reply_to (Ready c) h g f = fine-step (Outside (Ready c)) h tt f
 fine-reply_to (Said c m sequence frame) h g f = fine-said c m sequence frame h f
 fine-reply_to (Left c) h g f = fine-calm (respawned (reading h) c) (Outside (Left c) ▷ h) (calm-respawned (reading h) c) (fine-step (Outside (Left c)) h tt f)
 fine-reply_to (Operator order) h g f = fine-ordered order h g f
+fine-reply_to (Tick milliseconds) h g f =
+    fine-calm (waited (reading h) milliseconds) (Outside (Tick milliseconds) ▷ h) (calm-departs (reading h) (filter (is_overdue (reading h) milliseconds) (of.registered h))) (fine-step (Outside (Tick milliseconds)) h tt f)

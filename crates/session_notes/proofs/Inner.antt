@@ -1,9 +1,8 @@
 -- Nothing comes from outside but the events themselves.
 use Rattle.std.proofs.Common.{◌≡◌, refl, List, [], ◌∷◌, ◌++◌, sym, ap, ◌∙◌}
 use Rattle.std.proofs.lemmas.List.{append-nil, append_assoc}
-use Rattle.checkpoint_records.specs.declared.records.Book.{Book}
 use Rattle.session_model.specs.declared.events.SessionEvent.{SessionEvent}
-use Rattle.session_model.specs.Moves.{History, Move, Outside, ◌▷◌}
+use Rattle.session_model.specs.Moves.{History, Move, Outside, ◌▷◌, Opening}
 use Rattle.session_model.specs.Rules.{opened, run, taken}
 use Rattle.session_model.proofs.Inner.{IsInner, kept-opening, kept-taken}
 use Rattle.session_notes.specs.Notes.{Came, Did, Entry, came_in, entries, entries_of}
@@ -31,6 +30,6 @@ came-run : (events : List SessionEvent) (h : History) → came (run h events) �
 came-run [] h = sym (append-nil (came h))
 came-run (event ∷ events) h = came-run events (taken event h) ∙ ap (λ (xs : List SessionEvent). xs ++ events) (came-taken event h) ∙ append_assoc (came h) (event ∷ []) events
 
-pub all-events : (book : Book) (events : List SessionEvent) → came_in (entries (run (opened book) events)) ≡ events
-all-events book events =
-    came-run events (opened book) ∙ ap (λ (xs : List SessionEvent). xs ++ events) (kept-opening (λ h. came h ≡ []) (λ m h i e. came-inner m h i ∙ e) book refl)
+pub all-events : (opening : Opening) (events : List SessionEvent) → came_in (entries (run (opened opening) events)) ≡ events
+all-events opening events =
+    came-run events (opened opening) ∙ ap (λ (xs : List SessionEvent). xs ++ events) (kept-opening (λ h. came h ≡ []) (λ m h i e. came-inner m h i ∙ e) opening refl)

@@ -15,7 +15,7 @@ use Rattle.discard_ledger.specs.Discards.{discard_of, is_among}
 use Rattle.session_model.specs.declared.phase.Phase.{Phase}
 use Rattle.session_model.specs.declared.phase.Phase.TheVariants.{Owing}
 use Rattle.session_model.specs.declared.events.SessionEvent.{SessionEvent}
-use Rattle.session_model.specs.declared.events.SessionEvent.TheVariants.{Joined, Ready, Said, Left, Operator}
+use Rattle.session_model.specs.declared.events.SessionEvent.TheVariants.{Joined, Ready, Said, Left, Operator, Tick}
 use Rattle.session_model.specs.Phases.{is_bound, is_dying, is_member, is_owing, is_registered, is_saving, may_interact, phase_given, phase_said, ready_phase}
 use Rattle.session_model.specs.Tables.{is_full, is_recorded, is_same, first_table, set_table, table_said}
 use Rattle.session_model.specs.Moves.{Move, Outside, Gave, Unset, Closed, Committed, History, Opened, ◌▷◌}
@@ -36,7 +36,7 @@ use Rattle.session_notes.proofs.Tests.{came-one, contains-all, moved, none-passe
 
 -- the book that was opened
 abbrev pub opened_of : History → Book
-opened_of (Opened book) = book
+opened_of (Opened opening) = opening.book
 opened_of (m ▷ h) = opened_of h
 
 -- none of the pending commands is one that the book names
@@ -287,6 +287,7 @@ clear-outside command (Left d) h s k = record {
   saved = λ c e. gone-saved command (eqb d c) (of.saved_of c h) (of.phase_of c h) (k.saved c) e;
 }
 clear-outside command (Operator order) h s k = record { book = k.book; tables = k.tables; saved = k.saved }
+clear-outside command (Tick milliseconds) h s k = record { book = k.book; tables = k.tables; saved = k.saved }
 
 reply-clear : (command : Command) (b : Bool) (first items : List Property) (p q : Option Phase) → is_same command (discard_of first) ≡ false → (is_registered p ≡ true → is_same command (discard_of items) ≡ false) → is_registered (cond b q p) ≡ true → is_same command (discard_of (cond b first items)) ≡ false
 reply-clear command true first items p q f k e = f

@@ -36,14 +36,14 @@ acts-of (Outside event) = refl
 acts-of m = refl
 
 pub all-acts : (h : History) → acts_in (entries h) ≡ all_acts h
-all-acts (Opened book) = refl
+all-acts (Opened opening) = refl
 all-acts (m ▷ h) =
     acts-append (entries h) (entries_of m) ∙ ap (λ (acts : List Act). acts ++ acts_in (entries_of m)) (all-acts h) ∙ ap (λ (acts : List Act). all_acts h ++ acts) (acts-of m)
 
 -- The latest first
 
 abbrev pub latest : History → List Entry
-latest (Opened book) = []
+latest (Opened opening) = []
 latest (m ▷ h) = entries_of m ++ latest h
 
 turned : (ys : List Entry) → IsOne ys → reverse ys ≡ ys
@@ -51,7 +51,7 @@ turned ys (inl e) = ap (λ (xs : List Entry). reverse xs) e ∙ sym e
 turned ys (inr (y, e)) = ap (λ (xs : List Entry). reverse xs) e ∙ sym e
 
 pub latest-is : (h : History) → reverse (entries h) ≡ latest h
-latest-is (Opened book) = refl
+latest-is (Opened opening) = refl
 latest-is (m ▷ h) =
     reverse-append (entries h) (entries_of m) ∙ ap (λ (xs : List Entry). xs ++ reverse (entries h)) (turned (entries_of m) (one-of m)) ∙ ap (λ (xs : List Entry). entries_of m ++ xs) (latest-is h)
 
@@ -91,11 +91,11 @@ part-of (f ∷ front) later (x ∷ xs) ys o e = more (part-of front later xs ys 
 
 -- this holds of the notes at each moment
 abbrev pub AtEach : (List Note → Type 0) → History → Type 0
-AtEach P (Opened book) = P []
+AtEach P (Opened opening) = P []
 AtEach P (m ▷ h) = P (noted_of (m ▷ h)) × AtEach P h
 
 pub at-front : (P : List Note → Type 0) (h : History) (front later : List Entry) → front ++ later ≡ entries h → AtEach P h → P (notes front)
-at-front P (Opened book) front later e a = subst (λ (xs : List Entry). P (notes xs)) (sym (nothing-left front later e)) a
+at-front P (Opened opening) front later e a = subst (λ (xs : List Entry). P (notes xs)) (sym (nothing-left front later e)) a
 at-front P (m ▷ h) front later e a = front-at (part-of front later (entries h) (entries_of m) (one-of m) e) (λ left k. at-front P h front left k a.1) where
   front-at : (front ≡ entries h ++ entries_of m) ⊎ ((left : List Entry) × (front ++ left ≡ entries h)) → ((left : List Entry) → front ++ left ≡ entries h → P (notes front)) → P (notes front)
   front-at (inl k) r = subst (λ (xs : List Entry). P (notes xs)) (sym k) (subst P (sym (notes-are (m ▷ h))) a.0)
@@ -103,7 +103,7 @@ at-front P (m ▷ h) front later e a = front-at (part-of front later (entries h)
 
 -- this holds of each entry, with the notes of what was seen before it
 abbrev pub EachEntry : (List Note → Entry → Type 0) → History → Type 0
-EachEntry P (Opened book) = Unit {0}
+EachEntry P (Opened opening) = Unit {0}
 EachEntry P (m ▷ h) = AllByRecursion (P (noted_of h)) (entries_of m) × EachEntry P h
 
 last-is : (seen xs : List Entry) (e y : Entry) → seen ++ e ∷ [] ≡ xs ++ y ∷ [] → (seen ≡ xs) × (e ≡ y)
@@ -129,7 +129,7 @@ no-last [] e k = grind arith
 no-last (s ∷ seen) e k = grind arith
 
 pub at-entry : (P : List Note → Entry → Type 0) (h : History) (seen later : List Entry) (e : Entry) → (seen ++ e ∷ []) ++ later ≡ entries h → EachEntry P h → P (notes seen) e
-at-entry P (Opened book) seen later e k a = absurd (no-last seen e (nothing-left (seen ++ e ∷ []) later k))
+at-entry P (Opened opening) seen later e k a = absurd (no-last seen e (nothing-left (seen ++ e ∷ []) later k))
 at-entry P (m ▷ h) seen later e k a =
     entry-at (part-of (seen ++ e ∷ []) later (entries h) (entries_of m) (one-of m) k) (one-of m) (λ left j. at-entry P h seen left e j a.1) where
       entry-at : (seen ++ e ∷ [] ≡ entries h ++ entries_of m) ⊎ ((left : List Entry) × ((seen ++ e ∷ []) ++ left ≡ entries h)) → IsOne (entries_of m)

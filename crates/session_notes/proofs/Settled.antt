@@ -25,7 +25,7 @@ use Rattle.session_model.specs.declared.waits.Wait.{Wait}
 use Rattle.session_model.specs.declared.events.SessionEvent.{SessionEvent}
 use Rattle.session_model.specs.declared.events.Act.TheVariants.{Say}
 use Rattle.session_model.specs.Phases.{is_interacting, is_first_saving, is_member, is_shutdown, step_of, begun_phase, completed_phase, dying_phase, second_begun_phase}
-use Rattle.session_model.specs.Moves.{Move, Outside, Gave, Closed, Began, Over, Agreed, Tried, Committed, Finished, End, Restart, History, Opened, ◌▷◌, onto, gave_each, tried_each}
+use Rattle.session_model.specs.Moves.{Move, Outside, Gave, Closed, Began, Over, Agreed, Tried, Committed, Finished, End, Restart, History, Opened, ◌▷◌, onto, gave_each, tried_each, Opening}
 use Rattle.session_model.specs.Readings as of
 use Rattle.session_model.specs.Reading.{Clients, has_that_id, reading}
 use Rattle.session_model.specs.Books.{is_eligible, next_book, issue, discarded, raised}
@@ -386,18 +386,18 @@ fine-run (event ∷ events) h g f = fine-run events (taken event h) (good-taken 
 -- The opening
 
 -- the history in which the book has just been opened
-abbrev opening : Book → History
-opening book = Committed (raised book) ▷ Opened book
+abbrev begun : Opening → History
+begun opening = Committed (raised opening.book) ▷ Opened opening
 
 none-differ : IsDistinct bytes_eq []
 unfolding IsDistinct
 none-differ = tt
 
-standing-opened : (book : Book) → Standing book (noted_of (opening book))
-standing-opened book = standing-step book (Wrote (raised book)) [] (fates-same book (raised book) [] refl) (standing-first book)
+standing-opened : (opening : Opening) → Standing opening.book (noted_of (begun opening))
+standing-opened opening = standing-step opening.book (Wrote (raised opening.book)) [] (fates-same opening.book (raised opening.book) [] refl) (standing-first opening.book)
 
-fine-opening : (book : Book) → Fine (opening book)
-fine-opening book = record {
+fine-opening : (opening : Opening) → Fine (begun opening)
+fine-opening opening = record {
   sound = record {
     registered_are = λ c. refl;
     once = tt;
@@ -421,7 +421,7 @@ fine-opening book = record {
     book = refl;
     id = λ c. refl;
     new = tt;
-    aged = aged-opening book;
+    aged = aged-opening opening;
     idle = λ e. refl;
     table = λ e c. refl;
     saved = λ e c. refl;
@@ -432,9 +432,9 @@ fine-opening book = record {
   due = ((tt, tt), tt);
   ids = ((tt, λ o. none-differ), (tt, λ o. none-differ));
   discards = (λ u command e. absurd (grind arith), λ u command e. absurd (grind arith));
-  owed = (((all-more (Contains book.entries) (λ entry. Contains book.entries entry ⊎ IsSaved book [] entry) (λ entry s. inl s) book.entries (all-stand book.entries), λ command e. or-first _ (is_started command []) (or-first (is_among command book.pending) (names (raised book) command) e)), tt), tt);
-  standing = λ o. standing-opened book;
-  stands = (λ o. (standing-opened book).holds, λ o. holds-opened book);
+  owed = (((all-more (Contains opening.book.entries) (λ entry. Contains opening.book.entries entry ⊎ IsSaved opening.book [] entry) (λ entry s. inl s) opening.book.entries (all-stand opening.book.entries), λ command e. or-first _ (is_started command []) (or-first (is_among command opening.book.pending) (names (raised opening.book) command) e)), tt), tt);
+  standing = λ o. standing-opened opening;
+  stands = (λ o. (standing-opened opening).holds, λ o. holds-opened opening.book);
 }
 
 -- each command of a list is in it
@@ -445,15 +445,15 @@ all-among (command ∷ commands) = (
   all-more (λ x. is_among x commands ≡ true) (λ x. (same_command x command || is_among x commands) ≡ true) (λ x k. or-second (same_command x command) (is_among x commands) k) commands (all-among commands),
 )
 
-fine-opened : (book : Book) → Fine (opened book)
-fine-opened book =
-    let issued : History = onto (opening book) (issue (raised book) book.pending) in
-    fine-append (opening book) (issue (raised book) book.pending) (tried_each Restart (opening_restarts book.entries))
-    (fine-calm (tried_each Restart (opening_restarts book.entries)) issued (calm-tried Restart (opening_restarts book.entries) refl)
-    (fine-issue (raised book) book.pending (opening book) refl (all-more (λ command. is_among command book.pending ≡ true) (λ command. IsNeedless command (opening book)) (λ command k. record { pending = k; unset = λ c e. absurd (grind arith); alone = λ c. refl }) book.pending (all-among book.pending)) (fine-opening book)))
+fine-opened : (opening : Opening) → Fine (opened opening)
+fine-opened opening =
+    let issued : History = onto (begun opening) (issue (raised opening.book) opening.book.pending) in
+    fine-append (begun opening) (issue (raised opening.book) opening.book.pending) (tried_each Restart (opening_restarts opening.book.entries))
+    (fine-calm (tried_each Restart (opening_restarts opening.book.entries)) issued (calm-tried Restart (opening_restarts opening.book.entries) refl)
+    (fine-issue (raised opening.book) opening.book.pending (begun opening) refl (all-more (λ command. is_among command opening.book.pending ≡ true) (λ command. IsNeedless command (begun opening)) (λ command k. record { pending = k; unset = λ c e. absurd (grind arith); alone = λ c. refl }) opening.book.pending (all-among opening.book.pending)) (fine-opening opening)))
 
-pub fine : (book : Book) (events : List SessionEvent) → Fine (run (opened book) events)
-fine book events = fine-run events (opened book) (good-opened book) (fine-opened book)
+pub fine : (opening : Opening) (events : List SessionEvent) → Fine (run (opened opening) events)
+fine opening events = fine-run events (opened opening) (good-opened opening) (fine-opened opening)
 
 -- The book that was opened stays so
 
@@ -464,32 +464,32 @@ opened-run : (events : List SessionEvent) (h : History) → opened_of (run h eve
 opened-run [] h = refl
 opened-run (event ∷ events) h = opened-run events (taken event h) ∙ opened-taken event h
 
-opened-is : (book : Book) (events : List SessionEvent) → opened_of (run (opened book) events) ≡ book
-opened-is book events = opened-run events (opened book) ∙ kept-opening (λ h. opened_of h ≡ book) (λ m h i e. e) book refl
+opened-is : (opening : Opening) (events : List SessionEvent) → opened_of (run (opened opening) events) ≡ opening.book
+opened-is opening events = opened-run events (opened opening) ∙ kept-opening (λ h. opened_of h ≡ opening.book) (λ m h i e. e) opening refl
 
 -- The laws
 
 pub one-has : (book : Book) (seen : List Entry) → IsSeen book seen → OneHas (notes seen)
-one-has book seen s = at-front OneHas (run (opened book) s.events) seen s.later s.parts (fine book s.events).one
+one-has book seen s = at-front OneHas (run (opened (waits_for s.patience book)) s.events) seen s.later s.parts (fine (waits_for s.patience book) s.events).one
 
 pub is-due : (book : Book) (seen : List Entry) (entry : Entry) → IsSeen book (seen ++ entry ∷ []) → IsDue (notes seen) entry
-is-due book seen entry s = at-entry IsDue (run (opened book) s.events) seen s.later entry s.parts (fine book s.events).due
+is-due book seen entry s = at-entry IsDue (run (opened (waits_for s.patience book)) s.events) seen s.later entry s.parts (fine (waits_for s.patience book) s.events).due
 
 pub ids-hold : (book : Book) (seen : List Entry) → IsSeen book seen → IdsHold book (notes seen)
 ids-hold book seen s =
-    at-front (IdsHold book) (run (opened book) s.events) seen s.later s.parts (subst (λ (b : Book). AtEach (IdsHold b) (run (opened book) s.events)) (opened-is book s.events) (fine book s.events).ids)
+    at-front (IdsHold book) (run (opened (waits_for s.patience book)) s.events) seen s.later s.parts (subst (λ (b : Book). AtEach (IdsHold b) (run (opened (waits_for s.patience book)) s.events)) (opened-is (waits_for s.patience book) s.events) (fine (waits_for s.patience book) s.events).ids)
 
 pub discards-hold : (book : Book) (seen : List Entry) → IsSeen book seen → DiscardsHold book (notes seen)
 discards-hold book seen s =
-    at-front (DiscardsHold book) (run (opened book) s.events) seen s.later s.parts (subst (λ (b : Book). AtEach (DiscardsHold b) (run (opened book) s.events)) (opened-is book s.events) (fine book s.events).discards)
+    at-front (DiscardsHold book) (run (opened (waits_for s.patience book)) s.events) seen s.later s.parts (subst (λ (b : Book). AtEach (DiscardsHold b) (run (opened (waits_for s.patience book)) s.events)) (opened-is (waits_for s.patience book) s.events) (fine (waits_for s.patience book) s.events).discards)
 
 pub is-owed : (book : Book) (seen : List Entry) (entry : Entry) → IsSeen book (seen ++ entry ∷ []) → IsOwed book (notes seen) entry
 is-owed book seen entry s =
-    at-entry (IsOwed book) (run (opened book) s.events) seen s.later entry s.parts (subst (λ (b : Book). EachEntry (IsOwed b) (run (opened book) s.events)) (opened-is book s.events) (fine book s.events).owed)
+    at-entry (IsOwed book) (run (opened (waits_for s.patience book)) s.events) seen s.later entry s.parts (subst (λ (b : Book). EachEntry (IsOwed b) (run (opened (waits_for s.patience book)) s.events)) (opened-is (waits_for s.patience book) s.events) (fine (waits_for s.patience book) s.events).owed)
 
 pub kept-holds : (book : Book) (seen : List Entry) → IsSeen book seen → KeptHolds book (notes seen)
 kept-holds book seen s =
-    at-front (KeptHolds book) (run (opened book) s.events) seen s.later s.parts (subst (λ (b : Book). AtEach (KeptHolds b) (run (opened book) s.events)) (opened-is book s.events) (fine book s.events).stands)
+    at-front (KeptHolds book) (run (opened (waits_for s.patience book)) s.events) seen s.later s.parts (subst (λ (b : Book). AtEach (KeptHolds b) (run (opened (waits_for s.patience book)) s.events)) (opened-is (waits_for s.patience book) s.events) (fine (waits_for s.patience book) s.events).stands)
 
 -- a book that keeps the rules names none of its pending commands
 all-unnamed : (book : Book) (pending : List Command) → AllByRecursion (λ command. names book command ≡ false) pending → (command : Command) → is_among command pending ≡ true → names book command ≡ false

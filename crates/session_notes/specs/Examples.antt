@@ -10,7 +10,7 @@ use Rattle.xsmp_messages.specs.declared.message.XsmpMessage.TheVariants.{Interac
 use Rattle.session_model.specs.declared.events.SessionEvent.{SessionEvent}
 use Rattle.session_model.specs.declared.events.SessionEvent.TheVariants.{Left, Operator}
 use Rattle.session_model.specs.Rules.{opened, run}
-use Rattle.session_model.specs.Examples.{asks_all, discards_by, entry_1, first_book, hints, keeping, log_in_and_save, logs_in, logs_in_as, removes, saved, says, sets}
+use Rattle.session_model.specs.Examples.{asks_all, discards_by, entry_1, first_book, hints, keeping, log_in_and_save, logs_in, logs_in_as, removes, saved, says, sets, waits_forever}
 use Rattle.session_notes.specs.Notes.{Given, Heard, Note, entries, notes}
 use Rattle.session_notes.specs.Watching.{has_answered, has_token, is_to_save, requests, was_asked}
 use Rattle.session_notes.specs.Kept.{kept_in}
@@ -18,7 +18,7 @@ use Rattle.session_notes.specs.Keeping.{book_in, given_ids, id_in, is_discarded,
 
 -- what is noted after these events
 abbrev pub notes_after : List SessionEvent → List Note
-notes_after events = notes (entries (run (opened empty_book) events))
+notes_after events = notes (entries (run (opened (waits_forever empty_book)) events))
 
 -- two clients that save with any dialog, and both ask for the token
 abbrev pub two_ask : List SessionEvent

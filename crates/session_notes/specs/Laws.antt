@@ -13,22 +13,23 @@ use Rattle.discard_ledger.specs.Discards.{is_among}
 use Rattle.xsmp_messages.specs.declared.message.XsmpMessage.TheVariants.{Interact, RegisterClientReply, SaveYourselfPhase2}
 use Rattle.session_model.specs.declared.events.SessionEvent.{SessionEvent}
 use Rattle.session_model.specs.declared.events.Act.TheVariants.{Commit, Say}
-use Rattle.session_model.specs.Moves.{History, all_acts}
+use Rattle.session_model.specs.Moves.{History, Opening, all_acts, waits_for}
 use Rattle.session_model.specs.Rules.{opened, run}
 use Rattle.session_model.specs.Tables.{is_recorded}
 use Rattle.session_notes.specs.Notes.{Did, Entry, Note, acts_in, came_in, entries, notes}
 use Rattle.session_notes.specs.Keeping.{IsOfRun, book_in, given_ids, id_in, is_discarded, is_newcomer, is_started, new_ids, snapshot_in}
 use Rattle.session_notes.specs.Watching.{has_answered, has_token, is_to_save, requests}
 
--- Somebody who watches has seen this so far, the oldest first: a run over this book shows it, and then goes on.
+-- Somebody who watches has seen this so far, the oldest first: a run over this book shows it, whatever its patience, and then goes on.
 pub record IsSeen (book : Book) (seen : List Entry) : Type 0 where
+  pub patience : ℕ
   pub events : List SessionEvent
   pub later : List Entry
-  pub parts : seen ++ later ≡ entries (run (opened book) events)
+  pub parts : seen ++ later ≡ entries (run (opened (waits_for patience book)) events)
 
 -- each event is seen
 abbrev pub AllEventsAreSeen : Type 0
-AllEventsAreSeen = (book : Book) (events : List SessionEvent) → came_in (entries (run (opened book) events)) ≡ events
+AllEventsAreSeen = (opening : Opening) (events : List SessionEvent) → came_in (entries (run (opened opening) events)) ≡ events
 
 -- all that the manager does is seen
 abbrev pub AllActsAreSeen : Type 0

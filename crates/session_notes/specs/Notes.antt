@@ -27,7 +27,7 @@ entries_of m = map Did (acts_of m)
 
 -- all that is seen of a history, the oldest first
 abbrev pub entries : History → List Entry
-entries (Opened book) = []
+entries (Opened opening) = []
 entries (m ▷ h) = entries h ++ entries_of m
 
 -- what came from outside, among what is seen

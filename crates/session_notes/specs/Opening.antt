@@ -6,6 +6,7 @@ use Rattle.restart_plan.specs.Restarts.{opening_restarts}
 use Rattle.session_model.specs.declared.events.Act.TheVariants.{Start}
 use Rattle.session_model.specs.declared.events.Reason.TheVariants.{Restart}
 use Rattle.session_model.specs.declared.events.SessionEvent.{SessionEvent}
+use Rattle.session_model.specs.Moves.{Opening}
 use Rattle.session_model.specs.Rules.{opened, run}
 use Rattle.session_notes.specs.Notes.{Did, Entry, came_in, entries}
 
@@ -23,4 +24,4 @@ pub record BeginsAgain (book : Book) (seen : List Entry) : Type 0 where
 
 -- so every run begins
 abbrev pub RunsBeginAgain : Type 0
-RunsBeginAgain = (book : Book) (events : List SessionEvent) → BeginsAgain book (entries (run (opened book) events))
+RunsBeginAgain = (opening : Opening) (events : List SessionEvent) → BeginsAgain opening.book (entries (run (opened opening) events))

@@ -6,7 +6,7 @@ use Rattle.sm_world.specs.declared.effects.Effect.{Effect}
 use Rattle.checkpoint_records.specs.declared.records.Book.{Book}
 use Rattle.checkpoint_slots.specs.Causes.{IsSettled}
 use Rattle.checkpoint_slots.specs.Recovery.{Recovers}
-use Rattle.ice_cookie.specs.declared.cookies.Cookie.{Cookie}
+use Rattle.session_engine.specs.declared.config.Config.{Config}
 use Rattle.program_frame.specs.Printing.{Tries}
 use Rattle.heard_events.specs.Brought.{IsPrefix}
 use Rattle.session_engine.specs.Carries.{KeepsItsWord}
@@ -23,12 +23,12 @@ use Rattle.smd_app.specs.declared.identity.Identity.{Identity}
 use Rattle.smd_app.proofs.Completing.{mean_one}
 use Rattle.session_promises.specs.Promises.{EverySessionKeepsTheLaws, HasSession, KeepsAllLaws}
 
-word-laws : (cookie : Cookie) (book : Book) (file : List ℕ) (answer : Result (Unit {0}) ServeFault) (own : List Effect) → KeepsItsWord cookie book file answer own → KeepsAllLaws cookie book file own
-word-laws cookie book file answer own word = record {
+word-laws : (config : Config) (book : Book) (file : List ℕ) (answer : Result (Unit {0}) ServeFault) (own : List Effect) → KeepsItsWord config book file answer own → KeepsAllLaws config book file own
+word-laws config book file answer own word = record {
   lawful = λ n.
-      let done = done-is cookie book own word.carries.on_script n in
-      record { done = done; laws = laws-hold cookie book done.front (record { events = _; later = done.later; parts = done.parts }) };
-  safe = λ n left saved image recovers. every-file cookie book saved file left answer own word n image recovers;
+      let done = done-is config book own word.carries.on_script n in
+      record { done = done; laws = laws-hold config book done.front (record { events = _; later = done.later; parts = done.parts }) };
+  safe = λ n left saved image recovers. every-file config book saved file left answer own word n image recovers;
 }
 
 abbrev tail-of : List Effect → List Effect
@@ -43,11 +43,11 @@ same-told : (xs ys : List Effect) → Some xs ≡ Some ys → xs ≡ ys
 same-told xs ys e = cc
 
 -- where nothing was done
-no-laws : (cookie : Cookie) (book : Book) (file : List ℕ) (old : Outside) → IsSettled old file → Recovers file (Ok book) → KeepsAllLaws cookie book file []
-no-laws cookie book file old settled recovers =
-    let word = keeps_word cookie 0 old old (Err NoMemory) (inl (record { told = refl; kept = λ first told. refl; cause = tt })) file book settled recovers in
+no-laws : (config : Config) (book : Book) (file : List ℕ) (old : Outside) → IsSettled old file → Recovers file (Ok book) → KeepsAllLaws config book file []
+no-laws config book file old settled recovers =
+    let word = keeps_word config 0 old old (Err NoMemory) (inl (record { told = refl; kept = λ first told. refl; cause = tt })) file book settled recovers in
     let none : word.effects ≡ [] = none-added settled.effects word.effects (same-told (settled.effects ++ word.effects) settled.effects (sym (ap (λ (told : Option (List Effect)). adds told word.effects) settled.told) ∙ (sym word.added ∙ settled.told))) in
-    word-laws cookie book file (Err NoMemory) [] (subst (KeepsItsWord cookie book file (Err NoMemory)) none word.holds)
+    word-laws config book file (Err NoMemory) [] (subst (KeepsItsWord config book file (Err NoMemory)) none word.holds)
 
 module _ (identity : Identity) (places : Places) (turns : ℕ) (old new : Outside) (file : List ℕ) (book : Book) (settled : IsSettled old file) (recovers : Recovers file (Ok book)) where
   -- nothing of the session was done

@@ -6,7 +6,7 @@ use Rattle.sm_world.specs.declared.effects.Effect.{Effect}
 use Rattle.checkpoint_records.specs.declared.records.Book.{Book}
 use Rattle.checkpoint_slots.specs.Causes.{IsSettled}
 use Rattle.checkpoint_slots.specs.Recovery.{Recovers}
-use Rattle.ice_cookie.specs.declared.cookies.Cookie.{Cookie}
+use Rattle.session_engine.specs.declared.config.Config.{Config}
 use Rattle.program_frame.specs.Printing.{Tries}
 use Rattle.heard_events.specs.Brought.{IsPrefix}
 use Rattle.session_lines.specs.Files.{IsSafe}
@@ -18,9 +18,9 @@ use Rattle.smd_app.specs.declared.identity.Identity.{Identity}
 
 -- At each point of these effects of a session that opens this book, what was done keeps the laws; and each file that a crash could
 -- leave then, of a store that began with this one, is safe.
-pub record KeepsAllLaws (cookie : Cookie) (book : Book) (file : List ℕ) (own : List Effect) : Type 0 where
-  pub lawful : IsAlwaysLawful cookie book own
-  pub safe : (n : ℕ) (left : List ℕ) (saved : Book) → Image file (take n own) left → Recovers left (Ok saved) → IsSafe cookie book (take n own) saved
+pub record KeepsAllLaws (config : Config) (book : Book) (file : List ℕ) (own : List Effect) : Type 0 where
+  pub lawful : IsAlwaysLawful config book own
+  pub safe : (n : ℕ) (left : List ℕ) (saved : Book) → Image file (take n own) left → Recovers left (Ok saved) → IsSafe config book (take n own) saved
 
 -- The effects of a call are those before a session, as far as they go, the session's own, which keep all laws, and a line that was
 -- tried once.

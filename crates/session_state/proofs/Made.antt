@@ -1,9 +1,8 @@
 -- A made history goes on, and what is held reads as it does.
 use Rattle.std.proofs.Common.{◌≡◌, refl, ◌<◌, List, [], ◌∷◌, ◌++◌, sym, ap, subst, ◌∙◌}
-use Rattle.checkpoint_records.specs.declared.records.Book.{Book}
 use Rattle.checkpoint_records.specs.Rules.{KeepsRules}
 use Rattle.session_model.specs.declared.events.SessionEvent.{SessionEvent}
-use Rattle.session_model.specs.Moves.{History}
+use Rattle.session_model.specs.Moves.{History, Opening}
 use Rattle.session_model.specs.Reading.{Reading, reading}
 use Rattle.session_model.specs.Rules.{Takes, opened, rule, run, taken}
 use Rattle.session_model.specs.Laws.{AllTake}
@@ -23,22 +22,22 @@ take-append h [] ys p q = q
 take-append h (x ∷ xs) ys p q = (p.0, take-append (taken x h) xs ys p.1 q)
 
 -- an opening makes one, over a book that keeps the rules
-pub made-opened : (book : Book) → KeepsRules book → book.epoch < 4294967295 → IsMade (opened book)
-made-opened book k l = record { book = book; events = []; rules = k; below = l; takes = tt; is = refl }
+pub made-opened : (opening : Opening) → KeepsRules opening.book → opening.book.epoch < 4294967295 → IsMade (opened opening)
+made-opened opening k l = record { opening = opening; events = []; rules = k; below = l; takes = tt; is = refl }
 
 -- and each event that it allows
 pub made-taken : (event : SessionEvent) (h : History) → IsMade h → Takes event (reading h) → IsMade (taken event h)
 made-taken event h m t = record {
-  book = m.book;
+  opening = m.opening;
   events = m.events ++ event ∷ [];
   rules = m.rules;
   below = m.below;
-  takes = take-append (opened m.book) m.events (event ∷ []) m.takes (subst (λ (g : History). Takes event (reading g)) m.is t, tt);
-  is = ap (λ (g : History). taken event g) m.is ∙ sym (run-append (opened m.book) m.events (event ∷ []));
+  takes = take-append (opened m.opening) m.events (event ∷ []) m.takes (subst (λ (g : History). Takes event (reading g)) m.is t, tt);
+  is = ap (λ (g : History). taken event g) m.is ∙ sym (run-append (opened m.opening) m.events (event ∷ []));
 }
 
 pub good-made : (h : History) → IsMade h → Good h
-good-made h m = subst (λ (g : History). Good g) (sym m.is) (good-run m.events (opened m.book) (good-opened m.book))
+good-made h m = subst (λ (g : History). Good g) (sym m.is) (good-run m.events (opened m.opening) (good-opened m.opening))
 
 -- what is held reads as the history that it stands for
 pub made-reading : (s : Session) (h : History) → IsMade h → Stands s h → reading_in s ≡ reading h
@@ -47,4 +46,4 @@ made-reading s h m st = same-reading s h (good-made h m).sound.registered_are st
 -- between events no rule holds of what is held
 pub made-rests : (s : Session) (h : History) → IsMade h → Stands s h → rule (reading_in s) ≡ []
 made-rests s h m st =
-    ap (λ (r : Reading). rule r) (made-reading s h m st) ∙ subst (λ (g : History). rule (reading g) ≡ []) (sym m.is) (rests-always m.book m.events)
+    ap (λ (r : Reading). rule r) (made-reading s h m st) ∙ subst (λ (g : History). rule (reading g) ≡ []) (sym m.is) (rests-always m.opening m.events)

@@ -13,7 +13,7 @@ use Rattle.interact_queue.specs.Queue.{is_in, without}
 use Rattle.session_model.specs.declared.phase.Phase.{Phase}
 use Rattle.session_model.specs.declared.phase.Phase.TheVariants.{Asked, AskedTwo, Done, Idle, Interacting, InteractingTwo, Owing, Saving, SavingTwo, Unregistered, WantsTwo}
 use Rattle.session_model.specs.declared.events.SessionEvent.{SessionEvent}
-use Rattle.session_model.specs.declared.events.SessionEvent.TheVariants.{Joined, Left, Operator, Ready, Said}
+use Rattle.session_model.specs.declared.events.SessionEvent.TheVariants.{Joined, Left, Operator, Ready, Said, Tick}
 use Rattle.session_model.specs.Phases.{asked_phase, begun_phase, held_phase, is_first_saving, is_saving, may_interact, phase_given, phase_said, ready_phase, registered_phase, saved_phase, second_begun_phase, second_phase, step_of, talked_phase}
 use Rattle.session_model.specs.Moves.{Began, Closed, Gave, History, Move, Outside, Unset, ◌▷◌}
 use Rattle.session_model.specs.Readings as of
@@ -307,6 +307,7 @@ heard-round (Ready d) h = phase-round d (λ c. ready_phase (of.phase_of c h)) h 
 heard-round (Said d m sequence frame) h = said-round d m h
 heard-round (Left d) h = left-round d h
 heard-round (Operator order) h = refl
+heard-round (Tick milliseconds) h = refl
 
 pub round-step : (m : Move) (h : History) → Suits m h → round_after m (λ c. of.phase_of c h) (of.round h) ≡ of.round (m ▷ h)
 round-step (Outside event) h s = heard-round event h

@@ -1,6 +1,6 @@
 -- The moves of each answer suit the history in which the event has come.
-use Rattle.std.proofs.Common.{◌≡◌, refl, ℕ, Bool, true, false, cond, not, ◌&&◌, ◌||◌, List, [], ◌∷◌, ◌+◌, eqb, ap, ◌∙◌}
-use Rattle.std.specs.Prelude.{Option, Some, None, codes, is_some}
+use Rattle.std.proofs.Common.{◌≡◌, refl, ℕ, Bool, true, false, cond, not, ◌&&◌, ◌||◌, List, [], ◌∷◌, ◌+◌, eqb, ap, ◌∙◌, filter}
+use Rattle.std.specs.Prelude.{Option, Some, None, codes, is_some, flat_map}
 use Rattle.sm_world.specs.declared.commands.Command.{Command}
 use Rattle.sm_world.specs.declared.events.Order.{Order}
 use Rattle.sm_world.specs.declared.events.Order.TheVariants.{Cancel, Checkpoint, DropConn, Forget, Shutdown, Status}
@@ -16,7 +16,7 @@ use Rattle.xsmp_messages.specs.declared.message.XsmpMessage.TheVariants.{Connect
 use Rattle.session_model.specs.declared.phase.Phase.{Phase}
 use Rattle.session_model.specs.declared.phase.Phase.TheVariants.{Dying, Unregistered}
 use Rattle.session_model.specs.declared.events.SessionEvent.{SessionEvent}
-use Rattle.session_model.specs.declared.events.SessionEvent.TheVariants.{Joined, Left, Operator, Ready, Said}
+use Rattle.session_model.specs.declared.events.SessionEvent.TheVariants.{Joined, Left, Operator, Ready, Said, Tick}
 use Rattle.session_model.specs.Phases.{is_bound, is_dying, is_first_saving, is_interacting, is_owing, is_saving, is_shutdown, is_unregistered, may_interact}
 use Rattle.session_model.specs.Tables.{entry_of, is_full}
 use Rattle.session_model.specs.Errors.{Arrival, bad_id, full_table, lone_shutdown, no_room}
@@ -24,7 +24,7 @@ use Rattle.session_model.specs.Moves.{Blamed, Cancelled, Closed, Gave, History, 
 use Rattle.session_model.specs.Readings as of
 use Rattle.session_model.specs.Reading.{Reading, client_of, reading, wanted_in}
 use Rattle.session_model.specs.Books.{book_forgetting, command_anyway, discarded, issue, opening_moves, raised}
-use Rattle.session_model.specs.Replies.{answered, called_off, depart, entry_respawn, forget, forget_one, forgotten, has_no_place, has_no_room, id_respawn, may_rejoin, or_bad_state, ordered, register, reply, resigned, respawn_moves, respawned, said, unless_dying, want_cancel}
+use Rattle.session_model.specs.Replies.{answered, called_off, depart, entry_respawn, forget, forget_one, forgotten, has_no_place, has_no_room, id_respawn, may_rejoin, or_bad_state, ordered, register, reply, resigned, respawn_moves, respawned, said, unless_dying, want_cancel, waited, is_overdue}
 use Rattle.session_model.proofs.Replied.{cond-same, unregistered-is}
 use Rattle.session_state.proofs.Suits.{AllLight, AllSuit, light-append, light-tried, suit-light}
 use Rattle.session_state.proofs.Ruling.{light-discarded, light-issue}
@@ -59,6 +59,10 @@ light-id r (Some id) = light-entry r id (entry_of id r.store.book)
 
 light-respawned : (r : Reading) (c : ℕ) → AllLight (respawned r c)
 light-respawned r c = light-cond (is_dying (r.clients.phase c)) [] (id_respawn r (r.clients.id c)) tt (light-id r (r.clients.id c))
+
+light-departs : (r : Reading) (conns : List ℕ) → AllLight (flat_map (depart r) conns)
+light-departs r [] = tt
+light-departs r (c ∷ conns) = light-append (depart r c) (flat_map (depart r) conns) (tt, light-respawned r c) (light-departs r conns)
 
 -- A shutdown is called off: when the clients are told there is no round, and so no member
 
@@ -154,6 +158,8 @@ suit-reply (Ready c) h = tt
 suit-reply (Said c m sequence frame) h = suit-said c m sequence frame h
 suit-reply (Left c) h = suit-light (respawned (reading h) c) (Outside (Left c) ▷ h) (light-respawned (reading h) c)
 suit-reply (Operator order) h = suit-ordered (reading h) order (Outside (Operator order) ▷ h)
+suit-reply (Tick milliseconds) h =
+    suit-light (waited (reading h) milliseconds) (Outside (Tick milliseconds) ▷ h) (light-departs (reading h) (filter (is_overdue (reading h) milliseconds) (of.registered h)))
 
 -- The opening
 

@@ -5,7 +5,7 @@ use Rattle.std.proofs.lemmas.Bool.Decides.{nat_tests}
 use Rattle.sm_world.specs.declared.events.Dialog.{Dialog}
 use Rattle.ice_values.specs.declared.property.Property.{Property}
 use Rattle.xsmp_messages.specs.declared.message.XsmpMessage.{XsmpMessage}
-use Rattle.xsmp_messages.specs.declared.message.XsmpMessage.TheVariants.{DeleteProperties, InteractDone, InteractRequest, RegisterClientReply, SaveYourselfDone, SetProperties, ShutdownCancelled}
+use Rattle.xsmp_messages.specs.declared.message.XsmpMessage.TheVariants.{DeleteProperties, Error, InteractDone, InteractRequest, RegisterClientReply, SaveYourselfDone, SetProperties, ShutdownCancelled}
 use Rattle.interact_queue.specs.Queue.{is_in, without}
 use Rattle.session_model.specs.declared.phase.Phase.{Phase}
 use Rattle.session_model.specs.declared.phase.Phase.TheVariants.{Unregistered}
@@ -18,7 +18,7 @@ use Rattle.session_model.specs.Moves.{Closed, Gave, History, Move, Outside, Unse
 use Rattle.session_model.specs.Readings as of
 use Rattle.session_model.proofs.Replied.{cond-same}
 use Rattle.session_clients.specs.declared.client.Client.{Client}
-use Rattle.session_clients.specs.Clients.{client_after, conns_in, id_in, no_client, part_in, phase_in, rows_after, saved_in, table_in, without_row}
+use Rattle.session_clients.specs.Clients.{client_after, conns_in, id_in, no_client, part_in, phase_in, quiet_in, rows_after, saved_in, table_in, without_row}
 use Rattle.session_state.proofs.Suits.{Suits}
 
 -- The row of a connection
@@ -212,6 +212,19 @@ absent-saved c (Outside (Said d m sequence frame)) h n = ap (λ (x : Option (Lis
 absent-saved c (Gave d m) h n = ap (λ (x : Option (List Property)). cond (d == c) x None) (absent-saved-given m) ∙ cond-same (d == c) None
 absent-saved c m h n = absent-gone c (departing m) None
 
+absent-quiet-said : (m : XsmpMessage) → of.quiet_said m 0 ≡ 0
+absent-quiet-said (Error error) = refl
+absent-quiet-said m = refl
+
+absent-quiet : (c : ℕ) (m : Move) → of.quiet_after c m None 0 ≡ 0
+absent-quiet c (Outside (Said d m sequence frame)) = ap (λ (x : ℕ). cond (d == c) x 0) (absent-quiet-said m) ∙ cond-same (d == c) 0
+absent-quiet c (Outside (Left d)) = cond-same (d == c) 0
+absent-quiet c (Outside event) = refl
+absent-quiet c (Gave d m) = cond-same (d == c) 0
+absent-quiet c (Unset d) = cond-same (d == c) 0
+absent-quiet c (Closed d) = cond-same (d == c) 0
+absent-quiet c m = refl
+
 -- All parts of the rows
 
 pub record Told (rows : List Client) (h : History) : Type 0 where
@@ -219,6 +232,7 @@ pub record Told (rows : List Client) (h : History) : Type 0 where
   pub ids_are : (c : ℕ) → id_in c rows ≡ of.id_of c h
   pub tables_are : (c : ℕ) → table_in c rows ≡ of.table_of c h
   pub snapshots_are : (c : ℕ) → saved_in c rows ≡ of.saved_of c h
+  pub quiets_are : (c : ℕ) → quiet_in c rows ≡ of.quiet c h
   pub live_is : conns_in rows ≡ of.live h
 
 told-joined : (d : ℕ) (rows : List Client) (h : History) → Told rows h → Told (rows ++ no_client d ∷ []) (Outside (Joined d) ▷ h)
@@ -227,6 +241,7 @@ told-joined d rows h t = record {
   ids_are = λ c. part-joined None (λ k. k.id) c d rows refl ∙ t.ids_are c;
   tables_are = λ c. part-joined [] (λ k. k.table) c d rows refl ∙ t.tables_are c;
   snapshots_are = λ c. part-joined None (λ k. k.saved) c d rows refl ∙ t.snapshots_are c;
+  quiets_are = λ c. part-joined 0 (λ k. k.quiet) c d rows refl ∙ t.quiets_are c;
   live_is = conns-joined d rows ∙ ap (λ (cs : List ℕ). cs ++ d ∷ []) t.live_is;
 }
 
@@ -236,6 +251,7 @@ told-left d rows h t = record {
   ids_are = λ c. part-without None (λ k. k.id) c d rows ∙ ap (λ (x : Option (List ℕ)). cond (d == c) None x) (t.ids_are c);
   tables_are = λ c. part-without [] (λ k. k.table) c d rows ∙ ap (λ (x : List Property). cond (d == c) [] x) (t.tables_are c);
   snapshots_are = λ c. part-without None (λ k. k.saved) c d rows ∙ ap (λ (x : Option (List Property)). cond (d == c) None x) (t.snapshots_are c);
+  quiets_are = λ c. part-without 0 (λ k. k.quiet) c d rows ∙ ap (λ (x : ℕ). cond (d == c) 0 x) (t.quiets_are c);
   live_is = conns-without d rows ∙ ap (λ (cs : List ℕ). without d cs) t.live_is;
 }
 
@@ -246,6 +262,7 @@ told-closed d rows h t = let l : Told (without_row d rows) (Outside (Left d) ▷
   ids_are = λ c. l.ids_are c;
   tables_are = λ c. l.tables_are c;
   snapshots_are = λ c. l.snapshots_are c;
+  quiets_are = λ c. l.quiets_are c;
   live_is = l.live_is;
 }
 
@@ -279,6 +296,11 @@ saved-told m first allowed c (Some k) h i e f g n =
     let step : of.saved_after k.conn m (λ d. k.phase) (λ d. k.table) k.saved ≡ of.saved_after c m (λ d. of.phase_of c h) (λ d. of.table_of c h) (of.saved_of c h) = λ j. of.saved_after (i j) m (λ d. e j) (λ d. f j) (g j) in
     step ∙ own-saved c m (λ d. of.phase_of c h) (λ d. of.phase_of d h) (λ d. of.table_of c h) (λ d. of.table_of d h) (of.saved_of c h) refl refl
 
+quiet-told : (m : Move) (first : List ℕ → List Property) (allowed : Dialog → Bool) (c : ℕ) (o : Option Client) (p : Option Phase) (n : ℕ) → IsOf c o → part_of None (λ k. k.phase) o ≡ p → part_of 0 (λ k. k.quiet) o ≡ n
+    → part_of 0 (λ k. k.quiet) (option_map (client_after m first allowed) o) ≡ of.quiet_after c m p n
+quiet-told m first allowed c None p n i e f = sym (absent-quiet c m) ∙ λ j. of.quiet_after c m (e j) (f j)
+quiet-told m first allowed c (Some k) p n i e f = λ j. of.quiet_after (i j) m (e j) (f j)
+
 -- where there is no row nobody is live, and there is no phase
 not-live : (c : ℕ) (rows : List Client) (h : History) → Told rows h → is_some (row_of c rows) ≡ false → is_in c (of.live h) ≡ false
 not-live c rows h t n = sym (ap (λ (cs : List ℕ). is_in c cs) t.live_is) ∙ sym (row-there c rows) ∙ n
@@ -297,6 +319,7 @@ told-stepped : (m : Move) (rows : List Client) (h : History) → Suits m h → T
     × (id_in c (map (client_after m (λ id. firsts h id) (λ dialog. allowing h dialog)) rows) ≡ of.id_after c m (of.id_of c h))
     × (table_in c (map (client_after m (λ id. firsts h id) (λ dialog. allowing h dialog)) rows) ≡ of.table_after c m (λ id. firsts h id) (λ d. of.phase_of d h) (of.table_of c h))
     × (saved_in c (map (client_after m (λ id. firsts h id) (λ dialog. allowing h dialog)) rows) ≡ of.saved_after c m (λ d. of.phase_of d h) (λ d. of.table_of d h) (of.saved_of c h))
+    × (quiet_in c (map (client_after m (λ id. firsts h id) (λ dialog. allowing h dialog)) rows) ≡ of.quiet_after c m (of.phase_of c h) (of.quiet c h))
 told-stepped m rows h s t c =
     let first : List ℕ → List Property = λ id. firsts h id in
     let allowed : Dialog → Bool = λ dialog. allowing h dialog in
@@ -313,6 +336,8 @@ told-stepped m rows h s t c =
           ∙ table-told m first allowed c (row_of c rows) h i p u (λ n. absent-table c m h first s (no-phase c rows h t n)),
       part-found None (λ k. k.saved) c now ∙ ap (λ (o : Option Client). part_of None (λ k. k.saved) o) r
           ∙ saved-told m first allowed c (row_of c rows) h i p u (sym (part-found None (λ k. k.saved) c rows) ∙ t.snapshots_are c) (λ n. absent-saved c m h (no-phase c rows h t n)),
+      part-found 0 (λ k. k.quiet) c now ∙ ap (λ (o : Option Client). part_of 0 (λ k. k.quiet) o) r
+          ∙ quiet-told m first allowed c (row_of c rows) (of.phase_of c h) (of.quiet c h) i p (sym (part-found 0 (λ k. k.quiet) c rows) ∙ t.quiets_are c),
     )
 
 -- the live connections stay as they are
@@ -325,6 +350,7 @@ told-kept m rows h s l t = record {
   ids_are = λ c. (told-stepped m rows h s t c).1;
   tables_are = λ c. (told-stepped m rows h s t c).2;
   snapshots_are = λ c. (told-stepped m rows h s t c).3;
+  quiets_are = λ c. (told-stepped m rows h s t c).4;
   live_is = conns-stepped m (λ id. firsts h id) (λ dialog. allowing h dialog) rows ∙ t.live_is ∙ sym l;
 }
 

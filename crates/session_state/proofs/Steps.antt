@@ -35,7 +35,7 @@ wanted-is : (s : Session) (h : History) → Stands s h → wanted_in s.round ≡
 wanted-is s h st = ap (λ (o : Option Agreement). wanted_in o) st.round_is ∙ wanted-course (of.running h) (of.rows (λ c. of.phase_of c h) (λ c. of.saved_of c h) (of.members h))
 
 told-of : (s : Session) (h : History) → Stands s h → Told s.clients.rows h
-told-of s h st = record { phases_are = st.phases_are; ids_are = st.ids_are; tables_are = st.tables_are; snapshots_are = st.snapshots_are; live_is = st.live_is }
+told-of s h st = record { phases_are = st.phases_are; ids_are = st.ids_are; tables_are = st.tables_are; snapshots_are = st.snapshots_are; quiets_are = st.quiets_are; live_is = st.live_is }
 
 told-moved : (m : Move) (s : Session) (h : History) → wanted_in s.round ≡ of.wanted h → Suits m h → Stands s h → Told (moved m s).clients.rows (m ▷ h)
 told-moved m s h w suits st =
@@ -60,6 +60,7 @@ moved-by m s h w told queued round st = record {
   ids_are = told.ids_are;
   tables_are = told.tables_are;
   snapshots_are = told.snapshots_are;
+  quiets_are = told.quiets_are;
   live_is = told.live_is;
   registered_is = λ i. of.registered_after m (st.registered_is i);
   round_is = round;
@@ -73,6 +74,7 @@ moved-by m s h w told queued round st = record {
   expected_is = λ i. of.expected_after m (st.expected_is i);
   counts_are = λ id. counted-step m id s.counts h (st.counts_are id);
   ending_is = λ i. of.ending_after m (w i) (st.ending_is i);
+  patience_is = st.patience_is;
   marks_are = λ i. of.marks_after m (w i) (st.marks_are i);
 }
 
@@ -121,6 +123,7 @@ reading-by s h held st = λ i. record {
     id = λ c. st.ids_are c i;
     table = λ c. st.tables_are c i;
     saved = λ c. st.snapshots_are c i;
+    quiet = λ c. st.quiets_are c i;
     live = st.live_is i;
     registered = st.registered_is i;
   };
@@ -132,6 +135,7 @@ reading-by s h held st = λ i. record {
     expected = st.expected_is i;
     respawns = λ id. st.counts_are id i;
     is_ending = st.ending_is i;
+    patience = st.patience_is i;
   };
 }
 

@@ -1,12 +1,11 @@
 -- What is held stands for the history after an opening and after each event.
 use Rattle.std.proofs.Common.{◌≡◌, refl, ℕ, zero, suc, ◌+◌, ◌*◌, Bool, true, false, cond, ◌&&◌, List, [], ◌∷◌, ◌++◌, length, sym, subst, ◌∙◌, append-nil}
-use Rattle.checkpoint_records.specs.declared.records.Book.{Book}
 use Rattle.round_agreement.specs.Agreement.{is_nil}
 use Rattle.session_model.specs.declared.waits.Wait.{Wait}
 use Rattle.session_model.specs.declared.events.Act.{Act}
 use Rattle.session_model.specs.declared.events.SessionEvent.{SessionEvent}
-use Rattle.session_model.specs.declared.events.SessionEvent.TheVariants.{Joined, Left, Operator, Ready, Said}
-use Rattle.session_model.specs.Moves.{Finished, History, Move, Opened, Outside, all_acts, onto, ◌▷◌}
+use Rattle.session_model.specs.declared.events.SessionEvent.TheVariants.{Joined, Left, Operator, Ready, Said, Tick}
+use Rattle.session_model.specs.Moves.{Finished, History, Move, Opened, Outside, all_acts, onto, ◌▷◌, Opening}
 use Rattle.session_model.specs.Readings as of
 use Rattle.session_model.specs.Reading.{Reading, reading}
 use Rattle.session_model.specs.Books.{opening_moves}
@@ -61,6 +60,7 @@ suits-event (Ready c) h t = t.0
 suits-event (Said c m sequence frame) h t = tt
 suits-event (Left c) h t = tt
 suits-event (Operator order) h t = tt
+suits-event (Tick milliseconds) h t = tt
 
 -- nothing of it is an act that was done before
 begins : (s : Session) (h : History) → Stands s h → Follows (all_acts h) (record s { acts = [] }) h
@@ -70,6 +70,7 @@ begins s h st = record {
     ids_are = st.ids_are;
     tables_are = st.tables_are;
     snapshots_are = st.snapshots_are;
+    quiets_are = st.quiets_are;
     live_is = st.live_is;
     registered_is = st.registered_is;
     round_is = st.round_is;
@@ -83,6 +84,7 @@ begins s h st = record {
     expected_is = st.expected_is;
     counts_are = st.counts_are;
     ending_is = st.ending_is;
+    patience_is = st.patience_is;
     marks_are = st.marks_are;
   };
   acts_are = sym (append-nil (all_acts h));
@@ -107,13 +109,14 @@ takings-stand event s h m t st =
 
 -- The opening
 
-follows-start : (book : Book) → Follows [] (session_of book) (Opened book)
-follows-start book = record {
+follows-start : (opening : Opening) → Follows [] (session_of opening) (Opened opening)
+follows-start opening = record {
   stands = record {
     phases_are = λ c. refl;
     ids_are = λ c. refl;
     tables_are = λ c. refl;
     snapshots_are = λ c. refl;
+    quiets_are = λ c. refl;
     live_is = refl;
     registered_is = refl;
     round_is = refl;
@@ -127,6 +130,7 @@ follows-start book = record {
     expected_is = refl;
     counts_are = λ id. refl;
     ending_is = refl;
+    patience_is = refl;
     marks_are = refl;
   };
   acts_are = refl;
@@ -136,6 +140,6 @@ nil-before : (acts : List Act) → [] ++ acts ≡ acts
 nil-before acts = refl
 
 pub openings-stand : OpeningStands
-openings-stand book =
-    let f : Follows [] (opened_in book) (opened book) = follows-all [] (opening_moves book) (session_of book) (Opened book) (suit-light (opening_moves book) (Opened book) (light-opening book)) (follows-start book) in
-    (f.stands, sym (f.acts_are ∙ nil-before (opened_in book).acts))
+openings-stand opening =
+    let f : Follows [] (opened_in opening) (opened opening) = follows-all [] (opening_moves opening.book) (session_of opening) (Opened opening) (suit-light (opening_moves opening.book) (Opened opening) (light-opening opening.book)) (follows-start opening) in
+    (f.stands, sym (f.acts_are ∙ nil-before (opened_in opening).acts))

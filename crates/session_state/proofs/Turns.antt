@@ -9,7 +9,7 @@ use Rattle.interact_queue.specs.Queue.{holder_without, is_holder, without}
 use Rattle.session_model.specs.declared.phase.Phase.{Phase}
 use Rattle.session_model.specs.declared.phase.Phase.TheVariants.{Asked, AskedTwo, Done, Idle, Interacting, InteractingTwo, Owing, Saving, SavingTwo, Unregistered, WantsTwo}
 use Rattle.session_model.specs.declared.events.SessionEvent.{SessionEvent}
-use Rattle.session_model.specs.declared.events.SessionEvent.TheVariants.{Joined, Left, Operator, Ready, Said}
+use Rattle.session_model.specs.declared.events.SessionEvent.TheVariants.{Joined, Left, Operator, Ready, Said, Tick}
 use Rattle.session_model.specs.Phases.{asked_phase, begun_phase, cancelled_phase, completed_phase, dying_phase, held_phase, is_asked, is_interacting, is_saving, may_interact, ready_phase, registered_phase, saved_phase, second_begun_phase, second_phase, talked_phase}
 use Rattle.session_model.specs.Moves.{Closed, Gave, History, Move, Outside, Unset, ◌▷◌}
 use Rattle.session_model.specs.Readings as of
@@ -327,6 +327,7 @@ queued-heard (Ready d) turns h queued = queued-still turns (Outside (Ready d)) h
 queued-heard (Said d m sequence frame) turns h queued = queued-said d m sequence frame turns h queued
 queued-heard (Left d) turns h queued = queued-out d (λ c. None) turns (Outside (Left d)) h (λ c. refl) (λ c. refl) (λ c. refl) refl queued
 queued-heard (Operator order) turns h queued = queued-still turns (Outside (Operator order)) h (λ c. still-same (of.phase_of c h)) refl queued
+queued-heard (Tick milliseconds) turns h queued = queued-still turns (Outside (Tick milliseconds)) h (λ c. still-same (of.phase_of c h)) refl queued
 
 queued-given : (d : ℕ) (m : XsmpMessage) (turns : Turns) (h : History) → SuitsGiven d m h → Queued turns h → Queued (turns_after (Gave d m) (λ c. of.phase_of c h) (λ x. may_interact (of.wanted h) x) turns) (Gave d m ▷ h)
 queued-given d Interact turns h s queued = queued-token d turns h s queued

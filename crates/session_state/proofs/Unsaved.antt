@@ -8,7 +8,7 @@ use Rattle.xsmp_messages.specs.declared.message.XsmpMessage.TheVariants.{Die, In
 use Rattle.session_model.specs.declared.phase.Phase.{Phase}
 use Rattle.session_model.specs.declared.phase.Phase.TheVariants.{Asked, AskedTwo, Done, Interacting, InteractingTwo, Saving, SavingTwo, Unregistered, WantsTwo}
 use Rattle.session_model.specs.declared.events.SessionEvent.{SessionEvent}
-use Rattle.session_model.specs.declared.events.SessionEvent.TheVariants.{Joined, Left, Operator, Ready, Said}
+use Rattle.session_model.specs.declared.events.SessionEvent.TheVariants.{Joined, Left, Operator, Ready, Said, Tick}
 use Rattle.session_model.specs.Phases.{asked_phase, completed_phase, dying_phase, held_phase, is_saving, may_interact, phase_given, phase_said, ready_phase, registered_phase, saved_phase, second_begun_phase, second_phase, talked_phase}
 use Rattle.session_model.specs.Moves.{Closed, Gave, History, Move, Opened, Outside, Unset, ◌▷◌}
 use Rattle.session_model.specs.Readings as of
@@ -126,6 +126,7 @@ unsaved-heard (Said d m sequence frame) h k c e =
     (unsaved-said c m (λ dialog. may_interact (of.wanted h) dialog) (λ x. of.phase_of x h) (λ x. of.table_of x h) (of.saved_of c h) (k c)) e
 unsaved-heard (Left d) h k c e = both-at (eqb d c) (of.phase_of c h) None (of.saved_of c h) None (k c) (λ f. refl) e
 unsaved-heard (Operator order) h k c e = k c e
+unsaved-heard (Tick milliseconds) h k c e = k c e
 
 unsaved-step : (m : Move) (h : History) → Unsaved h → Unsaved (m ▷ h)
 unsaved-step (Outside event) h k c e = unsaved-heard event h k c e
@@ -136,5 +137,5 @@ unsaved-step (Unset d) h k c e = one-at (eqb d c) (of.phase_of c h) None (of.sav
 unsaved-step m h k c e = k c e
 
 pub unsaved : (h : History) → Unsaved h
-unsaved (Opened book) c e = absurd (grind arith)
+unsaved (Opened opening) c e = absurd (grind arith)
 unsaved (m ▷ h) c e = unsaved-step m h (unsaved h) c e

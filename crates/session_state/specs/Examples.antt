@@ -13,7 +13,7 @@ use Rattle.session_model.specs.declared.phase.Phase.TheVariants.{Idle}
 use Rattle.session_model.specs.declared.events.SessionEvent.{SessionEvent}
 use Rattle.session_model.specs.declared.events.SessionEvent.TheVariants.{Left, Operator}
 use Rattle.session_model.specs.Waits.{checkpoint_wait}
-use Rattle.session_model.specs.Examples.{asks_all, asks_for_save, discards_by, hints, log_in_and_save, logs_in, prints, removes, restarts, saved, says, sets, up_to}
+use Rattle.session_model.specs.Examples.{asks_all, asks_for_save, discards_by, hints, log_in_and_save, logs_in, prints, removes, restarts, saved, says, sets, up_to, waits_forever}
 use Rattle.session_state.specs.Session.{Session, opened_in, taken_in}
 
 -- after these events more
@@ -23,7 +23,7 @@ held_from s (event ∷ events) = held_from (taken_in event s) events
 
 -- after these events
 abbrev pub held_after_all : List SessionEvent → Session
-held_after_all events = held_from (opened_in empty_book) events
+held_after_all events = held_from (opened_in (waits_forever empty_book)) events
 
 -- a member of a round, and how far it is
 abbrev pub member : ℕ → Step → Member
@@ -44,7 +44,7 @@ abbrev pub ASnapshotIsHeld : Type 0
 ASnapshotIsHeld =
     (held_after_all (logs_in 1 ++ says 1 (SetProperties own_table) ∷ saved 1 ∷ sets 1 (hints 1) ∷ [])).clients
     ≡ record {
-      rows = record { conn = 1; phase = Some Idle; id = Some (codes "smd-00000001-00000001"); table = own_table ++ hints 1 ∷ []; saved = Some own_table } ∷ [];
+      rows = record { conn = 1; phase = Some Idle; id = Some (codes "smd-00000001-00000001"); table = own_table ++ hints 1 ∷ []; saved = Some own_table; quiet = 0 } ∷ [];
       registered = 1 ∷ [];
     }
 

@@ -20,7 +20,7 @@ use Rattle.session_model.specs.declared.events.SessionEvent.TheVariants.{Left, S
 use Rattle.session_clients.specs.Clients.{Held, clients_in, held_after, phase_in, table_in}
 use Rattle.session_model.specs.Phases.{is_first_saving, is_interacting, is_saving, may_interact}
 use Rattle.session_model.specs.Tables.{first_table, strays_with}
-use Rattle.session_model.specs.Moves.{Agreed, Began, Cancelled, Closed, Finished, Gave, Move, Outside, Over, Respawn, Tried, acts_of}
+use Rattle.session_model.specs.Moves.{Agreed, Began, Cancelled, Closed, Finished, Gave, Move, Opening, Outside, Over, Respawn, Tried, acts_of}
 use Rattle.session_model.specs.Reading.{Reading, wanted_in}
 use Rattle.session_model.specs.Waits.{is_only}
 use Rattle.session_model.specs.Books.{opening_moves}
@@ -110,6 +110,8 @@ pub record Session : Type 0 where
   pub expected : List (List ℕ)
   pub counts : List (List ℕ × ℕ)
   pub is_ending : Bool
+  -- for how many milliseconds a client may be silent that is waited for
+  pub patience : ℕ
   pub marks : Marks
   -- what was done since the last event came, the oldest first
   pub acts : List Act
@@ -128,6 +130,7 @@ moved m s = record {
   expected = of.expected_after m s.expected;
   counts = counts_after m s.counts;
   is_ending = of.ending_after m (wanted_in s.round) s.is_ending;
+  patience = s.patience;
   marks = of.marks_after m (wanted_in s.round) s.marks;
   acts = s.acts ++ acts_of m;
 }
@@ -144,7 +147,7 @@ reading_in s = record {
   rounds = record { running = s.round; waits = s.waits };
   token = record { waiting = s.turns.waiting; is_held = is_some s.turns.holder };
   store = record { book = s.book; strays = s.strays };
-  run = record { given = s.given; expected = s.expected; respawns = λ id. counted id s.counts; is_ending = s.is_ending };
+  run = record { given = s.given; expected = s.expected; respawns = λ id. counted id s.counts; is_ending = s.is_ending; patience = s.patience };
 }
 
 -- What an event brings
@@ -168,23 +171,24 @@ finished_in s = cond (s.is_ending && is_nil (clients_in s.clients).live) (moved 
 abbrev pub taken_in : SessionEvent → Session → Session
 taken_in event s = finished_in (settled_in (moved_all (Outside event ∷ reply (reading_in s) event) (record s { acts = [] })))
 
--- the session of a book that was just opened
-abbrev pub session_of : Book → Session
-session_of book = record {
+-- the session as it begins
+abbrev pub session_of : Opening → Session
+session_of opening = record {
   clients = record { rows = []; registered = [] };
   round = None;
   waits = [];
   turns = record { waiting = []; holder = None };
-  book = book;
+  book = opening.book;
   strays = [];
   newcomer = None;
   given = 0;
-  expected = ids_of book.entries;
+  expected = ids_of opening.book.entries;
   counts = [];
   is_ending = false;
+  patience = opening.patience;
   marks = record { begun = 0; ended = 0; agreed = 0 };
   acts = [];
 }
 
-abbrev pub opened_in : Book → Session
-opened_in book = moved_all (opening_moves book) (session_of book)
+abbrev pub opened_in : Opening → Session
+opened_in opening = moved_all (opening_moves opening.book) (session_of opening)

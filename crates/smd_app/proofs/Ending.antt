@@ -6,7 +6,7 @@ use Rattle.sm_world.proofs.Adding.{adds-none}
 use Rattle.program_frame.specs.Printing.{Tries, OnlyPrints}
 use Rattle.program_frame.specs.Programs.{status_by, line_by}
 use Rattle.program_frame.proofs.ProgramLemmas.{runs_still, concluded}
-use Rattle.ice_cookie.specs.declared.cookies.Cookie.{Cookie}
+use Rattle.session_engine.specs.declared.config.Config.{Config}
 use Rattle.session_engine.specs.Carries.{IsUnopened}
 use Rattle.session_engine.specs.Causes.{HasCause}
 use Rattle.session_engine.specs.declared.fault.ServeFault.{ServeFault}
@@ -76,8 +76,8 @@ of_edge_still old mid new fault later (inl failed) = inl (failed.0, links_still 
 of_edge_still old mid new fault later (inr (inl failed)) = inr (inl (failed.0, console_still old.faults.console mid new (later.silent (console_silent fault failed.0)) failed.1))
 of_edge_still old mid new fault later (inr (inr memory)) = inr (inr memory)
 
-opened_still : (cookie : Cookie) (turns : ℕ) (old mid new : Outside) (answer : Result (Unit {0}) ServeFault) (own : List Effect) → OnlyPrints mid new → Opened cookie turns old mid answer own → Opened cookie turns old new answer own
-opened_still cookie turns old mid new answer own prints opened = record {
+opened_still : (config : Config) (turns : ℕ) (old mid new : Outside) (answer : Result (Unit {0}) ServeFault) (own : List Effect) → OnlyPrints mid new → Opened config turns old mid answer own → Opened config turns old new answer own
+opened_still config turns old mid new answer own prints opened = record {
   book = opened.book;
   current = opened.current;
   recovered = opened.recovered;
@@ -86,14 +86,14 @@ opened_still cookie turns old mid new answer own prints opened = record {
   serves = opened.serves;
 }
 
-opens_still : (cookie : Cookie) (turns : ℕ) (old mid new : Outside) (answer : Result (Unit {0}) ServeFault) (own : List Effect) → OnlyPrints mid new → OpensOr cookie turns old mid answer own → OpensOr cookie turns old new answer own
-opens_still cookie turns old mid new (Ok x) own prints opened = opened_still cookie turns old mid new (Ok x) own prints opened
-opens_still cookie turns old mid new (Err fault) own prints (inl rests) = inl (record {
+opens_still : (config : Config) (turns : ℕ) (old mid new : Outside) (answer : Result (Unit {0}) ServeFault) (own : List Effect) → OnlyPrints mid new → OpensOr config turns old mid answer own → OpensOr config turns old new answer own
+opens_still config turns old mid new (Ok x) own prints opened = opened_still config turns old mid new (Ok x) own prints opened
+opens_still config turns old mid new (Err fault) own prints (inl rests) = inl (record {
   none = rests.none;
   kept = λ first told. prints.uses.kept.size ∙ rests.kept first told;
   cause = subst (λ (size : ℕ). IsUnopened old size fault) (sym prints.uses.kept.size) rests.cause;
 })
-opens_still cookie turns old mid new (Err fault) own prints (inr opened) = inr (opened_still cookie turns old mid new (Err fault) own prints opened)
+opens_still config turns old mid new (Err fault) own prints (inr opened) = inr (opened_still config turns old mid new (Err fault) own prints opened)
 
 cause_still : (old mid new : Outside) (answer : Result (Unit {0}) ServeFault) → IsLater (served answer) mid new → IfErr answer (HasCause old.faults mid.faults) → IfErr answer (HasCause old.faults new.faults)
 cause_still old mid new (Ok x) later cause = cause

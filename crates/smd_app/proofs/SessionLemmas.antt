@@ -10,7 +10,7 @@ use Rattle.sm_world.proofs.Adding.{adds-adds, adds-none}
 use Rattle.sm_world.proofs.Cells.{cell_from-append, others_keep}
 use Rattle.ice_cookie.specs.Spelling.{HaveSpelling}
 use Rattle.ice_cookie.specs.declared.authority.AuthorityEntry.{AuthorityEntry}
-use Rattle.ice_cookie.specs.declared.cookies.Cookie.{Cookie}
+use Rattle.session_engine.specs.declared.config.Config.{Config}
 use Rattle.checkpoint_records.specs.declared.records.Book.{Book}
 use Rattle.checkpoint_slots.specs.Causes.{IsSettled}
 use Rattle.checkpoint_slots.specs.Recovery.{Recovers}
@@ -87,32 +87,32 @@ unopened_since identity places old mid size LinkFault behind cause = cause
 unopened_since identity places old mid size ConsoleFault behind cause = cause
 unopened_since identity places old mid size Spent behind cause = cause
 
-opened_since : (identity : Identity) (places : Places) (cookie : Cookie) (turns : ℕ) (old mid new : Outside) (answer : Result (Unit {0}) ServeFault) → Behind identity places old mid → (opens : Opens mid new (λ opening current effects. Serves cookie opening current mid.coming turns answer effects)) → Opened cookie turns old new answer opens.adds.effects
-opened_since identity places cookie turns old mid new answer behind opens = record {
+opened_since : (identity : Identity) (places : Places) (config : Config) (turns : ℕ) (old mid new : Outside) (answer : Result (Unit {0}) ServeFault) → Behind identity places old mid → (opens : Opens mid new (λ opening current effects. Serves config opening current mid.coming turns answer effects)) → Opened config turns old new answer opens.adds.effects
+opened_since identity places config turns old mid new answer behind opens = record {
   book = opens.book;
   current = opens.current;
   recovered = λ file settled. opens.recovered file (still_settled identity places old mid behind file settled);
   size = opens.size;
   below = opens.below;
-  serves = subst (λ (coming : Option _). Serves cookie opens.book opens.current coming turns answer opens.adds.effects) behind.coming opens.adds.holds;
+  serves = subst (λ (coming : Option _). Serves config opens.book opens.current coming turns answer opens.adds.effects) behind.coming opens.adds.holds;
 }
 
 -- a session's own effects
-own : (identity : Identity) (places : Places) (cookie : Cookie) (turns : ℕ) (old mid new : Outside) (answer : Result (Unit {0}) ServeFault) → Behind identity places old mid → Serving cookie turns mid new answer → Added mid.told new.told (OpensOr cookie turns old new answer)
-own identity places cookie turns old mid new (Ok x) behind opens = record {
+own : (identity : Identity) (places : Places) (config : Config) (turns : ℕ) (old mid new : Outside) (answer : Result (Unit {0}) ServeFault) → Behind identity places old mid → Serving config turns mid new answer → Added mid.told new.told (OpensOr config turns old new answer)
+own identity places config turns old mid new (Ok x) behind opens = record {
   effects = opens.adds.effects;
   added = opens.adds.added;
-  holds = opened_since identity places cookie turns old mid new (Ok x) behind opens;
+  holds = opened_since identity places config turns old mid new (Ok x) behind opens;
 }
-own identity places cookie turns old mid new (Err fault) behind (inl rests) = record {
+own identity places config turns old mid new (Err fault) behind (inl rests) = record {
   effects = [];
   added = rests.told ∙ sym (adds-none mid.told);
   holds = inl (record { none = refl; kept = kept_since identity places old mid new behind rests.kept; cause = unopened_since identity places old mid new.size fault behind rests.cause });
 }
-own identity places cookie turns old mid new (Err fault) behind (inr opens) = record {
+own identity places config turns old mid new (Err fault) behind (inr opens) = record {
   effects = opens.adds.effects;
   added = opens.adds.added;
-  holds = inr (opened_since identity places cookie turns old mid new (Err fault) behind opens);
+  holds = inr (opened_since identity places config turns old mid new (Err fault) behind opens);
 }
 
 caused_since : (old mid new : Faults) (answer : Result (Unit {0}) ServeFault) → NotFallen old mid → IfErr answer (HasCause mid new) → IfErr answer (HasCause old new)

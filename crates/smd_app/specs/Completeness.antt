@@ -6,7 +6,7 @@ use Rattle.sm_world.specs.declared.effects.Effect.{Effect}
 use Rattle.sm_world.specs.declared.effects.Effect.TheVariants.{Printed}
 use Rattle.sm_world.specs.declared.events.Event.{Event}
 use Rattle.sm_world.specs.declared.failures.Faults.{Faults}
-use Rattle.ice_cookie.specs.declared.cookies.Cookie.{Cookie}
+use Rattle.session_engine.specs.declared.config.Config.{Config}
 use Rattle.checkpoint_records.specs.declared.records.Book.{Book}
 use Rattle.checkpoint_slots.specs.Causes.{IsSettled}
 use Rattle.checkpoint_slots.specs.Recovery.{Recovers}
@@ -35,12 +35,12 @@ pub record NoneRose (old new : Faults) : Type 0 where
   pub console : ¬ (Rose old.console new.console)
 
 -- The store of a world recovers to this book. Its epoch can be raised, and there is a generation for each checkpoint that the machine decides over what is heard.
-pub record CanServe (cookie : Cookie) (old : Outside) (file : List ℕ) (book : Book) (events : List Event) : Type 0 where
+pub record CanServe (config : Config) (old : Outside) (file : List ℕ) (book : Book) (events : List Event) : Type 0 where
   pub settled : IsSettled old file
   pub size : old.size ≡ 16777280
   pub recovers : Recovers file (Ok book)
   pub epoch : book.epoch < 4294967295
-  pub generations : (current : Option Current) → HasCurrent current file → next_generation current + commits_in (script cookie book events) ≤ 2 ^ 64
+  pub generations : (current : Option Current) → HasCurrent current file → next_generation current + commits_in (script config book events) ≤ 2 ^ 64
 
 -- Status 0 or 9, with what it says, or want of memory.
 abbrev pub EndsWell : ℕ → Type 0 → Type 0 → Type 0

@@ -6,7 +6,7 @@ use Rattle.sm_world.specs.declared.events.Event.{Event}
 use Rattle.sm_world.specs.declared.events.Event.TheVariants.{End}
 use Rattle.checkpoint_records.specs.Books.{empty_book}
 use Rattle.checkpoint_slots.specs.Turns.{opened_in}
-use Rattle.ice_cookie.specs.declared.cookies.Cookie.{Cookie}
+use Rattle.session_engine.specs.declared.config.Config.{Config}
 use Rattle.session_engine.specs.Carries.{script, run}
 use Rattle.session_engine.specs.Acts.{commits_in, has_finish}
 use Rattle.session_engine.specs.Doing.{items}
@@ -18,7 +18,7 @@ use Rattle.smd_app.specs.Trace.{text}
 use Rattle.smd_app.specs.declared.rehearsal.Rehearsal.{Rehearsal}
 
 -- the cookie of each rehearsal
-abbrev pub rehearsal_cookie : Cookie
+abbrev pub rehearsal_cookie : Config
 rehearsal_cookie = record { 0 = 0 ∷ 1 ∷ 2 ∷ 3 ∷ 4 ∷ 5 ∷ 6 ∷ 7 ∷ 8 ∷ 9 ∷ 10 ∷ 11 ∷ 12 ∷ 13 ∷ 14 ∷ 15 ∷ [] }
 
 -- the store of each rehearsal: a file of the right size, no gate of which is open

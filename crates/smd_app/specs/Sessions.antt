@@ -6,7 +6,7 @@ use Rattle.sm_world.specs.declared.effects.Effect.{Effect}
 use Rattle.sm_world.specs.declared.effects.Effect.TheVariants.{Published, Printed}
 use Rattle.ice_cookie.specs.Spelling.{list_bytes}
 use Rattle.ice_cookie.specs.declared.authority.AuthorityEntry.{AuthorityEntry}
-use Rattle.ice_cookie.specs.declared.cookies.Cookie.{Cookie}
+use Rattle.session_engine.specs.declared.config.Config.{Config}
 use Rattle.checkpoint_records.specs.declared.records.Book.{Book}
 use Rattle.checkpoint_slots.specs.Causes.{IsSettled}
 use Rattle.checkpoint_slots.specs.Recovery.{Recovers}
@@ -66,13 +66,13 @@ pub record SetsUp (old new : Outside) : Type 0 where
   pub counts : NotFallen old.faults new.faults
 
 -- The store was opened, and the session ran over its book.
-pub record Opened (cookie : Cookie) (turns : ℕ) (old new : Outside) (answer : Result (Unit {0}) ServeFault) (effects : List Effect) : Type 0 where
+pub record Opened (config : Config) (turns : ℕ) (old new : Outside) (answer : Result (Unit {0}) ServeFault) (effects : List Effect) : Type 0 where
   pub book : Book
   pub current : Option Current
   pub recovered : IsRecovered old book current
   pub size : new.size ≡ 16777280
   pub below : book.epoch < 4294967295
-  pub serves : Serves cookie book current old.coming turns answer effects
+  pub serves : Serves config book current old.coming turns answer effects
 
 -- Nothing was done, and the store has its size still.
 pub record Unopened (old new : Outside) (fault : ServeFault) (effects : List Effect) : Type 0 where
@@ -80,16 +80,16 @@ pub record Unopened (old new : Outside) (fault : ServeFault) (effects : List Eff
   pub kept : KeepsToldSize old new
   pub cause : IsUnopened old new.size fault
 
-abbrev pub OpensOr : Cookie → ℕ → Outside → Outside → Result (Unit {0}) ServeFault → List Effect → Type 0
-OpensOr cookie turns old new (Ok x) effects = Opened cookie turns old new (Ok x) effects
-OpensOr cookie turns old new (Err fault) effects = Unopened old new fault effects ⊎ Opened cookie turns old new (Err fault) effects
+abbrev pub OpensOr : Config → ℕ → Outside → Outside → Result (Unit {0}) ServeFault → List Effect → Type 0
+OpensOr config turns old new (Ok x) effects = Opened config turns old new (Ok x) effects
+OpensOr config turns old new (Err fault) effects = Unopened old new fault effects ⊎ Opened config turns old new (Err fault) effects
 
 -- The session ended with this answer, and these are its own effects. The store is that of the world when the call began.
-pub record IsSession (cookie : Cookie) (turns : ℕ) (old new : Outside) (answer : Result (Unit {0}) ServeFault) (effects : List Effect) : Type 0 where
+pub record IsSession (config : Config) (turns : ℕ) (old new : Outside) (answer : Result (Unit {0}) ServeFault) (effects : List Effect) : Type 0 where
   -- they are a run of the session machine
-  pub serves : OpensOr cookie turns old new answer effects
+  pub serves : OpensOr config turns old new answer effects
   -- at every point of it each file that a crash could leave has a whole checkpoint, where no byte of the store was in doubt
-  pub headline : (file : List ℕ) (book : Book) → IsSettled old file → Recovers file (Ok book) → KeepsItsWord cookie book file answer effects
+  pub headline : (file : List ℕ) (book : Book) → IsSettled old file → Recovers file (Ok book) → KeepsItsWord config book file answer effects
   -- a device ended it only where its count rose
   pub cause : IfErr answer (HasCause old.faults new.faults)
 

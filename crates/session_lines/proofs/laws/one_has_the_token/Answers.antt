@@ -2,4 +2,4 @@ use Rattle.session_lines.proofs.Fronts.{laws-hold}
 use Rattle.session_lines.proofs.laws.one_has_the_token.Goals as goal
 
 pub returns : goal.returns
-returns c = λ cookie book seen s. (laws-hold cookie book seen s).one_has_the_token
+returns c = λ config book seen s. (laws-hold config book seen s).one_has_the_token

@@ -2,4 +2,4 @@ use Rattle.session_lines.proofs.Fronts.{laws-hold}
 use Rattle.session_lines.proofs.laws.pending_is_not_lost.Goals as goal
 
 pub returns : goal.returns
-returns c = λ cookie book seen s. (laws-hold cookie book seen s).pending_is_not_lost
+returns c = λ config book seen s. (laws-hold config book seen s).pending_is_not_lost

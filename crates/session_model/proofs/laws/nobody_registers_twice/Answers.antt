@@ -4,4 +4,4 @@ use Rattle.session_model.proofs.Replied.{good-opened, good-run}
 use Rattle.session_model.proofs.laws.nobody_registers_twice.Goals as goal
 
 pub returns : goal.returns
-returns c = λ book events. distinct-from_once _ (good-run events (opened book) (good-opened book)).sound.once
+returns c = λ opening events. distinct-from_once _ (good-run events (opened opening) (good-opened opening)).sound.once

@@ -3,4 +3,4 @@ use Rattle.session_model.proofs.Replied.{good-opened, good-run}
 use Rattle.session_model.proofs.laws.one_has_the_token.Goals as goal
 
 pub returns : goal.returns
-returns c = λ book events. (good-run events (opened book) (good-opened book)).sound.one_holder
+returns c = λ opening events. (good-run events (opened opening) (good-opened opening)).sound.one_holder

@@ -3,4 +3,4 @@ use Rattle.session_model.proofs.Replied.{good-opened, good-run}
 use Rattle.session_model.proofs.laws.rounds_wait_for_registered.Goals as goal
 
 pub returns : goal.returns
-returns c = λ book events. (good-run events (opened book) (good-opened book)).sound.wait_for_registered
+returns c = λ opening events. (good-run events (opened opening) (good-opened opening)).sound.wait_for_registered
