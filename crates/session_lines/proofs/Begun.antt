@@ -8,14 +8,13 @@ use Rattle.checkpoint_records.specs.declared.records.Book.{Book}
 use Rattle.restart_plan.specs.Restarts.{opening_restarts}
 use Rattle.session_model.specs.declared.events.Act.{Act as SessionAct}
 use Rattle.session_model.specs.Books.{issue, opening_moves, raised}
-use Rattle.session_model.specs.Moves.{Committed, Move, Opened, Restart, acts_of, tried_each}
+use Rattle.session_model.specs.Moves.{Committed, Move, Restart, acts_of, tried_each}
 use Rattle.session_engine.specs.Acts.{acts_for, acts_for_all}
 use Rattle.session_engine.specs.Machine.{opening_acts, start}
 use Rattle.session_engine.specs.declared.acts.Act.{Act}
 use Rattle.session_lines.specs.Lines.{Does, Seen, line_from}
 use Rattle.session_lines.specs.Opening.{LinesBeginAgain, again}
 use Rattle.session_lines.proofs.Script.{events-does}
-use Rattle.session_lines.proofs.Told.{acts-onto}
 
 abbrev shown : List Move → List Seen
 shown moves = map Does (acts_for_all (flat_map acts_of moves))
@@ -35,7 +34,7 @@ before book = Committed (raised book) ∷ issue (raised book) book.pending
 
 opening-shown : (book : Book) → map Does (opening_acts book) ≡ shown (before book) ++ map again (opening_restarts book.entries)
 opening-shown book =
-    ap (λ (acts : List SessionAct). map Does (acts_for_all acts)) (acts-onto (opening_moves book) (Opened book)) ∙ shown-append (before book) (tried_each Restart (opening_restarts book.entries))
+    shown-append (before book) (tried_each Restart (opening_restarts book.entries))
     ∙ ap (λ (xs : List Seen). shown (before book) ++ xs) (shown-again (opening_restarts book.entries))
 
 pub lines-begin : LinesBeginAgain

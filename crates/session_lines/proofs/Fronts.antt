@@ -44,7 +44,7 @@ run-holds book m (event ∷ events) seen at =
 line-holds : (config : Config) (book : Book) (events : List Event) → Holds book (along [] (line config book events))
 line-holds config book events =
     subst (λ (xs : List Seen). Holds book xs) (sym (along-append (map Does (opening_acts book)) (line_from (start config book) events) []))
-    (run-holds book (start config book) events (along [] (map Does (opening_acts book))) (opened-at book))
+    (run-holds book (start config book) events (along [] (map Does (opening_acts book))) (opened-at config.patience book))
 
 pub turned-is : (xs : List Seen) → along [] xs ≡ reverse xs
 turned-is xs = along-is xs [] ∙ append-nil (reverse xs)

@@ -18,7 +18,7 @@ use Rattle.session_model.specs.declared.phase.Phase.{Phase}
 use Rattle.session_model.specs.declared.phase.Phase.TheVariants.{Dying}
 use Rattle.session_model.specs.declared.waits.Wait.{Wait}
 use Rattle.session_model.specs.declared.events.SessionEvent.{SessionEvent}
-use Rattle.session_model.specs.declared.events.SessionEvent.TheVariants.{Joined, Ready, Said, Left, Operator}
+use Rattle.session_model.specs.declared.events.SessionEvent.TheVariants.{Joined, Ready, Said, Left, Operator, Tick}
 use Rattle.session_model.specs.Phases.{is_bound, is_unregistered, is_dying, is_owing, is_saving, is_first_saving, is_interacting, is_shutdown, may_interact}
 use Rattle.session_model.specs.Tables.{is_full, entry_of}
 use Rattle.session_model.specs.Errors.{Arrival, no_room, bad_id, full_table, lone_shutdown}
@@ -240,6 +240,7 @@ IsApart d (Ready c) = c ≡ d → ⊥
 IsApart d (Said c m sequence frame) = c ≡ d → ⊥
 IsApart d (Left c) = c ≡ d → ⊥
 IsApart d (Operator order) = ⊥
+IsApart d (Tick milliseconds) = ⊥
 
 sparing-reply : (d : ℕ) (r : Reading) (event : SessionEvent) (h : History) → IsApart d event → AllSparing d (reply r event) h
 sparing-reply d r (Joined c) h a = sparing-cond d (has_no_place r) (Closed c ∷ []) [] h (λ k. absurd (a k), tt) tt
@@ -247,6 +248,7 @@ sparing-reply d r (Ready c) h a = tt
 sparing-reply d r (Said c m sequence frame) h a = sparing-said d r (record { conn = c; message = m; sequence = sequence; frame = frame }) m h a
 sparing-reply d r (Left c) h a = sparing-respawned d r c h
 sparing-reply d r (Operator order) h a = absurd a
+sparing-reply d r (Tick milliseconds) h a = absurd a
 
 -- Settling
 

@@ -17,7 +17,7 @@ use Rattle.session_model.specs.Phases.{is_bound}
 use Rattle.session_model.specs.Readings as of
 use Rattle.session_model.specs.Rules.{taken}
 use Rattle.session_model.specs.declared.events.SessionEvent.{SessionEvent}
-use Rattle.session_model.specs.declared.events.SessionEvent.TheVariants.{Joined as HasJoined, Ready, Said, Left, Operator as Ordered}
+use Rattle.session_model.specs.declared.events.SessionEvent.TheVariants.{Joined as HasJoined, Ready, Said, Left, Operator as Ordered, Tick as Ticked}
 use Rattle.session_engine.specs.Acts.{acts_for_all, says}
 use Rattle.session_engine.specs.Answers.{outcome, sequence_after}
 use Rattle.session_engine.specs.Machine.{Connection, Does as DoesAct, Entry, Machine, Step, Took as TookPart, acts_since, answered, asked, behind, changed, connection_of, counted, departs, does, fed_on, fed_with, gone_for, greeted, greeting, join_for, joined, joining, noted as with_setup, part_for, part_taken, parted, parts_taken, piece_for, step, told}
@@ -224,5 +224,5 @@ step-at book m (Joined c) seen at = join-at book m c (connection_of c m.connecti
 step-at book m (Piece c bytes) seen at = piece-at book m c bytes (connection_of c m.connections) (Comes (Piece c bytes) ∷ seen) (record { reached = at.reached; notes = at.notes; live = at.live; holds = holds-comes book (Piece c bytes) seen at.holds })
 step-at book m (HasGone c) seen at = gone-at book m c (connection_of c m.connections) seen refl at
 step-at book m (Operator order) seen at = step-told book m (Ordered order) (Comes (Operator order) ∷ seen) at.reached (ap (λ (ns : List Note). IsOrdered order ∷ ns) at.notes) (λ d error. ap (λ (ns : List Note). IsOrdered order ∷ ns) at.notes) at.live (holds-comes book (Operator order) seen at.holds)
-step-at book m (Tick milliseconds) seen at = record { reached = at.reached; notes = at.notes; live = at.live; holds = holds-comes book (Tick milliseconds) seen at.holds }
+step-at book m (Tick milliseconds) seen at = step-told book m (Ticked milliseconds) (Comes (Tick milliseconds) ∷ seen) at.reached at.notes (λ d error. at.notes) at.live (holds-comes book (Tick milliseconds) seen at.holds)
 step-at book m End seen at = record { reached = at.reached; notes = at.notes; live = at.live; holds = holds-finish book (Comes End ∷ seen) (holds-comes book End seen at.holds) }

@@ -11,7 +11,7 @@ use Rattle.xsmp_messages.specs.declared.message.XsmpMessage.TheVariants.{Error a
 use Rattle.session_model.specs.declared.events.Act.{Act as SessionAct}
 use Rattle.session_model.specs.declared.events.Act.TheVariants.{Commit as Commits, Say as SaysXsmp, Shut as ShutsConn, Unset as Ends}
 use Rattle.session_model.specs.declared.events.SessionEvent.{SessionEvent}
-use Rattle.session_model.specs.Moves.{Agreed, Began, Blamed, Cancelled, Closed, Committed, Finished, Gave, History, Move, Opened, Outside, Over, Printed, Tried, Unset, acts_of, all_acts, onto, reason_of, ◌▷◌}
+use Rattle.session_model.specs.Moves.{Agreed, Began, Blamed, Cancelled, Closed, Committed, Finished, Gave, History, Move, Opened, Opening, Outside, Over, Printed, Tried, Unset, acts_of, all_acts, onto, reason_of, waits_for, ◌▷◌}
 use Rattle.session_model.specs.Books.{opening_moves}
 use Rattle.session_model.specs.Rules.{opened, run, taken}
 use Rattle.session_engine.specs.Acts.{acts_for_all}
@@ -20,6 +20,7 @@ use Rattle.session_engine.specs.declared.acts.Act.TheVariants.{Commit, Finish, P
 use Rattle.session_engine.specs.declared.messages.Message.TheVariants.{Xsmp}
 use Rattle.session_engine.proofs.Connections.{same, other, connection_of-changed, connection_of-without}
 use Rattle.session_engine.proofs.Following.{since-is}
+use Rattle.session_engine.proofs.Opening.{acts-onto}
 use Rattle.session_notes.specs.Notes.{Did, Entry, Given, Gone, Note, Started, Wrote, entries, entries_of}
 use Rattle.session_notes.specs.Laws.{IsSeen}
 use Rattle.session_notes.proofs.Seen.{noted_of, notes-are}
@@ -33,15 +34,16 @@ use Rattle.session_lines.proofs.Points.{Holds, Kept, along, holds-blamed, holds-
 
 -- a run over the book has come to this
 pub record Reached (book : Book) (h : History) : Type 0 where
+  pub patience : ℕ
   pub events : List SessionEvent
-  pub is : run (opened book) events ≡ h
+  pub is : run (opened (waits_for patience book)) events ≡ h
 
 run-more : (events : List SessionEvent) (event : SessionEvent) (h : History) → run h (events ++ event ∷ []) ≡ taken event (run h events)
 run-more [] event h = refl
 run-more (first ∷ events) event h = run-more events event (taken first h)
 
 reached-more : (book : Book) (event : SessionEvent) (h : History) → Reached book h → Reached book (taken event h)
-reached-more book event h r = record { events = r.events ++ event ∷ []; is = run-more r.events event (opened book) ∙ ap (λ (g : History). taken event g) r.is }
+reached-more book event h r = record { patience = r.patience; events = r.events ++ event ∷ []; is = run-more r.events event (opened (waits_for r.patience book)) ∙ ap (λ (g : History). taken event g) r.is }
 
 -- what is seen of moves
 abbrev more_of : List Move → List Entry
@@ -52,7 +54,7 @@ entries-onto [] h = sym (append-nil (entries h))
 entries-onto (m ∷ moves) h = entries-onto moves (m ▷ h) ∙ append_assoc (entries h) (entries_of m) (more_of moves)
 
 seen-front : (book : Book) (moves : List Move) (h : History) → Reached book (onto h moves) → IsSeen book (entries h)
-seen-front book moves h r = record { events = r.events; later = more_of moves; parts = sym (entries-onto moves h) ∙ ap (λ (g : History). entries g) (sym r.is) }
+seen-front book moves h r = record { patience = r.patience; events = r.events; later = more_of moves; parts = sym (entries-onto moves h) ∙ ap (λ (g : History). entries g) (sym r.is) }
 
 -- What holds there
 
@@ -172,10 +174,6 @@ answer-at book (Blamed c error ∷ moves) h ks seen answer r n b o k =
     own-at book moves (Blamed c error ▷ h) ks (Does (Say c (Xsmp (XsmpError error))) ∷ seen) answer r (b c error) o (holds-blamed book c error seen k)
 answer-at book (m ∷ moves) h ks seen answer r n b o k = own-at book (m ∷ moves) h ks seen answer r n o k
 
-pub acts-onto : (moves : List Move) (h : History) → all_acts (onto h moves) ≡ all_acts h ++ acts_by moves
-acts-onto [] h = sym (append-nil (all_acts h))
-acts-onto (m ∷ moves) h = acts-onto moves (m ▷ h) ∙ append_assoc (all_acts h) (acts_of m) (acts_by moves)
-
 -- the session was told
 pub told-at : (book : Book) (event : SessionEvent) (ks : List Connection) (h : History) (seen : List Seen) → Reached book h → Notes seen (Outside event ▷ h) → Blames seen (Outside event ▷ h) → Open seen ks → Holds book seen
     → At book (connections_through (acts_since h (taken event h)) ks) (taken event h) (along seen (map Does (acts_for_all (acts_since h (taken event h)))))
@@ -200,11 +198,11 @@ through-none : (acts : List SessionAct) → connections_through acts [] ≡ []
 through-none [] = refl
 through-none (act ∷ acts) = ap (λ (ks : List Connection). connections_through acts ks) (after-none act) ∙ through-none acts
 
-pub opened-at : (book : Book) → At book [] (opened book) (along [] (map Does (opening_acts book)))
-opened-at book =
+pub opened-at : (patience : ℕ) (book : Book) → At book [] (opened (waits_for patience book)) (along [] (map Does (opening_acts book)))
+opened-at patience book =
     let moves : List Move = opening_moves book in
-    let reached : Reached book (opened book) = record { events = []; is = refl } in
-    let at : At book (connections_through (acts_by moves) []) (opened book) (along [] (line_by moves)) =
-    own-at book moves (Opened book) [] [] (own-opening book) reached refl (λ q. refl) (kept-there book (Opened book) [] (seen-front book moves (Opened book) reached) refl) in
-    subst (λ (acts : List SessionAct). At book [] (opened book) (along [] (map Does (acts_for_all acts)))) (sym (acts-onto moves (Opened book)))
-    (subst (λ (ks : List Connection). At book ks (opened book) (along [] (line_by moves))) (through-none (acts_by moves)) at)
+    let start : Opening = waits_for patience book in
+    let reached : Reached book (opened start) = record { patience = patience; events = []; is = refl } in
+    let at : At book (connections_through (acts_by moves) []) (opened start) (along [] (line_by moves)) =
+    own-at book moves (Opened start) [] [] (own-opening book) reached refl (λ q. refl) (kept-there book (Opened start) [] (seen-front book moves (Opened start) reached) refl) in
+    subst (λ (ks : List Connection). At book ks (opened start) (along [] (line_by moves))) (through-none (acts_by moves)) at

@@ -25,7 +25,7 @@ use Rattle.session_model.specs.declared.waits.Wait.{Wait}
 use Rattle.session_model.specs.declared.events.SessionEvent.{SessionEvent}
 use Rattle.session_model.specs.declared.events.Act.TheVariants.{Say}
 use Rattle.session_model.specs.Phases.{is_interacting, is_first_saving, is_member, is_shutdown, step_of, begun_phase, completed_phase, dying_phase, second_begun_phase}
-use Rattle.session_model.specs.Moves.{Move, Outside, Gave, Closed, Began, Over, Agreed, Tried, Committed, Finished, End, Restart, History, Opened, ◌▷◌, onto, gave_each, tried_each, Opening}
+use Rattle.session_model.specs.Moves.{Move, Outside, Gave, Closed, Began, Over, Agreed, Tried, Committed, Finished, End, Restart, History, Opened, ◌▷◌, onto, gave_each, tried_each, Opening, waits_for}
 use Rattle.session_model.specs.Readings as of
 use Rattle.session_model.specs.Reading.{Clients, has_that_id, reading}
 use Rattle.session_model.specs.Books.{is_eligible, next_book, issue, discarded, raised}
