@@ -20,7 +20,7 @@ use Rattle.session_engine.specs.Saved.{IsSaved, Performs, WearsOut}
 use Rattle.session_engine.specs.Stops.{HasNumbers, IsNumbered, IsRefused, Stops, StopsAt}
 use Rattle.session_engine.specs.Session.{StandsFor as StandsForWith}
 use Rattle.session_engine.specs.Shown.{Shows, all_cut}
-use Rattle.session_engine.specs.Store.{Leaves, Stored, store_of}
+use Rattle.session_engine.specs.Store.{IsRaised, Leaves, Stored, store_of}
 use Rattle.session_engine.specs.declared.acts.Act.{Act}
 use Rattle.session_engine.specs.declared.acts.Act.TheVariants.{Commit}
 use Rattle.session_engine.specs.declared.fault.Halt.{Halt}
@@ -158,8 +158,8 @@ module _ (config : Config) (opening : Book) where
         keeps = opening_keeps current (Ok session.store) es performs;
         store = λ first before stands. rw scripts (rw performs.leaves.0 at (performs.leaves.1 first before stands));
         saved = rw scripts performs.leaves.0;
-        counts = rw scripts performs.counts;
-        opens = rw scripts performs.opens;
+        counts = subst (λ (xs : List Act). IsRaised (commits_in xs) (next_generation current) (next_generation session.store.journal)) (sym scripts) performs.counts;
+        opens = performs.opens ∙ ap commits_in (sym scripts);
         numbered = rw scripts performs.numbered;
         settles = performs.settles (λ e. absurd cc);
       }
@@ -265,7 +265,8 @@ module _ (config : Config) (opening : Book) where
         keeps = keeps_more current session es ds event (Ok next.store) held performs;
         store = store_more current session next.store es ds event held performs;
         saved = saved_next current session next.store es ds event held performs;
-        counts = rw (of.script-more config opening es ds event deaf held.unfinished) (raised_then (next_generation current) (next_generation session.store.journal) (next_generation next.store.journal) (script (heard es)) (acts_at es event) held.counts performs.counts);
+        counts = subst (λ (xs : List Act). IsRaised (commits_in xs) (next_generation current) (next_generation next.store.journal)) (sym (of.script-more config opening es ds event deaf held.unfinished))
+            (raised_then (next_generation current) (next_generation session.store.journal) (next_generation next.store.journal) (script (heard es)) (acts_at es event) held.counts performs.counts);
         opens = opens_more current session next.store es ds event held performs;
         numbered = numbered_more current session next.store es ds event held performs;
         settles = settle_more es ds event held.settles (performs.settles (λ e. absurd cc));

@@ -6,7 +6,7 @@ use Rattle.session_engine.proofs.session.serve.Given as goal
 
 abbrev pub invariant-loop : goal.invariant-loop
 invariant-loop g l = record {
-  held : InLoop l.fn.cookie (g.W.Told.outside l.fn.world) (g.W.Told.outside l.world) l.counter l.session;
+  held : InLoop l.fn.config (g.W.Told.outside l.fn.world) (g.W.Told.outside l.world) l.counter l.session;
   shown : IsShown all_cut l.session.engine;
   size : (g.W.Told.outside l.world).size ≡ 16777280;
   input : (g.W.Told.outside l.world).input ≡ (g.W.Told.outside l.fn.world).input;
