@@ -34,7 +34,8 @@ use Rattle.session_engine.proofs.Connections.{other, connection_of-append, conne
 use Rattle.session_engine.proofs.Following.{since-is}
 use Rattle.session_lines.specs.Others.{LeavesAlone, Spares, conn_of, is_shut}
 use Rattle.session_lines.proofs.Spared.{AllSparing, IsApart, Spared, Sparing, all-spared}
-use Rattle.session_lines.proofs.Told.{acts-onto, turned-eq}
+use Rattle.session_engine.proofs.Opening.{acts-onto}
+use Rattle.session_lines.proofs.Told.{turned-eq}
 
 -- a step that leaves d alone, and with it whether d is registered, and that a logout was agreed
 record Leaves (d : ℕ) (m : Machine) (s : Step) : Type 0 where

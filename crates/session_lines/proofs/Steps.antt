@@ -6,7 +6,7 @@ use Rattle.std.proofs.lemmas.Bool.{cases_eq}
 use Rattle.sm_world.specs.declared.events.Event.{Event}
 use Rattle.sm_world.specs.declared.events.Event.TheVariants.{Joined, Piece, Gone as HasGone, Operator, Tick, End}
 use Rattle.ice_values.specs.declared.numbers.Endian.TheVariants.{Lsb}
-use Rattle.session_engine.specs.declared.config.Config.{Config}
+use Rattle.ice_cookie.specs.declared.cookies.Cookie.{Cookie}
 use Rattle.ice_messages.specs.declared.message.IceMessage.{IceMessage}
 use Rattle.ice_messages.specs.declared.message.IceMessage.TheVariants.{ByteOrder, NoClose}
 use Rattle.checkpoint_records.specs.declared.records.Book.{Book}
@@ -178,11 +178,11 @@ greeted-at book c s seen at =
     (sym (ap (λ (xs : List Seen). along seen xs) (map-append seen_of s.line (map DoesAct greets)) ∙ along-append (map seen_of s.line) (map seen_of (map DoesAct greets)) seen ∙ ap (λ (xs : List Seen). along line xs) (seen-does greets)))
     (greeting-at book s.next c (connection_of c s.next.connections) line at)
 
-open-joined : (config : Config) (c : ℕ) (seen : List Seen) (ks : List Connection) → connection_of c ks ≡ None → Open seen ks → Open (Comes (Joined c) ∷ seen) (ks ++ joined config c ∷ [])
-open-joined config c seen ks none o q =
+open-joined : (cookie : Cookie) (c : ℕ) (seen : List Seen) (ks : List Connection) → connection_of c ks ≡ None → Open seen ks → Open (Comes (Joined c) ∷ seen) (ks ++ joined cookie c ∷ [])
+open-joined cookie c seen ks none o q =
     ap (λ (b : Bool). b || is_open q seen) (turned-eq q c) ∙ ap (λ (b : Bool). eqb q c || b) (o q)
-    ∙ sym (ap (λ (k : Option Connection). is_some k) (connection_of-append q ks (joined config c) none) ∙ either (eqb q c) (connection_of q ks)) where
-      either : (b : Bool) (k : Option Connection) → is_some (if◌then◌else◌ {A = Option Connection} b (Some (joined config c)) k) ≡ (b || is_some k)
+    ∙ sym (ap (λ (k : Option Connection). is_some k) (connection_of-append q ks (joined cookie c) none) ∙ either (eqb q c) (connection_of q ks)) where
+      either : (b : Bool) (k : Option Connection) → is_some (if◌then◌else◌ {A = Option Connection} b (Some (joined cookie c)) k) ≡ (b || is_some k)
       either true k = refl
       either false k = refl
 
