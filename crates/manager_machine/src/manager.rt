@@ -41,11 +41,7 @@ impl Manager {
     /// Opens a book: a run begins, with the next epoch. The acts write the book anew, start its
     /// pending commands and drop them from it, and start the clients of the last run again. A
     /// client that is waited for may be silent for `patience` milliseconds; 0 is for ever.
-    pub fn begin(
-        alloc: Global,
-        book: Book,
-        patience: u64,
-    ) -> Result<(Manager, Acts), NoMemory>
+    pub fn begin(alloc: Global, book: Book, patience: u64) -> Result<(Manager, Acts), NoMemory>
         requires rules { KeepsRules book }
         requires epoch { book.epoch < 4294967295 }
         ensures stands { IfOk result (λ begun. StandsFor begun.0 (opened (waits_for patience book))) }

@@ -53,10 +53,7 @@ pub fn is_first_saving(phase: Option<Phase>) -> bool
 fn is_awaited(phase: Option<Phase>) -> bool
     ensures { result ≡ of.is_awaited phase }
 {
-    matches!(
-        phase,
-        Some(Phase::Saving | Phase::SavingTwo | Phase::Owing)
-    )
+    matches!(phase, Some(Phase::Saving | Phase::SavingTwo | Phase::Owing))
 }
 
 /// Whether a client of this phase, which has been quiet for so long, is overdue once these
