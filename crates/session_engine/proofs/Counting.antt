@@ -3,8 +3,8 @@ use Rattle.std.proofs.Common.{◌≡◌, ℕ, zero, suc, ◌+◌, ◌<◌, ◌�
 use Rattle.sm_world.specs.Effects.{Deed}
 use Rattle.checkpoint_records.specs.declared.records.Book.{Book}
 use Rattle.checkpoint_slots.specs.Recovery.{Recovers}
-use Rattle.session_engine.specs.Acts.{Kind, Shown, Saved, Hidden, book_after, book_by, commits_by, commits_in, deeds_by, deeds_in, kind_of}
-use Rattle.session_engine.specs.Counted.{SavedIsPlaced, before_last, book_at, books_by, books_in, until, until_by}
+use Rattle.session_engine.specs.Acts.{Hidden, Kind, Saved, Shown, book_after, book_by, books_by, books_in, commits_by, commits_in, deeds_by, deeds_in, kind_of}
+use Rattle.session_engine.specs.Counted.{SavedIsPlaced, before_last, book_at, until, until_by}
 use Rattle.session_engine.specs.declared.acts.Act.{Act}
 
 one_more : (n : ℕ) → 1 + n ≡ suc n

@@ -11,15 +11,17 @@ use Rattle.sm_world.specs.declared.effects.Effect.{Effect}
 use Rattle.sm_world.specs.declared.effects.Effect.TheVariants.{Heard, Sent, Shut, Started, Wrote, Torn, Synced, SyncFailed, Published, Printed}
 use Rattle.sm_world.proofs.Adding.{adds-adds, adds-none}
 use Rattle.sm_world.proofs.Cells.{quiet_cells, same_images}
+use Rattle.book_order.specs.Order.{InOrder}
 use Rattle.checkpoint_records.specs.declared.records.Book.{Book}
 use Rattle.checkpoint_slots.specs.Recovery.{Recovers}
 use Rattle.checkpoint_slots.specs.Turns.{SteadyStands, next_generation, opened_by, opened_in}
 use Rattle.checkpoint_slots.specs.declared.turn.Current.{Current}
 use Rattle.checkpoint_journal.proofs.Swapping.{fronts_two, opened_in-append}
-use Rattle.session_engine.specs.Acts.{book_after, book_with, commits_in, deed_in, deeds_in}
+use Rattle.session_engine.specs.Acts.{book_after, book_with, books_in, commits_in, deed_in, deeds_in}
 use Rattle.session_engine.specs.Causes.{IsNotWorn, fault_of}
+use Rattle.session_engine.specs.Commits.{HasWritten, is_of_disk, of_store}
 use Rattle.session_engine.specs.Doing.{CarriesOut, Going}
-use Rattle.session_engine.specs.Saved.{IsSaved, Performs, Saves, WearsOut}
+use Rattle.session_engine.specs.Saved.{IsSaved, Performs, Saves, WearsOut, WritesActs}
 use Rattle.session_engine.specs.Store.{IsRaised, Leaves, Stored, store_of}
 use Rattle.session_engine.specs.Stops.{HasFound, HasNumbers, HasOpened, IsLeft, IsNumbered, IsRefused, NextIs, Stops, is_commit, is_of_links, is_print}
 use Rattle.session_engine.specs.Starting.{Launches, handed_on}
@@ -31,6 +33,7 @@ use Rattle.session_engine.specs.declared.fault.ServeFault.TheVariants.{Damaged, 
 use Rattle.session_engine.specs.declared.fault.Halt.{Halt}
 use Rattle.session_engine.specs.declared.fault.Halt.TheVariants.{Links, Console, Disk, Worn, NoMemory}
 use Rattle.session_engine.proofs.Adding.{IsDoneBy, going_on, one_going, still}
+use Rattle.session_engine.proofs.Committing.{all_then, deed_written, none_written, nothing_written, order_two, written_before, written_then}
 use Rattle.session_engine.proofs.Settling.{settle_none, settle_quiet, settle_then}
 
 pub book_after-append : (b : Book) (xs ys : List Act) → book_after b (xs ++ ys) ≡ book_after (book_after b xs) ys
@@ -290,6 +293,11 @@ stops_behind current next b xs ys fault At es ds done raised opened numbered lea
   leaves = λ first before stands file image. left_behind fault b xs stops.front stops.rest file (stops.leaves first (before ++ es) (leaves first before stands) file (rw (sym (append_assoc before es ds)) at image));
 }
 
+-- what is written of acts that were all done, and then of others
+writes_then : (store next : Stored) (xs ys : List Act) (answer : Result Stored Halt) (es ds : List Effect) → next.book ≡ book_after store.book xs → WritesActs store xs (Ok next) es → WritesActs next ys answer ds → WritesActs store (xs ++ ys) answer (es ++ ds)
+writes_then store next xs ys (Ok last) es ds same one two = all_then store.journal next.journal last.journal store.book xs ys es ds one (rw same at two)
+writes_then store next xs ys (Err halt) es ds same one two = written_then store.journal next.journal store.book xs ys false (is_of_disk halt) es ds one (rw same at two)
+
 -- acts that were all done, and then others
 pub performs_then : (store next : Stored) (xs ys : List Act) (answer : Result Stored Halt) (es ds : List Effect) → Performs store xs (Ok next) es → Performs next ys answer ds → Performs store (xs ++ ys) answer (es ++ ds)
 performs_then store next xs ys answer es ds one two =
@@ -309,6 +317,8 @@ performs_then store next xs ys answer es ds one two =
       worn = λ e. worn_behind store next xs ys es ds done one.leaves one.counts (two.worn e);
       numbered = ok_map (λ last. IsNumbered next ys ds) (λ last. IsNumbered store (xs ++ ys) (es ++ ds)) answer (λ last numbered. numbered_then store next xs ys es ds one.leaves one.numbered numbered) two.numbered;
       settles = λ not. settle_then es ds (one.settles (λ e. absurd cc)) (two.settles not);
+      writes = λ order. let parts = order_two store.book xs ys order in
+          writes_then store next xs ys answer es ds one.leaves.0 (one.writes parts.0) (two.writes (subst (λ (b : Book). InOrder b (books_in ys)) (sym one.leaves.0) parts.1));
       stopped = err_map (λ halt. Stops next.journal next.book ys (fault_of halt) (IsRefused halt) ds) (λ halt. Stops store.journal store.book (xs ++ ys) (fault_of halt) (IsRefused halt) (es ++ ds)) answer (λ halt stops.
           stops_behind store.journal next.journal store.book xs ys (fault_of halt) (IsRefused halt) es ds done one.counts one.opens one.numbered (λ first before stands. rw one.leaves.0 at (one.leaves.1 first before stands)) (rw one.leaves.0 at stops)) two.stopped;
     }
@@ -324,6 +334,7 @@ performs_stopped store xs ys halt es one = record {
   worn = λ e. worn_before store xs ys es (one.worn e);
   numbered = tt;
   settles = one.settles;
+  writes = λ order. written_before store.journal store.book xs ys (is_of_disk halt) es (one.writes (order_two store.book xs ys order).0);
   stopped = stops_before store.journal store.book xs ys halt es one.stopped;
 }
 
@@ -372,9 +383,16 @@ deed_numbers store Disk act none refused = absurd (omega (arith, none, commit_co
 deed_numbers store Worn act none refused = absurd (omega (arith, none, commit_counts act refused))
 deed_numbers store NoMemory act none refused = none_numbered store []
 
--- nothing was done, for another cause than a worn store
-pub performs_none : (store : Stored) (acts : List Act) (halt : Halt) → IsNotWorn {A = Stored} (Err halt) → IsRefused halt acts → HasNumbers store (fault_of halt) [] [] → Performs store acts (Err halt) []
-performs_none store acts halt able refused numbers = record {
+deed_undisturbed : (halt : Halt) (act : Act) → commits_in (act ∷ []) ≡ 0 → IsRefused halt (act ∷ []) → is_of_disk halt ≡ false
+deed_undisturbed Links act none refused = refl
+deed_undisturbed Console act none refused = refl
+deed_undisturbed Disk act none refused = absurd (omega (arith, none, commit_counts act refused))
+deed_undisturbed Worn act none refused = refl
+deed_undisturbed NoMemory act none refused = refl
+
+-- nothing was done, for another cause than a worn store or the disk
+pub performs_none : (store : Stored) (acts : List Act) (halt : Halt) → IsNotWorn {A = Stored} (Err halt) → is_of_disk halt ≡ false → IsRefused halt acts → HasNumbers store (fault_of halt) [] [] → Performs store acts (Err halt) []
+performs_none store acts halt able calm refused numbers = record {
   out = record { left = acts; going = still acts; none_left = λ e. absurd (false≢true e) };
   saves = saved_still store acts;
   leaves = tt;
@@ -383,6 +401,7 @@ performs_none store acts halt able refused numbers = record {
   worn = λ e. absurd (not_worn halt able e);
   numbered = tt;
   settles = λ not. settle_none;
+  writes = λ order. subst (λ (failed : Bool). HasWritten store.journal store.book acts false failed []) (sym calm) (none_written store.journal store.book acts);
   stopped = record {
     front = [];
     rest = acts;
@@ -406,6 +425,7 @@ performs_nothing store = record {
   worn = λ e. absurd cc;
   numbered = none_numbered store [];
   settles = λ not. settle_none;
+  writes = λ order. nothing_written store.journal store.book;
   stopped = tt;
 }
 
@@ -425,6 +445,7 @@ pub record IsDeed (effect : Effect) (act : Act) : Type 0 where
   pub quiet : LeavesStore effect
   pub keeps : (book : Book) → book_with book act ≡ book
   pub uncounted : commits_in (act ∷ []) ≡ 0
+  pub unstored : of_store effect ≡ []
 
 one_front : (effect : Effect) (n : ℕ) (P : List Effect → Type 0) → P [] → P (effect ∷ []) → P (take n (effect ∷ []))
 one_front effect zero P none one = none
@@ -448,6 +469,7 @@ performs_deed store effect act deed = record {
   worn = λ e. absurd cc;
   numbered = numbered_none store (act ∷ []) (effect ∷ []) deed.uncounted;
   settles = λ not. settle_quiet effect deed.quiet;
+  writes = λ order. deed_written store.journal store.book act (effect ∷ []) deed.uncounted (rw deed.done.does refl) (ap (λ (es : List Effect). es ++ []) deed.unstored);
   stopped = tt;
 }
 
@@ -462,6 +484,7 @@ performs_finish store = record {
   worn = λ e. absurd cc;
   numbered = numbered_none store (Finish ∷ []) [] refl;
   settles = λ not. settle_none;
+  writes = λ order. deed_written store.journal store.book Finish [] refl refl refl;
   stopped = tt;
 }
 
@@ -470,16 +493,16 @@ performs_finish store = record {
 -- one call of a device that isn't the store: at a refusal nothing was done
 pub told_deed : (store : Stored) (effect : Effect) (act : Act) → IsDeed effect act → (old new : Option (List Effect)) (result : Result (Unit {0}) Halt) → IfErr result (λ halt. IsRefused halt (act ∷ [])) → new ≡ adds old (on_ok result (effect ∷ [])) → Added old new (Performs store (act ∷ []) (handed_on store result))
 told_deed store effect act deed old new (Ok x) able added = record { effects = effect ∷ []; added = added; holds = performs_deed store effect act deed }
-told_deed store effect act deed old new (Err halt) able added = record { effects = []; added = added; holds = performs_none store (act ∷ []) halt (deed_able halt act deed.uncounted able) able (deed_numbers store halt act deed.uncounted able) }
+told_deed store effect act deed old new (Err halt) able added = record { effects = []; added = added; holds = performs_none store (act ∷ []) halt (deed_able halt act deed.uncounted able) (deed_undisturbed halt act deed.uncounted able) able (deed_numbers store halt act deed.uncounted able) }
 
 -- a command that was tried
 pub told_start : (store : Stored) (reason : Reason) (command : Command) (old new : Option (List Effect)) (result : Result (Unit {0}) Halt) → IfErr result (λ halt. halt ≡ NoMemory) → Launches old new command result → Added old new (Performs store (Start reason command ∷ []) (handed_on store result))
 told_start store reason command old new (Ok x) able launches = record {
   effects = Started command launches.0 ∷ [];
   added = launches.1;
-  holds = performs_deed store (Started command launches.0) (Start reason command) (record { done = record { deaf = refl; quiet = refl; does = refl; shows = refl }; quiet = tt; keeps = λ book. refl; uncounted = refl });
+  holds = performs_deed store (Started command launches.0) (Start reason command) (record { done = record { deaf = refl; quiet = refl; does = refl; shows = refl }; quiet = tt; keeps = λ book. refl; uncounted = refl; unstored = refl });
 }
-told_start store reason command old new (Err halt) able launches = record { effects = []; added = launches ∙ sym (adds-none old); holds = rw able (performs_none store (Start reason command ∷ []) NoMemory tt tt (none_numbered store [])) }
+told_start store reason command old new (Err halt) able launches = record { effects = []; added = launches ∙ sym (adds-none old); holds = rw able (performs_none store (Start reason command ∷ []) NoMemory tt refl tt (none_numbered store [])) }
 
 pub told_finish : (store : Stored) (old : Option (List Effect)) → Added old old (Performs store (Finish ∷ []) (Ok store))
 told_finish store old = record { effects = []; added = sym (adds-none old); holds = performs_finish store }
@@ -489,7 +512,7 @@ told_nothing store old = record { effects = []; added = sym (adds-none old); hol
 
 -- nothing was done, for want of memory
 pub told_none : (store : Stored) (acts : List Act) (old : Option (List Effect)) → Added old old (Performs store acts (Err NoMemory))
-told_none store acts old = record { effects = []; added = sym (adds-none old); holds = performs_none store acts NoMemory tt tt (none_numbered store []) }
+told_none store acts old = record { effects = []; added = sym (adds-none old); holds = performs_none store acts NoMemory tt refl tt (none_numbered store []) }
 
 pub told_then : (store next : Stored) (xs ys : List Act) (answer : Result Stored Halt) (old middle new : Option (List Effect)) → Added old middle (Performs store xs (Ok next)) → Added middle new (Performs next ys answer) → Added old new (Performs store (xs ++ ys) answer)
 told_then store next xs ys answer old middle new one two = record {

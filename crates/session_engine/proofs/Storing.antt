@@ -24,7 +24,9 @@ use Rattle.session_engine.specs.declared.acts.Act.{Act}
 use Rattle.session_engine.specs.declared.acts.Act.TheVariants.{Commit}
 use Rattle.session_engine.specs.declared.fault.ServeFault.TheVariants.{DiskFault as FailsOnDisk}
 use Rattle.session_engine.specs.declared.fault.Halt.TheVariants.{Disk, Worn, NoMemory as WantsMemory}
+use Rattle.session_engine.specs.Commits.{store_effects}
 use Rattle.session_engine.proofs.Adding.{still}
+use Rattle.session_engine.proofs.Committing.{book_written, cut_written, none_written}
 use Rattle.session_engine.proofs.Performing.{found_now, none_numbered, performs_none, saved_still}
 use Rattle.session_engine.proofs.Settling.{settle_none}
 
@@ -47,6 +49,20 @@ silent (Synced ∷ es) store = let s = silent es store.1 in record { deaf = s.de
 silent (SyncFailed ∷ es) store = let s = silent es store.1 in record { deaf = s.deaf; quiet = s.quiet; still = s.still; hidden = s.hidden }
 silent (Published path bytes ∷ es) store = absurd store.0
 silent (Printed text ∷ es) store = absurd store.0
+
+-- and all that there is of the store
+silent_store : (es : List Effect) → AllByRecursion IsOfStore es → store_effects es ≡ es
+silent_store [] store = refl
+silent_store (Heard event ∷ es) store = absurd store.0
+silent_store (Sent conn bytes ∷ es) store = absurd store.0
+silent_store (Shut conn ∷ es) store = absurd store.0
+silent_store (Started command succeeded ∷ es) store = absurd store.0
+silent_store (Wrote at bytes ∷ es) store = ap (λ (zs : List Effect). Wrote at bytes ∷ zs) (silent_store es store.1)
+silent_store (Torn at n ∷ es) store = ap (λ (zs : List Effect). Torn at n ∷ zs) (silent_store es store.1)
+silent_store (Synced ∷ es) store = ap (λ (zs : List Effect). Synced ∷ zs) (silent_store es store.1)
+silent_store (SyncFailed ∷ es) store = ap (λ (zs : List Effect). SyncFailed ∷ zs) (silent_store es store.1)
+silent_store (Published path bytes ∷ es) store = absurd store.0
+silent_store (Printed text ∷ es) store = absurd store.0
 
 store_front : (n : ℕ) (es : List Effect) → AllByRecursion IsOfStore es → AllByRecursion IsOfStore (take n es)
 store_front zero es store = tt
@@ -88,6 +104,7 @@ performs_refused store book es writes =
       worn = λ e. absurd cc;
       numbered = tt;
       settles = λ not. absurd (not refl);
+      writes = λ order. cut_written store.journal store.book book es s.still (silent_store es writes.store) (writes.commits order.0);
       stopped = record {
         front = [];
         rest = Commit book ∷ [];
@@ -128,6 +145,7 @@ performs_commit store next book es same writes =
       worn = λ e. absurd cc;
       numbered = one_numbered store book es writes.numbered;
       settles = λ not. writes.settles (λ e. absurd cc);
+      writes = λ order. book_written store.journal next.journal store.book book es s.still (silent_store es writes.store) (writes.commits order.0);
       stopped = tt;
     }
 
@@ -152,6 +170,7 @@ performs_worn store book last = record {
   };
   numbered = tt;
   settles = λ not. settle_none;
+  writes = λ order. none_written store.journal store.book (Commit book ∷ []);
   stopped = record {
     front = [];
     rest = Commit book ∷ [];
@@ -174,4 +193,4 @@ told_uncommitted store book (WrongSize size) old new did = absurd did.holds.why_
 told_uncommitted store book (Damaged at) old new did = absurd did.holds.why_not
 told_uncommitted store book DiskFault old new did = record { effects = did.effects; added = did.added; holds = performs_refused store book did.effects did.holds }
 told_uncommitted store book IsWorn old new did = record { effects = []; added = did.added ∙ ap (adds old) did.holds.why_not.0; holds = performs_worn store book did.holds.why_not.1 }
-told_uncommitted store book NoMemory old new did = record { effects = []; added = did.added ∙ ap (adds old) did.holds.why_not; holds = performs_none store (Commit book ∷ []) WantsMemory tt tt (none_numbered store []) }
+told_uncommitted store book NoMemory old new did = record { effects = []; added = did.added ∙ ap (adds old) did.holds.why_not; holds = performs_none store (Commit book ∷ []) WantsMemory tt refl tt (none_numbered store []) }

@@ -53,6 +53,18 @@ abbrev pub book_after : Book → List Act → Book
 book_after before [] = before
 book_after before (act ∷ acts) = book_after (book_with before act) acts
 
+abbrev pub books_by : Kind → List Book
+books_by (Shown deed) = []
+books_by (Saved book) = book ∷ []
+books_by Hidden = []
+
+abbrev pub book_in : Act → List Book
+book_in act = books_by (kind_of act)
+
+-- the books that are committed, in their order
+abbrev pub books_in : List Act → List Book
+books_in acts = flat_map book_in acts
+
 -- how often a book is written
 abbrev pub commits_by : Kind → ℕ
 commits_by (Shown deed) = 0

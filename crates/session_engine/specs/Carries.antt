@@ -17,6 +17,7 @@ use Rattle.checkpoint_slots.specs.declared.turn.Current.{Current}
 use Rattle.session_engine.specs.declared.config.Config.{Config}
 use Rattle.session_engine.specs.Acts.{book_after, commits_in, deeds_in, has_finish}
 use Rattle.session_engine.specs.Causes.{IsOfRun}
+use Rattle.session_engine.specs.Commits.{HasWritten, fails_on_disk}
 use Rattle.session_engine.specs.Doing.{items}
 use Rattle.session_engine.specs.Machine.{Item, script_of, run_of}
 use Rattle.session_engine.specs.Saved.{IsSaved, WearsOut}
@@ -96,6 +97,8 @@ module _ (config : Config) (opening : Book) where
     pub worn : IsErrOf answer Worn → WearsOut (store_of current opening) (script (heard effects)) effects
     -- and it is where one did: else there was a number for each
     pub numbered : is_whole answer ≡ true → IsNumbered (store_of current opening) (script (heard effects)) effects
+    -- each commit was appended where it fitted behind the current book, and only else the whole book was written
+    pub writes : HasWritten current opening (script (heard effects)) (is_whole answer) (fails_on_disk answer) effects
     -- a fault stopped it at one act, and what a crash leaves has the checkpoint before that act
     pub stopped : IfErr answer (λ fault. Stops current opening (script (heard effects)) fault (StopsAt fault) effects)
     -- only where the disk failed may a byte of the store be in doubt behind it

@@ -1,24 +1,11 @@
 -- What a crash leaves, counted: the checkpoints of a script in their order, and which of them may stand once so many deeds are done.
 use Rattle.std.specs.Prelude.{ℕ, zero, suc, ◌+◌, ◌≤◌, List, [], ◌∷◌, length, Ok}
-use Rattle.std.specs.List.{flat_map}
 use Rattle.sm_world.specs.Effects.{Deed}
 use Rattle.checkpoint_records.specs.declared.records.Book.{Book}
 use Rattle.checkpoint_slots.specs.Recovery.{Recovers}
-use Rattle.session_engine.specs.Acts.{Kind, Shown, Saved, Hidden, kind_of}
+use Rattle.session_engine.specs.Acts.{Kind, Shown, Saved, Hidden, books_in, kind_of}
 use Rattle.session_engine.specs.Saved.{IsSaved}
 use Rattle.session_engine.specs.declared.acts.Act.{Act}
-
-abbrev pub books_by : Kind → List Book
-books_by (Shown deed) = []
-books_by (Saved book) = book ∷ []
-books_by Hidden = []
-
-abbrev pub book_in : Act → List Book
-book_in act = books_by (kind_of act)
-
--- the books that are committed, in their order
-abbrev pub books_in : List Act → List Book
-books_in acts = flat_map book_in acts
 
 -- the checkpoint at a place, where the opened book stands at 0 and the committed ones behind it; past the end the last one
 abbrev pub book_at : Book → List Book → ℕ → Book

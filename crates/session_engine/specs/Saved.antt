@@ -3,11 +3,13 @@ use Rattle.std.specs.Prelude.{◌≡◌, ◌≢◌, ℕ, ◌^◌, List, ◌∷�
 use Rattle.sm_world.specs.Crash.{Image}
 use Rattle.sm_world.specs.Effects.{Deed, deeds}
 use Rattle.sm_world.specs.declared.effects.Effect.{Effect}
+use Rattle.book_order.specs.Order.{InOrder}
 use Rattle.checkpoint_records.specs.declared.records.Book.{Book}
 use Rattle.checkpoint_slots.specs.Recovery.{Recovers}
 use Rattle.checkpoint_slots.specs.Turns.{SteadyStands, next_generation, opened_in}
-use Rattle.session_engine.specs.Acts.{book_after, commits_in, deeds_in}
+use Rattle.session_engine.specs.Acts.{book_after, books_in, commits_in, deeds_in}
 use Rattle.session_engine.specs.Causes.{fault_of}
+use Rattle.session_engine.specs.Commits.{AllWritten, HasWritten, is_of_disk}
 use Rattle.session_engine.specs.Doing.{CarriesOut}
 use Rattle.session_engine.specs.Settled.{Settle}
 use Rattle.session_engine.specs.Store.{IsRaised, Leaves, Stored}
@@ -43,6 +45,11 @@ pub record WearsOut (store : Stored) (acts : List Act) (effects : List Effect) :
   pub last : next_generation now.journal ≡ 2 ^ 64
   pub raised : IsRaised (commits_in front) (next_generation store.journal) (next_generation now.journal)
 
+-- what is written of acts that have this answer
+abbrev pub WritesActs : Stored → List Act → Result Stored Halt → List Effect → Type 0
+WritesActs store acts (Ok next) effects = AllWritten store.journal store.book acts effects next.journal
+WritesActs store acts (Err halt) effects = HasWritten store.journal store.book acts false (is_of_disk halt) effects
+
 -- These effects do the acts in their order, all of them at Ok; the store is swapped from checkpoint to checkpoint.
 pub record Performs (store : Stored) (acts : List Act) (answer : Result Stored Halt) (effects : List Effect) : Type 0 where
   pub out : CarriesOut acts (is_ok answer) effects
@@ -53,4 +60,6 @@ pub record Performs (store : Stored) (acts : List Act) (answer : Result Stored H
   pub worn : IsErrOf answer Worn → WearsOut store acts effects
   pub numbered : IfOk answer (λ next. IsNumbered store acts effects)
   pub settles : answer ≢ Err Disk → Settle effects
+  -- where each book follows the one before it
+  pub writes : InOrder store.book (books_in acts) → WritesActs store acts answer effects
   pub stopped : IfErr answer (λ halt. Stops store.journal store.book acts (fault_of halt) (IsRefused halt) effects)

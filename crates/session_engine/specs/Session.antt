@@ -10,6 +10,7 @@ use Rattle.session_engine.specs.declared.config.Config.{Config}
 use Rattle.session_model.specs.Readings as of
 use Rattle.session_engine.specs.Acts.{book_after, commits_in, deeds_in, has_finish}
 use Rattle.session_engine.specs.Carries.{FailsOr, IsOnScript, Keeps, Opens, Runs, Serves, run, script}
+use Rattle.session_engine.specs.Commits.{AllWritten}
 use Rattle.session_engine.specs.Doing.{items}
 use Rattle.session_engine.specs.Settled.{Settle}
 use Rattle.session_engine.specs.Machine.{after_all, start}
@@ -38,6 +39,7 @@ pub record StandsFor (config : Config) (opening : Book) (current : Option Curren
   pub opens : opened_in effects ≡ commits_in (script config opening (heard effects))
   pub numbered : IsNumbered (store_of current opening) (script config opening (heard effects)) effects
   pub settles : Settle effects
+  pub writes : AllWritten current opening (script cookie opening (heard effects)) effects session.store.journal
 
 -- A device, the store or the memory cut the run short, and not the number of its turns.
 pub record IsCut (config : Config) (opening : Book) (current : Option Current) (fault : ServeFault) (effects : List Effect) : Type 0 where

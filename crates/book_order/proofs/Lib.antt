@@ -1,0 +1,5 @@
+pub mod Filters
+pub mod Entries
+pub mod Neighbours
+pub mod Ordering
+pub mod Sizing
