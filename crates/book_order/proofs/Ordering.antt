@@ -20,18 +20,18 @@ use Rattle.xsmp_messages.specs.declared.message.XsmpMessage.{XsmpMessage}
 use Rattle.xsmp_messages.specs.declared.message.XsmpMessage.TheVariants.{ConnectionClosed, DeleteProperties, Die, Error, GetProperties, InteractDone, InteractRequest, RegisterClient, RegisterClientReply, SaveComplete, SaveYourselfDone, SaveYourselfPhase2, SaveYourselfPhase2Request, SaveYourselfRequest, SetProperties, ShutdownCancelled}
 use Rattle.session_model.specs.declared.events.Act.{Act}
 use Rattle.session_model.specs.declared.events.SessionEvent.{SessionEvent}
-use Rattle.session_model.specs.declared.events.SessionEvent.TheVariants.{Joined, Left, Operator, Ready, Said}
+use Rattle.session_model.specs.declared.events.SessionEvent.TheVariants.{Joined, Left, Operator, Ready, Said, Tick}
 use Rattle.session_model.specs.declared.phase.Phase.{Phase}
 use Rattle.session_model.specs.declared.phase.Phase.TheVariants.{Dying}
 use Rattle.session_model.specs.declared.waits.Wait.{Wait}
 use Rattle.session_model.specs.Phases.{is_bound, is_dying, is_first_saving, is_interacting, is_owing, is_saving, is_shutdown, is_unregistered, may_interact}
 use Rattle.session_model.specs.Tables.{entry_of, is_full}
 use Rattle.session_model.specs.Errors.{Arrival, bad_id, full_table, lone_shutdown, no_room}
-use Rattle.session_model.specs.Moves.{Agreed, Began, Blamed, Cancelled, Cause, Closed, Committed, Discard, End, Finished, Gave, History, Move, Opened, Outside, Over, Printed, Restart, Tried, Unset, acts_of, all_acts, gave_each, onto, tried_each, ◌▷◌}
+use Rattle.session_model.specs.Moves.{Agreed, Began, Blamed, Cancelled, Cause, Closed, Committed, Discard, End, Finished, Gave, History, Move, Opened, Opening, Outside, Over, Printed, Restart, Tried, Unset, acts_of, all_acts, gave_each, onto, tried_each, ◌▷◌}
 use Rattle.session_model.specs.Readings as of
 use Rattle.session_model.specs.Reading.{Clients, Reading, client_of, reading, wanted_in}
 use Rattle.session_model.specs.Books.{book_forgetting, command_anyway, discarded, issue, next_book, opening_moves, raised, standing}
-use Rattle.session_model.specs.Replies.{answered, called_off, depart, enter, entry_respawn, forget_one, forgotten, has_no_place, has_no_room, id_respawn, may_rejoin, or_bad_state, ordered, register, rejoin, reply, resigned, respawn_moves, respawned, said, unless_dying, want_cancel}
+use Rattle.session_model.specs.Replies.{answered, called_off, depart, enter, entry_respawn, forget_one, forgotten, has_no_place, has_no_room, id_respawn, is_overdue, may_rejoin, or_bad_state, ordered, register, rejoin, reply, resigned, respawn_moves, respawned, said, unless_dying, waited, want_cancel}
 use Rattle.session_model.specs.Rules.{agreed_rule, begin_first, completed, ended, go_on, idle_rule, is_free, last_command, members_for, opened, over_rule, round_rule, rule, running_rule, save_yourself, settle, settled, taken, token_rule, wanting_two}
 use Rattle.book_order.specs.Order.{GoesOn, InOrder, book_of, books_of, last_of}
 use Rattle.book_order.proofs.Neighbours.{order_forgetting, order_next, order_raised, order_without}
@@ -232,6 +232,10 @@ silent_said r x (ConnectionClosed reasons) = (tt, silent_respawned r x.conn)
 silent_said r x (Error error) = tt
 silent_said r x m = silent_unless r x (r.clients.phase x.conn)
 
+silent_departs : (r : Reading) (conns : List ℕ) → AllSilent (flat_map (depart r) conns)
+silent_departs r [] = tt
+silent_departs r (c ∷ conns) = silent-append (depart r c) (flat_map (depart r) conns) (tt, silent_respawned r c) (silent_departs r conns)
+
 silent_resigned : (command : Option Command) → AllSilent (resigned command)
 silent_resigned None = tt
 silent_resigned (Some command) = (tt, tt)
@@ -264,6 +268,7 @@ order_reply r (Ready c) = tt
 order_reply r (Said c m sequence frame) = quiet r.store.book (said r (record { conn = c; message = m; sequence = sequence; frame = frame }) m) (silent_said r (record { conn = c; message = m; sequence = sequence; frame = frame }) m)
 order_reply r (Left c) = quiet r.store.book (respawned r c) (silent_respawned r c)
 order_reply r (Operator order) = order_ordered r order
+order_reply r (Tick milliseconds) = quiet r.store.book (waited r milliseconds) (silent_departs r (filter (is_overdue r milliseconds) r.clients.registered))
 
 -- All that an event brings
 
@@ -307,9 +312,10 @@ books_keep event h =
     (follows_settle (4 * length (of.waits replied) + 4) h replied
     (follows_onto h (Outside event ▷ h) (reply (reading h) event) (order_reply (reading h) event) (follows_move h h (Outside event) tt (follows_itself h))))
 
-pub openings_keep : (book : Book) → GoesOn (Opened book) (opened book)
-openings_keep book =
-    follows_onto (Opened book) (Opened book) (opening_moves book) (
+pub openings_keep : (opening : Opening) → GoesOn (Opened opening) (opened opening)
+openings_keep opening =
+    let book : Book = opening.book in
+    follows_onto (Opened opening) (Opened opening) (opening_moves book) (
       (λ rules next. order_raised book),
       then_quiet (raised book) (issue (raised book) book.pending) (tried_each Restart (opening_restarts book.entries)) (order_issue (raised book) book.pending) (silent_tried Restart (opening_restarts book.entries)),
-    ) (follows_itself (Opened book))
+    ) (follows_itself (Opened opening))

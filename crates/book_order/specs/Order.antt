@@ -7,7 +7,7 @@ use Rattle.checkpoint_records.specs.declared.records.Book.{Book}
 use Rattle.session_model.specs.declared.events.Act.{Act}
 use Rattle.session_model.specs.declared.events.Act.TheVariants.{Blame, Commit, Finish, Print, Say, Shut, Start, Unset}
 use Rattle.session_model.specs.declared.events.SessionEvent.{SessionEvent}
-use Rattle.session_model.specs.Moves.{History, Opened, all_acts}
+use Rattle.session_model.specs.Moves.{History, Opened, Opening, all_acts}
 use Rattle.session_model.specs.Readings as of
 use Rattle.session_model.specs.Rules.{opened, taken}
 
@@ -51,4 +51,4 @@ abbrev pub BooksKeepOrder : Type 0
 BooksKeepOrder = (event : SessionEvent) (h : History) → GoesOn h (taken event h)
 
 abbrev pub OpeningsKeepOrder : Type 0
-OpeningsKeepOrder = (book : Book) → GoesOn (Opened book) (opened book)
+OpeningsKeepOrder = (opening : Opening) → GoesOn (Opened opening) (opened opening)
