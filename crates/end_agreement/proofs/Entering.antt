@@ -1,5 +1,5 @@
--- The client registers once more.
-use Rattle.std.proofs.Common.{◌≡◌, refl, sym, ap, ◌∙◌, subst, Bool, true, false, ◌||◌, List, [], ◌∷◌, ◌++◌, ℕ, arith}
+-- The client registers, and registers once more.
+use Rattle.std.proofs.Common.{◌≡◌, refl, sym, ap, ◌∙◌, subst, Bool, true, false, ◌&&◌, ◌||◌, List, [], ◌∷◌, ◌++◌, ℕ, arith}
 use Rattle.std.specs.Prelude.{Option, Some, None}
 use Rattle.ice_values.specs.Fields.{ErrorFields}
 use Rattle.ice_values.specs.declared.severity.Severity.{Severity}
@@ -10,14 +10,14 @@ use Rattle.session_model.specs.declared.phase.Phase.{Phase}
 use Rattle.session_model.specs.declared.phase.Phase.TheVariants.{Unregistered}
 use Rattle.session_model.specs.Phases.{is_unregistered}
 use Rattle.client_machine.specs.Phases.{ClientState, blamed_phase}
-use Rattle.client_machine.specs.Taking.{taken}
+use Rattle.client_machine.specs.Taking.{is_bad_id, taken}
 use Rattle.client_machine.specs.declared.phase.ClientPhase.{ClientPhase}
 use Rattle.client_machine.specs.declared.phase.ClientPhase.TheVariants.{Dead, Registering}
 use Rattle.client_machine.specs.declared.saves.SaveAsk.{SaveAsk}
 use Rattle.end_agreement.specs.Sides.{Agrees, Side, at_phase, mirror}
 use Rattle.end_agreement.specs.Hearing.{Fits, IsLast, again_by, is_again, suits_error}
-use Rattle.end_agreement.specs.Meeting.{Meets, is_fatal}
-use Rattle.end_agreement.specs.Laws.{RegisteringAgainKeeps}
+use Rattle.end_agreement.specs.Meeting.{Meets, is_fatal, refuses_id}
+use Rattle.end_agreement.specs.Laws.{CrossingsBegin, RegisteringAgainKeeps}
 use Rattle.end_agreement.proofs.Walks.{each-more, goes-both}
 use Rattle.end_agreement.proofs.Taken.{client_in}
 use Rattle.end_agreement.proofs.Calm.{differ}
@@ -42,6 +42,35 @@ refused-fits side id ask error e =
 enters : (side : Side) (id : List ℕ) (ask : SaveAsk) → Meets (at_phase (Some Unregistered) side) (client_in Registering id ask) (RegisterClient [] ∷ []) []
 enters side id ask =
     (refl, ((λ given. (refl, tt, record { phase = refl; shutdown = λ w. absurd (grind arith); style = λ w. absurd (grind arith) })), λ error fatal. refused-fits side id ask error fatal))
+
+-- Its previous ID may be refused.
+
+both-true : (b : Bool) → b ≡ true → (b && true && true) ≡ true
+both-true true e = refl
+both-true false e = e
+
+refusal-suits : (severity : Severity) (error : ErrorFields) (b : ℕ) (id : List ℕ) (ask : SaveAsk) → refuses_id severity error ≡ true → suits_error severity error (client_in Registering (b ∷ id) ask) ≡ true
+refusal-suits CanContinue error b id ask e = both-true (is_bad_id error) e
+refusal-suits severity error b id ask e = absurd (grind arith)
+
+refusal-last : (severity : Severity) (error : ErrorFields) (b : Bool) (side : Side) → refuses_id severity error ≡ true → IsLast b (at_phase (Some Unregistered) side) []
+refusal-last severity error true side e = (refl, refl)
+refusal-last severity error false side e = tt
+
+refusal-stays : (severity : Severity) (error : ErrorFields) → refuses_id severity error ≡ true → blamed_phase severity Registering ≡ Registering
+refusal-stays CanContinue error e = refl
+refusal-stays severity error e = absurd (grind arith)
+
+refusal-fits : (side : Side) (b : ℕ) (id : List ℕ) (ask : SaveAsk) (error : ErrorFields) → refuses_id error.severity error ≡ true → Fits (at_phase (Some Unregistered) side) (client_in Registering (b ∷ id) ask) (Error error ∷ [])
+refusal-fits side b id ask error e =
+    (refusal-suits error.severity error b id ask e, refusal-last error.severity error (is_again (Error error) (client_in Registering (b ∷ id) ask)) side e,
+    record { phase = refusal-stays error.severity error e; shutdown = λ w. absurd (grind arith); style = λ w. absurd (grind arith) })
+
+pub begins-meets : CrossingsBegin
+begins-meets [] asked shutdown style = enters (record { phase = Some Unregistered; shutdown = shutdown; style = style }) [] asked
+begins-meets (b ∷ id) asked shutdown style =
+    (refl, ((λ given. (refl, tt, record { phase = refl; shutdown = λ w. absurd (grind arith); style = λ w. absurd (grind arith) })),
+    λ error refused. refusal-fits (record { phase = Some Unregistered; shutdown = shutdown; style = style }) b id asked error refused))
 
 -- where both wait for the client to register
 enters-at : (side : Side) (s : ClientState) → side.phase ≡ Some Unregistered → Agrees side s → Meets side s (RegisterClient [] ∷ []) []

@@ -5,3 +5,4 @@ pub mod Requests
 pub mod Asking
 pub mod Giving
 pub mod Entering
+pub mod Owed
