@@ -1,0 +1,4 @@
+pub mod Sides
+pub mod Hearing
+pub mod Meeting
+pub mod Laws

@@ -1,0 +1,166 @@
+-- What each event brings, and what holds between events.
+use Rattle.std.proofs.Common.{◌≡◌, ◌≢◌, refl, sym, ap, ◌∙◌, subst, ℕ, zero, suc, ◌+◌, ◌*◌, Bool, true, false, cond, not, ◌&&◌, ◌||◌, List, [], ◌∷◌, ◌++◌, length, eqb, arith}
+use Rattle.std.specs.Prelude.{Option, Some, None}
+use Rattle.std.proofs.lemmas.Bool.Decides.{nat_tests}
+use Rattle.checkpoint_records.specs.declared.records.Book.{Book}
+use Rattle.round_agreement.specs.Agreement.{is_nil}
+use Rattle.round_agreement.specs.declared.wanted.Wanted.{Wanted}
+use Rattle.restart_plan.specs.Restarts.{opening_restarts}
+use Rattle.session_model.specs.declared.events.SessionEvent.{SessionEvent}
+use Rattle.session_model.specs.declared.events.SessionEvent.TheVariants.{Joined, Left, Operator, Ready, Said}
+use Rattle.session_model.specs.Books.{issue, opening_moves, raised}
+use Rattle.session_model.specs.Moves.{Finished, History, Move, Opened, Outside, Restart, onto, tried_each, ◌▷◌}
+use Rattle.session_model.specs.Reading.{reading}
+use Rattle.session_model.specs.Readings as of
+use Rattle.session_model.specs.Replies.{reply}
+use Rattle.session_model.specs.Rules.{finished, go_on, opened, rule, run, settle, settled, taken}
+use Rattle.session_model.proofs.Level.{Good, onto-append}
+use Rattle.session_model.proofs.Replied.{good-opened, good-reply, good-taken}
+use Rattle.session_model.proofs.Ruled.{good-rule, good-settle}
+use Rattle.end_schedules.specs.Laws.{AllPass, IsPassed, OthersPass, SavesAreOfTheRound, SettlingPasses, answered_to}
+use Rattle.end_schedules.specs.Pairs.{is_of}
+use Rattle.end_schedules.proofs.Replies.{Answer, IsFrom, answer, go-pass}
+use Rattle.end_schedules.proofs.Rules.{AllGo, Goes, go-append, go-issue, go-need, go-rule, go-tried}
+use Rattle.end_schedules.proofs.Steady.{AllNeed, Steady, steady-onto, steady-opened, steady-step}
+
+-- what the manager did by itself leads from one history to the other
+pub record Went (h g : History) : Type 0 where
+  pub moves : List Move
+  pub there : g ≡ onto h moves
+  pub all : AllGo moves h
+
+stayed : (h : History) → Went h h
+stayed h = record { moves = []; there = refl; all = tt }
+
+went-on : (h : History) (xs : List Move) (g : History) → AllGo xs h → Went (onto h xs) g → Went h g
+went-on h xs g a w = record { moves = xs ++ w.moves; there = w.there ∙ sym (onto-append h xs w.moves); all = go-append xs w.moves h a w.all }
+
+went-both : (h g k : History) → Went h g → Went g k → Went h k
+went-both h g k v w =
+    went-on h v.moves k v.all (subst (λ (x : History). Went x k) v.there w)
+
+went-next : (n : ℕ) (h : History) (moves : List Move) → AllGo moves h → (Went (onto h moves) (settle n (onto h moves))) → Went h (go_on (λ g. settle n g) h moves)
+went-next n h [] a w = stayed h
+went-next n h (m ∷ moves) a w = went-on h (m ∷ moves) (settle n (onto h (m ∷ moves))) a w
+
+went-settle : (n : ℕ) (h : History) → Good h → Steady h → Went h (settle n h)
+went-settle zero h g s = stayed h
+went-settle (suc n) h g s =
+    let a : AllGo (rule (reading h)) h = go-rule h g s in
+    went-next n h (rule (reading h)) a (went-settle n (onto h (rule (reading h))) (good-rule h g) (steady-onto (rule (reading h)) h (go-need (rule (reading h)) h a) s))
+
+went-finish : (b : Bool) (h : History) → Went h (cond b (Finished ▷ h) h)
+went-finish true h = record { moves = Finished ∷ []; there = refl; all = (record { comes = tt; needs = tt }, tt) }
+went-finish false h = stayed h
+
+-- who is answered
+abbrev sender : SessionEvent → ℕ
+sender (Said c m sequence frame) = c
+sender event = 0
+
+from-sender : (event : SessionEvent) → IsFrom event (sender event)
+from-sender (Said c m sequence frame) = refl
+from-sender event = tt
+
+pub steady-reply : (event : SessionEvent) (h : History) → Good h → Steady h → Steady (answered_to event h)
+steady-reply event h g s =
+    steady-onto (reply (reading h) event) (Outside event ▷ h) (answer event (sender event) h (from-sender event) g s).need (steady-step (Outside event) h tt s)
+
+pub went-taken : (event : SessionEvent) (h : History) → Good h → Steady h → Went (answered_to event h) (taken event h)
+went-taken event h g s =
+    let k : History = answered_to event h in
+    let n : ℕ = 4 * length (of.waits k) + 4 in
+    went-both k (settle n k) (finished (settle n k)) (went-settle n k (good-reply event h g) (steady-reply event h g s)) (went-finish (of.is_ending (settle n k) && is_nil (of.live (settle n k))) (settle n k))
+
+steady-went : (h g : History) → Went h g → Steady h → Steady g
+steady-went h g w s = subst (λ (x : History). Steady x) (sym w.there) (steady-onto w.moves h (go-need w.moves h w.all) s)
+
+pub steady-taken : (event : SessionEvent) (h : History) → Good h → Steady h → Steady (taken event h)
+steady-taken event h g s = steady-went (answered_to event h) (taken event h) (went-taken event h g s) (steady-reply event h g s)
+
+-- Runs
+
+pub record Stood (h : History) : Type 0 where
+  pub good : Good h
+  pub steady : Steady h
+
+pub stood-taken : (event : SessionEvent) (h : History) → Stood h → Stood (taken event h)
+stood-taken event h s = record { good = good-taken event h s.good; steady = steady-taken event h s.good s.steady }
+
+stood-opened : (book : Book) → Stood (opened book)
+stood-opened book = record {
+  good = good-opened book;
+  steady = steady-onto (opening_moves book) (Opened book)
+      (go-need (opening_moves book) (Opened book)
+      (record { comes = tt; needs = tt },
+      go-append (issue (raised book) book.pending) (tried_each Restart (opening_restarts book.entries)) _ (go-issue (raised book) book.pending _) (go-tried Restart (opening_restarts book.entries) _)))
+      (steady-opened book);
+}
+
+stood-on : (events : List SessionEvent) (h : History) → Stood h → Stood (run h events)
+stood-on [] h s = s
+stood-on (event ∷ events) h s = stood-on events (taken event h) (stood-taken event h s)
+
+pub stood-run : (book : Book) (events : List SessionEvent) → Stood (run (opened book) events)
+stood-run book events = stood-on events (opened book) (stood-opened book)
+
+pub saves-are-of : SavesAreOfTheRound
+saves-are-of book events = (stood-run book events).steady.says
+
+-- What passes a client
+
+pub passed-append : (c : ℕ) (xs ys : List Move) (h : History) → AllPass c xs h → AllPass c ys (onto h xs) → AllPass c (xs ++ ys) h
+passed-append c [] ys h p q = q
+passed-append c (m ∷ xs) ys h p q = (p.0, passed-append c xs ys (m ▷ h) p.1 q)
+
+pub went-passed : (c : ℕ) (h g : History) → Went h g → IsPassed c h g
+went-passed c h g w = record { moves = w.moves; there = w.there; each = go-pass c w.moves h w.all }
+
+pub settling-passes : SettlingPasses
+settling-passes book events c event =
+    let h : History = run (opened book) events in
+    let s : Stood h = stood-run book events in
+    went-passed c (answered_to event h) (taken event h) (went-taken event h s.good s.steady)
+
+-- somebody else
+abbrev other_than : ℕ → SessionEvent → ℕ
+other_than c (Said d m sequence frame) = d
+other_than c event = suc c
+
+from-other : (c : ℕ) (event : SessionEvent) → IsFrom event (other_than c event)
+from-other c (Said d m sequence frame) = refl
+from-other c event = tt
+
+not-next : (c : ℕ) → suc c ≢ c
+not-next c e = grind arith
+
+unlike : (d c : ℕ) → eqb d c ≡ false → d ≢ c
+unlike d c n e = grind (arith, nat_tests)
+
+is-other : (c : ℕ) (event : SessionEvent) → is_of c event ≡ false → other_than c event ≢ c
+is-other c (Said d m sequence frame) n = unlike d c n
+is-other c (Joined d) n = not-next c
+is-other c (Ready d) n = not-next c
+is-other c (Left d) n = not-next c
+is-other c (Operator order) n = not-next c
+
+pub others-answered : (c : ℕ) (event : SessionEvent) (h : History) → is_of c event ≡ false → Good h → Steady h → IsPassed c h (answered_to event h)
+others-answered c event h n g s = record {
+  moves = Outside event ∷ reply (reading h) event;
+  there = refl;
+  each = (n, (answer event (other_than c event) h (from-other c event) g s).pass c (is-other c event n));
+}
+
+passed-both : (c : ℕ) (h g k : History) → IsPassed c h g → IsPassed c g k → IsPassed c h k
+passed-both c h g k p q = record {
+  moves = p.moves ++ q.moves;
+  there = q.there ∙ ap (λ (x : History). onto x q.moves) p.there ∙ sym (onto-append h p.moves q.moves);
+  each = passed-append c p.moves q.moves h p.each (subst (λ (x : History). AllPass c q.moves x) p.there q.each);
+}
+
+pub others-passed : (c : ℕ) (event : SessionEvent) (h : History) → is_of c event ≡ false → Stood h → IsPassed c h (taken event h)
+others-passed c event h n s =
+    passed-both c h (answered_to event h) (taken event h) (others-answered c event h n s.good s.steady) (went-passed c (answered_to event h) (taken event h) (went-taken event h s.good s.steady))
+
+pub others-pass : OthersPass
+others-pass book events c event n = others-passed c event (run (opened book) events) n (stood-run book events)

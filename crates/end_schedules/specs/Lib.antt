@@ -1,0 +1,4 @@
+pub mod UnderWay
+pub mod Pairs
+pub mod Schedules
+pub mod Laws

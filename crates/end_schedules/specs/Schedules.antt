@@ -1,0 +1,92 @@
+-- A manager and any number of clients, each with a queue each way, over every schedule.
+use Rattle.std.specs.Prelude.{Bool, List, None, Option, Some, [], cond, false, true, ℕ, ◌==◌, ◌∷◌, ◌≡◌}
+use Rattle.sm_world.specs.declared.events.Order.{Order}
+use Rattle.checkpoint_records.specs.declared.records.Book.{Book}
+use Rattle.interact_queue.specs.Queue.{is_in}
+use Rattle.xsmp_messages.specs.declared.message.XsmpMessage.{XsmpMessage}
+use Rattle.session_model.specs.declared.events.SessionEvent.TheVariants.{Joined, Left, Operator, Ready}
+use Rattle.session_model.specs.Moves.{History}
+use Rattle.session_model.specs.Reading.{reading}
+use Rattle.session_model.specs.Readings as of
+use Rattle.session_model.specs.Rules as session
+use Rattle.client_machine.specs.Phases.{ClientState}
+use Rattle.client_machine.specs.declared.saves.SaveAsk.{SaveAsk}
+use Rattle.end_schedules.specs.Pairs.{May, Pair, Step, begun, step}
+use Rattle.end_schedules.specs.Pairs.Step.{Happens}
+
+-- the client's end of a pair
+pub record End : Type 0 where
+  pub state : ClientState
+  pub up : List XsmpMessage
+  pub took : ℕ
+  pub saves : ℕ
+  pub answers : ℕ
+
+abbrev pub paired : History → End → Pair
+paired h e = record { history = h; state = e.state; up = e.up; took = e.took; saves = e.saves; answers = e.answers }
+
+abbrev pub end_of : Pair → End
+end_of p = record { state = p.state; up = p.up; took = p.took; saves = p.saves; answers = p.answers }
+
+-- the manager's history, and of each connection the end of the client on it
+pub record Company : Type 0 where
+  pub history : History
+  pub ends : ℕ → Option End
+
+-- a client's end lasts as long as its connection
+abbrev pub standing : History → (ℕ → Option End) → Company
+standing h ends = record { history = h; ends = λ c. cond (is_in c (of.live h)) (ends c) None }
+
+abbrev pub with_end : ℕ → Option End → (ℕ → Option End) → ℕ → Option End
+with_end c e ends d = cond (c == d) e (ends d)
+
+pub data Turn : Type 0 where
+  -- a connection is opened
+  Joins : ℕ → Turn
+  -- XSMP begins on it, and its client registers, with this previous ID
+  Begins : ℕ → List ℕ → SaveAsk → Turn
+  -- a step of this client or of the manager towards it
+  Steps : ℕ → Step → Turn
+  Orders : Order → Turn
+  -- the connection breaks
+  Breaks : ℕ → Turn
+
+abbrev pub stepped : ℕ → Step → Option End → Company → Company
+stepped c s None t = t
+stepped c s (Some e) t = standing (step c s (paired t.history e)).history (with_end c (Some (end_of (step c s (paired t.history e)))) t.ends)
+
+abbrev pub turn : Turn → Company → Company
+turn (Joins c) t = standing (session.taken (Joined c) t.history) t.ends
+turn (Begins c previous asked) t = standing (session.taken (Ready c) t.history) (with_end c (Some (end_of (begun c previous asked t.history))) t.ends)
+turn (Steps c s) t = stepped c s (t.ends c) t
+turn (Orders order) t = standing (session.taken (Operator order) t.history) t.ends
+turn (Breaks c) t = standing (session.taken (Left c) t.history) (with_end c None t.ends)
+
+-- the client asks, the manager hears it, or it takes something
+abbrev pub is_own : Step → Bool
+is_own (Happens event) = false
+is_own s = true
+
+abbrev pub MayTurn : Turn → Company → Type 0
+MayTurn (Joins c) t = session.Takes (Joined c) (reading t.history)
+MayTurn (Begins c previous asked) t = session.Takes (Ready c) (reading t.history)
+MayTurn (Steps c s) t = (is_own s ≡ true) × ((e : End) → t.ends c ≡ Some e → May c s (paired t.history e))
+MayTurn (Orders order) t = Unit {0}
+MayTurn (Breaks c) t = session.Takes (Left c) (reading t.history)
+
+abbrev pub after_turns : List Turn → Company → Company
+after_turns [] t = t
+after_turns (x ∷ turns) t = after_turns turns (turn x t)
+
+abbrev pub AllMayTurn : List Turn → Company → Type 0
+AllMayTurn [] t = Unit {0}
+AllMayTurn (x ∷ turns) t = MayTurn x t × AllMayTurn turns (turn x t)
+
+-- a manager over a book, with nobody there
+abbrev pub company_of : Book → Company
+company_of book = record { history = session.opened book; ends = λ c. None }
+
+-- this holds of the manager and each client that is there, after every schedule
+abbrev pub InEverySchedule : (ℕ → Pair → Type 0) → Type 0
+InEverySchedule Holds =
+    (book : Book) (turns : List Turn) → AllMayTurn turns (company_of book) → (c : ℕ) (e : End) → (after_turns turns (company_of book)).ends c ≡ Some e → Holds c (paired (after_turns turns (company_of book)).history e)
