@@ -2,12 +2,11 @@
 use Rattle.std.proofs.Common.{◌≡◌, ◌≢◌, refl, sym, ap, ◌∙◌, subst, ℕ, Bool, true, false, cond, List, [], ◌∷◌, ◌++◌, eqb, arith}
 use Rattle.std.specs.Prelude.{Option, Some, None, is_some}
 use Rattle.std.proofs.lemmas.Bool.Decides.{nat_tests}
-use Rattle.checkpoint_records.specs.declared.records.Book.{Book}
 use Rattle.interact_queue.specs.Queue.{is_in}
 use Rattle.xsmp_messages.specs.declared.message.XsmpMessage.{XsmpMessage}
 use Rattle.session_model.specs.declared.events.SessionEvent.{SessionEvent}
-use Rattle.session_model.specs.declared.events.SessionEvent.TheVariants.{Joined, Left, Operator, Ready, Said}
-use Rattle.session_model.specs.Moves.{History}
+use Rattle.session_model.specs.declared.events.SessionEvent.TheVariants.{Joined, Left, Operator, Ready, Said, Tick}
+use Rattle.session_model.specs.Moves.{History, Opening}
 use Rattle.session_model.specs.Reading.{reading}
 use Rattle.session_model.specs.Readings as of
 use Rattle.session_model.specs.Rules as session
@@ -16,7 +15,7 @@ use Rattle.end_schedules.specs.Laws.{AllEndsAgree, KeepsAll}
 use Rattle.end_schedules.specs.Pairs.{May, Pair, Step, begun, down_of, hand, hear, heard, is_of, step}
 use Rattle.end_schedules.specs.Pairs.Step.{Asks, Happens, Hears, Takes}
 use Rattle.end_schedules.specs.Schedules.{AllMayTurn, Company, End, MayTurn, Turn, after_turns, company_of, end_of, is_own, paired, standing, stepped, turn, with_end}
-use Rattle.end_schedules.specs.Schedules.Turn.{Begins, Breaks, Joins, Orders, Steps}
+use Rattle.end_schedules.specs.Schedules.Turn.{Begins, Breaks, Joins, Orders, Steps, Waits}
 use Rattle.end_schedules.proofs.Folds.{Keeps, keeps-all, keeps-begun, keeps-other, keeps-step}
 use Rattle.end_schedules.proofs.Runs.{Stood, stood-run, stood-taken}
 use Rattle.end_schedules.proofs.Steady.{differ}
@@ -129,17 +128,18 @@ together-turn (Joins c) t m k = together-joins c t m k
 together-turn (Begins c previous asked) t m k = together-begins c previous asked t m.1 k
 together-turn (Steps c s) t m k = together-stepped c s (t.ends c) t refl m.0 m.1 k
 together-turn (Orders order) t m k = together-orders (Operator order) t (λ d. refl) k
+together-turn (Waits milliseconds) t m k = together-orders (Tick milliseconds) t (λ d. refl) k
 together-turn (Breaks c) t m k = together-breaks c t k
 
 together-after : (turns : List Turn) (t : Company) → AllMayTurn turns t → Together t → Together (after_turns turns t)
 together-after [] t m k = k
 together-after (x ∷ turns) t m k = together-after turns (turn x t) m.1 (together-turn x t m.0 k)
 
-together-begun : (book : Book) → Together (company_of book)
-together-begun book = record { stood = stood-run book []; each = λ c e q. absurd cc }
+together-begun : (opening : Opening) → Together (company_of opening)
+together-begun opening = record { stood = stood-run opening []; each = λ c e q. absurd cc }
 
 pub all-agree : AllEndsAgree
-all-agree book turns m c e q =
-    let t : Company = after_turns turns (company_of book) in
-    let k : There c e t.history = (together-after turns (company_of book) m (together-begun book)).each c e q in
+all-agree opening turns m c e q =
+    let t : Company = after_turns turns (company_of opening) in
+    let k : There c e t.history = (together-after turns (company_of opening) m (together-begun opening)).each c e q in
     keeps-all c (paired t.history e) k.live k.keeps

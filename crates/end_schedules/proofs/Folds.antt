@@ -6,15 +6,14 @@ use Rattle.std.proofs.lemmas.Bool.Decides.{nat_tests}
 use Rattle.ice_values.specs.Fields.{ErrorFields}
 use Rattle.ice_values.specs.declared.severity.Severity.{Severity}
 use Rattle.ice_values.specs.declared.severity.Severity.TheVariants.{CanContinue}
-use Rattle.checkpoint_records.specs.declared.records.Book.{Book}
 use Rattle.interact_queue.specs.Queue.{is_in}
 use Rattle.xsmp_messages.specs.declared.message.XsmpMessage.{XsmpMessage}
 use Rattle.xsmp_messages.specs.declared.message.XsmpMessage.TheVariants.{Die, Error, GetPropertiesReply, Interact, RegisterClient, RegisterClientReply, SaveComplete, SaveYourself, SaveYourselfPhase2, ShutdownCancelled}
 use Rattle.session_model.specs.declared.events.SessionEvent.{SessionEvent}
-use Rattle.session_model.specs.declared.events.SessionEvent.TheVariants.{Joined, Left, Operator, Ready, Said}
+use Rattle.session_model.specs.declared.events.SessionEvent.TheVariants.{Joined, Left, Operator, Ready, Said, Tick}
 use Rattle.session_model.specs.declared.phase.Phase.{Phase}
 use Rattle.session_model.specs.declared.phase.Phase.TheVariants.{Unregistered}
-use Rattle.session_model.specs.Moves.{Blamed, Closed, Gave, History, Move, Outside, onto, ◌▷◌}
+use Rattle.session_model.specs.Moves.{Blamed, Closed, Gave, History, Move, Outside, onto, ◌▷◌, Opening}
 use Rattle.session_model.specs.Phases.{ready_phase}
 use Rattle.session_model.specs.Reading.{reading}
 use Rattle.session_model.specs.Readings as of
@@ -214,10 +213,10 @@ keeps-begun c previous asked h e s = record {
   few = omega arith;
 }
 
-every : (book : Book) (events : List SessionEvent) (c : ℕ) (previous : List ℕ) (asked : SaveAsk) (steps : List Step) → session.Takes (Ready c) (reading (session.run (session.opened book) events))
-    → AllMay c steps (begun c previous asked (session.run (session.opened book) events)) → Keeps c (after c steps (begun c previous asked (session.run (session.opened book) events)))
-every book events c previous asked steps t e =
-    keeps-after c steps (begun c previous asked (session.run (session.opened book) events)) e (keeps-begun c previous asked (session.run (session.opened book) events) t.1 (stood-run book events))
+every : (opening : Opening) (events : List SessionEvent) (c : ℕ) (previous : List ℕ) (asked : SaveAsk) (steps : List Step) → session.Takes (Ready c) (reading (session.run (session.opened opening) events))
+    → AllMay c steps (begun c previous asked (session.run (session.opened opening) events)) → Keeps c (after c steps (begun c previous asked (session.run (session.opened opening) events)))
+every opening events c previous asked steps t e =
+    keeps-after c steps (begun c previous asked (session.run (session.opened opening) events)) e (keeps-begun c previous asked (session.run (session.opened opening) events) t.1 (stood-run opening events))
 
 -- The laws
 
@@ -254,15 +253,15 @@ keeps-all c p l k = record {
 }
 
 pub no-bad-state : ManagerSendsNoBadState
-no-bad-state book events c previous asked steps t e l = (keeps-all c _ l (every book events c previous asked steps t e)).no_bad_state
+no-bad-state opening events c previous asked steps t e l = (keeps-all c _ l (every opening events c previous asked steps t e)).no_bad_state
 
 pub no-unexpected : ClientSendsNoBadState
-no-unexpected book events c previous asked steps t e l = (keeps-all c _ l (every book events c previous asked steps t e)).expected
+no-unexpected opening events c previous asked steps t e l = (keeps-all c _ l (every opening events c previous asked steps t e)).expected
 
 pub both-agree : BothEndsAgree
-both-agree book events c previous asked steps t e l = (keeps-all c _ l (every book events c previous asked steps t e)).agree
+both-agree opening events c previous asked steps t e l = (keeps-all c _ l (every opening events c previous asked steps t e)).agree
 
 pub answers-few : AnswersAreFew
-answers-few book events c previous asked steps t e =
-    let p : Pair = after c steps (begun c previous asked (session.run (session.opened book) events)) in
-    few-of p.answers (owes p.state.phase) p.saves (every book events c previous asked steps t e).few
+answers-few opening events c previous asked steps t e =
+    let p : Pair = after c steps (begun c previous asked (session.run (session.opened opening) events)) in
+    few-of p.answers (owes p.state.phase) p.saves (every opening events c previous asked steps t e).few

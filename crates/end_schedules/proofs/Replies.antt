@@ -1,6 +1,6 @@
 -- The direct answer to what comes from one client gives nothing to the others but that their round is cancelled.
 use Rattle.std.proofs.Common.{◌≡◌, ◌≢◌, refl, sym, ap, ◌∙◌, subst, ℕ, Bool, true, false, cond, not, ◌&&◌, ◌||◌, List, [], ◌∷◌, ◌++◌, map, filter, eqb, arith}
-use Rattle.std.specs.Prelude.{Option, Some, None, is_some, codes}
+use Rattle.std.specs.Prelude.{Option, Some, None, flat_map, is_some, codes}
 use Rattle.sm_world.specs.declared.commands.Command.{Command}
 use Rattle.sm_world.specs.declared.events.Order.{Order}
 use Rattle.sm_world.specs.declared.events.Order.TheVariants.{Cancel, Checkpoint, DropConn, Forget, Shutdown, Status}
@@ -14,7 +14,7 @@ use Rattle.interact_queue.specs.Queue.{is_in}
 use Rattle.xsmp_messages.specs.declared.message.XsmpMessage.{XsmpMessage}
 use Rattle.xsmp_messages.specs.declared.message.XsmpMessage.TheVariants.{ConnectionClosed, DeleteProperties, Error, GetProperties, GetPropertiesReply, InteractDone, InteractRequest, RegisterClient, RegisterClientReply, SaveYourself, SaveYourselfDone, SaveYourselfPhase2Request, SaveYourselfRequest, SetProperties, ShutdownCancelled}
 use Rattle.session_model.specs.declared.events.SessionEvent.{SessionEvent}
-use Rattle.session_model.specs.declared.events.SessionEvent.TheVariants.{Joined, Left, Operator, Ready, Said}
+use Rattle.session_model.specs.declared.events.SessionEvent.TheVariants.{Joined, Left, Operator, Ready, Said, Tick}
 use Rattle.session_model.specs.declared.phase.Phase.{Phase}
 use Rattle.session_model.specs.declared.phase.Phase.TheVariants.{Done, Dying, Unregistered}
 use Rattle.session_model.specs.Books.{book_forgetting, command_anyway, discarded, issue, opening_moves, raised, standing}
@@ -23,7 +23,7 @@ use Rattle.session_model.specs.Moves.{Began, Blamed, Cancelled, Cause, Closed, C
 use Rattle.session_model.specs.Phases.{is_bound, is_dying, is_first_saving, is_interacting, is_member, is_owing, is_saving, is_shutdown, is_unregistered, may_interact}
 use Rattle.session_model.specs.Reading.{Reading, client_of, reading, wanted_in}
 use Rattle.session_model.specs.Readings as of
-use Rattle.session_model.specs.Replies.{answered, called_off, depart, entry_respawn, forget, forget_one, forgotten, has_no_place, has_no_room, id_respawn, may_rejoin, may_wait, or_bad_state, ordered, refused, register, reply, resigned, respawn_moves, respawned, said, status_text, unless_dying, want_cancel}
+use Rattle.session_model.specs.Replies.{answered, called_off, depart, entry_respawn, forget, forget_one, forgotten, has_no_place, has_no_room, id_respawn, is_overdue, may_rejoin, may_wait, or_bad_state, ordered, refused, register, reply, resigned, respawn_moves, respawned, said, status_text, unless_dying, want_cancel, waited}
 use Rattle.session_model.specs.Tables.{entry_of, is_full}
 use Rattle.session_model.proofs.Level.{Good, good-plain}
 use Rattle.session_model.proofs.Ruled.{conns-rows}
@@ -213,6 +213,10 @@ answer-answered c m sequence frame h p g s =
     answer-to c (answered (reading h) (record { conn = c; message = m; sequence = sequence; frame = frame }) m p) (Outside (Said c m sequence frame) ▷ h)
     (to-answered (reading h) (record { conn = c; message = m; sequence = sequence; frame = frame }) m p refl)
 
+to-departs : (d : ℕ) (r : Reading) (conns : List ℕ) → AllTo d (flat_map (depart r) conns)
+to-departs d r [] = tt
+to-departs d r (c ∷ conns) = to-append d (depart r c) (flat_map (depart r) conns) (tt, to-respawned d r c) (to-departs d r conns)
+
 answer-unless : (c : ℕ) (m : XsmpMessage) (sequence : ℕ) (frame : List ℕ) (h : History) (p : Option Phase) → Good (Outside (Said c m sequence frame) ▷ h) → Steady (Outside (Said c m sequence frame) ▷ h)
     → Answer c (unless_dying (reading h) (record { conn = c; message = m; sequence = sequence; frame = frame }) p) (Outside (Said c m sequence frame) ▷ h)
 answer-unless c m sequence frame h (Some Dying) g s = answer-to c [] (Outside (Said c m sequence frame) ▷ h) tt
@@ -258,3 +262,5 @@ answer (Said c m sequence frame) d h f g s =
     (answer-said c m sequence frame h (good-outside (Said c m sequence frame) h g) (steady-step (Outside (Said c m sequence frame)) h tt s))
 answer (Left c) d h f g s = answer-to d (respawned (reading h) c) (Outside (Left c) ▷ h) (to-respawned d (reading h) c)
 answer (Operator order) d h f g s = answer-ordered d order h (good-outside (Operator order) h g) (steady-step (Outside (Operator order)) h tt s)
+answer (Tick milliseconds) d h f g s =
+    answer-to d (waited (reading h) milliseconds) (Outside (Tick milliseconds) ▷ h) (to-departs d (reading h) (filter (is_overdue (reading h) milliseconds) (of.registered h)))

@@ -2,14 +2,13 @@
 use Rattle.std.proofs.Common.{◌≡◌, ◌≢◌, refl, sym, ap, ◌∙◌, subst, ℕ, zero, suc, ◌+◌, ◌*◌, Bool, true, false, cond, not, ◌&&◌, ◌||◌, List, [], ◌∷◌, ◌++◌, length, eqb, arith}
 use Rattle.std.specs.Prelude.{Option, Some, None}
 use Rattle.std.proofs.lemmas.Bool.Decides.{nat_tests}
-use Rattle.checkpoint_records.specs.declared.records.Book.{Book}
 use Rattle.round_agreement.specs.Agreement.{is_nil}
 use Rattle.round_agreement.specs.declared.wanted.Wanted.{Wanted}
 use Rattle.restart_plan.specs.Restarts.{opening_restarts}
 use Rattle.session_model.specs.declared.events.SessionEvent.{SessionEvent}
-use Rattle.session_model.specs.declared.events.SessionEvent.TheVariants.{Joined, Left, Operator, Ready, Said}
+use Rattle.session_model.specs.declared.events.SessionEvent.TheVariants.{Joined, Left, Operator, Ready, Said, Tick}
 use Rattle.session_model.specs.Books.{issue, opening_moves, raised}
-use Rattle.session_model.specs.Moves.{Finished, History, Move, Opened, Outside, Restart, onto, tried_each, ◌▷◌}
+use Rattle.session_model.specs.Moves.{Finished, History, Move, Opened, Outside, Restart, onto, tried_each, ◌▷◌, Opening}
 use Rattle.session_model.specs.Reading.{reading}
 use Rattle.session_model.specs.Readings as of
 use Rattle.session_model.specs.Replies.{reply}
@@ -87,25 +86,25 @@ pub record Stood (h : History) : Type 0 where
 pub stood-taken : (event : SessionEvent) (h : History) → Stood h → Stood (taken event h)
 stood-taken event h s = record { good = good-taken event h s.good; steady = steady-taken event h s.good s.steady }
 
-stood-opened : (book : Book) → Stood (opened book)
-stood-opened book = record {
-  good = good-opened book;
-  steady = steady-onto (opening_moves book) (Opened book)
-      (go-need (opening_moves book) (Opened book)
+stood-opened : (opening : Opening) → Stood (opened opening)
+stood-opened opening = record {
+  good = good-opened opening;
+  steady = steady-onto (opening_moves opening.book) (Opened opening)
+      (go-need (opening_moves opening.book) (Opened opening)
       (record { comes = tt; needs = tt },
-      go-append (issue (raised book) book.pending) (tried_each Restart (opening_restarts book.entries)) _ (go-issue (raised book) book.pending _) (go-tried Restart (opening_restarts book.entries) _)))
-      (steady-opened book);
+      go-append (issue (raised opening.book) opening.book.pending) (tried_each Restart (opening_restarts opening.book.entries)) _ (go-issue (raised opening.book) opening.book.pending _) (go-tried Restart (opening_restarts opening.book.entries) _)))
+      (steady-opened opening);
 }
 
 stood-on : (events : List SessionEvent) (h : History) → Stood h → Stood (run h events)
 stood-on [] h s = s
 stood-on (event ∷ events) h s = stood-on events (taken event h) (stood-taken event h s)
 
-pub stood-run : (book : Book) (events : List SessionEvent) → Stood (run (opened book) events)
-stood-run book events = stood-on events (opened book) (stood-opened book)
+pub stood-run : (opening : Opening) (events : List SessionEvent) → Stood (run (opened opening) events)
+stood-run opening events = stood-on events (opened opening) (stood-opened opening)
 
 pub saves-are-of : SavesAreOfTheRound
-saves-are-of book events = (stood-run book events).steady.says
+saves-are-of opening events = (stood-run opening events).steady.says
 
 -- What passes a client
 
@@ -117,9 +116,9 @@ pub went-passed : (c : ℕ) (h g : History) → Went h g → IsPassed c h g
 went-passed c h g w = record { moves = w.moves; there = w.there; each = go-pass c w.moves h w.all }
 
 pub settling-passes : SettlingPasses
-settling-passes book events c event =
-    let h : History = run (opened book) events in
-    let s : Stood h = stood-run book events in
+settling-passes opening events c event =
+    let h : History = run (opened opening) events in
+    let s : Stood h = stood-run opening events in
     went-passed c (answered_to event h) (taken event h) (went-taken event h s.good s.steady)
 
 -- somebody else
@@ -143,6 +142,7 @@ is-other c (Joined d) n = not-next c
 is-other c (Ready d) n = not-next c
 is-other c (Left d) n = not-next c
 is-other c (Operator order) n = not-next c
+is-other c (Tick milliseconds) n = not-next c
 
 pub others-answered : (c : ℕ) (event : SessionEvent) (h : History) → is_of c event ≡ false → Good h → Steady h → IsPassed c h (answered_to event h)
 others-answered c event h n g s = record {
@@ -163,4 +163,4 @@ others-passed c event h n s =
     passed-both c h (answered_to event h) (taken event h) (others-answered c event h n s.good s.steady) (went-passed c (answered_to event h) (taken event h) (went-taken event h s.good s.steady))
 
 pub others-pass : OthersPass
-others-pass book events c event n = others-passed c event (run (opened book) events) n (stood-run book events)
+others-pass opening events c event n = others-passed c event (run (opened opening) events) n (stood-run opening events)

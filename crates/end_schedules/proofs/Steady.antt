@@ -8,7 +8,7 @@ use Rattle.xsmp_messages.specs.declared.message.XsmpMessage.{XsmpMessage}
 use Rattle.xsmp_messages.specs.declared.message.XsmpMessage.TheVariants.{Die, Interact, InteractDone, InteractRequest, RegisterClientReply, SaveComplete, SaveYourself, SaveYourselfDone, SaveYourselfPhase2, SaveYourselfPhase2Request, ShutdownCancelled}
 use Rattle.round_agreement.specs.declared.wanted.Wanted.{Wanted}
 use Rattle.session_model.specs.declared.events.SessionEvent.{SessionEvent}
-use Rattle.session_model.specs.declared.events.SessionEvent.TheVariants.{Joined, Left, Operator, Ready, Said}
+use Rattle.session_model.specs.declared.events.SessionEvent.TheVariants.{Joined, Left, Operator, Ready, Said, Tick}
 use Rattle.session_model.specs.declared.phase.Phase.{Phase}
 use Rattle.session_model.specs.declared.phase.Phase.TheVariants.{Asked, AskedTwo, Done, Dying, Idle, Interacting, InteractingTwo, Owing, Saving, SavingTwo, Unregistered, WantsTwo}
 use Rattle.session_model.specs.Moves.{Agreed, Began, Cancelled, Closed, Gave, History, Move, Opened, Outside, Over, Unset, onto, ◌▷◌}
@@ -141,6 +141,7 @@ owes-heard (Said d m sequence frame) h k e c =
     (owing-said (λ dialog. may_interact (of.wanted h) dialog) m (of.phase_of c h) (k e c))
 owes-heard (Left d) h k e c = owing-cond (eqb d c) (of.phase_of c h) None (k e c) refl
 owes-heard (Operator order) h k e c = k e c
+owes-heard (Tick milliseconds) h k e c = k e c
 
 owes-given : (d : ℕ) (m : XsmpMessage) (h : History) → NeedsGiven m h → NobodyOwes h → NobodyOwes (Gave d m ▷ h)
 owes-given d ShutdownCancelled h n k e c = absurd (differ e n)
@@ -250,6 +251,7 @@ says-heard (Said d m sequence frame) h k c w e a =
     k c w e (work-cond (eqb d c) (of.phase_of c h) (phase_said (λ dialog. may_interact (of.wanted h) dialog) m (of.phase_of c h)) (work-said (λ dialog. may_interact (of.wanted h) dialog) m (of.phase_of c h)) a)
 says-heard (Left d) h k c w e a = k c w e (work-cond (eqb d c) (of.phase_of c h) None (λ n. absurd (grind arith)) a)
 says-heard (Operator order) h k c w e a = k c w e a
+says-heard (Tick milliseconds) h k c w e a = k c w e a
 
 kept-save : (b : Bool) (save : Save) (w : Wanted) → IsOfRound save w → IsOfRound (cond b save save) w
 kept-save true save w k = k
@@ -288,8 +290,8 @@ pub steady-onto : (moves : List Move) (h : History) → AllNeed moves h → Stea
 steady-onto [] h n s = s
 steady-onto (m ∷ moves) h n s = steady-onto moves (m ▷ h) n.1 (steady-step m h n.0 s)
 
-pub steady-opened : (book : _) → Steady (Opened book)
-steady-opened book = record {
+pub steady-opened : (opening : _) → Steady (Opened opening)
+steady-opened opening = record {
   once_members = tt;
   nobody_owes = λ e c. refl;
   over = λ e. refl;

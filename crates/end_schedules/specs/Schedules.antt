@@ -1,11 +1,10 @@
 -- A manager and any number of clients, each with a queue each way, over every schedule.
 use Rattle.std.specs.Prelude.{Bool, List, None, Option, Some, [], cond, false, true, ℕ, ◌==◌, ◌∷◌, ◌≡◌}
 use Rattle.sm_world.specs.declared.events.Order.{Order}
-use Rattle.checkpoint_records.specs.declared.records.Book.{Book}
 use Rattle.interact_queue.specs.Queue.{is_in}
 use Rattle.xsmp_messages.specs.declared.message.XsmpMessage.{XsmpMessage}
-use Rattle.session_model.specs.declared.events.SessionEvent.TheVariants.{Joined, Left, Operator, Ready}
-use Rattle.session_model.specs.Moves.{History}
+use Rattle.session_model.specs.declared.events.SessionEvent.TheVariants.{Joined, Left, Operator, Ready, Tick}
+use Rattle.session_model.specs.Moves.{History, Opening}
 use Rattle.session_model.specs.Reading.{reading}
 use Rattle.session_model.specs.Readings as of
 use Rattle.session_model.specs.Rules as session
@@ -48,6 +47,8 @@ pub data Turn : Type 0 where
   -- a step of this client or of the manager towards it
   Steps : ℕ → Step → Turn
   Orders : Order → Turn
+  -- so many milliseconds pass
+  Waits : ℕ → Turn
   -- the connection breaks
   Breaks : ℕ → Turn
 
@@ -60,6 +61,7 @@ turn (Joins c) t = standing (session.taken (Joined c) t.history) t.ends
 turn (Begins c previous asked) t = standing (session.taken (Ready c) t.history) (with_end c (Some (end_of (begun c previous asked t.history))) t.ends)
 turn (Steps c s) t = stepped c s (t.ends c) t
 turn (Orders order) t = standing (session.taken (Operator order) t.history) t.ends
+turn (Waits milliseconds) t = standing (session.taken (Tick milliseconds) t.history) t.ends
 turn (Breaks c) t = standing (session.taken (Left c) t.history) (with_end c None t.ends)
 
 -- the client asks, the manager hears it, or it takes something
@@ -72,6 +74,7 @@ MayTurn (Joins c) t = session.Takes (Joined c) (reading t.history)
 MayTurn (Begins c previous asked) t = session.Takes (Ready c) (reading t.history)
 MayTurn (Steps c s) t = (is_own s ≡ true) × ((e : End) → t.ends c ≡ Some e → May c s (paired t.history e))
 MayTurn (Orders order) t = Unit {0}
+MayTurn (Waits milliseconds) t = Unit {0}
 MayTurn (Breaks c) t = session.Takes (Left c) (reading t.history)
 
 abbrev pub after_turns : List Turn → Company → Company
@@ -83,10 +86,10 @@ AllMayTurn [] t = Unit {0}
 AllMayTurn (x ∷ turns) t = MayTurn x t × AllMayTurn turns (turn x t)
 
 -- a manager over a book, with nobody there
-abbrev pub company_of : Book → Company
-company_of book = record { history = session.opened book; ends = λ c. None }
+abbrev pub company_of : Opening → Company
+company_of opening = record { history = session.opened opening; ends = λ c. None }
 
 -- this holds of the manager and each client that is there, after every schedule
 abbrev pub InEverySchedule : (ℕ → Pair → Type 0) → Type 0
 InEverySchedule Holds =
-    (book : Book) (turns : List Turn) → AllMayTurn turns (company_of book) → (c : ℕ) (e : End) → (after_turns turns (company_of book)).ends c ≡ Some e → Holds c (paired (after_turns turns (company_of book)).history e)
+    (opening : Opening) (turns : List Turn) → AllMayTurn turns (company_of opening) → (c : ℕ) (e : End) → (after_turns turns (company_of opening)).ends c ≡ Some e → Holds c (paired (after_turns turns (company_of opening)).history e)

@@ -25,7 +25,7 @@ save_after c m save = save
 
 -- the last save that c was asked for
 abbrev pub save_of : ℕ → History → Save
-save_of c (Opened book) = record { shutdown = false; style = Nothing }
+save_of c (Opened opening) = record { shutdown = false; style = Nothing }
 save_of c (m ▷ h) = save_after c m (save_of c h)
 
 abbrev pub sent_after : ℕ → Move → List XsmpMessage → List XsmpMessage
@@ -36,7 +36,7 @@ sent_after c m sent = sent
 
 -- all that c was sent since XSMP began on its connection, the oldest first
 abbrev pub sent_to : ℕ → History → List XsmpMessage
-sent_to c (Opened book) = []
+sent_to c (Opened opening) = []
 sent_to c (m ▷ h) = sent_after c m (sent_to c h)
 
 abbrev pub side_with : Option Phase → Save → Side
