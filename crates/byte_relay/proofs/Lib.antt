@@ -6,6 +6,5 @@ pub mod Framed
 pub mod Passed
 pub mod Shown
 pub mod Stepping
-pub mod Brought
 pub mod Running
 pub mod InOrder

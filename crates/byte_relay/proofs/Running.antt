@@ -14,11 +14,12 @@ use Rattle.ice_values.specs.declared.numbers.Endian.{Endian}
 use Rattle.byte_relay.specs.Relaying.{Line, Step, partner, stream_of, is_live, is_refused, parted, stays, greetings, joined, joining, shuts, Passed, passed, passing, is_fresh, piece_for, gone, step, is_end, run_from, run, has_end}
 use Rattle.ice_framing.specs.Parts.{new_parts}
 use Rattle.byte_relay.specs.Rows.{ShowAll}
-use Rattle.byte_relay.specs.Serving.{IsFront, Does, IsOfLinks, Relays, is_whole}
+use Rattle.byte_relay.specs.Serving.{Does, IsOfLinks, Relays, is_whole}
 use Rattle.byte_relay.specs.declared.fault.RelayFault.{RelayFault}
 use Rattle.byte_relay.specs.declared.fault.RelayFault.TheVariants.{LinkFault, Spent, NoMemory}
 use Rattle.byte_relay.specs.declared.row.Row.{Row}
-use Rattle.byte_relay.proofs.Brought.{BroughtSoFar, brought_none, brought_more, brought_is, length-more}
+use Rattle.heard_events.specs.Brought.{IsPrefix, BroughtSoFar}
+use Rattle.heard_events.proofs.Bringing.{brought_none, brought_more, brought_is, length-more}
 
 -- ---- what is done about an event isn't heard
 
@@ -68,7 +69,7 @@ no_front [] ds is = refl
 no_front (e ∷ es) ds is = absurd cc
 
 -- neither is part of it
-deaf_front : (to : Endian) (ls : List Line) (event : Event) (done : List Effect) → IsFront done (step to ls event).line → heard done ≡ []
+deaf_front : (to : Endian) (ls : List Line) (event : Event) (done : List Effect) → IsPrefix done (step to ls event).line → heard done ≡ []
 deaf_front to ls event done front = no_front (heard done) (heard front.0) (sym (heard_of done front.0) ∙ (ap heard front.1 ∙ deaf to ls event))
 
 -- ---- one event more
@@ -192,7 +193,7 @@ module _ (to : Endian) (old now : Outside) (n turns : ℕ) (rows : List Row) (l 
     run_all done quiet = ap (run to) (heard_all done quiet) ∙ (run_more to [] (heard l.effects) event l.unended ∙ ap (λ (es : List Effect). es ++ Heard event ∷ (step to lines event).line) (sym l.on_run))
 
     brought_all : (done : List Effect) → heard done ≡ [] → BroughtSoFar old.coming next.coming (heard (all done))
-    brought_all done quiet = subst (BroughtSoFar old.coming next.coming) (sym (heard_all done quiet)) (brought_more old.coming now.coming next.coming (heard l.effects) event l.brought takes)
+    brought_all done quiet = subst (BroughtSoFar old.coming next.coming) (sym (heard_all done quiet)) (brought_more RelayFault old.coming now.coming next.coming (heard l.effects) event l.brought takes)
 
     count_all : (done : List Effect) → heard done ≡ [] → length (heard (all done)) ≡ suc n
     count_all done quiet = ap length (heard_all done quiet) ∙ (length-more (heard l.effects) event ∙ ap suc l.count)

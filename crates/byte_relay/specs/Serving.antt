@@ -1,20 +1,17 @@
 -- What a relay does to the outside.
-use Rattle.std.specs.Prelude.{◌≡◌, ◌≤◌, ℕ, zero, suc, Bool, true, false, List, [], ◌∷◌, ◌++◌, length, drop, Option, Some, None, Result, Ok, Err, IfErr, IsErrOf, is_ok}
+use Rattle.std.specs.Prelude.{◌≡◌, ◌≤◌, ℕ, Bool, true, false, List, length, Option, Result, Ok, Err, IfErr, IsErrOf, is_ok}
 use Rattle.sm_world.specs.Effects.{heard}
-use Rattle.sm_world.specs.Events.{next_of}
 use Rattle.sm_world.specs.Outside.{Outside, Added, NotFallen, Rose}
 use Rattle.sm_world.specs.declared.effects.Effect.{Effect}
 use Rattle.sm_world.specs.declared.events.Event.{Event}
 use Rattle.sm_world.specs.declared.failures.Faults.{Faults}
 use Rattle.sm_world.specs.declared.failures.Failure.{Failure}
 use Rattle.sm_world.specs.declared.failures.Failure.TheVariants.{Failed, NoMemory as OutOfMemory}
+use Rattle.heard_events.specs.Brought.{IsPrefix, Brought}
 use Rattle.ice_values.specs.declared.numbers.Endian.{Endian}
 use Rattle.byte_relay.specs.Relaying.{run, has_end}
 use Rattle.byte_relay.specs.declared.fault.RelayFault.{RelayFault}
 use Rattle.byte_relay.specs.declared.fault.RelayFault.TheVariants.{LinkFault, Spent, NoMemory}
-
-abbrev pub IsFront : {A : Type 0} → List A → List A → Type 0
-IsFront {A} xs ys = (rest : List A) × (xs ++ rest ≡ ys)
 
 -- why a call on the links did nothing
 abbrev pub relay_fault_of : Failure → RelayFault
@@ -36,7 +33,7 @@ IsOfLinks NoMemory = Unit {0}
 -- these effects are all of these, or at a fault the first of them
 abbrev pub DoesOf : {A : Type 0} → List Effect → Result A RelayFault → List Effect → Type 0
 DoesOf all (Ok x) effects = effects ≡ all
-DoesOf all (Err fault) effects = IsFront effects all
+DoesOf all (Err fault) effects = IsPrefix effects all
 
 -- What a call that hears nothing does: of these effects all, or at a fault the first.
 pub record DoesIn {A : Type 0} (old new : Outside) (all : List Effect) (result : Result A RelayFault) : Type 0 where
@@ -57,20 +54,10 @@ is_whole (Err Spent) = true
 is_whole (Err LinkFault) = false
 is_whole (Err NoMemory) = false
 
--- the first n of the events to come, and End for each that isn't there
-abbrev pub next_events : ℕ → List Event → List Event
-next_events zero coming = []
-next_events (suc n) coming = next_of coming ∷ next_events n (drop 1 coming)
-
--- what was heard is the first of the events to come, where these are told
-abbrev pub Brought : Option (List Event) → List Event → Type 0
-Brought None events = Unit {0}
-Brought (Some coming) events = events ≡ next_events (length events) coming
-
 -- The effects of a relay, against the run for the events among them: each event is followed by all that is done about it before the next.
 pub record Relays (to : Endian) (turns : ℕ) (coming : Option (List Event)) (answer : Result (Unit {0}) RelayFault) (effects : List Effect) : Type 0 where
   -- what was done is the front of the run
-  pub on_run : IsFront effects (run to (heard effects))
+  pub on_run : IsPrefix effects (run to (heard effects))
   -- and all of it, where no fault cut it short
   pub all_done : is_whole answer ≡ true → effects ≡ run to (heard effects)
   -- it is Ok exactly where End was heard

@@ -5,7 +5,7 @@ ghost use Rattle.ice_values.specs.declared.numbers.Endian.{Endian as AnyEndian};
 ghost use Rattle.ice_framing.specs.Parts.{Whole};
 ghost use Rattle.ice_framing.specs.declared.cutting.WholeFrame.{WholeFrame};
 ghost use Rattle.byte_relay.specs.Relaying.{passed};
-ghost use Rattle.byte_relay.specs.Serving.{IsFront};
+ghost use Rattle.heard_events.specs.Brought.{IsPrefix};
 ghost use Rattle.byte_relay.specs.Respelling.{respelled, IsUnspelled, ReadsTurned};
 
 /// Does nothing: its contract is a law of `respell`. What was respelled is read in its own order as what
@@ -24,5 +24,5 @@ pub fn unspelled_frames_are_refused()
 /// Does nothing: its contract is a law of `serve_relay`. What is passed on of some later frames of a
 /// stream is the front of these frames as they are in the other order: one for each, in their order.
 pub fn messages_are_passed_on_in_their_order()
-    ensures { (to : AnyEndian) (frames : List WholeFrame) → IsFront (map Some (passed to false (map Whole frames)).messages) (map (λ frame. respelled frame.endian to frame.bytes) frames) }
+    ensures { (to : AnyEndian) (frames : List WholeFrame) → IsPrefix (map Some (passed to false (map Whole frames)).messages) (map (λ frame. respelled frame.endian to frame.bytes) frames) }
 {}

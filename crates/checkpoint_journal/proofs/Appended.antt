@@ -25,11 +25,11 @@ use Rattle.checkpoint_slots.specs.declared.turn.Current.{Current}
 use Rattle.checkpoint_slots.proofs.Bodies.{body-length}
 use Rattle.checkpoint_slots.proofs.Turning.{put-store}
 use Rattle.checkpoint_journal.specs.Journal.{Appends, Compacted, Compacts, append_puts, behind, body_puts, size_of}
-use Rattle.checkpoint_journal.specs.Writing.{ArePut, PutsAll, all_put, bytes_in}
+use Rattle.checkpoint_journal.specs.Writing.{AreCut, PutsAll, all_put, bytes_in}
 use Rattle.checkpoint_journal.proofs.Appending.{behind-stands, behind-swap, gate-stands, gate-swap}
 use Rattle.checkpoint_journal.proofs.Growing.{behind-size}
 use Rattle.checkpoint_journal.proofs.Swapping.{opened_in-append, store_both, swap_both}
-use Rattle.checkpoint_journal.proofs.Written.{are-put, puts-bytes, puts-last, puts-then}
+use Rattle.checkpoint_journal.proofs.Written.{ArePut, are-put, cut-are, puts-bytes, puts-last, puts-then}
 
 puts-store : (puts : List (ℕ × List ℕ)) (added : List Effect) → ArePut puts added → AllByRecursion IsOfStore added
 puts-store [] added is = subst (λ (es : List Effect). AllByRecursion IsOfStore es) (sym is) tt
@@ -48,7 +48,7 @@ swap-none current first effects book next stands (suc n) within file image = inl
 
 pub appends-none : (current : Option Current) (delta : List Change) (fault : StoreFault) → IsSpellFault (next_generation current) fault → Appends current delta (Err (Some current, fault)) []
 appends-none current delta fault cause = record {
-  puts = λ end e. inl nothing;
+  puts = λ end e. inl (nothing, λ same. cc);
   store = tt;
   swap = λ first effects book next stands amended. swap-none current first effects book next stands;
   turn = λ first effects book next stands amended. tt;
@@ -60,7 +60,7 @@ appends-none current delta fault cause = record {
 
 pub compacts-none : (current : Option Current) (book : Book) (fault : StoreFault) → IsSpellFault (next_generation current) fault → Compacts current book (Err (Some current, fault)) []
 compacts-none current book fault cause = record {
-  puts = inl nothing;
+  puts = inl (nothing, λ same. cc);
   store = tt;
   swap = λ first effects old stands. swap-none current first effects old book stands;
   turn = λ first effects old stands. tt;
@@ -109,9 +109,9 @@ module _ (current : Current) (gate : ℕ) (ends : current.end ≡ Some gate) (de
         why_not = tt;
       }
 
-  appends-failed : (added : List Effect) → ArePut (append_puts gate delta) added → Appends (Some current) delta (Err (None, DiskFault)) added
-  appends-failed added are = record {
-    puts = λ end e. subst (λ (k : ℕ). ArePut (append_puts k delta) added) (the-gate end e) are;
+  appends-failed : (added : List Effect) → AreCut (append_puts gate delta) added → Appends (Some current) delta (Err (None, DiskFault)) added
+  appends-failed added cut = let are : ArePut (append_puts gate delta) added = cut-are (append_puts gate delta) added cut in record {
+    puts = λ end e. subst (λ (k : ℕ). AreCut (append_puts k delta) added) (the-gate end e) cut;
     store = puts-store (append_puts gate delta) added are;
     swap = append-swap added are;
     turn = λ first effects book next stands amended. tt;
@@ -133,10 +133,10 @@ appends-done (Some current) moved gate delta tail added room ends is to puts =
     subst (λ (m : Option Current). Appends (Some current) delta (Ok m) added) (sym to)
     (appends-some current gate ends delta (room-at current gate (size_of delta) ends room) added (puts ∙ ap (λ (xs : List ℕ). all_put (BehindPuts gate xs)) is))
 
-pub appends-not : (current : Option Current) (gate : ℕ) (delta : List Change) (tail : List ℕ) (added : List Effect) → HasRoomFor current (size_of delta) → end_in current ≡ Some gate → tail ≡ behind delta → ArePut (BehindPuts gate tail) added → Appends current delta (Err (None, DiskFault)) added
+pub appends-not : (current : Option Current) (gate : ℕ) (delta : List Change) (tail : List ℕ) (added : List Effect) → HasRoomFor current (size_of delta) → end_in current ≡ Some gate → tail ≡ behind delta → AreCut (BehindPuts gate tail) added → Appends current delta (Err (None, DiskFault)) added
 appends-not None gate delta tail added room ends is puts = absurd room
 appends-not (Some current) gate delta tail added room ends is puts =
-    appends-failed current gate ends delta (room-at current gate (size_of delta) ends room) added (subst (λ (xs : List ℕ). ArePut (BehindPuts gate xs) added) is puts)
+    appends-failed current gate ends delta (room-at current gate (size_of delta) ends room) added (subst (λ (xs : List ℕ). AreCut (BehindPuts gate xs) added) is puts)
 
 -- a slot has room for what fits
 pub gate-room : (current : Option Current) (gate m : ℕ) → HasRoomFor current m → end_in current ≡ Some gate → gate + 9 + m ≤ 16777280
@@ -150,7 +150,7 @@ gate-room (Some current) gate m room ends = let r = room-at current gate m ends 
 
 pub compacted-unclosed : (current : Option Current) (body : List ℕ) (fault : StoreFault) (cs : List Effect) → Closes current (Err fault) cs → Compacted current body (Err fault) cs
 compacted-unclosed current body fault cs closes = record {
-  puts = inl closes.puts.0;
+  puts = inl closes.puts;
   store = closes.store;
   swap = λ first effects old book stands is e. closes.swap first effects old book stands;
   turn = λ first effects old book stands is e. tt;
@@ -163,7 +163,7 @@ compacted-unfilled current closed body fault cs fs same closing filling =
     let closes : Closes current (Ok current) cs = subst (λ (x : Option Current). Closes current (Ok x) cs) same closing in
     let fills : Fills current body (Err fault) fs = subst (λ (x : Option Current). Fills x body (Err fault) fs) same filling in
     record {
-      puts = puts-then {A = Option Current} {B = Option Current} {F = StoreFault} StoreFault (gate_at (target current)) (0 ∷ []) current ((start_of (target current), body) ∷ (gate_at (target current), 165 ∷ []) ∷ []) (Err fault) cs fs closes.puts (inl fills.puts.0);
+      puts = puts-then {A = Option Current} {B = Option Current} {F = StoreFault} StoreFault (gate_at (target current)) (0 ∷ []) current ((start_of (target current), body) ∷ (gate_at (target current), 165 ∷ []) ∷ []) (Err fault) cs fs closes.puts (inl fills.puts);
       store = store_both cs fs closes.store fills.store;
       swap = λ first effects old book stands is e. swap_both first effects cs fs old book (closes.swap first effects old book stands) (fills.swap first (effects ++ cs) old book (closes.turn first effects old stands) is e);
       turn = λ first effects old book stands is e. tt;
@@ -223,13 +223,13 @@ module _ (current steady : Option Current) (body : List ℕ) (book : Book) (same
   compacts-not fault added failed did =
       let c : Compacted current body (Err fault) added = subst (λ (x : Option Current). Compacted x body (Err fault) added) same did in
       record {
-        puts = subst (λ (bytes : List ℕ). ArePut (body_puts current bytes) added) spelled c.puts;
+        puts = subst (λ (bytes : List ℕ). AreCut (body_puts current bytes) added) spelled c.puts;
         store = c.store;
         swap = λ first effects old stands. c.swap first effects old book stands is spelled;
         turn = λ first effects old stands. tt;
         next = tt;
         opens = tt;
-        bytes = compact-bytes added c.puts;
+        bytes = compact-bytes added (cut-are (body_puts current body) added c.puts);
         why_not = failed;
       }
 

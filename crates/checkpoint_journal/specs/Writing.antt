@@ -1,5 +1,5 @@
 -- What a call of the journal writes.
-use Rattle.std.specs.Prelude.{Err, List, Ok, Result, [], length, ℕ, ◌++◌, ◌+◌, ◌≡◌, ◌∷◌, ◌⊎◌}
+use Rattle.std.specs.Prelude.{Err, List, Ok, Result, [], length, ℕ, ◌++◌, ◌+◌, ◌≡◌, ◌≢◌, ◌∷◌, ◌⊎◌}
 use Rattle.sm_world.specs.declared.effects.Effect.{Effect}
 use Rattle.sm_world.specs.declared.effects.Effect.TheVariants.{Heard, Printed, Published, Sent, Shut, Started, SyncFailed, Synced, Torn, Wrote}
 use Rattle.checkpoint_slots.specs.Turns.{IsPut}
@@ -9,15 +9,15 @@ abbrev pub all_put : List (ℕ × List ℕ) → List Effect
 all_put [] = []
 all_put (put ∷ puts) = Wrote put.0 put.1 ∷ Synced ∷ all_put puts
 
--- The puts as far as they came. None begins before those in front of it were done.
-abbrev pub ArePut : List (ℕ × List ℕ) → List Effect → Type 0
-ArePut [] added = added ≡ []
-ArePut (put ∷ puts) added = IsPut put.0 put.1 added ⊎ ((more : List Effect) × ArePut puts more × (added ≡ Wrote put.0 put.1 ∷ Synced ∷ more))
+-- The puts as far as they came, and not all of them. None begins before those in front of it were done.
+abbrev pub AreCut : List (ℕ × List ℕ) → List Effect → Type 0
+AreCut [] added = ⊥
+AreCut (put ∷ puts) added = (IsPut put.0 put.1 added × (added ≢ Wrote put.0 put.1 ∷ Synced ∷ [])) ⊎ ((more : List Effect) × AreCut puts more × (added ≡ Wrote put.0 put.1 ∷ Synced ∷ more))
 
--- at Ok all of the puts, and else some
+-- at Ok all of the puts, and else not all
 abbrev pub PutsAll : {A E : Type 0} → List (ℕ × List ℕ) → Result A E → List Effect → Type 0
 PutsAll puts (Ok x) added = added ≡ all_put puts
-PutsAll puts (Err e) added = ArePut puts added
+PutsAll puts (Err e) added = AreCut puts added
 
 abbrev pub bytes_by : Effect → ℕ
 bytes_by (Heard event) = 0

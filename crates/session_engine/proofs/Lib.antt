@@ -13,7 +13,6 @@ pub mod Events
 pub mod Limits
 pub mod Running
 pub mod Opening
-pub mod Brought
 pub mod Sessions
 pub mod Settling
 pub mod Pieces

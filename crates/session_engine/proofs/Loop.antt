@@ -39,7 +39,8 @@ use Rattle.session_engine.specs.declared.session.Session.{Session}
 use Rattle.session_engine.specs.declared.session.Stepped.{Stepped}
 use Rattle.session_engine.specs.declared.session.Stepped.TheVariants.{Goes, Finished}
 use Rattle.session_engine.proofs.Adding.{never_spent}
-use Rattle.session_engine.proofs.Brought.{BroughtSoFar, brought_is, brought_more, brought_none, brought_nothing, length-more}
+use Rattle.heard_events.specs.Brought.{BroughtSoFar}
+use Rattle.heard_events.proofs.Bringing.{brought_is, brought_more, brought_none, brought_nothing, length-more}
 use Rattle.session_engine.proofs.Performing.{err_map}
 use Rattle.session_engine.proofs.Settling.{is_ready, settle_none}
 use Rattle.session_engine.proofs.Running.{after_all-more, heard-more, none_is_heard}
@@ -172,7 +173,7 @@ loop_goes_on cookie n more old now between later session next event is_more held
         holds = record {
           stands = step.holds.1;
           count = ap length is_heard ∙ (length-more (heard es) event ∙ (ap suc held.adds.holds.count ∙ sym is_more));
-          brought = rw (is_heard, same) (brought_more old.coming now.coming between.coming (heard es) event held.adds.holds.brought takes);
+          brought = rw (is_heard, same) (brought_more Halt old.coming now.coming between.coming (heard es) event held.adds.holds.brought takes);
         };
       };
     }
@@ -195,7 +196,7 @@ loop_ends cookie turns n old now between later session event stepped marks is in
         added = heard_step old.told now.told between.told later.told es step.effects event held.adds.added was_heard step.added;
         holds = record {
           runs = step.holds.1.0;
-          brought = rw is_heard (brought_is old.coming between.coming (heard es ++ event ∷ []) (brought_more old.coming now.coming between.coming (heard es) event held.adds.holds.brought takes));
+          brought = rw is_heard (brought_is old.coming between.coming (heard es ++ event ∷ []) (brought_more Halt old.coming now.coming between.coming (heard es) event held.adds.holds.brought takes));
           in_turns = omega (arith, ap length is_heard, length-more (heard es) event, held.adds.holds.count);
           spent = λ e. absurd (ok_is_no_fault Spent e);
         };
@@ -219,7 +220,7 @@ loop_cut_short cookie turns n old now between later session event fault in_turns
         added = heard_step old.told now.told between.told later.told es step.effects event held.adds.added was_heard step.added;
         holds = record {
           runs = step.holds.1.runs;
-          brought = rw is_heard (brought_is old.coming between.coming (heard es ++ event ∷ []) (brought_more old.coming now.coming between.coming (heard es) event held.adds.holds.brought takes));
+          brought = rw is_heard (brought_is old.coming between.coming (heard es ++ event ∷ []) (brought_more Halt old.coming now.coming between.coming (heard es) event held.adds.holds.brought takes));
           in_turns = omega (arith, ap length is_heard, length-more (heard es) event, held.adds.holds.count);
           spent = λ e. absurd (step.holds.1.in_time (the_fault fault Spent e));
         };

@@ -12,7 +12,8 @@ use Rattle.session_engine.specs.Acts.{deeds_in, deed_in, has_finish}
 use Rattle.session_engine.specs.Machine.{Machine, Item, Came, Did, acts_of, opening_acts as opening_acts_of, start as start_with, step, after_all, script_from, run_from}
 use Rattle.session_engine.specs.declared.acts.Act.{Act}
 use Rattle.session_engine.specs.declared.acts.Act.TheVariants.{Say, Shut, Start, Commit, Print, Finish}
-use Rattle.session_engine.specs.Carries.{IsPrefix, IsOnScript as IsOnScriptOf, script as script_with, run as run_with}
+use Rattle.heard_events.specs.Brought.{IsPrefix}
+use Rattle.session_engine.specs.Carries.{IsOnScript as IsOnScriptOf, script as script_with, run as run_with}
 use Rattle.session_engine.specs.Doing.{Going, CarriesOut, items, item_of}
 use Rattle.checkpoint_records.specs.declared.records.Book.{Book}
 use Rattle.ice_cookie.specs.declared.cookies.Cookie.{Cookie}

@@ -1,13 +1,13 @@
 -- What a run does to the outside: the list of its effects against the script of what it heard.
-use Rattle.std.specs.Prelude.{◌≡◌, ◌≢◌, ◌≤◌, ◌<◌, ◌⊎◌, ℕ, zero, suc, Bool, true, false, List, [], ◌∷◌, ◌++◌, length, take, drop, Option, Some, None, Result, Ok, Err, IsOk, IsErrOf, IfErr}
+use Rattle.std.specs.Prelude.{◌≡◌, ◌≢◌, ◌≤◌, ◌<◌, ◌⊎◌, ℕ, Bool, true, false, List, [], ◌∷◌, ◌++◌, length, take, drop, Option, Result, Ok, Err, IsOk, IsErrOf, IfErr}
 use Rattle.sm_world.specs.Crash.{Image}
 use Rattle.sm_world.specs.Disk.{KeepsToldSize}
 use Rattle.sm_world.specs.Effects.{heard, deeds, published}
-use Rattle.sm_world.specs.Events.{next_of}
 use Rattle.sm_world.specs.Outside.{Outside, Added}
 use Rattle.sm_world.specs.declared.effects.Effect.{Effect}
 use Rattle.sm_world.specs.declared.effects.Effect.TheVariants.{Heard}
 use Rattle.sm_world.specs.declared.events.Event.{Event}
+use Rattle.heard_events.specs.Brought.{IsPrefix, Brought}
 use Rattle.checkpoint_records.specs.Rules.{KeepsRules}
 use Rattle.checkpoint_records.specs.declared.records.Book.{Book}
 use Rattle.checkpoint_slots.specs.Causes.{IsSettled}
@@ -27,9 +27,6 @@ use Rattle.session_engine.specs.declared.acts.Act.{Act}
 use Rattle.session_engine.specs.declared.fault.ServeFault.{ServeFault}
 use Rattle.session_engine.specs.declared.fault.ServeFault.TheVariants.{Damaged, WrongSize, DiskFault, LinkFault, ConsoleFault, Worn, Spent, NoMemory}
 
-abbrev pub IsPrefix : {A : Type 0} → List A → List A → Type 0
-IsPrefix {A} xs ys = (rest : List A) × (xs ++ rest ≡ ys)
-
 -- a run that wasn't cut short by a fault
 abbrev pub is_whole : Result (Unit {0}) ServeFault → Bool
 is_whole (Ok x) = true
@@ -41,16 +38,6 @@ is_whole (Err LinkFault) = false
 is_whole (Err ConsoleFault) = false
 is_whole (Err Worn) = false
 is_whole (Err NoMemory) = false
-
--- the first n of the events to come, and End for each that isn't there
-abbrev pub next_events : ℕ → List Event → List Event
-next_events zero coming = []
-next_events (suc n) coming = next_of coming ∷ next_events n (drop 1 coming)
-
--- what was heard is the first of the events to come, where these are told
-abbrev pub Brought : Option (List Event) → List Event → Type 0
-Brought None events = Unit {0}
-Brought (Some coming) events = events ≡ next_events (length events) coming
 
 -- All that follows is said of a session with this cookie that opens this book.
 module _ (cookie : Cookie) (opening : Book) where

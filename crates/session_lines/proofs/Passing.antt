@@ -11,7 +11,8 @@ use Rattle.sm_world.specs.declared.events.Event.{Event}
 use Rattle.ice_cookie.specs.declared.cookies.Cookie.{Cookie}
 use Rattle.checkpoint_records.specs.declared.records.Book.{Book}
 use Rattle.session_engine.specs.Acts.{deed_in, deeds_in, has_finish}
-use Rattle.session_engine.specs.Carries.{IsOnScript, IsPrefix, Opens, Serves}
+use Rattle.heard_events.specs.Brought.{IsPrefix}
+use Rattle.session_engine.specs.Carries.{IsOnScript, Opens, Serves}
 use Rattle.session_engine.specs.Machine.{Machine, after_all, opening_acts, script_of, start, step}
 use Rattle.session_engine.specs.Session.{Serving}
 use Rattle.session_engine.specs.declared.acts.Act.{Act}

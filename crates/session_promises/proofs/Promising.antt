@@ -8,7 +8,8 @@ use Rattle.checkpoint_slots.specs.Causes.{IsSettled}
 use Rattle.checkpoint_slots.specs.Recovery.{Recovers}
 use Rattle.ice_cookie.specs.declared.cookies.Cookie.{Cookie}
 use Rattle.program_frame.specs.Printing.{Tries}
-use Rattle.session_engine.specs.Carries.{IsPrefix, KeepsItsWord}
+use Rattle.heard_events.specs.Brought.{IsPrefix}
+use Rattle.session_engine.specs.Carries.{KeepsItsWord}
 use Rattle.session_engine.specs.declared.fault.ServeFault.{ServeFault}
 use Rattle.session_engine.specs.declared.fault.ServeFault.TheVariants.{NoMemory}
 use Rattle.session_engine.proofs.Loop.{keeps_word}

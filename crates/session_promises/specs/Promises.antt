@@ -8,7 +8,7 @@ use Rattle.checkpoint_slots.specs.Causes.{IsSettled}
 use Rattle.checkpoint_slots.specs.Recovery.{Recovers}
 use Rattle.ice_cookie.specs.declared.cookies.Cookie.{Cookie}
 use Rattle.program_frame.specs.Printing.{Tries}
-use Rattle.session_engine.specs.Carries.{IsPrefix}
+use Rattle.heard_events.specs.Brought.{IsPrefix}
 use Rattle.session_lines.specs.Files.{IsSafe}
 use Rattle.session_lines.specs.Runs.{IsAlwaysLawful}
 use Rattle.smd_app.specs.Sessions.{announcing, handing_out}

@@ -6,7 +6,7 @@ use Rattle.std.proofs.lemmas.Bool.{cases_lt, false≢true}
 use Rattle.sm_world.specs.declared.events.Event.{Event}
 use Rattle.sm_world.specs.declared.events.Event.TheVariants.{End}
 use Rattle.checkpoint_records.specs.Books.{empty_book}
-use Rattle.session_engine.specs.Carries.{next_events}
+use Rattle.heard_events.specs.Brought.{next_events}
 use Rattle.session_engine.specs.Acts.{deeds_in, has_finish}
 use Rattle.session_engine.specs.Machine.{Machine, Came, Did, Item, acts_of, opening_acts, start as start_with, step, script_from, run_from}
 use Rattle.session_engine.specs.declared.acts.Act.{Act}

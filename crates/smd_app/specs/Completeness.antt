@@ -15,7 +15,8 @@ use Rattle.checkpoint_slots.specs.declared.turn.Current.{Current}
 use Rattle.program_frame.specs.Programs.{line_by}
 use Rattle.program_frame.specs.Printing.{Tries}
 use Rattle.session_engine.specs.Acts.{commits_in, deeds_in, has_finish}
-use Rattle.session_engine.specs.Carries.{Brought, script}
+use Rattle.heard_events.specs.Brought.{Brought}
+use Rattle.session_engine.specs.Carries.{script}
 use Rattle.smd_app.specs.Exercises.{exercise_events}
 use Rattle.smd_app.specs.FaultLines.{fault_line}
 use Rattle.smd_app.specs.Rehearsals.{script_of, ends_within, Finishes, Outlasts, whole_trace, first_trace}

@@ -1,15 +1,9 @@
--- What a relay was brought, and what is still to come.
+-- What a run was brought, event by event.
 use Rattle.std.proofs.Common.{◌≡◌, ℕ, zero, suc, List, [], ◌∷◌, ◌++◌, length, drop, Option, Some, None, Ok, refl, sym, ◌∙◌, ap, arith, length-append}
 use Rattle.sm_world.specs.Events.{next_of}
 use Rattle.sm_world.specs.Outside.{TakesNext}
 use Rattle.sm_world.specs.declared.events.Event.{Event}
-use Rattle.byte_relay.specs.Serving.{Brought, next_events}
-use Rattle.byte_relay.specs.declared.fault.RelayFault.{RelayFault}
-
--- these events are the first of those to come, and the others are left
-abbrev pub BroughtSoFar : Option (List Event) → Option (List Event) → List Event → Type 0
-BroughtSoFar None left events = left ≡ None
-BroughtSoFar (Some coming) left events = (events ≡ next_events (length events) coming) × (left ≡ Some (drop (length events) coming))
+use Rattle.heard_events.specs.Brought.{Brought, BroughtSoFar, next_events}
 
 drop_none : {A : Type 0} (n : ℕ) → ◌≡◌ {A = List A} (drop n []) []
 drop_none zero = refl
@@ -38,9 +32,9 @@ next_events-more (suc n) coming =
 pub length-more : (events : List Event) (event : Event) → length (events ++ event ∷ []) ≡ suc (length events)
 length-more events event = omega (arith, length-append events (event ∷ []))
 
-pub brought_more : (coming left after : Option (List Event)) (events : List Event) (event : Event) → BroughtSoFar coming left events → TakesNext {E = RelayFault} left after (Ok event) → BroughtSoFar coming after (events ++ event ∷ [])
-brought_more None left after events event brought takes = rw brought at takes
-brought_more (Some coming) left after events event brought takes =
+pub brought_more : (E : Type 0) (coming left after : Option (List Event)) (events : List Event) (event : Event) → BroughtSoFar coming left events → TakesNext {E = E} left after (Ok event) → BroughtSoFar coming after (events ++ event ∷ [])
+brought_more E None left after events event brought takes = rw brought at takes
+brought_more E (Some coming) left after events event brought takes =
     let takes_next : (event ≡ next_of (drop (length events) coming)) × (after ≡ Some (drop 1 (drop (length events) coming))) = rw brought.1 at takes in
     rw (length-more events event) (
       ap (λ es. es ++ event ∷ []) brought.0 ∙ (ap (λ e. next_events (length events) coming ++ e ∷ []) takes_next.0 ∙ sym (next_events-more (length events) coming)),
@@ -51,3 +45,7 @@ brought_more (Some coming) left after events event brought takes =
 pub brought_is : (coming left : Option (List Event)) (events : List Event) → BroughtSoFar coming left events → Brought coming events
 brought_is None left events brought = tt
 brought_is (Some coming) left events brought = brought.0
+
+pub brought_nothing : (coming : Option (List Event)) → Brought coming []
+brought_nothing None = tt
+brought_nothing (Some coming) = refl
