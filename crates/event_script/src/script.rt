@@ -63,11 +63,7 @@ fn take_line(
 }
 
 /// The events that the lines of a script say.
-pub fn read_script(
-    alloc: Global,
-    script: &[u8],
-    taken: Taken,
-) -> Result<EventList, ScriptFault>
+pub fn read_script(alloc: Global, script: &[u8], taken: Taken) -> Result<EventList, ScriptFault>
     ensures says { IfOk result (ScriptSays taken script.now) }
     ensures sized { IfOk result (AllByRecursion HasPieceSize) }
     ensures bad { IfErr result (IsScriptFault taken script.now) }

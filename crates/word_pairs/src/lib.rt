@@ -3,4 +3,4 @@
 
 mod words;
 
-pub use words::{is_word, path_of, value_of};
+pub use words::{is_word, path_of, value_of, word_at};

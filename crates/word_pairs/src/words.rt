@@ -6,7 +6,7 @@ ghost use Rattle.word_pairs.specs.Words.{IsPath, HasPath, pairs_of, value_in};
 const PATH_LIMIT: usize = 4096;
 
 /// One of the words.
-fn word_at(words: &[String], at: usize) -> &str
+pub fn word_at(words: &[String], at: usize) -> &str
     requires { at < length words.now }
     ensures { result.now ≡ get_or (map string_bytes words.now) at [] }
 {

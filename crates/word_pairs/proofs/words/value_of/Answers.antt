@@ -1,4 +1,4 @@
-use Rattle.std.proofs.Common.{arith, map, string_bytes, sym, ◌∙◌, ap, Some, ◌≡◌, ◌≤◌, ◌+◌, length}
+use Rattle.std.proofs.Common.{arith, map, string_bytes, sym, ◌∙◌, ap, Some, ◌≤◌, ◌+◌, length}
 use Rattle.std.proofs.lemmas.List.{length-map}
 use Rattle.word_pairs.proofs.Pairing.{found_here, found_later, none_left}
 use Rattle.word_pairs.proofs.words.value_of.Goals as goal
