@@ -8,3 +8,4 @@ pub mod Shown
 pub mod Stepping
 pub mod Running
 pub mod InOrder
+pub mod Stating

@@ -1,9 +1,12 @@
-ghost use Rattle.std.specs.Prelude.{◌≡◌, ◌↔◌, false, List, ℕ, length, map, Some, None};
+ghost use Rattle.std.specs.Prelude.{◌≡◌, ◌↔◌, IsTrue, false, List, ℕ, length, map, Some, None};
 ghost use Rattle.ice_values.specs.Frames.{IsFrame};
 ghost use Rattle.ice_values.specs.Reading.{IsBytes};
 ghost use Rattle.ice_values.specs.declared.numbers.Endian.{Endian as AnyEndian};
 ghost use Rattle.ice_framing.specs.Parts.{Whole};
 ghost use Rattle.ice_framing.specs.declared.cutting.WholeFrame.{WholeFrame};
+ghost use Rattle.ice_messages.specs.Messages.{Spells};
+ghost use Rattle.ice_messages.specs.declared.message.IceMessage.TheVariants.{ByteOrder};
+ghost use Rattle.byte_relay.specs.Orders.{is_byte_order};
 ghost use Rattle.byte_relay.specs.Relaying.{passed};
 ghost use Rattle.heard_events.specs.Brought.{IsPrefix};
 ghost use Rattle.byte_relay.specs.Respelling.{respelled, IsUnspelled, ReadsTurned};
@@ -25,4 +28,10 @@ pub fn unspelled_frames_are_refused()
 /// stream is the front of these frames as they are in the other order: one for each, in their order.
 pub fn messages_are_passed_on_in_their_order()
     ensures { (to : AnyEndian) (frames : List WholeFrame) → IsPrefix (map Some (passed to false (map Whole frames)).messages) (map (λ frame. respelled frame.endian to frame.bytes) frames) }
+{}
+
+/// Does nothing: its contract is a law of `serve_relay`. What is taken for a ByteOrder is exactly what
+/// spells one.
+pub fn byte_orders_are_told_by_their_bytes()
+    ensures { (e : AnyEndian) (frame : List ℕ) → IsFrame e frame → IsBytes frame → IsTrue (is_byte_order e frame) ↔ ((order : AnyEndian) × Spells e (ByteOrder order) frame) }
 {}

@@ -1,0 +1,6 @@
+//! Words of a command line that stand in pairs, a name and its value each.
+#![tactic(auto)]
+
+mod words;
+
+pub use words::{is_word, path_of, value_of, word_at};
