@@ -2,7 +2,6 @@
 use Rattle.std.proofs.Common.{◌≡◌, ◌≢◌, refl, sym, ap, ◌∙◌, subst, ℕ, Bool, true, false, cond, List, [], ◌∷◌, ◌++◌, eqb, arith}
 use Rattle.std.specs.Prelude.{Option, Some, None, is_some}
 use Rattle.std.proofs.lemmas.Bool.Decides.{nat_tests}
-use Rattle.checkpoint_records.specs.declared.records.Book.{Book}
 use Rattle.interact_queue.specs.Queue.{is_in}
 use Rattle.xsmp_messages.specs.declared.message.XsmpMessage.{XsmpMessage}
 use Rattle.session_model.specs.declared.events.SessionEvent.{SessionEvent}
@@ -135,11 +134,14 @@ together-after : (turns : List Turn) (t : Company) → AllMayTurn turns t → To
 together-after [] t m k = k
 together-after (x ∷ turns) t m k = together-after turns (turn x t) m.1 (together-turn x t m.0 k)
 
-together-begun : (book : Book) → Together (company_of book)
-together-begun book = record { stood = stood-run book []; each = λ c e q. absurd cc }
+together-begun : (h : History) → Stood h → Together (company_of h)
+together-begun h s = record { stood = s; each = λ c e q. absurd cc }
+
+there-after : (h : History) (turns : List Turn) (c : ℕ) (e : End) → Stood h → AllMayTurn turns (company_of h) → (after_turns turns (company_of h)).ends c ≡ Some e → KeepsAll c (paired (after_turns turns (company_of h)).history e)
+there-after h turns c e s m q =
+    let t : Company = after_turns turns (company_of h) in
+    let k : There c e t.history = (together-after turns (company_of h) m (together-begun h s)).each c e q in
+    keeps-all c (paired t.history e) k.live k.keeps
 
 pub all-agree : AllEndsAgree
-all-agree book turns m c e q =
-    let t : Company = after_turns turns (company_of book) in
-    let k : There c e t.history = (together-after turns (company_of book) m (together-begun book)).each c e q in
-    keeps-all c (paired t.history e) k.live k.keeps
+all-agree book events turns m c e q = there-after _ turns c e (stood-run book events) m q

@@ -6,7 +6,6 @@ use Rattle.std.proofs.lemmas.Bool.Decides.{nat_tests}
 use Rattle.ice_values.specs.Fields.{ErrorFields}
 use Rattle.ice_values.specs.declared.severity.Severity.{Severity}
 use Rattle.ice_values.specs.declared.severity.Severity.TheVariants.{CanContinue}
-use Rattle.checkpoint_records.specs.declared.records.Book.{Book}
 use Rattle.interact_queue.specs.Queue.{is_in}
 use Rattle.xsmp_messages.specs.declared.message.XsmpMessage.{XsmpMessage}
 use Rattle.xsmp_messages.specs.declared.message.XsmpMessage.TheVariants.{Die, Error, GetPropertiesReply, Interact, RegisterClient, RegisterClientReply, SaveComplete, SaveYourself, SaveYourselfPhase2, ShutdownCancelled}
@@ -214,10 +213,8 @@ keeps-begun c previous asked h e s = record {
   few = omega arith;
 }
 
-every : (book : Book) (events : List SessionEvent) (c : ℕ) (previous : List ℕ) (asked : SaveAsk) (steps : List Step) → session.Takes (Ready c) (reading (session.run (session.opened book) events))
-    → AllMay c steps (begun c previous asked (session.run (session.opened book) events)) → Keeps c (after c steps (begun c previous asked (session.run (session.opened book) events)))
-every book events c previous asked steps t e =
-    keeps-after c steps (begun c previous asked (session.run (session.opened book) events)) e (keeps-begun c previous asked (session.run (session.opened book) events) t.1 (stood-run book events))
+every : (h : History) (c : ℕ) (previous : List ℕ) (asked : SaveAsk) (steps : List Step) → Stood h → session.Takes (Ready c) (reading h) → AllMay c steps (begun c previous asked h) → Keeps c (after c steps (begun c previous asked h))
+every h c previous asked steps s t e = keeps-after c steps (begun c previous asked h) e (keeps-begun c previous asked h t.1 s)
 
 -- The laws
 
@@ -253,16 +250,17 @@ keeps-all c p l k = record {
   few = few-of p.answers (owes p.state.phase) p.saves k.few;
 }
 
+few-by : (c : ℕ) (p : Pair) → Keeps c p → p.answers ≤ p.saves
+few-by c p k = few-of p.answers (owes p.state.phase) p.saves k.few
+
 pub no-bad-state : ManagerSendsNoBadState
-no-bad-state book events c previous asked steps t e l = (keeps-all c _ l (every book events c previous asked steps t e)).no_bad_state
+no-bad-state book events c previous asked steps t e l = (keeps-all c _ l (every _ c previous asked steps (stood-run book events) t e)).no_bad_state
 
 pub no-unexpected : ClientSendsNoBadState
-no-unexpected book events c previous asked steps t e l = (keeps-all c _ l (every book events c previous asked steps t e)).expected
+no-unexpected book events c previous asked steps t e l = (keeps-all c _ l (every _ c previous asked steps (stood-run book events) t e)).expected
 
 pub both-agree : BothEndsAgree
-both-agree book events c previous asked steps t e l = (keeps-all c _ l (every book events c previous asked steps t e)).agree
+both-agree book events c previous asked steps t e l = (keeps-all c _ l (every _ c previous asked steps (stood-run book events) t e)).agree
 
 pub answers-few : AnswersAreFew
-answers-few book events c previous asked steps t e =
-    let p : Pair = after c steps (begun c previous asked (session.run (session.opened book) events)) in
-    few-of p.answers (owes p.state.phase) p.saves (every book events c previous asked steps t e).few
+answers-few book events c previous asked steps t e = few-by c _ (every _ c previous asked steps (stood-run book events) t e)

@@ -7,8 +7,9 @@ use Rattle.round_agreement.specs.Agreement.{is_nil}
 use Rattle.round_agreement.specs.declared.wanted.Wanted.{Wanted}
 use Rattle.restart_plan.specs.Restarts.{opening_restarts}
 use Rattle.session_model.specs.declared.events.SessionEvent.{SessionEvent}
-use Rattle.session_model.specs.declared.events.SessionEvent.TheVariants.{Joined, Left, Operator, Ready, Said}
+use Rattle.session_model.specs.declared.events.SessionEvent.TheVariants.{Said}
 use Rattle.session_model.specs.Books.{issue, opening_moves, raised}
+use Rattle.session_model.specs.Laws.{Always}
 use Rattle.session_model.specs.Moves.{Finished, History, Move, Opened, Outside, Restart, onto, tried_each, ◌▷◌}
 use Rattle.session_model.specs.Reading.{reading}
 use Rattle.session_model.specs.Readings as of
@@ -101,7 +102,7 @@ stood-on : (events : List SessionEvent) (h : History) → Stood h → Stood (run
 stood-on [] h s = s
 stood-on (event ∷ events) h s = stood-on events (taken event h) (stood-taken event h s)
 
-pub stood-run : (book : Book) (events : List SessionEvent) → Stood (run (opened book) events)
+pub stood-run : Always (λ h. Stood h)
 stood-run book events = stood-on events (opened book) (stood-opened book)
 
 pub saves-are-of : SavesAreOfTheRound
@@ -139,10 +140,7 @@ unlike d c n e = grind (arith, nat_tests)
 
 is-other : (c : ℕ) (event : SessionEvent) → is_of c event ≡ false → other_than c event ≢ c
 is-other c (Said d m sequence frame) n = unlike d c n
-is-other c (Joined d) n = not-next c
-is-other c (Ready d) n = not-next c
-is-other c (Left d) n = not-next c
-is-other c (Operator order) n = not-next c
+is-other c event n = not-next c
 
 pub others-answered : (c : ℕ) (event : SessionEvent) (h : History) → is_of c event ≡ false → Good h → Steady h → IsPassed c h (answered_to event h)
 others-answered c event h n g s = record {

@@ -7,7 +7,7 @@ use Rattle.interact_queue.specs.Queue.{is_in, without}
 use Rattle.xsmp_messages.specs.declared.message.XsmpMessage.{XsmpMessage}
 use Rattle.xsmp_messages.specs.declared.message.XsmpMessage.TheVariants.{Error, SaveYourself}
 use Rattle.session_model.specs.declared.events.SessionEvent.{SessionEvent}
-use Rattle.session_model.specs.declared.events.SessionEvent.TheVariants.{Joined, Left, Operator, Ready, Said}
+use Rattle.session_model.specs.declared.events.SessionEvent.TheVariants.{Joined, Left, Ready, Said}
 use Rattle.session_model.specs.declared.phase.Phase.{Phase}
 use Rattle.session_model.specs.Moves.{Blamed, Closed, Gave, History, Move, Outside, Unset, onto, ◌▷◌}
 use Rattle.session_model.specs.Phases.{may_interact, phase_given, phase_said, ready_phase}
@@ -87,13 +87,12 @@ other-conn d c n = other-at (eqb d c) refl where
   other-at false e = refl
 
 at-outside : (c : ℕ) (event : SessionEvent) (h : History) (s : ClientState) (up : List XsmpMessage) (n : ℕ) → is_of c event ≡ false → At c h s up n → At c (Outside event ▷ h) s up n
-at-outside c (Joined d) h s up n e k = k
 at-outside c (Ready d) h s up n e k =
     subst (λ (b : Bool). Stands (side_with (cond b (ready_phase (of.phase_of c h)) (of.phase_of c h)) (save_of c h)) s up n (cond b [] (sent_to c h))) (sym e) k
 at-outside c (Said d m sequence frame) h s up n e k =
     subst (λ (b : Bool). Stands (side_with (cond b (phase_said (λ dialog. may_interact (of.wanted h) dialog) m (of.phase_of c h)) (of.phase_of c h)) (save_of c h)) s up n (sent_to c h)) (sym e) k
 at-outside c (Left d) h s up n e k = subst (λ (b : Bool). Stands (side_with (cond b None (of.phase_of c h)) (save_of c h)) s up n (sent_to c h)) (sym e) k
-at-outside c (Operator order) h s up n e k = k
+at-outside c event h s up n e k = k
 
 still-live : (d c : ℕ) (conns : List ℕ) → is_in c (without d conns) ≡ true → eqb d c ≡ false
 still-live d c conns l = not-so (eqb d c) (and-left (not (eqb d c)) (is_in c conns) (sym (in-without c d conns) ∙ l)) where

@@ -3,7 +3,6 @@ use Rattle.std.specs.Prelude.{Bool, List, None, Option, Some, [], drop, false, t
 use Rattle.std.specs.List.{list_any}
 use Rattle.ice_values.specs.Classes.{class_number}
 use Rattle.ice_values.specs.declared.class.ErrorClass.TheVariants.{BadState}
-use Rattle.checkpoint_records.specs.declared.records.Book.{Book}
 use Rattle.xsmp_messages.specs.declared.message.XsmpMessage.{XsmpMessage}
 use Rattle.xsmp_messages.specs.declared.message.XsmpMessage.TheVariants.{Error}
 use Rattle.round_agreement.specs.declared.wanted.Wanted.{Wanted}
