@@ -1,18 +1,17 @@
 -- A schedule of a manager and any number of clients is for each of them a schedule of a pair.
-use Rattle.std.proofs.Common.{◌≡◌, ◌≢◌, refl, sym, ap, ◌∙◌, subst, ℕ, Bool, true, false, cond, List, [], ◌∷◌, ◌++◌, eqb, arith}
-use Rattle.std.specs.Prelude.{Option, Some, None, is_some}
+use Rattle.std.proofs.Common.{◌≡◌, refl, sym, ap, subst, ℕ, Bool, true, false, cond, List, [], ◌∷◌, eqb, arith}
+use Rattle.std.specs.Prelude.{Option, Some, None}
 use Rattle.std.proofs.lemmas.Bool.Decides.{nat_tests}
 use Rattle.interact_queue.specs.Queue.{is_in}
 use Rattle.xsmp_messages.specs.declared.message.XsmpMessage.{XsmpMessage}
 use Rattle.session_model.specs.declared.events.SessionEvent.{SessionEvent}
 use Rattle.session_model.specs.declared.events.SessionEvent.TheVariants.{Joined, Left, Operator, Ready, Said}
 use Rattle.session_model.specs.Moves.{History}
-use Rattle.session_model.specs.Reading.{reading}
 use Rattle.session_model.specs.Readings as of
 use Rattle.session_model.specs.Rules as session
 use Rattle.client_machine.specs.declared.saves.SaveAsk.{SaveAsk}
 use Rattle.end_schedules.specs.Laws.{AllEndsAgree, KeepsAll}
-use Rattle.end_schedules.specs.Pairs.{May, Pair, Step, begun, down_of, hand, hear, heard, is_of, step}
+use Rattle.end_schedules.specs.Pairs.{May, Pair, Step, begun, down_of, hand, hear, is_of, step}
 use Rattle.end_schedules.specs.Pairs.Step.{Asks, Happens, Hears, Takes}
 use Rattle.end_schedules.specs.Schedules.{AllMayTurn, Company, End, MayTurn, Turn, after_turns, company_of, end_of, is_own, paired, standing, stepped, turn, with_end}
 use Rattle.end_schedules.specs.Schedules.Turn.{Begins, Breaks, Joins, Orders, Steps}

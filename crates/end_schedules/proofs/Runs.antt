@@ -1,10 +1,8 @@
 -- What each event brings, and what holds between events.
-use Rattle.std.proofs.Common.{◌≡◌, ◌≢◌, refl, sym, ap, ◌∙◌, subst, ℕ, zero, suc, ◌+◌, ◌*◌, Bool, true, false, cond, not, ◌&&◌, ◌||◌, List, [], ◌∷◌, ◌++◌, length, eqb, arith}
-use Rattle.std.specs.Prelude.{Option, Some, None}
+use Rattle.std.proofs.Common.{◌≡◌, ◌≢◌, refl, sym, ap, ◌∙◌, subst, ℕ, zero, suc, ◌+◌, ◌*◌, Bool, true, false, cond, ◌&&◌, List, [], ◌∷◌, ◌++◌, length, eqb, arith}
 use Rattle.std.proofs.lemmas.Bool.Decides.{nat_tests}
 use Rattle.checkpoint_records.specs.declared.records.Book.{Book}
 use Rattle.round_agreement.specs.Agreement.{is_nil}
-use Rattle.round_agreement.specs.declared.wanted.Wanted.{Wanted}
 use Rattle.restart_plan.specs.Restarts.{opening_restarts}
 use Rattle.session_model.specs.declared.events.SessionEvent.{SessionEvent}
 use Rattle.session_model.specs.declared.events.SessionEvent.TheVariants.{Said}
@@ -14,15 +12,15 @@ use Rattle.session_model.specs.Moves.{Finished, History, Move, Opened, Outside, 
 use Rattle.session_model.specs.Reading.{reading}
 use Rattle.session_model.specs.Readings as of
 use Rattle.session_model.specs.Replies.{reply}
-use Rattle.session_model.specs.Rules.{finished, go_on, opened, rule, run, settle, settled, taken}
+use Rattle.session_model.specs.Rules.{finished, go_on, opened, rule, run, settle, taken}
 use Rattle.session_model.proofs.Level.{Good, onto-append}
 use Rattle.session_model.proofs.Replied.{good-opened, good-reply, good-taken}
-use Rattle.session_model.proofs.Ruled.{good-rule, good-settle}
+use Rattle.session_model.proofs.Ruled.{good-rule}
 use Rattle.end_schedules.specs.Laws.{AllPass, IsPassed, OthersPass, SavesAreOfTheRound, SettlingPasses, answered_to}
 use Rattle.end_schedules.specs.Pairs.{is_of}
-use Rattle.end_schedules.proofs.Replies.{Answer, IsFrom, answer, go-pass}
-use Rattle.end_schedules.proofs.Rules.{AllGo, Goes, go-append, go-issue, go-need, go-rule, go-tried}
-use Rattle.end_schedules.proofs.Steady.{AllNeed, Steady, steady-onto, steady-opened, steady-step}
+use Rattle.end_schedules.proofs.Replies.{IsFrom, answer, go-pass}
+use Rattle.end_schedules.proofs.Rules.{AllGo, go-append, go-issue, go-need, go-rule, go-tried}
+use Rattle.end_schedules.proofs.Steady.{Steady, steady-onto, steady-opened, steady-step}
 
 -- what the manager did by itself leads from one history to the other
 pub record Went (h g : History) : Type 0 where
@@ -92,9 +90,10 @@ stood-opened : (book : Book) → Stood (opened book)
 stood-opened book = record {
   good = good-opened book;
   steady = steady-onto (opening_moves book) (Opened book)
-      (go-need (opening_moves book) (Opened book)
-      (record { comes = tt; needs = tt },
-      go-append (issue (raised book) book.pending) (tried_each Restart (opening_restarts book.entries)) _ (go-issue (raised book) book.pending _) (go-tried Restart (opening_restarts book.entries) _)))
+      (go-need (opening_moves book) (Opened book) (
+        record { comes = tt; needs = tt },
+        go-append (issue (raised book) book.pending) (tried_each Restart (opening_restarts book.entries)) _ (go-issue (raised book) book.pending _) (go-tried Restart (opening_restarts book.entries) _),
+      ))
       (steady-opened book);
 }
 

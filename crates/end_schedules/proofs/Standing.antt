@@ -1,6 +1,6 @@
 -- Both ends meet, where the manager's is read from a history; what passes a client keeps that.
-use Rattle.std.proofs.Common.{◌≡◌, ◌≢◌, refl, sym, ap, ◌∙◌, subst, ℕ, zero, suc, ◌+◌, ◌≤◌, Bool, true, false, cond, not, ◌&&◌, ◌||◌, List, [], ◌∷◌, ◌++◌, length, drop, eqb, arith, length-append}
-use Rattle.std.specs.Prelude.{Option, Some, None, is_some}
+use Rattle.std.proofs.Common.{◌≡◌, ◌≢◌, refl, sym, ◌∙◌, subst, ℕ, zero, suc, ◌≤◌, Bool, true, false, cond, not, ◌||◌, List, [], ◌∷◌, ◌++◌, length, drop, eqb, arith, length-append}
+use Rattle.std.specs.Prelude.{Option, None}
 use Rattle.std.specs.List.{list_any}
 use Rattle.std.proofs.lemmas.Bool.Decides.{nat_tests}
 use Rattle.interact_queue.specs.Queue.{is_in, without}
@@ -21,7 +21,6 @@ use Rattle.end_agreement.proofs.Giving.{giving-meets}
 use Rattle.end_schedules.specs.Laws.{AllPass, IsPassed, Passes, is_bad_state}
 use Rattle.end_schedules.specs.Pairs.{is_of}
 use Rattle.end_schedules.specs.UnderWay.{Save, save_given, save_of, sent_to, side_of, side_with}
-use Rattle.end_schedules.proofs.Steady.{differ}
 
 -- Of what the client was sent it has taken so many, both ends meet, and nothing of it is BadState.
 pub record Stands (side : Side) (s : ClientState) (up : List XsmpMessage) (n : ℕ) (sent : List XsmpMessage) : Type 0 where

@@ -1,8 +1,7 @@
 -- What holds of rounds at every move: nobody is a member twice, nobody owes an answer while one runs, none runs once a shutdown was
 -- agreed, and who saves was asked so by the round that runs.
-use Rattle.std.proofs.Common.{◌≡◌, ◌≢◌, refl, sym, ap, ◌∙◌, subst, ℕ, Bool, true, false, cond, not, ◌&&◌, ◌||◌, List, [], ◌∷◌, ◌++◌, eqb, arith}
+use Rattle.std.proofs.Common.{◌≡◌, refl, ℕ, Bool, true, false, cond, List, [], ◌∷◌, eqb, arith}
 use Rattle.std.specs.Prelude.{Option, Some, None, is_some}
-use Rattle.std.proofs.lemmas.Bool.Decides.{nat_tests}
 use Rattle.sm_world.specs.declared.events.Dialog.{Dialog}
 use Rattle.xsmp_messages.specs.declared.message.XsmpMessage.{XsmpMessage}
 use Rattle.xsmp_messages.specs.declared.message.XsmpMessage.TheVariants.{Die, Interact, InteractDone, InteractRequest, RegisterClientReply, SaveComplete, SaveYourself, SaveYourselfDone, SaveYourselfPhase2, SaveYourselfPhase2Request, ShutdownCancelled}
@@ -10,14 +9,14 @@ use Rattle.round_agreement.specs.declared.wanted.Wanted.{Wanted}
 use Rattle.session_model.specs.declared.events.SessionEvent.{SessionEvent}
 use Rattle.session_model.specs.declared.events.SessionEvent.TheVariants.{Left, Ready, Said}
 use Rattle.session_model.specs.declared.phase.Phase.{Phase}
-use Rattle.session_model.specs.declared.phase.Phase.TheVariants.{Asked, AskedTwo, Done, Dying, Idle, Interacting, InteractingTwo, Owing, Saving, SavingTwo, Unregistered, WantsTwo}
+use Rattle.session_model.specs.declared.phase.Phase.TheVariants.{Asked, AskedTwo, Done, Idle, Interacting, InteractingTwo, Owing, Saving, SavingTwo, Unregistered, WantsTwo}
 use Rattle.session_model.specs.Moves.{Agreed, Began, Cancelled, Closed, Gave, History, Move, Opened, Outside, Over, Unset, onto, ◌▷◌}
-use Rattle.session_model.specs.Phases.{asked_phase, cancelled_phase, dying_phase, is_owing, may_interact, phase_given, phase_said, ready_phase, saved_phase, second_phase, talked_phase}
+use Rattle.session_model.specs.Phases.{asked_phase, is_owing, may_interact, phase_given, phase_said, ready_phase, saved_phase, second_phase, talked_phase}
 use Rattle.session_model.specs.Readings as of
 use Rattle.session_model.proofs.Lists.{Once, once-without}
 use Rattle.end_agreement.specs.Sides.{is_at_work}
 use Rattle.end_schedules.specs.Laws.{IsOfRound}
-use Rattle.end_schedules.specs.UnderWay.{Save, save_given, save_of}
+use Rattle.end_schedules.specs.UnderWay.{Save, save_of}
 
 pub record Steady (h : History) : Type 0 where
   pub once_members : Once (of.members h)
