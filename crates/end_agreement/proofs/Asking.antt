@@ -161,9 +161,10 @@ ways-cancel false side i = λ s e a. agree-by side side.phase s (talked_phase s.
 
 ways-neutral : (r : Request) (side : Side) → ((s : ClientState) → fit r s ≡ true → is_registering s.phase ≡ false) → ((s : ClientState) → said_by r s ≡ s) → EachNeutral side (λ x a. Base r side x a)
 unfolding Base
-ways-neutral r side n k =
-    (λ s e a. subst (λ (x : ClientState). Agrees side x) (sym (k s)) a,
-    λ m neutral s e a. subst (λ (x : ClientState). Fits side x (m ∷ [])) (sym (k s)) (calm-tail side s (m ∷ []) (n s e) a (neutral-calm m neutral, tt)))
+ways-neutral r side n k = (
+  λ s e a. subst (λ (x : ClientState). Agrees side x) (sym (k s)) a,
+  λ m neutral s e a. subst (λ (x : ClientState). Fits side x (m ∷ [])) (sym (k s)) (calm-tail side s (m ∷ []) (n s e) a (neutral-calm m neutral, tt)),
+)
 
 ways : (r : Request) (side : Side) → EachAnswer (requested r) side (λ x a. Base r side x a)
 unfolding Base
@@ -173,7 +174,7 @@ ways (AskDialog d) side = λ s e a.
     agree-by side (cond (session.allows side.style d) (session.asked_phase side.phase) side.phase) s (asked_phase s.phase)
     (ap (λ (ph : ClientPhase). asked_phase ph) a.phase
     ∙ asked-both side.phase (allows s.asked.style d) (session.allows side.style d) (same-style side s d a)
-      (subst (λ (ph : ClientPhase). (is_dead ph || is_owing ph || is_saving ph && allows s.asked.style d) ≡ true) a.phase e))
+    (subst (λ (ph : ClientPhase). (is_dead ph || is_owing ph || is_saving ph && allows s.asked.style d) ≡ true) a.phase e))
     (asked-work side.phase (session.allows side.style d)) a
 ways (SayTalked true) side = ways-cancel (session.is_interacting side.phase) side refl
 ways (SayTalked false) side = λ s e a. agree-by side (session.talked_phase side.phase) s (talked_phase s.phase) (ap (λ (ph : ClientPhase). talked_phase ph) a.phase ∙ talked-both side.phase) (talked-work side.phase) a
@@ -202,9 +203,10 @@ gone-fits r side s down n e f = subst (λ (xs : List XsmpMessage). Fits side (sa
 said-meets : (r : Request) (side : Side) (s : ClientState) (up down : List XsmpMessage) → fit r s ≡ true → Meets side s up down → Meets side (said_by r s) (up ++ requested r ∷ []) down
 unfolding Base
 said-meets r side s [] down e f =
-    goes-make side.phase _ _ (λ n. gone-fits r side s down n e f)
-    (last-fits r side (has_place (requested r) side ≡ true) (λ x k a. places r side x k a) s down e f,
-    each-more (requested r) side (λ x a. Base r side x a) (λ x a. Fits x (said_by r s) (down ++ a)) (λ x a k. said-fits r side x a k s down e f) (ways r side))
+    goes-make side.phase _ _ (λ n. gone-fits r side s down n e f) (
+      last-fits r side (has_place (requested r) side ≡ true) (λ x k a. places r side x k a) s down e f,
+      each-more (requested r) side (λ x a. Base r side x a) (λ x a. Fits x (said_by r s) (down ++ a)) (λ x a k. said-fits r side x a k s down e f) (ways r side),
+    )
 said-meets r side s (u ∷ up) down e f =
     goes-both side.phase _ _ _ _ (λ n k. gone-fits r side s down n e k) (λ g. (g.0, each-more u side _ _ (λ x a k. said-meets r x s up (down ++ a) e k) g.1)) f
 

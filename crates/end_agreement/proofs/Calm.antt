@@ -161,9 +161,11 @@ calm-agrees side s (m ∷ b) n c f =
 
 pub calm-tail : (side : Side) (s : ClientState) (b : List XsmpMessage) → is_registering s.phase ≡ false → Agrees side s → AreCalm b → Fits side s b
 calm-tail side s [] n a c = a
-calm-tail side s (m ∷ b) n a c =
-    (calm-suits m s.phase s.id s.asked c.0 n, subst (λ (x : Bool). IsLast x side b) (sym (again-not m s n)) tt,
-    subst (λ (x : ClientState). Fits side x b) (sym (calm-still m s.phase s.id s.asked c.0 n)) (calm-tail side s b n a c.1))
+calm-tail side s (m ∷ b) n a c = (
+  calm-suits m s.phase s.id s.asked c.0 n,
+  subst (λ (x : Bool). IsLast x side b) (sym (again-not m s n)) tt,
+  subst (λ (x : ClientState). Fits side x b) (sym (calm-still m s.phase s.id s.asked c.0 n)) (calm-tail side s b n a c.1),
+)
 
 pub last-on : (b : Bool) (side after : Side) (rest other : List XsmpMessage) → ((side.phase ≡ Some Unregistered) × (rest ≡ []) → ⊥) → IsLast b side rest → IsLast b after other
 last-on true side after rest other n l = absurd (n l)
@@ -198,6 +200,8 @@ fits-dead side s [] n e = record {
   shutdown = λ w. absurd (differ w (ap (λ (p : Option Phase). is_at_work p) n));
   style = λ w. absurd (differ w (ap (λ (p : Option Phase). is_at_work p) n));
 }
-fits-dead side s (m ∷ down) n e =
-    (dead-suits m s e, subst (λ (x : Bool). IsLast x side down) (sym (again-not m s (ap (λ (ph : ClientPhase). is_registering ph) e))) tt,
-    fits-dead side (taken m s) down n (ap (λ (ph : ClientPhase). phase_given m ph) e ∙ dead-stays m))
+fits-dead side s (m ∷ down) n e = (
+  dead-suits m s e,
+  subst (λ (x : Bool). IsLast x side down) (sym (again-not m s (ap (λ (ph : ClientPhase). is_registering ph) e))) tt,
+  fits-dead side (taken m s) down n (ap (λ (ph : ClientPhase). phase_given m ph) e ∙ dead-stays m),
+)

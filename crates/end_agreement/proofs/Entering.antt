@@ -35,9 +35,11 @@ fatal-ends CanContinue e = absurd (grind arith)
 fatal-ends severity e = refl
 
 refused-fits : (side : Side) (id : List ℕ) (ask : SaveAsk) (error : ErrorFields) → is_fatal error.severity ≡ true → Fits (at_phase None side) (client_in Registering id ask) (Error error ∷ [])
-refused-fits side id ask error e =
-    (fatal-suits error.severity error id ask e, subst (λ (b : Bool). IsLast b (at_phase None side) []) (sym (fatal-once error.severity error (client_in Registering id ask) e)) tt,
-    record { phase = fatal-ends error.severity e; shutdown = λ w. absurd (grind arith); style = λ w. absurd (grind arith) })
+refused-fits side id ask error e = (
+  fatal-suits error.severity error id ask e,
+  subst (λ (b : Bool). IsLast b (at_phase None side) []) (sym (fatal-once error.severity error (client_in Registering id ask) e)) tt,
+  record { phase = fatal-ends error.severity e; shutdown = λ w. absurd (grind arith); style = λ w. absurd (grind arith) },
+)
 
 enters : (side : Side) (id : List ℕ) (ask : SaveAsk) → Meets (at_phase (Some Unregistered) side) (client_in Registering id ask) (RegisterClient [] ∷ []) []
 enters side id ask =
@@ -62,15 +64,21 @@ refusal-stays CanContinue error e = refl
 refusal-stays severity error e = absurd (grind arith)
 
 refusal-fits : (side : Side) (b : ℕ) (id : List ℕ) (ask : SaveAsk) (error : ErrorFields) → refuses_id error.severity error ≡ true → Fits (at_phase (Some Unregistered) side) (client_in Registering (b ∷ id) ask) (Error error ∷ [])
-refusal-fits side b id ask error e =
-    (refusal-suits error.severity error b id ask e, refusal-last error.severity error (is_again (Error error) (client_in Registering (b ∷ id) ask)) side e,
-    record { phase = refusal-stays error.severity error e; shutdown = λ w. absurd (grind arith); style = λ w. absurd (grind arith) })
+refusal-fits side b id ask error e = (
+  refusal-suits error.severity error b id ask e,
+  refusal-last error.severity error (is_again (Error error) (client_in Registering (b ∷ id) ask)) side e,
+  record { phase = refusal-stays error.severity error e; shutdown = λ w. absurd (grind arith); style = λ w. absurd (grind arith) },
+)
 
 pub begins-meets : CrossingsBegin
 begins-meets [] asked shutdown style = enters (record { phase = Some Unregistered; shutdown = shutdown; style = style }) [] asked
-begins-meets (b ∷ id) asked shutdown style =
-    (refl, ((λ given. (refl, tt, record { phase = refl; shutdown = λ w. absurd (grind arith); style = λ w. absurd (grind arith) })),
-    λ error refused. refusal-fits (record { phase = Some Unregistered; shutdown = shutdown; style = style }) b id asked error refused))
+begins-meets (b ∷ id) asked shutdown style = (
+  refl,
+  (
+    (λ given. (refl, tt, record { phase = refl; shutdown = λ w. absurd (grind arith); style = λ w. absurd (grind arith) })),
+    λ error refused. refusal-fits (record { phase = Some Unregistered; shutdown = shutdown; style = style }) b id asked error refused,
+  ),
+)
 
 -- where both wait for the client to register
 enters-at : (side : Side) (s : ClientState) → side.phase ≡ Some Unregistered → Agrees side s → Meets side s (RegisterClient [] ∷ []) []

@@ -148,9 +148,12 @@ swap-meets : (side : Side) (s : ClientState) (up a b c : List XsmpMessage) → A
 swap-meets side s [] a b c k f = swap-at side s a b c k f
 swap-meets side s (u ∷ up) a b c k f =
     goes-both side.phase _ _ _ _ (λ n g. swap-at side s a b c k g)
-    (λ g. (g.0, each-more u side _ _
-    (λ x d h. subst (λ (xs : List XsmpMessage). Meets x s up xs) (sym (joined (a ++ ShutdownCancelled ∷ b) c d)) (swap-meets x s up a b (c ++ d) k (subst (λ (xs : List XsmpMessage). Meets x s up xs) (joined (a ++ b) (ShutdownCancelled ∷ c) d) h)))
-    g.1)) f
+    (λ g. (
+      g.0,
+      each-more u side _ _
+          (λ x d h. subst (λ (xs : List XsmpMessage). Meets x s up xs) (sym (joined (a ++ ShutdownCancelled ∷ b) c d)) (swap-meets x s up a b (c ++ d) k (subst (λ (xs : List XsmpMessage). Meets x s up xs) (joined (a ++ b) (ShutdownCancelled ∷ c) d) h)))
+          g.1,
+    )) f
 
 -- How the answers to a message of the client before something is given, and behind it, belong together: `K` is said of those before,
 -- and `L` of those behind.
@@ -301,10 +304,11 @@ way-talked false side K L e f h =
     (x.place, λ k. passed side K L _ _ _ x h k)
 way-talked true side K L e f h =
     let g : Giveable ShutdownCancelled side.phase = giveable ShutdownCancelled side.phase e in
-    let x : Passes (has_place (InteractDone true) (side_given ShutdownCancelled side)) (talked_phase side.phase) (talked_phase (cancelled_phase side.phase)) = passes-talked side.phase (side.shutdown || not true) g.hears g.free f in
-    (x.place,
-    λ k. cancel-on (is_interacting (cancelled_phase side.phase)) side (side_given ShutdownCancelled side) L (off-quiet side.phase)
-    (h.cancel refl (cancel-from side.phase side K (talking-moves side.phase (side.shutdown || not true) g.hears g.free f) (talking-not side.phase (side.shutdown || not true) g.hears g.free f) k)))
+    let x : Passes (has_place (InteractDone true) (side_given ShutdownCancelled side)) (talked_phase side.phase) (talked_phase (cancelled_phase side.phase)) = passes-talked side.phase (side.shutdown || not true) g.hears g.free f in (
+      x.place,
+      λ k. cancel-on (is_interacting (cancelled_phase side.phase)) side (side_given ShutdownCancelled side) L (off-quiet side.phase)
+          (h.cancel refl (cancel-from side.phase side K (talking-moves side.phase (side.shutdown || not true) g.hears g.free f) (talking-not side.phase (side.shutdown || not true) g.hears g.free f) k)),
+    )
 
 way-neutral : (m : XsmpMessage) (side : Side) (K L : Said) → may_give m side.phase ≡ true → Handlers m side K L → EachNeutral side K → EachNeutral (side_given m side) L
 way-neutral m side K L e h k = (h.ordinary side [] tt e k.0, λ x n. h.ordinary side (x ∷ []) (neutral-calm x n, tt) e (k.1 x n))

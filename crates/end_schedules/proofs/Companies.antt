@@ -1,18 +1,17 @@
 -- A schedule of a manager and any number of clients is for each of them a schedule of a pair.
-use Rattle.std.proofs.Common.{◌≡◌, ◌≢◌, refl, sym, ap, ◌∙◌, subst, ℕ, Bool, true, false, cond, List, [], ◌∷◌, ◌++◌, eqb, arith}
-use Rattle.std.specs.Prelude.{Option, Some, None, is_some}
+use Rattle.std.proofs.Common.{◌≡◌, refl, sym, ap, subst, ℕ, Bool, true, false, cond, List, [], ◌∷◌, eqb, arith}
+use Rattle.std.specs.Prelude.{Option, Some, None}
 use Rattle.std.proofs.lemmas.Bool.Decides.{nat_tests}
 use Rattle.interact_queue.specs.Queue.{is_in}
 use Rattle.xsmp_messages.specs.declared.message.XsmpMessage.{XsmpMessage}
 use Rattle.session_model.specs.declared.events.SessionEvent.{SessionEvent}
 use Rattle.session_model.specs.declared.events.SessionEvent.TheVariants.{Joined, Left, Operator, Ready, Said, Tick}
-use Rattle.session_model.specs.Moves.{History, Opening}
-use Rattle.session_model.specs.Reading.{reading}
+use Rattle.session_model.specs.Moves.{History}
 use Rattle.session_model.specs.Readings as of
 use Rattle.session_model.specs.Rules as session
 use Rattle.client_machine.specs.declared.saves.SaveAsk.{SaveAsk}
 use Rattle.end_schedules.specs.Laws.{AllEndsAgree, KeepsAll}
-use Rattle.end_schedules.specs.Pairs.{May, Pair, Step, begun, down_of, hand, hear, heard, is_of, step}
+use Rattle.end_schedules.specs.Pairs.{May, Pair, Step, begun, down_of, hand, hear, is_of, step}
 use Rattle.end_schedules.specs.Pairs.Step.{Asks, Happens, Hears, Takes}
 use Rattle.end_schedules.specs.Schedules.{AllMayTurn, Company, End, MayTurn, Turn, after_turns, company_of, end_of, is_own, paired, standing, stepped, turn, with_end}
 use Rattle.end_schedules.specs.Schedules.Turn.{Begins, Breaks, Joins, Orders, Steps, Waits}
@@ -135,11 +134,14 @@ together-after : (turns : List Turn) (t : Company) → AllMayTurn turns t → To
 together-after [] t m k = k
 together-after (x ∷ turns) t m k = together-after turns (turn x t) m.1 (together-turn x t m.0 k)
 
-together-begun : (opening : Opening) → Together (company_of opening)
-together-begun opening = record { stood = stood-run opening []; each = λ c e q. absurd cc }
+together-begun : (h : History) → Stood h → Together (company_of h)
+together-begun h s = record { stood = s; each = λ c e q. absurd cc }
+
+there-after : (h : History) (turns : List Turn) (c : ℕ) (e : End) → Stood h → AllMayTurn turns (company_of h) → (after_turns turns (company_of h)).ends c ≡ Some e → KeepsAll c (paired (after_turns turns (company_of h)).history e)
+there-after h turns c e s m q =
+    let t : Company = after_turns turns (company_of h) in
+    let k : There c e t.history = (together-after turns (company_of h) m (together-begun h s)).each c e q in
+    keeps-all c (paired t.history e) k.live k.keeps
 
 pub all-agree : AllEndsAgree
-all-agree opening turns m c e q =
-    let t : Company = after_turns turns (company_of opening) in
-    let k : There c e t.history = (together-after turns (company_of opening) m (together-begun opening)).each c e q in
-    keeps-all c (paired t.history e) k.live k.keeps
+all-agree book events turns m c e q = there-after _ turns c e (stood-run book events) m q

@@ -1,7 +1,6 @@
 -- Each step of a pair keeps what holds of it, and so does every schedule.
-use Rattle.std.proofs.Common.{◌≡◌, ◌≢◌, refl, sym, ap, ◌∙◌, subst, ℕ, zero, suc, ◌+◌, ◌≤◌, Bool, true, false, cond, not, ◌&&◌, ◌||◌, List, [], ◌∷◌, ◌++◌, length, drop, eqb, arith}
+use Rattle.std.proofs.Common.{◌≡◌, refl, sym, ap, ◌∙◌, subst, ℕ, zero, suc, ◌+◌, ◌≤◌, Bool, true, false, cond, not, List, [], ◌∷◌, ◌++◌, length, drop, eqb, arith}
 use Rattle.std.specs.Prelude.{Option, Some, None, is_some}
-use Rattle.std.specs.List.{list_any}
 use Rattle.std.proofs.lemmas.Bool.Decides.{nat_tests}
 use Rattle.ice_values.specs.Fields.{ErrorFields}
 use Rattle.ice_values.specs.declared.severity.Severity.{Severity}
@@ -10,10 +9,9 @@ use Rattle.interact_queue.specs.Queue.{is_in}
 use Rattle.xsmp_messages.specs.declared.message.XsmpMessage.{XsmpMessage}
 use Rattle.xsmp_messages.specs.declared.message.XsmpMessage.TheVariants.{Die, Error, GetPropertiesReply, Interact, RegisterClient, RegisterClientReply, SaveComplete, SaveYourself, SaveYourselfPhase2, ShutdownCancelled}
 use Rattle.session_model.specs.declared.events.SessionEvent.{SessionEvent}
-use Rattle.session_model.specs.declared.events.SessionEvent.TheVariants.{Joined, Left, Operator, Ready, Said, Tick}
+use Rattle.session_model.specs.declared.events.SessionEvent.TheVariants.{Ready, Said}
 use Rattle.session_model.specs.declared.phase.Phase.{Phase}
-use Rattle.session_model.specs.declared.phase.Phase.TheVariants.{Unregistered}
-use Rattle.session_model.specs.Moves.{Blamed, Closed, Gave, History, Move, Outside, onto, ◌▷◌, Opening}
+use Rattle.session_model.specs.Moves.{Blamed, Closed, History, Move, Outside, onto, ◌▷◌}
 use Rattle.session_model.specs.Phases.{ready_phase}
 use Rattle.session_model.specs.Reading.{reading}
 use Rattle.session_model.specs.Readings as of
@@ -23,25 +21,25 @@ use Rattle.session_model.proofs.Own.{AllOwn, IsAnswer, IsOwn, own-reply}
 use Rattle.session_model.proofs.Lists.{in-without}
 use Rattle.session_model.proofs.Ruled.{and-right}
 use Rattle.session_model.proofs.Replied.{good-reply}
-use Rattle.client_machine.specs.Asking.{after_asked, may_ask, requested}
-use Rattle.client_machine.specs.Phases.{ClientState, is_dead, is_done, is_member, is_registered, is_registering, is_resting}
+use Rattle.client_machine.specs.Asking.{may_ask}
+use Rattle.client_machine.specs.Phases.{ClientState, is_done, is_member, is_registered, is_registering, is_resting}
 use Rattle.client_machine.specs.Taking.{act_taken, blamed_act, registers_again, taken}
 use Rattle.client_machine.specs.declared.acts.ClientAct.{ClientAct}
-use Rattle.client_machine.specs.declared.acts.ClientAct.TheVariants.{Again, Cancelled, Complete, Die as ToDie, Nothing, Properties, Refused, Registered, Save as ToSave, Unexpected}
+use Rattle.client_machine.specs.declared.acts.ClientAct.TheVariants.{Again, Cancelled, Complete, Die as ToDie, Nothing, Properties, Registered, Unexpected}
 use Rattle.client_machine.specs.declared.phase.ClientPhase.{ClientPhase}
 use Rattle.client_machine.specs.declared.phase.ClientPhase.TheVariants.{Asked, AskedTwo, Registering, WantsTwo}
 use Rattle.client_machine.specs.declared.requests.Request.{Request}
 use Rattle.client_machine.specs.declared.saves.SaveAsk.{SaveAsk}
 use Rattle.end_agreement.specs.Sides.{Agrees, Side}
 use Rattle.end_agreement.specs.Hearing.{Fits, again_by, is_again}
-use Rattle.end_agreement.specs.Laws.{answers_save, asks_save, owes, taken_all}
+use Rattle.end_agreement.specs.Laws.{owes, taken_all}
 use Rattle.end_agreement.specs.Meeting.{Meets}
 use Rattle.end_agreement.proofs.Asking.{asking-meets}
 use Rattle.end_agreement.proofs.Calm.{tail-nil}
 use Rattle.end_agreement.proofs.Entering.{again-meets, begins-meets}
 use Rattle.end_agreement.proofs.Owed.{answers-owed, saves-asked}
 use Rattle.end_agreement.proofs.Taken.{agree-in-the-end, client_in, not-unexpected, taking-meets}
-use Rattle.end_schedules.specs.Laws.{AnswersAreFew, BothEndsAgree, ClientSendsNoBadState, IsPassed, KeepsAll, ManagerSendsNoBadState, answered_to, heard_all, is_bad_state, unless_ended_at}
+use Rattle.end_schedules.specs.Laws.{AnswersAreFew, BothEndsAgree, ClientSendsNoBadState, KeepsAll, ManagerSendsNoBadState, answered_to, heard_all, unless_ended_at}
 use Rattle.end_schedules.specs.Pairs.{AllMay, May, Pair, Step, after, begun, down_of, hand, hear, heard, is_of, said_at_once, step, unless_ended}
 use Rattle.end_schedules.specs.Pairs.Step.{Asks, Happens, Hears, Takes}
 use Rattle.end_schedules.specs.UnderWay.{Save, save_of, sent_to, side_of, side_with}
@@ -91,8 +89,8 @@ keeps-heard c sequence frame m up p e i k =
     let event : SessionEvent = Said c m sequence frame in
     let g : History = session.taken event p.history in
     let own : Stays c (answered_to event p.history) p.state up p.took = λ l.
-      at-heard m c sequence frame p.history p.state up p.took i k.stood
-      (subst (λ (xs : List XsmpMessage). At c p.history p.state xs p.took) e (k.stays (live-answer c (reply (reading p.history) event) (Outside event ▷ p.history) (own-reply (reading p.history) event) l))) in
+    at-heard m c sequence frame p.history p.state up p.took i k.stood
+    (subst (λ (xs : List XsmpMessage). At c p.history p.state xs p.took) e (k.stays (live-answer c (reply (reading p.history) event) (Outside event ▷ p.history) (own-reply (reading p.history) event) l))) in
     let later : Stays c g p.state up p.took = stays-passed c (answered_to event p.history) g p.state up p.took (went-passed c (answered_to event p.history) g (went-taken event p.history k.stood.good k.stood.steady)) own in
     record {
       stood = stood-taken event p.history k.stood;
@@ -213,10 +211,8 @@ keeps-begun c previous asked h e s = record {
   few = omega arith;
 }
 
-every : (opening : Opening) (events : List SessionEvent) (c : ℕ) (previous : List ℕ) (asked : SaveAsk) (steps : List Step) → session.Takes (Ready c) (reading (session.run (session.opened opening) events))
-    → AllMay c steps (begun c previous asked (session.run (session.opened opening) events)) → Keeps c (after c steps (begun c previous asked (session.run (session.opened opening) events)))
-every opening events c previous asked steps t e =
-    keeps-after c steps (begun c previous asked (session.run (session.opened opening) events)) e (keeps-begun c previous asked (session.run (session.opened opening) events) t.1 (stood-run opening events))
+every : (h : History) (c : ℕ) (previous : List ℕ) (asked : SaveAsk) (steps : List Step) → Stood h → session.Takes (Ready c) (reading h) → AllMay c steps (begun c previous asked h) → Keeps c (after c steps (begun c previous asked h))
+every h c previous asked steps s t e = keeps-after c steps (begun c previous asked h) e (keeps-begun c previous asked h t.1 s)
 
 -- The laws
 
@@ -252,16 +248,17 @@ keeps-all c p l k = record {
   few = few-of p.answers (owes p.state.phase) p.saves k.few;
 }
 
+few-by : (c : ℕ) (p : Pair) → Keeps c p → p.answers ≤ p.saves
+few-by c p k = few-of p.answers (owes p.state.phase) p.saves k.few
+
 pub no-bad-state : ManagerSendsNoBadState
-no-bad-state opening events c previous asked steps t e l = (keeps-all c _ l (every opening events c previous asked steps t e)).no_bad_state
+no-bad-state book events c previous asked steps t e l = (keeps-all c _ l (every _ c previous asked steps (stood-run book events) t e)).no_bad_state
 
 pub no-unexpected : ClientSendsNoBadState
-no-unexpected opening events c previous asked steps t e l = (keeps-all c _ l (every opening events c previous asked steps t e)).expected
+no-unexpected book events c previous asked steps t e l = (keeps-all c _ l (every _ c previous asked steps (stood-run book events) t e)).expected
 
 pub both-agree : BothEndsAgree
-both-agree opening events c previous asked steps t e l = (keeps-all c _ l (every opening events c previous asked steps t e)).agree
+both-agree book events c previous asked steps t e l = (keeps-all c _ l (every _ c previous asked steps (stood-run book events) t e)).agree
 
 pub answers-few : AnswersAreFew
-answers-few opening events c previous asked steps t e =
-    let p : Pair = after c steps (begun c previous asked (session.run (session.opened opening) events)) in
-    few-of p.answers (owes p.state.phase) p.saves (every opening events c previous asked steps t e).few
+answers-few book events c previous asked steps t e = few-by c _ (every _ c previous asked steps (stood-run book events) t e)

@@ -1,6 +1,6 @@
 -- The direct answer to a client's own message is one of those of which both ends still meet.
-use Rattle.std.proofs.Common.{◌≡◌, ◌≢◌, refl, sym, ap, ◌∙◌, subst, ℕ, ◌+◌, ◌≤◌, Bool, true, false, cond, not, ◌&&◌, ◌||◌, List, [], ◌∷◌, ◌++◌, length, drop, eqb, arith, length-append}
-use Rattle.std.specs.Prelude.{Option, Some, None, is_some, nat_le}
+use Rattle.std.proofs.Common.{◌≡◌, refl, sym, ap, ◌∙◌, subst, ℕ, ◌+◌, ◌≤◌, Bool, true, false, cond, not, ◌&&◌, ◌||◌, List, [], ◌∷◌, ◌++◌, length, drop, eqb, arith, length-append}
+use Rattle.std.specs.Prelude.{Option, Some, None, is_some}
 use Rattle.std.specs.List.{list_any}
 use Rattle.std.proofs.lemmas.Bool.Decides.{nat_tests}
 use Rattle.sm_world.specs.declared.commands.Command.{Command}
@@ -11,7 +11,6 @@ use Rattle.xsmp_properties.specs.Tables.{set_all}
 use Rattle.checkpoint_records.specs.Rules.{client_id}
 use Rattle.checkpoint_records.specs.declared.records.Entry.{Entry}
 use Rattle.restart_plan.specs.Restarts.{respawn}
-use Rattle.round_agreement.specs.Agreement.{Agreement, conns_of}
 use Rattle.round_agreement.specs.declared.wanted.Wanted.{Wanted}
 use Rattle.interact_queue.specs.Queue.{is_in}
 use Rattle.xsmp_messages.specs.declared.message.XsmpMessage.{XsmpMessage}
@@ -21,18 +20,18 @@ use Rattle.session_model.specs.declared.phase.Phase.{Phase}
 use Rattle.session_model.specs.declared.phase.Phase.TheVariants.{Done, Dying, Idle, Interacting, InteractingTwo, Owing, Saving, SavingTwo, Unregistered}
 use Rattle.session_model.specs.Errors.{Arrival, bad_id, full_table, lone_shutdown, no_room}
 use Rattle.session_model.specs.Moves.{Blamed, Cancelled, Closed, Gave, History, Move, Outside, Tried, Unset, gave_each, onto, ◌▷◌}
-use Rattle.session_model.specs.Phases.{allows, asked_phase, cancelled_phase, is_bound, is_dying, is_first_saving, is_interacting, is_member, is_owing, is_saving, is_shutdown, is_unregistered, may_interact, phase_given, phase_said, saved_phase, second_phase, talked_phase}
+use Rattle.session_model.specs.Phases.{allows, asked_phase, cancelled_phase, is_bound, is_dying, is_first_saving, is_interacting, is_member, is_owing, is_saving, is_shutdown, may_interact, phase_given, phase_said, saved_phase, second_phase, talked_phase}
 use Rattle.session_model.specs.Reading.{Reading, reading, wanted_in}
 use Rattle.session_model.specs.Readings as of
-use Rattle.session_model.specs.Replies.{answered, called_off, entry_respawn, has_no_room, id_respawn, may_rejoin, or_bad_state, register, reply, respawn_moves, respawned, said, unless_dying, want_cancel}
+use Rattle.session_model.specs.Replies.{answered, called_off, entry_respawn, has_no_room, id_respawn, may_rejoin, or_bad_state, register, respawn_moves, respawned, said, unless_dying, want_cancel}
 use Rattle.session_model.specs.Tables.{entry_of, is_full}
-use Rattle.session_model.proofs.Level.{Good, once-cancelled, phase-each}
+use Rattle.session_model.proofs.Level.{once-cancelled, phase-each}
 use Rattle.session_model.proofs.Lists.{Once}
 use Rattle.session_model.proofs.Replied.{cond-same}
 use Rattle.session_model.proofs.Ruled.{conns-rows}
 use Rattle.client_machine.specs.Phases.{ClientState}
 use Rattle.end_agreement.specs.Sides.{Side, at_phase, is_at_work}
-use Rattle.end_agreement.specs.Meeting.{EachAnswer, EachCancel, EachEntry, EachNeutral, EachRefusal, Meets, has_place, is_deaf, is_neutral, place}
+use Rattle.end_agreement.specs.Meeting.{EachAnswer, EachCancel, EachEntry, EachNeutral, Meets, has_place, is_deaf, is_neutral, place}
 use Rattle.end_agreement.proofs.Calm.{joined, tail-nil}
 use Rattle.end_agreement.proofs.Walks.{Said as Spoken, goes-on}
 use Rattle.end_schedules.specs.Laws.{IsOfRound, answered_to, is_bad_state}

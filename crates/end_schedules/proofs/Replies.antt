@@ -1,5 +1,5 @@
 -- The direct answer to what comes from one client gives nothing to the others but that their round is cancelled.
-use Rattle.std.proofs.Common.{◌≡◌, ◌≢◌, refl, sym, ap, ◌∙◌, subst, ℕ, Bool, true, false, cond, not, ◌&&◌, ◌||◌, List, [], ◌∷◌, ◌++◌, map, filter, eqb, arith}
+use Rattle.std.proofs.Common.{◌≡◌, ◌≢◌, refl, sym, ap, ◌∙◌, subst, ℕ, Bool, true, false, cond, not, ◌&&◌, ◌||◌, List, [], ◌∷◌, ◌++◌, arith, filter}
 use Rattle.std.specs.Prelude.{Option, Some, None, flat_map, is_some, codes}
 use Rattle.sm_world.specs.declared.commands.Command.{Command}
 use Rattle.sm_world.specs.declared.events.Order.{Order}
@@ -7,19 +7,18 @@ use Rattle.sm_world.specs.declared.events.Order.TheVariants.{Cancel, Checkpoint,
 use Rattle.xsmp_properties.specs.Tables.{set_all}
 use Rattle.checkpoint_records.specs.declared.records.Book.{Book}
 use Rattle.checkpoint_records.specs.declared.records.Entry.{Entry}
-use Rattle.restart_plan.specs.Restarts.{opening_restarts, respawn}
+use Rattle.restart_plan.specs.Restarts.{respawn}
 use Rattle.discard_ledger.specs.Discards.{issuable}
-use Rattle.round_agreement.specs.Agreement.{conns_of}
 use Rattle.interact_queue.specs.Queue.{is_in}
 use Rattle.xsmp_messages.specs.declared.message.XsmpMessage.{XsmpMessage}
-use Rattle.xsmp_messages.specs.declared.message.XsmpMessage.TheVariants.{ConnectionClosed, DeleteProperties, Error, GetProperties, GetPropertiesReply, InteractDone, InteractRequest, RegisterClient, RegisterClientReply, SaveYourself, SaveYourselfDone, SaveYourselfPhase2Request, SaveYourselfRequest, SetProperties, ShutdownCancelled}
+use Rattle.xsmp_messages.specs.declared.message.XsmpMessage.TheVariants.{ConnectionClosed, DeleteProperties, Error, GetProperties, GetPropertiesReply, InteractDone, InteractRequest, RegisterClient, RegisterClientReply, SaveYourselfDone, SaveYourselfPhase2Request, SaveYourselfRequest, SetProperties, ShutdownCancelled}
 use Rattle.session_model.specs.declared.events.SessionEvent.{SessionEvent}
 use Rattle.session_model.specs.declared.events.SessionEvent.TheVariants.{Joined, Left, Operator, Ready, Said, Tick}
 use Rattle.session_model.specs.declared.phase.Phase.{Phase}
-use Rattle.session_model.specs.declared.phase.Phase.TheVariants.{Done, Dying, Unregistered}
-use Rattle.session_model.specs.Books.{book_forgetting, command_anyway, discarded, issue, opening_moves, raised, standing}
+use Rattle.session_model.specs.declared.phase.Phase.TheVariants.{Done, Dying}
+use Rattle.session_model.specs.Books.{book_forgetting, command_anyway, discarded, issue, standing}
 use Rattle.session_model.specs.Errors.{Arrival, bad_id, full_table, lone_shutdown, no_room}
-use Rattle.session_model.specs.Moves.{Began, Blamed, Cancelled, Cause, Closed, Committed, Discard, Gave, History, Move, Opened, Outside, Printed, Restart, Unset, gave_each, onto, tried_each, ◌▷◌}
+use Rattle.session_model.specs.Moves.{Began, Blamed, Cancelled, Cause, Closed, Discard, Gave, History, Move, Outside, Printed, Unset, gave_each, tried_each, ◌▷◌}
 use Rattle.session_model.specs.Phases.{is_bound, is_dying, is_first_saving, is_interacting, is_member, is_owing, is_saving, is_shutdown, is_unregistered, may_interact}
 use Rattle.session_model.specs.Reading.{Reading, client_of, reading, wanted_in}
 use Rattle.session_model.specs.Readings as of
@@ -29,7 +28,7 @@ use Rattle.session_model.proofs.Level.{Good, good-plain}
 use Rattle.session_model.proofs.Ruled.{conns-rows}
 use Rattle.end_agreement.specs.Sides.{may_cancel, may_give}
 use Rattle.end_schedules.specs.Laws.{AllPass, Passes}
-use Rattle.end_schedules.proofs.Rules.{AllGo, Comes, Goes, go-each, go-need}
+use Rattle.end_schedules.proofs.Rules.{AllGo, Comes, go-each, go-need}
 use Rattle.end_schedules.proofs.Steady.{AllNeed, Needs, NeedsGiven, Steady, steady-step}
 
 -- what the manager does by itself passes every client
@@ -114,9 +113,10 @@ member-cancels (Some Done) e = refl
 member-cancels (Some p) e = e
 
 pub go-off : (h : History) → Good h → Steady h → AllGo (Cancelled ∷ gave_each ShutdownCancelled (of.members h)) h
-go-off h g s =
-    (record { comes = tt; needs = tt },
-    go-each ShutdownCancelled (of.members h) (Cancelled ▷ h) s.once_members (λ c i. member-cancels (of.phase_of c h) (sym (g.level c) ∙ i)) (λ x e. ap (λ (o : Option of.Begun). is_some o) e))
+go-off h g s = (
+  record { comes = tt; needs = tt },
+  go-each ShutdownCancelled (of.members h) (Cancelled ▷ h) s.once_members (λ c i. member-cancels (of.phase_of c h) (sym (g.level c) ∙ i)) (λ x e. ap (λ (o : Option of.Begun). is_some o) e),
+)
 
 -- the round as it was read before, where its members are still the same
 answer-off : (d : ℕ) (o : Option of.Begun) (before h : History) → of.members before ≡ of.members h → Good h → Steady h
@@ -235,7 +235,7 @@ answer-ordered d Shutdown h g s = answer-to d (may_wait (reading h)) (Outside (O
 answer-ordered d Cancel h g s =
     answer-cond (is_shutdown (wanted_in (of.round h))) d (Printed (codes "ok") ∷ called_off (of.round h)) (Printed (codes "no shutdown") ∷ []) (Outside (Operator Cancel) ▷ h)
     (let a : Answer d (called_off (of.round h)) (Printed (codes "ok") ▷ Outside (Operator Cancel) ▷ h) =
-      answer-off d (of.running h) h (Printed (codes "ok") ▷ Outside (Operator Cancel) ▷ h) refl (good-plain (Printed (codes "ok") ∷ []) (Outside (Operator Cancel) ▷ h) (tt, tt) g) (steady-step (Printed (codes "ok")) (Outside (Operator Cancel) ▷ h) tt s) in
+    answer-off d (of.running h) h (Printed (codes "ok") ▷ Outside (Operator Cancel) ▷ h) refl (good-plain (Printed (codes "ok") ∷ []) (Outside (Operator Cancel) ▷ h) (tt, tt) g) (steady-step (Printed (codes "ok")) (Outside (Operator Cancel) ▷ h) tt s) in
     record { pass = λ c n. (tt, a.pass c n); need = (tt, a.need) })
     (answer-to d (Printed (codes "no shutdown") ∷ []) (Outside (Operator Cancel) ▷ h) (tt, tt))
 answer-ordered d (DropConn c) h g s =

@@ -1,36 +1,34 @@
 -- Each rule by which the session settles gives something only in a phase where that has its place, and keeps rounds steady.
-use Rattle.std.proofs.Common.{◌≡◌, ◌≢◌, refl, sym, ap, ◌∙◌, subst, ℕ, zero, suc, Bool, true, false, cond, not, ◌&&◌, ◌||◌, List, [], ◌∷◌, ◌++◌, map, filter, eqb, arith}
+use Rattle.std.proofs.Common.{◌≡◌, refl, sym, ap, ◌∙◌, subst, ℕ, Bool, true, false, cond, not, ◌&&◌, ◌||◌, List, [], ◌∷◌, ◌++◌, map, filter, eqb, arith}
 use Rattle.std.specs.Prelude.{Option, Some, None, is_some, filter_map}
-use Rattle.std.specs.List.{list_any}
 use Rattle.std.proofs.lemmas.Bool.Decides.{nat_tests}
 use Rattle.sm_world.specs.declared.commands.Command.{Command}
 use Rattle.ice_values.specs.declared.property.Property.{Property}
 use Rattle.checkpoint_records.specs.declared.records.Book.{Book}
 use Rattle.round_agreement.specs.declared.round.Member.{Member}
-use Rattle.round_agreement.specs.declared.round.Step.{Step}
 use Rattle.round_agreement.specs.declared.wanted.Wanted.{Wanted}
-use Rattle.round_agreement.specs.Agreement.{Agreement, agreed, all_done, conns_of, deserted, is_done, is_nil, two_ready, wants_two}
+use Rattle.round_agreement.specs.Agreement.{Agreement, agreed, all_done, conns_of, deserted, is_done, two_ready, wants_two}
 use Rattle.interact_queue.specs.Queue.{is_in, next_holder}
 use Rattle.discard_ledger.specs.Discards.{issuable}
 use Rattle.xsmp_messages.specs.declared.message.XsmpMessage.{XsmpMessage}
-use Rattle.xsmp_messages.specs.declared.message.XsmpMessage.TheVariants.{Die, Interact, SaveComplete, SaveYourselfPhase2, ShutdownCancelled}
+use Rattle.xsmp_messages.specs.declared.message.XsmpMessage.TheVariants.{Die, SaveComplete, SaveYourselfPhase2}
 use Rattle.session_model.specs.declared.phase.Phase.{Phase}
-use Rattle.session_model.specs.declared.phase.Phase.TheVariants.{Asked, AskedTwo, Done, Dying, Idle, Interacting, InteractingTwo, Owing, Saving, SavingTwo, Unregistered, WantsTwo}
+use Rattle.session_model.specs.declared.phase.Phase.TheVariants.{Done, Dying, Idle, Owing, Unregistered}
 use Rattle.session_model.specs.declared.waits.Wait.{Wait}
 use Rattle.session_model.specs.Books.{discarded, issue, next_book, standing}
-use Rattle.session_model.specs.Moves.{Agreed, Began, Blamed, Cause, Closed, Committed, Discard, End, Finished, Gave, History, Move, Outside, Over, Tried, Unset, gave_each, onto, tried_each, ◌▷◌}
-use Rattle.session_model.specs.Phases.{is_asked, is_dying, is_member, is_owing, is_registered, phase_given, step_of}
-use Rattle.session_model.specs.Reading.{Clients, reading}
+use Rattle.session_model.specs.Moves.{Began, Blamed, Cause, Closed, Discard, End, Gave, History, Move, Outside, Tried, Unset, gave_each, onto, tried_each, ◌▷◌}
+use Rattle.session_model.specs.Phases.{is_dying, is_member, is_owing, is_registered, phase_given, step_of}
+use Rattle.session_model.specs.Reading.{reading}
 use Rattle.session_model.specs.Readings as of
-use Rattle.session_model.specs.Rules.{agreed_rule, agreement, agreement_with, begin, begin_first, completed, ended, finished, go_on, idle_rule, is_free, last_command, members_for, over_rule, round_rule, rule, running_rule, save_yourself, settle, settled, token_rule, wanting_two}
+use Rattle.session_model.specs.Rules.{agreed_rule, agreement_with, begin, begin_first, completed, ended, idle_rule, is_free, last_command, members_for, over_rule, round_rule, rule, running_rule, save_yourself, token_rule, wanting_two}
 use Rattle.session_model.proofs.Asked.{in-filter, phases-tell}
-use Rattle.session_model.proofs.Level.{Good, onto-append}
+use Rattle.session_model.proofs.Level.{Good}
 use Rattle.session_model.proofs.Lists.{Once}
-use Rattle.session_model.proofs.Ruled.{and-left, and-right, any-in, closing, conns-rows, denied, good-rule, nobody-level, none-in, round_now, rows_now, others}
+use Rattle.session_model.proofs.Ruled.{and-left, and-right, any-in, closing, conns-rows, denied, nobody-level, round_now, rows_now, others}
 use Rattle.session_model.proofs.Sound.{is_wanted_alone}
 use Rattle.session_model.specs.Waits.{is_only}
 use Rattle.end_agreement.specs.Sides.{is_at_work, may_begin_two, may_complete, may_die, may_give, may_save}
-use Rattle.end_schedules.proofs.Steady.{AllNeed, Begins, Needs, NeedsGiven, Steady, differ, steady-onto}
+use Rattle.end_schedules.proofs.Steady.{AllNeed, Needs, NeedsGiven, Steady, differ}
 
 -- What the manager does by itself: it gives something where it may.
 
@@ -90,11 +88,12 @@ later-in c d ds i = grind (arith, nat_tests)
 pub go-each : (m : XsmpMessage) (conns : List ℕ) (h : History) → Once conns → ((c : ℕ) → is_in c conns ≡ true → may_give m (of.phase_of c h) ≡ true) → ((g : History) → of.running g ≡ of.running h → NeedsGiven m g)
     → AllGo (gave_each m conns) h
 go-each m [] h o f n = tt
-go-each m (d ∷ conns) h o f n =
-    (record { comes = f d (first-in d conns); needs = n h refl },
-    go-each m conns (Gave d m ▷ h) o.1
-    (λ c i. subst (λ (p : Option Phase). may_give m p ≡ true) (sym (still-there m c d conns h o.0 i)) (f c (later-in c d conns i)))
-    (λ g e. n g e))
+go-each m (d ∷ conns) h o f n = (
+  record { comes = f d (first-in d conns); needs = n h refl },
+  go-each m conns (Gave d m ▷ h) o.1
+      (λ c i. subst (λ (p : Option Phase). may_give m p ≡ true) (sym (still-there m c d conns h o.0 i)) (f c (later-in c d conns i)))
+      (λ g e. n g e),
+)
 
 -- The second phase
 
@@ -186,10 +185,14 @@ go-completed false book h round k e f g s =
 
 go-agreement : (book : Book) (h : History) (round : Agreement) → conns_of round.members ≡ of.members h → is_some (of.running h) ≡ true → ((c : ℕ) → is_in c (of.members h) ≡ true → may_complete (of.phase_of c h) ≡ true) → Good h → Steady h
     → AllGo (agreement_with (reading h).clients round book) h
-go-agreement book h round k e f g s =
-    (record { comes = tt; needs = tt }, (record { comes = tt; needs = tt },
+go-agreement book h round k e f g s = (
+  record { comes = tt; needs = tt },
+  (
+    record { comes = tt; needs = tt },
     go-append (completed round.wanted.shutdown (reading h).clients round book) (discarded (reading h).clients book) (closing book h)
-    (go-completed round.wanted.shutdown book h round k e f g s) (go-issue book (issuable (standing (reading h).clients) book.pending) _)))
+        (go-completed round.wanted.shutdown book h round k e f g s) (go-issue book (issuable (standing (reading h).clients) book.pending) _),
+  ),
+)
 
 go-over : (b : Bool) (h : History) → AllGo (over_rule b) h
 go-over true h = (record { comes = tt; needs = tt }, tt)
@@ -276,14 +279,15 @@ begun-needs w conns h g e = λ x k.
     record { shutdown = ap (λ (y : Wanted). y.shutdown) same; style = ap (λ (y : Wanted). y.style) same }
 
 go-begin : (conns : List ℕ) (w : Wanted) (h : History) → Once conns → of.members h ≡ [] → is_free (reading h) ≡ true → ((c : ℕ) → is_in c conns ≡ true → is_registered (of.phase_of c h) ≡ true) → Good h → AllGo (begin conns w) h
-go-begin conns w h o e f r g =
-    (record {
-      comes = tt;
-      needs = record { once = o; free = free-all h f g; idle = λ c. not-work (of.phase_of c h) (nobody-level h e g.level c); goes_on = goes-on h f };
-    },
-    go-each (save_yourself w) conns (Began conns w ▷ h) o
-    (λ c i. saves (of.phase_of c h) (r c i) (nobody-level h e g.level c) (free-all h f g c) (denied (is_dying (of.phase_of c h)) (λ d. differ (g.sound.die_at_end c d) (goes-on h f))))
-    (λ x k. begun-needs w conns h x k))
+go-begin conns w h o e f r g = (
+  record {
+    comes = tt;
+    needs = record { once = o; free = free-all h f g; idle = λ c. not-work (of.phase_of c h) (nobody-level h e g.level c); goes_on = goes-on h f };
+  },
+  go-each (save_yourself w) conns (Began conns w ▷ h) o
+      (λ c i. saves (of.phase_of c h) (r c i) (nobody-level h e g.level c) (free-all h f g c) (denied (is_dying (of.phase_of c h)) (λ d. differ (g.sound.die_at_end c d) (goes-on h f))))
+      (λ x k. begun-needs w conns h x k),
+)
 
 go-first : (ws : List Wait) (h : History) → of.waits h ≡ ws → of.members h ≡ [] → is_free (reading h) ≡ true → Good h → AllGo (begin_first (of.registered h) ws) h
 go-first [] h k e f g = tt

@@ -1,26 +1,25 @@
 -- What each event brings, and what holds between events.
-use Rattle.std.proofs.Common.{◌≡◌, ◌≢◌, refl, sym, ap, ◌∙◌, subst, ℕ, zero, suc, ◌+◌, ◌*◌, Bool, true, false, cond, not, ◌&&◌, ◌||◌, List, [], ◌∷◌, ◌++◌, length, eqb, arith}
-use Rattle.std.specs.Prelude.{Option, Some, None}
+use Rattle.std.proofs.Common.{◌≡◌, ◌≢◌, refl, sym, ap, ◌∙◌, subst, ℕ, zero, suc, ◌+◌, ◌*◌, Bool, true, false, cond, ◌&&◌, List, [], ◌∷◌, ◌++◌, length, eqb, arith}
 use Rattle.std.proofs.lemmas.Bool.Decides.{nat_tests}
 use Rattle.round_agreement.specs.Agreement.{is_nil}
-use Rattle.round_agreement.specs.declared.wanted.Wanted.{Wanted}
 use Rattle.restart_plan.specs.Restarts.{opening_restarts}
 use Rattle.session_model.specs.declared.events.SessionEvent.{SessionEvent}
-use Rattle.session_model.specs.declared.events.SessionEvent.TheVariants.{Joined, Left, Operator, Ready, Said, Tick}
+use Rattle.session_model.specs.declared.events.SessionEvent.TheVariants.{Said}
 use Rattle.session_model.specs.Books.{issue, opening_moves, raised}
+use Rattle.session_model.specs.Laws.{Always}
 use Rattle.session_model.specs.Moves.{Finished, History, Move, Opened, Outside, Restart, onto, tried_each, ◌▷◌, Opening}
 use Rattle.session_model.specs.Reading.{reading}
 use Rattle.session_model.specs.Readings as of
 use Rattle.session_model.specs.Replies.{reply}
-use Rattle.session_model.specs.Rules.{finished, go_on, opened, rule, run, settle, settled, taken}
+use Rattle.session_model.specs.Rules.{finished, go_on, opened, rule, run, settle, taken}
 use Rattle.session_model.proofs.Level.{Good, onto-append}
 use Rattle.session_model.proofs.Replied.{good-opened, good-reply, good-taken}
-use Rattle.session_model.proofs.Ruled.{good-rule, good-settle}
+use Rattle.session_model.proofs.Ruled.{good-rule}
 use Rattle.end_schedules.specs.Laws.{AllPass, IsPassed, OthersPass, SavesAreOfTheRound, SettlingPasses, answered_to}
 use Rattle.end_schedules.specs.Pairs.{is_of}
-use Rattle.end_schedules.proofs.Replies.{Answer, IsFrom, answer, go-pass}
-use Rattle.end_schedules.proofs.Rules.{AllGo, Goes, go-append, go-issue, go-need, go-rule, go-tried}
-use Rattle.end_schedules.proofs.Steady.{AllNeed, Steady, steady-onto, steady-opened, steady-step}
+use Rattle.end_schedules.proofs.Replies.{IsFrom, answer, go-pass}
+use Rattle.end_schedules.proofs.Rules.{AllGo, go-append, go-issue, go-need, go-rule, go-tried}
+use Rattle.end_schedules.proofs.Steady.{Steady, steady-onto, steady-opened, steady-step}
 
 -- what the manager did by itself leads from one history to the other
 pub record Went (h g : History) : Type 0 where
@@ -90,9 +89,10 @@ stood-opened : (opening : Opening) → Stood (opened opening)
 stood-opened opening = record {
   good = good-opened opening;
   steady = steady-onto (opening_moves opening.book) (Opened opening)
-      (go-need (opening_moves opening.book) (Opened opening)
-      (record { comes = tt; needs = tt },
-      go-append (issue (raised opening.book) opening.book.pending) (tried_each Restart (opening_restarts opening.book.entries)) _ (go-issue (raised opening.book) opening.book.pending _) (go-tried Restart (opening_restarts opening.book.entries) _)))
+      (go-need (opening_moves opening.book) (Opened opening) (
+        record { comes = tt; needs = tt },
+        go-append (issue (raised opening.book) opening.book.pending) (tried_each Restart (opening_restarts opening.book.entries)) _ (go-issue (raised opening.book) opening.book.pending _) (go-tried Restart (opening_restarts opening.book.entries) _),
+      ))
       (steady-opened opening);
 }
 
@@ -100,7 +100,7 @@ stood-on : (events : List SessionEvent) (h : History) → Stood h → Stood (run
 stood-on [] h s = s
 stood-on (event ∷ events) h s = stood-on events (taken event h) (stood-taken event h s)
 
-pub stood-run : (opening : Opening) (events : List SessionEvent) → Stood (run (opened opening) events)
+pub stood-run : Always (λ h. Stood h)
 stood-run opening events = stood-on events (opened opening) (stood-opened opening)
 
 pub saves-are-of : SavesAreOfTheRound
@@ -138,11 +138,7 @@ unlike d c n e = grind (arith, nat_tests)
 
 is-other : (c : ℕ) (event : SessionEvent) → is_of c event ≡ false → other_than c event ≢ c
 is-other c (Said d m sequence frame) n = unlike d c n
-is-other c (Joined d) n = not-next c
-is-other c (Ready d) n = not-next c
-is-other c (Left d) n = not-next c
-is-other c (Operator order) n = not-next c
-is-other c (Tick milliseconds) n = not-next c
+is-other c event n = not-next c
 
 pub others-answered : (c : ℕ) (event : SessionEvent) (h : History) → is_of c event ≡ false → Good h → Steady h → IsPassed c h (answered_to event h)
 others-answered c event h n g s = record {

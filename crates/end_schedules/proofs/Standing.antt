@@ -1,13 +1,13 @@
 -- Both ends meet, where the manager's is read from a history; what passes a client keeps that.
-use Rattle.std.proofs.Common.{◌≡◌, ◌≢◌, refl, sym, ap, ◌∙◌, subst, ℕ, zero, suc, ◌+◌, ◌≤◌, Bool, true, false, cond, not, ◌&&◌, ◌||◌, List, [], ◌∷◌, ◌++◌, length, drop, eqb, arith, length-append}
-use Rattle.std.specs.Prelude.{Option, Some, None, is_some}
+use Rattle.std.proofs.Common.{◌≡◌, ◌≢◌, refl, sym, ◌∙◌, subst, ℕ, zero, suc, ◌≤◌, Bool, true, false, cond, not, ◌||◌, List, [], ◌∷◌, ◌++◌, length, drop, eqb, arith, length-append}
+use Rattle.std.specs.Prelude.{Option, None}
 use Rattle.std.specs.List.{list_any}
 use Rattle.std.proofs.lemmas.Bool.Decides.{nat_tests}
 use Rattle.interact_queue.specs.Queue.{is_in, without}
 use Rattle.xsmp_messages.specs.declared.message.XsmpMessage.{XsmpMessage}
 use Rattle.xsmp_messages.specs.declared.message.XsmpMessage.TheVariants.{Error, SaveYourself}
 use Rattle.session_model.specs.declared.events.SessionEvent.{SessionEvent}
-use Rattle.session_model.specs.declared.events.SessionEvent.TheVariants.{Joined, Left, Operator, Ready, Said, Tick}
+use Rattle.session_model.specs.declared.events.SessionEvent.TheVariants.{Joined, Left, Ready, Said}
 use Rattle.session_model.specs.declared.phase.Phase.{Phase}
 use Rattle.session_model.specs.Moves.{Blamed, Closed, Gave, History, Move, Outside, Unset, onto, ◌▷◌}
 use Rattle.session_model.specs.Phases.{may_interact, phase_given, phase_said, ready_phase}
@@ -21,7 +21,6 @@ use Rattle.end_agreement.proofs.Giving.{giving-meets}
 use Rattle.end_schedules.specs.Laws.{AllPass, IsPassed, Passes, is_bad_state}
 use Rattle.end_schedules.specs.Pairs.{is_of}
 use Rattle.end_schedules.specs.UnderWay.{Save, save_given, save_of, sent_to, side_of, side_with}
-use Rattle.end_schedules.proofs.Steady.{differ}
 
 -- Of what the client was sent it has taken so many, both ends meet, and nothing of it is BadState.
 pub record Stands (side : Side) (s : ClientState) (up : List XsmpMessage) (n : ℕ) (sent : List XsmpMessage) : Type 0 where
@@ -87,14 +86,12 @@ other-conn d c n = other-at (eqb d c) refl where
   other-at false e = refl
 
 at-outside : (c : ℕ) (event : SessionEvent) (h : History) (s : ClientState) (up : List XsmpMessage) (n : ℕ) → is_of c event ≡ false → At c h s up n → At c (Outside event ▷ h) s up n
-at-outside c (Joined d) h s up n e k = k
 at-outside c (Ready d) h s up n e k =
     subst (λ (b : Bool). Stands (side_with (cond b (ready_phase (of.phase_of c h)) (of.phase_of c h)) (save_of c h)) s up n (cond b [] (sent_to c h))) (sym e) k
 at-outside c (Said d m sequence frame) h s up n e k =
     subst (λ (b : Bool). Stands (side_with (cond b (phase_said (λ dialog. may_interact (of.wanted h) dialog) m (of.phase_of c h)) (of.phase_of c h)) (save_of c h)) s up n (sent_to c h)) (sym e) k
 at-outside c (Left d) h s up n e k = subst (λ (b : Bool). Stands (side_with (cond b None (of.phase_of c h)) (save_of c h)) s up n (sent_to c h)) (sym e) k
-at-outside c (Operator order) h s up n e k = k
-at-outside c (Tick milliseconds) h s up n e k = k
+at-outside c event h s up n e k = k
 
 still-live : (d c : ℕ) (conns : List ℕ) → is_in c (without d conns) ≡ true → eqb d c ≡ false
 still-live d c conns l = not-so (eqb d c) (and-left (not (eqb d c)) (is_in c conns) (sym (in-without c d conns) ∙ l)) where

@@ -1,23 +1,22 @@
 -- What holds of rounds at every move: nobody is a member twice, nobody owes an answer while one runs, none runs once a shutdown was
 -- agreed, and who saves was asked so by the round that runs.
-use Rattle.std.proofs.Common.{◌≡◌, ◌≢◌, refl, sym, ap, ◌∙◌, subst, ℕ, Bool, true, false, cond, not, ◌&&◌, ◌||◌, List, [], ◌∷◌, ◌++◌, eqb, arith}
+use Rattle.std.proofs.Common.{◌≡◌, refl, ℕ, Bool, true, false, cond, List, [], ◌∷◌, eqb, arith}
 use Rattle.std.specs.Prelude.{Option, Some, None, is_some}
-use Rattle.std.proofs.lemmas.Bool.Decides.{nat_tests}
 use Rattle.sm_world.specs.declared.events.Dialog.{Dialog}
 use Rattle.xsmp_messages.specs.declared.message.XsmpMessage.{XsmpMessage}
 use Rattle.xsmp_messages.specs.declared.message.XsmpMessage.TheVariants.{Die, Interact, InteractDone, InteractRequest, RegisterClientReply, SaveComplete, SaveYourself, SaveYourselfDone, SaveYourselfPhase2, SaveYourselfPhase2Request, ShutdownCancelled}
 use Rattle.round_agreement.specs.declared.wanted.Wanted.{Wanted}
 use Rattle.session_model.specs.declared.events.SessionEvent.{SessionEvent}
-use Rattle.session_model.specs.declared.events.SessionEvent.TheVariants.{Joined, Left, Operator, Ready, Said, Tick}
+use Rattle.session_model.specs.declared.events.SessionEvent.TheVariants.{Left, Ready, Said}
 use Rattle.session_model.specs.declared.phase.Phase.{Phase}
-use Rattle.session_model.specs.declared.phase.Phase.TheVariants.{Asked, AskedTwo, Done, Dying, Idle, Interacting, InteractingTwo, Owing, Saving, SavingTwo, Unregistered, WantsTwo}
+use Rattle.session_model.specs.declared.phase.Phase.TheVariants.{Asked, AskedTwo, Done, Idle, Interacting, InteractingTwo, Owing, Saving, SavingTwo, Unregistered, WantsTwo}
 use Rattle.session_model.specs.Moves.{Agreed, Began, Cancelled, Closed, Gave, History, Move, Opened, Outside, Over, Unset, onto, ◌▷◌}
-use Rattle.session_model.specs.Phases.{asked_phase, cancelled_phase, dying_phase, is_owing, may_interact, phase_given, phase_said, ready_phase, saved_phase, second_phase, talked_phase}
+use Rattle.session_model.specs.Phases.{asked_phase, is_owing, may_interact, phase_given, phase_said, ready_phase, saved_phase, second_phase, talked_phase}
 use Rattle.session_model.specs.Readings as of
 use Rattle.session_model.proofs.Lists.{Once, once-without}
 use Rattle.end_agreement.specs.Sides.{is_at_work}
 use Rattle.end_schedules.specs.Laws.{IsOfRound}
-use Rattle.end_schedules.specs.UnderWay.{Save, save_given, save_of}
+use Rattle.end_schedules.specs.UnderWay.{Save, save_of}
 
 pub record Steady (h : History) : Type 0 where
   pub once_members : Once (of.members h)
@@ -134,14 +133,12 @@ abbrev pub NobodyOwes : History → Type 0
 NobodyOwes h = is_some (of.running h) ≡ true → (c : ℕ) → is_owing (of.phase_of c h) ≡ false
 
 owes-heard : (event : SessionEvent) (h : History) → NobodyOwes h → NobodyOwes (Outside event ▷ h)
-owes-heard (Joined d) h k e c = k e c
 owes-heard (Ready d) h k e c = owing-cond (eqb d c) (of.phase_of c h) (ready_phase (of.phase_of c h)) (k e c) (owing-ready (of.phase_of c h) (k e c))
 owes-heard (Said d m sequence frame) h k e c =
     owing-cond (eqb d c) (of.phase_of c h) (phase_said (λ dialog. may_interact (of.wanted h) dialog) m (of.phase_of c h)) (k e c)
     (owing-said (λ dialog. may_interact (of.wanted h) dialog) m (of.phase_of c h) (k e c))
 owes-heard (Left d) h k e c = owing-cond (eqb d c) (of.phase_of c h) None (k e c) refl
-owes-heard (Operator order) h k e c = k e c
-owes-heard (Tick milliseconds) h k e c = k e c
+owes-heard event h k e c = k e c
 
 owes-given : (d : ℕ) (m : XsmpMessage) (h : History) → NeedsGiven m h → NobodyOwes h → NobodyOwes (Gave d m ▷ h)
 owes-given d ShutdownCancelled h n k e c = absurd (differ e n)
@@ -245,13 +242,11 @@ abbrev pub Says : History → Type 0
 Says h = (c : ℕ) (wanted : Wanted) → of.wanted h ≡ Some wanted → is_at_work (of.phase_of c h) ≡ true → IsOfRound (save_of c h) wanted
 
 says-heard : (event : SessionEvent) (h : History) → Says h → Says (Outside event ▷ h)
-says-heard (Joined d) h k c w e a = k c w e a
 says-heard (Ready d) h k c w e a = k c w e (work-cond (eqb d c) (of.phase_of c h) (ready_phase (of.phase_of c h)) (work-ready (of.phase_of c h)) a)
 says-heard (Said d m sequence frame) h k c w e a =
     k c w e (work-cond (eqb d c) (of.phase_of c h) (phase_said (λ dialog. may_interact (of.wanted h) dialog) m (of.phase_of c h)) (work-said (λ dialog. may_interact (of.wanted h) dialog) m (of.phase_of c h)) a)
 says-heard (Left d) h k c w e a = k c w e (work-cond (eqb d c) (of.phase_of c h) None (λ n. absurd (grind arith)) a)
-says-heard (Operator order) h k c w e a = k c w e a
-says-heard (Tick milliseconds) h k c w e a = k c w e a
+says-heard event h k c w e a = k c w e a
 
 kept-save : (b : Bool) (save : Save) (w : Wanted) → IsOfRound save w → IsOfRound (cond b save save) w
 kept-save true save w k = k

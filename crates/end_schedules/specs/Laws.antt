@@ -8,10 +8,10 @@ use Rattle.xsmp_messages.specs.declared.message.XsmpMessage.TheVariants.{Error}
 use Rattle.round_agreement.specs.declared.wanted.Wanted.{Wanted}
 use Rattle.interact_queue.specs.Queue.{is_in}
 use Rattle.session_model.specs.declared.events.SessionEvent.{SessionEvent}
-use Rattle.session_model.specs.declared.events.SessionEvent.TheVariants.{Ready, Said}
+use Rattle.session_model.specs.declared.events.SessionEvent.TheVariants.{Said}
 use Rattle.session_model.specs.declared.phase.Phase.{Phase}
 use Rattle.session_model.specs.Laws.{Always}
-use Rattle.session_model.specs.Moves.{Blamed, Closed, Gave, History, Move, Outside, Unset, onto, ◌▷◌}
+use Rattle.session_model.specs.Moves.{Blamed, Gave, History, Move, Outside, Unset, onto, ◌▷◌}
 use Rattle.session_model.specs.Reading.{reading}
 use Rattle.session_model.specs.Readings as of
 use Rattle.session_model.specs.Replies.{reply}

@@ -3,9 +3,10 @@ use Rattle.std.specs.Prelude.{Bool, List, None, Option, Some, [], drop, false, i
 use Rattle.xsmp_messages.specs.declared.message.XsmpMessage.{XsmpMessage}
 use Rattle.xsmp_messages.specs.declared.message.XsmpMessage.TheVariants.{RegisterClient}
 use Rattle.session_model.specs.declared.events.SessionEvent.{SessionEvent}
-use Rattle.session_model.specs.declared.events.SessionEvent.TheVariants.{Joined, Left, Operator, Ready, Said, Tick}
+use Rattle.session_model.specs.declared.events.SessionEvent.TheVariants.{Joined, Left, Ready, Said}
 use Rattle.session_model.specs.declared.phase.Phase.{Phase}
-use Rattle.session_model.specs.Moves.{History, Opening}
+use Rattle.session_model.specs.Laws.{Always}
+use Rattle.session_model.specs.Moves.{History}
 use Rattle.session_model.specs.Reading.{reading}
 use Rattle.session_model.specs.Readings as of
 use Rattle.session_model.specs.Rules as session
@@ -46,8 +47,7 @@ is_of c (Joined d) = d == c
 is_of c (Ready d) = d == c
 is_of c (Said d m sequence frame) = d == c
 is_of c (Left d) = d == c
-is_of c (Operator order) = false
-is_of c (Tick milliseconds) = false
+is_of c event = false
 
 -- what waits for the client
 abbrev pub down_of : ℕ → Pair → List XsmpMessage
@@ -111,6 +111,5 @@ begun c previous asked h = record {
 -- this holds after every schedule of steps, at whatever point of a run the client begins
 abbrev pub InEveryPair : (ℕ → Pair → Type 0) → Type 0
 InEveryPair Holds =
-    (opening : Opening) (events : List SessionEvent) (c : ℕ) (previous : List ℕ) (asked : SaveAsk) (steps : List Step)
-    → session.Takes (Ready c) (reading (session.run (session.opened opening) events)) → AllMay c steps (begun c previous asked (session.run (session.opened opening) events))
-    → Holds c (after c steps (begun c previous asked (session.run (session.opened opening) events)))
+    Always (λ h. (c : ℕ) (previous : List ℕ) (asked : SaveAsk) (steps : List Step) → session.Takes (Ready c) (reading h) → AllMay c steps (begun c previous asked h)
+    → Holds c (after c steps (begun c previous asked h)))

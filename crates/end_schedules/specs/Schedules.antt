@@ -4,7 +4,8 @@ use Rattle.sm_world.specs.declared.events.Order.{Order}
 use Rattle.interact_queue.specs.Queue.{is_in}
 use Rattle.xsmp_messages.specs.declared.message.XsmpMessage.{XsmpMessage}
 use Rattle.session_model.specs.declared.events.SessionEvent.TheVariants.{Joined, Left, Operator, Ready, Tick}
-use Rattle.session_model.specs.Moves.{History, Opening}
+use Rattle.session_model.specs.Laws.{Always}
+use Rattle.session_model.specs.Moves.{History}
 use Rattle.session_model.specs.Reading.{reading}
 use Rattle.session_model.specs.Readings as of
 use Rattle.session_model.specs.Rules as session
@@ -85,11 +86,11 @@ abbrev pub AllMayTurn : List Turn → Company → Type 0
 AllMayTurn [] t = Unit {0}
 AllMayTurn (x ∷ turns) t = MayTurn x t × AllMayTurn turns (turn x t)
 
--- a manager over a book, with nobody there
-abbrev pub company_of : Opening → Company
-company_of opening = record { history = session.opened opening; ends = λ c. None }
+-- a manager at some point of its run, of whose clients none is followed yet
+abbrev pub company_of : History → Company
+company_of h = record { history = h; ends = λ c. None }
 
--- this holds of the manager and each client that is there, after every schedule
+-- this holds of the manager and each client that is there, after every schedule, wherever in a run it begins
 abbrev pub InEverySchedule : (ℕ → Pair → Type 0) → Type 0
 InEverySchedule Holds =
-    (opening : Opening) (turns : List Turn) → AllMayTurn turns (company_of opening) → (c : ℕ) (e : End) → (after_turns turns (company_of opening)).ends c ≡ Some e → Holds c (paired (after_turns turns (company_of opening)).history e)
+    Always (λ h. (turns : List Turn) → AllMayTurn turns (company_of h) → (c : ℕ) (e : End) → (after_turns turns (company_of h)).ends c ≡ Some e → Holds c (paired (after_turns turns (company_of h)).history e))

@@ -5,6 +5,6 @@
 mod laws;
 
 pub use laws::{
-    all_ends_agree, answers_are_few, both_ends_agree, client_sends_no_bad_state, manager_sends_no_bad_state,
-    others_pass, saves_are_of_the_round, settling_passes,
+    all_ends_agree, answers_are_few, both_ends_agree, client_sends_no_bad_state,
+    manager_sends_no_bad_state, others_pass, saves_are_of_the_round, settling_passes,
 };
