@@ -53,7 +53,7 @@ last_moved : (m : Move) (book : Book) → last_of book (written_by m) ≡ of.boo
 last_moved (Committed written) book = refl
 last_moved m book = refl
 
-last_of-append : (book : Book) (xs ys : List Book) → last_of book (xs ++ ys) ≡ last_of (last_of book xs) ys
+pub last_of-append : (book : Book) (xs ys : List Book) → last_of book (xs ++ ys) ≡ last_of (last_of book xs) ys
 last_of-append book [] ys = refl
 last_of-append book (x ∷ xs) ys = last_of-append x xs ys
 

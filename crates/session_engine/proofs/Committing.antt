@@ -154,6 +154,7 @@ written_then current next old xs ys whole failed es ds one two =
     }
 
 pub all_then : (current next last : Option Current) (old : Book) (xs ys : List Act) (es ds : List Effect) → AllWritten current old xs es next → AllWritten next (book_after old xs) ys ds last → AllWritten current old (xs ++ ys) (es ++ ds) last
+unfolding written_then
 all_then current next last old xs ys es ds one two = record { has = written_then current next old xs ys true false es ds one two.has; leaves = two.leaves }
 
 -- acts that weren't all done, and others behind them

@@ -1,6 +1,8 @@
 pub mod CutLemmas
 pub mod Connections
 pub mod Adding
+pub mod Committing
+pub mod Neighbours
 pub mod Performing
 pub mod Storing
 pub mod Writing

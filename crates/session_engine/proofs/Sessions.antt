@@ -1,5 +1,5 @@
 -- What a session stands for, from event to event: the theorem about the engine, on lists alone.
-use Rattle.std.proofs.Common.{◌≡◌, inl, inr, ℕ, true, false, List, [], ◌∷◌, ◌++◌, take, drop, map, Option, Result, Ok, Err, IsOk, IsErrOf, refl, sym, ◌∙◌, ap, arith, append_assoc, subst}
+use Rattle.std.proofs.Common.{◌≡◌, inl, inr, ℕ, Bool, true, false, List, [], ◌∷◌, ◌++◌, take, drop, map, Option, Result, Ok, Err, IsOk, IsErrOf, refl, sym, ◌∙◌, ap, arith, append_assoc, subst}
 use Rattle.std.proofs.lemmas.List.{append-nil}
 use Rattle.std.proofs.lemmas.Bool.{false≢true}
 use Rattle.std.proofs.lemmas.Grind.{flat_map-append}
@@ -8,13 +8,15 @@ use Rattle.sm_world.specs.Effects.{deed_of, deeds, heard}
 use Rattle.sm_world.specs.declared.effects.Effect.{Effect}
 use Rattle.sm_world.specs.declared.effects.Effect.TheVariants.{Heard}
 use Rattle.sm_world.specs.declared.events.Event.{Event}
+use Rattle.book_order.specs.Order.{InOrder}
 use Rattle.checkpoint_records.specs.declared.records.Book.{Book}
 use Rattle.checkpoint_slots.specs.Turns.{SteadyStands, next_generation, opened_in}
 use Rattle.checkpoint_slots.specs.declared.turn.Current.{Current}
 use Rattle.session_engine.specs.declared.config.Config.{Config}
-use Rattle.session_engine.specs.Acts.{book_after, commits_in, deed_in, deeds_in, has_finish}
+use Rattle.session_engine.specs.Acts.{book_after, books_in, commits_in, deed_in, deeds_in, has_finish}
 use Rattle.session_engine.specs.Carries.{IsCurrent as IsCurrentWith, Keeps as KeepsWith, Runs as RunsWith, is_whole}
 use Rattle.session_engine.specs.Causes.{IsOfRun, fault_of}
+use Rattle.session_engine.specs.Commits.{AllWritten, HasWritten, is_disk_fault, is_of_disk}
 use Rattle.session_engine.specs.Machine.{Did, Machine, acts_of, after_all, step}
 use Rattle.session_engine.specs.Saved.{IsSaved, Performs, WearsOut}
 use Rattle.session_engine.specs.Stops.{HasNumbers, IsNumbered, IsRefused, Stops, StopsAt}
@@ -28,6 +30,8 @@ use Rattle.session_engine.specs.declared.fault.Halt.TheVariants.{Links, Console,
 use Rattle.session_engine.specs.declared.fault.ServeFault.{ServeFault}
 use Rattle.session_engine.specs.declared.fault.ServeFault.TheVariants.{Damaged, WrongSize, DiskFault, LinkFault, ConsoleFault, Worn, Spent, NoMemory}
 use Rattle.session_engine.specs.declared.session.Session.{Session}
+use Rattle.session_engine.proofs.Committing.{all_then, order_two, written_heard, written_then}
+use Rattle.session_engine.proofs.Neighbours.{order_script}
 use Rattle.session_engine.proofs.Opening.{opened_unfinished}
 use Rattle.checkpoint_journal.proofs.Swapping.{opened_in-append}
 use Rattle.session_engine.proofs.Settling.{settle_more}
@@ -91,6 +95,30 @@ run_stops current b acts halt es stops = record {
   leaves = stops.leaves;
 }
 
+-- what a halted run wrote
+run_writes : (current : Option Current) (b : Book) (acts : List Act) (halt : Halt) (es : List Effect) → HasWritten current b acts false (is_of_disk halt) es → HasWritten current b acts (is_whole (Err (fault_of halt))) (is_disk_fault (fault_of halt)) es
+run_writes current b acts Links es has = has
+run_writes current b acts Console es has = has
+run_writes current b acts Disk es has = has
+run_writes current b acts WearsIt es has = has
+run_writes current b acts WantsMemory es has = has
+
+-- ... and one that came to its end
+calm_over : (fault : ServeFault) → StopsAt fault [] → is_disk_fault fault ≡ false
+calm_over (Damaged at) stops = refl
+calm_over (WrongSize size) stops = refl
+calm_over DiskFault stops = absurd stops
+calm_over LinkFault stops = refl
+calm_over ConsoleFault stops = refl
+calm_over Worn stops = refl
+calm_over Spent stops = refl
+calm_over NoMemory stops = refl
+
+over_writes : (current : Option Current) (b : Book) (acts : List Act) (whole : Bool) (fault : ServeFault) (es : List Effect) → StopsAt fault [] → HasWritten current b acts true false es → HasWritten current b acts whole (is_disk_fault fault) es
+over_writes current b acts whole fault es stops has =
+    subst (λ (failed : Bool). HasWritten current b acts whole failed es) (sym (calm_over fault stops))
+    (record { front = has.front; rest = has.rest; parts = has.parts; none_left = λ e. has.none_left refl; same = has.same; puts = has.puts; last = has.last; commits = has.commits; done = has.done })
+
 -- at a fault that comes where nothing is left, each checkpoint had its number
 all_numbered : (fault : ServeFault) (store : Stored) (acts : List Act) (es : List Effect) → StopsAt fault [] → IsNumbered store acts es → HasNumbers store fault acts es
 all_numbered (Damaged at) store acts es stops numbered = numbered
@@ -143,6 +171,10 @@ module _ (config : Config) (opening : Book) where
     none_behind = λ n event more is_heard. absurd (of.none_is_heard event (heard more) (sym (ap heard is_heard) ∙ of.deaf_back (heard (take n es)) (heard (drop n es)) (of.heard_parts n es performs.out.going.deaf)));
   }
 
+  -- the books that open a session are in order
+  order_opening : InOrder opening (books_in (of.opening_acts config opening))
+  order_opening = subst (λ (acts : List Act). InOrder opening (books_in acts)) (append-nil (of.opening_acts config opening)) (order_script config opening [])
+
   pub stands_begin : (current : Option Current) (session : Session) (es : List Effect) → Performs (store_of current opening) (of.opening_acts config opening) (Ok session.store) es → Shows all_cut session.engine start → StandsFor current session es
   stands_begin current session es performs shows =
       let acts : List Act = of.opening_acts config opening in
@@ -162,6 +194,7 @@ module _ (config : Config) (opening : Book) where
         opens = performs.opens ∙ ap commits_in (sym scripts);
         numbered = rw scripts performs.numbered;
         settles = performs.settles (λ e. absurd cc);
+        writes = rw scripts (performs.writes order_opening);
       }
 
   pub runs_unopened : (current : Option Current) (halt : Halt) (es : List Effect) → Performs (store_of current opening) (of.opening_acts config opening) (Err halt) es → Runs current (Err (fault_of halt)) es
@@ -179,6 +212,7 @@ module _ (config : Config) (opening : Book) where
     worn = λ e. rw (opening_script es performs.out.going.deaf) (performs.worn (worn_halt halt e));
     numbered = λ e. absurd (halt_cuts halt e);
     settles = λ not. performs.settles (λ e. not (disk_fails halt e));
+    writes = rw (opening_script es performs.out.going.deaf) (run_writes current opening (of.opening_acts config opening) halt es (performs.writes order_opening));
     stopped = rw (opening_script es performs.out.going.deaf) (run_stops current opening (of.opening_acts config opening) halt es performs.stopped);
   }
 
@@ -252,6 +286,30 @@ module _ (config : Config) (opening : Book) where
       rw (of.script-more config opening es ds event performs.out.going.deaf held.unfinished)
       (subst (λ (zs : List Effect). Stops current opening (acts ++ acts_at es event) (fault_of halt) (StopsAt (fault_of halt)) zs) (append_assoc es (Heard event ∷ []) ds) (run_stops current opening (acts ++ acts_at es event) halt ((es ++ Heard event ∷ []) ++ ds) stops))
 
+  -- the books of one event more are in order
+  order_at : (current : Option Current) (session : Session) (es : List Effect) (event : Event) → StandsFor current session es → InOrder session.store.book (books_in (acts_at es event))
+  order_at current session es event held =
+      rw held.saved
+      (order_two opening (script (heard es)) (acts_at es event)
+      (subst (λ (acts : List Act). InOrder opening (books_in acts)) (of.script-more config opening es [] event refl held.unfinished) (order_script config opening (heard (es ++ Heard event ∷ []))))).1
+
+  -- all that was written, with what was done about one event more
+  all_more : (current : Option Current) (session : Session) (next : Stored) (es ds : List Effect) (event : Event) → StandsFor current session es → Performs session.store (acts_at es event) (Ok next) ds → AllWritten current opening (script (heard (es ++ Heard event ∷ ds))) (es ++ Heard event ∷ ds) next.journal
+  all_more current session next es ds event held performs =
+      rw (of.script-more config opening es ds event performs.out.going.deaf held.unfinished)
+      (subst (λ (zs : List Effect). AllWritten current opening (script (heard es) ++ acts_at es event) zs next.journal) (append_assoc es (Heard event ∷ []) ds)
+      (all_then current session.store.journal next.journal opening (script (heard es)) (acts_at es event) (es ++ Heard event ∷ []) ds (written_heard current session.store.journal opening (script (heard es)) es event held.writes)
+      (rw held.saved at (performs.writes (order_at current session es event held)))))
+
+  -- and where its acts were stopped
+  cut_more : (current : Option Current) (session : Session) (halt : Halt) (es ds : List Effect) (event : Event) → StandsFor current session es → Performs session.store (acts_at es event) (Err halt) ds → HasWritten current opening (script (heard (es ++ Heard event ∷ ds))) (is_whole (Err (fault_of halt))) (is_disk_fault (fault_of halt)) (es ++ Heard event ∷ ds)
+  cut_more current session halt es ds event held performs =
+      rw (of.script-more config opening es ds event performs.out.going.deaf held.unfinished)
+      (subst (λ (zs : List Effect). HasWritten current opening (script (heard es) ++ acts_at es event) (is_whole (Err (fault_of halt))) (is_disk_fault (fault_of halt)) zs) (append_assoc es (Heard event ∷ []) ds)
+      (run_writes current opening (script (heard es) ++ acts_at es event) halt ((es ++ Heard event ∷ []) ++ ds)
+      (written_then current session.store.journal opening (script (heard es)) (acts_at es event) false (is_of_disk halt) (es ++ Heard event ∷ []) ds (written_heard current session.store.journal opening (script (heard es)) es event held.writes)
+      (rw held.saved at (performs.writes (order_at current session es event held))))))
+
   -- the run goes on
   pub stands_more : (current : Option Current) (session next : Session) (es ds : List Effect) (event : Event) → StandsFor current session es → Performs session.store (acts_at es event) (Ok next.store) ds → Shows all_cut next.engine (step (after_all start (heard es)) event).next → has_finish (acts_at es event) ≡ false → StandsFor current next (es ++ Heard event ∷ ds)
   stands_more current session next es ds event held performs shows goes =
@@ -270,6 +328,7 @@ module _ (config : Config) (opening : Book) where
         opens = opens_more current session next.store es ds event held performs;
         numbered = numbered_more current session next.store es ds event held performs;
         settles = settle_more es ds event held.settles (performs.settles (λ e. absurd cc));
+        writes = all_more current session next.store es ds event held performs;
       }
 
   -- the machine's own end
@@ -288,6 +347,7 @@ module _ (config : Config) (opening : Book) where
     worn = λ e. absurd (ok_is_no_fault Worn e);
     numbered = λ e. numbered_more current session next es ds event held performs;
     settles = λ not. settle_more es ds event held.settles (performs.settles (λ e. absurd cc));
+    writes = (all_more current session next es ds event held performs).has;
     stopped = tt;
   }
 
@@ -323,6 +383,7 @@ module _ (config : Config) (opening : Book) where
     worn = λ e. worn_more current session es ds event held performs.out.going.deaf (performs.worn (worn_halt halt e));
     numbered = λ e. absurd (halt_cuts halt e);
     settles = λ not. settle_more es ds event held.settles (performs.settles (λ e. not (disk_fails halt e)));
+    writes = cut_more current session halt es ds event held performs;
     stopped = stopped_more current session halt es ds event held performs;
   }
 
@@ -338,6 +399,7 @@ module _ (config : Config) (opening : Book) where
     worn = λ e. absurd (able (the_fault fault Worn e));
     numbered = λ e. held.numbered;
     settles = λ not. held.settles;
+    writes = over_writes current opening (script (heard es)) (is_whole (Err fault)) fault es stops held.writes.has;
     stopped = record {
       front = script (heard es);
       rest = [];

@@ -8,6 +8,7 @@ use Rattle.sm_world.specs.Effects.{deeds, heard, published}
 use Rattle.sm_world.specs.Outside.{Added, adds}
 use Rattle.sm_world.specs.declared.effects.Effect.{Effect}
 use Rattle.sm_world.specs.declared.effects.Effect.TheVariants.{Heard, Sent, Shut, Started, Wrote, Torn, Synced, SyncFailed, Published, Printed}
+use Rattle.checkpoint_records.specs.Rules.{KeepsRules}
 use Rattle.checkpoint_records.specs.declared.records.Book.{Book}
 use Rattle.checkpoint_slots.specs.Recovery.{Recovers}
 use Rattle.checkpoint_slots.specs.Turns.{IsOfStore, SteadyStands, next_generation}
@@ -88,8 +89,8 @@ left_by opening book file (inl old) = inl old
 left_by opening book file (inr new) = inr (refl, new)
 
 -- a commit that the disk refused
-performs_refused : (store : Stored) (book : Book) (es : List Effect) → Writes store.journal store.book book (Err DiskFault) es → Performs store (Commit book ∷ []) (Err Disk) es
-performs_refused store book es writes =
+performs_refused : (store : Stored) (book : Book) (es : List Effect) → KeepsRules store.book → KeepsRules book → Writes store.journal store.book book (Err DiskFault) es → Performs store (Commit book ∷ []) (Err Disk) es
+performs_refused store book es old_rules rules writes =
     let s = silent es writes.store in
     record {
       out = record {
@@ -104,7 +105,7 @@ performs_refused store book es writes =
       worn = λ e. absurd cc;
       numbered = tt;
       settles = λ not. absurd (not refl);
-      writes = λ order. cut_written store.journal store.book book es s.still (silent_store es writes.store) (writes.commits order.0);
+      writes = λ order. cut_written store.journal store.book book es s.still (silent_store es writes.store) (writes.commits (order.0 old_rules rules));
       stopped = record {
         front = [];
         rest = Commit book ∷ [];
@@ -129,8 +130,8 @@ one_numbered store book es number [] rest other parts = found_now store es numbe
 one_numbered store book es number (x ∷ front) rest other parts = absurd (no_commit front rest other (behind_first x (Commit book) (front ++ Commit other ∷ rest) [] parts))
 
 -- a commit that stands in the store
-performs_commit : (store next : Stored) (book : Book) (es : List Effect) → next.book ≡ book → Writes store.journal store.book book (Ok next.journal) es → Performs store (Commit book ∷ []) (Ok next) es
-performs_commit store next book es same writes =
+performs_commit : (store next : Stored) (book : Book) (es : List Effect) → KeepsRules store.book → KeepsRules book → next.book ≡ book → Writes store.journal store.book book (Ok next.journal) es → Performs store (Commit book ∷ []) (Ok next) es
+performs_commit store next book es old_rules rules same writes =
     let s = silent es writes.store in
     record {
       out = record {
@@ -145,7 +146,7 @@ performs_commit store next book es same writes =
       worn = λ e. absurd cc;
       numbered = one_numbered store book es writes.numbered;
       settles = λ not. writes.settles (λ e. absurd cc);
-      writes = λ order. book_written store.journal next.journal store.book book es s.still (silent_store es writes.store) (writes.commits order.0);
+      writes = λ order. book_written store.journal next.journal store.book book es s.still (silent_store es writes.store) (writes.commits (order.0 old_rules rules));
       stopped = tt;
     }
 
@@ -185,12 +186,12 @@ performs_worn store book last = record {
 
 -- Calls of the disk, whether the world tells its effects or not
 
-pub told_commit : (store next : Stored) (book : Book) (old new : Option (List Effect)) → next.book ≡ book → Added old new (Writes store.journal store.book book (Ok next.journal)) → Added old new (Performs store (Commit book ∷ []) (Ok next))
-told_commit store next book old new same did = record { effects = did.effects; added = did.added; holds = performs_commit store next book did.effects same did.holds }
+pub told_commit : (store next : Stored) (book : Book) (old new : Option (List Effect)) → KeepsRules store.book → KeepsRules book → next.book ≡ book → Added old new (Writes store.journal store.book book (Ok next.journal)) → Added old new (Performs store (Commit book ∷ []) (Ok next))
+told_commit store next book old new old_rules rules same did = record { effects = did.effects; added = did.added; holds = performs_commit store next book did.effects old_rules rules same did.holds }
 
-pub told_uncommitted : (store : Stored) (book : Book) (fault : StoreFault) (old new : Option (List Effect)) → Added old new (Writes store.journal store.book book (Err fault)) → Added old new (Performs store (Commit book ∷ []) (Err (commit_halt_of fault)))
-told_uncommitted store book (WrongSize size) old new did = absurd did.holds.why_not
-told_uncommitted store book (Damaged at) old new did = absurd did.holds.why_not
-told_uncommitted store book DiskFault old new did = record { effects = did.effects; added = did.added; holds = performs_refused store book did.effects did.holds }
-told_uncommitted store book IsWorn old new did = record { effects = []; added = did.added ∙ ap (adds old) did.holds.why_not.0; holds = performs_worn store book did.holds.why_not.1 }
-told_uncommitted store book NoMemory old new did = record { effects = []; added = did.added ∙ ap (adds old) did.holds.why_not; holds = performs_none store (Commit book ∷ []) WantsMemory tt refl tt (none_numbered store []) }
+pub told_uncommitted : (store : Stored) (book : Book) (fault : StoreFault) (old new : Option (List Effect)) → KeepsRules store.book → KeepsRules book → Added old new (Writes store.journal store.book book (Err fault)) → Added old new (Performs store (Commit book ∷ []) (Err (commit_halt_of fault)))
+told_uncommitted store book (WrongSize size) old new old_rules rules did = absurd did.holds.why_not
+told_uncommitted store book (Damaged at) old new old_rules rules did = absurd did.holds.why_not
+told_uncommitted store book DiskFault old new old_rules rules did = record { effects = did.effects; added = did.added; holds = performs_refused store book did.effects old_rules rules did.holds }
+told_uncommitted store book IsWorn old new old_rules rules did = record { effects = []; added = did.added ∙ ap (adds old) did.holds.why_not.0; holds = performs_worn store book did.holds.why_not.1 }
+told_uncommitted store book NoMemory old new old_rules rules did = record { effects = []; added = did.added ∙ ap (adds old) did.holds.why_not; holds = performs_none store (Commit book ∷ []) WantsMemory tt refl tt (none_numbered store []) }

@@ -2,11 +2,11 @@
 use Rattle.std.proofs.Common.{◌≡◌, arith, ℕ, ◌+◌, ◌<◌, ◌^◌, List, [], ◌∷◌, length, Option, None, Some, Ok, Err, refl, sym, subst, inl, inr}
 use Rattle.std.specs.List.{AllByRecursion}
 use Rattle.sm_world.specs.declared.effects.Effect.{Effect}
-use Rattle.book_order.specs.Order.{Follows}
 use Rattle.checkpoint_records.specs.Rules.{KeepsRules}
 use Rattle.checkpoint_records.specs.declared.records.Book.{Book}
 use Rattle.checkpoint_changes.specs.Amendments.{Amended}
 use Rattle.checkpoint_changes.specs.Changes.{IsChange, change_cells}
+use Rattle.checkpoint_changes.specs.Plain.{KeepOrder}
 use Rattle.checkpoint_changes.specs.declared.changes.Change.{Change}
 use Rattle.checkpoint_slots.specs.Causes.{IsSpellFault}
 use Rattle.checkpoint_slots.specs.Recovery.{slot_bytes}
@@ -65,7 +65,7 @@ unspelled current old book es DiskFault cause = absurd cause
 unspelled current old book es Worn cause = tt
 unspelled current old book es NoMemory cause = tt
 
-writes_not : (current : Option Current) (old book : Book) (journal : Option (Option Current)) (fault : StoreFault) (es : List Effect) → AllByRecursion IsOfStore es → ((first : List ℕ) (before : List Effect) → SteadyStands current old first before → Swap first before es old book) → HadNumber current (Err (journal, fault)) → (Follows old book → WritesBook current old book (Err DiskFault) es) → IsWhyNot current es (journal, fault) → Writes current old book (Err fault) es
+writes_not : (current : Option Current) (old book : Book) (journal : Option (Option Current)) (fault : StoreFault) (es : List Effect) → AllByRecursion IsOfStore es → ((first : List ℕ) (before : List Effect) → SteadyStands current old first before → Swap first before es old book) → HadNumber current (Err (journal, fault)) → (KeepOrder old book → WritesBook current old book (Err DiskFault) es) → IsWhyNot current es (journal, fault) → Writes current old book (Err fault) es
 writes_not current old book None fault es store swap had commits why =
     rw why (record { store = store; swap = swap; turn = λ first before stands. tt; raised = tt; numbered = tt; opens = tt; settles = λ not. absurd (not refl); why_not = had; commits = commits })
 writes_not current old book (Some journal) fault es store swap had commits why = record {
@@ -77,7 +77,7 @@ writes_not current old book (Some journal) fault es store swap had commits why =
   opens = tt;
   settles = λ not. rw (why.1) settle_none;
   why_not = unwritten current es fault why.1 why.2;
-  commits = λ follows. unspelled current old book es fault why.2;
+  commits = λ order. unspelled current old book es fault why.2;
 }
 
 -- An append
@@ -89,10 +89,10 @@ module _ (current : Option Current) (old book : Book) (delta : List Change) (roo
   end_is : (gate : ℕ) × (end_in current ≡ Some gate)
   end_is = end_there current (size_of delta) room
 
-  appended : Follows old book → IsCommit current old book (append_puts end_is.0 delta) (advanced current (size_of delta))
-  appended follows = record {
+  appended : KeepOrder old book → IsCommit current old book (append_puts end_is.0 delta) (advanced current (size_of delta))
+  appended order = record {
     delta = delta;
-    plain = makes.plain follows;
+    plain = makes.plain order;
     leads = makes.applied;
     way = inl (record { room = room; gate = end_is.0; stands = end_is.1; are = refl; leaves = refl });
   }
@@ -109,19 +109,19 @@ module _ (current : Option Current) (old book : Book) (delta : List Change) (roo
         opens = did.opens;
         settles = λ not. settle_puts (append_puts end.0 delta) es (did.puts end.0 end.1);
         why_not = tt;
-        commits = λ follows. (append_puts end.0 delta, subst (λ (n : Option Current). IsCommit current old book (append_puts end.0 delta) n) (sym did.next) (appended follows), did.puts end.0 end.1);
+        commits = λ order. (append_puts end.0 delta, subst (λ (n : Option Current). IsCommit current old book (append_puts end.0 delta) n) (sym did.next) (appended order), did.puts end.0 end.1);
       }
 
   pub append_writes_not : (journal : Option (Option Current)) (fault : StoreFault) (es : List Effect) → HadNumber current (Err (journal, fault)) → Appends current delta (Err (journal, fault)) es → Writes current old book (Err fault) es
   append_writes_not journal fault es had did =
       writes_not current old book journal fault es did.store (λ first before stands. did.swap first before old book stands amends) had
-      (λ follows. (append_puts end_is.0 delta, advanced current (size_of delta), appended follows, did.puts end_is.0 end_is.1)) did.why_not
+      (λ order. (append_puts end_is.0 delta, advanced current (size_of delta), appended order, did.puts end_is.0 end_is.1)) did.why_not
 
 -- A compaction
 
 module _ (current : Option Current) (old book : Book) (delta : List Change) (no_room : ¬ (HasRoomFor current (size_of delta))) (makes : Makes old delta book) where
-  compacted : Follows old book → IsCommit current old book (compact_puts current book) (Some (following current (length (slot_bytes (next_generation current) book))))
-  compacted follows = record { delta = delta; plain = makes.plain follows; leads = makes.applied; way = inr (record { no_room = no_room; are = refl; leaves = refl }) }
+  compacted : KeepOrder old book → IsCommit current old book (compact_puts current book) (Some (following current (length (slot_bytes (next_generation current) book))))
+  compacted order = record { delta = delta; plain = makes.plain order; leads = makes.applied; way = inr (record { no_room = no_room; are = refl; leaves = refl }) }
 
   pub compact_writes : (next : Option Current) (es : List Effect) → next_generation current < 2 ^ 64 → Compacts current book (Ok next) es → Writes current old book (Ok next) es
   compact_writes next es had did = record {
@@ -133,10 +133,10 @@ module _ (current : Option Current) (old book : Book) (delta : List Change) (no_
     opens = did.opens;
     settles = λ not. settle_puts (compact_puts current book) es did.puts;
     why_not = tt;
-    commits = λ follows. (compact_puts current book, subst (λ (n : Option Current). IsCommit current old book (compact_puts current book) n) (sym did.next) (compacted follows), did.puts);
+    commits = λ order. (compact_puts current book, subst (λ (n : Option Current). IsCommit current old book (compact_puts current book) n) (sym did.next) (compacted order), did.puts);
   }
 
   pub compact_writes_not : (journal : Option (Option Current)) (fault : StoreFault) (es : List Effect) → HadNumber current (Err (journal, fault)) → Compacts current book (Err (journal, fault)) es → Writes current old book (Err fault) es
   compact_writes_not journal fault es had did =
       writes_not current old book journal fault es did.store (λ first before stands. did.swap first before old stands) had
-      (λ follows. (compact_puts current book, Some (following current (length (slot_bytes (next_generation current) book))), compacted follows, did.puts)) did.why_not
+      (λ order. (compact_puts current book, Some (following current (length (slot_bytes (next_generation current) book))), compacted order, did.puts)) did.why_not

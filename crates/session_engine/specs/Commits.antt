@@ -1,11 +1,10 @@
 -- What commits write into the store's file. Each makes what changed stand behind the current book, where there is room for it; and only
 -- where there is none it writes the whole book anew.
-use Rattle.std.specs.Prelude.{◌≡◌, ◌⊎◌, ℕ, Bool, true, false, List, [], ◌∷◌, ◌++◌, length, Option, Some, Result, Ok, Err, IfOk, is_ok}
+use Rattle.std.specs.Prelude.{◌≡◌, ◌⊎◌, ℕ, Bool, true, false, List, [], ◌∷◌, ◌++◌, length, Option, Some, Result, Ok, Err}
 use Rattle.std.specs.List.{flat_map}
 use Rattle.sm_world.specs.Effects.{deeds}
 use Rattle.sm_world.specs.declared.effects.Effect.{Effect}
 use Rattle.sm_world.specs.declared.effects.Effect.TheVariants.{Heard, Sent, Shut, Started, Wrote, Torn, Synced, SyncFailed, Published, Printed}
-use Rattle.book_order.specs.Order.{Follows, InOrder}
 use Rattle.checkpoint_changes.specs.Changes.{apply}
 use Rattle.checkpoint_changes.specs.Plain.{IsPlain}
 use Rattle.checkpoint_changes.specs.declared.changes.Change.{Change}

@@ -1,5 +1,5 @@
 -- What a crash leaves of the store, against what was done.
-use Rattle.std.specs.Prelude.{◌≡◌, ◌≢◌, ℕ, ◌^◌, List, ◌∷◌, ◌++◌, take, Result, Ok, Err, IfErr, IfOk, IsErrOf, is_ok}
+use Rattle.std.specs.Prelude.{◌≡◌, ◌≢◌, ℕ, ◌^◌, false, List, ◌∷◌, ◌++◌, take, Result, Ok, Err, IfErr, IfOk, IsErrOf, is_ok}
 use Rattle.sm_world.specs.Crash.{Image}
 use Rattle.sm_world.specs.Effects.{Deed, deeds}
 use Rattle.sm_world.specs.declared.effects.Effect.{Effect}

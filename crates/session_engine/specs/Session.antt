@@ -39,7 +39,7 @@ pub record StandsFor (config : Config) (opening : Book) (current : Option Curren
   pub opens : opened_in effects ≡ commits_in (script config opening (heard effects))
   pub numbered : IsNumbered (store_of current opening) (script config opening (heard effects)) effects
   pub settles : Settle effects
-  pub writes : AllWritten current opening (script cookie opening (heard effects)) effects session.store.journal
+  pub writes : AllWritten current opening (script config opening (heard effects)) effects session.store.journal
 
 -- A device, the store or the memory cut the run short, and not the number of its turns.
 pub record IsCut (config : Config) (opening : Book) (current : Option Current) (fault : ServeFault) (effects : List Effect) : Type 0 where

@@ -3,9 +3,8 @@ use Rattle.std.specs.Prelude.{◌≡◌, ◌≢◌, ℕ, ◌+◌, ◌<◌, ◌�
 use Rattle.std.specs.List.{AllByRecursion}
 use Rattle.sm_world.specs.declared.effects.Effect.{Effect}
 use Rattle.checkpoint_records.specs.declared.records.Book.{Book}
-use Rattle.book_order.specs.Order.{Follows}
 use Rattle.checkpoint_changes.specs.Changes.{IsChange, apply}
-use Rattle.checkpoint_changes.specs.Plain.{IsPlain}
+use Rattle.checkpoint_changes.specs.Plain.{IsPlain, KeepOrder}
 use Rattle.checkpoint_changes.specs.declared.changes.Change.{Change}
 use Rattle.checkpoint_slots.specs.Turns.{IsOfStore, SteadyStands, Swap, next_generation, opened_in}
 use Rattle.checkpoint_slots.specs.declared.fault.StoreFault.{StoreFault}
@@ -28,7 +27,7 @@ store_of current book = record { journal = current; book = book }
 pub record Makes (old : Book) (delta : List Change) (book : Book) : Type 0 where
   pub changes : AllByRecursion IsChange delta
   pub applied : apply old delta ≡ Some book
-  pub plain : Follows old book → IsPlain old book delta
+  pub plain : KeepOrder old book → IsPlain old book delta
 
 -- a number that stayed, or rose, by so much at most
 pub record IsRaised (most old new : ℕ) : Type 0 where
@@ -55,7 +54,7 @@ pub record Writes (current : Option Current) (old book : Book) (result : Result 
   pub opens : IfOk result (λ next. opened_in added ≡ 1)
   pub settles : result ≢ Err DiskFault → Settle added
   pub why_not : IfErr result (WhyUnwritten current added)
-  pub commits : Follows old book → WritesBook current old book result added
+  pub commits : KeepOrder old book → WritesBook current old book result added
 
 -- the journal behind a commit
 abbrev pub journal_of : Result Stored StoreFault → Result (Option Current) StoreFault

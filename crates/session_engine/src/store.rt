@@ -104,6 +104,7 @@ impl Store {
         requires rules { KeepsRules book.now }
         ensures effects { Added (D.outside disk.old).told (D.outside disk.new).told (Writes self.journal self.book book.now (journal_of result)) }
         ensures book { IfOk result (λ store. store.book ≡ book.now) }
+        ensures rules { KeepsRules self.book }
         ensures size { (D.outside disk.new).size ≡ (D.outside disk.old).size }
         ensures uses { UsesDisk (D.outside disk.old) (D.outside disk.new) (is_disk_fault result) }
         ensures cause { IfErr result IsOfCommit }

@@ -1,4 +1,5 @@
 use Rattle.std.proofs.Common.{rules, ◌<◌, ◌^◌, refl}
+use Rattle.std.proofs.lemmas.Bool.{false≢true}
 use Rattle.checkpoint_slots.specs.Turns.{HasRoomFor}
 use Rattle.checkpoint_slots.proofs.Turning.{added-by}
 use Rattle.checkpoint_journal.specs.Journal.{size_of}
@@ -19,8 +20,8 @@ returns-in-Err-clause-effects g c = λ old makes.
 
 pub returns-in-Ok-compact-clause-effects : goal.returns-in-Ok-compact-clause-effects
 returns-in-Ok-compact-clause-effects g c = λ old makes.
-    added-by (λ es did. compact_writes c.args.journal old c.args.book.now c.in-Ok-compact.journal es c.in-Ok-compact.ensures.numbered did) c.in-Ok-compact.ensures.effects
+    added-by (λ es did. compact_writes c.args.journal old c.args.book.now c.args.delta.now (λ room. false≢true (c.if-fits.ensures.1 room)) makes c.in-Ok-compact.journal es c.in-Ok-compact.ensures.numbered did) c.in-Ok-compact.ensures.effects
 
 pub returns-in-Err-compact-clause-effects : goal.returns-in-Err-compact-clause-effects
 returns-in-Err-compact-clause-effects g c = λ old makes.
-    added-by (λ es did. compact_writes_not c.args.journal old c.args.book.now c.in-Err-compact.field-0-0 c.in-Err-compact.fault es c.in-Err-compact.ensures.numbered did) c.in-Err-compact.ensures.effects
+    added-by (λ es did. compact_writes_not c.args.journal old c.args.book.now c.args.delta.now (λ room. false≢true (c.if-fits.ensures.1 room)) makes c.in-Err-compact.field-0-0 c.in-Err-compact.fault es c.in-Err-compact.ensures.numbered did) c.in-Err-compact.ensures.effects
