@@ -64,14 +64,12 @@ behind kept (y ∷ ys) =
 
 -- The pending commands
 
-
 -- what was pending stays but for those that the new entries tell, and others come behind
 pending_parts : (gone pending more : List Command) → IsDistinct same_command pending → (added : List Command) × (each_once (without_commands gone (pending ++ more)) ≡ without_commands gone pending ++ added)
 pending_parts gone pending more differ =
     let front : List Command = without_commands gone pending in
     let first : with_commands [] front ≡ front = all_come front [] (none_yet front) (distinct-filter same_command (λ c. not (is_among c gone)) pending differ) in
-    let rest = behind front (without_commands gone more) in
-    (
+    let rest = behind front (without_commands gone more) in (
       rest.0,
       ap (with_commands []) (filter-append (λ c. not (is_among c gone)) pending more)
           ∙ (with-append [] front (without_commands gone more) ∙ (ap (λ cs. with_commands cs (without_commands gone more)) first ∙ rest.1)),
