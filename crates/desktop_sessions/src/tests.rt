@@ -1,6 +1,6 @@
 use desktop_world::{DesktopWorld, host_name};
 use ice_cookie::Cookie;
-use session_engine::{ServeFault, serve};
+use session_engine::{Config, ServeFault, serve};
 use sm_world::{Disk, Failure, Links};
 use std::io::{ErrorKind, Read, Write};
 use std::os::unix::net::UnixStream;
@@ -52,7 +52,11 @@ fn run(rt: HostRuntime, room: &Room) -> io::Result<Option<ServeFault>> {
     if open(&mut world, room).is_err() {
         return Err(io::Error::from(ErrorKind::AddrInUse));
     }
-    let ended = serve(rt.alloc(), &mut world, Cookie([7; 16]), u64::MAX);
+    let config = Config {
+        cookie: Cookie([7; 16]),
+        patience: 0,
+    };
+    let ended = serve(rt.alloc(), &mut world, config, u64::MAX);
     world.close();
     Ok(ended.err())
 }

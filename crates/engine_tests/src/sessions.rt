@@ -3,7 +3,7 @@ ghost use Rattle.std.specs.List.{AllByRecursion};
 ghost use Rattle.sm_world.specs.Events.{HasPieceSize};
 
 use ice_cookie::Cookie;
-use session_engine::{ServeFault, at_most_64_live, serve};
+use session_engine::{Config, ServeFault, at_most_64_live, serve};
 use sm_world::{
     Effect, Event, EventList, MemWorld, NoMemory, NumberList, Octets, Order, SteadyWorld,
 };
@@ -12,7 +12,11 @@ use std::fmt::Write;
 use std::process::Abort;
 use std::test::Fail;
 
-pub const COOKIE: Cookie = Cookie([7; 16]);
+/// A cookie, and no end of patience.
+pub const CONFIG: Config = Config {
+    cookie: Cookie([7; 16]),
+    patience: 0,
+};
 
 /// How many bytes a store has.
 const STORE_LEN: usize = 16_777_280;
@@ -113,14 +117,14 @@ fn expect_served(
     requires { AllByRecursion HasPieceSize events }
 {
     let mut world = steady_world(rt.alloc(), events)?;
-    assert_eq!(rt; serve(rt.alloc(), &mut world, COOKIE, 40), Ok(()));
+    assert_eq!(rt; serve(rt.alloc(), &mut world, CONFIG, 40), Ok(()));
     expect_done(rt, world.effects(), want)
 }
 
 /// Serves until the turns are spent.
 fn expect_spent(rt: &(impl Abort + Alloc<A = Global>), turns: u64, want: &str) -> Result<(), Fail> {
     let mut world = steady_world(rt.alloc(), at_once(rt.alloc(), &CLIENT)?)?;
-    let served = serve(rt.alloc(), &mut world, COOKIE, turns);
+    let served = serve(rt.alloc(), &mut world, CONFIG, turns);
     assert_eq!(rt; served, Err(ServeFault::Spent));
     expect_done(rt, world.effects(), want)
 }
@@ -168,7 +172,7 @@ fn a_refused_call_is_a_fault(rt: HostRuntime) -> Result<(), Fail> {
         blank_store(alloc)?,
         failing,
     )?;
-    let served = serve(alloc, &mut world, COOKIE, 9);
+    let served = serve(alloc, &mut world, CONFIG, 9);
     assert_eq!(rt; served, Err(ServeFault::LinkFault));
     assert_eq!(rt; world.effects().len(), 7);
     Ok(())
@@ -176,7 +180,7 @@ fn a_refused_call_is_a_fault(rt: HostRuntime) -> Result<(), Fail> {
 
 #[test]
 fn turns_are_spent(rt: HostRuntime) -> Result<(), Fail> {
-    at_most_64_live(COOKIE);
+    at_most_64_live(CONFIG);
     expect_spent(&rt, 0, "")?;
     expect_spent(&rt, 1, ORDER_SENT)?;
     expect_spent(&rt, 2, PING_ANSWERED)

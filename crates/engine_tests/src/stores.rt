@@ -4,7 +4,7 @@ ghost use Rattle.std.specs.Prelude.{IfOk};
 ghost use Rattle.std.specs.List.{AllByRecursion};
 ghost use Rattle.sm_world.specs.Events.{HasPieceSize};
 
-use crate::sessions::{COOKIE, blank_store};
+use crate::sessions::{CONFIG, blank_store};
 use checkpoint_slots::{Steady, StoreFault};
 use session_engine::{ServeFault, Session, Stepped, serve};
 use sm_world::{
@@ -350,7 +350,7 @@ pub fn world_of(
 /// A world in which this has happened over a blank store.
 fn served(rt: &(impl Abort + Alloc<A = Global>), steps: &[Step]) -> Result<MemWorld, Fail> {
     let mut world = world_of(rt.alloc(), steps, blank_store(rt.alloc())?, &[])?;
-    assert_eq!(rt; serve(rt.alloc(), &mut world, COOKIE, 99), Ok(()));
+    assert_eq!(rt; serve(rt.alloc(), &mut world, CONFIG, 99), Ok(()));
     Ok(world)
 }
 
@@ -474,7 +474,7 @@ fn a_crash_at_the_gate_leaves_either_book(rt: HostRuntime) -> Result<(), Fail> {
 fn left_by_failure(rt: &(impl Abort + Alloc<A = Global>), number: u64) -> Result<Octets, Fail> {
     let alloc = rt.alloc();
     let mut world = world_of(alloc, &FIRST_SAVE, blank_store(alloc)?, &[number])?;
-    let served = serve(alloc, &mut world, COOKIE, 99);
+    let served = serve(alloc, &mut world, CONFIG, 99);
     assert_eq!(rt; served, Err(ServeFault::DiskFault), "call {number}");
     let count = world.effects().len();
     left(
@@ -526,7 +526,7 @@ fn expect_refused(
     fault: ServeFault,
 ) -> Result<(), Fail> {
     let mut world = world_of(rt.alloc(), &[], store, &[])?;
-    assert_eq!(rt; serve(rt.alloc(), &mut world, COOKIE, 99), Err(fault));
+    assert_eq!(rt; serve(rt.alloc(), &mut world, CONFIG, 99), Err(fault));
     assert_eq!(rt; world.effects().len(), 0);
     Ok(())
 }
@@ -565,7 +565,7 @@ fn a_full_book_takes_no_new_client(rt: HostRuntime) -> Result<(), Fail> {
     let store = store_of(alloc, FIRST, all_entries(alloc)?.as_slice())?;
     let steps = [Step::Joins(1), Step::SetsUp(1), Step::Registers(1)];
     let mut world = world_of(alloc, &steps, store, &[])?;
-    assert_eq!(rt; serve(alloc, &mut world, COOKIE, 99), Ok(()));
+    assert_eq!(rt; serve(alloc, &mut world, CONFIG, 99), Ok(()));
     assert_eq!(rt; last_sent(&world), Some(NO_ROOM));
     Ok(())
 }
@@ -619,7 +619,7 @@ fn expect_login(
     let alloc = rt.alloc();
     let store = store_of(alloc, FIRST, six_entries(alloc)?.as_slice())?;
     let mut world = world_of(alloc, &LOGIN, store, failing)?;
-    assert_eq!(rt; serve(alloc, &mut world, COOKIE, 99), Ok(()));
+    assert_eq!(rt; serve(alloc, &mut world, CONFIG, 99), Ok(()));
     let want = format!(in alloc; "{starts}{LATER}")?;
     expect_done(rt, &world, want.as_str())
 }
@@ -643,7 +643,7 @@ fn a_login_starts_what_the_book_has(rt: HostRuntime) -> Result<(), Fail> {
 
 /// What a session over the world's store is after somebody joined and this event came.
 fn stepped(alloc: Global, world: &mut MemWorld, event: Event) -> Result<Stepped, ServeFault> {
-    let session = match Session::start(alloc, world, COOKIE) {
+    let session = match Session::start(alloc, world, CONFIG) {
         Ok(session) => session,
         Err(fault) => return Err(fault),
     };

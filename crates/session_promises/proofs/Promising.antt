@@ -16,7 +16,7 @@ use Rattle.session_engine.proofs.Loop.{keeps_word}
 use Rattle.session_lines.proofs.Crashes.{every-file}
 use Rattle.session_lines.proofs.Fronts.{laws-hold}
 use Rattle.session_lines.proofs.Passing.{done-is}
-use Rattle.smd_app.specs.Sessions.{HasServed, RunsSession, WasCutShort, announcing, handing_out}
+use Rattle.smd_app.specs.Sessions.{HasServed, RunsSession, WasCutShort, announcing, config_of, handing_out}
 use Rattle.smd_app.specs.Statuses.{Ending, Runs, RunsTask}
 use Rattle.smd_app.specs.Words.{Means, Places, Serve, Task}
 use Rattle.smd_app.specs.declared.identity.Identity.{Identity}
@@ -59,7 +59,7 @@ module _ (identity : Identity) (places : Places) (turns : ℕ) (old new : Outsid
     parts = parts;
     begins = begins;
     ends = (text, tried);
-    laws = no-laws identity.cookie book file old settled recovers;
+    laws = no-laws (config_of identity places) book file old settled recovers;
   }
 
   cut : (ending : Ending) (effects first last : List Effect) (text : Option (List ℕ)) → effects ≡ first ++ last → Tries text last → WasCutShort identity places old new ending first → HasSession identity places book file effects
@@ -75,7 +75,7 @@ module _ (identity : Identity) (places : Places) (turns : ℕ) (old new : Outsid
     parts = parts ∙ ap (λ es. es ++ last) session.parts;
     begins = ([], append-nil (handing_out identity places ++ announcing identity places));
     ends = (text, tried);
-    laws = word-laws identity.cookie book file session.answer session.own (session.session.headline file book settled recovers);
+    laws = word-laws (config_of identity places) book file session.answer session.own (session.session.headline file book settled recovers);
   }
 
   ran : (ending : Ending) (effects first last : List Effect) (text : Option (List ℕ)) → effects ≡ first ++ last → Tries text last → RunsSession identity places turns old new ending first → HasSession identity places book file effects

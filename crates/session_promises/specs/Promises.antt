@@ -11,7 +11,7 @@ use Rattle.program_frame.specs.Printing.{Tries}
 use Rattle.heard_events.specs.Brought.{IsPrefix}
 use Rattle.session_lines.specs.Files.{IsSafe}
 use Rattle.session_lines.specs.Runs.{IsAlwaysLawful}
-use Rattle.smd_app.specs.Sessions.{announcing, handing_out}
+use Rattle.smd_app.specs.Sessions.{announcing, config_of, handing_out}
 use Rattle.smd_app.specs.Statuses.{Answers}
 use Rattle.smd_app.specs.Words.{Means, Places, Serve}
 use Rattle.smd_app.specs.declared.identity.Identity.{Identity}
@@ -31,7 +31,7 @@ pub record HasSession (identity : Identity) (places : Places) (book : Book) (fil
   pub parts : effects ≡ before ++ (own ++ last)
   pub begins : IsPrefix before (handing_out identity places ++ announcing identity places)
   pub ends : (text : Option (List ℕ)) × Tries text last
-  pub laws : KeepsAllLaws identity.cookie book file own
+  pub laws : KeepsAllLaws (config_of identity places) book file own
 
 -- So it is of every call with the words of a session, over a store of which no byte is in doubt and that stands for a book.
 abbrev pub EverySessionKeepsTheLaws : Type 0

@@ -136,7 +136,7 @@ fn frame_of(alloc: Global, message: &XsmpMessage) -> Result<Octets, EncodeRefusa
 fn open(rt: &(impl Abort + Alloc<A = Global>)) -> Result<Desk, Fail> {
     let alloc = rt.alloc();
     let book = Book::empty(alloc)?;
-    let (manager, acts) = Manager::begin(alloc, book)?;
+    let (manager, acts) = Manager::begin(alloc, book, 0)?;
     let mut done = Octets::new(alloc);
     put_acts(&mut done, acts.as_slice())?;
     Ok(Desk { manager, done })

@@ -27,7 +27,7 @@ use Rattle.smd_app.specs.Exercises.{exercise_events}
 use Rattle.smd_app.specs.FaultLines.{fault_line, fault_status, served}
 use Rattle.smd_app.specs.Rehearsals.{script_of, Finishes, Outlasts, whole_trace, first_trace}
 use Rattle.smd_app.specs.Script.{ScriptSays}
-use Rattle.smd_app.specs.Sessions.{handing_out, announcing, Opened, IsSession, HasServed, WasCutShort, IsOfDisk, IsOfEdge}
+use Rattle.smd_app.specs.Sessions.{config_of, handing_out, announcing, Opened, IsSession, HasServed, WasCutShort, IsOfDisk, IsOfEdge}
 use Rattle.smd_app.specs.Statuses.{Ending, HasRehearsed, HasExercised, RunsTask}
 use Rattle.smd_app.specs.Words.{Places, Task, Rehearse, Exercise, Serve, AreServe, AreExercise, pairs_of, value_in}
 use Rattle.smd_app.specs.declared.fault.Fault.{Fault}
@@ -165,14 +165,14 @@ one_more : (front rest : List Act) (book : Book) → commits_in front < commits_
 one_more [] rest book = omega arith
 one_more (act ∷ front) rest book = omega (arith, one_more front rest book)
 
-module _ (identity : Identity) (places : Places) (old new : Outside) (turns status : ℕ) (file : List ℕ) (book : Book) (own effects : List Effect) (can : CanServe identity.cookie old file book (heard effects)) where
+module _ (identity : Identity) (places : Places) (old new : Outside) (turns status : ℕ) (file : List ℕ) (book : Book) (own effects : List Effect) (can : CanServe (config_of identity places) old file book (heard effects)) where
   abbrev begun : List Effect
   begun = handing_out identity places ++ (announcing identity places ++ own)
 
-  same_book : (answer : Result (Unit {0}) ServeFault) → (opened : Opened identity.cookie turns old new answer own) → opened.book ≡ book
+  same_book : (answer : Result (Unit {0}) ServeFault) → (opened : Opened (config_of identity places) turns old new answer own) → opened.book ≡ book
   same_book answer opened = one_book file opened.book book (opened.recovered file can.settled).1.recovers can.recovers
 
-  done_all : (answer : Result (Unit {0}) ServeFault) (ending : Ending) → (opened : Opened identity.cookie turns old new answer own) → is_whole answer ≡ true → has_finish (script identity.cookie opened.book (heard own)) ≡ is_ok ending → EndsWith begun ending effects → HasDoneAll identity places old.coming book turns ending effects
+  done_all : (answer : Result (Unit {0}) ServeFault) (ending : Ending) → (opened : Opened (config_of identity places) turns old new answer own) → is_whole answer ≡ true → has_finish (script (config_of identity places) opened.book (heard own)) ≡ is_ok ending → EndsWith begun ending effects → HasDoneAll identity places old.coming book turns ending effects
   done_all answer ending opened whole finish all =
       subst (λ (b : Book). HasDoneAll identity places old.coming b turns ending effects) (same_book answer opened) (record {
         own = own;
@@ -183,15 +183,15 @@ module _ (identity : Identity) (places : Places) (old new : Outside) (turns stat
         finish = finish;
       })
 
-  not_worn : (answer : Result (Unit {0}) ServeFault) (ending : Ending) → (opened : Opened identity.cookie turns old new answer own) → EndsWith begun ending effects → WearsOut (store_of opened.current opened.book) (script identity.cookie opened.book (heard own)) own → ⊥
+  not_worn : (answer : Result (Unit {0}) ServeFault) (ending : Ending) → (opened : Opened (config_of identity places) turns old new answer own) → EndsWith begun ending effects → WearsOut (store_of opened.current opened.book) (script (config_of identity places) opened.book (heard own)) own → ⊥
   not_worn answer ending opened all worn =
       let left = can.generations opened.current (opened.recovered file can.settled).1.chooses in
-      let same : commits_in (script identity.cookie book (heard effects)) ≡ commits_in (script identity.cookie opened.book (heard own)) = ap (λ (b : Book). commits_in (script identity.cookie b (heard effects))) (sym (same_book answer opened)) ∙ ap (λ (events : List Event). commits_in (script identity.cookie opened.book events)) (all_heard identity places own effects ending all) in
+      let same : commits_in (script (config_of identity places) book (heard effects)) ≡ commits_in (script (config_of identity places) opened.book (heard own)) = ap (λ (b : Book). commits_in (script (config_of identity places) b (heard effects))) (sym (same_book answer opened)) ∙ ap (λ (events : List Event). commits_in (script (config_of identity places) opened.book events)) (all_heard identity places own effects ending all) in
       let more = subst (λ (acts : List Act). commits_in worn.front < commits_in acts) worn.parts (one_more worn.front worn.rest worn.book) in
       let most : next_generation worn.now.journal ≤ next_generation opened.current + commits_in worn.front = worn.raised.at_most in
       omega (arith, left, same, more, most, worn.last)
 
-  session_ends : (answer : Result (Unit {0}) ServeFault) → NoneRose old.faults new.faults → IsSession identity.cookie turns old new answer own → Closing (served answer) begun effects status → ServesWell identity places old.coming book turns status effects
+  session_ends : (answer : Result (Unit {0}) ServeFault) → NoneRose old.faults new.faults → IsSession (config_of identity places) turns old new answer own → Closing (served answer) begun effects status → ServesWell identity places old.coming book turns status effects
   session_ends (Ok x) calm session closing =
       inl (closing.number, done_all (Ok x) (Ok tt) session.serves refl (session.serves.serves.runs.carries.ended refl) (ends_with begun begun effects (Ok tt) status refl closing))
   session_ends (Err HasSpent) calm session closing = elim session.serves [
@@ -235,7 +235,7 @@ cut_short identity places old new status first effects (Err fault) calm cut clos
     ] in
     closing.number ∙ ap fault_status (lacks_memory old new fault calm cause)
 
-has_served : (identity : Identity) (places : Places) (old new : Outside) (turns status : ℕ) (file : List ℕ) (book : Book) (first effects : List Effect) (ending : Ending) → CanServe identity.cookie old file book (heard effects) → NoneRose old.faults new.faults → HasServed identity places turns old new ending first → Closing ending first effects status → ServesWell identity places old.coming book turns status effects
+has_served : (identity : Identity) (places : Places) (old new : Outside) (turns status : ℕ) (file : List ℕ) (book : Book) (first effects : List Effect) (ending : Ending) → CanServe (config_of identity places) old file book (heard effects) → NoneRose old.faults new.faults → HasServed identity places turns old new ending first → Closing ending first effects status → ServesWell identity places old.coming book turns status effects
 has_served identity places old new turns status file book first effects ending can calm has closing =
     session_ends identity places old new turns status file book has.own effects can has.answer calm has.session (record {
       last = closing.last;

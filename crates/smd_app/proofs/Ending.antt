@@ -15,7 +15,7 @@ use Rattle.sm_world.specs.declared.events.Event.{Event}
 use Rattle.smd_app.specs.Exercises.{exercise_events}
 use Rattle.smd_app.specs.FaultLines.{fault_line, fault_status, served}
 use Rattle.smd_app.specs.Rehearsals.{script_of}
-use Rattle.smd_app.specs.Sessions.{IsOfDisk, IsOfEdge, Opened, OpensOr, HasServed, WasCutShort}
+use Rattle.smd_app.specs.Sessions.{config_of, IsOfDisk, IsOfEdge, Opened, OpensOr, HasServed, WasCutShort}
 use Rattle.smd_app.specs.Statuses.{Ending, HasRehearsed, HasExercised, RunsTask, Runs, Answers}
 use Rattle.smd_app.specs.Words.{Places, Task, Rehearse, Exercise, Serve, AreServe, AreExercise, Means}
 use Rattle.smd_app.specs.declared.fault.Fault.{Fault}
@@ -118,7 +118,7 @@ served_still identity places turns old mid new ending effects later served_so = 
   ends = served_so.ends;
   parts = served_so.parts;
   session = record {
-    serves = opens_still identity.cookie turns old mid new served_so.answer served_so.own later.prints served_so.session.serves;
+    serves = opens_still (config_of identity places) turns old mid new served_so.answer served_so.own later.prints served_so.session.serves;
     headline = served_so.session.headline;
     cause = cause_still old mid new served_so.answer (subst (λ (ended : Ending). IsLater ended mid new) served_so.ends later) served_so.session.cause;
   };

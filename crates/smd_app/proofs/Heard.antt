@@ -12,17 +12,17 @@ use Rattle.session_engine.specs.Machine.{Machine, Came, Did, Item, acts_of, open
 use Rattle.session_engine.specs.declared.acts.Act.{Act}
 use Rattle.session_engine.specs.Carries.{script as script_with, run as run_with}
 use Rattle.session_engine.proofs.Running.{has_finish-append}
-use Rattle.smd_app.specs.Rehearsals.{rehearsal_cookie, with_end, ends_within}
+use Rattle.smd_app.specs.Rehearsals.{rehearsal_config, with_end, ends_within}
 
 -- the machine of a rehearsal
 abbrev pub start : Machine
-start = start_with rehearsal_cookie empty_book
+start = start_with rehearsal_config empty_book
 
 abbrev pub script : List Event → List Act
-script events = script_with rehearsal_cookie empty_book events
+script events = script_with rehearsal_config empty_book events
 
 abbrev pub run : List Event → List Item
-run events = run_with rehearsal_cookie empty_book events
+run events = run_with rehearsal_config empty_book events
 
 later_finish : (b : Bool) (rest : List Act) → (if b then true else has_finish (if b then [] else rest)) ≡ true → b ≡ false → has_finish rest ≡ true
 later_finish true rest e unfinished = absurd (false≢true (sym unfinished))

@@ -21,7 +21,7 @@ use Rattle.session_engine.specs.Session.{Serving}
 use Rattle.session_engine.specs.declared.fault.ServeFault.{ServeFault}
 use Rattle.session_engine.specs.declared.fault.ServeFault.TheVariants.{Damaged, WrongSize, DiskFault, LinkFault, ConsoleFault, Worn, Spent, NoMemory}
 use Rattle.smd_app.specs.FaultLines.{served}
-use Rattle.smd_app.specs.Sessions.{network, session_entry, handing_out, announcing, SetsUp, Opened, OpensOr, RunsSession}
+use Rattle.smd_app.specs.Sessions.{config_of, network, session_entry, handing_out, announcing, SetsUp, Opened, OpensOr, RunsSession}
 use Rattle.smd_app.specs.Words.{Places}
 use Rattle.smd_app.specs.declared.identity.Identity.{Identity}
 
@@ -146,8 +146,8 @@ same_added old new told xs ys is one other =
 pub served_behind : (identity : Identity) (places : Places) (turns : ℕ) (old first mid new : Outside) (answer : Result (Unit {0}) ServeFault)
     → first.told ≡ adds old.told (handing_out identity places) → SetsUp old first
     → mid.told ≡ adds first.told (announcing identity places) → SetsUp first mid
-    → Serving identity.cookie turns mid new answer
-    → ((file : List ℕ) (book : Book) → IsSettled mid file → Recovers file (Ok book) → Added mid.told new.told (KeepsItsWord identity.cookie book file answer))
+    → Serving (config_of identity places) turns mid new answer
+    → ((file : List ℕ) (book : Book) → IsSettled mid file → Recovers file (Ok book) → Added mid.told new.told (KeepsItsWord (config_of identity places) book file answer))
     → IfErr answer (HasCause mid.faults new.faults)
     → Added old.told new.told (RunsSession identity places turns old new (served answer))
 served_behind identity places turns old first mid new answer handed one announced two serving headline cause =
@@ -163,7 +163,7 @@ served_behind identity places turns old first mid new answer handed one announce
         console = omega (arith, one.counts.console, two.counts.console);
       };
     } in
-    let added = own identity places identity.cookie turns old mid new answer behind serving in
+    let added = own identity places (config_of identity places) turns old mid new answer behind serving in
     record {
       effects = handing_out identity places ++ (announcing identity places ++ added.effects);
       added = added.added ∙ (ap (λ told. adds told added.effects) behind.told
@@ -179,7 +179,7 @@ served_behind identity places turns old first mid new answer handed one announce
           headline = λ file book settled recovers.
               let there = still_settled identity places old mid behind file settled in
               let word = headline file book there recovers in
-              subst (KeepsItsWord identity.cookie book file answer) (same_added mid.told new.told there.effects word.effects added.effects there.told word.added added.added) word.holds;
+              subst (KeepsItsWord (config_of identity places) book file answer) (same_added mid.told new.told there.effects word.effects added.effects there.told word.added added.added) word.holds;
           cause = caused_since old.faults mid.faults new.faults answer behind.counts cause;
         };
       });

@@ -21,7 +21,7 @@ use Rattle.smd_app.specs.Exercises.{exercise_events}
 use Rattle.smd_app.specs.FaultLines.{fault_line}
 use Rattle.smd_app.specs.Rehearsals.{script_of, ends_within, Finishes, Outlasts, whole_trace, first_trace}
 use Rattle.smd_app.specs.Script.{ScriptSays}
-use Rattle.smd_app.specs.Sessions.{handing_out, announcing}
+use Rattle.smd_app.specs.Sessions.{config_of, handing_out, announcing}
 use Rattle.smd_app.specs.Statuses.{Answers, Ending}
 use Rattle.smd_app.specs.Summaries.{IsSummary}
 use Rattle.smd_app.specs.Words.{Places, Task, Rehearse, Exercise, Serve, Means}
@@ -58,8 +58,8 @@ pub record HasDoneAll (identity : Identity) (places : Places) (coming : Option (
   pub all : EndsWith (handing_out identity places ++ (announcing identity places ++ own)) ending effects
   pub brought : Brought coming (heard own)
   pub in_turns : length (heard own) ≤ turns
-  pub done : deeds own ≡ deeds_in (script identity.cookie book (heard own))
-  pub finish : has_finish (script identity.cookie book (heard own)) ≡ is_ok ending
+  pub done : deeds own ≡ deeds_in (script (config_of identity places) book (heard own))
+  pub finish : has_finish (script (config_of identity places) book (heard own)) ≡ is_ok ending
 
 -- A rehearsal prints the trace of the whole run, or that for as many events as there were turns.
 abbrev pub RehearsesWell : List ℕ → List Event → ℕ → ℕ → List Effect → Type 0
@@ -86,7 +86,7 @@ ServesWell identity places coming book turns status effects =
 abbrev pub Completes : Task → Identity → Outside → ℕ → ℕ → List Effect → Type 0
 Completes Rehearse identity old turns status effects = (input : List ℕ) (events : List Event) → old.input ≡ Some input → ScriptSays (script_of input) events → RehearsesWell (script_of input) events turns status effects
 Completes (Exercise pattern rounds) identity old turns status effects = ExercisesWell (exercise_events pattern rounds) turns status effects
-Completes (Serve places) identity old turns status effects = (file : List ℕ) (book : Book) → CanServe identity.cookie old file book (heard effects) → ServesWell identity places old.coming book turns status effects
+Completes (Serve places) identity old turns status effects = (file : List ℕ) (book : Book) → CanServe (config_of identity places) old file book (heard effects) → ServesWell identity places old.coming book turns status effects
 
 -- A call whose words mean a task, and in which no count but the spawner's rose, answers 0 with all done, 9 after all its turns with all done, or 10.
 abbrev pub CallsComplete : Type 0

@@ -17,9 +17,9 @@ use Rattle.smd_app.specs.Script.{ScriptSays}
 use Rattle.smd_app.specs.Trace.{text}
 use Rattle.smd_app.specs.declared.rehearsal.Rehearsal.{Rehearsal}
 
--- the cookie of each rehearsal
-abbrev pub rehearsal_cookie : Config
-rehearsal_cookie = record { 0 = 0 ∷ 1 ∷ 2 ∷ 3 ∷ 4 ∷ 5 ∷ 6 ∷ 7 ∷ 8 ∷ 9 ∷ 10 ∷ 11 ∷ 12 ∷ 13 ∷ 14 ∷ 15 ∷ [] }
+-- the cookie of each rehearsal, and its patience
+abbrev pub rehearsal_config : Config
+rehearsal_config = record { cookie = record { 0 = 0 ∷ 1 ∷ 2 ∷ 3 ∷ 4 ∷ 5 ∷ 6 ∷ 7 ∷ 8 ∷ 9 ∷ 10 ∷ 11 ∷ 12 ∷ 13 ∷ 14 ∷ 15 ∷ [] }; patience = 0 }
 
 -- the store of each rehearsal: a file of the right size, no gate of which is open
 pub record IsBlank (file : List ℕ) : Type 0 where
@@ -37,7 +37,7 @@ with_end events = events ++ End ∷ []
 
 -- one of the first so many events ends the run
 abbrev pub ends_within : ℕ → List Event → Bool
-ends_within turns events = has_finish (script rehearsal_cookie empty_book (take turns (with_end events)))
+ends_within turns events = has_finish (script rehearsal_config empty_book (take turns (with_end events)))
 
 -- The script was read to its end, and its run came to its own end within the turns.
 pub record Finishes (bytes : List ℕ) (turns : ℕ) (events : List Event) : Type 0 where
@@ -52,14 +52,14 @@ pub record Outlasts (bytes : List ℕ) (turns : ℕ) (events : List Event) : Typ
 
 -- what the whole run shows, and what the first events show, as many as there were turns
 abbrev pub whole_run : List Event → List Item
-whole_run events = run rehearsal_cookie empty_book (with_end events)
+whole_run events = run rehearsal_config empty_book (with_end events)
 
 abbrev pub first_run : ℕ → List Event → List Item
-first_run turns events = run rehearsal_cookie empty_book (take turns events)
+first_run turns events = run rehearsal_config empty_book (take turns events)
 
 -- all that the machine does in the whole run
 abbrev pub whole_script : List Event → List Act
-whole_script events = script rehearsal_cookie empty_book (with_end events)
+whole_script events = script rehearsal_config empty_book (with_end events)
 
 -- the lines of the whole run
 abbrev pub whole_trace : List Event → List ℕ

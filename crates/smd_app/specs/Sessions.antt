@@ -50,6 +50,10 @@ handing_out identity places = Published places.authority (authority_file identit
 abbrev pub announcing : Identity → Places → List Effect
 announcing identity places = Printed (session_line identity places.socket) ∷ []
 
+-- what the session is told as it begins
+abbrev pub config_of : Identity → Places → Config
+config_of identity places = record { cookie = identity.cookie; patience = 0 }
+
 -- A call on the disk failed, or memory was wanting.
 abbrev pub IsOfDisk : Outside → Outside → Fault → Type 0
 IsOfDisk old new fault = ((fault ≡ Disk) × Rose old.faults.disk new.faults.disk) ⊎ (fault ≡ NoMemory)
@@ -99,7 +103,7 @@ pub record HasServed (identity : Identity) (places : Places) (turns : ℕ) (old 
   pub own : List Effect
   pub ends : ending ≡ served answer
   pub parts : effects ≡ handing_out identity places ++ (announcing identity places ++ own)
-  pub session : IsSession identity.cookie turns old new answer own
+  pub session : IsSession (config_of identity places) turns old new answer own
 
 -- The call that failed cut it short before the session: nothing more was done than what stands before that call.
 abbrev pub WasCutShort : Identity → Places → Outside → Outside → Result (Unit {0}) Fault → List Effect → Type 0

@@ -4,12 +4,15 @@ ghost use Rattle.sm_world.specs.Events.{HasPieceSize};
 ghost use Rattle.smd_app.specs.Rehearsals.{IsBlank, Rehearses};
 
 use ice_cookie::Cookie;
-use session_engine::{ServeFault, serve};
+use session_engine::{Config, ServeFault, serve};
 use sm_world::{EventList, NoMemory, Octets, SteadyWorld};
 use std::alloc::Global;
 
-/// The cookie of each rehearsal, so that a script can show it.
-const REHEARSAL_COOKIE: Cookie = Cookie([0, 1, 2, 3, 4, 5, 6, 7, 8, 9, 10, 11, 12, 13, 14, 15]);
+/// The cookie of each rehearsal, so that a script can show it, and no end of patience.
+const REHEARSAL_CONFIG: Config = Config {
+    cookie: Cookie([0, 1, 2, 3, 4, 5, 6, 7, 8, 9, 10, 11, 12, 13, 14, 15]),
+    patience: 0,
+};
 
 /// How many bytes a store has.
 const STORE_LEN: usize = 16_777_280;
@@ -37,7 +40,7 @@ pub fn run_in_memory(alloc: Global, events: EventList, turns: u64) -> Result<Reh
 {
     let store = blank_store(alloc)?;
     let mut world = SteadyWorld::new(alloc, events, Octets::new(alloc), store)?;
-    let finished = match serve(alloc, &mut world, REHEARSAL_COOKIE, turns) {
+    let finished = match serve(alloc, &mut world, REHEARSAL_CONFIG, turns) {
         Ok(()) => true,
         Err(ServeFault::Spent) => false,
         Err(ServeFault::NoMemory) => return Err(NoMemory),

@@ -8,7 +8,7 @@ use crate::fault::Fault;
 use crate::identity::Identity;
 use crate::words::Paths;
 use ice_cookie::{AuthorityEntry, AuthorityList, AuthorityRefusal, authority_bytes};
-use session_engine::serve;
+use session_engine::{Config, serve};
 use sm_world::{Console, Disk, Links, NoMemory, Octets, Spawner};
 use std::alloc::Global;
 
@@ -149,7 +149,11 @@ pub fn serve_session<W: Disk + Links + Spawner + Console>(
     if let Err(fault) = announce(alloc, world, identity, paths) {
         return Err(fault);
     }
-    match serve(alloc, world, identity.cookie, turns) {
+    let config = Config {
+        cookie: identity.cookie,
+        patience: 0,
+    };
+    match serve(alloc, world, config, turns) {
         Ok(()) => Ok(()),
         Err(fault) => Err(Fault::from(fault)),
     }
