@@ -1,10 +1,10 @@
 -- The lines of a trace, one after the other.
-use Rattle.std.proofs.Common.{◌≡◌, ℕ, ◌+◌, ◌<◌, ◌≤◌, ◌^◌, ◌==◌, nat_eq, List, [], ◌∷◌, ◌++◌, length, codes, refl, sym, ◌∙◌, ap, arith, append_assoc, length-append}
+use Rattle.std.proofs.Common.{◌≡◌, inl, inr, ℕ, ◌+◌, ◌<◌, ◌≤◌, ◌^◌, ◌==◌, nat_eq, List, [], ◌∷◌, ◌++◌, length, codes, refl, sym, ◌∙◌, ap, arith, append_assoc, length-append}
 use Rattle.std.proofs.lemmas.List.{append-nil}
 use Rattle.sm_world.specs.declared.events.Event.TheVariants.{Joined, Piece, Gone, Operator, Tick, End as AtEnd}
 use Rattle.ice_framing.proofs.Cuts.{cond-both}
 use Rattle.control_lines.specs.Lines.{before_lines, lines_of}
-use Rattle.trace_replay.specs.Grammar.{SaysLine, SayLines}
+use Rattle.trace_replay.specs.Grammar.{IsNoLine, IsOpening, SaysLine, SayLines, SayTrace}
 use Rattle.trace_replay.specs.Shown.{Streams, shown, silence, replaced, after_line, line_shown, shown_from}
 use Rattle.trace_replay.specs.Watches.{Shows, FollowsLine}
 use Rattle.trace_replay.specs.declared.lines.TraceLine.{TraceLine}
@@ -88,12 +88,19 @@ say_one_more [] (first ∷ said) line one say says = elim say [ ]
 say_one_more (first ∷ lines) [] line one say says = elim say [ ]
 say_one_more (first ∷ lines) (meant ∷ said) line one say says = (say.0, say_one_more lines said line one say.1 says)
 
+-- the same behind an opening
+say_still : (lines : List (List ℕ)) (said : List TraceLine) (line : List ℕ) (one : TraceLine) → SayTrace lines said → SaysLine line one → SayTrace (lines ++ line ∷ []) (said ++ one ∷ [])
+say_still [] [] line one say says = inr (says, tt)
+say_still [] (meant ∷ said) line one say says = elim say [ ]
+say_still (first ∷ lines) said line one (inl opens) says = inl (opens.0, say_one_more lines said line one opens.1 says)
+say_still (first ∷ lines) said line one (inr say) says = inr (say_one_more (first ∷ lines) said line one say says)
+
 -- In the middle of a trace: what was shown so far is what is shown of the lines so far.
 pub record Reading (limit : ℕ) (trace left : List ℕ) (watch : Watch) (text : List ℕ) (n : ℕ) : Type 0 where
   pub good : List (List ℕ)
   pub said : List TraceLine
   pub lines : lines_of trace ≡ good ++ lines_of left
-  pub say : SayLines good said
+  pub say : SayTrace good said
   pub number : n ≡ length good
   pub few : n + length left ≤ length trace
   pub within : left ≡ [] → length trace ≤ limit
@@ -131,7 +138,7 @@ goes_on limit trace left line rest watch after text more n one reading first sho
       good = reading.good ++ line ∷ [];
       said = reading.said ++ one ∷ [];
       lines = lines ∙ sym (append_assoc reading.good (line ∷ []) (lines_of rest));
-      say = say_one_more reading.good reading.said line one reading.say says;
+      say = say_still reading.good reading.said line one reading.say says;
       number = omega (arith, reading.number, length-append reading.good (line ∷ []));
       few = omega (arith, reading.few);
       within = within;
@@ -140,3 +147,38 @@ goes_on limit trace left line rest watch after text more n one reading first sho
       small = record { came = λ q. rw streams_are (omega (arith, next.came q, total-append reading.good (line ∷ []))); went = λ q. rw streams_are (omega (arith, next.went q, total-append reading.good (line ∷ []))) };
       fits = reading.fits;
     }
+
+none_before : (lines : List (List ℕ)) → length lines ≡ 0 → lines ≡ []
+none_before [] e = refl
+none_before (line ∷ lines) e = absurd (omega arith)
+
+nothing_said : (lines : List (List ℕ)) (said : List TraceLine) → lines ≡ [] → SayTrace lines said → said ≡ []
+nothing_said [] [] e say = refl
+nothing_said [] (meant ∷ said) e say = elim say [ ]
+nothing_said (line ∷ lines) said e say = absurd cc
+
+-- the first line opens the trace
+pub opens_on : (limit : ℕ) (trace left line rest : List ℕ) (watch : Watch) (text : List ℕ) (n : ℕ) → Reading limit trace left watch text n → n ≡ 0 → lines_of left ≡ line ∷ lines_of rest → length rest < length left → IsOpening line → (rest ≡ [] → length trace ≤ limit) → Reading limit trace rest watch text (n + 1)
+opens_on limit trace left line rest watch text n reading is_first first shorter opens within =
+    let none : reading.good ≡ [] = none_before reading.good (sym reading.number ∙ is_first) in
+    let silent : reading.said ≡ [] = nothing_said reading.good reading.said none reading.say in
+    record {
+      good = line ∷ [];
+      said = [];
+      lines = reading.lines ∙ (ap (λ good. good ++ lines_of left) none ∙ first);
+      say = inl (opens, tt);
+      number = omega (arith, is_first);
+      few = omega (arith, reading.few);
+      within = within;
+      text_is = reading.text_is ∙ ap shown silent;
+      shows = rw silent at reading.shows;
+      small = record { came = λ q. omega arith; went = λ q. omega arith };
+      fits = reading.fits;
+    }
+
+-- a line that is none there
+pub no_line_there : (limit : ℕ) (trace left line : List ℕ) (watch : Watch) (text : List ℕ) (n : ℕ) → (reading : Reading limit trace left watch text n) → ((meaning : TraceLine) → SaysLine line meaning → ⊥) → (n ≡ 0 → IsOpening line → ⊥) → IsNoLine reading.good line
+no_line_there limit trace left line watch text n reading none closed = record {
+  no_meaning = none;
+  no_opening = λ e opens. closed (reading.number ∙ ap length e) opens;
+}

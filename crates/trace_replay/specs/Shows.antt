@@ -1,7 +1,7 @@
 -- What showing a trace answers.
 use Rattle.std.specs.Prelude.{◌≡◌, ◌⊎◌, ℕ, ◌+◌, ◌<◌, ◌≤◌, List, [], ◌∷◌, ◌++◌, length}
 use Rattle.control_lines.specs.Lines.{lines_of}
-use Rattle.trace_replay.specs.Grammar.{SaysLine, SayLines}
+use Rattle.trace_replay.specs.Grammar.{SayTrace, IsNoLine}
 use Rattle.trace_replay.specs.Shown.{shown}
 use Rattle.trace_replay.specs.declared.lines.TraceLine.{TraceLine}
 use Rattle.trace_replay.specs.declared.showing.ShowAnswer.{ShowAnswer}
@@ -11,10 +11,10 @@ use Rattle.trace_replay.specs.declared.showing.ShowAnswer.TheVariants.{Text, Mal
 pub record IsShown (limit : ℕ) (trace text : List ℕ) : Type 0 where
   pub said : List TraceLine
   pub within : length trace ≤ limit
-  pub say : SayLines (lines_of trace) said
+  pub say : SayTrace (lines_of trace) said
   pub text_is : text ≡ shown said
 
--- The n-th line, counted from 1, is the first that isn't of the grammar: it has no meaning, or it is the last of a trace that is too long.
+-- The n-th line, counted from 1, is the first that isn't of the grammar there, or it is the last of a trace that is too long.
 pub record IsMalformed (limit : ℕ) (trace : List ℕ) (n : ℕ) : Type 0 where
   pub good : List (List ℕ)
   pub said : List TraceLine
@@ -22,8 +22,8 @@ pub record IsMalformed (limit : ℕ) (trace : List ℕ) (n : ℕ) : Type 0 where
   pub others : List (List ℕ)
   pub lines : lines_of trace ≡ good ++ line ∷ others
   pub number : n ≡ length good + 1
-  pub all_good : SayLines good said
-  pub bad : ((meaning : TraceLine) → SaysLine line meaning → ⊥) ⊎ ((limit < length trace) × (others ≡ []))
+  pub all_good : SayTrace good said
+  pub bad : IsNoLine good line ⊎ ((limit < length trace) × (others ≡ []))
 
 -- the answer for a trace of at most so many bytes
 abbrev pub ShowsWithin : ℕ → List ℕ → ShowAnswer → Type 0

@@ -1,6 +1,7 @@
 ghost use Rattle.std.specs.Prelude.{IfOk};
 ghost use Rattle.trace_replay.specs.Shows.{Shows, ShowsWithin};
 
+use crate::lines::is_opening;
 use crate::watch::Watch;
 use control_lines::{OrderRefusal, next_line};
 use sm_world::{NoMemory, Octets};
@@ -29,10 +30,12 @@ pub fn show_within(alloc: Global, trace: &[u8], limit: usize) -> Result<ShowAnsw
         if rest.is_empty() && trace.len() > limit {
             return Ok(ShowAnswer::Malformed { at: number });
         }
-        match watch.take_line(alloc, &mut text, line) {
-            Ok(()) => {}
-            Err(OrderRefusal::BadLine) => return Ok(ShowAnswer::Malformed { at: number }),
-            Err(OrderRefusal::NoMemory) => return Err(NoMemory),
+        if number > 1 || !is_opening(alloc, line)? {
+            match watch.take_line(alloc, &mut text, line) {
+                Ok(()) => {}
+                Err(OrderRefusal::BadLine) => return Ok(ShowAnswer::Malformed { at: number }),
+                Err(OrderRefusal::NoMemory) => return Err(NoMemory),
+            }
         }
         left = rest;
     }
@@ -45,7 +48,8 @@ pub fn show_within(alloc: Global, trace: &[u8], limit: usize) -> Result<ShowAnsw
 /// `BadValue`. A header that states too much has `Oversize`, and nothing is shown behind it.
 ///
 /// The lines of a trace are those of a script that say an event, `end`, `sent N HEX`, `shut N`,
-/// `started` and `unstarted` with a command, and `printed` with any text.
+/// `started` and `unstarted` with a command, and `printed` with any text. The first may be
+/// `patience MS`, of which nothing is shown.
 pub fn show(alloc: Global, trace: &[u8]) -> Result<ShowAnswer, NoMemory>
     ensures { IfOk result (Shows trace.now) }
 {
