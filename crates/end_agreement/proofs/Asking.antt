@@ -8,12 +8,11 @@ use Rattle.sm_world.specs.declared.events.SaveStyle.TheVariants.{Any, Errors, No
 use Rattle.xsmp_messages.specs.declared.message.XsmpMessage.{XsmpMessage}
 use Rattle.xsmp_messages.specs.declared.message.XsmpMessage.TheVariants.{ConnectionClosed, ShutdownCancelled}
 use Rattle.session_model.specs.declared.phase.Phase.{Phase}
-use Rattle.session_model.specs.declared.phase.Phase.TheVariants.{Asked, AskedTwo, Done, Dying, Idle, Interacting, InteractingTwo, Owing, Saving, SavingTwo, Unregistered, WantsTwo}
+use Rattle.session_model.specs.declared.phase.Phase.TheVariants.{Interacting, InteractingTwo, Owing, Saving, SavingTwo, Unregistered}
 use Rattle.session_model.specs.Phases as session
-use Rattle.client_machine.specs.Asking.{after_asked, may_ask, requested}
+use Rattle.client_machine.specs.Asking.{may_ask, requested}
 use Rattle.client_machine.specs.Phases.{ClientState, is_dead, is_first_saving, is_interacting, is_owing, is_registered, is_registering, is_saving, asked_phase, saved_phase, second_phase, talked_phase, phase_said}
 use Rattle.client_machine.specs.Saves.{allows, may_cancel}
-use Rattle.client_machine.specs.Taking.{taken}
 use Rattle.client_machine.specs.declared.phase.ClientPhase.{ClientPhase}
 use Rattle.client_machine.specs.declared.phase.ClientPhase.TheVariants.{Dead, Registering}
 use Rattle.client_machine.specs.declared.requests.Request.{Request}
@@ -22,7 +21,7 @@ use Rattle.end_agreement.specs.Sides.{Agrees, Side, at_phase, is_at_work, mirror
 use Rattle.end_agreement.specs.Hearing.{Fits}
 use Rattle.end_agreement.specs.Meeting.{EachAnswer, EachCancel, EachNeutral, Meets, has_place, is_deaf}
 use Rattle.end_agreement.specs.Laws.{AskingKeeps}
-use Rattle.end_agreement.proofs.Walks.{Said, each-more, goes-both, goes-make}
+use Rattle.end_agreement.proofs.Walks.{each-more, goes-both, goes-make}
 use Rattle.end_agreement.proofs.Calm.{calm-tail, differ, fits-dead, neutral-calm, or-true, tail-nil}
 use Rattle.end_agreement.proofs.Requests.{fit, last-fits, not-true, said_by, said-fits}
 

@@ -11,15 +11,14 @@ use Rattle.session_model.specs.Phases.{allows, asked_phase, cancelled_phase, is_
 use Rattle.client_machine.specs.Phases.{ClientState, is_registering}
 use Rattle.client_machine.specs.Taking.{taken}
 use Rattle.client_machine.specs.declared.phase.ClientPhase.{ClientPhase}
-use Rattle.client_machine.specs.declared.phase.ClientPhase.TheVariants.{Dead}
 use Rattle.client_machine.specs.declared.saves.SaveAsk.{SaveAsk}
 use Rattle.end_agreement.specs.Sides.{Agrees, Side, at_phase, may_cancel, may_give, mirror, side_given}
 use Rattle.end_agreement.specs.Hearing.{Fits, IsLast, is_again, suits}
-use Rattle.end_agreement.specs.Meeting.{EachAnswer, EachCancel, EachNeutral, Meets, has_place, is_deaf, is_neutral}
+use Rattle.end_agreement.specs.Meeting.{EachAnswer, EachCancel, EachNeutral, Meets, has_place, is_deaf}
 use Rattle.end_agreement.specs.Laws.{GivingKeeps}
 use Rattle.end_agreement.proofs.Walks.{Said, each-more, goes-both, goes-make, goes-on}
 use Rattle.end_agreement.proofs.Taken.{client_in}
-use Rattle.end_agreement.proofs.Calm.{AreCalm, again-not, calm-agrees, calm-append, calm-registered, calm-still, calm-suits, calm-tail, differ, fits-dead, is_calm, joined, last-on, neutral-calm, never-again, or-true, tail-nil}
+use Rattle.end_agreement.proofs.Calm.{AreCalm, again-not, calm-agrees, calm-append, calm-registered, calm-still, calm-suits, calm-tail, differ, fits-dead, joined, last-on, neutral-calm, never-again, or-true, tail-nil}
 
 abbrev side_in : Option Phase → Bool → SaveStyle → Side
 side_in phase shutdown style = record { phase = phase; shutdown = shutdown; style = style }

@@ -1,14 +1,13 @@
 -- A client owes one answer at most, and owes it for a SaveYourself.
-use Rattle.std.proofs.Common.{◌≡◌, refl, sym, ap, ◌∙◌, subst, Bool, true, false, cond, ◌&&◌, ◌||◌, List, ℕ, ◌+◌, ◌≤◌, arith}
+use Rattle.std.proofs.Common.{◌≡◌, sym, subst, Bool, true, cond, ◌||◌, ◌+◌, ◌≤◌, arith}
 use Rattle.ice_values.specs.declared.severity.Severity.{Severity}
 use Rattle.ice_values.specs.declared.severity.Severity.TheVariants.{CanContinue}
 use Rattle.xsmp_messages.specs.declared.message.XsmpMessage.{XsmpMessage}
 use Rattle.xsmp_messages.specs.declared.message.XsmpMessage.TheVariants.{Die, Error, Interact, RegisterClientReply, SaveComplete, SaveYourself, SaveYourselfPhase2, ShutdownCancelled}
-use Rattle.client_machine.specs.Asking.{after_asked, may_ask}
+use Rattle.client_machine.specs.Asking.{may_ask}
 use Rattle.client_machine.specs.Phases.{ClientState, asked_phase, blamed_phase, is_owing, is_saving, phase_given, phase_said, saved_phase, second_phase, talked_phase}
-use Rattle.client_machine.specs.Taking.{taken}
 use Rattle.client_machine.specs.declared.phase.ClientPhase.{ClientPhase}
-use Rattle.client_machine.specs.declared.phase.ClientPhase.TheVariants.{Asked, AskedTwo, Dead, Done, Idle, Interacting, InteractingTwo, Owing, Registering, Saving, SavingTwo, WantsTwo}
+use Rattle.client_machine.specs.declared.phase.ClientPhase.TheVariants.{Asked, Dead, Done, Idle, Interacting, Owing, Registering, Saving, SavingTwo, WantsTwo}
 use Rattle.client_machine.specs.declared.requests.Request.{Request}
 use Rattle.client_machine.specs.declared.requests.Request.TheVariants.{Close, Done as SayDone, Interact as AskDialog, InteractDone as SayTalked, PhaseTwo}
 use Rattle.end_agreement.specs.Laws.{AnswersAreOwed, SavesAreAsked, answers_save, asks_save, owes}

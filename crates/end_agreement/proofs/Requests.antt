@@ -1,6 +1,5 @@
 -- What the client asks, and what was under way to it before.
-use Rattle.std.proofs.Common.{◌≡◌, refl, sym, ap, ◌∙◌, subst, Bool, true, false, cond, not, ◌&&◌, ◌||◌, List, [], ◌∷◌, ◌++◌, ℕ, arith, ◌⊎◌, inl, inr}
-use Rattle.std.specs.Prelude.{Option, Some, None}
+use Rattle.std.proofs.Common.{◌≡◌, refl, sym, ap, ◌∙◌, subst, Bool, true, false, not, ◌&&◌, ◌||◌, List, [], ◌∷◌, ◌++◌, ℕ, arith, ◌⊎◌, inl, inr}
 use Rattle.sm_world.specs.declared.events.Dialog.{Dialog}
 use Rattle.ice_values.specs.Fields.{ErrorFields}
 use Rattle.ice_values.specs.declared.severity.Severity.{Severity}
@@ -18,7 +17,7 @@ use Rattle.client_machine.specs.declared.saves.SaveAsk.{SaveAsk}
 use Rattle.end_agreement.specs.Sides.{Agrees, Side}
 use Rattle.end_agreement.specs.Hearing.{Fits, IsLast, is_again, suits, suits_error}
 use Rattle.end_agreement.proofs.Taken.{client_in}
-use Rattle.end_agreement.proofs.Calm.{again-not, calm-still, calm-suits, dead-still, dead-suits, differ, is_calm, lets_go_on, never-again}
+use Rattle.end_agreement.proofs.Calm.{again-not, calm-still, calm-suits, dead-still, dead-suits, is_calm, lets_go_on, never-again}
 
 -- Where a client is of which the manager may still hear this: it may ask so, or something crossed what it asked.
 abbrev pub fit : Request → ClientState → Bool

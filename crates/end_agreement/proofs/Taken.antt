@@ -1,6 +1,5 @@
 -- What the client takes.
-use Rattle.std.proofs.Common.{◌≡◌, ◌≢◌, refl, sym, ap, ◌∙◌, subst, Bool, true, false, cond, ◌||◌, List, [], ◌∷◌, ◌++◌, ℕ, ◌+◌, ◌≤◌, arith}
-use Rattle.std.specs.Prelude.{Option, Some, None}
+use Rattle.std.proofs.Common.{◌≡◌, ◌≢◌, Bool, true, false, cond, ◌||◌, List, [], ◌∷◌, ◌++◌, ℕ, arith}
 use Rattle.ice_values.specs.Fields.{ErrorFields}
 use Rattle.ice_values.specs.declared.severity.Severity.{Severity}
 use Rattle.ice_values.specs.declared.severity.Severity.TheVariants.{CanContinue}
@@ -11,12 +10,12 @@ use Rattle.client_machine.specs.Taking.{act_taken, blamed_act, registers_again, 
 use Rattle.client_machine.specs.declared.acts.ClientAct.{ClientAct}
 use Rattle.client_machine.specs.declared.acts.ClientAct.TheVariants.{Again, Cancelled, Complete, Nothing, Properties, Registered, Unexpected}
 use Rattle.client_machine.specs.declared.phase.ClientPhase.{ClientPhase}
-use Rattle.client_machine.specs.declared.phase.ClientPhase.TheVariants.{Asked, AskedTwo, Dead, Done, Idle, Interacting, InteractingTwo, Owing, Registering, Saving, SavingTwo, WantsTwo}
+use Rattle.client_machine.specs.declared.phase.ClientPhase.TheVariants.{Asked, AskedTwo, Done, Idle, WantsTwo}
 use Rattle.client_machine.specs.declared.saves.SaveAsk.{SaveAsk}
-use Rattle.end_agreement.specs.Sides.{Agrees, Side}
-use Rattle.end_agreement.specs.Hearing.{Fits, IsLast, is_again, suits, suits_alive}
+use Rattle.end_agreement.specs.Sides.{Side}
+use Rattle.end_agreement.specs.Hearing.{suits, suits_alive}
 use Rattle.end_agreement.specs.Meeting.{Meets}
-use Rattle.end_agreement.specs.Laws.{EndsAgree, NothingIsUnexpected, TakingKeeps, taken_all}
+use Rattle.end_agreement.specs.Laws.{EndsAgree, NothingIsUnexpected, TakingKeeps}
 use Rattle.end_agreement.proofs.Walks.{each-more, each-some, goes-both, goes-some}
 
 -- the client in this phase, asked this

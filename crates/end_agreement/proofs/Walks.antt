@@ -1,11 +1,11 @@
 -- Over what the manager may answer, and over what waits for it.
-use Rattle.std.proofs.Common.{◌≡◌, refl, Bool, true, false, List, [], ◌∷◌, ◌++◌, ℕ, arith}
+use Rattle.std.proofs.Common.{◌≡◌, refl, Bool, true, false, List, [], ◌∷◌, ℕ, arith}
 use Rattle.std.specs.Prelude.{Option, Some, None, is_some}
 use Rattle.xsmp_messages.specs.declared.message.XsmpMessage.{XsmpMessage}
-use Rattle.xsmp_messages.specs.declared.message.XsmpMessage.TheVariants.{ConnectionClosed, DeleteProperties, GetProperties, InteractDone, RegisterClient, SaveYourselfRequest, SetProperties, ShutdownCancelled}
+use Rattle.xsmp_messages.specs.declared.message.XsmpMessage.TheVariants.{ConnectionClosed, DeleteProperties, GetProperties, InteractDone, RegisterClient, SaveYourselfRequest, SetProperties}
 use Rattle.session_model.specs.declared.phase.Phase.{Phase}
-use Rattle.session_model.specs.declared.phase.Phase.TheVariants.{Unregistered, Idle}
-use Rattle.session_model.specs.Phases.{allows, cancelled_phase, is_interacting, phase_said}
+use Rattle.session_model.specs.declared.phase.Phase.TheVariants.{Unregistered}
+use Rattle.session_model.specs.Phases.{allows, is_interacting, phase_said}
 use Rattle.end_agreement.specs.Sides.{Side, at_phase}
 use Rattle.end_agreement.specs.Meeting.{EachAnswer, EachCancel, EachEntry, EachNeutral, EachRefusal, Goes}
 

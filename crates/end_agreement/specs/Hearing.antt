@@ -1,5 +1,5 @@
 -- What waits for the client: each message has its place, and behind the last one both ends agree.
-use Rattle.std.specs.Prelude.{Bool, List, Some, [], cond, false, true, ◌||◌, ◌∷◌, ◌≡◌}
+use Rattle.std.specs.Prelude.{Bool, List, Some, [], false, true, ◌||◌, ◌∷◌, ◌≡◌}
 use Rattle.ice_values.specs.Fields.{ErrorFields}
 use Rattle.ice_values.specs.declared.severity.Severity.{Severity}
 use Rattle.ice_values.specs.declared.severity.Severity.TheVariants.{CanContinue}
