@@ -96,7 +96,7 @@ def array8_list(items):
 
 def client(number):
     """An entry that is started again by one word and discarded by another."""
-    table = [(b"RestartCommand", [b"c%d" % number]), (b"DiscardCommand", [b"d%d" % number])]
+    table = [(b"RestartCommand", [b"no-client-%d" % number]), (b"DiscardCommand", [b"no-discard-%d" % number])]
     properties = b"".join(
         array8(name) + array8(b"LISTofARRAY8") + array8_list(values) for name, values in table
     )
@@ -104,7 +104,7 @@ def client(number):
 
 
 def pending(number):
-    return array8_list([b"p%d" % number]) + array8(b"/") + array8_list([])
+    return array8_list([b"no-pending-%d" % number]) + array8(b"/") + array8_list([])
 
 
 def book(entries, commands):
