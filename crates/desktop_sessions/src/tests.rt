@@ -12,6 +12,31 @@ use std::{env, fs, io, process, thread};
 /// The variable that tells a started test which paths begin how.
 const ROOM: &str = "DESKTOP_WORLD_ROOM";
 
+/// For how many milliseconds a client may be silent that is waited for.
+const PATIENCE: u64 = 3000;
+
+/// What a client says as it joins with the cookie and registers: its byte order, the set-up, the
+/// cookie, the set-up of XSMP, the cookie again, and that it has no ID yet.
+const JOINING: &[u8] = b"\0\x01\0\0\0\0\0\0\
+    \0\x02\x01\x01\x06\0\0\0\0\0\0\0\0\0\0\0\x03\0MIT\0\0\0\x03\01.0\0\0\0\
+    \x12\0MIT-MAGIC-COOKIE-1\x01\0\0\0\
+    \0\x04\0\0\x03\0\0\0\x10\0\0\0\0\0\0\0\
+    \x07\x07\x07\x07\x07\x07\x07\x07\x07\x07\x07\x07\x07\x07\x07\x07\
+    \0\x07\x01\x01\x07\0\0\0\x01\x01\0\0\0\0\0\0\x04\0XSMP\0\0\x03\0MIT\0\0\0\
+    \x03\01.0\0\0\0\x12\0MIT-MAGIC-COOKIE-1\x01\0\0\0\
+    \0\x04\0\0\x03\0\0\0\x10\0\0\0\0\0\0\0\
+    \x07\x07\x07\x07\x07\x07\x07\x07\x07\x07\x07\x07\x07\x07\x07\x07\
+    \x01\x01\0\0\x01\0\0\0\0\0\0\0\0\0\0\0";
+
+/// How many bytes it is sent then, of which the last ask it to save.
+const JOINED_LEN: usize = 144;
+
+const SAVE_DONE: &[u8] = b"\x01\x08\x01\0\0\0\0\0";
+
+const SAVE_COMPLETE: &[u8] = b"\x01\x12\0\0\0\0\0\0";
+
+const GET_PROPERTIES: &[u8] = b"\x01\x0e\0\0\0\0\0\0";
+
 /// The paths of a test's session.
 #[derive(Drop)]
 struct Room {
@@ -54,7 +79,7 @@ fn run(rt: HostRuntime, room: &Room) -> io::Result<Option<ServeFault>> {
     }
     let config = Config {
         cookie: Cookie([7; 16]),
-        patience: 0,
+        patience: PATIENCE,
     };
     let ended = serve(rt.alloc(), &mut world, config, u64::MAX);
     world.close();
@@ -94,6 +119,23 @@ fn ask(rt: HostRuntime, peer: &mut UnixStream, said: &[u8], count: usize) -> io:
 fn orders(rt: HostRuntime, room: &Room, said: &[u8], count: usize) -> io::Result<Vec<u8>> {
     let mut operator = dial(rt, room.control.as_str())?;
     ask(rt, &mut operator, said, count)
+}
+
+/// A client that has joined, and has saved for the first time.
+fn join(rt: HostRuntime, room: &Room) -> io::Result<UnixStream> {
+    let mut client = dial(rt, room.socket.as_str())?;
+    let _ = ask(rt, &mut client, JOINING, JOINED_LEN)?;
+    let _ = ask(rt, &mut client, SAVE_DONE, SAVE_COMPLETE.len())?;
+    Ok(client)
+}
+
+/// Asks for properties four times a second, so often.
+fn talk(rt: HostRuntime, client: &mut UnixStream, times: u32) -> io::Result<()> {
+    for _ in 0..times {
+        thread::sleep(&rt, Duration::from_millis(250));
+        let _ = ask(rt, client, GET_PROPERTIES, 16)?;
+    }
+    Ok(())
 }
 
 fn clear(rt: HostRuntime, room: &Room) {
@@ -142,6 +184,35 @@ fn a_session_goes_on_after_a_kill(rt: HostRuntime) -> Result<(), Fail> {
     assert!(rt; second.wait()?.success());
     assert_eq!(rt; fs::exists(&rt, room.socket.as_str())?, false);
     assert_eq!(rt; fs::exists(&rt, room.control.as_str())?, false);
+    clear(rt, &room);
+    Ok(())
+}
+
+#[test]
+fn one_that_is_silent_is_shut_and_one_that_talks_is_not(rt: HostRuntime) -> Result<(), Fail> {
+    let room = new_room(rt, "silent")?;
+    let mut manager = start(rt, &room)?;
+    let mut silent = join(rt, &room)?;
+    let mut talking = join(rt, &room)?;
+    assert_eq!(rt;
+        orders(rt, &room, b"checkpoint\n", 3)?.as_slice(),
+        b"ok\n".as_slice()
+    );
+    // Both are asked to save.
+    let _ = ask(rt, &mut silent, b"", 16)?;
+    talk(rt, &mut talking, 16)?;
+    let _ = ask(rt, &mut talking, b"", 16)?;
+    assert!(rt; ask(rt, &mut silent, b"", 1).is_err());
+    assert_eq!(rt;
+        ask(rt, &mut talking, SAVE_DONE, SAVE_COMPLETE.len())?.as_slice(),
+        SAVE_COMPLETE
+    );
+    let lines = b"connections 1, records 0, pending 0, epoch 1, idle\nok\nok\n";
+    assert_eq!(rt;
+        orders(rt, &room, b"status\ndrop 2\nshutdown\n", lines.len())?.as_slice(),
+        lines.as_slice()
+    );
+    assert!(rt; manager.wait()?.success());
     clear(rt, &room);
     Ok(())
 }

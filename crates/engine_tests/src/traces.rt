@@ -30,7 +30,7 @@ struct Row {
     shown: &'static str,
 }
 
-const ROWS: [Row; 11] = [
+const ROWS: [Row; 13] = [
     Row {
         trace: "join 1 / sent 1 0001000000000000 / piece 1 0001000000000000 / piece 1 0009000000000000 / sent 1 000a000000000000 / end",
         shown: "out 1 1 ByteOrder order=0 / in 1 1 ByteOrder order=0 / in 1 2 Ping / out 1 2 PingReply",
@@ -72,6 +72,15 @@ const ROWS: [Row; 11] = [
         trace: "order status / tick 0 / started 726d 61 @ 2f746d70 + 41 - + - 31 / unstarted - / printed  any / printed  / piece 1 0001000000000000",
         shown: "in 1 1 ByteOrder order=0",
     },
+    // A patience opens it.
+    Row {
+        trace: "patience 18446744073709551615 / tick 5 / piece 1 0001000000000000 / end",
+        shown: "in 1 1 ByteOrder order=0",
+    },
+    Row {
+        trace: "patience 1 / patience 1",
+        shown: "malformed at 2",
+    },
     Row {
         trace: "join 1 / sent 1 0",
         shown: "malformed at 2",
@@ -94,7 +103,7 @@ fn traces_and_what_is_shown(rt: HostRuntime) -> Result<(), Fail> {
     Ok(())
 }
 
-const NO_LINES: [&str; 24] = [
+const NO_LINES: [&str; 25] = [
     "",
     "# a comment",
     "book 00",
@@ -119,6 +128,7 @@ const NO_LINES: [&str; 24] = [
     "started 61 ",
     "unstarted 61 + 61 61 61",
     "replay",
+    "patience 1000",
 ];
 
 #[test]
@@ -128,6 +138,29 @@ fn lines_that_are_none(rt: HostRuntime) -> Result<(), Fail> {
         let trace = format!(in alloc; "end\n{line}\nend\n")?;
         let shown = shown(alloc, trace.as_bytes())?;
         assert_eq!(rt; shown.as_str(), "malformed at 2\n", "for {line}");
+    }
+    Ok(())
+}
+
+const NO_OPENINGS: [&str; 9] = [
+    "patience",
+    "patience ",
+    "patience 0",
+    "patience 01",
+    "patience -1",
+    "patience 1 ",
+    "patience 1 1",
+    "patience 18446744073709551616",
+    "Patience 1",
+];
+
+#[test]
+fn openings_that_are_none(rt: HostRuntime) -> Result<(), Fail> {
+    let alloc = rt.alloc();
+    for line in NO_OPENINGS {
+        let trace = format!(in alloc; "{line}\nend\n")?;
+        let shown = shown(alloc, trace.as_bytes())?;
+        assert_eq!(rt; shown.as_str(), "malformed at 1\n", "for {line}");
     }
     Ok(())
 }

@@ -3,19 +3,23 @@
 
 use desktop_world::{BadPlaces, DesktopWorld, Places, host_name, random_cookie};
 use program_frame::{OwnTexts, StandardConsole, read_words};
-use sm_world::{Console, Octets};
+use sm_world::{Console, NoMemory, Octets};
 use smd_app::{Identity, Paths, read_paths, smd_main};
 use std::io;
+use std::io::ErrorKind;
 use std::process::ExitCode;
 
 const TEXTS: OwnTexts = OwnTexts {
     help: "smd, the session manager\n\n\
-        usage: smd serve --socket P --control C --store F --authority A\n\
+        usage: smd serve --socket P --control C --store F --authority A [--patience MS]\n\
         \x20                               runs the session of a desktop\n\
-        \x20      smd rehearse < SCRIPT   shows what smd does at the events of a script\n\
+        \x20      smd rehearse [MS] < SCRIPT\n\
+        \x20                               shows what smd does at the events of a script\n\
         \x20      smd exercise A N        saves eight clients N times in memory, and sums it up\n\
         \x20      smd --help              shows this\n\
-        \x20      smd --version           shows the version\n",
+        \x20      smd --version           shows the version\n\n\
+        With a patience of MS milliseconds a client is shut that is silent for so long\n\
+        while the session waits for it.\n",
     version: "smd 0.1.0\n",
     no_memory: "smd: no memory\n",
 };
@@ -44,7 +48,11 @@ fn refused(rt: HostRuntime, bad: BadPlaces) -> u8 {
 
 /// The status of a run with these words on this desktop.
 fn run(rt: HostRuntime, words: &[String]) -> io::Result<u8> {
-    if let Some(paths) = read_paths(words) {
+    let paths = match read_paths(rt.alloc(), words) {
+        Ok(paths) => paths,
+        Err(NoMemory) => return Err(io::Error::from(ErrorKind::OutOfMemory)),
+    };
+    if let Some(paths) = paths {
         if let Some(bad) = bad_places(rt, paths) {
             return Ok(refused(rt, bad));
         }

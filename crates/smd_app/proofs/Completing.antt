@@ -1,6 +1,7 @@
 -- Completeness: each ending that says more than 0, 9 or 10 has a cause that isn't there.
 use Rattle.std.proofs.Common.{◌≤◌, ◌≡◌, ◌⊎◌, inl, inr, ℕ, ◌+◌, ◌<◌, true, false, List, [], ◌∷◌, ◌++◌, drop, length, get_or, map, Option, Some, None, Result, Ok, Err, refl, sym, ◌∙◌, ap, subst, arith, codes, append-nil, is_ok, is_some, IfSome}
 use Rattle.std.proofs.lemmas.Bool.{false≢true}
+use Rattle.std.specs.Fmt.{decimal}
 use Rattle.std.proofs.lemmas.Fmt.{decimal_injective}
 use Rattle.std.proofs.lemmas.Grind.{flat_map-append}
 use Rattle.sm_world.specs.Effects.{event_of, heard}
@@ -29,7 +30,7 @@ use Rattle.smd_app.specs.Rehearsals.{script_of, Finishes, Outlasts, whole_trace,
 use Rattle.smd_app.specs.Script.{ScriptSays}
 use Rattle.smd_app.specs.Sessions.{config_of, handing_out, announcing, Opened, IsSession, HasServed, WasCutShort, IsOfDisk, IsOfEdge}
 use Rattle.smd_app.specs.Statuses.{Ending, HasRehearsed, HasExercised, RunsTask}
-use Rattle.smd_app.specs.Words.{Places, Task, Rehearse, Exercise, Serve, AreServe, AreExercise, pairs_of, value_in}
+use Rattle.smd_app.specs.Words.{Places, Task, Rehearse, Exercise, Serve, HavePaths, GivePatience, AreServe, AreRehearse, AreExercise, pairs_of, value_in}
 use Rattle.smd_app.specs.declared.fault.Fault.{Fault}
 use Rattle.smd_app.specs.declared.fault.Fault.TheVariants.{BadWords, Damaged, WrongSize, Disk, Links, Console, BadLine, Worn, Spent, NoMemory}
 use Rattle.smd_app.specs.declared.identity.Identity.{Identity}
@@ -45,23 +46,52 @@ same_value : (pairs others : List (List ℕ)) (name one two : List ℕ) → pair
 same_value pairs others name one two same first second =
     ap or_empty (sym first ∙ (ap (λ ws. value_in (pairs_of ws) name) same ∙ second))
 
+same_pairs : (words : List (List ℕ)) (one two : Places) → (first : AreServe words one) → (second : AreServe words two) → first.pairs ≡ second.pairs
+same_pairs words one two first second = ap (λ ws. drop 1 ws) (sym first.begins ∙ second.begins)
+
+same_paths : (pairs others : List (List ℕ)) (one two : Places) → pairs ≡ others → one.patience ≡ two.patience → HavePaths (pairs_of pairs) one → HavePaths (pairs_of others) two → one ≡ two
+same_paths pairs others one two same patience first second =
+    let socket = same_value pairs others (codes "--socket") one.socket two.socket same first.socket.found second.socket.found in
+    let control = same_value pairs others (codes "--control") one.control two.control same first.control.found second.control.found in
+    let store = same_value pairs others (codes "--store") one.store two.store same first.store.found second.store.found in
+    let authority = same_value pairs others (codes "--authority") one.authority two.authority same first.authority.found second.authority.found in
+    ap (λ (path : List ℕ). record { socket = path; control = one.control; store = one.store; authority = one.authority; patience = one.patience }) socket
+    ∙ (ap (λ (path : List ℕ). record { socket = two.socket; control = path; store = one.store; authority = one.authority; patience = one.patience }) control
+    ∙ (ap (λ (path : List ℕ). record { socket = two.socket; control = two.control; store = path; authority = one.authority; patience = one.patience }) store
+    ∙ (ap (λ (path : List ℕ). record { socket = two.socket; control = two.control; store = two.store; authority = path; patience = one.patience }) authority
+    ∙ ap (λ (n : ℕ). record { socket = two.socket; control = two.control; store = two.store; authority = two.authority; patience = n }) patience)))
+
+same_patience : (pairs others : List (List ℕ)) (n k : ℕ) → pairs ≡ others → GivePatience pairs n → GivePatience others k → n ≡ k
+same_patience pairs others n k same (inl first) (inl second) = first.1 ∙ sym second.1
+same_patience pairs others n k same (inl first) (inr second) = absurd (omega (arith, first.0, second.0, ap length same))
+same_patience pairs others n k same (inr first) (inl second) = absurd (omega (arith, first.0, second.0, ap length same))
+same_patience pairs others n k same (inr first) (inr second) =
+    decimal_injective n k first.1.is.small second.1.is.small (same_value pairs others (codes "--patience") (decimal n) (decimal k) same first.1.found second.1.found)
+
 same_places : (words : List (List ℕ)) (one two : Places) → AreServe words one → AreServe words two → one ≡ two
 same_places words one two first second =
-    let same : first.pairs ≡ second.pairs = ap (λ ws. drop 1 ws) (sym first.begins ∙ second.begins) in
-    let socket = same_value first.pairs second.pairs (codes "--socket") one.socket two.socket same first.socket.found second.socket.found in
-    let control = same_value first.pairs second.pairs (codes "--control") one.control two.control same first.control.found second.control.found in
-    let store = same_value first.pairs second.pairs (codes "--store") one.store two.store same first.store.found second.store.found in
-    let authority = same_value first.pairs second.pairs (codes "--authority") one.authority two.authority same first.authority.found second.authority.found in
-    ap (λ (path : List ℕ). record { socket = path; control = one.control; store = one.store; authority = one.authority }) socket
-    ∙ (ap (λ (path : List ℕ). record { socket = two.socket; control = path; store = one.store; authority = one.authority }) control
-    ∙ (ap (λ (path : List ℕ). record { socket = two.socket; control = two.control; store = path; authority = one.authority }) store
-    ∙ ap (λ (path : List ℕ). record { socket = two.socket; control = two.control; store = two.store; authority = path }) authority))
+    let same = same_pairs words one two first second in
+    same_paths first.pairs second.pairs one two same (same_patience first.pairs second.pairs one.patience two.patience same first.patience second.patience) first.paths second.paths
 
-serve_length : (words : List (List ℕ)) (places : Places) → AreServe words places → length words ≡ 9
-serve_length words places are = omega (arith, ap length are.begins, are.eight)
+-- there are more words than an exercise has
+serve_length : (words : List (List ℕ)) (places : Places) → AreServe words places → 4 ≤ length words
+serve_length words places are = elim are.patience [
+  | inl four ↦ omega (arith, ap length are.begins, four.0)
+  | inr five ↦ omega (arith, ap length are.begins, five.0)
+]
 
 exercise_length : (words : List (List ℕ)) (pattern rounds : ℕ) → AreExercise words pattern rounds → length words ≡ 3
 exercise_length words pattern rounds are = ap length are.are
+
+rehearse_length : (words : List (List ℕ)) (patience : ℕ) → AreRehearse words patience → length words ≤ 2
+rehearse_length words patience (inl one) = omega (arith, ap length one.0)
+rehearse_length words patience (inr two) = omega (arith, ap length two.0)
+
+same_rehearsal : (words : List (List ℕ)) (n k : ℕ) → AreRehearse words n → AreRehearse words k → n ≡ k
+same_rehearsal words n k (inl first) (inl second) = first.1 ∙ sym second.1
+same_rehearsal words n k (inl first) (inr second) = absurd (omega (arith, ap length first.0, ap length second.0))
+same_rehearsal words n k (inr first) (inl second) = absurd (omega (arith, ap length first.0, ap length second.0))
+same_rehearsal words n k (inr first) (inr second) = decimal_injective n k first.1.small second.1.small (ap (λ ws. get_or ws 1 []) (sym first.0 ∙ second.0))
 
 same_exercise : (words : List (List ℕ)) (pattern rounds a b : ℕ) → AreExercise words pattern rounds → AreExercise words a b → Exercise pattern rounds ≡ Exercise a b
 same_exercise words pattern rounds a b one two =
@@ -71,13 +101,13 @@ same_exercise words pattern rounds a b one two =
     ap (λ n. Exercise n rounds) first ∙ ap (λ n. Exercise a n) second
 
 pub mean_one : WordsMeanOne
-mean_one words Rehearse Rehearse one two = refl
-mean_one words Rehearse (Exercise a b) one two = absurd (omega (arith, ap length one, exercise_length words a b two))
-mean_one words Rehearse (Serve places) one two = absurd (omega (arith, ap length one, serve_length words places two))
-mean_one words (Exercise a b) Rehearse one two = absurd (omega (arith, ap length two, exercise_length words a b one))
+mean_one words (Rehearse n) (Rehearse k) one two = ap Rehearse (same_rehearsal words n k one two)
+mean_one words (Rehearse n) (Exercise a b) one two = absurd (omega (arith, rehearse_length words n one, exercise_length words a b two))
+mean_one words (Rehearse n) (Serve places) one two = absurd (omega (arith, rehearse_length words n one, serve_length words places two))
+mean_one words (Exercise a b) (Rehearse n) one two = absurd (omega (arith, rehearse_length words n two, exercise_length words a b one))
 mean_one words (Exercise a b) (Exercise n k) one two = same_exercise words a b n k one two
 mean_one words (Exercise a b) (Serve places) one two = absurd (omega (arith, exercise_length words a b one, serve_length words places two))
-mean_one words (Serve places) Rehearse one two = absurd (omega (arith, ap length two, serve_length words places one))
+mean_one words (Serve places) (Rehearse n) one two = absurd (omega (arith, rehearse_length words n two, serve_length words places one))
 mean_one words (Serve places) (Exercise a b) one two = absurd (omega (arith, exercise_length words a b two, serve_length words places one))
 mean_one words (Serve places) (Serve others) one two = ap Serve (same_places words places others one two)
 
@@ -99,24 +129,24 @@ ends_with own first effects ending status same closing = record {
 
 -- A run in memory
 
-rehearsed : (bytes : List ℕ) (events : List Event) (before after turns status : ℕ) (texts : List (List ℕ)) (first effects : List Effect) (ending : Ending) → ScriptSays bytes events → (Rose before after → ⊥) → ArePrinted texts first → HasRehearsed before after bytes turns texts ending → Closing ending first effects status → RehearsesWell bytes events turns status effects
-rehearsed bytes events before after turns status texts first effects (Ok x) says calm printed has closing =
-    let same = (fits_once bytes turns).one_script has.0 events has.1.says says in
-    let shown : first ≡ Printed (whole_trace events) ∷ [] = printed ∙ ap (map Printed) (has.2 ∙ ap (λ es. whole_trace es ∷ []) same) in
-    inl (closing.number, (subst (Finishes bytes turns) same has.1, ends_with _ first effects (Ok tt) status shown closing))
-rehearsed bytes events before after turns status texts first effects (Err Spent) says calm printed has closing =
-    let same = (fits_once bytes turns).one_script has.0 events has.1.says says in
-    let shown : first ≡ Printed (first_trace turns events) ∷ [] = printed ∙ ap (map Printed) (has.2 ∙ ap (λ es. first_trace turns es ∷ []) same) in
-    inr (inl (closing.number, (subst (Outlasts bytes turns) same has.1, ends_with _ first effects (Err Spent) status shown closing)))
-rehearsed bytes events before after turns status texts first effects (Err NoMemory) says calm printed has closing = inr (inr closing.number)
-rehearsed bytes events before after turns status texts first effects (Err Console) says calm printed has closing = absurd (calm has.0)
-rehearsed bytes events before after turns status texts first effects (Err (BadLine n)) says calm printed has closing = absurd ((fits_once bytes turns).said_or_bad events n says has.0)
-rehearsed bytes events before after turns status texts first effects (Err BadWords) says calm printed has closing = absurd has
-rehearsed bytes events before after turns status texts first effects (Err (Damaged at)) says calm printed has closing = absurd has
-rehearsed bytes events before after turns status texts first effects (Err (WrongSize size)) says calm printed has closing = absurd has
-rehearsed bytes events before after turns status texts first effects (Err Disk) says calm printed has closing = absurd has
-rehearsed bytes events before after turns status texts first effects (Err Links) says calm printed has closing = absurd has
-rehearsed bytes events before after turns status texts first effects (Err Worn) says calm printed has closing = absurd has
+rehearsed : (patience : ℕ) (bytes : List ℕ) (events : List Event) (before after turns status : ℕ) (texts : List (List ℕ)) (first effects : List Effect) (ending : Ending) → ScriptSays bytes events → (Rose before after → ⊥) → ArePrinted texts first → HasRehearsed before after patience bytes turns texts ending → Closing ending first effects status → RehearsesWell patience bytes events turns status effects
+rehearsed patience bytes events before after turns status texts first effects (Ok x) says calm printed has closing =
+    let same = (fits_once patience bytes turns).one_script has.0 events has.1.says says in
+    let shown : first ≡ Printed (whole_trace patience events) ∷ [] = printed ∙ ap (map Printed) (has.2 ∙ ap (λ es. whole_trace patience es ∷ []) same) in
+    inl (closing.number, (subst (Finishes patience bytes turns) same has.1, ends_with _ first effects (Ok tt) status shown closing))
+rehearsed patience bytes events before after turns status texts first effects (Err Spent) says calm printed has closing =
+    let same = (fits_once patience bytes turns).one_script has.0 events has.1.says says in
+    let shown : first ≡ Printed (first_trace patience turns events) ∷ [] = printed ∙ ap (map Printed) (has.2 ∙ ap (λ es. first_trace patience turns es ∷ []) same) in
+    inr (inl (closing.number, (subst (Outlasts patience bytes turns) same has.1, ends_with _ first effects (Err Spent) status shown closing)))
+rehearsed patience bytes events before after turns status texts first effects (Err NoMemory) says calm printed has closing = inr (inr closing.number)
+rehearsed patience bytes events before after turns status texts first effects (Err Console) says calm printed has closing = absurd (calm has.0)
+rehearsed patience bytes events before after turns status texts first effects (Err (BadLine n)) says calm printed has closing = absurd ((fits_once patience bytes turns).said_or_bad events n says has.0)
+rehearsed patience bytes events before after turns status texts first effects (Err BadWords) says calm printed has closing = absurd has
+rehearsed patience bytes events before after turns status texts first effects (Err (Damaged at)) says calm printed has closing = absurd has
+rehearsed patience bytes events before after turns status texts first effects (Err (WrongSize size)) says calm printed has closing = absurd has
+rehearsed patience bytes events before after turns status texts first effects (Err Disk) says calm printed has closing = absurd has
+rehearsed patience bytes events before after turns status texts first effects (Err Links) says calm printed has closing = absurd has
+rehearsed patience bytes events before after turns status texts first effects (Err Worn) says calm printed has closing = absurd has
 
 exercised : (events : List Event) (before after turns status : ℕ) (texts : List (List ℕ)) (first effects : List Effect) (ending : Ending) → (Rose before after → ⊥) → ArePrinted texts first → HasExercised before after events turns texts ending → Closing ending first effects status → ExercisesWell events turns status effects
 exercised events before after turns status texts first effects (Ok x) calm printed has closing =
@@ -251,9 +281,9 @@ some_input input bytes None e is = absurd (false≢true (ap is_some e))
 some_input input bytes (Some other) e is = sym is ∙ ap or_empty e
 
 completes : (task : Task) (identity : Identity) (old new : Outside) (turns status : ℕ) (first effects : List Effect) (ending : Ending) → NoneRose old.faults new.faults → RunsTask task identity turns old new ending first → Closing ending first effects status → Completes task identity old turns status effects
-completes Rehearse identity old new turns status first effects ending calm runs closing = λ input events told says.
+completes (Rehearse patience) identity old new turns status first effects ending calm runs closing = λ input events told says.
     let same = some_input runs.input input old.input told runs.is_input in
-    rehearsed (script_of input) events old.faults.console new.faults.console turns status runs.texts first effects ending says calm.console runs.printed (subst (λ (bytes : List ℕ). HasRehearsed old.faults.console new.faults.console (script_of bytes) turns runs.texts ending) same runs.holds) closing
+    rehearsed patience (script_of input) events old.faults.console new.faults.console turns status runs.texts first effects ending says calm.console runs.printed (subst (λ (bytes : List ℕ). HasRehearsed old.faults.console new.faults.console patience (script_of bytes) turns runs.texts ending) same runs.holds) closing
 completes (Exercise pattern rounds) identity old new turns status first effects ending calm runs closing =
     exercised (exercise_events pattern rounds) old.faults.console new.faults.console turns status runs.texts first effects ending calm.console runs.printed runs.holds closing
 completes (Serve places) identity old new turns status first effects ending calm runs closing = λ file book can. elim runs [
@@ -262,7 +292,7 @@ completes (Serve places) identity old new turns status first effects ending calm
 ]
 
 lacking : (task : Task) (identity : Identity) (old : Outside) (turns status : ℕ) (effects : List Effect) → status ≡ 10 → Completes task identity old turns status effects
-lacking Rehearse identity old turns status effects ten = λ input events told says. inr (inr ten)
+lacking (Rehearse patience) identity old turns status effects ten = λ input events told says. inr (inr ten)
 lacking (Exercise pattern rounds) identity old turns status effects ten = inr (inr ten)
 lacking (Serve places) identity old turns status effects ten = λ file book can. inr (inr ten)
 

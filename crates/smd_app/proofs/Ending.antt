@@ -17,7 +17,7 @@ use Rattle.smd_app.specs.FaultLines.{fault_line, fault_status, served}
 use Rattle.smd_app.specs.Rehearsals.{script_of}
 use Rattle.smd_app.specs.Sessions.{config_of, IsOfDisk, IsOfEdge, Opened, OpensOr, HasServed, WasCutShort}
 use Rattle.smd_app.specs.Statuses.{Ending, HasRehearsed, HasExercised, RunsTask, Runs, Answers}
-use Rattle.smd_app.specs.Words.{Places, Task, Rehearse, Exercise, Serve, AreServe, AreExercise, Means}
+use Rattle.smd_app.specs.Words.{Places, Task, Rehearse, Exercise, Serve, AreServe, AreRehearse, AreExercise, Means}
 use Rattle.smd_app.specs.declared.fault.Fault.{Fault}
 use Rattle.smd_app.specs.declared.fault.Fault.TheVariants.{BadWords, Damaged, WrongSize, Disk, Links, Console, BadLine, Worn, Spent, NoMemory}
 use Rattle.smd_app.specs.declared.identity.Identity.{Identity}
@@ -30,18 +30,18 @@ record IsLater (ending : Ending) (mid new : Outside) : Type 0 where
 console_still : (before : ℕ) (mid new : Outside) → new ≡ mid → Rose before mid.faults.console → Rose before new.faults.console
 console_still before mid new same rose = subst (λ (outside : Outside). Rose before outside.faults.console) (sym same) rose
 
-rehearsed_still : (before : ℕ) (mid new : Outside) (bytes : List ℕ) (turns : ℕ) (texts : List (List ℕ)) (ending : Ending) → IsLater ending mid new → HasRehearsed before mid.faults.console bytes turns texts ending → HasRehearsed before new.faults.console bytes turns texts ending
-rehearsed_still before mid new bytes turns texts (Ok x) later holds = holds
-rehearsed_still before mid new bytes turns texts (Err Console) later holds = (console_still before mid new (later.silent refl) holds.0, holds.1)
-rehearsed_still before mid new bytes turns texts (Err (BadLine n)) later holds = holds
-rehearsed_still before mid new bytes turns texts (Err Spent) later holds = holds
-rehearsed_still before mid new bytes turns texts (Err NoMemory) later holds = holds
-rehearsed_still before mid new bytes turns texts (Err BadWords) later holds = holds
-rehearsed_still before mid new bytes turns texts (Err (Damaged at)) later holds = holds
-rehearsed_still before mid new bytes turns texts (Err (WrongSize size)) later holds = holds
-rehearsed_still before mid new bytes turns texts (Err Disk) later holds = holds
-rehearsed_still before mid new bytes turns texts (Err Links) later holds = holds
-rehearsed_still before mid new bytes turns texts (Err Worn) later holds = holds
+rehearsed_still : (before : ℕ) (mid new : Outside) (patience : ℕ) (bytes : List ℕ) (turns : ℕ) (texts : List (List ℕ)) (ending : Ending) → IsLater ending mid new → HasRehearsed before mid.faults.console patience bytes turns texts ending → HasRehearsed before new.faults.console patience bytes turns texts ending
+rehearsed_still before mid new patience bytes turns texts (Ok x) later holds = holds
+rehearsed_still before mid new patience bytes turns texts (Err Console) later holds = (console_still before mid new (later.silent refl) holds.0, holds.1)
+rehearsed_still before mid new patience bytes turns texts (Err (BadLine n)) later holds = holds
+rehearsed_still before mid new patience bytes turns texts (Err Spent) later holds = holds
+rehearsed_still before mid new patience bytes turns texts (Err NoMemory) later holds = holds
+rehearsed_still before mid new patience bytes turns texts (Err BadWords) later holds = holds
+rehearsed_still before mid new patience bytes turns texts (Err (Damaged at)) later holds = holds
+rehearsed_still before mid new patience bytes turns texts (Err (WrongSize size)) later holds = holds
+rehearsed_still before mid new patience bytes turns texts (Err Disk) later holds = holds
+rehearsed_still before mid new patience bytes turns texts (Err Links) later holds = holds
+rehearsed_still before mid new patience bytes turns texts (Err Worn) later holds = holds
 
 exercised_still : (before : ℕ) (mid new : Outside) (events : List Event) (turns : ℕ) (texts : List (List ℕ)) (ending : Ending) → IsLater ending mid new → HasExercised before mid.faults.console events turns texts ending → HasExercised before new.faults.console events turns texts ending
 exercised_still before mid new events turns texts (Ok x) later holds = holds
@@ -125,12 +125,12 @@ served_still identity places turns old mid new ending effects later served_so = 
 }
 
 task_still : (task : Task) (identity : Identity) (turns : ℕ) (old mid new : Outside) (ending : Ending) (effects : List Effect) → IsLater ending mid new → RunsTask task identity turns old mid ending effects → RunsTask task identity turns old new ending effects
-task_still Rehearse identity turns old mid new ending effects later run =
+task_still (Rehearse patience) identity turns old mid new ending effects later run =
     runs_still old.input
-    (λ input texts. HasRehearsed old.faults.console mid.faults.console (script_of input) turns texts ending)
-    (λ input texts. HasRehearsed old.faults.console new.faults.console (script_of input) turns texts ending)
+    (λ input texts. HasRehearsed old.faults.console mid.faults.console patience (script_of input) turns texts ending)
+    (λ input texts. HasRehearsed old.faults.console new.faults.console patience (script_of input) turns texts ending)
     effects
-    (λ input texts. rehearsed_still old.faults.console mid new (script_of input) turns texts ending later)
+    (λ input texts. rehearsed_still old.faults.console mid new patience (script_of input) turns texts ending later)
     run
 task_still (Exercise pattern rounds) identity turns old mid new ending effects later run =
     record { texts = run.texts; printed = run.printed; holds = exercised_still old.faults.console mid new (exercise_events pattern rounds) turns run.texts ending later run.holds }
@@ -157,7 +157,7 @@ pub does_nothing : (words : List (List ℕ)) (identity : Identity) (turns : ℕ)
 does_nothing words identity turns old new ending cause = record { effects = []; added = sym (adds-none old.told); holds = inr (record { cause = cause; none = refl }) }
 
 -- words that ask for none of the three
-pub means_none : (words : List (List ℕ)) → (words ≡ codes "rehearse" ∷ [] → ⊥) → ((places : Places) → AreServe words places → ⊥) → ((pattern rounds : ℕ) → AreExercise words pattern rounds → ⊥) → (task : Task) → Means words task → ⊥
-means_none words one two three Rehearse means = one means
+pub means_none : (words : List (List ℕ)) → ((patience : ℕ) → AreRehearse words patience → ⊥) → ((places : Places) → AreServe words places → ⊥) → ((pattern rounds : ℕ) → AreExercise words pattern rounds → ⊥) → (task : Task) → Means words task → ⊥
+means_none words one two three (Rehearse patience) means = one patience means
 means_none words one two three (Exercise pattern rounds) means = three pattern rounds means
 means_none words one two three (Serve places) means = two places means

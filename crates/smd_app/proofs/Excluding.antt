@@ -46,11 +46,11 @@ never_both bytes events n says bad =
 same_script : (bytes : List ℕ) (events others : List Event) → ScriptSays bytes events → ScriptSays bytes others → events ≡ others
 same_script bytes events others one other = one_list (lines_of bytes) events others one.all other.all
 
-pub fits_once : (bytes : List ℕ) (turns : ℕ) → FitsOnce bytes turns
-fits_once bytes turns = record {
+pub fits_once : (patience : ℕ) (bytes : List ℕ) (turns : ℕ) → FitsOnce patience bytes turns
+fits_once patience bytes turns = record {
   one_script = same_script bytes;
   one_bad_line = same_bad bytes;
   said_or_bad = never_both bytes;
   ended_or_spent = λ events others ended spent.
-      false≢true (sym spent.unended ∙ (ap (ends_within turns) (sym (same_script bytes events others ended.says spent.says)) ∙ ended.ended));
+      false≢true (sym spent.unended ∙ (ap (ends_within patience turns) (sym (same_script bytes events others ended.says spent.says)) ∙ ended.ended));
 }

@@ -15,14 +15,14 @@ use Rattle.session_engine.proofs.Running.{has_finish-append}
 use Rattle.smd_app.specs.Rehearsals.{rehearsal_config, with_end, ends_within}
 
 -- the machine of a rehearsal
-abbrev pub start : Machine
-start = start_with rehearsal_config empty_book
+abbrev pub start : ℕ → Machine
+start patience = start_with (rehearsal_config patience) empty_book
 
-abbrev pub script : List Event → List Act
-script events = script_with rehearsal_config empty_book events
+abbrev pub script : ℕ → List Event → List Act
+script patience events = script_with (rehearsal_config patience) empty_book events
 
-abbrev pub run : List Event → List Item
-run events = run_with rehearsal_config empty_book events
+abbrev pub run : ℕ → List Event → List Item
+run patience events = run_with (rehearsal_config patience) empty_book events
 
 later_finish : (b : Bool) (rest : List Act) → (if b then true else has_finish (if b then [] else rest)) ≡ true → b ≡ false → has_finish rest ≡ true
 later_finish true rest e unfinished = absurd (false≢true (sym unfinished))
@@ -76,52 +76,52 @@ past_events (suc n) (event ∷ events) many =
     let rest = past_events n events (omega arith) in (rest.0, ap (λ es. event ∷ es) rest.1)
 
 -- what was heard of a run that ended within the turns
-pub record Ended (turns : ℕ) (events hs : List Event) : Type 0 where
-  pub within : ends_within turns events ≡ true
-  pub same : run (with_end events) ≡ run hs
-  pub acts : script (with_end events) ≡ script hs
+pub record Ended (patience turns : ℕ) (events hs : List Event) : Type 0 where
+  pub within : ends_within patience turns events ≡ true
+  pub same : run patience (with_end events) ≡ run patience hs
+  pub acts : script patience (with_end events) ≡ script patience hs
 
-ended_at : (turns : ℕ) (events hs rest : List Event) → with_end events ≡ hs ++ rest → length hs ≤ turns → has_finish (script hs) ≡ true → Ended turns events hs
-ended_at turns events hs rest parts few finishes =
+ended_at : (patience turns : ℕ) (events hs rest : List Event) → with_end events ≡ hs ++ rest → length hs ≤ turns → has_finish (script patience hs) ≡ true → Ended patience turns events hs
+ended_at patience turns events hs rest parts few finishes =
     let place : length hs + (turns - length hs) ≡ turns = omega arith in
     let first : take turns (with_end events) ≡ hs ++ take (turns - length hs) rest = ap (λ n. take n (with_end events)) (sym place) ∙ (ap (take (length hs + (turns - length hs))) parts ∙ take-append-add hs rest (turns - length hs)) in
     record {
-      within = ap (λ es. has_finish (script es)) first ∙ (ap has_finish (script_stops start hs (take (turns - length hs) rest) finishes) ∙ finishes);
-      same = ap run parts ∙ run_stops start hs rest finishes;
-      acts = ap script parts ∙ ap (λ acts. opening_acts empty_book ++ acts) (script_stops start hs rest finishes);
+      within = ap (λ es. has_finish (script patience es)) first ∙ (ap has_finish (script_stops (start patience) hs (take (turns - length hs) rest) finishes) ∙ finishes);
+      same = ap (run patience) parts ∙ run_stops (start patience) hs rest finishes;
+      acts = ap (script patience) parts ∙ ap (λ acts. opening_acts empty_book ++ acts) (script_stops (start patience) hs rest finishes);
     }
 
-ended_past : (turns : ℕ) (events hs more : List Event) → hs ≡ with_end events ++ more → length events + 1 ≤ turns → Ended turns events hs
-ended_past turns events hs more parts many =
+ended_past : (patience turns : ℕ) (events hs more : List Event) → hs ≡ with_end events ++ more → length events + 1 ≤ turns → Ended patience turns events hs
+ended_past patience turns events hs more parts many =
     let all : take turns (with_end events) ≡ with_end events = take_all turns (with_end events) (omega (arith, length-append events (End ∷ []))) in
     record {
-      within = ap (λ es. has_finish (script es)) all ∙ end_finishes start events;
-      same = sym (ap run parts ∙ run_stops start (with_end events) more (end_finishes start events));
-      acts = sym (ap script parts ∙ ap (λ acts. opening_acts empty_book ++ acts) (script_stops start (with_end events) more (end_finishes start events)));
+      within = ap (λ es. has_finish (script patience es)) all ∙ end_finishes (start patience) events;
+      same = sym (ap (run patience) parts ∙ run_stops (start patience) (with_end events) more (end_finishes (start patience) events));
+      acts = sym (ap (script patience) parts ∙ ap (λ acts. opening_acts empty_book ++ acts) (script_stops (start patience) (with_end events) more (end_finishes (start patience) events)));
     }
 
-pub ended_run : (turns : ℕ) (events hs : List Event) → hs ≡ next_events (length hs) events → length hs ≤ turns → has_finish (script hs) ≡ true → Ended turns events hs
-ended_run turns events hs brought few finishes = elim (cases_lt (length events + 1) (length hs)) [
-  | inl h ↦ let past = past_events (length hs) events (omega arith) in ended_past turns events hs past.0 (brought ∙ past.1) (omega arith)
+pub ended_run : (patience turns : ℕ) (events hs : List Event) → hs ≡ next_events (length hs) events → length hs ≤ turns → has_finish (script patience hs) ≡ true → Ended patience turns events hs
+ended_run patience turns events hs brought few finishes = elim (cases_lt (length events + 1) (length hs)) [
+  | inl h ↦ let past = past_events (length hs) events (omega arith) in ended_past patience turns events hs past.0 (brought ∙ past.1) (omega arith)
   | inr h ↦ let parts : with_end events ≡ hs ++ drop (length hs) (with_end events) = sym (take-append-drop (length hs) (with_end events)) ∙ ap (λ es. es ++ drop (length hs) (with_end events)) (sym (brought ∙ front_events (length hs) events h)) in
-      ended_at turns events hs (drop (length hs) (with_end events)) parts few finishes
+      ended_at patience turns events hs (drop (length hs) (with_end events)) parts few finishes
 ]
 
 -- what was heard of a run that was cut off
-pub record CutOff (turns : ℕ) (events hs : List Event) : Type 0 where
+pub record CutOff (patience turns : ℕ) (events hs : List Event) : Type 0 where
   pub few : turns ≤ length events
   pub same : hs ≡ take turns events
-  pub unended : ends_within turns events ≡ false
+  pub unended : ends_within patience turns events ≡ false
 
-pub spent_run : (turns : ℕ) (events hs : List Event) → hs ≡ next_events (length hs) events → length hs ≡ turns → has_finish (script hs) ≡ false → CutOff turns events hs
-spent_run turns events hs brought all unfinished = elim (cases_lt (length events) turns) [
+pub spent_run : (patience turns : ℕ) (events hs : List Event) → hs ≡ next_events (length hs) events → length hs ≡ turns → has_finish (script patience hs) ≡ false → CutOff patience turns events hs
+spent_run patience turns events hs brought all unfinished = elim (cases_lt (length events) turns) [
   | inl h ↦ let past = past_events (length hs) events (omega arith) in
-      let finishes : has_finish (script hs) ≡ true = ap (λ es. has_finish (script es)) (brought ∙ past.1) ∙ (ap has_finish (script_stops start (with_end events) past.0 (end_finishes start events)) ∙ end_finishes start events) in
+      let finishes : has_finish (script patience hs) ≡ true = ap (λ es. has_finish (script patience es)) (brought ∙ past.1) ∙ (ap has_finish (script_stops (start patience) (with_end events) past.0 (end_finishes (start patience) events)) ∙ end_finishes (start patience) events) in
       absurd (false≢true (sym unfinished ∙ finishes))
   | inr h ↦ let first : hs ≡ take turns (with_end events) = brought ∙ (ap (λ n. next_events n events) all ∙ front_events turns events (omega arith)) in
       record {
         few = h;
         same = first ∙ take-append-le turns events (End ∷ []) h;
-        unended = ap (λ es. has_finish (script es)) (sym first) ∙ unfinished;
+        unended = ap (λ es. has_finish (script patience es)) (sym first) ∙ unfinished;
       }
 ]

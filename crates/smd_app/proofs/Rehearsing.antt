@@ -61,30 +61,30 @@ ok_book : (one two : Book) → ◌≡◌ {A = Result Book ℕ} (Ok one) (Ok two)
 ok_book one two e = cc
 
 -- a run over it is one over the book of nobody
-opens_blank : (old new : Outside) (file : List ℕ) (turns : ℕ) (answer : Result (Unit {0}) ServeFault) → IsFresh old file → (opens : Opens old new (λ opening current effects. Serves rehearsal_config opening current old.coming turns answer effects)) → Added old.told new.told (Serves rehearsal_config empty_book opens.current old.coming turns answer)
-opens_blank old new file turns answer fresh opens =
+opens_blank : (old new : Outside) (file : List ℕ) (patience turns : ℕ) (answer : Result (Unit {0}) ServeFault) → IsFresh old file → (opens : Opens old new (λ opening current effects. Serves (rehearsal_config patience) opening current old.coming turns answer effects)) → Added old.told new.told (Serves (rehearsal_config patience) empty_book opens.current old.coming turns answer)
+opens_blank old new file patience turns answer fresh opens =
     let found = opens.recovered file (fresh_settled old file fresh) in
     let same : opens.book ≡ empty_book = ok_book opens.book empty_book (recovers-once file (Ok opens.book) (Ok empty_book) found.1.recovers (blank_recovers file fresh.blank)) in
     rw (sym same) opens.adds
 
 -- what the recovery of it can't answer
-pub never_wrong : (old new : Outside) (file : List ℕ) (turns size : ℕ) → IsFresh old file → Serving rehearsal_config turns old new (Err (WrongSize size)) → ⊥
-never_wrong old new file turns size fresh (inl rests) = rests.cause.1 (rests.cause.0 ∙ (rests.kept file fresh.first ∙ fresh.size))
-never_wrong old new file turns size fresh (inr opens) = opens.adds.holds.runs.opened
+pub never_wrong : (old new : Outside) (file : List ℕ) (patience turns size : ℕ) → IsFresh old file → Serving (rehearsal_config patience) turns old new (Err (WrongSize size)) → ⊥
+never_wrong old new file patience turns size fresh (inl rests) = rests.cause.1 (rests.cause.0 ∙ (rests.kept file fresh.first ∙ fresh.size))
+never_wrong old new file patience turns size fresh (inr opens) = opens.adds.holds.runs.opened
 
-pub never_damaged : (old new : Outside) (file : List ℕ) (turns at : ℕ) → IsFresh old file → Serving rehearsal_config turns old new (Err (Damaged at)) → ⊥
-never_damaged old new file turns at fresh (inl rests) = no_damage (recovers-once file (Err at) (Ok empty_book) (rests.cause.1 file (fresh_settled old file fresh)) (blank_recovers file fresh.blank))
+pub never_damaged : (old new : Outside) (file : List ℕ) (patience turns at : ℕ) → IsFresh old file → Serving (rehearsal_config patience) turns old new (Err (Damaged at)) → ⊥
+never_damaged old new file patience turns at fresh (inl rests) = no_damage (recovers-once file (Err at) (Ok empty_book) (rests.cause.1 file (fresh_settled old file fresh)) (blank_recovers file fresh.blank))
   where
     no_damage : ◌≡◌ {A = Result Book ℕ} (Err at) (Ok empty_book) → ⊥
     no_damage e = cc
-never_damaged old new file turns at fresh (inr opens) = opens.adds.holds.runs.opened
+never_damaged old new file patience turns at fresh (inr opens) = opens.adds.holds.runs.opened
 
-pub finished_run : (old : Outside) (world : SteadyWorld) (events : List Event) (turns : ℕ) (file : List ℕ) → IsFresh old file → old.coming ≡ Some events → Serving rehearsal_config turns old (steady_outside world) (Ok tt) → Rehearses events turns (record { world = world; finished = true })
-finished_run old world events turns file fresh is_coming opens =
-    let run_added = opens_blank old (steady_outside world) file turns (Ok tt) fresh opens in
-    let P : Option (List Event) → Type 0 = λ told. Serves rehearsal_config empty_book opens.current told turns (Ok tt) run_added.effects in
+pub finished_run : (old : Outside) (world : SteadyWorld) (events : List Event) (patience turns : ℕ) (file : List ℕ) → IsFresh old file → old.coming ≡ Some events → Serving (rehearsal_config patience) turns old (steady_outside world) (Ok tt) → Rehearses patience events turns (record { world = world; finished = true })
+finished_run old world events patience turns file fresh is_coming opens =
+    let run_added = opens_blank old (steady_outside world) file patience turns (Ok tt) fresh opens in
+    let P : Option (List Event) → Type 0 = λ told. Serves (rehearsal_config patience) empty_book opens.current told turns (Ok tt) run_added.effects in
     let serves = subst P is_coming run_added.holds in
-    let ended = ended_run turns events (heard run_added.effects) serves.brought serves.in_turns (serves.runs.carries.ended refl) in
+    let ended = ended_run patience turns events (heard run_added.effects) serves.brought serves.in_turns (serves.runs.carries.ended refl) in
     record {
       effects = run_added.effects;
       told = run_added.added ∙ ap (λ told. adds told run_added.effects) fresh.told;
@@ -94,19 +94,19 @@ finished_run old world events turns file fresh is_coming opens =
       cut = λ e. absurd (false≢true (sym e));
     }
 
-pub spent_turns : (old : Outside) (world : SteadyWorld) (events : List Event) (turns : ℕ) (file : List ℕ) → IsFresh old file → old.coming ≡ Some events → Serving rehearsal_config turns old (steady_outside world) (Err Spent) → Rehearses events turns (record { world = world; finished = false })
-spent_turns old world events turns file fresh is_coming (inl rests) = absurd rests.cause
-spent_turns old world events turns file fresh is_coming (inr opens) =
-    let run_added = opens_blank old (steady_outside world) file turns (Err Spent) fresh opens in
-    let P : Option (List Event) → Type 0 = λ told. Serves rehearsal_config empty_book opens.current told turns (Err Spent) run_added.effects in
+pub spent_turns : (old : Outside) (world : SteadyWorld) (events : List Event) (patience turns : ℕ) (file : List ℕ) → IsFresh old file → old.coming ≡ Some events → Serving (rehearsal_config patience) turns old (steady_outside world) (Err Spent) → Rehearses patience events turns (record { world = world; finished = false })
+spent_turns old world events patience turns file fresh is_coming (inl rests) = absurd rests.cause
+spent_turns old world events patience turns file fresh is_coming (inr opens) =
+    let run_added = opens_blank old (steady_outside world) file patience turns (Err Spent) fresh opens in
+    let P : Option (List Event) → Type 0 = λ told. Serves (rehearsal_config patience) empty_book opens.current told turns (Err Spent) run_added.effects in
     let serves = subst P is_coming run_added.holds in
     let spent = serves.spent refl in
-    let cut = spent_run turns events (heard run_added.effects) serves.brought spent.0 spent.1 in
+    let cut = spent_run patience turns events (heard run_added.effects) serves.brought spent.0 spent.1 in
     record {
       effects = run_added.effects;
       told = run_added.added ∙ ap (λ told. adds told run_added.effects) fresh.told;
       ended = sym cut.unended;
       whole = λ e. absurd (false≢true e);
       opens = λ e. absurd (false≢true e);
-      cut = λ e. (cut.few, serves.runs.in_order refl ∙ ap run cut.same);
+      cut = λ e. (cut.few, serves.runs.in_order refl ∙ ap (run patience) cut.same);
     }

@@ -1,11 +1,11 @@
 -- What the words of a command line are.
-use Rattle.std.proofs.Common.{◌≡◌, ℕ, ◌<◌, ◌≤◌, ◌^◌, true, List, [], ◌∷◌, drop, length, get_or, refl, sym, ◌∙◌, ap, arith, codes}
+use Rattle.std.proofs.Common.{◌≡◌, inl, inr, IfOk, MatchOption, Option, Some, None, Result, Ok, Err, ℕ, ◌<◌, ◌≤◌, ◌^◌, true, List, [], ◌∷◌, drop, length, get_or, refl, sym, ◌∙◌, ap, subst, arith, codes}
 use Rattle.std.specs.Fmt.{decimal}
 use Rattle.std.specs.Str.{bytes_eq}
 use Rattle.std.specs.Str.Parse.{digits_value}
 use Rattle.std.proofs.lemmas.Fmt.{decimal_is_IsNumeral}
 use Rattle.std.proofs.lemmas.Slice.Eq.{bytes_eq-Decides}
-use Rattle.smd_app.specs.Words.{Places, AreServe, AreExercise}
+use Rattle.smd_app.specs.Words.{Places, IsPatience, GivePatience, AreServe, AreRehearse, AreExercise}
 
 -- a list of three words, by its words
 three : (ws : List (List ℕ)) → length ws ≡ 3 → ws ≡ get_or ws 0 [] ∷ get_or ws 1 [] ∷ get_or ws 2 [] ∷ []
@@ -34,11 +34,28 @@ pub same_rounds : (ws : List (List ℕ)) (pattern rounds n : ℕ) → AreExercis
 same_rounds ws pattern rounds n are small third =
     same_number rounds n (omega (arith, are.few)) small (sym (ap (λ words. get_or words 2 []) are.are) ∙ third)
 
--- the words are `serve` and eight more
-pub begins_serve : (ws : List (List ℕ)) → length ws ≡ 9 → bytes_eq (get_or ws 0 []) (codes "serve") ≡ true → ws ≡ codes "serve" ∷ drop 1 ws
-begins_serve [] e first = absurd (omega arith)
-begins_serve (w ∷ ws) e first = ap (λ v. v ∷ ws) (same_word w (codes "serve") first)
+-- 0 is no patience
+pub no_patience : (word : List ℕ) (n patience : ℕ) → word ≡ decimal n → n ≡ 0 → IsPatience patience → word ≡ decimal patience → ⊥
+no_patience word n patience is zero_is stated other =
+    omega (arith, zero_is, stated.some, same_number patience n stated.small (omega (arith, zero_is)) (sym other ∙ is))
 
--- and what stands behind the first word is its pairs
-pub pairs_are : (ws : List (List ℕ)) (places : Places) → (are : AreServe ws places) → are.pairs ≡ drop 1 ws
-pairs_are ws places are = sym (ap (λ words. drop 1 words) are.begins)
+-- a list of two words, by its words
+two : (ws : List (List ℕ)) → length ws ≡ 2 → ws ≡ get_or ws 0 [] ∷ get_or ws 1 [] ∷ []
+two [] e = absurd (omega arith)
+two (a ∷ []) e = absurd (omega arith)
+two (a ∷ b ∷ []) e = refl
+two (a ∷ b ∷ c ∷ ws) e = absurd (omega arith)
+
+-- The second word states the patience of a rehearsal.
+pub rehearse_with : {E : Type 0} (ws : List (List ℕ)) (word : List ℕ) (result : Result (Option ℕ) E) → length ws ≡ 2 → bytes_eq (get_or ws 0 []) (codes "rehearse") ≡ true → word ≡ get_or ws 1 [] → IfOk result (λ found. MatchOption found ((patience : ℕ) → IsPatience patience → word ≡ decimal patience → ⊥) (λ patience. IsPatience patience × (word ≡ decimal patience))) → IfOk result (λ found. MatchOption found ((patience : ℕ) → AreRehearse ws patience → ⊥) (λ patience. AreRehearse ws patience))
+rehearse_with ws word (Err e) size first is stated = tt
+rehearse_with ws word (Ok (Some n)) size first is stated =
+    inr (two ws size ∙ (ap (λ w. w ∷ get_or ws 1 [] ∷ []) (same_word _ _ first) ∙ ap (λ w. codes "rehearse" ∷ w ∷ []) (sym is ∙ stated.1)), stated.0)
+rehearse_with ws word (Ok None) size first is stated = λ patience are. elim are [
+  | inl alone ↦ omega (arith, size, ap length alone.0)
+  | inr both ↦ stated patience both.1 (is ∙ ap (λ words. get_or words 1 []) both.0)
+]
+
+-- Words whose pairs give no patience aren't those of a session.
+pub no_serve : (ws rest : List (List ℕ)) (word : List ℕ) → ws ≡ word ∷ rest → ((patience : ℕ) → GivePatience rest patience → ⊥) → (places : Places) → AreServe ws places → ⊥
+no_serve ws rest word is none places are = none places.patience (subst (λ (pairs : List (List ℕ)). GivePatience pairs places.patience) (ap (λ words. drop 1 words) (sym are.begins ∙ is)) are.patience)

@@ -62,18 +62,18 @@ pub record HasDoneAll (identity : Identity) (places : Places) (coming : Option (
   pub finish : has_finish (script (config_of identity places) book (heard own)) ≡ is_ok ending
 
 -- A rehearsal prints the trace of the whole run, or that for as many events as there were turns.
-abbrev pub RehearsesWell : List ℕ → List Event → ℕ → ℕ → List Effect → Type 0
-RehearsesWell bytes events turns status effects =
+abbrev pub RehearsesWell : ℕ → List ℕ → List Event → ℕ → ℕ → List Effect → Type 0
+RehearsesWell patience bytes events turns status effects =
     EndsWell status
-    (Finishes bytes turns events × EndsWith (Printed (whole_trace events) ∷ []) (Ok tt) effects)
-    (Outlasts bytes turns events × EndsWith (Printed (first_trace turns events) ∷ []) (Err Spent) effects)
+    (Finishes patience bytes turns events × EndsWith (Printed (whole_trace patience events) ∷ []) (Ok tt) effects)
+    (Outlasts patience bytes turns events × EndsWith (Printed (first_trace patience turns events) ∷ []) (Err Spent) effects)
 
 -- An exercise prints the summary of the whole run, or nothing.
 abbrev pub ExercisesWell : List Event → ℕ → ℕ → List Effect → Type 0
 ExercisesWell events turns status effects =
     EndsWell status
-    ((ends_within turns events ≡ true) × ((text : List ℕ) × IsSummary events text × EndsWith (Printed text ∷ []) (Ok tt) effects))
-    ((turns ≤ length events) × (ends_within turns events ≡ false) × EndsWith [] (Err Spent) effects)
+    ((ends_within 0 turns events ≡ true) × ((text : List ℕ) × IsSummary events text × EndsWith (Printed text ∷ []) (Ok tt) effects))
+    ((turns ≤ length events) × (ends_within 0 turns events ≡ false) × EndsWith [] (Err Spent) effects)
 
 -- A session does all that the machine does for what it heard.
 abbrev pub ServesWell : Identity → Places → Option (List Event) → Book → ℕ → ℕ → List Effect → Type 0
@@ -84,7 +84,7 @@ ServesWell identity places coming book turns status effects =
 
 -- What a call comes to: a rehearsal of a script that is well formed, an exercise, and a session whose store can serve.
 abbrev pub Completes : Task → Identity → Outside → ℕ → ℕ → List Effect → Type 0
-Completes Rehearse identity old turns status effects = (input : List ℕ) (events : List Event) → old.input ≡ Some input → ScriptSays (script_of input) events → RehearsesWell (script_of input) events turns status effects
+Completes (Rehearse patience) identity old turns status effects = (input : List ℕ) (events : List Event) → old.input ≡ Some input → ScriptSays (script_of input) events → RehearsesWell patience (script_of input) events turns status effects
 Completes (Exercise pattern rounds) identity old turns status effects = ExercisesWell (exercise_events pattern rounds) turns status effects
 Completes (Serve places) identity old turns status effects = (file : List ℕ) (book : Book) → CanServe (config_of identity places) old file book (heard effects) → ServesWell identity places old.coming book turns status effects
 

@@ -50,9 +50,9 @@ handing_out identity places = Published places.authority (authority_file identit
 abbrev pub announcing : Identity → Places → List Effect
 announcing identity places = Printed (session_line identity places.socket) ∷ []
 
--- what the session is told as it begins
+-- the cookie that clients must show, and how long they may be silent
 abbrev pub config_of : Identity → Places → Config
-config_of identity places = record { cookie = identity.cookie; patience = 0 }
+config_of identity places = record { cookie = identity.cookie; patience = places.patience }
 
 -- A call on the disk failed, or memory was wanting.
 abbrev pub IsOfDisk : Outside → Outside → Fault → Type 0

@@ -21,32 +21,32 @@ abbrev pub Ending : Type 0
 Ending = Result (Unit {0}) Fault
 
 -- Status 0: the run came to its own end, and the trace of the whole run is printed.
-abbrev pub IsEnded : List ℕ → ℕ → List (List ℕ) → Type 0
-IsEnded bytes turns texts = (events : List Event) × Finishes bytes turns events × (texts ≡ whole_trace events ∷ [])
+abbrev pub IsEnded : ℕ → List ℕ → ℕ → List (List ℕ) → Type 0
+IsEnded patience bytes turns texts = (events : List Event) × Finishes patience bytes turns events × (texts ≡ whole_trace patience events ∷ [])
 
 -- Status 9: the turns were spent, and the trace for so many events is printed.
-abbrev pub IsSpent : List ℕ → ℕ → List (List ℕ) → Type 0
-IsSpent bytes turns texts = (events : List Event) × Outlasts bytes turns events × (texts ≡ first_trace turns events ∷ [])
+abbrev pub IsSpent : ℕ → List ℕ → ℕ → List (List ℕ) → Type 0
+IsSpent patience bytes turns texts = (events : List Event) × Outlasts patience bytes turns events × (texts ≡ first_trace patience turns events ∷ [])
 
--- What each ending of a rehearsal says of the script's bytes and of the texts that were printed before the ending's own line. The console's count stood at `before`, and now stands at `after`.
-abbrev pub HasRehearsed : ℕ → ℕ → List ℕ → ℕ → List (List ℕ) → Ending → Type 0
-HasRehearsed before after bytes turns texts (Ok x) = IsEnded bytes turns texts
-HasRehearsed before after bytes turns texts (Err Console) = Rose before after × (texts ≡ [])
-HasRehearsed before after bytes turns texts (Err (BadLine n)) = IsFirstBad bytes n × (texts ≡ [])
-HasRehearsed before after bytes turns texts (Err Spent) = IsSpent bytes turns texts
-HasRehearsed before after bytes turns texts (Err NoMemory) = texts ≡ []
-HasRehearsed before after bytes turns texts (Err BadWords) = ⊥
-HasRehearsed before after bytes turns texts (Err (Damaged at)) = ⊥
-HasRehearsed before after bytes turns texts (Err (WrongSize size)) = ⊥
-HasRehearsed before after bytes turns texts (Err Disk) = ⊥
-HasRehearsed before after bytes turns texts (Err Links) = ⊥
-HasRehearsed before after bytes turns texts (Err Worn) = ⊥
+-- What each ending of a rehearsal with this patience says of the script's bytes and of the texts that were printed before the ending's own line. The console's count stood at `before`, and now stands at `after`.
+abbrev pub HasRehearsed : ℕ → ℕ → ℕ → List ℕ → ℕ → List (List ℕ) → Ending → Type 0
+HasRehearsed before after patience bytes turns texts (Ok x) = IsEnded patience bytes turns texts
+HasRehearsed before after patience bytes turns texts (Err Console) = Rose before after × (texts ≡ [])
+HasRehearsed before after patience bytes turns texts (Err (BadLine n)) = IsFirstBad bytes n × (texts ≡ [])
+HasRehearsed before after patience bytes turns texts (Err Spent) = IsSpent patience bytes turns texts
+HasRehearsed before after patience bytes turns texts (Err NoMemory) = texts ≡ []
+HasRehearsed before after patience bytes turns texts (Err BadWords) = ⊥
+HasRehearsed before after patience bytes turns texts (Err (Damaged at)) = ⊥
+HasRehearsed before after patience bytes turns texts (Err (WrongSize size)) = ⊥
+HasRehearsed before after patience bytes turns texts (Err Disk) = ⊥
+HasRehearsed before after patience bytes turns texts (Err Links) = ⊥
+HasRehearsed before after patience bytes turns texts (Err Worn) = ⊥
 
--- The same of an exercise with these events. Its summary is printed at status 0 alone.
+-- The same of an exercise with these events, whose patience is 0. Its summary is printed at status 0 alone.
 abbrev pub HasExercised : ℕ → ℕ → List Event → ℕ → List (List ℕ) → Ending → Type 0
-HasExercised before after events turns texts (Ok x) = (ends_within turns events ≡ true) × ((text : List ℕ) × IsSummary events text × (texts ≡ text ∷ []))
+HasExercised before after events turns texts (Ok x) = (ends_within 0 turns events ≡ true) × ((text : List ℕ) × IsSummary events text × (texts ≡ text ∷ []))
 HasExercised before after events turns texts (Err Console) = Rose before after × (texts ≡ [])
-HasExercised before after events turns texts (Err Spent) = (turns ≤ length events) × (ends_within turns events ≡ false) × (texts ≡ [])
+HasExercised before after events turns texts (Err Spent) = (turns ≤ length events) × (ends_within 0 turns events ≡ false) × (texts ≡ [])
 HasExercised before after events turns texts (Err NoMemory) = texts ≡ []
 HasExercised before after events turns texts (Err BadWords) = ⊥
 HasExercised before after events turns texts (Err (BadLine n)) = ⊥
@@ -64,7 +64,7 @@ pub record RunsExercise (before after : ℕ) (events : List Event) (turns : ℕ)
 
 -- A run of what the words ask for ended so, and its effects are these.
 abbrev pub RunsTask : Task → Identity → ℕ → Outside → Outside → Ending → List Effect → Type 0
-RunsTask Rehearse identity turns old new ending effects = RunsAs old.input (λ input texts. HasRehearsed old.faults.console new.faults.console (script_of input) turns texts ending) effects
+RunsTask (Rehearse patience) identity turns old new ending effects = RunsAs old.input (λ input texts. HasRehearsed old.faults.console new.faults.console patience (script_of input) turns texts ending) effects
 RunsTask (Exercise pattern rounds) identity turns old new ending effects = RunsExercise old.faults.console new.faults.console (exercise_events pattern rounds) turns ending effects
 RunsTask (Serve places) identity turns old new ending effects = RunsSession identity places turns old new ending effects
 

@@ -32,6 +32,6 @@ sent_in (item ∷ shown) = sent_by item + sent_in shown
 abbrev pub summary : ℕ → ℕ → ℕ → List ℕ
 summary events bytes commits = codes "exercise: " ++ (decimal events ++ (codes " events, " ++ (decimal bytes ++ (codes " bytes sent, " ++ (decimal commits ++ line (codes " commits"))))))
 
--- The summary of the run of these events: how many came, how many bytes were sent, and how many checkpoints the machine committed.
+-- The summary of the run of these events, whose patience is 0: how many came, how many bytes were sent, and how many checkpoints the machine committed.
 abbrev pub IsSummary : List Event → List ℕ → Type 0
-IsSummary events text = text ≡ summary (came_in (whole_run events)) (sent_in (whole_run events)) (commits_in (whole_script events))
+IsSummary events text = text ≡ summary (came_in (whole_run 0 events)) (sent_in (whole_run 0 events)) (commits_in (whole_script 0 events))

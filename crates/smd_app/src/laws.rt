@@ -2,10 +2,11 @@ ghost use Rattle.std.specs.Prelude.{ℕ, List};
 ghost use Rattle.smd_app.specs.Completeness.{CallsComplete, WordsMeanOne};
 ghost use Rattle.smd_app.specs.Exclusions.{FitsOnce};
 
-/// Does nothing: its contract is a law of `smd_main`'s statuses. What 0, 7 and 9 say of a script
-/// and a number of turns excludes one another, so each of them comes exactly where it is so.
+/// Does nothing: its contract is a law of `smd_main`'s statuses. What 0, 7 and 9 say of a script,
+/// a patience and a number of turns excludes one another, so each of them comes exactly where it is
+/// so.
 pub fn statuses_exclude_each_other(turns: u64)
-    ensures { (bytes : List ℕ) → FitsOnce bytes turns }
+    ensures { (patience : ℕ) (bytes : List ℕ) → FitsOnce patience bytes turns }
 {}
 
 /// Does nothing: its contract is a law of words. They mean one task at most.

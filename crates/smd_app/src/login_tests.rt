@@ -106,7 +106,7 @@ fn letters(alloc: Global, effects: &[Effect]) -> Result<Octets, NoMemory> {
 #[test]
 fn a_login_by_its_words(rt: HostRuntime) -> Result<(), Fail> {
     let world = logged_in(&rt)?;
-    let trace = trace_text(rt.alloc(), world.effects())?;
+    let trace = trace_text(rt.alloc(), 0, world.effects())?;
     let want = trace_of(rt.alloc(), LOGIN)?;
     assert_eq!(rt; str::from_utf8(trace.as_slice())?, want.as_str());
     let done = letters(rt.alloc(), world.effects())?;

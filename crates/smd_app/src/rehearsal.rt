@@ -8,11 +8,8 @@ use session_engine::{Config, ServeFault, serve};
 use sm_world::{EventList, NoMemory, Octets, SteadyWorld};
 use std::alloc::Global;
 
-/// The cookie of each rehearsal, so that a script can show it, and no end of patience.
-const REHEARSAL_CONFIG: Config = Config {
-    cookie: Cookie([0, 1, 2, 3, 4, 5, 6, 7, 8, 9, 10, 11, 12, 13, 14, 15]),
-    patience: 0,
-};
+/// The cookie of each rehearsal, so that a script can show it.
+const REHEARSAL_COOKIE: Cookie = Cookie([0, 1, 2, 3, 4, 5, 6, 7, 8, 9, 10, 11, 12, 13, 14, 15]);
 
 /// How many bytes a store has.
 const STORE_LEN: usize = 16_777_280;
@@ -33,14 +30,24 @@ pub fn blank_store(alloc: Global) -> Result<Octets, NoMemory>
     Ok(Octets::from_vec(vec![in alloc; 0; STORE_LEN]?))
 }
 
-/// Runs these events and then End on a world in memory whose store is blank, at most `turns` of them.
-pub fn run_in_memory(alloc: Global, events: EventList, turns: u64) -> Result<Rehearsal, NoMemory>
+/// Runs these events and then End on a world in memory whose store is blank, at most `turns` of them,
+/// with this patience.
+pub fn run_in_memory(
+    alloc: Global,
+    events: EventList,
+    patience: u64,
+    turns: u64,
+) -> Result<Rehearsal, NoMemory>
     requires { AllByRecursion HasPieceSize events }
-    ensures { IfOk result (Rehearses events turns) }
+    ensures { IfOk result (Rehearses patience events turns) }
 {
     let store = blank_store(alloc)?;
     let mut world = SteadyWorld::new(alloc, events, Octets::new(alloc), store)?;
-    let finished = match serve(alloc, &mut world, REHEARSAL_CONFIG, turns) {
+    let config = Config {
+        cookie: REHEARSAL_COOKIE,
+        patience,
+    };
+    let finished = match serve(alloc, &mut world, config, turns) {
         Ok(()) => true,
         Err(ServeFault::Spent) => false,
         Err(ServeFault::NoMemory) => return Err(NoMemory),

@@ -33,6 +33,22 @@ piece 1 0108010000000000
 piece 1 010b0000010000000000000000000000
 ";
 
+/// A client that registers, and then says nothing more for a second.
+const SILENCE: &[u8] = b"join 1
+piece 1 0001000000000000
+piece 1 00020101060000000000000000000000\
+03004d49540000000300312e3000000012004d49542d4d414749432d434f4f4b49452d3101000000
+piece 1 00040000030000001000000000000000000102030405060708090a0b0c0d0e0f
+piece 1 00070100070000000101000000000000\
+040058534d50000003004d49540000000300312e3000000012004d49542d4d414749432d434f4f4b49452d3101000000
+piece 1 00040000030000001000000000000000000102030405060708090a0b0c0d0e0f
+piece 1 01010000010000000000000000000000
+tick 999
+order status
+tick 1
+order status
+";
+
 /// The file from which a client at `/s` has the cookie.
 const AUTHORITY: &[u8] = b"\0\x03ICE\0\0\0\x0alocal/h:/s\0\x12MIT-MAGIC-COOKIE-1\
 \0\x10\0\x01\x02\x03\x04\x05\x06\x07\x08\x09\x0a\x0b\x0c\x0d\x0e\x0f\
@@ -79,16 +95,17 @@ pub fn status_of(alloc: Global, world: &mut MemWorld, words: &str, turns: u64) -
     Ok(smd_main(alloc, words.as_slice(), world, identity, turns))
 }
 
-/// A session over this store ends with this status, and with these texts printed.
+/// A session by these words over this store ends with this status, and with these texts printed.
 fn expect_session(
     rt: &(impl Abort + Alloc<A = Global>),
+    words: &str,
     script: &[u8],
     store: Octets,
     wanted: (u8, &[u8]),
 ) -> Result<(), Fail> {
     let alloc = rt.alloc();
     let mut world = world_of(alloc, script, store, 0)?;
-    assert_eq!(rt; status_of(alloc, &mut world, WORDS, 99)?, wanted.0);
+    assert_eq!(rt; status_of(alloc, &mut world, words, 99)?, wanted.0);
     let texts = printed(alloc, world.effects())?;
     assert_eq!(rt;
         str::from_utf8(texts.as_slice())?,
@@ -102,7 +119,19 @@ fn a_session_says_where_it_is_and_serves(rt: HostRuntime) -> Result<(), Fail> {
     let script = b"order status\norder cancel\norder drop 9\norder forget x\norder shutdown\n";
     let texts = b"SESSION_MANAGER=local/h:/s\n|connections 0, records 0, pending 0, epoch 1, \
 idle\n|no shutdown\n|no connection\n|unknown\n|ok\n|";
-    expect_session(&rt, script, blank_store(rt.alloc())?, (0, texts))
+    expect_session(&rt, WORDS, script, blank_store(rt.alloc())?, (0, texts))
+}
+
+#[test]
+fn a_client_is_shut_when_the_patience_of_the_words_is_over(rt: HostRuntime) -> Result<(), Fail> {
+    let alloc = rt.alloc();
+    let words = "serve --socket /s --patience 1000 --control /c --store /f --authority /a";
+    let texts = b"SESSION_MANAGER=local/h:/s\n|connections 1, records 0, pending 0, epoch 1, \
+saving\n|connections 0, records 0, pending 0, epoch 1, idle\n|";
+    expect_session(&rt, words, SILENCE, blank_store(alloc)?, (0, texts))?;
+    let texts = b"SESSION_MANAGER=local/h:/s\n|connections 1, records 0, pending 0, epoch 1, \
+saving\n|connections 1, records 0, pending 0, epoch 1, saving\n|";
+    expect_session(&rt, WORDS, SILENCE, blank_store(alloc)?, (0, texts))
 }
 
 pub fn put(store: &mut Octets, at: usize, bytes: &[u8]) {
@@ -117,9 +146,9 @@ fn a_store_that_is_none_is_refused(rt: HostRuntime) -> Result<(), Fail> {
     let mut damaged = blank_store(alloc)?;
     put(&mut damaged, 0, b"\xa5");
     let line = b"SESSION_MANAGER=local/h:/s\n|smd: store damaged at 80\n|";
-    expect_session(&rt, b"", damaged, (2, line))?;
+    expect_session(&rt, WORDS, b"", damaged, (2, line))?;
     let line = b"SESSION_MANAGER=local/h:/s\n|smd: store has size 0\n|";
-    expect_session(&rt, b"", Octets::new(alloc), (3, line))?;
+    expect_session(&rt, WORDS, b"", Octets::new(alloc), (3, line))?;
     let mut worn = blank_store(alloc)?;
     put(&mut worn, 0, b"\xa5");
     put(
@@ -129,7 +158,7 @@ fn a_store_that_is_none_is_refused(rt: HostRuntime) -> Result<(), Fail> {
     );
     put(&mut worn, 80, b"\x01\0\0\0\x01\0\0\0");
     let line = b"SESSION_MANAGER=local/h:/s\n|smd: store worn\n|";
-    expect_session(&rt, b"", worn, (8, line))
+    expect_session(&rt, WORDS, b"", worn, (8, line))
 }
 
 #[test]

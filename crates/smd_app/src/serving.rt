@@ -87,7 +87,7 @@ fn hand_out<W: Disk>(
 ) -> Result<(), Fault>
     requires host { length identity.now.host ≤ 255 }
     requires socket { length paths.now.socket.now ≤ 4096 }
-    ensures ok { OnOk result ((W.outside world.new).told ≡ adds (W.outside world.old).told (handing_out identity.now (record { socket = paths.now.socket.now; control = paths.now.control.now; store = paths.now.store.now; authority = paths.now.authority.now }))) }
+    ensures ok { OnOk result ((W.outside world.new).told ≡ adds (W.outside world.old).told (handing_out identity.now (record { socket = paths.now.socket.now; control = paths.now.control.now; store = paths.now.store.now; authority = paths.now.authority.now; patience = paths.now.patience }))) }
     ensures err { OnErr result ((W.outside world.new).told ≡ (W.outside world.old).told) }
     ensures cause { IfErr result (IsOfDisk (W.outside world.old) (W.outside world.new)) }
     ensures kept { SetsUp (W.outside world.old) (W.outside world.new) }
@@ -112,7 +112,7 @@ fn announce<W: Links + Console>(
     identity: &Identity,
     paths: &Paths<'_>,
 ) -> Result<(), Fault>
-    ensures ok { OnOk result ((W.outside world.new).told ≡ adds (W.outside world.old).told (announcing identity.now (record { socket = paths.now.socket.now; control = paths.now.control.now; store = paths.now.store.now; authority = paths.now.authority.now }))) }
+    ensures ok { OnOk result ((W.outside world.new).told ≡ adds (W.outside world.old).told (announcing identity.now (record { socket = paths.now.socket.now; control = paths.now.control.now; store = paths.now.store.now; authority = paths.now.authority.now; patience = paths.now.patience }))) }
     ensures err { OnErr result ((W.outside world.new).told ≡ (W.outside world.old).told) }
     ensures cause { IfErr result (IsOfEdge (W.outside world.old) (W.outside world.new)) }
     ensures kept { SetsUp (W.outside world.old) (W.outside world.new) }
@@ -140,7 +140,7 @@ pub fn serve_session<W: Disk + Links + Spawner + Console>(
 ) -> Result<(), Fault>
     requires host { length identity.now.host ≤ 255 }
     requires socket { length paths.now.socket.now ≤ 4096 }
-    ensures runs { Added (W.outside world.old).told (W.outside world.new).told (RunsSession identity.now (record { socket = paths.now.socket.now; control = paths.now.control.now; store = paths.now.store.now; authority = paths.now.authority.now }) turns (W.outside world.old) (W.outside world.new) result) }
+    ensures runs { Added (W.outside world.old).told (W.outside world.new).told (RunsSession identity.now (record { socket = paths.now.socket.now; control = paths.now.control.now; store = paths.now.store.now; authority = paths.now.authority.now; patience = paths.now.patience }) turns (W.outside world.old) (W.outside world.new) result) }
     ensures counts { NotFallen (W.outside world.old).faults (W.outside world.new).faults }
 {
     if let Err(fault) = hand_out(alloc, world, identity, paths) {
@@ -151,7 +151,7 @@ pub fn serve_session<W: Disk + Links + Spawner + Console>(
     }
     let config = Config {
         cookie: identity.cookie,
-        patience: 0,
+        patience: paths.patience,
     };
     match serve(alloc, world, config, turns) {
         Ok(()) => Ok(()),

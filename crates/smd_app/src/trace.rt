@@ -1,7 +1,7 @@
 ghost use Rattle.std.specs.Prelude.{◌≡◌, ◌++◌, IfOk, OnOk};
 ghost use Rattle.session_engine.specs.Doing.{item_of, items};
 ghost use Rattle.control_lines.specs.Traces.{whole_line};
-ghost use Rattle.smd_app.specs.Trace.{text};
+ghost use Rattle.smd_app.specs.Trace.{patience_text, text};
 
 use control_lines::{effect_line, has_line, started_line};
 use sm_world::{Effect, NoMemory, Octets};
@@ -34,11 +34,22 @@ fn put_effect(alloc: Global, out: &mut Octets, effect: &Effect) -> Result<(), No
     Ok(())
 }
 
-/// The trace of these effects, line by line.
-pub fn trace_text(alloc: Global, effects: &[Effect]) -> Result<Octets, NoMemory>
-    ensures { IfOk result (λ trace. trace ≡ text (items effects.now)) }
+/// The line of a patience, where there is one.
+fn patience_line(alloc: Global, patience: u64) -> Result<Octets, NoMemory>
+    ensures { IfOk result (λ line. line ≡ patience_text patience) }
 {
-    let mut out = Octets::new(alloc);
+    if patience == 0 {
+        return Ok(Octets::new(alloc));
+    }
+    let line = format!(in alloc; "patience {patience}\n")?;
+    Octets::from_slice(alloc, line.as_bytes())
+}
+
+/// The trace of a run with this patience and these effects, line by line.
+pub fn trace_text(alloc: Global, patience: u64, effects: &[Effect]) -> Result<Octets, NoMemory>
+    ensures { IfOk result (λ trace. trace ≡ patience_text patience ++ text (items effects.now)) }
+{
+    let mut out = patience_line(alloc, patience)?;
     for effect in effects {
         put_effect(alloc, &mut out, effect)?;
     }

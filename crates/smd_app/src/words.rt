@@ -1,9 +1,10 @@
-ghost use Rattle.std.specs.Prelude.{◌≡◌, ◌↔◌, ◌≢◌, ◌<◌, ◌^◌, ℕ, IsTrue, IfOk, List, [], get_or, drop, length, map, string_bytes, MatchOption, Some, None};
+ghost use Rattle.std.specs.Prelude.{◌≡◌, ◌↔◌, ◌≢◌, ◌<◌, ◌^◌, ℕ, IsTrue, IfOk, List, [], get_or, length, map, string_bytes, MatchOption, Some, None};
 ghost use Rattle.std.specs.Str.{bytes_eq};
 ghost use Rattle.std.specs.Fmt.{decimal};
-ghost use Rattle.smd_app.specs.Words.{Places, IsPath, HasPath, AreServe, AreExercise, pairs_of, value_in};
+ghost use Rattle.smd_app.specs.Words.{Places, IsPath, IsPatience, HasPath, HavePaths, GivePatience, AreServe, AreRehearse, AreExercise, pairs_of, value_in};
 
 use control_lines::read_number;
+use program_frame::are_one_word;
 use sm_world::NoMemory;
 use std::alloc::Global;
 
@@ -13,7 +14,7 @@ const PATH_LIMIT: usize = 4096;
 /// The most rounds of an exercise.
 const ROUND_LIMIT: u64 = 1000;
 
-/// The paths that the words of a session name.
+/// What the words of a session name.
 #[derive(Clone, Copy, Debug)]
 pub struct Paths<'a> {
     /// The socket of the clients.
@@ -24,6 +25,8 @@ pub struct Paths<'a> {
     pub store: &'a str,
     /// The file from which clients have the cookie.
     pub authority: &'a str,
+    /// For how many milliseconds a client may be silent that is waited for; 0 is for ever.
+    pub patience: u64,
 }
 
 /// What the words of an exercise ask for.
@@ -52,22 +55,19 @@ fn is_word(words: &[String], at: usize, word: &str) -> bool
     word_at(words, at) == word
 }
 
-/// The value of the first pair with this name, of the four pairs behind the first word.
-fn value_of<'a>(words: &'a [String], name: &str) -> Option<&'a str>
-    requires { length words.now ≡ 9 }
-    ensures { MatchOption result (value_in (pairs_of (drop 1 (map string_bytes words.now))) name.now ≡ None) (λ value. value_in (pairs_of (drop 1 (map string_bytes words.now))) name.now ≡ Some value.now) }
+/// The value of the first of some pairs of words that has this name.
+fn value_of<'a>(pairs: &'a [String], name: &str) -> Option<&'a str>
+    ensures { MatchOption result (value_in (pairs_of (map string_bytes pairs.now)) name.now ≡ None) (λ value. value_in (pairs_of (map string_bytes pairs.now)) name.now ≡ Some value.now) }
 {
-    if is_word(words, 1, name) {
-        Some(word_at(words, 2))
-    } else if is_word(words, 3, name) {
-        Some(word_at(words, 4))
-    } else if is_word(words, 5, name) {
-        Some(word_at(words, 6))
-    } else if is_word(words, 7, name) {
-        Some(word_at(words, 8))
-    } else {
-        None
+    let mut left = pairs;
+    while let Some((first, others)) = left.split_first() {
+        let (value, rest) = others.split_first()?;
+        if first.as_str() == name {
+            return Some(value.as_str());
+        }
+        left = rest;
     }
+    None
 }
 
 fn is_path(path: &str) -> bool
@@ -77,34 +77,86 @@ fn is_path(path: &str) -> bool
 }
 
 /// The path that the pairs have with this name.
-fn path_of<'a>(words: &'a [String], name: &str) -> Option<&'a str>
-    requires { length words.now ≡ 9 }
-    ensures { MatchOption result ((value : List ℕ) → ¬ (HasPath (pairs_of (drop 1 (map string_bytes words.now))) name.now value)) (λ value. HasPath (pairs_of (drop 1 (map string_bytes words.now))) name.now value.now) }
+fn path_of<'a>(pairs: &'a [String], name: &str) -> Option<&'a str>
+    ensures { MatchOption result ((value : List ℕ) → ¬ (HasPath (pairs_of (map string_bytes pairs.now)) name.now value)) (λ value. HasPath (pairs_of (map string_bytes pairs.now)) name.now value.now) }
 {
-    match value_of(words, name) {
+    match value_of(pairs, name) {
         Some(value) => { if is_path(value) { Some(value) } else { None } }
         None => None,
     }
 }
 
-/// The paths of a session, where the words are `serve` and four pairs: one with each of the names, in
-/// any order.
-pub fn read_paths(words: &[String]) -> Option<Paths<'_>>
-    ensures { MatchOption result ((places : Places) → ¬ (AreServe (map string_bytes words.now) places)) (λ paths. AreServe (map string_bytes words.now) (record { socket = paths.socket.now; control = paths.control.now; store = paths.store.now; authority = paths.authority.now })) }
+/// The patience that a word states.
+fn read_patience(alloc: Global, word: &str) -> Result<Option<u64>, NoMemory>
+    ensures { IfOk result (λ found. MatchOption found ((patience : ℕ) → IsPatience patience → word.now ≢ decimal patience) (λ patience. IsPatience patience × (word.now ≡ decimal patience))) }
 {
-    if words.len() != 9 || !is_word(words, 0, "serve") {
-        return None;
+    match read_number(alloc, word.as_bytes())? {
+        Some(number) => { if number == 0 { Ok(None) } else { Ok(Some(number)) } }
+        None => Ok(None),
     }
-    let socket = path_of(words, "--socket")?;
-    let control = path_of(words, "--control")?;
-    let store = path_of(words, "--store")?;
-    let authority = path_of(words, "--authority")?;
+}
+
+/// The patience that the pairs of words behind `serve` give.
+fn patience_of(alloc: Global, pairs: &[String]) -> Result<Option<u64>, NoMemory>
+    ensures { IfOk result (λ found. MatchOption found ((patience : ℕ) → ¬ (GivePatience (map string_bytes pairs.now) patience)) (λ patience. GivePatience (map string_bytes pairs.now) patience)) }
+{
+    if pairs.len() == 8 {
+        return Ok(Some(0));
+    }
+    if pairs.len() != 10 {
+        return Ok(None);
+    }
+    match value_of(pairs, "--patience") {
+        Some(word) => read_patience(alloc, word),
+        None => Ok(None),
+    }
+}
+
+/// What the words of a session name, with this patience.
+fn paths_of(pairs: &[String], patience: u64) -> Option<Paths<'_>>
+    ensures { MatchOption result ((places : Places) → ¬ (HavePaths (pairs_of (map string_bytes pairs.now)) places)) (λ paths. HavePaths (pairs_of (map string_bytes pairs.now)) (record { socket = paths.socket.now; control = paths.control.now; store = paths.store.now; authority = paths.authority.now; patience = paths.patience }) × (paths.patience ≡ patience)) }
+{
+    let socket = path_of(pairs, "--socket")?;
+    let control = path_of(pairs, "--control")?;
+    let store = path_of(pairs, "--store")?;
+    let authority = path_of(pairs, "--authority")?;
     Some(Paths {
         socket,
         control,
         store,
         authority,
+        patience,
     })
+}
+
+/// What the words of a session name, where they are `serve` and four or five pairs in any order: one
+/// with the name of each path, and one with that of the patience, where there is one.
+pub fn read_paths(alloc: Global, words: &[String]) -> Result<Option<Paths<'_>>, NoMemory>
+    ensures { IfOk result (λ found. MatchOption found ((places : Places) → ¬ (AreServe (map string_bytes words.now) places)) (λ paths. AreServe (map string_bytes words.now) (record { socket = paths.socket.now; control = paths.control.now; store = paths.store.now; authority = paths.authority.now; patience = paths.patience }))) }
+{
+    let Some((first, pairs)) = words.split_first() else {
+        return Ok(None);
+    };
+    if first.as_str() != "serve" {
+        return Ok(None);
+    }
+    match patience_of(alloc, pairs)? {
+        Some(patience) => Ok(paths_of(pairs, patience)),
+        None => Ok(None),
+    }
+}
+
+/// The patience of a rehearsal, where the words are `rehearse` and, where there is one, its patience.
+pub fn read_rehearse(alloc: Global, words: &[String]) -> Result<Option<u64>, NoMemory>
+    ensures { IfOk result (λ found. MatchOption found ((patience : ℕ) → ¬ (AreRehearse (map string_bytes words.now) patience)) (λ patience. AreRehearse (map string_bytes words.now) patience)) }
+{
+    if are_one_word(words, "rehearse") {
+        return Ok(Some(0));
+    }
+    if words.len() != 2 || !is_word(words, 0, "rehearse") {
+        return Ok(None);
+    }
+    read_patience(alloc, word_at(words, 1))
 }
 
 /// A word that is a number.

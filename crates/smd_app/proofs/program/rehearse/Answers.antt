@@ -8,14 +8,14 @@ use Rattle.smd_app.proofs.program.rehearse.Goals as goal
 pub returns-in_err-script-clause-runs : goal.returns-in_err-script-clause-runs
 returns-in_err-script-clause-runs g c = λ identity.
     rw (err_is c.from_residual.result _ c.from_residual.ensures.1)
-    (read_refused (g.W.Told.outside c.args.world.now) (g.W.Told.outside c.read_input.new.world) c.args.turns c.in_err-script.field-0.0 c.in_err-script.ensures.effects c.in_err-script.ensures.uses)
+    (read_refused (g.W.Told.outside c.args.world.now) (g.W.Told.outside c.read_input.new.world) c.args.patience c.args.turns c.in_err-script.field-0.0 c.in_err-script.ensures.effects c.in_err-script.ensures.uses)
 
 pub returns-in_err-events-clause-runs : goal.returns-in_err-events-clause-runs
 returns-in_err-events-clause-runs g c = λ identity.
     let old = g.W.Told.outside c.args.world.now in
     let mid = g.W.Told.outside c.read_input.new.world in
     rw (err_is c.from_residual-in_err-events.result _ c.from_residual-in_err-events.ensures.1)
-    (script_refused old mid c.args.turns c.as_slice.result.now c.in_err-events.field-0.0
+    (script_refused old mid c.args.patience c.args.turns c.as_slice.result.now c.in_err-events.field-0.0
     (rw c.as_slice.ensures (took (SCRIPT_LIMIT + 1) old mid c.in_ok-script.script c.in_ok-script.ensures.effects c.in_ok-script.ensures.front c.in_ok-script.ensures.uses.console))
     c.in_err-events.ensures.bad)
 
@@ -24,14 +24,14 @@ returns-in_err-rehearsal-clause-runs g c = λ identity.
     let old = g.W.Told.outside c.args.world.now in
     let mid = g.W.Told.outside c.read_input.new.world in
     rw (err_is c.from_residual-in_err-rehearsal.result _ c.from_residual-in_err-rehearsal.ensures.1)
-    (run_refused old mid c.args.turns c.in_ok-script.script (took (SCRIPT_LIMIT + 1) old mid c.in_ok-script.script c.in_ok-script.ensures.effects c.in_ok-script.ensures.front c.in_ok-script.ensures.uses.console))
+    (run_refused old mid c.args.patience c.args.turns c.in_ok-script.script (took (SCRIPT_LIMIT + 1) old mid c.in_ok-script.script c.in_ok-script.ensures.effects c.in_ok-script.ensures.front c.in_ok-script.ensures.uses.console))
 
 pub returns-in_err-trace-clause-runs : goal.returns-in_err-trace-clause-runs
 returns-in_err-trace-clause-runs g c = λ identity.
     let old = g.W.Told.outside c.args.world.now in
     let mid = g.W.Told.outside c.read_input.new.world in
     rw (err_is c.from_residual-in_err-trace.result _ c.from_residual-in_err-trace.ensures.1)
-    (run_refused old mid c.args.turns c.in_ok-script.script (took (SCRIPT_LIMIT + 1) old mid c.in_ok-script.script c.in_ok-script.ensures.effects c.in_ok-script.ensures.front c.in_ok-script.ensures.uses.console))
+    (run_refused old mid c.args.patience c.args.turns c.in_ok-script.script (took (SCRIPT_LIMIT + 1) old mid c.in_ok-script.script c.in_ok-script.ensures.effects c.in_ok-script.ensures.front c.in_ok-script.ensures.uses.console))
 
 pub returns-in_err-print-clause-runs : goal.returns-in_err-print-clause-runs
 returns-in_err-print-clause-runs g c = λ identity.
@@ -39,18 +39,18 @@ returns-in_err-print-clause-runs g c = λ identity.
     let mid = g.W.Told.outside c.read_input.new.world in
     let new = g.W.Told.outside c.print.new.self in
     rw (err_is c.from_residual-in_err-print.result _ c.from_residual-in_err-print.ensures.1)
-    (print_refused old mid new c.args.turns c.in_ok-script.script c.in_err-print.field-0.0 (took (SCRIPT_LIMIT + 1) old mid c.in_ok-script.script c.in_ok-script.ensures.effects c.in_ok-script.ensures.front c.in_ok-script.ensures.uses.console) c.in_err-print.ensures.effects c.in_err-print.ensures.uses)
+    (print_refused old mid new c.args.patience c.args.turns c.in_ok-script.script c.in_err-print.field-0.0 (took (SCRIPT_LIMIT + 1) old mid c.in_ok-script.script c.in_ok-script.ensures.effects c.in_ok-script.ensures.front c.in_ok-script.ensures.uses.console) c.in_err-print.ensures.effects c.in_err-print.ensures.uses)
 
 pub returns-then-rehearsal-clause-runs : goal.returns-then-rehearsal-clause-runs
 returns-then-rehearsal-clause-runs g c = λ identity.
     let old = g.W.Told.outside c.args.world.now in
     let mid = g.W.Told.outside c.read_input.new.world in
     let new = g.W.Told.outside c.print.new.self in
-    run_ended old mid new c.args.turns c.in_ok-script.script c.as_slice-2.result.now c.in_ok-trace.trace c.effects.result.now c.in_ok-events.events c.in_ok-rehearsal.rehearsal (took (SCRIPT_LIMIT + 1) old mid c.in_ok-script.script c.in_ok-script.ensures.effects c.in_ok-script.ensures.front c.in_ok-script.ensures.uses.console) (rw c.as_slice.ensures at c.in_ok-events.ensures.says) c.in_ok-rehearsal.ensures c.if-rehearsal.true c.as_slice-2.ensures c.in_ok-trace.ensures c.effects.ensures c.in_ok-print.ensures.effects
+    run_ended old mid new c.args.patience c.args.turns c.in_ok-script.script c.as_slice-2.result.now c.in_ok-trace.trace c.effects.result.now c.in_ok-events.events c.in_ok-rehearsal.rehearsal (took (SCRIPT_LIMIT + 1) old mid c.in_ok-script.script c.in_ok-script.ensures.effects c.in_ok-script.ensures.front c.in_ok-script.ensures.uses.console) (rw c.as_slice.ensures at c.in_ok-events.ensures.says) c.in_ok-rehearsal.ensures c.if-rehearsal.true c.as_slice-2.ensures c.in_ok-trace.ensures c.effects.ensures c.in_ok-print.ensures.effects
 
 pub returns-clause-runs : goal.returns-clause-runs
 returns-clause-runs g c = λ identity.
     let old = g.W.Told.outside c.args.world.now in
     let mid = g.W.Told.outside c.read_input.new.world in
     let new = g.W.Told.outside c.print.new.self in
-    run_spent old mid new c.args.turns c.in_ok-script.script c.as_slice-2.result.now c.in_ok-trace.trace c.effects.result.now c.in_ok-events.events c.in_ok-rehearsal.rehearsal (took (SCRIPT_LIMIT + 1) old mid c.in_ok-script.script c.in_ok-script.ensures.effects c.in_ok-script.ensures.front c.in_ok-script.ensures.uses.console) (rw c.as_slice.ensures at c.in_ok-events.ensures.says) c.in_ok-rehearsal.ensures c.if-rehearsal.false c.as_slice-2.ensures c.in_ok-trace.ensures c.effects.ensures c.in_ok-print.ensures.effects
+    run_spent old mid new c.args.patience c.args.turns c.in_ok-script.script c.as_slice-2.result.now c.in_ok-trace.trace c.effects.result.now c.in_ok-events.events c.in_ok-rehearsal.rehearsal (took (SCRIPT_LIMIT + 1) old mid c.in_ok-script.script c.in_ok-script.ensures.effects c.in_ok-script.ensures.front c.in_ok-script.ensures.uses.console) (rw c.as_slice.ensures at c.in_ok-events.ensures.says) c.in_ok-rehearsal.ensures c.if-rehearsal.false c.as_slice-2.ensures c.in_ok-trace.ensures c.effects.ensures c.in_ok-print.ensures.effects
