@@ -1,0 +1,4 @@
+pub mod DoingLaws
+pub mod HeedLaws
+pub mod PieceLaws
+pub mod HearLaws

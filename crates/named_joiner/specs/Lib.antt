@@ -1,0 +1,5 @@
+pub mod Script
+pub mod Standing
+pub mod Laws
+pub mod Doing
+pub mod Hearing

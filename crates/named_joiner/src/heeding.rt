@@ -1,0 +1,151 @@
+use crate::callbacks::{NamedDies, NamedSaves};
+use crate::callers::Callers;
+use crate::ends::{Ending, NamedEnd};
+use crate::progress::Progress;
+use crate::saying::say_all;
+use client_engine::{Cue, Taken, spell, stage_again};
+use client_machine::SaveAsk;
+use sm_world::NoMemory;
+
+impl Progress {
+    ghost use Rattle.std.specs.Prelude.{◌≡◌, ◌++◌, flat_map, map, OnOk};
+    ghost use Rattle.client_engine.specs.Answering.{after_owed, changed, owed_messages};
+    ghost use Rattle.client_engine.specs.Messages.{spelled};
+    ghost use Rattle.client_machine.specs.Phases.{is_owing};
+    ghost use Rattle.client_engine.specs.Places.{phase_at};
+
+    /// Answers a save that was cancelled, where the client owes that.
+    fn cancel(&mut self) -> Result<(), NoMemory>
+        ensures bytes { OnOk result (self.new.bytes ≡ self.old.bytes ++ flat_map spelled (owed_messages (is_owing (phase_at self.old.core.talk.place)))) }
+        ensures talk { OnOk result (self.new.core.talk ≡ changed (after_owed (is_owing (phase_at self.old.core.talk.place))) self.old.core.talk) }
+        ensures ending { self.new.ending ≡ self.old.ending }
+        ensures splitter { self.new.core.splitter ≡ self.old.core.splitter }
+    {
+        let said = self.core.owed(self.alloc)?;
+        say_all(said.as_slice(), &mut self.bytes)
+    }
+}
+
+impl<S: NamedSaves, D: NamedDies> Callers<S, D> {
+    ghost use Rattle.std.specs.Prelude.{◌≡◌, map, Ok, Some};
+    ghost use Rattle.client_engine.specs.Answering.{stage_again as stage_again_spec};
+    ghost use Rattle.client_engine.specs.Driving.{Run, behind};
+    ghost use Rattle.client_engine.specs.Messages.{AreShort};
+    ghost use Rattle.client_engine.specs.Speaking.{HasPlace, MayAnswer};
+    ghost use Rattle.client_machine.specs.Saves.{at_stage};
+    ghost use Rattle.client_machine.specs.declared.saves.SaveAnswer.{SaveAnswer};
+    ghost use Rattle.client_machine.specs.declared.saves.Stage.{Stage};
+    ghost use Rattle.named_joiner.specs.Doing.{Answers, Tries, TriesPiece, desk, keeper_of, stand_of};
+    ghost use Rattle.named_joiner.specs.Script.{Keeper, Says, cued, died, saved};
+    ghost use Rattle.named_joiner.specs.Standing.{IsRun};
+
+    /// Asks how the client saves, and says the answer.
+    fn answer_save(&mut self, progress: &mut Progress, ask: SaveAsk) -> Result<(), NoMemory>
+        requires { MayAnswer ask progress.old.core.talk.place }
+        ensures answers { Answers S.answers D.gives result (desk progress.old.bytes self.old) (desk progress.new.bytes self.new) (keeper_of progress.old) ask (keeper_of progress.new) }
+        ensures again { result ≡ Ok tt → (stage : Stage) → stage_again_spec ask.stage ≡ Some stage → MayAnswer (at_stage stage ask) progress.new.core.talk.place }
+        ensures splitter { progress.new.core.splitter ≡ progress.old.core.splitter }
+    {
+        let named = match progress.named(ask) {
+            Ok(named) => named,
+            Err(NoMemory) => return Err(NoMemory),
+        };
+        let answer = match self.ask(named) {
+            Some(answer) => answer,
+            None => return Err(NoMemory),
+        };
+        let said = match progress.core.answer(progress.alloc, ask, answer) {
+            Ok(said) => said,
+            Err(NoMemory) => return Err(NoMemory),
+        };
+        say_all(said.as_slice(), &mut progress.bytes)
+    }
+
+    /// Answers a save. A client that has talked to the user is asked once more.
+    fn save(&mut self, progress: &mut Progress, ask: SaveAsk) -> Result<(), NoMemory>
+        requires { MayAnswer ask progress.old.core.talk.place }
+        ensures takes { Tries S.answers D.gives result (desk progress.old.bytes self.old) (desk progress.new.bytes self.new) (saved (keeper_of progress.old) ask) (keeper_of progress.new) }
+        ensures splitter { progress.new.core.splitter ≡ progress.old.core.splitter }
+    {
+        match self.answer_save(progress, ask) {
+            Ok(()) => {}
+            Err(NoMemory) => return Err(NoMemory),
+        }
+        match stage_again(ask.stage) {
+            Some(stage) => self.answer_save(progress, SaveAsk { stage, ..ask }),
+            None => Ok(()),
+        }
+    }
+
+    /// Closes as the client is told to die.
+    fn die(&mut self, progress: &mut Progress) -> Result<(), NoMemory>
+        ensures takes { Tries S.answers D.gives result (desk progress.old.bytes self.old) (desk progress.new.bytes self.new) (died (keeper_of progress.old)) (keeper_of progress.new) }
+        ensures splitter { progress.new.core.splitter ≡ progress.old.core.splitter }
+    {
+        let reasons = match self.ask_reasons() {
+            Some(reasons) => reasons,
+            None => return Err(NoMemory),
+        };
+        let message = progress.core.close(reasons);
+        progress.ending = Some(Ending::Ended(NamedEnd::Died));
+        spell(&message, &mut progress.bytes)
+    }
+
+    /// Does what a cue asks.
+    fn heed(&mut self, progress: &mut Progress, cue: Cue) -> Result<(), NoMemory>
+        requires { HasPlace cue progress.old.core.talk.place }
+        ensures takes { Tries S.answers D.gives result (desk progress.old.bytes self.old) (desk progress.new.bytes self.new) (λ r. cued (keeper_of progress.old) r cue) (keeper_of progress.new) }
+        ensures splitter { progress.new.core.splitter ≡ progress.old.core.splitter }
+    {
+        match cue {
+            Cue::Nothing => Ok(()),
+            Cue::Registered(_) => Ok(()),
+            Cue::Save(ask) => self.save(progress, ask),
+            Cue::Cancelled => progress.cancel(),
+            Cue::Complete => Ok(()),
+            Cue::Die => self.die(progress),
+            Cue::Properties(_) => Ok(()),
+            Cue::Refused(class) => {
+                progress.ending = Some(Ending::Ended(NamedEnd::Refused { class }));
+                Ok(())
+            }
+            Cue::Malformed(at) => {
+                progress.ending = Some(Ending::Ended(NamedEnd::Malformed { at }));
+                Ok(())
+            }
+        }
+    }
+
+    /// Says what the client says by itself about a part of the stream, and does what its cue asks.
+    fn serve(&mut self, progress: &mut Progress, taken: Taken) -> Result<(), NoMemory>
+        requires short { AreShort taken.said }
+        requires asked { HasPlace taken.cue progress.old.core.talk.place }
+        ensures takes { Tries S.answers D.gives result (desk progress.old.bytes self.old) (desk progress.new.bytes self.new) (λ r. behind (map Says taken.said) (cued (keeper_of progress.old) r taken.cue)) (keeper_of progress.new) }
+        ensures splitter { progress.new.core.splitter ≡ progress.old.core.splitter }
+    {
+        match say_all(taken.said.as_slice(), &mut progress.bytes) {
+            Ok(()) => self.heed(progress, taken.cue),
+            Err(NoMemory) => Err(NoMemory),
+        }
+    }
+
+    /// Takes the parts that a piece completes.
+    pub fn take_piece(&mut self, progress: &mut Progress, piece: &[u8]) -> Result<(), NoMemory>
+        ensures { (run : Run Keeper) → IsRun run (stand_of progress.old) → TriesPiece S.answers D.gives result (desk progress.old.bytes self.old) (desk progress.new.bytes self.new) run piece.now progress.new }
+    {
+        let mut left = piece;
+        while !left.is_empty() {
+            let taken = match progress.core.cut(progress.alloc, left) {
+                Ok(Some(taken)) => taken,
+                Ok(None) => return Ok(()),
+                Err(NoMemory) => return Err(NoMemory),
+            };
+            left = &left[taken.count..];
+            match self.serve(progress, taken) {
+                Ok(()) => {}
+                Err(NoMemory) => return Err(NoMemory),
+            }
+        }
+        Ok(())
+    }
+}

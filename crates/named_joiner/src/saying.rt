@@ -1,0 +1,16 @@
+ghost use Rattle.std.specs.Prelude.{◌≡◌, ◌++◌, flat_map, OnOk};
+ghost use Rattle.client_engine.specs.Messages.{AreShort, spelled};
+
+use client_engine::{Message, spell};
+use sm_world::{NoMemory, Octets};
+
+/// Appends the bytes of these messages.
+pub fn say_all(said: &[Message], bytes: &mut Octets) -> Result<(), NoMemory>
+    requires { AreShort said.now }
+    ensures { OnOk result (bytes.new ≡ bytes.old ++ flat_map spelled said.now) }
+{
+    for message in said {
+        spell(message, bytes)?;
+    }
+    Ok(())
+}

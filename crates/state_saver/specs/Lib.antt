@@ -1,0 +1,4 @@
+pub mod Files
+pub mod Memory
+pub mod Plans
+pub mod Saving
