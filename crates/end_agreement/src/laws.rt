@@ -47,8 +47,8 @@ pub fn nothing_is_unexpected()
     ensures { NothingIsUnexpected }
 {}
 
-/// Does nothing: its contract is a law of one client. Once all is taken that is under way, both ends
-/// agree.
+/// Does nothing: its contract is a law of one client. Once all is taken that is under way, both
+/// ends agree.
 pub fn ends_agree()
     ensures { EndsAgree }
 {}
@@ -59,7 +59,8 @@ pub fn answers_are_owed()
     ensures { AnswersAreOwed }
 {}
 
-/// Does nothing: its contract is a law of one client. A SaveYourselfDone is owed for a SaveYourself.
+/// Does nothing: its contract is a law of one client. A SaveYourselfDone is owed for a
+/// SaveYourself.
 pub fn saves_are_asked()
     ensures { SavesAreAsked }
 {}

@@ -10,6 +10,7 @@ use Rattle.session_model.specs.Moves.{History}
 use Rattle.session_model.specs.Readings as of
 use Rattle.session_model.specs.Rules as session
 use Rattle.client_machine.specs.declared.saves.SaveAsk.{SaveAsk}
+use Rattle.session_model.proofs.Ruled.{differ}
 use Rattle.end_schedules.specs.Laws.{AllEndsAgree, KeepsAll}
 use Rattle.end_schedules.specs.Pairs.{May, Pair, Step, begun, down_of, hand, hear, is_of, step}
 use Rattle.end_schedules.specs.Pairs.Step.{Asks, Happens, Hears, Takes}
@@ -17,7 +18,6 @@ use Rattle.end_schedules.specs.Schedules.{AllMayTurn, Company, End, MayTurn, Tur
 use Rattle.end_schedules.specs.Schedules.Turn.{Begins, Breaks, Joins, Orders, Steps, Waits}
 use Rattle.end_schedules.proofs.Folds.{Keeps, keeps-all, keeps-begun, keeps-other, keeps-step}
 use Rattle.end_schedules.proofs.Runs.{Stood, stood-run, stood-taken}
-use Rattle.end_schedules.proofs.Steady.{differ}
 
 record There (c : ℕ) (e : End) (h : History) : Type 0 where
   live : is_in c (of.live h) ≡ true

@@ -1,7 +1,6 @@
 -- Each step of a pair keeps what holds of it, and so does every schedule.
 use Rattle.std.proofs.Common.{◌≡◌, refl, sym, ap, ◌∙◌, subst, ℕ, zero, suc, ◌+◌, ◌≤◌, Bool, true, false, cond, not, List, [], ◌∷◌, ◌++◌, length, drop, eqb, arith}
 use Rattle.std.specs.Prelude.{Option, Some, None, is_some}
-use Rattle.std.proofs.lemmas.Bool.Decides.{nat_tests}
 use Rattle.ice_values.specs.Fields.{ErrorFields}
 use Rattle.ice_values.specs.declared.severity.Severity.{Severity}
 use Rattle.ice_values.specs.declared.severity.Severity.TheVariants.{CanContinue}
@@ -43,7 +42,7 @@ use Rattle.end_schedules.specs.Laws.{AnswersAreFew, BothEndsAgree, ClientSendsNo
 use Rattle.end_schedules.specs.Pairs.{AllMay, May, Pair, Step, after, begun, down_of, hand, hear, heard, is_of, said_at_once, step, unless_ended}
 use Rattle.end_schedules.specs.Pairs.Step.{Asks, Happens, Hears, Takes}
 use Rattle.end_schedules.specs.UnderWay.{Save, save_of, sent_to, side_of, side_with}
-use Rattle.end_schedules.proofs.Own.{at-heard}
+use Rattle.end_schedules.proofs.Own.{at-heard, own-conn}
 use Rattle.end_schedules.proofs.Runs.{Stood, others-passed, steady-reply, stood-run, stood-taken, went-passed, went-taken}
 use Rattle.end_schedules.proofs.Standing.{At, Stands, Stays, stays-passed}
 
@@ -193,9 +192,6 @@ keeps-step c (Happens event) p e k = keeps-other c event p e k
 keeps-after : (c : ℕ) (steps : List Step) (p : Pair) → AllMay c steps p → Keeps c p → Keeps c (after c steps p)
 keeps-after c [] p e k = k
 keeps-after c (s ∷ steps) p e k = keeps-after c steps (step c s p) e.1 (keeps-step c s p e.0 k)
-
-pub own-conn : (c : ℕ) → eqb c c ≡ true
-own-conn c = grind (arith, nat_tests)
 
 at-ready : (c : ℕ) (previous : List ℕ) (asked : SaveAsk) (h : History) → of.phase_of c h ≡ None → At c (Outside (Ready c) ▷ h) (client_in Registering previous asked) (RegisterClient previous ∷ []) 0
 at-ready c previous asked h e =

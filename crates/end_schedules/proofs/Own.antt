@@ -28,7 +28,7 @@ use Rattle.session_model.specs.Tables.{entry_of, is_full}
 use Rattle.session_model.proofs.Level.{once-cancelled, phase-each}
 use Rattle.session_model.proofs.Lists.{Once}
 use Rattle.session_model.proofs.Replied.{cond-same}
-use Rattle.session_model.proofs.Ruled.{conns-rows}
+use Rattle.session_model.proofs.Ruled.{conns-rows, differ}
 use Rattle.client_machine.specs.Phases.{ClientState}
 use Rattle.end_agreement.specs.Sides.{Side, at_phase, is_at_work}
 use Rattle.end_agreement.specs.Meeting.{EachAnswer, EachCancel, EachEntry, EachNeutral, Meets, has_place, is_deaf, is_neutral, place}
@@ -37,8 +37,7 @@ use Rattle.end_agreement.proofs.Walks.{Said as Spoken, goes-on}
 use Rattle.end_schedules.specs.Laws.{IsOfRound, answered_to, is_bad_state}
 use Rattle.end_schedules.specs.UnderWay.{Save, save_given, save_of, sent_to, side_of, side_with}
 use Rattle.end_schedules.proofs.Runs.{Stood}
-use Rattle.end_schedules.proofs.Standing.{At, Stands, clean-append, drop-behind}
-use Rattle.end_schedules.proofs.Steady.{differ}
+use Rattle.end_schedules.proofs.Standing.{At, Stands, clean-append, drop-behind, or-no}
 
 -- The client's phase then, and what it was sent meanwhile
 record Effect (c : ℕ) (h g : History) (q : Option Phase) (a : List XsmpMessage) : Type 0 where
@@ -54,7 +53,7 @@ record Brings (c : ℕ) (h g : History) (K : Spoken) : Type 0 where
   effect : Effect c h g q a
   holds : K (at_phase q (side_of c h)) a
 
-own-conn : (c : ℕ) → eqb c c ≡ true
+pub own-conn : (c : ℕ) → eqb c c ≡ true
 own-conn c = grind (arith, nat_tests)
 
 effect-at : (c : ℕ) (h g : History) (p q : Option Phase) (a : List XsmpMessage) → p ≡ q → Effect c h g p a → Effect c h g q a
@@ -67,10 +66,6 @@ heard-said c m sequence frame h = record {
   sent = sym (tail-nil (sent_to c h));
   clean = refl;
 }
-
-or-no : (b : Bool) → b ≡ false → (b || false) ≡ false
-or-no true e = e
-or-no false e = refl
 
 then-gave : (c : ℕ) (x : XsmpMessage) (h g : History) (q : Option Phase) (a : List XsmpMessage) → ((v : Save) → save_given x v ≡ v) → is_bad_state x ≡ false → Effect c h g q a → Effect c h (Gave c x ▷ g) (phase_given x q) (a ++ x ∷ [])
 then-gave c x h g q a k n e = record {

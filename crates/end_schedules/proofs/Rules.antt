@@ -24,11 +24,11 @@ use Rattle.session_model.specs.Rules.{agreed_rule, agreement_with, begin, begin_
 use Rattle.session_model.proofs.Asked.{in-filter, phases-tell}
 use Rattle.session_model.proofs.Level.{Good}
 use Rattle.session_model.proofs.Lists.{Once}
-use Rattle.session_model.proofs.Ruled.{and-left, and-right, any-in, closing, conns-rows, denied, nobody-level, round_now, rows_now, others}
+use Rattle.session_model.proofs.Ruled.{and-left, and-right, any-in, closing, conns-rows, denied, nobody-level, round_now, rows_now, others, differ}
 use Rattle.session_model.proofs.Sound.{is_wanted_alone}
 use Rattle.session_model.specs.Waits.{is_only}
 use Rattle.end_agreement.specs.Sides.{is_at_work, may_begin_two, may_complete, may_die, may_give, may_save}
-use Rattle.end_schedules.proofs.Steady.{AllNeed, Needs, NeedsGiven, Steady, differ}
+use Rattle.end_schedules.proofs.Steady.{AllNeed, Needs, NeedsGiven, Steady}
 
 -- What the manager does by itself: it gives something where it may.
 

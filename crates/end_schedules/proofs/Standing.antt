@@ -60,7 +60,7 @@ not-bad : (m : XsmpMessage) (p : Option Phase) → may_give m p ≡ true → is_
 not-bad (Error error) p e = absurd (grind arith)
 not-bad m p e = refl
 
-or-no : (b : Bool) → b ≡ false → (b || false) ≡ false
+pub or-no : (b : Bool) → b ≡ false → (b || false) ≡ false
 or-no true e = e
 or-no false e = refl
 

@@ -14,6 +14,7 @@ use Rattle.session_model.specs.Moves.{Agreed, Began, Cancelled, Closed, Gave, Hi
 use Rattle.session_model.specs.Phases.{asked_phase, is_owing, may_interact, phase_given, phase_said, ready_phase, saved_phase, second_phase, talked_phase}
 use Rattle.session_model.specs.Readings as of
 use Rattle.session_model.proofs.Lists.{Once, once-without}
+use Rattle.session_model.proofs.Ruled.{differ}
 use Rattle.end_agreement.specs.Sides.{is_at_work}
 use Rattle.end_schedules.specs.Laws.{IsOfRound}
 use Rattle.end_schedules.specs.UnderWay.{Save, save_of}
@@ -45,9 +46,6 @@ Needs m h = Unit {0}
 abbrev pub AllNeed : List Move → History → Type 0
 AllNeed [] h = Unit {0}
 AllNeed (m ∷ moves) h = Needs m h × AllNeed moves (m ▷ h)
-
-pub differ : {b : Bool} → b ≡ true → b ≡ false → ⊥
-differ e f = grind arith
 
 -- Members
 

@@ -40,8 +40,8 @@ pub fn answers_are_few()
     ensures { AnswersAreFew }
 {}
 
-/// Does nothing: its contract is a law of every schedule of a manager and any number of clients. All
-/// of this holds of the manager and each client that is there.
+/// Does nothing: its contract is a law of every schedule of a manager and any number of clients.
+/// All of this holds of the manager and each client that is there.
 pub fn all_ends_agree()
     ensures { AllEndsAgree }
 {}
