@@ -91,7 +91,13 @@ fn read_patience(alloc: Global, word: &str) -> Result<Option<u64>, NoMemory>
     ensures { IfOk result (λ found. MatchOption found ((patience : ℕ) → IsPatience patience → word.now ≢ decimal patience) (λ patience. IsPatience patience × (word.now ≡ decimal patience))) }
 {
     match read_number(alloc, word.as_bytes())? {
-        Some(number) => { if number == 0 { Ok(None) } else { Ok(Some(number)) } }
+        Some(number) => {
+            if number == 0 {
+                Ok(None)
+            } else {
+                Ok(Some(number))
+            }
+        }
         None => Ok(None),
     }
 }
