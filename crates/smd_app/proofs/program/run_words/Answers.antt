@@ -24,4 +24,4 @@ returns-in-Some-3-clause-runs g c =
 
 pub returns-in-None-clause-runs : goal.returns-in-None-clause-runs
 returns-in-None-clause-runs g c =
-    does_nothing (map string_bytes c.args.words.now) c.args.identity.now c.args.turns (g.W.Told.outside c.args.world.now) (g.W.Told.outside c.args.world.now) (Err BadWords) (inl (means_none (map string_bytes c.args.words.now) (search rules) (search rules) (rw c.in-None.is at c.in_ok-exercise.ensures), refl))
+    does_nothing (map string_bytes c.args.words.now) c.args.identity.now c.args.turns (g.W.Told.outside c.args.world.now) (g.W.Told.outside c.args.world.now) (Err BadWords) (inl (means_none (map string_bytes c.args.words.now) (search rules) (rw c.in_default-2.is at c.in_ok-paths.ensures) (rw c.in-None.is at c.in_ok-exercise.ensures), refl))
