@@ -1,0 +1,12 @@
+use Rattle.std.proofs.Common.{◌++◌, List, ℕ, ap, subst, sym, ◌∙◌}
+use Rattle.ice_values.specs.declared.numbers.Endian.TheVariants.{Lsb}
+use Rattle.xsmp_messages.specs.Messages.{Spells, canon}
+use Rattle.xsmp_messages.proofs.Dispatch.{canon_spells}
+use Rattle.end_tests.proofs.company.frame_of.Goals as goal
+
+pub returns : goal.returns
+returns c =
+    let m = c.args.message.now in
+    subst (λ (bytes : List ℕ). Spells Lsb 1 m bytes)
+    (sym (c.in_ok-encode_xsmp.ensures.ok ∙ ap (λ (bytes : List ℕ). bytes ++ canon Lsb 1 m) c.new-frame.ensures))
+    (canon_spells Lsb 1 m c.in_ok-encode_xsmp.ensures.fits)
