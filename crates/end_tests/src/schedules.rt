@@ -37,19 +37,19 @@ fn wanted(dice: &mut Dice, conn: Conn) -> Wanted {
 
 /// Something that a client may want to say.
 fn request(alloc: Global, dice: &mut Dice, conn: Conn) -> Request {
-    match dice.roll(24) {
-        0..=7 => Request::Done(dice.flip()),
-        8..=11 => Request::Interact(if dice.flip() {
+    match dice.roll(100) {
+        0..=39 => Request::Done(dice.flip()),
+        40..=54 => Request::Interact(if dice.flip() {
             Dialog::Error
         } else {
             Dialog::Normal
         }),
-        12..=14 => Request::InteractDone(dice.flip()),
-        15..=17 => Request::PhaseTwo,
-        18..=19 => Request::Save(wanted(dice, conn)),
-        20 => Request::Get,
-        21 => Request::Set(PropertyList::new(alloc)),
-        22 => Request::Delete(Array8List::new(alloc)),
+        55..=67 => Request::InteractDone(dice.flip()),
+        68..=82 => Request::PhaseTwo,
+        83..=92 => Request::Save(wanted(dice, conn)),
+        93..=95 => Request::Get,
+        96..=97 => Request::Set(PropertyList::new(alloc)),
+        98 => Request::Delete(Array8List::new(alloc)),
         _ => Request::Close(Array8List::new(alloc)),
     }
 }
@@ -99,19 +99,19 @@ fn step(
     dice: &mut Dice,
     conn: Conn,
 ) -> Result<(), Fail> {
-    match dice.roll(40) {
-        0..=12 => {
+    match dice.roll(200) {
+        0..=63 => {
             let wish = request(rt.alloc(), dice, conn);
             ask(rt, company, conn, wish)
         }
-        13..=24 => company.hear(rt, conn),
-        25..=36 => take(rt, company, conn),
-        37..=38 => company.order(rt, order(dice, conn)),
+        64..=125 => company.hear(rt, conn),
+        126..=187 => take(rt, company, conn),
+        188..=198 => company.order(rt, order(dice, conn)),
         _ => company.leave(rt, conn),
     }
 }
 
-/// A schedule of at most six clients and some hundred steps.
+/// A schedule of at most six clients and 200 steps.
 fn play(rt: &(impl Abort + Alloc<A = Global>), seed: u64) -> Result<(), Fail> {
     let mut dice = Dice::new(seed);
     let mut company = Company::new(rt)?;
@@ -127,7 +127,7 @@ fn play(rt: &(impl Abort + Alloc<A = Global>), seed: u64) -> Result<(), Fail> {
         };
         company.join(rt, conn, previous)?;
     }
-    for _turn in 0..100u32 {
+    for _turn in 0..200u32 {
         if let Some(conn) = some_conn(&company, &mut dice) {
             step(rt, &mut company, &mut dice, conn)?;
         }
@@ -136,11 +136,11 @@ fn play(rt: &(impl Abort + Alloc<A = Global>), seed: u64) -> Result<(), Fail> {
     Ok(())
 }
 
-/// Hundreds of schedules: no client takes what it doesn't expect, nobody is sent BadState, no save is
+/// Ten thousand schedules: no client takes what it doesn't expect, nobody is sent BadState, no save is
 /// answered twice, and both ends agree wherever nothing is under way.
 #[test]
 fn both_ends_agree_by_chance(rt: HostRuntime) -> Result<(), Fail> {
-    for seed in 1..=300u64 {
+    for seed in 1..=10_000u64 {
         play(&rt, seed)?;
     }
     Ok(())
