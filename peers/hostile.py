@@ -292,7 +292,77 @@ def killed(manager, times=200):
     manager.shutdown()
 
 
-TESTS = {it.__name__: it for it in (crowd, deaf, slow, noise, gentle, killed)}
+PATIENCE = 2
+
+
+def shut_after(client, began):
+    """Waits for the end of a client's stream, and says how many seconds that took since then."""
+    drain_to_end(client)
+    return time.monotonic() - began
+
+
+def drain_to_end(client):
+    """Reads until the manager has ended the stream, and expects no message more."""
+    try:
+        found = client.next()
+    except EOFError:
+        return
+    raise ValueError("a silent client was told %r" % (found,))
+
+
+def talk(client, seconds):
+    """Says something four times a second, and answers nothing."""
+    end = time.monotonic() + seconds
+    while time.monotonic() < end:
+        client.set(b"Mood", b"ARRAY8", [b"busy"])
+        time.sleep(0.25)
+
+
+def silent(manager):
+    """A client that stays silent is shut after the patience; one that talks, and one that talks with its user, aren't."""
+    manager.options = ["--patience", str(PATIENCE * 1000)]
+    manager.start()
+    (quiet, _), (talking, _), (asking, _), (swift, _) = [manager.saved() for _ in range(4)]
+    manager.expect("shutdown", "ok")
+    began = time.monotonic()
+    for client in (quiet, talking, asking, swift):
+        client.expect(xsmp.SAVE)
+    xsmp.save(swift, [b"true"])
+    asking.say(xsmp.ASK_TALK, second=0)
+    asking.expect(xsmp.TALK)
+    talker = threading.Thread(target=talk, args=(talking, 3 * PATIENCE))
+    talker.start()
+    took = shut_after(quiet, began)
+    if not PATIENCE <= took < 2 * PATIENCE:
+        raise ValueError("the silent client was shut after %.1f seconds" % took)
+    talker.join()
+    manager.expect("status", "connections 3, records 4, pending 0, epoch 1, shutdown")
+    asking.say(xsmp.TALKED)
+    for client in (asking, talking):
+        xsmp.save(client, [b"true"])
+    for client in (asking, talking, swift):
+        client.expect(xsmp.DIE)
+        client.close()
+    status = manager.process.wait(30)
+    if status:
+        raise ValueError("smd ended with %d" % status)
+    say("the silent client was shut %.1f seconds after it was asked" % took)
+
+
+def patient(manager):
+    """Without a patience a client that stays silent is waited for."""
+    manager.start()
+    quiet, _ = manager.saved()
+    manager.expect("checkpoint", "ok")
+    quiet.expect(xsmp.SAVE)
+    time.sleep(2 * PATIENCE)
+    xsmp.save(quiet, [b"true"])
+    quiet.expect(xsmp.COMPLETE)
+    quiet.close()
+    manager.shutdown()
+
+
+TESTS = {it.__name__: it for it in (crowd, deaf, slow, noise, gentle, silent, patient, killed)}
 
 
 def main():

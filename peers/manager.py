@@ -9,6 +9,8 @@ import xsmp
 
 class Manager:
     made = []
+    # Options of `smd serve` besides the four paths.
+    options = ()
 
     def __init__(self, smd, room):
         self.made.append(self)
@@ -25,7 +27,7 @@ class Manager:
         """Starts smd and doesn't wait for anything."""
         paths = ["--socket", self.socket, "--control", self.control, "--store", self.store, "--authority", self.authority]
         self.process = subprocess.Popen(
-            [*self.words(), "serve", *paths],
+            [*self.words(), "serve", *paths, *self.options],
             stdin=subprocess.DEVNULL,
             stdout=subprocess.PIPE,
             env={**os.environ, "HOSTNAME": os.uname().nodename},

@@ -1,5 +1,11 @@
 -- The faults of the program: their statuses and lines.
 use Rattle.std.specs.Prelude.{ℕ, List, codes, Option, Some, None}
+use Rattle.std.specs.declared.env.VarError.{VarError}
+use Rattle.std.specs.declared.env.VarError.TheVariants.{NotPresent, NotUnicode, OutOfMemory as NameMemory}
+use Rattle.std.specs.declared.io.ErrorKind.{ErrorKind}
+use Rattle.std.specs.declared.io.ErrorKind.TheVariants.{OutOfMemory as LinkMemory}
+use Rattle.sm_world.specs.declared.failures.Failure.{Failure}
+use Rattle.sm_world.specs.declared.failures.Failure.TheVariants.{Failed, NoMemory as DeviceMemory}
 use Rattle.control_lines.specs.declared.orders.OrderRefusal.{OrderRefusal}
 use Rattle.control_lines.specs.declared.orders.OrderRefusal.TheVariants.{BadLine, NoMemory as OrderMemory}
 use Rattle.program_frame.specs.Printing.{line}
@@ -9,6 +15,22 @@ use Rattle.smctl.specs.declared.fault.Fault.TheVariants.{BadWords, NoControl, Li
 abbrev pub order_fault : OrderRefusal → Fault
 order_fault BadLine = BadWords
 order_fault OrderMemory = NoMemory
+
+-- why a call on the console did nothing
+abbrev pub console_fault : Failure → Fault
+console_fault Failed = Console
+console_fault DeviceMemory = NoMemory
+
+-- why the environment names no control socket
+abbrev pub name_fault : VarError → Fault
+name_fault NotPresent = NoControl
+name_fault NotUnicode = NoControl
+name_fault NameMemory = NoMemory
+
+-- why there is no answer from the manager
+abbrev pub link_fault : ErrorKind → Fault
+link_fault LinkMemory = NoMemory
+link_fault kind = Link
 
 abbrev pub fault_status : Fault → ℕ
 fault_status BadWords = 1

@@ -41,3 +41,17 @@ pub record AsksNothing (words : List (List ℕ)) (fault : Fault) : Type 0 where
   pub others : List (List ℕ)
   pub names : Names words control others
   pub none : IsNoOrder others fault
+
+-- The words ask something, and name no control socket.
+pub record NamesNoSocket (words : List (List ℕ)) : Type 0 where
+  pub line : List ℕ
+  pub asks : Asks words None line
+
+-- Why there is no answer to these words, by what they ask for: they say no order, or an order and no socket. Whether the
+-- manager, the console or memory was wanting is no matter of words.
+abbrev pub IsRefused : List (List ℕ) → Fault → Type 0
+IsRefused words BadWords = AsksNothing words BadWords
+IsRefused words NoControl = NamesNoSocket words
+IsRefused words Link = Unit {0}
+IsRefused words Console = Unit {0}
+IsRefused words NoMemory = Unit {0}

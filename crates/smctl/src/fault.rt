@@ -1,11 +1,13 @@
 ghost use Rattle.std.specs.Prelude.{◌≡◌};
-ghost use Rattle.smctl.specs.Faults.{order_fault, fault_status, fault_line};
+ghost use Rattle.std.specs.IoError.{error_kind};
+ghost use Rattle.smctl.specs.Faults.{console_fault, link_fault, name_fault, order_fault, fault_status, fault_line};
 ghost use Rattle.smctl.specs.declared.fault.Fault.TheVariants.{NoMemory as OutOfMemory};
 
 use control_lines::OrderRefusal;
 use program_frame::{ProgramFault, try_line};
 use sm_world::{Console, Failure, NoMemory};
 use std::alloc::Global;
+use std::env::VarError;
 use std::io;
 use std::io::ErrorKind;
 
@@ -22,6 +24,8 @@ pub enum Fault {
 }
 
 impl From<Failure> for Fault {
+    ghost from_gives = { λ failure fault. fault ≡ console_fault failure };
+
     fn from(failure: Failure) -> Fault {
         match failure {
             Failure::Failed => Fault::Console,
@@ -49,7 +53,20 @@ impl From<OrderRefusal> for Fault {
     }
 }
 
+impl From<VarError> for Fault {
+    ghost from_gives = { λ error fault. fault ≡ name_fault error };
+
+    fn from(error: VarError) -> Fault {
+        match error {
+            VarError::OutOfMemory => Fault::NoMemory,
+            VarError::NotPresent | VarError::NotUnicode => Fault::NoControl,
+        }
+    }
+}
+
 impl From<io::Error> for Fault {
+    ghost from_gives = { λ error fault. fault ≡ link_fault (error_kind error) };
+
     fn from(error: io::Error) -> Fault {
         match error.kind() {
             ErrorKind::OutOfMemory => Fault::NoMemory,

@@ -1,6 +1,10 @@
 //! `smctl`, which gives orders to a session manager.
 #![tactic(auto)]
 
+ghost use Rattle.std.specs.Prelude.{◌≢◌, map, string_bytes, IfErr};
+ghost use Rattle.smctl.specs.declared.fault.Fault.TheVariants.{BadWords};
+ghost use Rattle.smctl.specs.Requests.{IsRefused};
+
 mod fault;
 mod request;
 mod talk;
@@ -13,7 +17,6 @@ use crate::talk::{receive, send};
 use program_frame::{OwnTexts, StandardConsole, conclude, read_words};
 use sm_world::Console;
 use std::env;
-use std::env::VarError;
 use std::process::ExitCode;
 
 const TEXTS: OwnTexts = OwnTexts {
@@ -28,16 +31,16 @@ const TEXTS: OwnTexts = OwnTexts {
 };
 
 /// The control socket that the environment names.
-fn named_control(rt: &HostRuntime) -> Result<String, Fault> {
-    match env::var(rt, "SMD_CONTROL") {
-        Ok(path) => Ok(path),
-        Err(VarError::OutOfMemory) => Err(Fault::NoMemory),
-        Err(_) => Err(Fault::NoControl),
-    }
+fn named_control(rt: &HostRuntime) -> Result<String, Fault>
+    ensures none { IfErr result (λ fault. fault ≢ BadWords) }
+{
+    Ok(env::var(rt, "SMD_CONTROL")?)
 }
 
 /// Gives the order of the words and prints the answer.
-fn run(rt: &HostRuntime, words: &[String], console: &mut StandardConsole) -> Result<(), Fault> {
+fn run(rt: &HostRuntime, words: &[String], console: &mut StandardConsole) -> Result<(), Fault>
+    ensures cause { IfErr result (IsRefused (map string_bytes words.now)) }
+{
     let request = read_request(rt.alloc(), words)?;
     let control = request.control;
     let line = request.line.as_slice();

@@ -1,3 +1,6 @@
+ghost use Rattle.std.specs.Prelude.{◌≡◌, ◌-◌, length, slice_get, Some, IfOk};
+ghost use Rattle.std.specs.Io.{StopsAt};
+
 use std::alloc::Global;
 use std::io;
 use std::io::{BufRead, BufReader, ErrorKind, Write};
@@ -12,7 +15,10 @@ pub fn send(net: &impl Net, path: &str, line: &[u8]) -> io::Result<UnixStream> {
 }
 
 /// The line that the manager answers, with its newline. One without a newline was cut off.
-pub fn receive(alloc: Global, stream: UnixStream) -> io::Result<Vec<u8>> {
+pub fn receive(alloc: Global, stream: UnixStream) -> io::Result<Vec<u8>>
+    ensures whole { IfOk result (λ line. slice_get line.items (length line.items - 1) ≡ Some 10) }
+    ensures one { IfOk result (λ line. StopsAt line.items 10) }
+{
     let mut reader = BufReader::new(alloc, stream)?;
     let mut line = Vec::new(alloc);
     let _count = reader.read_until(b'\n', &mut line)?;
