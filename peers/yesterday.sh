@@ -31,22 +31,29 @@ on_desktop() {
     SMCLIENT="$smclient" DISPLAY=:none WANTED=yes DISK="$desk/disk" "$@"
 }
 
-# logs_in VARIABLE..: starts a session without a terminal, and waits for its manager.
+# session_with WORD..: a session without a terminal, with these variables and words of smd-session.
+session_with() {
+  local variables=()
+  while [ $# -gt 0 ] && [[ $1 == *=* ]]; do
+    variables+=("$1")
+    shift
+  done
+  on_desktop "${variables[@]}" setsid -w "$desk/bin/smd-session" "$@" < /dev/null > /dev/null 2> "$desk/said"
+}
+
+# logs_in WORD..: starts a session with these variables and words, and waits for its manager.
 logs_in() {
   at=$desk/run/smd
   rm -rf "$at"
-  on_desktop "$@" setsid -w "$desk/bin/smd-session" < /dev/null > /dev/null 2> "$desk/said" &
+  session_with "$@" &
   session_id=$!
   within 60 answers_any
 }
 
-# logs_in_with WORD..: the same with words of smd-session.
-logs_in_with() {
-  at=$desk/run/smd
-  rm -rf "$at"
-  on_desktop setsid -w "$desk/bin/smd-session" "$@" < /dev/null > /dev/null 2> "$desk/said" &
-  session_id=$!
-  within 60 answers_any
+# refused STATUS TEXT WORD..: a session with these words ends so at once, and says the text.
+refused() {
+  session_with "${@:3}"
+  [ $? -eq "$1" ] && was_said "$2"
 }
 
 answers_any() { order status > /dev/null 2>&1; }
@@ -156,15 +163,11 @@ unanswered_dialog() {
   check "it didn't ask again" test ! -e "$desk/asked"
   check "its session is left too" leaves
   no_dialog
-  check "a number that isn't there is refused" refuses_number 9
-  check "a restored session begins" logs_in_with --restore "$(number_of 4)"
+  check "a number that isn't there is refused" refused 1 'no store with the number 9 is kept' --restore 9
+  check "what is no number is refused" refused 1 'usage: smd-session' --restore 0
+  check "a restored session begins" logs_in --restore "$(number_of 4)"
   comes_back 'its number was given'
   check "the restored session is left again" leaves
-}
-
-refuses_number() {
-  on_desktop "$desk/bin/smd-session" --restore "$1" 2> "$desk/said"
-  [ $? -eq 1 ] && was_said "no store with the number $1 is kept"
 }
 
 # number_of COUNT: the number of the newest kept store with so many programs.
@@ -194,16 +197,84 @@ answered_terminal() {
   check "the session on the terminal is left" leaves
 }
 
+# stand_in NAME LINE..: a program of this name in the way of the session's, which does these lines.
+stand_in() {
+  printf '%s\n' '#!/bin/sh' "${@:2}" > "$desk/bin/$1"
+  chmod +x "$desk/bin/$1"
+}
+
+store_sum() { cksum < "$stores/store"; }
+
 # full_disk: a copy finds no room.
 full_disk() {
-  printf '#!/bin/sh\necho "cp: No space left on device" >&2\nexit 1\n' > "$desk/bin/cp"
-  chmod +x "$desk/bin/cp"
+  local before
+  before=$(store_sum)
+  stand_in cp 'echo part > "$3"' 'echo "cp: No space left on device" >&2' 'exit 1'
+  check "nothing is restored where there is no room" refused 1 "can't be copied: is the disk full?" --restore 1
+  check "the store is as it was where there is no room" test "$(store_sum)" = "$before"
   check "a login begins where nothing can be kept" logs_in
   check "it says so" was_said "can't be kept: is the disk full?"
   check "it goes on" within 60 has 4
   check "its session is left where nothing can be kept" leaves
   rm "$desk/bin/cp"
 }
+
+# killed_login: one that is killed between its copy and the sync, or before the copy has its name.
+killed_login() {
+  local before tool
+  before=$(kept_list)
+  stand_in sync 'kill -9 "$PPID"'
+  session_with
+  check "a login that is killed before its copy is synced changes nothing" test "$(kept_list)" = "$before"
+  check "its copy was made" test -s "$stores/kept/.new"
+  rm "$desk/bin/sync"
+  stand_in mv 'kill -9 "$PPID"'
+  session_with
+  rm "$desk/bin/mv"
+  check "the login after it begins" logs_in
+  check "the four programs come back after a kill" within 60 has 4
+  check "the session is kept after a kill" kept 1 4
+  check "no two are the same after a kill" books_differ
+  check "no part of a copy is left" test ! -e "$stores/kept/.new"
+  check "its session is left after a kill" leaves
+}
+
+# modes: nobody else may read what is kept.
+modes() {
+  [ "$(stat -c %a "$stores" "$stores/kept" "$stores/store" "$stores"/kept/* | sort | uniq -c | awk '{ print $2 }' | xargs)" = '600 700' ]
+}
+
+# second_login: while a manager has the store, another login changes nothing.
+second_login() {
+  local before
+  check "a login begins that isn't the only one" logs_in
+  check "its programs are there" within 60 has 4
+  before=$(kept_list)
+  check "nothing is restored beside it" refused 1 'nothing is restored' --restore 1
+  check "no other manager gets its store" refused 4 'another manager has the store'
+  check "nothing else is kept" test "$(kept_list)" = "$before"
+  check "its programs are still there" has 4
+  check "it is left" leaves
+}
+
+# both_at_once: of two logins at the same moment one has the session.
+both_at_once() {
+  local other
+  at=$desk/run/smd
+  rm -rf "$at"
+  session_with &
+  session_id=$!
+  session_with &
+  other=$!
+  check "one of two logins begins" within 60 answers_any
+  check "its programs come back" within 60 has 4
+  check "the other one ends" within 60 one_gone "$session_id" "$other"
+  is_gone "$session_id" && session_id=$other
+  check "the one that began is left" leaves
+  check "its session is kept whole" kept 1 4
+}
+
+one_gone() { is_gone "$1" || is_gone "$2"; }
 
 # session_without NAMES: a login at which these programs don't start, and its logout.
 session_without() {
@@ -223,7 +294,7 @@ five_at_most() {
     check "a session without $without is left" session_without "$without"
   done
   check "the fuller ones are kept" kept 4 4
-  check "the oldest is taken" logs_in_with --restore 4
+  check "the oldest is taken" logs_in --restore 4
   comes_back 'four smaller ones'
   check "it is left once more" leaves
   check "a session with another book is left" session_without a
@@ -240,10 +311,71 @@ damaged_store() {
   check "a damaged store starts nothing" test $? -eq 2
   check "the damage is told" was_said 'smd: store damaged at'
   check "its store is as it was" was_said "$(store_words)"
-  check "a kept store is taken in its place" logs_in_with --restore "$(number_of 4)"
+  check "a kept store is taken in its place" logs_in --restore "$(number_of 4)"
   comes_back 'a damage'
   check "the damaged store lies aside" test -s "$stores/store.damaged"
   check "the session in its place is left" leaves
+}
+
+# verdict FILE: what store-check prints of it, and its status.
+verdict() {
+  "$smd" store-check --store "$1"
+  echo $?
+}
+
+# serves FILE: what a session over it prints behind the place at which it listens, and its status.
+serves() {
+  timeout 30 "$smd" serve --socket "$desk/socket" --control "$desk/control" --store "$1" \
+    --authority "$desk/authority" < /dev/null 2> /dev/null | tail -n +2
+  echo "${PIPESTATUS[0]}"
+}
+
+# judged STATUS TEXT SIZE [OFFSET BYTES]..: so a file of zeros of this size with these bytes is told and served.
+judged() {
+  local file=$desk/judged wanted
+  wanted=$(printf '%s\n%s' "$2" "$1")
+  rm -f "$file"
+  truncate -s "$3" "$file"
+  chmod 600 "$file"
+  shift 3
+  while [ $# -gt 0 ]; do
+    printf "$2" | dd of="$file" bs=1 seek="$1" conv=notrunc 2> /dev/null
+    shift 2
+  done
+  [ "$(verdict "$file")" = "$wanted" ] && [ "$(serves "$file")" = "$wanted" ]
+}
+
+# Each kind of damage and of size is told as a session over it tells it, with the same status.
+judgements() {
+  local size=16777280
+  check "an empty file has the size 0" judged 3 'smd: store has size 0' 0
+  check "a byte less is another size" judged 3 'smd: store has size 16777279' 16777279
+  check "a byte more is another size" judged 3 'smd: store has size 16777281' 16777281
+  check "two slots of one generation are a damage" judged 2 'smd: store damaged at 64' $size 0 '\xa5' 32 '\xa5'
+  check "a length that can't be is a damage" judged 2 'smd: store damaged at 72' $size 0 '\xa5' 72 '\xff\xff\xff\xff'
+  check "what is no book is a damage" judged 2 'smd: store damaged at 8388688' $size \
+    32 '\xa5' 8388680 '\x10' 8388688 '\x02'
+  check "what is no amendment is a damage" judged 2 'smd: store damaged at 96' $size \
+    0 '\xa5' 72 '\x10' 80 '\x01' 96 '\xa5\x01'
+}
+
+# reads_only FILE: whether it is opened for reading, and nothing is written but the report.
+reads_only() {
+  local before
+  before=$(stat -c '%Y %Z %i' "$1"; cksum < "$1")
+  strace -f -o "$desk/calls" "$smd" store-check --store "$1" > /dev/null || return 1
+  [ "$(stat -c '%Y %Z %i' "$1"; cksum < "$1")" = "$before" ] || return 1
+  [ "$(grep -F "\"$1\"" "$desk/calls" | grep -c 'O_RDONLY')" = 1 ] || return 1
+  ! grep -E 'O_WRONLY|O_RDWR|O_CREAT|pwrite|ftruncate|unlink|rename|mkdir' "$desk/calls" > /dev/null
+}
+
+# no_store: what isn't a file isn't read, and a missing one isn't made.
+no_store() {
+  check "a missing store is a fault of the disk" test "$(verdict "$desk/none" 2> /dev/null)" = "$(printf 'smd: disk fault\n4')"
+  check "it isn't made" test ! -e "$desk/none"
+  check "a folder is a fault of the disk" test "$(verdict "$desk" 2> /dev/null)" = "$(printf 'smd: disk fault\n4')"
+  mkfifo "$desk/pipe"
+  check "a pipe is a fault of the disk" test "$(verdict "$desk/pipe" 2> /dev/null)" = "$(printf 'smd: disk fault\n4')"
 }
 
 # What asks, by itself.
@@ -253,12 +385,20 @@ asks() {
   check "nobody is asked at a display that isn't there" ends_with 2 env DISPLAY=:none setsid -w "$ask" q a b
   check "a terminal answers" grep -qx 2 <(on_terminal 2 "$ask" q a b | tr -d '\r')
   check "a number that isn't there is no answer" grep -q 'status 1' <(on_terminal 7 "$ask" q a b)
+  check "a terminal that nobody answers ends" grep -q 'status 1' <(on_terminal '' "$ask" --seconds 1 q a b)
+  check "a terminal that another has isn't asked" grep -q 'status 2' \
+    <(on_terminal 2 bash -c 'set -m; "$@" & wait $!' ask "$ask" q a b)
   for tool in zenity kdialog yad; do
-    printf '#!/bin/sh\necho 2\n' > "$desk/bin/$tool"
-    chmod +x "$desk/bin/$tool"
+    stand_in "$tool" 'echo "a warning" >&2' 'echo 2'
     check "$tool answers" test "$(PATH=$desk/bin:$PATH DISPLAY=:none "$ask" q a b)" = 2
+    stand_in "$tool" 'sleep 2' 'echo "cannot open display: :none" >&2' 'exit 1'
+    check "$tool isn't there without its display" ends_with 2 \
+      env PATH="$desk/bin:$PATH" DISPLAY=:none setsid -w "$ask" q a b
     rm "$desk/bin/$tool"
   done
+  stand_in xmessage 'exit 102'
+  check "xmessage answers" test "$(PATH=$desk/bin:$PATH DISPLAY=:none "$ask" q a b)" = 2
+  rm "$desk/bin/xmessage"
   check "a dialog that nobody answers ends" ends_with 1 "$ask" --seconds 3 q a b
 }
 
@@ -282,7 +422,14 @@ yesterday() {
   unanswered_dialog
   answered_terminal
   full_disk
+  killed_login
+  check "nobody else may read what is kept" modes
+  second_login
+  both_at_once
+  check "a store is read and not written" reads_only "$stores/store"
   five_at_most
   damaged_store
+  judgements
+  no_store
   asks
 }

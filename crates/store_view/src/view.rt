@@ -17,6 +17,21 @@ struct Report {
     status: u8,
 }
 
+/// What a file has: all its bytes, which are as many as a store's, or another size.
+#[derive(Drop)]
+enum Contents {
+    Whole(Vec<u8>),
+    OtherSize(u64),
+}
+
+/// A file as it was read.
+#[derive(Drop)]
+struct Reading {
+    contents: Contents,
+    /// Whether a manager has the store.
+    is_living: bool,
+}
+
 /// Opens a file for reading. What isn't a file is refused, since its opening may wait.
 fn open_file(rt: HostRuntime, path: &str) -> io::Result<File> {
     if !fs::metadata(&rt, path)?.is_file() {
@@ -43,7 +58,8 @@ fn read_whole(rt: HostRuntime, file: &File) -> io::Result<Vec<u8>> {
     Ok(bytes)
 }
 
-/// The bytes of a store that a manager may write meanwhile: read until two reads are equal.
+/// The bytes of a store that a manager may write meanwhile: read until two reads are equal, or
+/// else the last of them.
 fn read_settled(rt: HostRuntime, file: &File) -> io::Result<Vec<u8>> {
     let mut bytes = read_whole(rt, file)?;
     for _ in 0..TRIES {
@@ -56,22 +72,34 @@ fn read_settled(rt: HostRuntime, file: &File) -> io::Result<Vec<u8>> {
     Ok(bytes)
 }
 
+/// Reads the file, and lets it go.
+fn read_store(rt: HostRuntime, path: &str) -> io::Result<Reading> {
+    let file = open_file(rt, path)?;
+    let is_living = is_living(&file)?;
+    let size = file.metadata()?.len();
+    let contents = if size != STORE_BYTES {
+        Contents::OtherSize(size)
+    } else if is_living {
+        Contents::Whole(read_settled(rt, &file)?)
+    } else {
+        Contents::Whole(read_whole(rt, &file)?)
+    };
+    Ok(Reading {
+        contents,
+        is_living,
+    })
+}
+
 fn no_memory(_error: NoMemory) -> io::Error {
     io::Error::from(ErrorKind::OutOfMemory)
 }
 
-/// What the file stands for. One of another size isn't read.
-fn find(rt: HostRuntime, file: &File, is_living: bool) -> io::Result<Finding> {
-    let size = file.metadata()?.len();
-    if size != STORE_BYTES {
-        return Ok(Finding::WrongSize(size));
+/// What a file stands for.
+fn find(rt: HostRuntime, contents: Contents) -> Result<Finding, NoMemory> {
+    match contents {
+        Contents::OtherSize(size) => Ok(Finding::WrongSize(size)),
+        Contents::Whole(bytes) => look_into(rt.alloc(), Octets::from_vec(bytes)),
     }
-    let bytes = if is_living {
-        read_settled(rt, file)?
-    } else {
-        read_whole(rt, file)?
-    };
-    look_into(rt.alloc(), Octets::from_vec(bytes)).map_err(no_memory)
 }
 
 fn shown(
@@ -89,10 +117,9 @@ fn shown(
 }
 
 fn report_on(rt: HostRuntime, check: Check<'_>) -> io::Result<Report> {
-    let file = open_file(rt, check.store)?;
-    let is_living = is_living(&file)?;
-    let finding = find(rt, &file, is_living)?;
-    let text = shown(rt, &finding, is_living, check.is_json).map_err(no_memory)?;
+    let reading = read_store(rt, check.store)?;
+    let finding = find(rt, reading.contents).map_err(no_memory)?;
+    let text = shown(rt, &finding, reading.is_living, check.is_json).map_err(no_memory)?;
     Ok(Report {
         text,
         status: finding.status(),
