@@ -251,7 +251,7 @@ second_login() {
   check "its programs are there" within 60 has 4
   before=$(kept_list)
   check "nothing is restored beside it" refused 1 'nothing is restored' --restore 1
-  check "no other manager gets its store" refused 4 'another manager has the store'
+  check "no other manager gets its store" refused 1 'another manager has the store'
   check "nothing else is kept" test "$(kept_list)" = "$before"
   check "its programs are still there" has 4
   check "it is left" leaves
