@@ -339,7 +339,7 @@ judged() {
   chmod 600 "$file"
   shift 3
   while [ $# -gt 0 ]; do
-    printf "$2" | dd of="$file" bs=1 seek="$1" conv=notrunc 2> /dev/null
+    printf '%b' "$2" | dd of="$file" bs=1 seek="$1" conv=notrunc 2> /dev/null
     shift 2
   done
   [ "$(verdict "$file")" = "$wanted" ] && [ "$(serves "$file")" = "$wanted" ]
