@@ -58,10 +58,11 @@ refused() {
 
 answers_any() { order status > /dev/null 2>&1; }
 
-# has COUNT: whether so many programs are there and saved.
-has() { order status | grep -q "^connections $1, records $1, .* idle\$"; }
+# has COUNT: whether so many programs are there and saved. A connection counts before its client has registered,
+# which nothing outside shows: so it is given a second.
+has() { order status | grep -q "^connections $1, records $1, .* idle\$" && sleep 1; }
 
-connected() { order status | grep -q "^connections $1, .* idle\$"; }
+connected() { order status | grep -q "^connections $1, .* idle\$" && sleep 1; }
 
 leaves() { answers ok shutdown && ends "$session_id" 0; }
 
