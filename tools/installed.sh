@@ -11,7 +11,9 @@ each_file() {
   for name in $installed; do
     "$1" 755 "crates/$name/out/$name" "bin/$name"
   done
-  "$1" 755 session/smd-session bin/smd-session
+  for name in smd-session smd-ask; do
+    "$1" 755 "session/$name" "bin/$name"
+  done
   "$1" 644 session/smd.desktop share/xsessions/smd.desktop
   for page in "$top"/docs/man/*.1; do
     "$1" 644 "docs/man/$(basename "$page")" "share/man/man1/$(basename "$page")"

@@ -8,6 +8,8 @@ use smd_app::{Identity, Paths, read_paths, smd_main};
 use std::io;
 use std::io::ErrorKind;
 use std::process::ExitCode;
+use store_report::read_check;
+use store_view::check_store;
 
 const TEXTS: OwnTexts = OwnTexts {
     help: "smd, the session manager\n\n\
@@ -16,6 +18,8 @@ const TEXTS: OwnTexts = OwnTexts {
         \x20      smd rehearse [MS] < SCRIPT\n\
         \x20                               shows what smd does at the events of a script\n\
         \x20      smd exercise A N        saves eight clients N times in memory, and sums it up\n\
+        \x20      smd store-check --store F [--json]\n\
+        \x20                               shows what stands in a store, reading only\n\
         \x20      smd --help              shows this\n\
         \x20      smd --version           shows the version\n\n\
         With a patience of MS milliseconds a client is shut that is silent for so long\n\
@@ -48,6 +52,9 @@ fn refused(rt: HostRuntime, bad: BadPlaces) -> u8 {
 
 /// The status of a run with these words on this desktop.
 fn run(rt: HostRuntime, words: &[String]) -> io::Result<u8> {
+    if let Some(check) = read_check(words) {
+        return Ok(check_store(rt, check));
+    }
     let paths = match read_paths(rt.alloc(), words) {
         Ok(paths) => paths,
         Err(NoMemory) => return Err(io::Error::from(ErrorKind::OutOfMemory)),

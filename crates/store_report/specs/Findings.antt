@@ -1,0 +1,11 @@
+-- What the bytes of a store's file stand for.
+use Rattle.std.specs.Prelude.{◌≡◌, ◌≢◌, ℕ, List, length, Ok, Err}
+use Rattle.checkpoint_slots.specs.Recovery.{Recovers}
+use Rattle.store_report.specs.declared.finding.Finding.{Finding}
+use Rattle.store_report.specs.declared.finding.Finding.TheVariants.{Opens, Damaged, WrongSize}
+
+-- The size first, and then the book or the place of the damage, as a session finds it.
+abbrev pub StandsFor : List ℕ → Finding → Type 0
+StandsFor file (Opens book) = (length file ≡ 16777280) × Recovers file (Ok book)
+StandsFor file (Damaged at) = (length file ≡ 16777280) × Recovers file (Err at)
+StandsFor file (WrongSize size) = (size ≡ length file) × (size ≢ 16777280)

@@ -1,0 +1,5 @@
+pub mod Words
+pub mod Findings
+pub mod Shown
+pub mod Lines
+pub mod Tokens

@@ -1,0 +1,15 @@
+//! What stands in a store, as lines for people and as JSON for scripts.
+#![tactic(auto)]
+
+mod finding;
+mod json_text;
+mod lines;
+mod shown;
+#[cfg(test)]
+mod tests;
+mod words;
+
+pub use finding::{Finding, look_into};
+pub use json_text::report_json;
+pub use lines::report_lines;
+pub use words::{Check, read_check};

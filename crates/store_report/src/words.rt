@@ -1,0 +1,58 @@
+ghost use Rattle.std.specs.Prelude.{◌≡◌, ◌≢◌, ◌<◌, ℕ, List, [], Bool, get_or, length, map, string_bytes, MatchOption};
+ghost use Rattle.std.specs.Str.{bytes_eq};
+ghost use Rattle.store_report.specs.Words.{check_words};
+
+/// What is asked of a store.
+#[derive(Clone, Copy, Debug)]
+pub struct Check<'a> {
+    /// The path of its file.
+    pub store: &'a str,
+    /// Whether the answer is JSON.
+    pub is_json: bool,
+}
+
+/// Whether one of the words is this one.
+fn is_word(words: &[String], at: usize, word: &str) -> bool
+    requires { at < length words.now }
+    ensures { result ≡ bytes_eq (get_or (map string_bytes words.now) at []) word.now }
+{
+    words[at].as_str() == word
+}
+
+/// The path of the store, behind the first two words.
+fn store_of(words: &[String]) -> &str
+    requires { 2 < length words.now }
+    ensures { result.now ≡ get_or (map string_bytes words.now) 2 [] }
+{
+    words[2].as_str()
+}
+
+/// What the words ask of a store, where they are `store-check`, `--store` and its path, and behind
+/// them `--json` or nothing.
+pub fn read_check(words: &[String]) -> Option<Check<'_>>
+    ensures { MatchOption result ((store : List ℕ) (json : Bool) → map string_bytes words.now ≢ check_words store json) (λ check. map string_bytes words.now ≡ check_words check.store.now check.is_json) }
+{
+    if words.len() != 3 && words.len() != 4 {
+        return None;
+    }
+    if !is_word(words, 0, "store-check") {
+        return None;
+    }
+    if !is_word(words, 1, "--store") {
+        return None;
+    }
+    let store = store_of(words);
+    if words.len() == 3 {
+        return Some(Check {
+            store,
+            is_json: false,
+        });
+    }
+    if !is_word(words, 3, "--json") {
+        return None;
+    }
+    Some(Check {
+        store,
+        is_json: true,
+    })
+}

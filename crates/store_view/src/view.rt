@@ -1,0 +1,151 @@
+use checkpoint_slots::STORE_BYTES;
+use program_frame::StandardConsole;
+use sm_world::{Console, Failure, NoMemory, Octets};
+use std::fs::{File, OpenOptions, TryLockError};
+use std::io::ErrorKind;
+use std::os::unix::fs::FileExt;
+use std::{fs, io};
+use store_report::{Check, Finding, look_into, report_json, report_lines};
+
+/// How often the store of a living manager is read again until it stays as it was read.
+const TRIES: u32 = 20;
+
+/// What is printed of a store, and the status.
+#[derive(Drop)]
+struct Report {
+    text: Octets,
+    status: u8,
+}
+
+/// What a file has: all its bytes, which are as many as a store's, or another size.
+#[derive(Drop)]
+enum Contents {
+    Whole(Vec<u8>),
+    OtherSize(u64),
+}
+
+/// A file as it was read.
+#[derive(Drop)]
+struct Reading {
+    contents: Contents,
+    /// Whether a manager has the store.
+    is_living: bool,
+}
+
+/// Opens a file for reading. What isn't a file is refused, since its opening may wait.
+fn open_file(rt: HostRuntime, path: &str) -> io::Result<File> {
+    if !fs::metadata(&rt, path)?.is_file() {
+        return Err(io::Error::new(ErrorKind::InvalidInput, "it is no file"));
+    }
+    let mut how = OpenOptions::new();
+    how.read(true);
+    how.open(&rt, path)
+}
+
+/// Whether a manager has the store. Where none has it, this lock keeps one from taking it until the
+/// file is closed; a manager that starts meanwhile waits.
+fn is_living(file: &File) -> io::Result<bool> {
+    match file.try_lock_shared() {
+        Ok(()) => Ok(false),
+        Err(TryLockError::WouldBlock) => Ok(true),
+        Err(TryLockError::Error(error)) => Err(error),
+    }
+}
+
+fn read_whole(rt: HostRuntime, file: &File) -> io::Result<Vec<u8>> {
+    let mut bytes = vec![in rt.alloc(); 0u8; STORE_BYTES as usize]?;
+    file.read_exact_at(bytes.as_mut_slice(), 0)?;
+    Ok(bytes)
+}
+
+/// The bytes of a store that a manager may write meanwhile: read until two reads are equal, or
+/// else the last of them.
+fn read_settled(rt: HostRuntime, file: &File) -> io::Result<Vec<u8>> {
+    let mut bytes = read_whole(rt, file)?;
+    for _ in 0..TRIES {
+        let again = read_whole(rt, file)?;
+        if again.as_slice() == bytes.as_slice() {
+            break;
+        }
+        bytes = again;
+    }
+    Ok(bytes)
+}
+
+/// Reads the file, and lets it go.
+fn read_store(rt: HostRuntime, path: &str) -> io::Result<Reading> {
+    let file = open_file(rt, path)?;
+    let is_living = is_living(&file)?;
+    let size = file.metadata()?.len();
+    let contents = if size != STORE_BYTES {
+        Contents::OtherSize(size)
+    } else if is_living {
+        Contents::Whole(read_settled(rt, &file)?)
+    } else {
+        Contents::Whole(read_whole(rt, &file)?)
+    };
+    Ok(Reading {
+        contents,
+        is_living,
+    })
+}
+
+fn no_memory(_error: NoMemory) -> io::Error {
+    io::Error::from(ErrorKind::OutOfMemory)
+}
+
+/// What a file stands for.
+fn find(rt: HostRuntime, contents: Contents) -> Result<Finding, NoMemory> {
+    match contents {
+        Contents::OtherSize(size) => Ok(Finding::WrongSize(size)),
+        Contents::Whole(bytes) => look_into(rt.alloc(), Octets::from_vec(bytes)),
+    }
+}
+
+fn shown(
+    rt: HostRuntime,
+    finding: &Finding,
+    is_living: bool,
+    is_json: bool,
+) -> Result<Octets, NoMemory> {
+    if !is_json {
+        return report_lines(rt.alloc(), finding, is_living);
+    }
+    let mut text = report_json(rt.alloc(), finding, is_living)?;
+    text.append(b"\n")?;
+    Ok(text)
+}
+
+fn report_on(rt: HostRuntime, check: Check<'_>) -> io::Result<Report> {
+    let reading = read_store(rt, check.store)?;
+    let finding = find(rt, reading.contents).map_err(no_memory)?;
+    let text = shown(rt, &finding, reading.is_living, check.is_json).map_err(no_memory)?;
+    Ok(Report {
+        text,
+        status: finding.status(),
+    })
+}
+
+/// Prints a text, and gives the status where that succeeds.
+fn printed(rt: HostRuntime, text: &[u8], status: u8) -> u8 {
+    match StandardConsole::new(rt).print(text) {
+        Ok(()) => status,
+        Err(Failure::Failed) => 6,
+        Err(Failure::NoMemory) => 10,
+    }
+}
+
+/// Prints what stands in a store. The answer is the program's status: that of a session over this
+/// store for one that is damaged, has another size or can't be read.
+pub fn check_store(rt: HostRuntime, check: Check<'_>) -> u8 {
+    match report_on(rt, check) {
+        Ok(report) => printed(rt, report.text.as_slice(), report.status),
+        Err(error) if error.kind() == ErrorKind::OutOfMemory => {
+            printed(rt, b"smd: no memory\n", 10)
+        }
+        Err(error) => {
+            let _ = eprintln!(rt; "smd: cannot use {}: {error}", check.store);
+            printed(rt, b"smd: disk fault\n", 4)
+        }
+    }
+}

@@ -1,0 +1,149 @@
+#!/usr/bin/env python3
+"""Reads a store by docs/formats.md, by itself, and prints what `smd store-check --json` should print of it:
+    peers/stored.py STORE
+The epoch, the programs that a login starts, the entries and the pending commands."""
+import json
+import struct
+import sys
+
+SLOT = 8388608
+HEAD = 16
+OPEN = 0xA5
+HINTS = ["IfRunning", "Anyway", "Immediately", "Never"]
+
+
+class Reader:
+    """The parts of a book, one after the other."""
+
+    def __init__(self, bytes_, at=0):
+        self.bytes, self.at = bytes_, at
+
+    def take(self, count):
+        part = self.bytes[self.at : self.at + count]
+        self.at += count
+        return part
+
+    def number(self):
+        return struct.unpack("<I", self.take(4))[0]
+
+    def text(self):
+        count = self.number()
+        part = self.take(count)
+        self.take(-(count + 4) % 8)
+        return part
+
+    def many(self, item):
+        count = self.number()
+        self.take(4)
+        return [item() for _ in range(count)]
+
+    def texts(self):
+        return self.many(self.text)
+
+    def property(self):
+        return self.text(), self.text(), self.texts()
+
+    def entry(self):
+        return self.text(), self.many(self.property)
+
+    def command(self):
+        return self.texts(), self.text(), self.texts()
+
+
+def read_book(reader):
+    _, epoch, entries, pending = (reader.number() for _ in range(4))
+    return epoch, [reader.entry() for _ in range(entries)], [reader.command() for _ in range(pending)]
+
+
+def amend(book, reader, end):
+    """Does the changes of one amendment."""
+    epoch, entries, pending = book
+    while reader.at < end:
+        code, number = reader.number(), reader.number()
+        if code == 1:
+            epoch = number
+        elif code == 2:
+            gone = reader.text()
+            entries = [entry for entry in entries if entry[0] != gone]
+        elif code == 3:
+            new = reader.entry()
+            ids = [entry[0] for entry in entries]
+            if new[0] in ids:
+                entries[ids.index(new[0])] = new
+            else:
+                entries.append(new)
+        elif code == 4:
+            del pending[number]
+        else:
+            pending.append(reader.command())
+    return epoch, entries, pending
+
+
+def book_of(file):
+    starts = [start for gate, start in ((0, 64), (32, 64 + SLOT)) if file[gate] == OPEN]
+    if not starts:
+        return 0, [], []
+    start = max(starts, key=lambda at: struct.unpack_from("<Q", file, at))
+    slot = file[start : start + SLOT]
+    count = struct.unpack_from("<I", slot, 8)[0]
+    book = read_book(Reader(slot, HEAD))
+    at = HEAD + count
+    while at + 8 <= SLOT and slot[at] == OPEN:
+        end = at + 8 + struct.unpack_from("<I", slot, at + 4)[0]
+        book = amend(book, Reader(slot, at + 8), end)
+        at = end
+    return book
+
+
+def shown(bytes_):
+    try:
+        return bytes_.decode()
+    except UnicodeDecodeError:
+        return list(bytes_)
+
+
+def command_shown(command):
+    words, directory, environment = command
+    pairs = zip(environment[::2], environment[1::2])
+    return {
+        "words": [shown(word) for word in words],
+        "directory": shown(directory),
+        "environment": [[shown(name), shown(value)] for name, value in pairs],
+    }
+
+
+def entry_shown(entry):
+    id_, properties = entry
+    of = {(name, kind): values for name, kind, values in properties}
+    one = lambda name: next(iter(of.get((name, b"ARRAY8"), [])), None)
+    hint = of.get((b"RestartStyleHint", b"CARD8"), [b"\0"])[0][0]
+    words = of.get((b"RestartCommand", b"LISTofARRAY8"))
+    restart = words and (words, one(b"CurrentDirectory") or b"", of.get((b"Environment", b"LISTofARRAY8"), []))
+    program = one(b"Program")
+    return {
+        "id": shown(id_),
+        "program": None if program is None else shown(program),
+        "hint": HINTS[hint],
+        "restart": command_shown(restart) if restart else None,
+        "properties": [
+            {"name": shown(name), "kind": shown(kind), "values": [shown(value) for value in values]}
+            for name, kind, values in properties
+        ],
+    }
+
+
+def main():
+    with open(sys.argv[1], "rb") as store:
+        epoch, entries, pending = book_of(store.read())
+    entries = [entry_shown(entry) for entry in entries]
+    found = {
+        "epoch": epoch,
+        "starts": sum(1 for entry in entries if entry["restart"] and entry["hint"] != "Never"),
+        "entries": entries,
+        "pending": [command_shown(command) for command in pending],
+    }
+    json.dump(found, sys.stdout, indent=2, ensure_ascii=False)
+    print()
+
+
+main()
