@@ -1,11 +1,9 @@
 #!/usr/bin/env python3
 """Measures what a relayed Ping costs: the instructions that `smrelay serve` takes to pass one on, against those that `smd serve` takes
-to answer one. It fails where they are more than three times as many.
+to answer one. It fails where they are more than three times as many. valgrind's callgrind counts them, without what the kernel does.
 Usage: bench/relay.py [SMD SMRELAY]. Without programs, those which `tools/build` builds.
 """
 import os
-import signal
-import subprocess
 import sys
 import tempfile
 
@@ -15,72 +13,64 @@ sys.path.insert(0, os.path.join(TOP, "peers"))
 from manager import Manager  # noqa: E402
 from relayed import PING, Relay, read  # noqa: E402
 
-PINGS = 200
+FEW = 1000
+MANY = 3000
 MOST = 3
 
 
-class Steps:
-    """Counts the instructions of a process."""
-
-    def __init__(self, program, process):
-        self.process = subprocess.Popen([program, str(process)], stdout=subprocess.PIPE, text=True)
-        self.process.stdout.readline()
-
-    def count(self):
-        self.process.send_signal(signal.SIGUSR1)
-        return int(self.process.stdout.readline())
-
-    def end(self):
-        self.process.kill()
-        self.process.wait()
+def counted(program, room):
+    """The words that run a program and have its instructions counted."""
+    return ["valgrind", "-q", "--tool=callgrind", "--callgrind-out-file=%s/counted" % room, program]
 
 
-def each_costs(steps, process, ping):
-    """The instructions of a process for each of many pings."""
-    ping()
-    steps = Steps(steps, process)
-    try:
-        ping()
-        before = steps.count()
-        for _ in range(PINGS):
-            ping()
-        return (steps.count() - before) / PINGS
-    finally:
-        steps.end()
+def ended(process, room):
+    """Ends a process, and gives back how many instructions it took."""
+    process.terminate()
+    process.wait()
+    with open(os.path.join(room, "counted")) as file:
+        return next(int(line.split()[1]) for line in file if line.startswith("totals:"))
 
 
-def answered(steps, smd, room):
-    manager = Manager(smd, room)
+class Counted(Manager):
+    def words(self):
+        return counted(self.smd, os.path.dirname(self.socket))
+
+
+def answered(smd, room, count):
+    """The instructions of an smd that answers so many pings."""
+    manager = Counted(smd, room)
     manager.start()
-    try:
-        client = manager.saved()[0]
-        return each_costs(steps, manager.process.pid, client.ping)
-    finally:
-        manager.kill()
+    client = manager.saved()[0]
+    for _ in range(count):
+        client.ping()
+    return ended(manager.process, room)
 
 
-def relayed(steps, smrelay, room):
-    relay = Relay(smrelay, room)
-    try:
-        relay.play_manager()
-        client, manager = relay.pair()
+def relayed(smrelay, room, count):
+    """The instructions of a relay that passes so many pings on."""
+    relay = Relay(counted(smrelay, room), room)
+    relay.play_manager()
+    client, manager = relay.pair()
+    for _ in range(count):
+        client.sendall(PING)
+        if read(manager, 8) != PING:
+            raise ValueError("no ping")
+    return ended(relay.process, room)
 
-        def ping():
-            client.sendall(PING)
-            assert read(manager, 8) == PING
 
-        return each_costs(steps, relay.process.pid, ping)
-    finally:
-        relay.process.kill()
+def each_costs(run, program):
+    """The instructions for each ping, without what a run takes beside them."""
+    counts = []
+    for count in (FEW, MANY):
+        with tempfile.TemporaryDirectory() as room:
+            counts.append(run(program, room, count))
+    return (counts[1] - counts[0]) / (MANY - FEW)
 
 
 def main():
     built = [os.path.join(TOP, "crates", name, "out", name) for name in ("smd", "smrelay")]
     smd, smrelay = sys.argv[1:] or built
-    with tempfile.TemporaryDirectory() as room:
-        steps = os.path.join(room, "steps")
-        subprocess.run(["gcc", "-Wall", "-Wextra", "-Werror", "-O2", "-o", steps, os.path.join(TOP, "bench", "steps.c")], check=True)
-        one, other = answered(steps, smd, room), relayed(steps, smrelay, room)
+    one, other = each_costs(answered, smd), each_costs(relayed, smrelay)
     print("%.0f instructions for a Ping that smd answers, %.0f for one that is relayed: %.2f times as many" % (one, other, other / one))
     return 1 if other > MOST * one else 0
 

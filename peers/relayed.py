@@ -45,10 +45,18 @@ def is_ended(stream):
 
 class Relay:
     def __init__(self, program, room, order="msb"):
+        """Starts a relay by these words and those of its own."""
         self.socket, self.to = os.path.join(room, "relay"), os.path.join(room, "manager")
         words = ["--socket", self.socket, "--to", self.to, "--order", order]
-        self.process = subprocess.Popen([program, "serve", *words], stdin=subprocess.DEVNULL)
-        until(lambda: os.path.exists(self.socket))
+        self.process = subprocess.Popen([*program, "serve", *words], stdin=subprocess.DEVNULL)
+        until(self.listens)
+
+    def listens(self):
+        """Whether somebody can come. No manager is there yet, so whoever comes now is dropped."""
+        try:
+            return is_ended(self.client())
+        except (FileNotFoundError, ConnectionRefusedError):
+            return False
 
     def play_manager(self):
         self.door = socket.socket(socket.AF_UNIX)
@@ -134,31 +142,33 @@ def test_crowd(relay):
     is_ended(relay.door.accept()[0])
     for pair in pairs:
         relay.expect_passed(*pair)
-    pairs.pop()[0].close()
-    time.sleep(1)
+    client, manager = pairs.pop()
+    client.close()
+    is_ended(manager)
     pairs.append(relay.pair())
     for pair in pairs:
         relay.expect_passed(*pair)
 
 
 def test_flood(relay):
-    """A side for which more than a mebibyte would wait is dropped with its pair, and others go on."""
+    """A side for which more than a mebibyte would wait is dropped with its pair, in both directions, and others go on."""
     relay.play_manager()
     others = relay.pair()
-    client, manager = relay.pair()
-    try:
-        for _ in range(64):
-            client.sendall(PING * (MEBIBYTE // 64))
-    except (BrokenPipeError, ConnectionResetError):
-        pass
-    is_ended(client)
-    relay.expect_passed(*others)
-    # What the relay had handed to the system before may still be read.
-    is_ended(manager)
+    for writer in (0, 1):
+        pair = relay.pair()
+        try:
+            for _ in range(64):
+                pair[writer].sendall(PING * (MEBIBYTE // 64))
+        except (BrokenPipeError, ConnectionResetError):
+            pass
+        is_ended(pair[writer])
+        relay.expect_passed(*others)
+        # What the relay had handed to the system before may still be read.
+        is_ended(pair[1 - writer])
 
 
 def main(program, room, name):
-    relay = Relay(program, room)
+    relay = Relay([program], room)
     try:
         globals()["test_" + name](relay)
         relay.expect_alive()
