@@ -54,7 +54,7 @@ relays() {
   check "a socket that a relay has is refused" relay_refuses "$at/lsb" "$at/socket"
   check "a relay to itself is refused" relay_refuses "$at/itself" "$at/itself"
   check "nothing is left of it" test ! -e "$at/itself"
-  relayed refused "a client is dropped where the manager isn't there, and the relay goes on"
+  relayed away "a client is dropped where the manager isn't there, and the relay goes on"
   relayed doors "a relay's socket is the user's alone, and has an abstract name"
   relayed ends "the end of one of a pair is that of the other"
   relayed bytes "a relay passes on what comes a byte at a time"

@@ -92,7 +92,7 @@ class Relay:
             raise ValueError("smrelay ended with %d" % self.process.returncode)
 
 
-def test_refused(relay):
+def test_away(relay):
     """Nobody listens at the manager's socket: each who comes is dropped, and the relay goes on."""
     for _ in range(3):
         is_ended(relay.client())
