@@ -12,7 +12,8 @@ let_in() {
   local cookie protocol
   cookie=$(iceauth -f "$at/authority" list netid="local/$HOSTNAME:$at/socket" | awk '$1 == "ICE" { print $5 }')
   for protocol in ICE XSMP; do
-    iceauth -q -f "$at/$1.authority" add "$protocol" '' "local/$HOSTNAME:$at/$1" MIT-MAGIC-COOKIE-1 "$cookie" || return 1
+    iceauth -q -f "$at/$1.authority" add "$protocol" '' "local/$HOSTNAME:$at/$1" MIT-MAGIC-COOKIE-1 "$cookie" \
+      2>> "$at/said" || return 1
   done
 }
 
