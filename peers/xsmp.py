@@ -1,8 +1,11 @@
-"""A raw client of XSMP over a Unix socket: every byte that it sends is spelled here."""
+"""A raw client of XSMP over a Unix socket: every byte that it sends is spelled here.
+
+It writes its numbers, and wants the manager's, in the order ORDER: least significant byte first, unless a test sets another."""
 import os
 import socket
 import struct
 
+ORDER = "<"
 COOKIE_METHOD = b"MIT-MAGIC-COOKIE-1"
 OPCODE = 1
 (ERROR, REGISTER, REGISTERED, SAVE, REQUEST, ASK_TALK, TALK, TALKED, SAVED, DIE, CANCELLED, CLOSED, SET, DELETE,
@@ -10,30 +13,38 @@ OPCODE = 1
 BYTE_ORDER, SETUP, REQUIRED, REPLY, NEXT, CONNECTED, PROTOCOL, PROTOCOL_REPLY, PING, PONG = range(1, 11)
 
 
+def pack(form, *numbers):
+    return struct.pack(ORDER + form, *numbers)
+
+
+def number(form, data, at=0):
+    return struct.unpack_from(ORDER + form, data, at)[0]
+
+
 def padded(data, unit):
     return data + bytes(-len(data) % unit)
 
 
 def string(data):
-    return padded(struct.pack("<H", len(data)) + data, 4)
+    return padded(pack("H", len(data)) + data, 4)
 
 
 def array8(data):
-    return padded(struct.pack("<I", len(data)) + data, 8)
+    return padded(pack("I", len(data)) + data, 8)
 
 
 def many(items):
     """A list with its count: of ARRAY8s, or of properties."""
-    return struct.pack("<II", len(items), 0) + b"".join(items)
+    return pack("II", len(items), 0) + b"".join(items)
 
 
 def message(major, minor, body=b"", second=0, third=0):
     body = padded(body, 8)
-    return struct.pack("<BBBBI", major, minor, second, third, len(body) // 8) + body
+    return pack("BBBBI", major, minor, second, third, len(body) // 8) + body
 
 
 def read_array8(data, at=0):
-    length = struct.unpack_from("<I", data, at)[0]
+    length = number("I", data, at)
     return data[at + 4 : at + 4 + length], at + (4 + length + 7) // 8 * 8
 
 
@@ -79,7 +90,7 @@ class Client:
     def next(self):
         """The next message: its major and minor opcode, its header and its body."""
         head = self.bytes(8)
-        return head[0], head[1], head, self.bytes(8 * struct.unpack_from("<I", head, 4)[0])
+        return head[0], head[1], head, self.bytes(8 * number("I", head, 4))
 
     def expect(self, minor, major=OPCODE):
         found = self.next()
@@ -87,11 +98,17 @@ class Client:
             raise ValueError("expected %d, got %r" % (minor, found))
         return found[3]
 
+    def expect_order(self):
+        found = self.next()
+        if found[2] != order():
+            raise ValueError("expected the order, got %r" % (found,))
+
     def set_up(self, cookie):
         """The set-up of ICE and of XSMP, both with the cookie."""
         for part in set_up_parts(cookie):
             self.send(part)
-        for minor in (BYTE_ORDER, REQUIRED, CONNECTED, REQUIRED, PROTOCOL_REPLY):
+        self.expect_order()
+        for minor in (REQUIRED, CONNECTED, REQUIRED, PROTOCOL_REPLY):
             self.expect(minor, 0)
 
     def register(self, previous=b""):
@@ -118,12 +135,16 @@ class Client:
         self.socket.close()
 
 
+def order():
+    return message(0, BYTE_ORDER, second=int(ORDER == ">"))
+
+
 def set_up_parts(cookie):
-    names = string(COOKIE_METHOD) + struct.pack("<HH", 1, 0)
+    names = string(COOKIE_METHOD) + pack("HH", 1, 0)
     who = string(b"peer") + string(b"1.0")
-    proof = message(0, REPLY, struct.pack("<H", len(cookie)) + bytes(6) + cookie)
+    proof = message(0, REPLY, pack("H", len(cookie)) + bytes(6) + cookie)
     return [
-        message(0, BYTE_ORDER),
+        order(),
         message(0, SETUP, bytes(8) + who + names, 1, 1),
         proof,
         message(0, PROTOCOL, bytes([1, 1]) + bytes(6) + string(b"XSMP") + who + names, OPCODE),
@@ -133,10 +154,10 @@ def set_up_parts(cookie):
 
 def read_properties(body):
     found, at = {}, 8
-    for _ in range(struct.unpack_from("<I", body)[0]):
+    for _ in range(number("I", body)):
         name, at = read_array8(body, at)
         _, at = read_array8(body, at)
-        values, count = [], struct.unpack_from("<I", body, at)[0]
+        values, count = [], number("I", body, at)
         at += 8
         for _ in range(count):
             value, at = read_array8(body, at)

@@ -5,3 +5,5 @@
 mod frames;
 #[cfg(test)]
 mod pairs;
+#[cfg(test)]
+mod program;

@@ -55,7 +55,7 @@ fn make_way<R: Files + Net>(rt: &R, path: &str) -> io::Result<()> {
 }
 
 /// Listens at a path, to which nobody but the owner can connect.
-fn private_listener<R: Files + Net>(rt: &R, path: &str) -> io::Result<UnixListener> {
+pub fn private_listener<R: Files + Net>(rt: &R, path: &str) -> io::Result<UnixListener> {
     let addr = SocketAddr::from_pathname(path)?;
     make_way(rt, path)?;
     let socket = rt.unix_socket()?;
@@ -66,7 +66,7 @@ fn private_listener<R: Files + Net>(rt: &R, path: &str) -> io::Result<UnixListen
 
 /// Listens at a name of Linux's abstract namespace, which has no permissions. The name is free again
 /// as soon as its process has ended.
-fn abstract_listener<R: Files + Net>(rt: &R, name: &str) -> io::Result<UnixListener> {
+pub fn abstract_listener<R: Files + Net>(rt: &R, name: &str) -> io::Result<UnixListener> {
     listening(
         rt,
         rt.unix_socket()?,

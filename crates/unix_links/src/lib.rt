@@ -14,5 +14,10 @@ mod reading;
 mod sockets;
 mod sources;
 
+pub use client::Client;
+pub use doors::{abstract_listener, private_listener};
+pub use leavers::Leavers;
 pub use links::SocketLinks;
 pub use paths::{control_fault, path_fault};
+pub use reading::{Reading, is_passing, refused, would_wait};
+pub use sources::Source;

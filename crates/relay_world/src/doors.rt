@@ -1,0 +1,60 @@
+use mio::net::{UnixListener, UnixStream};
+use mio::{Interest, Registry};
+use std::fs::Files;
+use std::net::Net;
+use std::os::unix::fs::MetadataExt;
+use std::{fs, io};
+use unix_links::{Source, abstract_listener, private_listener};
+
+/// The sockets at which clients come in.
+#[derive(Drop)]
+pub struct Doors {
+    clients: UnixListener,
+    hidden: UnixListener,
+    path: String,
+}
+
+impl Doors {
+    /// Opens both doors. The abstract name comes first: a living relay holds it, so a second one ends
+    /// here and doesn't touch the first one's file.
+    pub fn open(rt: HostRuntime, socket: &str) -> io::Result<Doors> {
+        let path = socket.to_string(rt.alloc())?;
+        let hidden = abstract_listener(&rt, socket)?;
+        let clients = private_listener(&rt, socket)?;
+        Ok(Doors {
+            clients,
+            hidden,
+            path,
+        })
+    }
+
+    /// Has the system tell when somebody comes.
+    pub fn watch(&mut self, registry: &Registry) -> io::Result<()> {
+        let readable = Interest::READABLE;
+        registry.register(&mut self.clients, Source::Clients.token(), readable)?;
+        registry.register(&mut self.hidden, Source::Hidden.token(), readable)
+    }
+
+    /// The next client at the door with a path.
+    pub fn next_client(&self) -> io::Result<UnixStream> {
+        Ok(self.clients.accept()?.0)
+    }
+
+    /// The next client at the door with an abstract name.
+    pub fn next_hidden(&self) -> io::Result<UnixStream> {
+        Ok(self.hidden.accept()?.0)
+    }
+
+    /// Whether a path leads back to this door.
+    pub fn is_at(&self, rt: &impl Files, path: &str) -> bool {
+        match (fs::metadata(rt, self.path.as_str()), fs::metadata(rt, path)) {
+            (Ok(own), Ok(other)) => own.dev() == other.dev() && own.ino() == other.ino(),
+            _ => false,
+        }
+    }
+
+    /// Removes the file.
+    pub fn remove_file(&self, rt: &impl Files) {
+        let _ = fs::remove_file(rt, self.path.as_str());
+    }
+}

@@ -1,0 +1,163 @@
+ghost use Rattle.std.specs.Prelude.{IfOk, IfSome};
+ghost use Rattle.sm_world.specs.Events.{HasPieceSize};
+
+use crate::news::News;
+use mio::Registry;
+use mio::net::UnixStream;
+use sm_world::{Conn, Event, NoMemory, Octets, PIECE_LIMIT};
+use std::alloc::{AllocError, Global};
+use std::collections::{BTreeMap, VecDeque};
+use std::io::Read;
+use unix_links::{Client, Leavers, Reading, is_passing, would_wait};
+
+/// The connections of a relay, by their numbers: 2k - 1 is that of a client, and 2k leads it on.
+#[derive(Drop)]
+pub struct Streams {
+    alloc: Global,
+    open: BTreeMap<Conn, Client>,
+    /// The number that was given last, which is even. None is given twice.
+    last: Conn,
+    /// Who came and who was dropped, which is told next.
+    news: VecDeque<News>,
+    leaving: Leavers,
+    /// Room for one read.
+    piece: Vec<u8>,
+}
+
+impl Streams {
+    pub fn new(alloc: Global) -> Result<Streams, AllocError> {
+        Ok(Streams {
+            alloc,
+            open: BTreeMap::new(alloc),
+            last: 0,
+            news: VecDeque::new(alloc),
+            leaving: Leavers::new(alloc),
+            piece: vec![in alloc; 0u8; PIECE_LIMIT]?,
+        })
+    }
+
+    /// Takes in a client and the connection that leads it on, and gives them the next two numbers.
+    /// Where there are none left, or the system can't watch both, both are closed.
+    pub fn add(
+        &mut self,
+        registry: &Registry,
+        near: UnixStream,
+        far: UnixStream,
+    ) -> Result<(), NoMemory> {
+        let Some(second) = self.last.checked_add(2) else {
+            return Ok(());
+        };
+        let first = second - 1;
+        let Some(near) = Client::new(self.alloc, registry, first, near) else {
+            return Ok(());
+        };
+        let Some(far) = Client::new(self.alloc, registry, second, far) else {
+            return Ok(());
+        };
+        self.last = second;
+        self.open.insert(first, near)?;
+        self.open.insert(second, far)?;
+        self.news.push_back(News::Came(first))?;
+        self.news.push_back(News::Came(second))?;
+        Ok(())
+    }
+
+    /// Notes what the system told of a connection besides that it can be read.
+    pub fn told(
+        &mut self,
+        registry: &Registry,
+        conn: Conn,
+        ends: bool,
+        takes: bool,
+    ) -> Result<(), NoMemory> {
+        let Some(client) = self.open.get_mut(&conn) else {
+            self.leaving.told(registry, conn, ends, takes);
+            return Ok(());
+        };
+        client.ends = client.ends || ends;
+        if takes && !client.flush(registry, conn) {
+            return self.lose(conn);
+        }
+        Ok(())
+    }
+
+    /// Reads once from a connection.
+    pub fn read(&mut self, conn: Conn) -> Result<Reading, NoMemory>
+        ensures size { IfOk result (λ reading. IfSome reading.event HasPieceSize) }
+    {
+        let Some(client) = self.open.get_mut(&conn) else {
+            return Ok(self.leaving.read(conn, self.piece.as_mut_slice()));
+        };
+        match client.stream.read(self.piece.as_mut_slice()) {
+            Ok(count) if 0 < count && count <= PIECE_LIMIT => {
+                // A read that doesn't fill its room took all that there was.
+                let more = client.ends || count == PIECE_LIMIT;
+                let bytes = Octets::from_slice(self.alloc, &self.piece[..count])?;
+                Ok(Reading {
+                    event: Some(Event::Piece(conn, bytes)),
+                    more,
+                })
+            }
+            Err(error) if would_wait(&error) => Ok(Reading::nothing()),
+            Err(error) if is_passing(&error) => Ok(Reading::later()),
+            _ => {
+                let _ = self.open.remove(&conn);
+                Ok(Reading {
+                    event: Some(Event::Gone(conn)),
+                    more: false,
+                })
+            }
+        }
+    }
+
+    /// Sends bytes on a connection. One for which too many wait is dropped.
+    pub fn send(&mut self, registry: &Registry, to: Conn, bytes: &[u8]) -> Result<(), NoMemory> {
+        let Some(client) = self.open.get_mut(&to) else {
+            return Ok(());
+        };
+        if client.send(registry, to, bytes)? {
+            Ok(())
+        } else {
+            self.lose(to)
+        }
+    }
+
+    /// Closes a connection gently. What was sent on it still reaches the peer.
+    pub fn shut(&mut self, registry: &Registry, conn: Conn) {
+        if let Some(client) = self.open.remove(&conn) {
+            self.leaving.add(registry, conn, client);
+        }
+    }
+
+    /// Drops a connection, which is to be told as gone.
+    fn lose(&mut self, conn: Conn) -> Result<(), NoMemory> {
+        self.news.push_back(News::Went(conn))?;
+        let _ = self.open.remove(&conn);
+        Ok(())
+    }
+
+    /// Closes those that were shut and whose time is over after so many milliseconds.
+    pub fn pass(&mut self, milliseconds: u64) {
+        self.leaving.pass(milliseconds);
+    }
+
+    /// Whether connections that were shut aren't closed yet.
+    pub fn has_leavers(&self) -> bool {
+        !self.leaving.is_empty()
+    }
+
+    /// Who came or was dropped and isn't told yet.
+    pub fn next_news(&mut self) -> Option<Event>
+        ensures { IfSome result HasPieceSize }
+    {
+        match self.news.pop_front() {
+            Some(news) => Some(news.event()),
+            None => None,
+        }
+    }
+
+    /// Whether something isn't told yet.
+    pub fn has_news(&self) -> bool {
+        !self.news.is_empty()
+    }
+}

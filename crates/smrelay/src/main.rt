@@ -1,0 +1,37 @@
+//! `smrelay`, a relay between byte orders.
+#![tactic(auto)]
+
+use program_frame::{OwnTexts, StandardConsole, read_words};
+use relay_world::RelayWorld;
+use smrelay_app::smrelay_main;
+use std::process::ExitCode;
+
+const TEXTS: OwnTexts = OwnTexts {
+    help: "smrelay, a relay between byte orders\n\n\
+        usage: smrelay serve --socket P --to Q --order lsb|msb\n\
+        \x20                               leads those who come at P to the manager at Q\n\
+        \x20      smrelay rehearse lsb|msb < SCRIPT\n\
+        \x20                               shows what smrelay does at the events of a script\n\
+        \x20      smrelay --help           shows this\n\
+        \x20      smrelay --version        shows the version\n",
+    version: "smrelay 0.1.0\n",
+    no_memory: "smrelay: no memory\n",
+};
+
+/// The status of a run with these words.
+fn run(rt: HostRuntime, words: &[String]) -> u8 {
+    let mut world = RelayWorld::new(rt);
+    let status = smrelay_main(rt.alloc(), words, &mut world, u64::MAX);
+    world.close();
+    status
+}
+
+fn main(rt: HostRuntime) -> ExitCode {
+    let words = read_words(&rt);
+    let mut console = StandardConsole::new(rt);
+    let status = match TEXTS.begin(words, &mut console) {
+        Ok(words) => run(rt, words.as_slice()),
+        Err(status) => status,
+    };
+    ExitCode::from(status)
+}
