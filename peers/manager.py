@@ -10,12 +10,14 @@ import xsmp
 class Manager:
     made = []
 
-    def __init__(self, smd, room):
+    def __init__(self, smd, room, options=()):
         self.made.append(self)
-        self.smd, self.process = smd, None
+        self.smd, self.options, self.process = smd, options, None
         self.socket, self.control, self.store, self.authority = [
             os.path.join(room, name) for name in ("socket", "control", "store", "authority")
         ]
+        # Its standard error, where it is kept.
+        self.said = os.path.join(room, "said") if options else None
 
     def words(self):
         """The words that start smd."""
@@ -25,9 +27,10 @@ class Manager:
         """Starts smd and doesn't wait for anything."""
         paths = ["--socket", self.socket, "--control", self.control, "--store", self.store, "--authority", self.authority]
         self.process = subprocess.Popen(
-            [*self.words(), "serve", *paths],
+            [*self.words(), "serve", *self.options, *paths],
             stdin=subprocess.DEVNULL,
             stdout=subprocess.PIPE,
+            stderr=open(self.said, "a") if self.said else None,
             env={**os.environ, "HOSTNAME": os.uname().nodename},
         )
 

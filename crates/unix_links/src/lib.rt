@@ -7,7 +7,9 @@ mod clients;
 mod doors;
 mod leavers;
 mod links;
+mod news;
 mod operators;
+mod options;
 mod outbox;
 mod paths;
 mod reading;
@@ -15,4 +17,5 @@ mod sockets;
 mod sources;
 
 pub use links::SocketLinks;
+pub use options::LinkOptions;
 pub use paths::{control_fault, path_fault};
