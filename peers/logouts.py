@@ -1,29 +1,100 @@
 #!/usr/bin/env python3
-"""Logouts in which a program doesn't close when it is told to die:
-    logouts.py SMD FOLDER TEST
-Each test runs a manager of its own in the folder, with --last-wait 3000. It ends with 0 where all was as it has
-to be: the logout comes to its end, the program is named on standard error, and at the next login whoever has
-saved is started again.
+"""Logouts of smd-session in which programs don't close when they are told to die, or say nothing:
+    logouts.py BIN FOLDER WINDOW TEST
+BIN is a folder with smd-session, smd and smctl, and WINDOW a program on Qt 6. Each test runs a session of its own
+in the folder. It ends with 0 where smd-session ends within fifteen seconds of the agreed logout, and at the next
+login whoever has saved with success is started again.
 """
 import multiprocessing
 import os
 import signal
+import subprocess
 import sys
 import time
 
 import xsmp
 from manager import Manager
 
-WAIT = 3.0
+# How long smd-session waits for those who were told to die, and what its end may take besides.
+WAIT = 10.0
+MOST = 15.0
+# The patience of a session in which somebody is stopped before the logout.
+PATIENCE = 3.0
 
 
 def say(*words):
     print("  ", *words, flush=True)
 
 
-def words_of(manager, name):
-    """The words of a program that leaves a file with its name."""
-    return [b"touch", os.fsencode(os.path.join(os.path.dirname(manager.store), name))]
+class Session(Manager):
+    """A session by smd-session."""
+
+    def __init__(self, programs, room, **settings):
+        self.settings = settings
+        folders = {name: os.path.join(room, name.lower()) for name in ("XDG_STATE_HOME", "XDG_RUNTIME_DIR", "XDG_CONFIG_HOME")}
+        self.folders, self.room = folders, room
+        runtime = os.path.join(folders["XDG_RUNTIME_DIR"], "smd")
+        super().__init__(os.path.join(programs, "smd-session"), runtime, ["any"])
+        self.said = os.path.join(room, "said")
+        self.store = os.path.join(folders["XDG_STATE_HOME"], "smd", "store")
+        # No program is started at a first login.
+        os.makedirs(os.path.join(folders["XDG_CONFIG_HOME"], "smd"))
+        open(os.path.join(folders["XDG_CONFIG_HOME"], "smd", "session"), "w").close()
+
+    def begin(self):
+        self.process = subprocess.Popen(
+            [self.smd], stdin=subprocess.DEVNULL, stdout=subprocess.DEVNULL, stderr=open(self.said, "a"),
+            env={**os.environ, **self.folders, **self.settings},
+        )
+
+    def start(self, seconds=30):
+        """Gives back once smd answers."""
+        self.begin()
+        until = time.monotonic() + seconds
+        while True:
+            try:
+                return self.order("status")
+            except OSError:
+                if time.monotonic() > until:
+                    raise
+                time.sleep(0.05)
+
+    def words_of(self, name):
+        """The words of a program that leaves a file with its name."""
+        return [b"touch", os.fsencode(os.path.join(self.room, name))]
+
+    def end(self, began, least):
+        """Waits for the end of the session, and sees that it took as long as it may."""
+        status, took = self.process.wait(60), time.monotonic() - began
+        if status or not least - 0.1 <= took <= MOST:
+            raise ValueError("the session ended with %d, %.1f seconds after the logout was agreed" % (status, took))
+        say("the session ended %.1f seconds after the logout was agreed" % took)
+
+    def has_said(self, text):
+        with open(self.said, encoding="utf-8") as said:
+            return text in said.read()
+
+    def names(self, program):
+        """Sees that standard error names the program that was closed."""
+        if not self.has_said("smd: %s was told to die" % program):
+            raise ValueError("the program isn't named")
+
+    def comes_back(self, names):
+        """The next login starts these programs again, and no others."""
+        files = [os.fsdecode(self.words_of(name)[1]) for name in names]
+        if any(map(os.path.exists, files)):
+            raise ValueError("a program was started before")
+        self.start()
+        within(60, lambda: all(map(os.path.exists, files)), "not all are started again")
+        self.shutdown()
+
+
+def within(seconds, is_so, otherwise):
+    until = time.monotonic() + seconds
+    while not is_so():
+        if time.monotonic() > until:
+            raise ValueError(otherwise)
+        time.sleep(0.05)
 
 
 def save_once(client, words):
@@ -31,110 +102,159 @@ def save_once(client, words):
     xsmp.save(client, words)
 
 
-def member(manager, name):
+def member(session, name):
     """A client that has joined and saved."""
-    client, _ = manager.join()
-    save_once(client, words_of(manager, name))
+    client, _ = session.join()
+    save_once(client, session.words_of(name))
     client.expect(xsmp.COMPLETE)
     return client
 
 
-def end(manager, began, least=WAIT, most=WAIT + 2):
-    """Waits for the end of the logout, and sees that it took as long as it may."""
-    status, took = manager.process.wait(60), time.monotonic() - began
-    if status or not least - 0.1 <= took <= most:
-        raise ValueError("the logout ended with %d after %.1f seconds" % (status, took))
-    say("the logout took %.1f seconds" % took)
+def leave(client):
+    """Waits until the client is told to die, closes it then, and tells when."""
+    client.expect(xsmp.DIE)
+    told = time.monotonic()
+    client.close()
+    return told
 
 
-def comes_back(manager, names):
-    """The next login starts the programs again."""
-    manager.start()
-    files = [os.fsdecode(words_of(manager, name)[1]) for name in names]
-    until = time.monotonic() + 60
-    while not all(map(os.path.exists, files)):
-        if time.monotonic() > until:
-            raise ValueError("not all are started again")
-        time.sleep(0.05)
-    manager.shutdown()
-
-
-def is_named(manager, program):
-    """Whether standard error names the program that was closed."""
-    with open(manager.said, encoding="utf-8") as said:
-        return ("smd: %s was told to die" % program) in said.read()
-
-
-def ignored(manager):
+def ignored(session, _):
     """Of three clients one ignores Die, and stays connected."""
-    clients = [member(manager, name) for name in ("first", "second", "third")]
-    manager.expect("shutdown", "ok")
-    for client, name in zip(clients, ("first", "second", "third")):
-        save_once(client, words_of(manager, name))
-    began = time.monotonic()
-    for client in clients:
-        client.expect(xsmp.DIE)
-    for client in clients[1:]:
-        client.close()
-    end(manager, began)
-    if not is_named(manager, "touch"):
-        raise ValueError("the program isn't named")
-    comes_back(manager, ("first", "second", "third"))
+    names = ("first", "second", "third")
+    clients = [member(session, name) for name in names]
+    session.expect("shutdown", "ok")
+    for client, name in zip(clients, names):
+        save_once(client, session.words_of(name))
+    clients[0].expect(xsmp.DIE)
+    told = [leave(client) for client in clients[1:]]
+    session.end(told[0], WAIT)
+    session.names("touch")
+    session.comes_back(names)
 
 
-def stay(path, authority, words, joined):
-    """A client that saves twice, and is stopped then."""
-    client, _ = xsmp.joined(path, authority)
-    save_once(client, words)
-    client.expect(xsmp.COMPLETE)
-    joined.set()
-    save_once(client, words)
+def stop(socket, authority, words, saves, joined):
+    """A client that saves so often, and is stopped then."""
+    client, _ = xsmp.joined(socket, authority)
+    for at in range(saves):
+        if at > 0:
+            client.expect(xsmp.COMPLETE)
+            joined.set()
+        save_once(client, words)
+    if saves == 1:
+        client.expect(xsmp.COMPLETE)
+        joined.set()
     os.kill(os.getpid(), signal.SIGSTOP)
 
 
-def stopped(manager):
-    """Of two clients one is stopped once it has saved, and reads nothing any more."""
-    other, joined = member(manager, "other"), multiprocessing.Event()
-    words = words_of(manager, "stopped")
-    process = multiprocessing.Process(target=stay, args=(manager.socket, manager.authority, words, joined))
+def is_stopped(process):
+    with open("/proc/%d/stat" % process.pid) as file:
+        return file.read().rsplit(")", 1)[1].split()[0] == "T"
+
+
+def stopped(session, saves, run):
+    """Beside another client there is one that is stopped once it has saved so often."""
+    other, joined = member(session, "other"), multiprocessing.Event()
+    words = session.words_of("stopped")
+    process = multiprocessing.Process(target=stop, args=(session.socket, session.authority, words, saves, joined))
     process.start()
     try:
         if not joined.wait(20):
             raise TimeoutError("the client doesn't join")
-        manager.expect("shutdown", "ok")
-        save_once(other, words_of(manager, "other"))
-        other.expect(xsmp.DIE)
-        began = time.monotonic()
-        other.close()
-        end(manager, began)
+        run(other, process)
     finally:
         process.kill()
         process.join()
-    comes_back(manager, ("other", "stopped"))
 
 
-def prompt(manager):
+def stopped_before(session, _):
+    """One of two is stopped before the logout. It is waited for as long as the patience lasts, and has left
+    the session then."""
+
+    def run(other, process):
+        within(20, lambda: is_stopped(process), "the client isn't stopped")
+        asked = time.monotonic()
+        session.expect("shutdown", "ok")
+        save_once(other, session.words_of("other"))
+        told = leave(other)
+        session.end(told, 0)
+        say("it was agreed %.1f seconds after it was asked for, with a patience of %.1f" % (told - asked, PATIENCE))
+        if told - asked < PATIENCE - 0.5:
+            raise ValueError("the patience is too short")
+
+    stopped(session, 1, run)
+    session.comes_back(["other"])
+
+
+def stopped_after(session, _):
+    """One of two is stopped once it has saved at the logout, and reads nothing any more."""
+
+    def run(other, process):
+        session.expect("shutdown", "ok")
+        save_once(other, session.words_of("other"))
+        session.end(leave(other), WAIT)
+
+    stopped(session, 2, run)
+    session.names("touch")
+    session.comes_back(["other", "stopped"])
+
+
+def prompt(session, _):
     """Where all close when they are told to, nobody is waited for."""
-    client = member(manager, "prompt")
-    manager.expect("shutdown", "ok")
-    save_once(client, words_of(manager, "prompt"))
-    client.expect(xsmp.DIE)
-    began = time.monotonic()
-    client.close()
-    end(manager, began, 0, 1.5)
-    comes_back(manager, ("prompt",))
+    client = member(session, "prompt")
+    session.expect("shutdown", "ok")
+    save_once(client, session.words_of("prompt"))
+    told = leave(client)
+    session.end(told, 0)
+    if time.monotonic() - told > 3:
+        raise ValueError("somebody is waited for")
+    session.comes_back(["prompt"])
 
 
-TESTS = {it.__name__: it for it in (ignored, stopped, prompt)}
+def count_of(program):
+    """How many processes of this program run that bear the mark of this run."""
+    found = 0
+    for name in filter(str.isdigit, os.listdir("/proc")):
+        try:
+            if os.readlink("/proc/%s/exe" % name) == program:
+                found += 1
+        except OSError:
+            pass
+    return found
+
+
+def windows(session, window):
+    """Ten programs on Qt 6."""
+    count = 10
+    witness = member(session, "witness")
+    named = "local/%s:%s" % (os.uname().nodename, session.socket)
+    words = {**os.environ, "SESSION_MANAGER": named, "ICEAUTHORITY": session.authority}
+    for _ in range(count):
+        subprocess.Popen([window], env=words, stdin=subprocess.DEVNULL, stderr=subprocess.DEVNULL)
+    all_saved = "connections %d, records %d, pending 0, epoch " % (count + 1, count + 1)
+    within(60, lambda: session.order("status").startswith(all_saved), "not all have joined and saved")
+    session.expect("shutdown", "ok")
+    save_once(witness, session.words_of("witness"))
+    session.end(leave(witness), 0)
+    within(60, lambda: count_of(window) == 0, "a window is left")
+    session.start()
+    within(60, lambda: count_of(window) == count, "not all windows come back")
+    within(60, lambda: session.order("status").startswith("connections %d, " % count), "not all join again")
+    asked = time.monotonic()
+    session.expect("shutdown", "ok")
+    session.end(asked, 0)
+
+
+SETTINGS = {"stopped_before": {"SMD_PATIENCE": str(int(1000 * PATIENCE))}}
+TESTS = {it.__name__: it for it in (ignored, stopped_before, stopped_after, prompt, windows)}
 
 
 def main():
-    smd, room, name = sys.argv[1:]
+    programs, room, window, name = sys.argv[1:]
     signal.signal(signal.SIGTERM, lambda *_: sys.exit(1))
-    manager = Manager(smd, room, ["--last-wait", str(int(1000 * WAIT))])
+    session = Session(programs, room, **SETTINGS.get(name, {}))
     try:
-        manager.start()
-        TESTS[name](manager)
+        session.start()
+        TESTS[name](session, window)
     finally:
         Manager.kill_all()
 
