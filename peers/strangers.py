@@ -142,24 +142,31 @@ def alone(manager, logins):
     settled(manager, LIMIT - 1)
 
 
-def slow(manager, logins):
-    """Strangers who send a byte a second are dropped after ten seconds all the same."""
-    owner = Owner(manager, 40)
-    strangers = [knock(manager) for _ in range(20)]
+def slow_beside(manager, logins, own, count):
+    """So many strangers who send a byte a second, beside so many of the owner's. No place is wanted."""
+    owner = Owner(manager, own)
+    strangers = [knock(manager) for _ in range(count)]
     began, made = time.monotonic(), xsmp.set_up_parts(bytes(16))[:2]
     made = b"".join(made)
     for at in range(9):
         for stranger in strangers:
             stranger.sendall(made[at : at + 1])
         time.sleep(1)
-    settled(manager, 60)
-    logins_beside(manager, logins, 20, "20 who send a byte a second")
+    settled(manager, own + count)
+    logins_beside(manager, logins, 20, "%d who send a byte a second" % count)
     if not all(is_dropped(stranger, 5) for stranger in strangers):
         raise ValueError("a stranger is never dropped")
     say("dropped within %.1f seconds" % (time.monotonic() - began))
-    settled(manager, 40)
+    settled(manager, own)
     owner.ping()
     owner.close()
+    settled(manager, 0)
+
+
+def slow(manager, logins):
+    """Strangers who send a byte a second are dropped after ten seconds all the same."""
+    slow_beside(manager, logins, OWN, 2)
+    slow_beside(manager, logins, 40, 20)
 
 
 def states(manager, logins):
@@ -185,14 +192,19 @@ def states(manager, logins):
     owner.close()
 
 
-def pour(path, held, counter):
-    """Connects as fast as it can, and holds so many connections."""
+def pour(path, held, waits, counter):
+    """Connects as fast as it can, and holds so many connections. Where it has to wait at the door, it does, or
+    tries again at once."""
     signal.signal(signal.SIGTERM, signal.SIG_DFL)
     strangers = []
     while True:
         stranger = socket.socket(socket.AF_UNIX)
+        stranger.setblocking(waits)
         try:
             stranger.connect("\0" + path)
+        except BlockingIOError:
+            stranger.close()
+            continue
         except OSError:
             return
         strangers.append(stranger)
@@ -201,10 +213,10 @@ def pour(path, held, counter):
             strangers.pop(0).close()
 
 
-def flood_of(manager, logins, held, text):
+def flood_of(manager, logins, text, held=500, waits=True):
     owner = Owner(manager)
     counter = multiprocessing.Value("L", 0, lock=False)
-    flooder = multiprocessing.Process(target=pour, args=(manager.socket, held, counter), daemon=True)
+    flooder = multiprocessing.Process(target=pour, args=(manager.socket, held, waits, counter), daemon=True)
     flooder.start()
     time.sleep(1)
     came, began = counter.value, time.monotonic()
@@ -220,12 +232,17 @@ def flood_of(manager, logins, held, text):
 
 def flood(manager, logins):
     """A flood of connections as fast as one process makes them, beside 100 logins."""
-    flood_of(manager, logins, 500, "a flood of strangers who stay")
+    flood_of(manager, logins, "a flood of strangers who stay")
 
 
 def hasty(manager, logins):
     """The same of strangers who leave at once."""
-    flood_of(manager, logins, 0, "a flood of strangers who leave at once")
+    flood_of(manager, logins, "a flood of strangers who leave at once", held=0)
+
+
+def eager(manager, logins):
+    """The same of strangers who don't wait at the door, and try again at once."""
+    flood_of(manager, logins, "a flood of strangers who don't wait", waits=False)
 
 
 def cramped(manager, logins):
@@ -267,7 +284,7 @@ def private(manager, logins):
     settled(manager, 0)
 
 
-TESTS = {it.__name__: it for it in (few, many, alone, slow, states, flood, hasty, cramped, limit, private)}
+TESTS = {it.__name__: it for it in (few, many, alone, slow, states, flood, hasty, eager, cramped, limit, private)}
 
 
 def main():
