@@ -6,6 +6,7 @@ which 60 programs of the owner's belong. It ends with 0 where all was as it has 
 """
 import multiprocessing
 import os
+import re
 import resource
 import signal
 import socket
@@ -18,6 +19,8 @@ from manager import Manager
 
 OWN = 60
 LIMIT = 32
+# How many seconds a stranger may stay.
+STAY = 10
 SECOND = os.sysconf("SC_CLK_TCK")
 
 
@@ -96,13 +99,16 @@ def logins_beside(manager, logins, count, text):
     began, spent = time.monotonic(), processor_time(manager)
     line = log_in(manager, logins, count)
     passed, spent = time.monotonic() - began, processor_time(manager) - spent
-    say("%s: %s; the manager took %.0f%% of a processor" % (text, line, 100 * spent / passed))
+    say("%s: %s; the manager took %.0f%% of a processor, %.2f seconds" % (text, line, 100 * spent / passed, spent))
+    if float(re.search(r"slowest in ([0-9.]+) ", line)[1]) > STAY:
+        raise ValueError("a login had to wait until a stranger had had its time")
 
 
 def silent(manager, logins, count):
     """So many strangers who say nothing."""
     owner = Owner(manager)
     strangers = [knock(manager) for _ in range(count)]
+    owner.ping()
     older, newest = strangers[: OWN - 64], strangers[OWN - 64 :]
     if not all(is_dropped(stranger, 15) for stranger in older):
         raise ValueError("an older stranger is left")
