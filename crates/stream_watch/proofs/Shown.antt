@@ -2,9 +2,8 @@
 use Rattle.std.proofs.Common.{◌≡◌, ℕ, suc, ◌+◌, ◌-◌, ◌<◌, Bool, true, false, List, [], ◌∷◌, ◌++◌, length, Option, Some, None, cond, not, refl, sym, ap, ap₂, ◌∙◌, subst, arith, slice_index_or, slice_set}
 use Rattle.std.specs.Prelude.{◌==◌, ◌&&◌, ◌||◌, nat_le, nat_lt, filter, find, position, Result, Ok, Err, OnOk}
 use Rattle.std.specs.List.{position_from}
-use Rattle.std.proofs.lemmas.Bool.{eqb-true}
 use Rattle.std.proofs.lemmas.Iterator.Adapters.{position_from-zero}
-use Rattle.stream_watch.specs.Visiting.{Line, Shows, ShowAll, sent_more, after_sent, without, is_stranger, strangers, is_strange, is_overdue, has_stayed, lingers, has_stayed_on, lingers_by, first_number, is_full, place_of_first}
+use Rattle.stream_watch.specs.Visiting.{Line, Shows, ShowAll, sent_more, after_sent, is_stranger, strangers, is_strange, is_overdue, has_stayed, lingers, has_stayed_on, lingers_by, first_number, is_full, place_of_first}
 use Rattle.stream_watch.specs.declared.visitor.Visitor.{Visitor}
 use Rattle.stream_watch.specs.declared.visitors.Place.TheVariants.{Free, Of, Later}
 use Rattle.sm_world.specs.declared.failures.NoMemory.{NoMemory}

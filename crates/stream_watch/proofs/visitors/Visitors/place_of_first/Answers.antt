@@ -1,4 +1,4 @@
-use Rattle.std.proofs.Common.{rules, ◌≡◌, ◌-◌, Some, None, true, false, sym, ap, ◌∙◌}
+use Rattle.std.proofs.Common.{rules, ◌≡◌, ◌-◌, Some, None, true, false}
 use Rattle.std.specs.Prelude.{find, nat_lt}
 use Rattle.stream_watch.specs.Visiting.{is_strange}
 use Rattle.stream_watch.proofs.Shown.{just_came, had_its_time, nobody}
