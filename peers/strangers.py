@@ -253,8 +253,9 @@ def eager(manager, logins):
 
 def cramped(manager, logins):
     """Where the system gives the manager no more descriptors, strangers make way for the owner's."""
-    owner = Owner(manager, 20)
-    most = len(os.listdir("/proc/%d/fd" % manager.process.pid)) + 6
+    owner = Owner(manager)
+    # Fewer than the places that are left.
+    most = len(os.listdir("/proc/%d/fd" % manager.process.pid)) + 3
     resource.prlimit(manager.process.pid, resource.RLIMIT_NOFILE, (most, most))
     strangers = [knock(manager) for _ in range(20)]
     logins_beside(manager, logins, 20, "no more descriptors")
