@@ -30,16 +30,15 @@ class Session(Manager):
     """A session by smd-session."""
 
     def __init__(self, programs, room, **settings):
-        self.settings = settings
-        folders = {name: os.path.join(room, name.lower()) for name in ("XDG_STATE_HOME", "XDG_RUNTIME_DIR", "XDG_CONFIG_HOME")}
-        self.folders, self.room = folders, room
-        runtime = os.path.join(folders["XDG_RUNTIME_DIR"], "smd")
-        super().__init__(os.path.join(programs, "smd-session"), runtime, ["any"])
-        self.said = os.path.join(room, "said")
+        names = ("XDG_STATE_HOME", "XDG_RUNTIME_DIR", "XDG_CONFIG_HOME")
+        folders = {name: os.path.join(room, name.lower()) for name in names}
+        super().__init__(os.path.join(programs, "smd-session"), os.path.join(folders["XDG_RUNTIME_DIR"], "smd"))
+        self.settings, self.folders, self.room, self.said = settings, folders, room, os.path.join(room, "said")
         self.store = os.path.join(folders["XDG_STATE_HOME"], "smd", "store")
         # No program is started at a first login.
-        os.makedirs(os.path.join(folders["XDG_CONFIG_HOME"], "smd"))
-        open(os.path.join(folders["XDG_CONFIG_HOME"], "smd", "session"), "w").close()
+        programs_file = os.path.join(folders["XDG_CONFIG_HOME"], "smd", "session")
+        os.makedirs(os.path.dirname(programs_file))
+        open(programs_file, "w").close()
 
     def begin(self):
         self.process = subprocess.Popen(
@@ -80,7 +79,7 @@ class Session(Manager):
             raise ValueError("the program isn't named")
 
     def comes_back(self, names):
-        """The next login starts these programs again, and no others."""
+        """The next login starts these programs again."""
         files = [os.fsdecode(self.words_of(name)[1]) for name in names]
         if any(map(os.path.exists, files)):
             raise ValueError("a program was started before")
@@ -132,17 +131,14 @@ def ignored(session, _):
     session.comes_back(names)
 
 
-def stop(socket, authority, words, saves, joined):
-    """A client that saves so often, and is stopped then."""
+def stop(socket, authority, words, is_asked, joined):
+    """A client that has joined and saved, and is stopped then; or once it was asked to save again, and has."""
     client, _ = xsmp.joined(socket, authority)
-    for at in range(saves):
-        if at > 0:
-            client.expect(xsmp.COMPLETE)
-            joined.set()
+    save_once(client, words)
+    client.expect(xsmp.COMPLETE)
+    joined.set()
+    if is_asked:
         save_once(client, words)
-    if saves == 1:
-        client.expect(xsmp.COMPLETE)
-        joined.set()
     os.kill(os.getpid(), signal.SIGSTOP)
 
 
@@ -151,11 +147,11 @@ def is_stopped(process):
         return file.read().rsplit(")", 1)[1].split()[0] == "T"
 
 
-def stopped(session, saves, run):
-    """Beside another client there is one that is stopped once it has saved so often."""
+def stopped(session, is_asked, run):
+    """Beside another client there is one that is stopped, before it is asked to save again or behind that."""
     other, joined = member(session, "other"), multiprocessing.Event()
     words = session.words_of("stopped")
-    process = multiprocessing.Process(target=stop, args=(session.socket, session.authority, words, saves, joined))
+    process = multiprocessing.Process(target=stop, args=(session.socket, session.authority, words, is_asked, joined))
     process.start()
     try:
         if not joined.wait(20):
@@ -181,7 +177,7 @@ def stopped_before(session, _):
         if told - asked < PATIENCE - 0.5:
             raise ValueError("the patience is too short")
 
-    stopped(session, 1, run)
+    stopped(session, False, run)
     session.comes_back(["other"])
 
 
@@ -193,7 +189,7 @@ def stopped_after(session, _):
         save_once(other, session.words_of("other"))
         session.end(leave(other), WAIT)
 
-    stopped(session, 2, run)
+    stopped(session, True, run)
     session.names("touch")
     session.comes_back(["other", "stopped"])
 
@@ -211,7 +207,7 @@ def prompt(session, _):
 
 
 def count_of(program):
-    """How many processes of this program run that bear the mark of this run."""
+    """How many processes of this program run."""
     found = 0
     for name in filter(str.isdigit, os.listdir("/proc")):
         try:

@@ -16,8 +16,6 @@ class Manager:
         self.socket, self.control, self.store, self.authority = [
             os.path.join(room, name) for name in ("socket", "control", "store", "authority")
         ]
-        # Its standard error, where it is kept.
-        self.said = os.path.join(room, "said") if options else None
 
     def words(self):
         """The words that start smd."""
@@ -30,7 +28,6 @@ class Manager:
             [*self.words(), "serve", *self.options, *paths],
             stdin=subprocess.DEVNULL,
             stdout=subprocess.PIPE,
-            stderr=open(self.said, "a") if self.said else None,
             env={**os.environ, "HOSTNAME": os.uname().nodename},
         )
 
