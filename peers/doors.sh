@@ -8,14 +8,14 @@ refuses() {
   [ $? -eq "$wanted" ]
 }
 
-# refuses_path STATUS NAME PATH: the same, where all paths but this one are good.
+# refuses_path STATUS NAME PATH WORD..: the same, where all paths but this one are good, and these words follow.
 refuses_path() {
   local words=()
   for name in socket control store authority; do
     words+=("--$name")
     if [ "$name" = "$2" ]; then words+=("$3"); else words+=("$room/other/$name"); fi
   done
-  refuses "$1" "${words[@]}"
+  refuses "$1" "${words[@]}" "${@:4}"
 }
 
 # what_is FILE: all by which one sees that it is the same file.
@@ -81,6 +81,28 @@ bad_paths() {
   check "the store that it names is untouched" test "$(stat -c %s "$room/other/store")" = 16777280
 }
 
+# with_words STATUS WORD..: whether smd ends so with these words before good paths.
+with_words() { refuses "$@" --socket "$room/other/socket" --control "$room/other/control" \
+  --store "$room/other/store" --authority "$room/other/authority"; }
+
+# The options of the links stand among the pairs in any order, each once.
+option_words() {
+  check "--private stands once" with_words 1 --private --private
+  check "--last-wait stands once" with_words 1 --last-wait 1 --last-wait 1
+  for wait in x 05 -1 '' 18446744073709551616; do
+    check "the last wait is no '$wait'" with_words 1 --last-wait "$wait"
+  done
+  check "--last-wait has a value" refuses_path 1 authority "$room/other/authority" --last-wait
+  check "a path called --private is a path" refuses_path 5 socket --private
+  at=$room/options
+  mkdir "$at"
+  "$smd" serve --last-wait 0 --socket "$at/socket" --private --control "$at/control" --patience 5000 \
+    --store "$at/store" --authority "$at/authority" < /dev/null > "$at/lines" 2>> "$at/said" &
+  smd_id=$!
+  check "the options stand in any order" within 30 grep -qsxF "SESSION_MANAGER=local/$HOSTNAME:$at/socket" "$at/lines"
+  check "a session with them logs out" logs_out
+}
+
 longest_path() {
   at=$room/longest
   mkdir "$at"
@@ -122,6 +144,7 @@ doors() {
   second_managers
   bad_paths
   check "a socket of 107 bytes is taken" longest_path
+  option_words
   permissions
   taken_over
 }

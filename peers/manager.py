@@ -9,12 +9,11 @@ import xsmp
 
 class Manager:
     made = []
-    # Options of `smd serve` besides the four paths.
-    options = ()
 
-    def __init__(self, smd, room):
+    def __init__(self, smd, room, options=()):
+        """The options stand in front of the four paths."""
         self.made.append(self)
-        self.smd, self.process = smd, None
+        self.smd, self.options, self.process = smd, options, None
         self.socket, self.control, self.store, self.authority = [
             os.path.join(room, name) for name in ("socket", "control", "store", "authority")
         ]
@@ -27,7 +26,7 @@ class Manager:
         """Starts smd and doesn't wait for anything."""
         paths = ["--socket", self.socket, "--control", self.control, "--store", self.store, "--authority", self.authority]
         self.process = subprocess.Popen(
-            [*self.words(), "serve", *paths, *self.options],
+            [*self.words(), "serve", *self.options, *paths],
             stdin=subprocess.DEVNULL,
             stdout=subprocess.PIPE,
             env={**os.environ, "HOSTNAME": os.uname().nodename},

@@ -1,5 +1,5 @@
 # The packages of Debian that peers/check needs; where some are missing they are installed.
-needed='gcc libc6-dev libsm-dev libice-dev python3 strace x11-xserver-utils xvfb gkrellm twm xterm x11-utils bsdutils'
+needed='gcc g++ libc6-dev libsm-dev libice-dev qt6-base-dev qt6-qpa-plugins python3 strace x11-xserver-utils xvfb gkrellm twm xterm x11-utils bsdutils'
 
 missing() {
   for package in $needed; do

@@ -8,7 +8,7 @@ use sm_world::{
     Command, Conn, Console, Disk, Event, Failed, Failure, Links, NoMemory, Spawner, Told,
 };
 use store_file::FileDisk;
-use unix_links::SocketLinks;
+use unix_links::{LinkOptions, SocketLinks};
 
 /// The outside of a session manager on a desktop. What happens there is told to nobody; each fault is
 /// counted.
@@ -28,10 +28,15 @@ pub struct DesktopWorld {
 impl DesktopWorld {
     /// Nothing is opened yet. Programs find the manager under this name of the host.
     pub fn new(rt: HostRuntime, host: String) -> DesktopWorld {
+        DesktopWorld::with_options(rt, host, LinkOptions::new())
+    }
+
+    /// The same, with what was chosen of the links.
+    pub fn with_options(rt: HostRuntime, host: String, options: LinkOptions) -> DesktopWorld {
         DesktopWorld {
             host,
             disk: FileDisk::new(rt, STORE_BYTES),
-            links: SocketLinks::new(rt),
+            links: SocketLinks::with_options(rt, options),
             spawner: ProgramSpawner::new(rt),
             console: StandardConsole::new(rt),
         }

@@ -9,12 +9,12 @@ use unix_links::SocketLinks;
 
 /// The paths of a test's sockets.
 #[derive(Drop)]
-struct Paths {
-    socket: String,
+pub struct Paths {
+    pub socket: String,
     control: String,
 }
 
-fn room(rt: HostRuntime, name: &str) -> Result<Paths, Fail> {
+pub fn room(rt: HostRuntime, name: &str) -> Result<Paths, Fail> {
     let folder = env::temp_dir(&rt)?;
     let folder = folder.as_path().as_str();
     let id = process::id(rt.process());
@@ -29,7 +29,7 @@ fn paths_at(rt: HostRuntime, socket: String) -> io::Result<Paths> {
 }
 
 /// Links that listen there.
-fn open(rt: HostRuntime, paths: &Paths) -> io::Result<SocketLinks> {
+pub fn open(rt: HostRuntime, paths: &Paths) -> io::Result<SocketLinks> {
     let mut links = SocketLinks::new(rt);
     match links.listen(paths.socket.as_str(), paths.control.as_str()) {
         Ok(()) => Ok(links),
@@ -38,7 +38,7 @@ fn open(rt: HostRuntime, paths: &Paths) -> io::Result<SocketLinks> {
 }
 
 /// A peer, whose reads end after some seconds where nothing comes.
-fn dial(rt: HostRuntime, path: &str) -> Result<UnixStream, Fail> {
+pub fn dial(rt: HostRuntime, path: &str) -> Result<UnixStream, Fail> {
     let stream = UnixStream::connect(&rt, path)?;
     stream.set_read_timeout(Some(Duration::from_secs(10)))?;
     Ok(stream)
@@ -53,7 +53,7 @@ fn reads(peer: &mut UnixStream, want: &[u8]) -> io::Result<bool> {
 }
 
 /// Whether a peer's stream is at its end.
-fn is_at_end(peer: &mut UnixStream) -> io::Result<bool> {
+pub fn is_at_end(peer: &mut UnixStream) -> io::Result<bool> {
     let mut came = [0u8; 1];
     Ok(peer.read(&mut came)? == 0)
 }
@@ -71,12 +71,12 @@ fn next(links: &mut SocketLinks) -> Event {
 }
 
 /// Whether this one joins next.
-fn joins(links: &mut SocketLinks, number: u32) -> bool {
+pub fn joins(links: &mut SocketLinks, number: u32) -> bool {
     matches!(next(links), Event::Joined(conn) if conn == number)
 }
 
 /// Whether this one is gone next.
-fn goes(links: &mut SocketLinks, number: u32) -> bool {
+pub fn goes(links: &mut SocketLinks, number: u32) -> bool {
     matches!(next(links), Event::Gone(conn) if conn == number)
 }
 
@@ -109,7 +109,7 @@ fn ticks(links: &mut SocketLinks) -> bool {
 }
 
 /// Whether this is sent.
-fn sends(links: &mut SocketLinks, number: u32, bytes: &[u8]) -> bool {
+pub fn sends(links: &mut SocketLinks, number: u32, bytes: &[u8]) -> bool {
     links.send(number, bytes) == Ok(())
 }
 

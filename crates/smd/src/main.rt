@@ -10,11 +10,14 @@ use std::io::ErrorKind;
 use std::process::ExitCode;
 use store_report::read_check;
 use store_view::check_store;
+use unix_links::LinkOptions;
 
 const TEXTS: OwnTexts = OwnTexts {
     help: "smd, the session manager\n\n\
         usage: smd serve --socket P --control C --store F --authority A [--patience MS]\n\
         \x20                               runs the session of a desktop\n\
+        \x20          --private            nobody can connect but the owner's programs\n\
+        \x20          --last-wait MS       closes whoever was told to die so long ago\n\
         \x20      smd rehearse [MS] < SCRIPT\n\
         \x20                               shows what smd does at the events of a script\n\
         \x20      smd exercise A N        saves eight clients N times in memory, and sums it up\n\
@@ -50,16 +53,18 @@ fn refused(rt: HostRuntime, bad: BadPlaces) -> u8 {
     status
 }
 
+fn no_memory(_error: NoMemory) -> io::Error {
+    io::Error::from(ErrorKind::OutOfMemory)
+}
+
 /// The status of a run with these words on this desktop.
-fn run(rt: HostRuntime, words: &[String]) -> io::Result<u8> {
-    if let Some(check) = read_check(words) {
+fn run(rt: HostRuntime, mut words: Vec<String>) -> io::Result<u8> {
+    if let Some(check) = read_check(words.as_slice()) {
         return Ok(check_store(rt, check));
     }
-    let paths = match read_paths(rt.alloc(), words) {
-        Ok(paths) => paths,
-        Err(NoMemory) => return Err(io::Error::from(ErrorKind::OutOfMemory)),
-    };
-    if let Some(paths) = paths {
+    let options = LinkOptions::take(&mut words).map_err(no_memory)?;
+    let words = words.as_slice();
+    if let Some(paths) = read_paths(rt.alloc(), words).map_err(no_memory)? {
         if let Some(bad) = bad_places(rt, paths) {
             return Ok(refused(rt, bad));
         }
@@ -69,7 +74,7 @@ fn run(rt: HostRuntime, words: &[String]) -> io::Result<u8> {
         cookie: random_cookie(&rt)?,
         host: Octets::from_vec(Vec::from_slice(rt.alloc(), host.as_bytes())?),
     };
-    let mut world = DesktopWorld::new(rt, host);
+    let mut world = DesktopWorld::with_options(rt, host, options);
     let status = smd_main(rt.alloc(), words, &mut world, identity, u64::MAX);
     world.close();
     Ok(status)
@@ -79,7 +84,7 @@ fn main(rt: HostRuntime) -> ExitCode {
     let words = read_words(&rt);
     let mut console = StandardConsole::new(rt);
     let status = match TEXTS.begin(words, &mut console) {
-        Ok(words) => match run(rt, words.as_slice()) {
+        Ok(words) => match run(rt, words) {
             Ok(status) => status,
             // Neither the host's name nor a cookie is refused for another reason.
             Err(_) => {

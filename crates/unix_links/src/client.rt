@@ -6,11 +6,14 @@ use sm_world::{Conn, NoMemory};
 use std::alloc::Global;
 use std::io;
 use std::net::Shutdown;
+use stream_watch::Naming;
 
 /// A client's connection.
 #[derive(Drop)]
 pub struct Client {
     pub stream: UnixStream,
+    /// What the client says that its program is.
+    pub naming: Naming,
     outbox: Outbox,
     /// The system told that the peer sends no more. It won't tell again, so all is read that is left.
     pub ends: bool,
@@ -36,6 +39,7 @@ impl Client {
         }
         Some(Client {
             stream,
+            naming: Naming::new(alloc),
             outbox: Outbox::new(alloc),
             ends: false,
             waits: false,

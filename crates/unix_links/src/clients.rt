@@ -3,6 +3,7 @@ ghost use Rattle.sm_world.specs.Events.{HasPieceSize};
 
 use crate::client::Client;
 use crate::leavers::Leavers;
+use crate::news::News;
 use crate::reading::{Reading, is_passing, would_wait};
 use mio::Registry;
 use mio::net::UnixStream;
@@ -10,6 +11,7 @@ use sm_world::{Conn, Event, Failure, NoMemory, Octets, PIECE_LIMIT};
 use std::alloc::{AllocError, Global};
 use std::collections::{BTreeMap, VecDeque};
 use std::io::Read;
+use stream_watch::{Place, Visitors};
 
 /// The clients' connections, by their numbers.
 #[derive(Drop)]
@@ -18,9 +20,13 @@ pub struct Clients {
     open: BTreeMap<Conn, Client>,
     /// The number that was given last. None is given twice.
     last: Conn,
-    /// Those that were dropped and are told as gone next.
-    gone: VecDeque<Conn>,
+    /// Who came and who was dropped, which is told next.
+    news: VecDeque<News>,
     leaving: Leavers,
+    /// The same connections by what is known of them, and who of them makes way for others.
+    visitors: Visitors,
+    /// How many milliseconds have passed since the first moment.
+    now: u64,
     /// Room for one read.
     piece: Vec<u8>,
 }
@@ -31,28 +37,52 @@ impl Clients {
             alloc,
             open: BTreeMap::new(alloc),
             last: 0,
-            gone: VecDeque::new(alloc),
+            news: VecDeque::new(alloc),
             leaving: Leavers::new(alloc),
+            visitors: Visitors::new(alloc),
+            now: 0,
             piece: vec![in alloc; 0u8; PIECE_LIMIT]?,
         })
     }
 
-    /// Takes in a new connection and gives it the next number. Where there is none left, or the system
-    /// can't watch the connection, it is closed.
-    pub fn add(
-        &mut self,
-        registry: &Registry,
-        stream: UnixStream,
-    ) -> Result<Option<Conn>, NoMemory> {
+    /// Notes what time it is.
+    pub fn set_time(&mut self, now: u64) {
+        self.now = now;
+    }
+
+    /// What time it is.
+    pub fn time(&self) -> u64 {
+        self.now
+    }
+
+    /// Where one more finds a place.
+    pub fn place(&self) -> Place {
+        self.visitors.place_for_one_more(self.now)
+    }
+
+    /// Where somebody finds a place for whom there is no room left.
+    pub fn place_in_need(&self) -> Place {
+        self.visitors.place_of_first(self.now)
+    }
+
+    /// Takes in a new connection and gives it the next number. Where it is one too many, a stranger is
+    /// dropped for it. Where there is no number left, or the system can't watch the connection, it is
+    /// closed.
+    pub fn add(&mut self, registry: &Registry, stream: UnixStream) -> Result<(), NoMemory> {
         let Some(conn) = self.last.checked_add(1) else {
-            return Ok(None);
+            return Ok(());
         };
         let Some(client) = Client::new(self.alloc, registry, conn, stream) else {
-            return Ok(None);
+            return Ok(());
         };
+        if let Place::Of(stranger) = self.place() {
+            self.lose(stranger)?;
+        }
+        self.visitors.join(conn, self.now)?;
         self.open.insert(conn, client)?;
         self.last = conn;
-        Ok(Some(conn))
+        self.news.push_back(News::Came(conn))?;
+        Ok(())
     }
 
     /// Notes what the system told of a connection besides that it can be read.
@@ -86,6 +116,7 @@ impl Clients {
                 // A read that doesn't fill its room took all that there was.
                 let more = client.ends || count == PIECE_LIMIT;
                 let bytes = Octets::from_slice(self.alloc, &self.piece[..count])?;
+                client.naming.hear(bytes.as_slice())?;
                 Ok(Reading {
                     event: Some(Event::Piece(conn, bytes)),
                     more,
@@ -94,6 +125,7 @@ impl Clients {
             Err(error) if would_wait(&error) => Ok(Reading::nothing()),
             Err(error) if is_passing(&error) => Ok(Reading::later()),
             _ => {
+                self.visitors.leave(conn);
                 let _ = self.open.remove(&conn);
                 Ok(Reading {
                     event: Some(Event::Gone(conn)),
@@ -108,6 +140,7 @@ impl Clients {
         let Some(client) = self.open.get_mut(&to) else {
             return Ok(());
         };
+        self.visitors.follow(to, self.now, bytes)?;
         if client.send(registry, to, bytes)? {
             Ok(())
         } else {
@@ -118,6 +151,7 @@ impl Clients {
     /// Closes a connection gently. What was sent on it still reaches the peer.
     pub fn shut(&mut self, registry: &Registry, conn: Conn) {
         if let Some(client) = self.open.remove(&conn) {
+            self.visitors.leave(conn);
             self.leaving.add(registry, conn, client);
         }
     }
@@ -132,20 +166,50 @@ impl Clients {
         !self.leaving.is_empty()
     }
 
+    /// Drops the strangers who have had their time.
+    pub fn drop_overdue(&mut self) -> Result<(), NoMemory> {
+        for _ in 0..u32::MAX {
+            match self.visitors.overdue(self.now) {
+                Some(conn) => self.lose(conn)?,
+                None => break,
+            }
+        }
+        Ok(())
+    }
+
+    /// The first whose client was told to die so many milliseconds ago, or before.
+    pub fn lingering(&self, wait: u64) -> Option<Conn> {
+        self.visitors.lingering(self.now, wait)
+    }
+
+    /// The program at the other end of a connection, as it can be printed.
+    pub fn program(&self, conn: Conn) -> &str {
+        match self.open.get(&conn) {
+            Some(client) => client.naming.name(),
+            None => "a program",
+        }
+    }
+
     /// Closes a connection that is to be told as gone.
-    fn lose(&mut self, conn: Conn) -> Result<(), NoMemory> {
-        self.gone.push_back(conn)?;
+    pub fn lose(&mut self, conn: Conn) -> Result<(), NoMemory> {
+        self.news.push_back(News::Went(conn))?;
+        self.visitors.leave(conn);
         let _ = self.open.remove(&conn);
         Ok(())
     }
 
-    /// The next connection that was lost and isn't told yet.
-    pub fn next_gone(&mut self) -> Option<Conn> {
-        self.gone.pop_front()
+    /// Who came or was lost and isn't told yet.
+    pub fn next_news(&mut self) -> Option<Event>
+        ensures size { IfSome result HasPieceSize }
+    {
+        match self.news.pop_front() {
+            Some(news) => Some(news.event()),
+            None => None,
+        }
     }
 
-    /// Whether connections were lost that aren't told yet.
-    pub fn has_gone(&self) -> bool {
-        !self.gone.is_empty()
+    /// Whether something isn't told yet.
+    pub fn has_news(&self) -> bool {
+        !self.news.is_empty()
     }
 }

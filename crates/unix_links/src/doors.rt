@@ -1,3 +1,4 @@
+use crate::options::LinkOptions;
 use crate::sources::Source;
 use mio::net::{UnixListener, UnixStream};
 use mio::{Interest, Registry};
@@ -19,6 +20,12 @@ const TRIES: u64 = 20;
 
 const PAUSE: u64 = 100;
 
+/// How many may wait at the abstract name until they are taken in: few, so that nobody waits long behind
+/// a flood of strangers. At a path there come none, and as many wait as the system allows.
+const FEW: i32 = 8;
+
+const ALL: i32 = -1;
+
 fn check(status: i32) -> io::Result<()> {
     if status < 0 {
         Err(io::Error::from_raw_os_error(os::errno()))
@@ -27,14 +34,9 @@ fn check(status: i32) -> io::Result<()> {
     }
 }
 
-/// Binds a socket and listens on it, with the longest backlog that the system allows.
-fn listening<R: Files + Net>(
-    rt: &R,
-    socket: OwnedFd,
-    addr: &SocketAddr,
-) -> io::Result<UnixListener> {
-    rt.bind_unix(socket.as_fd(), addr)?;
-    check(libc::net::listen(socket.as_raw_fd(), -1))?;
+/// Listens on a bound socket, at which so many may wait.
+fn listening(socket: OwnedFd, waiting: i32) -> io::Result<UnixListener> {
+    check(libc::net::listen(socket.as_raw_fd(), waiting))?;
     let listener = net::UnixListener::from(socket);
     listener.set_nonblocking(true)?;
     Ok(UnixListener::from_std(listener))
@@ -61,17 +63,39 @@ pub fn private_listener<R: Files + Net>(rt: &R, path: &str) -> io::Result<UnixLi
     let socket = rt.unix_socket()?;
     // Linux gives the file the mode of the socket, so it never has another.
     check(libc::fchmod(socket.as_raw_fd(), PRIVATE))?;
-    listening(rt, socket, &addr)
+    rt.bind_unix(socket.as_fd(), &addr)?;
+    listening(socket, ALL)
 }
 
 /// Listens at a name of Linux's abstract namespace, which has no permissions. The name is free again
 /// as soon as its process has ended.
 pub fn abstract_listener<R: Files + Net>(rt: &R, name: &str) -> io::Result<UnixListener> {
-    listening(
-        rt,
-        rt.unix_socket()?,
-        &SocketAddr::from_abstract_name(name)?,
-    )
+    listening(abstract_name(rt, name)?, ALL)
+}
+
+/// Takes a name of Linux's abstract namespace, which has no permissions. The name is free again as soon
+/// as its process has ended.
+fn abstract_name<R: Files + Net>(rt: &R, name: &str) -> io::Result<OwnedFd> {
+    let socket = rt.unix_socket()?;
+    rt.bind_unix(socket.as_fd(), &SocketAddr::from_abstract_name(name)?)?;
+    Ok(socket)
+}
+
+/// The door with an abstract name.
+#[derive(Drop)]
+enum Hidden {
+    Open(UnixListener),
+    /// Nobody can connect. The name is held so that nobody else takes it.
+    Held(OwnedFd),
+}
+
+impl Hidden {
+    fn new(socket: OwnedFd, options: LinkOptions) -> io::Result<Hidden> {
+        if options.is_private {
+            return Ok(Hidden::Held(socket));
+        }
+        Ok(Hidden::Open(listening(socket, FEW)?))
+    }
 }
 
 /// Why the doors didn't open.
@@ -85,7 +109,7 @@ pub struct Refusal<'a> {
 #[derive(Drop)]
 pub struct Doors {
     clients: UnixListener,
-    hidden: UnixListener,
+    hidden: Hidden,
     control: UnixListener,
     clients_path: String,
     control_path: String,
@@ -99,16 +123,17 @@ impl Doors {
         rt: HostRuntime,
         socket: &'a str,
         control: &'a str,
+        options: LinkOptions,
     ) -> Result<Doors, Refusal<'a>> {
         for _ in 0..TRIES {
-            match Doors::try_open(rt, socket, control) {
+            match Doors::try_open(rt, socket, control, options) {
                 Err(refusal) if refusal.error.kind() == ErrorKind::AddrInUse => {
                     thread::sleep(&rt, Duration::from_millis(PAUSE));
                 }
                 opened => return opened,
             }
         }
-        Doors::try_open(rt, socket, control)
+        Doors::try_open(rt, socket, control, options)
     }
 
     /// Opens the clients' two doors and the operators' one. The abstract name comes first: a living
@@ -117,10 +142,12 @@ impl Doors {
         rt: HostRuntime,
         socket: &'a str,
         control: &'a str,
+        options: LinkOptions,
     ) -> Result<Doors, Refusal<'a>> {
         let clients_path = at(socket, copied(rt, socket))?;
         let control_path = at(control, copied(rt, control))?;
-        let hidden = at(socket, abstract_listener(&rt, socket))?;
+        let name = at(socket, abstract_name(&rt, socket))?;
+        let hidden = at(socket, Hidden::new(name, options))?;
         let clients = at(socket, private_listener(&rt, socket))?;
         match private_listener(&rt, control) {
             Ok(control) => Ok(Doors {
@@ -151,18 +178,21 @@ impl Doors {
     pub fn watch(&mut self, registry: &Registry) -> io::Result<()> {
         let readable = Interest::READABLE;
         registry.register(&mut self.clients, Source::Clients.token(), readable)?;
-        registry.register(&mut self.hidden, Source::Hidden.token(), readable)?;
+        if let Hidden::Open(hidden) = &mut self.hidden {
+            registry.register(hidden, Source::Hidden.token(), readable)?;
+        }
         registry.register(&mut self.control, Source::Control.token(), readable)
     }
 
-    /// The next client at the door with a path.
-    pub fn next_client(&self) -> io::Result<UnixStream> {
-        Ok(self.clients.accept()?.0)
-    }
-
-    /// The next client at the door with an abstract name.
-    pub fn next_hidden(&self) -> io::Result<UnixStream> {
-        Ok(self.hidden.accept()?.0)
+    /// The next client at one of the clients' doors.
+    pub fn next_client(&self, door: Source) -> io::Result<UnixStream> {
+        match &self.hidden {
+            Hidden::Open(hidden) if door == Source::Hidden => Ok(hidden.accept()?.0),
+            Hidden::Held(_) if door == Source::Hidden => Err(io::Error::from(
+                ErrorKind::WouldBlock,
+            )),
+            _ => Ok(self.clients.accept()?.0),
+        }
     }
 
     pub fn next_operator(&self) -> io::Result<UnixStream> {

@@ -3,6 +3,7 @@ ghost use Rattle.sm_world.specs.Outside.{Rose};
 ghost use Rattle.unix_links.specs.Untold.{links_outside};
 
 use crate::doors::{Doors, Refusal};
+use crate::options::LinkOptions;
 use crate::paths::path_fault;
 use crate::reading::refused;
 use crate::sockets::Sockets;
@@ -19,6 +20,7 @@ use std::io;
 #[derive(Drop)]
 pub struct SocketLinks {
     rt: HostRuntime,
+    options: LinkOptions,
     sockets: Option<Sockets>,
     faults: u64,
 }
@@ -26,8 +28,14 @@ pub struct SocketLinks {
 impl SocketLinks {
     /// Nobody is listened to yet.
     pub fn new(rt: HostRuntime) -> SocketLinks {
+        SocketLinks::with_options(rt, LinkOptions::new())
+    }
+
+    /// The same, with what was chosen.
+    pub fn with_options(rt: HostRuntime, options: LinkOptions) -> SocketLinks {
         SocketLinks {
             rt,
+            options,
             sockets: None,
             faults: 0,
         }
@@ -62,8 +70,8 @@ impl SocketLinks {
             let _ = eprintln!(self.rt; "smd: cannot listen at {socket}: {fault}");
             return Err(Failure::Failed);
         }
-        match Doors::open(self.rt, socket, control) {
-            Ok(doors) => match Sockets::new(self.rt, doors) {
+        match Doors::open(self.rt, socket, control, self.options) {
+            Ok(doors) => match Sockets::new(self.rt, doors, self.options.last_wait) {
                 Ok(sockets) => {
                     self.sockets = Some(sockets);
                     Ok(())

@@ -12,9 +12,13 @@ use sm_world::{Conn, Event, Failure, NoMemory};
 use std::collections::VecDeque;
 use std::io;
 use std::time::{Duration, Instant};
+use stream_watch::Place;
 
 /// How many milliseconds lie between two ticks.
 const TICK: u64 = 250;
+
+/// How many milliseconds somebody waits at the door at a time while all places are taken.
+const MOMENT: u64 = 10;
 
 /// How many ready sources the system tells of at once.
 const READY: usize = 128;
@@ -36,14 +40,20 @@ pub struct Sockets {
     turn: usize,
     /// A connection couldn't be taken in. The doors are tried again at the next tick.
     stalled: bool,
+    /// When the doors are tried again at which somebody may wait for a stranger's place.
+    again: Option<u64>,
+    /// How many milliseconds a client has that was told to die; with 0 all that it likes.
+    last_wait: u64,
+    begun: Instant,
     ticked: Instant,
 }
 
 impl Sockets {
     /// Waits at these doors.
-    pub fn new(rt: HostRuntime, mut doors: Doors) -> io::Result<Sockets> {
+    pub fn new(rt: HostRuntime, mut doors: Doors, last_wait: u64) -> io::Result<Sockets> {
         let alloc = rt.alloc();
         let poll = Poll::new(&rt)?;
+        let now = Instant::now(&rt)?;
         doors.watch(poll.registry())?;
         Ok(Sockets {
             rt,
@@ -56,7 +66,10 @@ impl Sockets {
             queue: VecDeque::new(alloc),
             turn: 0,
             stalled: false,
-            ticked: Instant::now(&rt)?,
+            again: None,
+            last_wait,
+            begun: now,
+            ticked: now,
         })
     }
 
@@ -67,21 +80,38 @@ impl Sockets {
         self.operators.forget();
         for _ in 0..u64::MAX {
             let now = Instant::now(&self.rt).map_err(refused)?;
-            let passed = self.since_tick(now);
+            let time = milliseconds(self.begun, now);
+            self.clients.set_time(time);
+            let passed = milliseconds(self.ticked, now);
             if passed >= TICK {
                 return self.tick(now, passed);
             }
+            let rest = self.try_again(time)?;
             if let Some(event) = self.take()? {
                 return Ok(event);
             }
-            self.wait(TICK.saturating_sub(passed))?;
+            self.wait(rest.min(TICK.saturating_sub(passed)))?;
         }
         Err(Failure::Failed)
     }
 
-    fn since_tick(&self, now: Instant) -> u64 {
-        let passed = now.saturating_duration_since(self.ticked).as_millis();
-        u64::try_from(passed).unwrap_or(u64::MAX)
+    /// Tries the doors again where it is time to, and says how many milliseconds there are until then.
+    fn try_again(&mut self, time: u64) -> Result<u64, NoMemory> {
+        match self.again {
+            Some(again) if again <= time => {
+                self.again = None;
+                self.enqueue_doors()?;
+                Ok(MOMENT)
+            }
+            Some(again) => Ok(again.saturating_sub(time)),
+            None => Ok(TICK),
+        }
+    }
+
+    fn enqueue_doors(&mut self) -> Result<(), NoMemory> {
+        self.enqueue(Source::Clients)?;
+        self.enqueue(Source::Hidden)?;
+        self.enqueue(Source::Control)
     }
 
     fn tick(&mut self, now: Instant, passed: u64) -> Result<Event, Failure>
@@ -89,18 +119,36 @@ impl Sockets {
     {
         self.ticked = now;
         self.clients.pass(passed);
+        self.clients.drop_overdue()?;
+        self.drop_lingering()?;
         if self.stalled {
             self.stalled = false;
-            self.enqueue(Source::Clients)?;
-            self.enqueue(Source::Hidden)?;
-            self.enqueue(Source::Control)?;
+            self.enqueue_doors()?;
         }
         Ok(Event::Tick(passed))
     }
 
+    /// Drops those who were told to die and have had their time. The user is told of each.
+    fn drop_lingering(&mut self) -> Result<(), NoMemory> {
+        if self.last_wait == 0 {
+            return Ok(());
+        }
+        for _ in 0..u32::MAX {
+            let Some(conn) = self.clients.lingering(self.last_wait) else {
+                break;
+            };
+            let program = self.clients.program(conn);
+            let _ = eprintln!(self.rt;
+                "smd: {program} was told to die, and its connection {conn} is closed"
+            );
+            self.clients.lose(conn)?;
+        }
+        Ok(())
+    }
+
     /// Waits at most so long until somebody is ready, and puts all who are into the queue.
     fn wait(&mut self, milliseconds: u64) -> Result<(), Failure> {
-        let is_idle = self.queue.is_empty() && !self.clients.has_gone();
+        let is_idle = self.queue.is_empty() && !self.clients.has_news();
         let time = Duration::from_millis(if is_idle { milliseconds } else { 0 });
         self.poll
             .poll(&mut self.events, Some(time))
@@ -145,8 +193,8 @@ impl Sockets {
     fn take(&mut self) -> Result<Option<Event>, Failure>
         ensures size { IfOk result (λ event. IfSome event HasPieceSize) }
     {
-        if let Some(conn) = self.clients.next_gone() {
-            return Ok(Some(Event::Gone(conn)));
+        if let Some(event) = self.clients.next_news() {
+            return Ok(Some(event));
         }
         for _ in 0..self.turn {
             self.turn = self.turn.saturating_sub(1);
@@ -168,31 +216,37 @@ impl Sockets {
         ensures size { IfOk result (λ reading. IfSome reading.event HasPieceSize) }
     {
         match source {
-            Source::Clients => {
-                let accepted = self.doors.next_client();
-                self.join(accepted)
-            }
-            Source::Hidden => {
-                let accepted = self.doors.next_hidden();
-                self.join(accepted)
-            }
+            Source::Clients => self.join(source),
+            Source::Hidden => self.join(source),
             Source::Control => self.admit(),
             Source::Client(conn) => Ok(self.clients.read(conn)?),
             Source::Operator(number) => Ok(self.operators.hear(number)?),
         }
     }
 
-    /// Takes in a client.
-    fn join(&mut self, accepted: io::Result<UnixStream>) -> Result<Reading, Failure>
+    /// Takes in a client who comes at this door. Where all places are taken, and none of a stranger's
+    /// is free yet, it waits there.
+    fn join(&mut self, door: Source) -> Result<Reading, Failure>
         ensures size { IfOk result (λ reading. IfSome reading.event HasPieceSize) }
     {
-        match accepted {
-            Ok(stream) => match self.clients.add(self.poll.registry(), stream)? {
-                Some(conn) => Ok(Reading::one(Event::Joined(conn))),
-                None => Ok(Reading::later()),
-            },
-            Err(error) => Ok(self.not_accepted(&error)),
+        if self.clients.place() == Place::Later {
+            self.wait_at_doors();
+            return Ok(Reading::nothing());
         }
+        match self.doors.next_client(door) {
+            Ok(stream) => {
+                self.clients.add(self.poll.registry(), stream)?;
+                Ok(Reading {
+                    event: self.clients.next_news(),
+                    more: true,
+                })
+            }
+            Err(error) => self.not_accepted(&error),
+        }
+    }
+
+    fn wait_at_doors(&mut self) {
+        self.again = Some(self.clients.time().saturating_add(MOMENT));
     }
 
     /// Takes in an operator.
@@ -204,22 +258,30 @@ impl Sockets {
                 self.operators.add(self.poll.registry(), stream)?;
                 Ok(Reading::later())
             }
-            Err(error) => Ok(self.not_accepted(&error)),
+            Err(error) => self.not_accepted(&error),
         }
     }
 
-    /// Where the system can't give another connection, the door is left until the next tick.
-    fn not_accepted(&mut self, error: &io::Error) -> Reading
-        ensures size { IfSome result.event HasPieceSize }
+    /// Where the system can't give another connection, a stranger makes way; without one the doors are
+    /// left until the next tick.
+    fn not_accepted(&mut self, error: &io::Error) -> Result<Reading, Failure>
+        ensures size { IfOk result (λ reading. IfSome reading.event HasPieceSize) }
     {
         if would_wait(error) {
-            Reading::nothing()
-        } else if is_passing(error) {
-            Reading::later()
-        } else {
-            self.stalled = true;
-            Reading::nothing()
+            return Ok(Reading::nothing());
         }
+        if is_passing(error) {
+            return Ok(Reading::later());
+        }
+        match self.clients.place_in_need() {
+            Place::Of(stranger) => {
+                self.clients.lose(stranger)?;
+                return Ok(Reading::later());
+            }
+            Place::Later => self.wait_at_doors(),
+            Place::Free => self.stalled = true,
+        }
+        Ok(Reading::nothing())
     }
 
     pub fn send(&mut self, to: Conn, bytes: &[u8]) -> Result<(), NoMemory> {
@@ -249,4 +311,9 @@ impl Sockets {
     pub fn answer(&mut self, line: &[u8]) {
         self.operators.answer(line);
     }
+}
+
+/// How many milliseconds lie between two moments.
+fn milliseconds(from: Instant, to: Instant) -> u64 {
+    u64::try_from(to.saturating_duration_since(from).as_millis()).unwrap_or(u64::MAX)
 }

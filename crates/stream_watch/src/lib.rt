@@ -1,0 +1,13 @@
+//! What somebody sees of connections who follows the frames on them, and who of those that came makes
+//! way for others. It calls no device.
+#![tactic(auto)]
+
+mod naming;
+mod side;
+mod visitor;
+mod visitors;
+mod watch;
+
+pub use naming::Naming;
+pub use visitors::{Place, Visitors};
+pub use watch::Watch;
