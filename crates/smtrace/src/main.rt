@@ -3,7 +3,7 @@
 
 use program_frame::{OwnTexts, StandardConsole, read_words};
 use std::process::ExitCode;
-use trace_replay::smtrace_main;
+use smtrace_app::smtrace_main;
 
 const TEXTS: OwnTexts = OwnTexts {
     help: "smtrace, which shows the traces of sessions\n\n\
