@@ -15,15 +15,15 @@ use Rattle.session_replay.proofs.ComparingLemmas.{never_part, same_length}
 
 one_judgement : (trace : List ℕ) (opening : Opening) (events : List Event) → MeansOne (Judges trace opening events)
 one_judgement trace opening events Same Same one two = refl
-one_judgement trace opening events Same (Differs at) one (left, part, number) =
+one_judgement trace opening events Same (Differs at) one (n, (left, part, size), number) =
     absurd (never_part part.done part.next part.goes_on.front left (rw (part.made_parts, part.goes_on.parts) at one) part.goes_on.are part.part)
 one_judgement trace opening events Same (Malformed at) one two = absurd two
-one_judgement trace opening events (Differs at) Same (left, part, number) two =
+one_judgement trace opening events (Differs at) Same (n, (left, part, size), number) two =
     absurd (never_part part.done part.next part.goes_on.front left (rw (part.made_parts, part.goes_on.parts) at two) part.goes_on.are part.part)
-one_judgement trace opening events (Differs at) (Differs other) (left, part, number) (left', part', number') =
+one_judgement trace opening events (Differs at) (Differs other) (n, (left, part, count), number) (n', (left', part', count'), number') =
     let same = same_length part.done part.next part.goes_on.front left part'.done part'.next part'.goes_on.front left' (sym part.made_parts ∙ part'.made_parts) (sym part.goes_on.parts ∙ part'.goes_on.parts) part.goes_on.are part'.goes_on.are part.part part'.part in
     let size = ap length (sym part.goes_on.parts ∙ part'.goes_on.parts) in
-    ap Differs (omega (arith, number, number', same, size, length-append part.goes_on.front left, length-append part'.goes_on.front left'))
+    ap Differs (omega (arith, number, number', count, count', same, size, length-append part.goes_on.front left, length-append part'.goes_on.front left'))
 one_judgement trace opening events (Differs at) (Malformed other) one two = absurd two
 one_judgement trace opening events (Malformed at) other one two = absurd one
 

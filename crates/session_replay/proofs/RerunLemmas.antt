@@ -32,7 +32,7 @@ use Rattle.session_engine.proofs.Settling.{is_ready, settle_all}
 use Rattle.session_in_memory.specs.Stores.{IsFresh}
 use Rattle.session_in_memory.proofs.Blank.{fresh_settled, ok_book}
 use Rattle.session_in_memory.proofs.Stopping.{run_stops}
-use Rattle.session_replay.specs.Running.{HasRun, HoldsBook}
+use Rattle.session_replay.specs.Running.{HasRun, HoldsBook, IsAlike}
 
 -- ---- the book
 
@@ -42,14 +42,13 @@ hidden_puts [] = refl
 hidden_puts (put ∷ puts) = hidden_puts puts
 
 -- the world behind a look at its store is as fresh as before
-still_fresh : (old mid : Outside) (file : List ℕ) → IsFresh old file → mid.told ≡ old.told → mid.first ≡ old.first → mid.size ≡ 16777280 → IsFresh mid file
-still_fresh old mid file fresh told first size = record { blank = fresh.blank; told = told ∙ fresh.told; first = first ∙ fresh.first; size = size }
+still_fresh : (old mid : Outside) (file : List ℕ) → IsFresh old file → IsAlike old mid → IsFresh mid file
+still_fresh old mid file fresh alike = record { blank = fresh.blank; told = alike.told ∙ fresh.told; first = alike.first ∙ fresh.first; size = alike.size ∙ fresh.size }
 
 -- a compaction over a blank store leaves its book there, and no byte in doubt
-pub book_written : (old mid new : Outside) (file : List ℕ) (book found : Book) (current next : Option Current) → IsFresh old file → mid.told ≡ old.told → mid.first ≡ old.first → mid.size ≡ 16777280 → new.first ≡ mid.first
-    → ((settled : List ℕ) → IsSettled old settled → SteadyFile current found settled) → Added mid.told new.told (Compacts current book (Ok next)) → HoldsBook book new
-book_written old mid new file book found current next fresh told first size kept recovers added =
-    let also : IsFresh mid file = still_fresh old mid file fresh told first size in
+pub book_written : (old mid new : Outside) (file : List ℕ) (book found : Book) (current next : Option Current) → IsFresh old file → IsAlike old mid → new.first ≡ mid.first → ((settled : List ℕ) → IsSettled old settled → SteadyFile current found settled) → Added mid.told new.told (Compacts current book (Ok next)) → HoldsBook book new
+book_written old mid new file book found current next fresh alike kept recovers added =
+    let also : IsFresh mid file = still_fresh old mid file fresh alike in
     let stands : SteadyStands current found file [] = settled-stands current found file fresh.blank.size (recovers file (fresh_settled old file fresh)) in
     let compacts : Compacts current book (Ok next) added.effects = added.holds in
     let after : SteadyStands next book file added.effects = compacts.turn file [] found stands in

@@ -1,5 +1,5 @@
 -- The lines of a trace against those of the machine.
-use Rattle.std.specs.Prelude.{◌≡◌, ◌⊎◌, ℕ, List, [], ◌∷◌, ◌++◌, codes}
+use Rattle.std.specs.Prelude.{◌≡◌, ◌⊎◌, ℕ, List, [], ◌∷◌, ◌++◌, length, codes}
 
 -- A line of a trace is this one of the machine's, to the byte. Whether a command could be started makes no difference.
 abbrev pub IsLineOf : List ℕ → List ℕ → Type 0
@@ -32,3 +32,7 @@ pub record PartAt (made lines left : List (List ℕ)) : Type 0 where
   pub made_parts : made ≡ done ++ next
   pub goes_on : GoesOn done lines left
   pub part : PartAtOnce next left
+
+-- They part, and so many are left.
+abbrev pub PartWith : List (List ℕ) → List (List ℕ) → ℕ → Type 0
+PartWith made lines n = (left : List (List ℕ)) × PartAt made lines left × (n ≡ length left)

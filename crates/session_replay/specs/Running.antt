@@ -25,6 +25,13 @@ config_of opening = record { cookie = or_else rehearsal_cookie opening.cookie; p
 abbrev pub book_of : Opening → Book
 book_of opening = or_else empty_book opening.book
 
+-- A world after a look at its store: nothing was done, and no event came.
+pub record IsAlike (old new : Outside) : Type 0 where
+  pub told : new.told ≡ old.told
+  pub first : new.first ≡ old.first
+  pub size : new.size ≡ old.size
+  pub coming : new.coming ≡ old.coming
+
 -- The store of this world has this book, and none of its bytes is in doubt. Nothing else was done so far.
 pub record HoldsBook (book : Book) (outside : Outside) : Type 0 where
   pub effects : List Effect

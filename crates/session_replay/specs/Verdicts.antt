@@ -8,7 +8,7 @@ use Rattle.trace_replay.specs.Openings.{behind_opening}
 use Rattle.trace_replay.specs.Traces.{IsMalformed, SaysTrace, events_in}
 use Rattle.trace_replay.specs.declared.lines.TraceLine.{TraceLine}
 use Rattle.trace_replay.specs.declared.opening.Opening.{Opening}
-use Rattle.session_replay.specs.Comparing.{AreLinesOf, PartAt}
+use Rattle.session_replay.specs.Comparing.{AreLinesOf, PartWith}
 use Rattle.session_replay.specs.Running.{book_of, config_of}
 use Rattle.session_replay.specs.declared.replaying.Verdict.{Verdict}
 use Rattle.session_replay.specs.declared.replaying.Verdict.TheVariants.{Same, Differs, Malformed}
@@ -23,7 +23,7 @@ machine_lines opening events = run_lines (run (config_of opening) (book_of openi
 abbrev pub Judges : List ℕ → Opening → List Event → Verdict → Type 0
 Judges trace opening events Same = AreLinesOf (machine_lines opening events) (behind_opening opening (lines_of trace))
 Judges trace opening events (Differs at) =
-    (left : List (List ℕ)) × PartAt (machine_lines opening events) (behind_opening opening (lines_of trace)) left × (at + length left ≡ length (lines_of trace) + 1)
+    (left : ℕ) × PartWith (machine_lines opening events) (behind_opening opening (lines_of trace)) left × (at + left ≡ length (lines_of trace) + 1)
 Judges trace opening events (Malformed at) = ⊥
 
 -- All lines are of the grammar, and this is the verdict over the trace's own events.

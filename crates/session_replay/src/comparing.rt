@@ -2,7 +2,7 @@ ghost use Rattle.std.specs.Prelude.{◌≡◌, ◌↔◌, ◌∷◌, ◌++◌, �
 ghost use Rattle.control_lines.specs.Lines.{lines_of};
 ghost use Rattle.session_engine.specs.Doing.{item_of, items};
 ghost use Rattle.session_in_memory.specs.Lines.{run_lines};
-ghost use Rattle.session_replay.specs.Comparing.{AreLinesOf, GoesOn, IsLineOf, PartAt, PartAtOnce};
+ghost use Rattle.session_replay.specs.Comparing.{AreLinesOf, GoesOn, IsLineOf, PartAtOnce, PartWith};
 
 use control_lines::next_line;
 use session_in_memory::trace_line;
@@ -55,28 +55,6 @@ fn behind_effect<'a>(
     }
 }
 
-/// The text from where it and the lines of these effects part; None where they don't.
-pub fn parting<'a>(
-    alloc: Global,
-    effects: &[Effect],
-    text: &'a [u8],
-) -> Result<Option<&'a [u8]>, NoMemory>
-    ensures { IfOk result (λ found. MatchOption found (AreLinesOf (run_lines (items effects.now)) (lines_of text.now)) (λ rest. PartAt (run_lines (items effects.now)) (lines_of text.now) (lines_of rest.now))) }
-{
-    let mut left = text;
-    for effect in effects {
-        match behind_effect(alloc, effect, left)? {
-            Some(rest) => left = rest,
-            None => return Ok(Some(left)),
-        }
-    }
-    if left.is_empty() {
-        Ok(None)
-    } else {
-        Ok(Some(left))
-    }
-}
-
 /// How many lines a text has.
 pub fn count_lines(text: &[u8]) -> u64
     ensures { result ≡ length (lines_of text.now) }
@@ -89,4 +67,20 @@ pub fn count_lines(text: &[u8]) -> u64
         left = rest;
     }
     count
+}
+
+/// How many lines of a text are left where it and the lines of these effects part; None where they
+/// don't.
+pub fn parting(alloc: Global, effects: &[Effect], text: &[u8]) -> Result<Option<u64>, NoMemory>
+    ensures { IfOk result (λ found. MatchOption found (AreLinesOf (run_lines (items effects.now)) (lines_of text.now)) (PartWith (run_lines (items effects.now)) (lines_of text.now))) }
+{
+    let mut left = text;
+    for effect in effects {
+        match behind_effect(alloc, effect, left)? {
+            Some(rest) => left = rest,
+            None => return Ok(Some(count_lines(left))),
+        }
+    }
+    let more = count_lines(left);
+    if more == 0 { Ok(None) } else { Ok(Some(more)) }
 }

@@ -65,7 +65,7 @@ fn judge(
     let world = rerun(alloc, config, &book, events)?;
     match parting(alloc, world.effects(), lines)? {
         Some(left) => Ok(Verdict::Differs {
-            at: count_lines(trace) - count_lines(left) + 1,
+            at: count_lines(trace) - left + 1,
         }),
         None => Ok(Verdict::Same),
     }
