@@ -6,8 +6,7 @@ use sm_world::{NoMemory, Octets};
 use std::alloc::Global;
 
 /// The cookie of each rehearsal, so that a script can show it.
-pub const REHEARSAL_COOKIE: Cookie =
-    Cookie([0, 1, 2, 3, 4, 5, 6, 7, 8, 9, 10, 11, 12, 13, 14, 15]);
+pub const REHEARSAL_COOKIE: Cookie = Cookie([0, 1, 2, 3, 4, 5, 6, 7, 8, 9, 10, 11, 12, 13, 14, 15]);
 
 /// How many bytes a store has.
 const STORE_LEN: usize = 16_777_280;

@@ -12,6 +12,7 @@ use Rattle.session_engine.specs.Machine.{Item}
 use Rattle.control_lines.specs.Lines.{lines_of}
 use Rattle.control_lines.specs.Traces.{effect_text}
 use Rattle.session_in_memory.specs.Lines.{effect_of, lines_by, run_lines}
+use Rattle.trace_replay.proofs.OpeningLemmas.{same_field, same_tail}
 use Rattle.session_replay.specs.Comparing.{AreLinesOf, GoesOn, IsLineOf, PartAt, PartAtOnce, PartWith}
 
 -- ---- the lines of some effects
@@ -72,14 +73,9 @@ line_by made line own other same is is' another decides = (
   (λ true_. inr (own, is, is' ∙ ap (λ text. codes "unstarted " ++ text) (decides.0 true_))),
   λ are. elim are [
     | inl e ↦ absurd (another e)
-    | inr command ↦ decides.1 (same_unstarted other command.0 (sym is' ∙ command.2) ∙ same_started command.0 own (sym command.1 ∙ is))
+    | inr command ↦ decides.1 (same_field (codes "unstarted ") other command.0 (sym is' ∙ command.2) ∙ same_field (codes "started ") command.0 own (sym command.1 ∙ is))
   ],
 )
-  where
-    same_started : (xs ys : List ℕ) → codes "started " ++ xs ≡ codes "started " ++ ys → xs ≡ ys
-    same_started xs ys e = cc
-    same_unstarted : (xs ys : List ℕ) → codes "unstarted " ++ xs ≡ codes "unstarted " ++ ys → xs ≡ ys
-    same_unstarted xs ys e = cc
 
 -- the line of an effect
 pub effect_by : (lines made : List (List ℕ)) (own : List ℕ) (found : Option (Bor (List ℕ))) → own ∷ [] ≡ made
@@ -115,12 +111,6 @@ more_found made lines left n goes_on number some =
     (left, parts_there made made [] lines left (sym (append-nil made)) goes_on (more_part left (λ none. some (number ∙ none))), number)
 
 -- ---- one parting
-
-same_head : {A : Type 0} (x y : A) (xs ys : List A) → x ∷ xs ≡ y ∷ ys → x ≡ y
-same_head x y xs ys e = cc
-
-same_tail : {A : Type 0} (x y : A) (xs ys : List A) → x ∷ xs ≡ y ∷ ys → xs ≡ ys
-same_tail x y xs ys e = cc
 
 -- where they part at once, they aren't the same and go on no further
 parted : (next rest made lines more others : List (List ℕ)) → next ≡ made ++ more → rest ≡ lines ++ others → AreLinesOf made lines → PartAtOnce next rest → lines ≡ []

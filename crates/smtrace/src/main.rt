@@ -2,8 +2,8 @@
 #![tactic(auto)]
 
 use program_frame::{OwnTexts, StandardConsole, read_words};
-use std::process::ExitCode;
 use smtrace_app::smtrace_main;
+use std::process::ExitCode;
 
 const TEXTS: OwnTexts = OwnTexts {
     help: "smtrace, which shows the traces of sessions\n\n\

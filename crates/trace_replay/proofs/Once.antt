@@ -18,7 +18,7 @@ use Rattle.trace_replay.specs.declared.lines.TraceLine.{TraceLine}
 use Rattle.trace_replay.specs.declared.lines.TraceLine.TheVariants.{Heard, End, Sent, Shut, Started, Printed}
 use Rattle.trace_replay.specs.declared.showing.ShowAnswer.TheVariants.{Text, Malformed}
 use Rattle.trace_replay.specs.declared.opening.Opening.{Opening}
-use Rattle.trace_replay.proofs.OpeningLemmas.{one_opening}
+use Rattle.trace_replay.proofs.OpeningLemmas.{one_opening, same_field}
 use Rattle.trace_replay.proofs.TraceLemmas.{never_both, same_place}
 
 -- ---- numbers and bytes
@@ -36,14 +36,6 @@ front_is fields n bytes says = ap (before 32) says.fields_are ∙ before_is 32 (
 same_conn : (fields : List ℕ) (n k : ℕ) (bytes others : List ℕ) → SaysBytes fields n bytes → SaysBytes fields k others → n ≡ k
 same_conn fields n k bytes others one other =
     same_number n k one.number other.number (sym (front_is fields n bytes one) ∙ front_is fields k others other)
-
-same_rest : (word xs ys : List ℕ) → word ++ xs ≡ word ++ ys → xs ≡ ys
-same_rest [] xs ys e = e
-same_rest (b ∷ word) xs ys e = same_rest word xs ys (ap (λ bytes. drop_one bytes) e)
-  where
-    drop_one : List ℕ → List ℕ
-    drop_one [] = []
-    drop_one (b ∷ bytes) = bytes
 
 -- ---- the kind of a line
 
@@ -150,12 +142,12 @@ same_heard line event other one two = ap Heard (same_event event other (one_give
 
 same_sent : (line : List ℕ) (n k : ℕ) (bytes others : List ℕ) → SaysLine line (Sent n bytes) → SaysLine line (Sent k others) → Sent n bytes ≡ Sent k others
 same_sent line n k bytes others (fields, begins, says) (fields', begins', says') =
-    let same : fields' ≡ fields = same_rest (codes "sent ") fields' fields (sym begins' ∙ begins) in
+    let same : fields' ≡ fields = same_field (codes "sent ") fields' fields (sym begins' ∙ begins) in
     let also : SaysBytes fields k others = subst (λ (text : List ℕ). SaysBytes text k others) same says' in
     ap (λ c. Sent c bytes) (same_conn fields n k bytes others says also) ∙ ap (Sent k) (same_bytes fields n k bytes others says also)
 
 same_shut : (line : List ℕ) (n k : ℕ) → SaysLine line (Shut n) → SaysLine line (Shut k) → Shut n ≡ Shut k
-same_shut line n k one other = ap Shut (same_number n k one.1 other.1 (same_rest (codes "shut ") (decimal n) (decimal k) (sym one.0 ∙ other.0)))
+same_shut line n k one other = ap Shut (same_number n k one.1 other.1 (same_field (codes "shut ") (decimal n) (decimal k) (sym one.0 ∙ other.0)))
 
 one_line : (line : List ℕ) → MeansOne (SaysLine line)
 one_line line (Heard event) other one two =

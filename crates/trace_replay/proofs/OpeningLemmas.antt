@@ -17,20 +17,19 @@ use Rattle.trace_replay.specs.declared.opening.Opening.{Opening}
 
 -- ---- the first line
 
-same_line : (xs ys : List ℕ) (xss yss : List (List ℕ)) → xs ∷ xss ≡ ys ∷ yss → xs ≡ ys
-same_line xs ys xss yss e = cc
+pub same_head : {A : Type 0} (x y : A) (xs ys : List A) → x ∷ xs ≡ y ∷ ys → x ≡ y
+same_head x y xs ys e = cc
 
-abbrev drop_one : List ℕ → List ℕ
-drop_one [] = []
-drop_one (b ∷ bytes) = bytes
+pub same_tail : {A : Type 0} (x y : A) (xs ys : List A) → x ∷ xs ≡ y ∷ ys → xs ≡ ys
+same_tail x y xs ys e = cc
 
-same_field : (word xs ys : List ℕ) → word ++ xs ≡ word ++ ys → xs ≡ ys
+pub same_field : (word xs ys : List ℕ) → word ++ xs ≡ word ++ ys → xs ≡ ys
 same_field [] xs ys e = e
-same_field (b ∷ word) xs ys e = same_field word xs ys (ap drop_one e)
+same_field (b ∷ word) xs ys e = same_field word xs ys (same_tail b b (word ++ xs) (word ++ ys) e)
 
 -- what stands behind the word in the first of the lines, if it does
 pub first_by : (line word : List ℕ) (others lines : List (List ℕ)) (found : Option (Bor (List ℕ))) → lines ≡ line ∷ others → MatchOption found ((rest : List ℕ) → line ≢ word ++ rest) (λ field. line ≡ word ++ field.now) → MatchOption found ((field : List ℕ) → FirstIs lines word field → ⊥) (λ field. FirstIs lines word field.now)
-first_by line word others lines None is none = λ field first. none field (same_line line (word ++ field) others first.0 (sym is ∙ first.1))
+first_by line word others lines None is none = λ field first. none field (same_head line (word ++ field) others first.0 (sym is ∙ first.1))
 first_by line word others lines (Some field) is begins = (others, is ∙ ap (λ first. first ∷ others) begins)
 
 module _ {A : Type 0} (word : List ℕ) (Means : List ℕ → A → Type 0) where
@@ -43,12 +42,12 @@ module _ {A : Type 0} (word : List ℕ) (Means : List ℕ → A → Type 0) wher
   pub begins_none : (lines : List (List ℕ)) (field : List ℕ) → FirstIs lines word field → ((value : A) → Means field value → ⊥) → BeginWith (SaysBehind word Means) lines None
   begins_none [] field first none = tt
   begins_none (line ∷ lines) field (others, first) none = λ value says.
-      none value (subst (λ (f : List ℕ). Means f value) (same_field word says.0 field (sym says.1 ∙ same_line line (word ++ field) lines others first)) says.2)
+      none value (subst (λ (f : List ℕ). Means f value) (same_field word says.0 field (sym says.1 ∙ same_head line (word ++ field) lines others first)) says.2)
 
   -- or this
   pub begins_so : (lines : List (List ℕ)) (field : List ℕ) (value : A) → FirstIs lines word field → Means field value → BeginWith (SaysBehind word Means) lines (Some value)
   begins_so [] field value (others, first) means = absurd cc
-  begins_so (line ∷ lines) field value (others, first) means = (field, same_line line (word ++ field) lines others first, means)
+  begins_so (line ∷ lines) field value (others, first) means = (field, same_head line (word ++ field) lines others first, means)
 
   -- it means one thing at most
   one_meaning : ((field : List ℕ) → MeansOne (Means field)) → (line : List ℕ) → MeansOne (SaysBehind word Means line)

@@ -19,7 +19,7 @@ use Rattle.trace_replay.specs.declared.lines.TraceLine.{TraceLine}
 use Rattle.trace_replay.specs.declared.lines.TraceLine.TheVariants.{Heard, End, Sent, Shut, Started, Printed}
 use Rattle.trace_replay.specs.declared.opening.Opening.{Opening}
 use Rattle.trace_replay.specs.declared.reading.Reading.TheVariants.{Whole}
-use Rattle.trace_replay.proofs.OpeningLemmas.{one_opening, open_cut, open_front, opening_length, opening_parts}
+use Rattle.trace_replay.proofs.OpeningLemmas.{one_opening, open_cut, open_front, opening_length, opening_parts, same_head, same_tail}
 
 -- ---- lines and what they say
 
@@ -48,28 +48,15 @@ same_back : (xs ys zs : List (List ℕ)) → xs ++ zs ≡ ys ++ zs → xs ≡ ys
 same_back [] [] zs e = refl
 same_back [] (y ∷ ys) zs e = absurd (omega (arith, ap length e, length-append ys zs))
 same_back (x ∷ xs) [] zs e = absurd (omega (arith, ap length e, length-append xs zs))
-same_back (x ∷ xs) (y ∷ ys) zs e = ap (λ (first : List ℕ). first ∷ xs) (same_first x y (xs ++ zs) (ys ++ zs) e) ∙ ap (λ others. y ∷ others) (same_back xs ys zs (same_others x y (xs ++ zs) (ys ++ zs) e))
-  where
-    same_first : (x y : List ℕ) (xs ys : List (List ℕ)) → x ∷ xs ≡ y ∷ ys → x ≡ y
-    same_first x y xs ys e = cc
-    same_others : (x y : List ℕ) (xs ys : List (List ℕ)) → x ∷ xs ≡ y ∷ ys → xs ≡ ys
-    same_others x y xs ys e = cc
+same_back (x ∷ xs) (y ∷ ys) zs e = ap (λ (first : List ℕ). first ∷ xs) (same_head x y (xs ++ zs) (ys ++ zs) e) ∙ ap (λ others. y ∷ others) (same_back xs ys zs (same_tail x y (xs ++ zs) (ys ++ zs) e))
 
 -- of two fronts of one list the longer begins with the shorter and the item behind it
 longer : (xs : List (List ℕ)) (x : List ℕ) (xs' ys ys' : List (List ℕ)) → xs ++ x ∷ xs' ≡ ys ++ ys' → length xs < length ys → (more : List (List ℕ)) × (ys ≡ (xs ++ x ∷ []) ++ more)
 longer xs x xs' [] ys' e short = absurd (omega (arith, short))
-longer [] x xs' (y ∷ ys) ys' e short = (ys, same_head x y xs' (ys ++ ys') ys e)
-  where
-    same_head : (x y : List ℕ) (xs zs ys : List (List ℕ)) → x ∷ xs ≡ y ∷ zs → y ∷ ys ≡ x ∷ ys
-    same_head x y xs zs ys e = cc
+longer [] x xs' (y ∷ ys) ys' e short = (ys, ap (λ (first : List ℕ). first ∷ ys) (sym (same_head x y xs' (ys ++ ys') e)))
 longer (z ∷ xs) x xs' (y ∷ ys) ys' e short =
-    let rest = longer xs x xs' ys ys' (same_others z y (xs ++ x ∷ xs') (ys ++ ys') e) (omega (arith, short)) in
-    (rest.0, ap (λ others. y ∷ others) rest.1 ∙ ap (λ (first : List ℕ). first ∷ (xs ++ x ∷ []) ++ rest.0) (sym (same_first z y (xs ++ x ∷ xs') (ys ++ ys') e)))
-  where
-    same_first : (x y : List ℕ) (xs ys : List (List ℕ)) → x ∷ xs ≡ y ∷ ys → x ≡ y
-    same_first x y xs ys e = cc
-    same_others : (x y : List ℕ) (xs ys : List (List ℕ)) → x ∷ xs ≡ y ∷ ys → xs ≡ ys
-    same_others x y xs ys e = cc
+    let rest = longer xs x xs' ys ys' (same_tail z y (xs ++ x ∷ xs') (ys ++ ys') e) (omega (arith, short)) in
+    (rest.0, ap (λ others. y ∷ others) rest.1 ∙ ap (λ (first : List ℕ). first ∷ (xs ++ x ∷ []) ++ rest.0) (sym (same_head z y (xs ++ x ∷ xs') (ys ++ ys') e)))
 
 -- the last of some items
 last_of : (x : List ℕ) (xs : List (List ℕ)) → (front : List (List ℕ)) × ((last : List ℕ) × (x ∷ xs ≡ front ++ last ∷ []))
@@ -178,8 +165,8 @@ says_none limit text left line rest opening n said read first none =
     let all : lines_of text ≡ more ++ lines_of rest = read.lines ∙ (ap (λ lines. read.front ++ lines) first ∙ sym (append_assoc read.front (line ∷ []) (lines_of rest))) in
     let stays = open_front more (lines_of rest) opening (subst (λ (ls : List (List ℕ)). Open ls opening) all read.opens) (omega (arith, read.sized, length-append read.front (line ∷ []))) in
     let same : behind_opening opening more ≡ read.body ++ line ∷ [] =
-        same_back (behind_opening opening more) (read.body ++ line ∷ []) (lines_of rest)
-        (sym stays.behind ∙ (ap (behind_opening opening) (sym all) ∙ (read.behind ∙ (ap (λ lines. read.body ++ lines) first ∙ sym (append_assoc read.body (line ∷ []) (lines_of rest)))))) in
+    same_back (behind_opening opening more) (read.body ++ line ∷ []) (lines_of rest)
+    (sym stays.behind ∙ (ap (behind_opening opening) (sym all) ∙ (read.behind ∙ (ap (λ lines. read.body ++ lines) first ∙ sym (append_assoc read.body (line ∷ []) (lines_of rest)))))) in
     record {
       good = read.front;
       line = line;

@@ -29,10 +29,9 @@ overflow_add-result c =
 pub returns-in-Some : goal.returns-in-Some
 returns-in-Some c =
     let few : c.in-Some.left ≤ length (lines_of c.args.trace.now) = few_left c.args.opening (lines_of c.args.trace.now) (lines_of c.behind-lines.result.now) (run_lines (items c.effects.result.now)) c.in-Some.left c.behind-lines.ensures (rw c.in-Some.is at c.in_ok-left.ensures) in
-    let are = lines_are c.config_by-config.result (config_of c.args.opening) c.in_ok-book.book (book_of c.args.opening) c.args.events c.effects.result.now (steady_outside c.in_ok-world.world) c.effects.ensures c.in_ok-world.ensures c.config_by-config.ensures c.in_ok-book.ensures in
-    (
+    let are = lines_are c.config_by-config.result (config_of c.args.opening) c.in_ok-book.book (book_of c.args.opening) c.args.events c.effects.result.now (steady_outside c.in_ok-world.world) c.effects.ensures c.in_ok-world.ensures c.config_by-config.ensures c.in_ok-book.ensures in (
       c.in-Some.left,
       subst (λ (made : List (List ℕ)). PartWith made (behind_opening c.args.opening (lines_of c.args.trace.now)) c.in-Some.left) are
-      (subst (λ (lines : List (List ℕ)). PartWith (run_lines (items c.effects.result.now)) lines c.in-Some.left) c.behind-lines.ensures (rw c.in-Some.is at c.in_ok-left.ensures)),
+          (subst (λ (lines : List (List ℕ)). PartWith (run_lines (items c.effects.result.now)) lines c.in-Some.left) c.behind-lines.ensures (rw c.in-Some.is at c.in_ok-left.ensures)),
       omega (arith, few, c.count_lines.ensures),
     )
