@@ -1,10 +1,10 @@
+use session_replay::{Verdict, a_trace_has_one_verdict, replay};
 use sm_world::{Effect, EventList, NoMemory, Octets, SteadyWorld};
+use smtrace_app::smtrace_main;
 use std::alloc::Global;
 use std::process::Abort;
 use std::test::Fail;
-use trace_replay::{
-    ShowAnswer, a_cut_header_is_refused, a_trace_has_one_answer, show, smtrace_main,
-};
+use trace_replay::{ShowAnswer, a_cut_header_is_refused, a_trace_has_one_answer, show};
 
 /// The lines of a table, which are parted by ` / `, each with its newline.
 fn lines(alloc: Global, row: &str) -> Result<String, Fail> {
@@ -195,7 +195,7 @@ fn answered(alloc: Global, word: &str, trace: &[u8]) -> Result<Answer, Fail> {
 #[test]
 fn statuses_of_the_program(rt: HostRuntime) -> Result<(), Fail> {
     let alloc = rt.alloc();
-    let table: [(&str, &str, u8, &str); 5] = [
+    let table: [(&str, &str, u8, &str); 7] = [
         (
             "show",
             "piece 1 0001000000000000",
@@ -204,7 +204,9 @@ fn statuses_of_the_program(rt: HostRuntime) -> Result<(), Fail> {
         ),
         ("show", "", 0, ""),
         ("show", "end\n\n", 3, "malformed at 2\n"),
-        ("replay", "end\n", 1, "smtrace: bad words\n"),
+        ("replay", "end\n", 0, "same\n"),
+        ("replay", "join 1\n", 2, "differs at 2\n"),
+        ("replay", "join x\n", 3, "malformed at 1\n"),
         ("Show", "end\n", 1, "smtrace: bad words\n"),
     ];
     for (word, trace, status, want) in table {
@@ -238,8 +240,18 @@ fn the_longest_trace(rt: HostRuntime) -> Result<(), Fail> {
 }
 
 #[test]
+fn a_ping_is_replayed(rt: HostRuntime) -> Result<(), Fail> {
+    let alloc = rt.alloc();
+    let trace = lines(alloc, ROWS[0].trace)?;
+    let verdict = replay(alloc, trace.as_bytes())?;
+    assert_eq!(rt; verdict, Verdict::Same);
+    Ok(())
+}
+
+#[test]
 fn laws_can_be_cited(_rt: HostRuntime) -> Result<(), Fail> {
     a_trace_has_one_answer();
     a_cut_header_is_refused();
+    a_trace_has_one_verdict();
     Ok(())
 }

@@ -1,13 +1,14 @@
-//! `smtrace`, which shows the traces of sessions.
+//! `smtrace`, which shows the traces of sessions, and replays them.
 #![tactic(auto)]
 
 use program_frame::{OwnTexts, StandardConsole, read_words};
+use smtrace_app::smtrace_main;
 use std::process::ExitCode;
-use trace_replay::smtrace_main;
 
 const TEXTS: OwnTexts = OwnTexts {
     help: "smtrace, which shows the traces of sessions\n\n\
         usage: smtrace show < TRACE    shows each message of a trace\n\
+        \x20      smtrace replay < TRACE  says whether it is what the session machine does\n\
         \x20      smtrace --help          shows this\n\
         \x20      smtrace --version       shows the version\n",
     version: "smtrace 0.1.0\n",

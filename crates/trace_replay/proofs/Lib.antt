@@ -1,8 +1,9 @@
 pub mod FieldLemmas
 pub mod LineLemmas
+pub mod OpeningLemmas
+pub mod TraceLemmas
 pub mod PartLemmas
 pub mod FlowLemmas
 pub mod WatchLemmas
 pub mod ReadingLemmas
 pub mod Once
-pub mod Printing

@@ -1,23 +1,25 @@
 -- A line of a trace says one thing at most, and so a trace has one answer.
 use Rattle.std.proofs.Common.{◌≡◌, ◌⊎◌, inl, inr, ℕ, zero, suc, ◌<◌, ◌≤◌, ◌^◌, ◌==◌, List, [], ◌∷◌, ◌++◌, length, get_or, Some, refl, sym, ◌∙◌, ap, subst, arith, codes, if◌then◌else◌}
 use Rattle.std.specs.Fmt.{decimal}
-use Rattle.std.specs.List.{AllByRecursion}
 use Rattle.sm_world.specs.declared.events.Event.{Event}
 use Rattle.sm_world.specs.declared.events.Event.TheVariants.{Joined, Piece, Gone, Operator, Tick, End as AtEnd}
 use Rattle.control_lines.specs.Fields.{SaysBytes}
 use Rattle.control_lines.specs.Laws.{MeansOne}
 use Rattle.control_lines.specs.Lines.{lines_of}
 use Rattle.control_lines.specs.Script.{Says}
-use Rattle.control_lines.proofs.FirstBad.{BadAt, same_place, none_bad}
 use Rattle.control_lines.proofs.Meanings.{one_given, same_bytes}
 use Rattle.control_lines.proofs.Splitting.{before, before_is, decimal_without}
-use Rattle.trace_replay.specs.Grammar.{IsNoLine, IsOpening, SaysLine, SayLines, SayTrace}
+use Rattle.trace_replay.specs.Grammar.{SaysLine, SayLines}
+use Rattle.trace_replay.specs.Openings.{behind_opening}
+use Rattle.trace_replay.specs.Traces.{IsTrace}
 use Rattle.trace_replay.specs.Shown.{shown}
-use Rattle.trace_replay.specs.Shows.{IsMalformed, ShowsWithin}
+use Rattle.trace_replay.specs.Shows.{ShowsWithin}
 use Rattle.trace_replay.specs.declared.lines.TraceLine.{TraceLine}
 use Rattle.trace_replay.specs.declared.lines.TraceLine.TheVariants.{Heard, End, Sent, Shut, Started, Printed}
 use Rattle.trace_replay.specs.declared.showing.ShowAnswer.TheVariants.{Text, Malformed}
-use Rattle.trace_replay.proofs.LineLemmas.{opening_says_nothing}
+use Rattle.trace_replay.specs.declared.opening.Opening.{Opening}
+use Rattle.trace_replay.proofs.OpeningLemmas.{one_opening, same_field}
+use Rattle.trace_replay.proofs.TraceLemmas.{never_both, same_place}
 
 -- ---- numbers and bytes
 
@@ -34,14 +36,6 @@ front_is fields n bytes says = ap (before 32) says.fields_are ∙ before_is 32 (
 same_conn : (fields : List ℕ) (n k : ℕ) (bytes others : List ℕ) → SaysBytes fields n bytes → SaysBytes fields k others → n ≡ k
 same_conn fields n k bytes others one other =
     same_number n k one.number other.number (sym (front_is fields n bytes one) ∙ front_is fields k others other)
-
-same_rest : (word xs ys : List ℕ) → word ++ xs ≡ word ++ ys → xs ≡ ys
-same_rest [] xs ys e = e
-same_rest (b ∷ word) xs ys e = same_rest word xs ys (ap (λ bytes. drop_one bytes) e)
-  where
-    drop_one : List ℕ → List ℕ
-    drop_one [] = []
-    drop_one (b ∷ bytes) = bytes
 
 -- ---- the kind of a line
 
@@ -148,12 +142,12 @@ same_heard line event other one two = ap Heard (same_event event other (one_give
 
 same_sent : (line : List ℕ) (n k : ℕ) (bytes others : List ℕ) → SaysLine line (Sent n bytes) → SaysLine line (Sent k others) → Sent n bytes ≡ Sent k others
 same_sent line n k bytes others (fields, begins, says) (fields', begins', says') =
-    let same : fields' ≡ fields = same_rest (codes "sent ") fields' fields (sym begins' ∙ begins) in
+    let same : fields' ≡ fields = same_field (codes "sent ") fields' fields (sym begins' ∙ begins) in
     let also : SaysBytes fields k others = subst (λ (text : List ℕ). SaysBytes text k others) same says' in
     ap (λ c. Sent c bytes) (same_conn fields n k bytes others says also) ∙ ap (Sent k) (same_bytes fields n k bytes others says also)
 
 same_shut : (line : List ℕ) (n k : ℕ) → SaysLine line (Shut n) → SaysLine line (Shut k) → Shut n ≡ Shut k
-same_shut line n k one other = ap Shut (same_number n k one.1 other.1 (same_rest (codes "shut ") (decimal n) (decimal k) (sym one.0 ∙ other.0)))
+same_shut line n k one other = ap Shut (same_number n k one.1 other.1 (same_field (codes "shut ") (decimal n) (decimal k) (sym one.0 ∙ other.0)))
 
 one_line : (line : List ℕ) → MeansOne (SaysLine line)
 one_line line (Heard event) other one two =
@@ -169,11 +163,6 @@ one_line line (Shut n) other one two =
 one_line line Started other one two = sym (is_started other (same_kind line Started other one two))
 one_line line Printed other one two = sym (is_printed other (same_kind line Printed other one two))
 
--- a line that opens a trace says nothing
-opened : (line : List ℕ) (lines : List (List ℕ)) (said : List TraceLine) → IsOpening line → SayLines (line ∷ lines) said → ⊥
-opened line lines [] opens say = elim say [ ]
-opened line lines (first ∷ said) opens say = opening_says_nothing line opens first say.0
-
 one_list : (lines : List (List ℕ)) → MeansOne (SayLines lines)
 one_list [] [] [] one two = refl
 one_list [] [] (said ∷ others) one two = elim two [ ]
@@ -183,91 +172,17 @@ one_list (line ∷ lines) (said ∷ others) [] one two = elim two [ ]
 one_list (line ∷ lines) (said ∷ others) (said' ∷ others') one two =
     ap (λ first. first ∷ others) (one_line line said said' one.0 two.0) ∙ ap (λ rest. said' ∷ rest) (one_list lines others others' one.1 two.1)
 
-one_trace : (lines : List (List ℕ)) → MeansOne (SayTrace lines)
-one_trace [] said other one two = one_list [] said other one two
-one_trace (line ∷ lines) said other (inl one) (inl two) = one_list lines said other one.1 two.1
-one_trace (line ∷ lines) said other (inl one) (inr two) = absurd (opened line lines other one.0 two)
-one_trace (line ∷ lines) said other (inr one) (inl two) = absurd (opened line lines said two.0 one)
-one_trace (line ∷ lines) said other (inr one) (inr two) = one_list (line ∷ lines) said other one two
+-- lines are a trace with one opening and one list of meanings
+pub one_trace : (lines : List (List ℕ)) (opening other : Opening) (said others : List TraceLine) → IsTrace lines opening said → IsTrace lines other others → (opening ≡ other) × (said ≡ others)
+one_trace lines opening other said others one two =
+    let is : opening ≡ other = one_opening lines opening other one.opens two.opens in
+    (is, one_list (behind_opening opening lines) said others one.say (subst (λ (o : Opening). SayLines (behind_opening o lines) others) (sym is) two.say))
 
 -- ---- one answer
 
--- the line says something
-abbrev IsGood : List ℕ → Type 0
-IsGood line = (meaning : TraceLine) × SaysLine line meaning
-
--- The first line of a trace is marked by 0 and the others by 1, since the first alone may be an opening.
-abbrev IsGoodThere : List ℕ → Type 0
-IsGoodThere [] = ⊥
-IsGoodThere (zero ∷ line) = IsOpening line ⊎ IsGood line
-IsGoodThere (suc n ∷ line) = IsGood line
-
-abbrev later : List (List ℕ) → List (List ℕ)
-later [] = []
-later (line ∷ lines) = (1 ∷ line) ∷ later lines
-
-abbrev marked : List (List ℕ) → List (List ℕ)
-marked [] = []
-marked (line ∷ lines) = (0 ∷ line) ∷ later lines
-
--- the mark of a line behind these
-abbrev marked_behind : List (List ℕ) → List ℕ → List ℕ
-marked_behind [] line = 0 ∷ line
-marked_behind (first ∷ lines) line = 1 ∷ line
-
-later-length : (lines : List (List ℕ)) → length (later lines) ≡ length lines
-later-length [] = refl
-later-length (line ∷ lines) = omega (arith, later-length lines)
-
-marked-length : (lines : List (List ℕ)) → length (marked lines) ≡ length lines
-marked-length [] = refl
-marked-length (line ∷ lines) = omega (arith, later-length lines)
-
-later-parts : (good : List (List ℕ)) (line : List ℕ) (others : List (List ℕ)) → later (good ++ line ∷ others) ≡ later good ++ (1 ∷ line) ∷ later others
-later-parts [] line others = refl
-later-parts (first ∷ good) line others = ap (λ lines. (1 ∷ first) ∷ lines) (later-parts good line others)
-
-marked-parts : (good : List (List ℕ)) (line : List ℕ) (others : List (List ℕ)) → marked (good ++ line ∷ others) ≡ marked good ++ marked_behind good line ∷ later others
-marked-parts [] line others = refl
-marked-parts (first ∷ good) line others = ap (λ lines. (0 ∷ first) ∷ lines) (later-parts good line others)
-
-later_good : (lines : List (List ℕ)) (said : List TraceLine) → SayLines lines said → AllByRecursion IsGoodThere (later lines)
-later_good [] said say = tt
-later_good (line ∷ lines) [] say = elim say [ ]
-later_good (line ∷ lines) (first ∷ said) say = ((first, say.0), later_good lines said say.1)
-
-all_good : (lines : List (List ℕ)) (said : List TraceLine) → SayTrace lines said → AllByRecursion IsGoodThere (marked lines)
-all_good [] said say = tt
-all_good (line ∷ lines) said (inl opens) = (inl opens.0, later_good lines said opens.1)
-all_good (line ∷ lines) [] (inr say) = elim say [ ]
-all_good (line ∷ lines) (first ∷ said) (inr say) = (inr (first, say.0), later_good lines said say.1)
-
-not_good : (good : List (List ℕ)) (line : List ℕ) → IsNoLine good line → IsGoodThere (marked_behind good line) → ⊥
-not_good [] line none (inl opens) = none.no_opening refl opens
-not_good [] line none (inr says) = none.no_meaning says.0 says.1
-not_good (first ∷ good) line none says = none.no_meaning says.0 says.1
-
-bad_at : (limit : ℕ) (trace : List ℕ) (n : ℕ) → IsMalformed limit trace n → BadAt IsGoodThere (limit < length trace) (marked (lines_of trace)) n
-bad_at limit trace n first = record {
-  good = marked first.good;
-  line = marked_behind first.good first.line;
-  others = later first.others;
-  parts = ap marked first.lines ∙ marked-parts first.good first.line first.others;
-  number = omega (arith, first.number, marked-length first.good);
-  all_good = all_good first.good first.said first.all_good;
-  bad = elim first.bad [
-    | inl none ↦ inl (not_good first.good first.line none)
-    | inr last ↦ inr (last.0, ap later last.1)
-  ];
-}
-
-never_both : (limit : ℕ) (trace : List ℕ) (n : ℕ) (said : List TraceLine) → length trace ≤ limit → SayTrace (lines_of trace) said → IsMalformed limit trace n → ⊥
-never_both limit trace n said within say bad =
-    none_bad IsGoodThere (limit < length trace) (marked (lines_of trace)) n (all_good (lines_of trace) said say) (λ long. omega (arith, long, within)) (bad_at limit trace n bad)
-
 pub one_answer : (limit : ℕ) (trace : List ℕ) → MeansOne (ShowsWithin limit trace)
 one_answer limit trace (Text text) (Text other) one two =
-    ap Text (one.text_is ∙ (ap shown (one_trace (lines_of trace) one.said two.said one.say two.say) ∙ sym two.text_is))
-one_answer limit trace (Text text) (Malformed at) one two = absurd (never_both limit trace at one.said one.within one.say two)
-one_answer limit trace (Malformed at) (Text text) one two = absurd (never_both limit trace at two.said two.within two.say one)
-one_answer limit trace (Malformed at) (Malformed other) one two = ap Malformed (same_place IsGoodThere (limit < length trace) (marked (lines_of trace)) at other (bad_at limit trace at one) (bad_at limit trace other two))
+    ap Text (one.text_is ∙ (ap shown (one_trace (lines_of trace) one.opening two.opening one.said two.said one.says.all two.says.all).1 ∙ sym two.text_is))
+one_answer limit trace (Text text) (Malformed at) one two = absurd (never_both limit trace at one.opening one.said one.says two)
+one_answer limit trace (Malformed at) (Text text) one two = absurd (never_both limit trace at two.opening two.said two.says one)
+one_answer limit trace (Malformed at) (Malformed other) one two = ap Malformed (same_place limit trace at other one two)

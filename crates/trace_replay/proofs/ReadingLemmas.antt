@@ -1,16 +1,19 @@
 -- The lines of a trace, one after the other.
-use Rattle.std.proofs.Common.{◌≡◌, inl, inr, ℕ, ◌+◌, ◌<◌, ◌≤◌, ◌^◌, ◌==◌, nat_eq, List, [], ◌∷◌, ◌++◌, length, codes, refl, sym, ◌∙◌, ap, arith, append_assoc, length-append}
+use Rattle.std.proofs.Common.{◌≡◌, ℕ, ◌+◌, ◌<◌, ◌≤◌, ◌^◌, ◌==◌, nat_eq, List, [], ◌∷◌, ◌++◌, length, codes, refl, sym, ◌∙◌, ap, arith, append_assoc, length-append}
 use Rattle.std.proofs.lemmas.List.{append-nil}
 use Rattle.sm_world.specs.declared.events.Event.TheVariants.{Joined, Piece, Gone, Operator, Tick, End as AtEnd}
 use Rattle.ice_framing.proofs.Cuts.{cond-both}
 use Rattle.control_lines.specs.Lines.{before_lines, lines_of}
-use Rattle.trace_replay.specs.Grammar.{IsNoLine, IsOpening, SaysLine, SayLines, SayTrace}
+use Rattle.trace_replay.specs.Grammar.{SaysLine}
 use Rattle.trace_replay.specs.Shown.{Streams, shown, silence, replaced, after_line, line_shown, shown_from}
+use Rattle.trace_replay.specs.Shows.{IsShown}
 use Rattle.trace_replay.specs.Watches.{Shows, FollowsLine}
 use Rattle.trace_replay.specs.declared.lines.TraceLine.{TraceLine}
 use Rattle.trace_replay.specs.declared.lines.TraceLine.TheVariants.{Heard, End, Sent, Shut, Started, Printed}
 use Rattle.trace_replay.specs.declared.watch.Watch.{Watch}
+use Rattle.trace_replay.specs.declared.opening.Opening.{Opening}
 use Rattle.trace_replay.proofs.LineLemmas.{bytes_within}
+use Rattle.trace_replay.proofs.TraceLemmas.{ReadTo, ends, goes_on}
 
 -- the streams after some lines
 abbrev pub after_lines : Streams → List TraceLine → Streams
@@ -82,43 +85,20 @@ shown_one_more streams (first ∷ said) one =
     ap (λ (lines : List ℕ). line_shown streams first ++ lines) (shown_one_more (after_line streams first) said one)
     ∙ sym (append_assoc (line_shown streams first) (shown_from (after_line streams first) said) (line_shown (after_lines (after_line streams first) said) one))
 
-say_one_more : (lines : List (List ℕ)) (said : List TraceLine) (line : List ℕ) (one : TraceLine) → SayLines lines said → SaysLine line one → SayLines (lines ++ line ∷ []) (said ++ one ∷ [])
-say_one_more [] [] line one say says = (says, tt)
-say_one_more [] (first ∷ said) line one say says = elim say [ ]
-say_one_more (first ∷ lines) [] line one say says = elim say [ ]
-say_one_more (first ∷ lines) (meant ∷ said) line one say says = (say.0, say_one_more lines said line one say.1 says)
-
--- the same behind an opening
-say_still : (lines : List (List ℕ)) (said : List TraceLine) (line : List ℕ) (one : TraceLine) → SayTrace lines said → SaysLine line one → SayTrace (lines ++ line ∷ []) (said ++ one ∷ [])
-say_still [] [] line one say says = inr (says, tt)
-say_still [] (meant ∷ said) line one say says = elim say [ ]
-say_still (first ∷ lines) said line one (inl opens) says = inl (opens.0, say_one_more lines said line one opens.1 says)
-say_still (first ∷ lines) said line one (inr say) says = inr (say_one_more (first ∷ lines) said line one say says)
-
 -- In the middle of a trace: what was shown so far is what is shown of the lines so far.
-pub record Reading (limit : ℕ) (trace left : List ℕ) (watch : Watch) (text : List ℕ) (n : ℕ) : Type 0 where
-  pub good : List (List ℕ)
+pub record Showing (limit : ℕ) (trace left : List ℕ) (opening : Opening) (watch : Watch) (text : List ℕ) (n : ℕ) : Type 0 where
   pub said : List TraceLine
-  pub lines : lines_of trace ≡ good ++ lines_of left
-  pub say : SayTrace good said
-  pub number : n ≡ length good
-  pub few : n + length left ≤ length trace
-  pub within : left ≡ [] → length trace ≤ limit
+  pub read : ReadTo limit trace left opening n said
   pub text_is : text ≡ shown said
   pub shows : Shows (after_lines silence said) watch
-  pub small : AreWithin (total good) (after_lines silence said)
+  pub small : AreWithin (total read.front) (after_lines silence said)
   pub fits : length trace < 2 ^ 64
 
--- before the first line
-pub begins : (limit : ℕ) (trace : List ℕ) (watch : Watch) (text : List ℕ) → (trace ≡ [] → length trace ≤ limit) → text ≡ [] → Shows silence watch → length trace < 2 ^ 64 → Reading limit trace trace watch text 0
-begins limit trace watch text within none shows fits = record {
-  good = [];
+-- behind the opening
+pub shows_none : (limit : ℕ) (trace left : List ℕ) (opening : Opening) (watch : Watch) (text : List ℕ) (n : ℕ) → ReadTo limit trace left opening n [] → text ≡ [] → Shows silence watch → length trace < 2 ^ 64 → Showing limit trace left opening watch text n
+shows_none limit trace left opening watch text n read none shows fits = record {
   said = [];
-  lines = refl;
-  say = tt;
-  number = refl;
-  few = omega arith;
-  within = within;
+  read = read;
   text_is = none;
   shows = shows;
   small = record { came = λ q. omega arith; went = λ q. omega arith };
@@ -126,59 +106,30 @@ begins limit trace watch text within none shows fits = record {
 }
 
 -- one more line was read
-pub goes_on : (limit : ℕ) (trace left line rest : List ℕ) (watch after : Watch) (text more : List ℕ) (n : ℕ) (one : TraceLine) → Reading limit trace left watch text n → lines_of left ≡ line ∷ lines_of rest → length rest < length left → SaysLine line one → FollowsLine one watch after text more → (rest ≡ [] → length trace ≤ limit) → Reading limit trace rest after more (n + 1)
-goes_on limit trace left line rest watch after text more n one reading first shorter says follows within =
-    let streams : Streams = after_lines silence reading.said in
-    let next : AreWithin (total reading.good + length line) (after_line streams one) = after_within (total reading.good) line streams one says reading.small in
-    let lines : lines_of trace ≡ reading.good ++ (line ∷ lines_of rest) = reading.lines ∙ ap (λ ls. reading.good ++ ls) first in
-    let bytes : total reading.good + (length line + total (lines_of rest)) ≤ length trace = omega (arith, ap total lines, total-append reading.good (line ∷ lines_of rest), total-lines_of trace) in
-    let followed = follows streams reading.shows (record { came = λ q. omega (arith, next.came q, bytes, reading.fits); went = λ q. omega (arith, next.went q, bytes, reading.fits) }) in
-    let streams_are : after_lines silence (reading.said ++ one ∷ []) ≡ after_line streams one = after_one_more silence reading.said one in
+pub shows_on : (limit : ℕ) (trace left line rest : List ℕ) (opening : Opening) (watch after : Watch) (text more : List ℕ) (n : ℕ) (one : TraceLine) → Showing limit trace left opening watch text n → lines_of left ≡ line ∷ lines_of rest → SaysLine line one → FollowsLine one watch after text more → (rest ≡ [] → length trace ≤ limit) → Showing limit trace rest opening after more (n + 1)
+unfolding goes_on
+shows_on limit trace left line rest opening watch after text more n one showing first says follows within =
+    let streams : Streams = after_lines silence showing.said in
+    let front : List (List ℕ) = showing.read.front in
+    let next : AreWithin (total front + length line) (after_line streams one) = after_within (total front) line streams one says showing.small in
+    let lines : lines_of trace ≡ front ++ (line ∷ lines_of rest) = showing.read.lines ∙ ap (λ ls. front ++ ls) first in
+    let bytes : total front + (length line + total (lines_of rest)) ≤ length trace = omega (arith, ap total lines, total-append front (line ∷ lines_of rest), total-lines_of trace) in
+    let followed = follows streams showing.shows (record { came = λ q. omega (arith, next.came q, bytes, showing.fits); went = λ q. omega (arith, next.went q, bytes, showing.fits) }) in
+    let streams_are : after_lines silence (showing.said ++ one ∷ []) ≡ after_line streams one = after_one_more silence showing.said one in
     record {
-      good = reading.good ++ line ∷ [];
-      said = reading.said ++ one ∷ [];
-      lines = lines ∙ sym (append_assoc reading.good (line ∷ []) (lines_of rest));
-      say = say_still reading.good reading.said line one reading.say says;
-      number = omega (arith, reading.number, length-append reading.good (line ∷ []));
-      few = omega (arith, reading.few);
-      within = within;
-      text_is = followed.lines ∙ ap (λ (front : List ℕ). front ++ line_shown streams one) reading.text_is ∙ sym (shown_one_more silence reading.said one);
+      said = showing.said ++ one ∷ [];
+      read = goes_on limit trace left line rest opening n showing.said one showing.read first says within;
+      text_is = followed.lines ∙ ap (λ (front : List ℕ). front ++ line_shown streams one) showing.text_is ∙ sym (shown_one_more silence showing.said one);
       shows = rw streams_are followed.shows;
-      small = record { came = λ q. rw streams_are (omega (arith, next.came q, total-append reading.good (line ∷ []))); went = λ q. rw streams_are (omega (arith, next.went q, total-append reading.good (line ∷ []))) };
-      fits = reading.fits;
+      small = record { came = λ q. rw streams_are (omega (arith, next.came q, total-append front (line ∷ []))); went = λ q. rw streams_are (omega (arith, next.went q, total-append front (line ∷ []))) };
+      fits = showing.fits;
     }
 
-none_before : (lines : List (List ℕ)) → length lines ≡ 0 → lines ≡ []
-none_before [] e = refl
-none_before (line ∷ lines) e = absurd (omega arith)
-
-nothing_said : (lines : List (List ℕ)) (said : List TraceLine) → lines ≡ [] → SayTrace lines said → said ≡ []
-nothing_said [] [] e say = refl
-nothing_said [] (meant ∷ said) e say = elim say [ ]
-nothing_said (line ∷ lines) said e say = absurd cc
-
--- the first line opens the trace
-pub opens_on : (limit : ℕ) (trace left line rest : List ℕ) (watch : Watch) (text : List ℕ) (n : ℕ) → Reading limit trace left watch text n → n ≡ 0 → lines_of left ≡ line ∷ lines_of rest → length rest < length left → IsOpening line → (rest ≡ [] → length trace ≤ limit) → Reading limit trace rest watch text (n + 1)
-opens_on limit trace left line rest watch text n reading is_first first shorter opens within =
-    let none : reading.good ≡ [] = none_before reading.good (sym reading.number ∙ is_first) in
-    let silent : reading.said ≡ [] = nothing_said reading.good reading.said none reading.say in
-    record {
-      good = line ∷ [];
-      said = [];
-      lines = reading.lines ∙ (ap (λ good. good ++ lines_of left) none ∙ first);
-      say = inl (opens, tt);
-      number = omega (arith, is_first);
-      few = omega (arith, reading.few);
-      within = within;
-      text_is = reading.text_is ∙ ap shown silent;
-      shows = rw silent at reading.shows;
-      small = record { came = λ q. omega arith; went = λ q. omega arith };
-      fits = reading.fits;
-    }
-
--- a line that is none there
-pub no_line_there : (limit : ℕ) (trace left line : List ℕ) (watch : Watch) (text : List ℕ) (n : ℕ) → (reading : Reading limit trace left watch text n) → ((meaning : TraceLine) → SaysLine line meaning → ⊥) → (n ≡ 0 → IsOpening line → ⊥) → IsNoLine reading.good line
-no_line_there limit trace left line watch text n reading none closed = record {
-  no_meaning = none;
-  no_opening = λ e opens. closed (reading.number ∙ ap length e) opens;
+-- the trace is at its end
+pub shows_all : (limit : ℕ) (trace left : List ℕ) (opening : Opening) (watch : Watch) (text : List ℕ) (n : ℕ) → Showing limit trace left opening watch text n → left ≡ [] → IsShown limit trace text
+shows_all limit trace left opening watch text n showing none = record {
+  opening = opening;
+  said = showing.said;
+  says = ends limit trace left opening n showing.said showing.read none;
+  text_is = showing.text_is;
 }

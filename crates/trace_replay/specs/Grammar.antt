@@ -1,5 +1,5 @@
 -- What the lines of a trace say.
-use Rattle.std.specs.Prelude.{◌≡◌, ◌⊎◌, ℕ, ◌<◌, ◌≤◌, ◌^◌, List, [], ◌∷◌, ◌++◌, codes}
+use Rattle.std.specs.Prelude.{◌≡◌, ◌⊎◌, ℕ, ◌<◌, ◌^◌, List, [], ◌∷◌, ◌++◌, codes}
 use Rattle.std.specs.Fmt.{decimal}
 use Rattle.control_lines.specs.Fields.{SaysBytes}
 use Rattle.control_lines.specs.Script.{Says}
@@ -26,17 +26,3 @@ SayLines [] [] = Unit {0}
 SayLines [] (said ∷ others) = ⊥
 SayLines (line ∷ lines) [] = ⊥
 SayLines (line ∷ lines) (said ∷ others) = SaysLine line said × SayLines lines others
-
--- The line states a patience: a number from 1 below 2^64, in decimal and without leading zeros. A trace may open with it.
-abbrev pub IsOpening : List ℕ → Type 0
-IsOpening line = (n : ℕ) × (line ≡ codes "patience " ++ decimal n) × (1 ≤ n) × (n < 2 ^ 64)
-
--- Each of the lines says the meaning in its place, but for an opening in front of them, which says nothing.
-abbrev pub SayTrace : List (List ℕ) → List TraceLine → Type 0
-SayTrace [] said = SayLines [] said
-SayTrace (line ∷ lines) said = (IsOpening line × SayLines lines said) ⊎ SayLines (line ∷ lines) said
-
--- Behind these lines this one isn't of the grammar: it says nothing, and it isn't the opening of a trace.
-pub record IsNoLine (before : List (List ℕ)) (line : List ℕ) : Type 0 where
-  pub no_meaning : (meaning : TraceLine) → SaysLine line meaning → ⊥
-  pub no_opening : before ≡ [] → IsOpening line → ⊥

@@ -1,5 +1,7 @@
 pub mod Commands
 pub mod Grammar
+pub mod Openings
+pub mod Traces
 pub mod Frames
 pub mod Shown
 pub mod Shows
@@ -7,5 +9,3 @@ pub mod Steps
 pub mod Parts
 pub mod Flows
 pub mod Watches
-pub mod Faults
-pub mod Statuses

@@ -1,10 +1,10 @@
-ghost use Rattle.std.specs.Prelude.{◌↔◌, ℕ, List, IsTrue, IfOk, IfErr, IfSome, IsNone};
+ghost use Rattle.std.specs.Prelude.{ℕ, List, IfOk, IfErr, IfSome, IsNone};
 ghost use Rattle.control_lines.specs.Script.{IsRefusal};
-ghost use Rattle.trace_replay.specs.Grammar.{BeginsCommand, IsOpening, SaysLine};
+ghost use Rattle.trace_replay.specs.Grammar.{BeginsCommand, SaysLine};
 
 use crate::commands::is_command;
-use control_lines::{OrderRefusal, read_bytes, read_conn, read_number, read_script_line};
-use sm_world::{Conn, Event, NoMemory, Octets};
+use control_lines::{OrderRefusal, read_bytes, read_conn, read_script_line};
+use sm_world::{Conn, Event, Octets};
 use std::alloc::Global;
 
 /// What a line of a trace says.
@@ -69,18 +69,5 @@ pub fn read_trace_line(alloc: Global, line: &[u8]) -> Result<TraceLine, OrderRef
         Ok(None) => Err(OrderRefusal::BadLine),
         Err(OrderRefusal::BadLine) => Err(OrderRefusal::BadLine),
         Err(OrderRefusal::NoMemory) => Err(OrderRefusal::NoMemory),
-    }
-}
-
-/// Whether a line is `patience MS`, with which a trace may open; MS is a number from 1.
-pub fn is_opening(alloc: Global, line: &[u8]) -> Result<bool, NoMemory>
-    ensures { IfOk result (λ is. IsTrue is ↔ IsOpening line.now) }
-{
-    let Some(field) = line.strip_prefix(b"patience ") else {
-        return Ok(false);
-    };
-    match read_number(alloc, field)? {
-        Some(number) => Ok(number > 0),
-        None => Ok(false),
     }
 }

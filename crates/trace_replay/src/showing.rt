@@ -1,7 +1,7 @@
 ghost use Rattle.std.specs.Prelude.{IfOk};
 ghost use Rattle.trace_replay.specs.Shows.{Shows, ShowsWithin};
 
-use crate::lines::is_opening;
+use crate::opening::read_opening;
 use crate::watch::Watch;
 use control_lines::{OrderRefusal, next_line};
 use sm_world::{NoMemory, Octets};
@@ -20,22 +20,24 @@ pub enum ShowAnswer {
 pub fn show_within(alloc: Global, trace: &[u8], limit: usize) -> Result<ShowAnswer, NoMemory>
     ensures { IfOk result (ShowsWithin limit trace.now) }
 {
+    let opening = read_opening(alloc, trace)?;
     let mut watch = Watch::new(alloc);
     let mut text = Octets::new(alloc);
-    let mut left = trace;
-    let mut number = 0u64;
+    let mut left = opening.behind(trace);
+    let mut number = opening.size();
+    if left.is_empty() && trace.len() > limit {
+        return Ok(ShowAnswer::Malformed { at: number });
+    }
     while !left.is_empty() {
         let (line, rest) = next_line(left);
         number += 1;
         if rest.is_empty() && trace.len() > limit {
             return Ok(ShowAnswer::Malformed { at: number });
         }
-        if number > 1 || !is_opening(alloc, line)? {
-            match watch.take_line(alloc, &mut text, line) {
-                Ok(()) => {}
-                Err(OrderRefusal::BadLine) => return Ok(ShowAnswer::Malformed { at: number }),
-                Err(OrderRefusal::NoMemory) => return Err(NoMemory),
-            }
+        match watch.take_line(alloc, &mut text, line) {
+            Ok(()) => {}
+            Err(OrderRefusal::BadLine) => return Ok(ShowAnswer::Malformed { at: number }),
+            Err(OrderRefusal::NoMemory) => return Err(NoMemory),
         }
         left = rest;
     }
@@ -48,8 +50,8 @@ pub fn show_within(alloc: Global, trace: &[u8], limit: usize) -> Result<ShowAnsw
 /// `BadValue`. A header that states too much has `Oversize`, and nothing is shown behind it.
 ///
 /// The lines of a trace are those of a script that say an event, `end`, `sent N HEX`, `shut N`,
-/// `started` and `unstarted` with a command, and `printed` with any text. The first may be
-/// `patience MS`, of which nothing is shown.
+/// `started` and `unstarted` with a command, and `printed` with any text. In front of them may stand
+/// `cookie HEX`, `book HEX` and `patience MS`, in this order, of which nothing is shown.
 pub fn show(alloc: Global, trace: &[u8]) -> Result<ShowAnswer, NoMemory>
     ensures { IfOk result (Shows trace.now) }
 {

@@ -1,0 +1,4 @@
+pub mod ComparingLemmas
+pub mod RerunLemmas
+pub mod JudgingLemmas
+pub mod Once

@@ -1,0 +1,94 @@
+ghost use Rattle.std.specs.Prelude.{◌≡◌, IfOk};
+ghost use Rattle.std.specs.List.{AllByRecursion};
+ghost use Rattle.checkpoint_records.specs.Rules.{KeepsRules};
+ghost use Rattle.control_lines.specs.Lines.{lines_of};
+ghost use Rattle.sm_world.specs.Events.{HasPieceSize};
+ghost use Rattle.session_replay.specs.Running.{book_of, config_of};
+ghost use Rattle.session_replay.specs.Verdicts.{Judges, Replays, ReplaysWithin};
+ghost use Rattle.trace_replay.specs.Openings.{Open};
+
+use crate::comparing::{count_lines, parting};
+use crate::rerun::rerun;
+use checkpoint_records::Book;
+use session_engine::Config;
+use session_in_memory::REHEARSAL_COOKIE;
+use sm_world::{EventList, NoMemory};
+use std::alloc::Global;
+use trace_replay::{Opening, Reading, read_trace};
+
+/// What replaying a trace answers. Lines are counted from 1.
+#[derive(Clone, Copy, Debug, PartialEq, Eq)]
+pub enum Verdict {
+    /// The lines are those of the machine for the trace's own events.
+    Same,
+    /// This line is the first that isn't the one that the machine gives next. Where only lines are
+    /// missing, it is the number after the last line.
+    Differs { at: u64 },
+    /// This line is the first that isn't of the grammar.
+    Malformed { at: u64 },
+}
+
+/// The cookie that a trace opens with, or that of a rehearsal, and its patience, or none.
+fn config_by(opening: &Opening) -> Config
+    ensures { result ≡ config_of opening.now }
+{
+    Config {
+        cookie: opening.cookie.unwrap_or(REHEARSAL_COOKIE),
+        patience: opening.patience.unwrap_or(0),
+    }
+}
+
+/// The book that a trace opens with, or the empty one.
+fn book_by(alloc: Global, opening: Opening) -> Result<Book, NoMemory>
+    ensures { IfOk result (λ book. book ≡ book_of opening) }
+{
+    match opening.book {
+        Some(book) => Ok(book),
+        None => Book::empty(alloc),
+    }
+}
+
+/// The verdict on a trace that opens so and has these events.
+fn judge(
+    alloc: Global,
+    trace: &[u8],
+    opening: Opening,
+    events: EventList,
+) -> Result<Verdict, NoMemory>
+    requires opens { Open (lines_of trace.now) opening }
+    requires sized { AllByRecursion HasPieceSize events }
+    ensures { IfOk result (Judges trace.now opening events) }
+{
+    let lines = opening.behind(trace);
+    let config = config_by(&opening);
+    let book = book_by(alloc, opening)?;
+    let world = rerun(alloc, config, &book, events)?;
+    match parting(alloc, world.effects(), lines)? {
+        Some(left) => Ok(Verdict::Differs {
+            at: count_lines(trace) - left + 1,
+        }),
+        None => Ok(Verdict::Same),
+    }
+}
+
+/// Replays a trace. Where it has more bytes than this, its last line isn't of the grammar.
+pub fn replay_within(alloc: Global, trace: &[u8], limit: usize) -> Result<Verdict, NoMemory>
+    ensures { IfOk result (ReplaysWithin limit trace.now) }
+{
+    match read_trace(alloc, trace, limit)? {
+        Reading::Whole(opening, events) => judge(alloc, trace, opening, events),
+        Reading::Malformed { at } => Ok(Verdict::Malformed { at }),
+    }
+}
+
+/// Runs the session machine over the events of a trace, and says whether the trace's lines are those
+/// of this run, to the byte; `started` and `unstarted` of the same command are one. A trace may stop
+/// without `end`, but not with a deed missing. Each line is tested for the grammar first.
+///
+/// The cookie, the book and the patience of the session are those with which the trace opens. A
+/// trace that opens with none is taken as one of a rehearsal.
+pub fn replay(alloc: Global, trace: &[u8]) -> Result<Verdict, NoMemory>
+    ensures { IfOk result (Replays trace.now) }
+{
+    replay_within(alloc, trace, trace.len())
+}

@@ -1,0 +1,63 @@
+-- A whole trace, and where a text is none.
+use Rattle.std.specs.Prelude.{◌≡◌, ◌⊎◌, ℕ, ◌+◌, ◌<◌, ◌≤◌, List, [], ◌∷◌, ◌++◌, length}
+use Rattle.std.specs.List.{AllByRecursion, flat_map}
+use Rattle.control_lines.specs.Lines.{lines_of}
+use Rattle.sm_world.specs.Events.{HasPieceSize}
+use Rattle.sm_world.specs.declared.events.Event.{Event}
+use Rattle.sm_world.specs.declared.events.Event.TheVariants.{End as AtEnd}
+use Rattle.trace_replay.specs.Grammar.{SayLines}
+use Rattle.trace_replay.specs.Openings.{Open, behind_opening}
+use Rattle.trace_replay.specs.declared.lines.TraceLine.{TraceLine}
+use Rattle.trace_replay.specs.declared.lines.TraceLine.TheVariants.{Heard, End, Sent, Shut, Started, Printed}
+use Rattle.trace_replay.specs.declared.opening.Opening.{Opening}
+use Rattle.trace_replay.specs.declared.reading.Reading.{Reading}
+use Rattle.trace_replay.specs.declared.reading.Reading.TheVariants.{Whole, Malformed}
+
+-- The lines open with these, and each line behind them says the meaning in its place.
+pub record IsTrace (lines : List (List ℕ)) (opening : Opening) (said : List TraceLine) : Type 0 where
+  pub opens : Open lines opening
+  pub say : SayLines (behind_opening opening lines) said
+
+-- no opening and no meanings make these lines a trace
+abbrev pub IsNone : List (List ℕ) → Type 0
+IsNone lines = (opening : Opening) (said : List TraceLine) → ¬ (IsTrace lines opening said)
+
+-- The n-th line, counted from 1, is the first that isn't of the grammar: those before it are a trace, and with it they are none. Or it is
+-- the last of a text that is too long.
+pub record IsMalformed (limit : ℕ) (text : List ℕ) (n : ℕ) : Type 0 where
+  pub good : List (List ℕ)
+  pub line : List ℕ
+  pub others : List (List ℕ)
+  pub lines : lines_of text ≡ good ++ line ∷ others
+  pub number : n ≡ length good + 1
+  pub opening : Opening
+  pub said : List TraceLine
+  pub all_good : IsTrace good opening said
+  pub bad : IsNone (good ++ line ∷ []) ⊎ ((limit < length text) × (others ≡ []))
+
+-- A text of at most so many bytes is a trace that says this.
+pub record SaysTrace (limit : ℕ) (text : List ℕ) (opening : Opening) (said : List TraceLine) : Type 0 where
+  pub within : length text ≤ limit
+  pub all : IsTrace (lines_of text) opening said
+
+-- the events among the lines, of which `end` is one
+abbrev pub event_in : TraceLine → List Event
+event_in (Heard event) = event ∷ []
+event_in End = AtEnd ∷ []
+event_in (Sent n bytes) = []
+event_in (Shut n) = []
+event_in Started = []
+event_in Printed = []
+
+abbrev pub events_in : List TraceLine → List Event
+events_in said = flat_map event_in said
+
+-- what a text is read as, which may have so many bytes
+abbrev pub ReadsAs : ℕ → List ℕ → Reading → Type 0
+ReadsAs limit text (Whole opening events) = (said : List TraceLine) × SaysTrace limit text opening said × (events ≡ events_in said)
+ReadsAs limit text (Malformed at) = IsMalformed limit text at
+
+-- the events of a trace have the sizes that events have
+abbrev pub AreSized : Reading → Type 0
+AreSized (Whole opening events) = AllByRecursion HasPieceSize events
+AreSized (Malformed at) = Unit {0}
