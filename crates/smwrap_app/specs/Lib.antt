@@ -1,0 +1,5 @@
+pub mod Words
+pub mod Faults
+pub mod Running
+pub mod Copies
+pub mod Statuses
