@@ -1,5 +1,9 @@
 -- The faults of `smwrap`, with their statuses and lines.
-use Rattle.std.specs.Prelude.{ℕ, List, codes, Option, Some, None, Result}
+use Rattle.std.specs.Prelude.{ℕ, List, codes, Option, Some, None, Result, Ok, Err}
+use Rattle.sm_world.specs.declared.failures.Failure.{Failure}
+use Rattle.sm_world.specs.declared.failures.Failure.TheVariants.{Failed, NoMemory as DeviceMemory}
+use Rattle.named_joiner.specs.declared.ends.NamedEnd.{NamedEnd}
+use Rattle.named_joiner.specs.declared.ends.NamedEnd.TheVariants.{Died, Refused as IsRefused, Malformed as IsMalformed}
 use Rattle.program_frame.specs.Printing.{line}
 use Rattle.smwrap_app.specs.declared.fault.Fault.{Fault}
 use Rattle.smwrap_app.specs.declared.fault.Fault.TheVariants.{BadWords, Refused, StreamEnded, NoEntry, Link, Spent, NoMemory, Malformed, Disk}
@@ -27,5 +31,22 @@ fault_line NoMemory = None
 fault_line Malformed = None
 fault_line Disk = None
 
+-- how a run of `smwrap` ends
 abbrev pub Ending : Type 0
 Ending = Result (Unit {0}) Fault
+
+-- the ending that the client's own end gives
+abbrev pub end_of : NamedEnd → Ending
+end_of Died = Ok tt
+end_of (IsRefused class) = Err Refused
+end_of (IsMalformed at) = Err Malformed
+
+-- the fault of a peer that failed
+abbrev pub peer_fault : Failure → Fault
+peer_fault Failed = Link
+peer_fault DeviceMemory = NoMemory
+
+-- the fault of a file that failed before the program was started
+abbrev pub file_fault : Failure → Fault
+file_fault Failed = Disk
+file_fault DeviceMemory = NoMemory

@@ -1,3 +1,6 @@
+ghost use Rattle.std.specs.Prelude.{◌≡◌};
+ghost use Rattle.smwrap_app.specs.Faults.{end_of, fault_line, fault_status, file_fault as file_fault_spec, peer_fault as peer_fault_spec};
+
 use named_joiner::NamedEnd;
 use program_frame::{ProgramFault, try_line};
 use sm_world::{Console, Failure};
@@ -23,8 +26,6 @@ pub enum Fault {
 }
 
 impl ProgramFault for Fault {
-    ghost use Rattle.smwrap_app.specs.Faults.{fault_line, fault_status};
-
     ghost status_of = { fault_status };
 
     ghost line_of = { fault_line };
@@ -51,7 +52,9 @@ impl ProgramFault for Fault {
 }
 
 /// How a run ends whose client came to this end.
-pub fn ended(end: NamedEnd) -> Result<(), Fault> {
+pub fn ended(end: NamedEnd) -> Result<(), Fault>
+    ensures { result ≡ end_of end }
+{
     match end {
         NamedEnd::Died => Ok(()),
         NamedEnd::Refused { .. } => Err(Fault::Refused),
@@ -60,7 +63,9 @@ pub fn ended(end: NamedEnd) -> Result<(), Fault> {
 }
 
 /// The fault of a peer that failed.
-pub fn peer_fault(failure: Failure) -> Fault {
+pub fn peer_fault(failure: Failure) -> Fault
+    ensures { result ≡ peer_fault_spec failure }
+{
     match failure {
         Failure::Failed => Fault::Link,
         Failure::NoMemory => Fault::NoMemory,
@@ -68,7 +73,9 @@ pub fn peer_fault(failure: Failure) -> Fault {
 }
 
 /// The fault of files that failed before the program was started.
-pub fn file_fault(failure: Failure) -> Fault {
+pub fn file_fault(failure: Failure) -> Fault
+    ensures { result ≡ file_fault_spec failure }
+{
     match failure {
         Failure::Failed => Fault::Disk,
         Failure::NoMemory => Fault::NoMemory,

@@ -1,0 +1,4 @@
+pub mod WordLaws
+pub mod EffectLaws
+pub mod ScriptLaws
+pub mod RunLaws
