@@ -12,11 +12,11 @@ use Rattle.smwrap_app.specs.Running.{all_heard}
 
 -- ---- as many replies as there are parts
 
-abbrev first_reply : List Replies → Replies
+abbrev pub first_reply : List Replies → Replies
 first_reply rs = reply unasked talk_of reacts rs
 
-abbrev taken : Keeper → List Part → List Replies → Step Keeper Entry
-taken keeper parts rs = parts_taken unasked talk_of reacts keeper parts rs
+abbrev pub taken_by : Keeper → List Part → List Replies → Step Keeper Entry
+taken_by keeper parts rs = parts_taken unasked talk_of reacts keeper parts rs
 
 -- so many of these, and where they end nothing is asked
 pub padded : ℕ → List Replies → List Replies
@@ -40,7 +40,7 @@ padded-append zero rs qs below = refl
 padded-append (suc m) [] qs below = absurd (omega (arith, below))
 padded-append (suc m) (r ∷ rs) qs below = ap (λ (ss : List Replies). r ∷ ss) (padded-append m rs qs (omega (arith, below)))
 
-taken_padded : (keeper : Keeper) (parts : List Part) (rs : List Replies) → taken keeper parts (padded (length parts) rs) ≡ taken keeper parts rs
+taken_padded : (keeper : Keeper) (parts : List Part) (rs : List Replies) → taken_by keeper parts (padded (length parts) rs) ≡ taken_by keeper parts rs
 unfolding padded
 taken_padded keeper [] rs = refl
 taken_padded keeper (part ∷ parts) rs =

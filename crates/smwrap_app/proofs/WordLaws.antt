@@ -66,10 +66,7 @@ behind_dashes words rest n is =
 pub record StandsAt (count : ℕ) (ws front : List (List ℕ)) (dashes : List ℕ) (program : List (List ℕ)) : Type 0 where
   pub front_is : take count ws ≡ front
   pub dashes_are : get_or ws count [] ≡ dashes
-  some_words : (n : ℕ) → (n ≡ 0 → ⊥) → (n == 0) ≡ false
-some_words n some = grind (arith, nat_tests)
-
-pub program_is : drop (count + 1) ws ≡ program
+  pub program_is : drop (count + 1) ws ≡ program
   pub inside : count < length ws
 
 pub stands_at : (count : ℕ) (ws : List (List ℕ)) (chosen : Chosen) (at : AreChosenAt count ws chosen) → StandsAt count ws at.0.front (codes "--") chosen.program

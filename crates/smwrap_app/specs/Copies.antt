@@ -81,3 +81,7 @@ pub record MakesCopies (plan : SavePlan) (outside : Outside) (line : List Entry)
   pub small : AllByRecursion (λ (copy : Copy). copy.number < 2 ^ 32) copies
   pub apart : AreApart plan copies
   pub held : HoldEach plan outside copies
+
+-- Copies whose numbers rise have paths of their own.
+abbrev pub CopiesAreApart : Type 0
+CopiesAreApart = (plan : SavePlan) (last : ℕ) (copies : List Copy) → Rises last copies → AllByRecursion (λ (copy : Copy). copy.number < 2 ^ 32) copies → AreApart plan copies

@@ -3,8 +3,10 @@
 
 mod fault;
 mod joining;
+mod laws;
 mod program;
 mod starting;
 mod words;
 
+pub use laws::{a_client_tells_what_it_answers, copies_are_apart};
 pub use program::smwrap_main;

@@ -1,7 +1,12 @@
-//! Tests of clients whose callbacks are told their ID, and of those that save a program's file.
+//! Tests of clients whose callbacks are told their ID, of those that save a program's file, and of the program that
+//! wraps one.
 #![tactic(auto)]
 
+#[cfg(test)]
+mod frames;
 #[cfg(test)]
 mod named;
 #[cfg(test)]
 mod saving;
+#[cfg(test)]
+mod wrapping;
