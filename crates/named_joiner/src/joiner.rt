@@ -136,7 +136,8 @@ impl BareJoiner {
 
 impl<S: NamedSaves + Drop, D: NamedDies + Drop> NamedJoiner<S, D> {
     /// A client that will register with this ID of an earlier session, or with none, and what it sends
-    /// at once. `save` is asked in each save, and `die` when the client is told to die.
+    /// at once. `save` is asked in each save, and `die` when the client is told to die; a closure is
+    /// handed over as `ByCall`.
     pub fn new(
         alloc: Global,
         cookie: Cookie,

@@ -11,9 +11,28 @@ ghost use Rattle.smwrap_app.specs.Turning.{Amid, Delivers, Finishes, Listens};
 
 use crate::fault::{Fault, ended, peer_fault};
 use client_peer::Peer;
+use ice_values::Array8List;
 use named_joiner::{HearFault, NamedDies, NamedJoiner, NamedReply, NamedSaves};
 use sm_world::{Failure, NoMemory};
 use std::alloc::Global;
+
+/// A client that gives no reasons as it closes.
+#[derive(Drop)]
+pub struct Silent {
+    pub alloc: Global,
+}
+
+impl NamedDies for Silent {
+    ghost use Rattle.std.specs.Prelude.{◌≡◌, [], Some};
+
+    ghost lawful = { λ s. Unit {0} };
+
+    ghost gives = { λ s reasons t. reasons ≡ Some [] };
+
+    fn reasons(&mut self) -> Option<Array8List> {
+        Some(Array8List::new(self.alloc))
+    }
+}
 
 /// How many bytes are received at once.
 const PIECE_LEN: usize = 4096;

@@ -1,17 +1,16 @@
-ghost use Rattle.std.specs.Prelude.{◌≡◌, [], map, string_bytes, IfSome, Some};
-ghost use Rattle.client_engine.specs.Answering.{AreFew};
+ghost use Rattle.std.specs.Prelude.{◌≡◌, map, string_bytes};
 ghost use Rattle.sm_world.specs.Outside.{Added, NotFallen};
 ghost use Rattle.smwrap_app.specs.Starting.{IsFit, MayJoin};
 ghost use Rattle.smwrap_app.specs.Statuses.{Answers, Runs, RunsBy, plan_by};
 ghost use Rattle.smwrap_app.specs.Words.{chosen_of};
 
 use crate::fault::{Fault, peer_fault};
-use crate::joining::follow;
+use crate::joining::{Silent, follow};
 use crate::starting::{begin, plan_of};
 use crate::words::{Choices, read_choices};
 use client_peer::Peer;
 use ice_cookie::Cookie;
-use ice_values::{Array8, Array8List};
+use ice_values::Array8;
 use named_joiner::BareJoiner;
 use program_frame::conclude;
 use sm_world::{Console, NoMemory, Spawner};
@@ -40,11 +39,7 @@ fn join<P: Peer, F: Files>(
         Ok(begun) => begun,
         Err(NoMemory) => return Err(Fault::NoMemory),
     };
-    let die = || -> Option<Array8List>
-        ensures few { IfSome result AreFew }
-        ensures none { result ≡ Some [] }
-    { Some(Array8List::new(alloc)) };
-    let mut joiner = bare.with(Saver::new(alloc, files, plan), die);
+    let mut joiner = bare.with(Saver::new(alloc, files, plan), Silent { alloc });
     follow(alloc, peer, &mut joiner, greeting.as_slice(), turns)
 }
 

@@ -3,11 +3,13 @@ ghost use Rattle.program_frame.specs.Untold.{CountsFault};
 ghost use Rattle.sm_world.specs.declared.failures.Failure.TheVariants.{Failed as HasFailed};
 ghost use Rattle.wrapped_files.specs.Untold.{wrapped_outside};
 
-use crate::files::{read_whole, replace};
-use crate::starting::{start, text};
+use crate::files::read_whole;
+use crate::starting::start;
 use program_frame::StandardConsole;
+use program_spawner::text;
 use sm_world::{Command, Console, Failure, NoMemory, Octets, Spawner, Told};
 use state_saver::Files;
+use store_file::replace;
 use std::io;
 use std::io::ErrorKind;
 use std::process::Child;
@@ -81,7 +83,7 @@ impl Files for WrappedFiles {
     }
 
     fn publish(&mut self, path: &str, bytes: &[u8]) -> Result<(), Failure> {
-        match replace(self.rt, path, bytes, self.mode) {
+        match replace(self.rt, path, bytes, Some(self.mode)) {
             Ok(()) => Ok(()),
             Err(error) if error.kind() == ErrorKind::OutOfMemory => Err(Failure::NoMemory),
             Err(error) => Err(self.failed(path, error)),
