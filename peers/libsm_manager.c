@@ -1,8 +1,8 @@
 /* A session manager on libSM and libICE, for clients that another one is to be tried with:
- *   libsm_manager LOG
- * It prints SESSION_MANAGER and then a line for each cookie: the network id and the cookie in hex. Its orders are
- * lines of standard input: `save`, `shutdown`, and the end of the input, at which it ends. In LOG stands what
- * happened, with each client's properties behind a save that succeeded. */
+ *   libsm_manager LOG AUTHORITY
+ * It writes its cookies into a new file AUTHORITY, and prints SESSION_MANAGER=.. then. Its orders are lines of
+ * standard input: `save`, `shutdown`, and the end of the input, at which it ends. In LOG stands what happened, with
+ * the client's properties behind each save that succeeded, whose words are parted by tabs. */
 #include <X11/ICE/ICElib.h>
 #include <X11/ICE/ICEutil.h>
 #include <X11/SM/SMlib.h>
@@ -157,16 +157,7 @@ static void on_link(IceConn link, IcePointer data, Bool opening, IcePointer *wat
 
 static void on_io_error(IceConn link) { (void)link; }
 
-static void print_cookie(const char *protocol, const char *network, int length, const char *cookie) {
-    if (strcmp(protocol, "ICE") != 0)
-        return;
-    printf("%s ", network);
-    for (int i = 0; i < length; i++)
-        printf("%02x", (unsigned char)cookie[i]);
-    printf("\n");
-}
-
-static void let_in(int doors, IceListenObj *listeners) {
+static void let_in(int doors, IceListenObj *listeners, FILE *authority) {
     IceAuthDataEntry entries[2 * MOST];
     int made = 0;
     for (int i = 0; i < doors && made < 2 * MOST; i++) {
@@ -180,7 +171,9 @@ static void let_in(int doors, IceListenObj *listeners) {
             entry->auth_name = "MIT-MAGIC-COOKIE-1";
             entry->auth_data = cookie;
             entry->auth_data_length = 16;
-            print_cookie(protocols[j], network, 16, cookie);
+            IceAuthFileEntry told = {.protocol_name = entry->protocol_name, .protocol_data = "", .network_id = network,
+                .auth_name = entry->auth_name, .auth_data_length = 16, .auth_data = cookie};
+            IceWriteAuthFileEntry(authority, &told);
         }
         IceSetHostBasedAuthProc(listeners[i], NULL);
     }
@@ -258,7 +251,8 @@ int main(int number, char **words) {
     char error[256] = "";
     int doors = 0;
     IceListenObj *listeners = NULL;
-    if (number != 2 || !(notes = fopen(words[1], "a")))
+    FILE *authority;
+    if (number != 3 || !(notes = fopen(words[1], "a")) || !(authority = fopen(words[2], "w")))
         return 2;
     IceSetIOErrorHandler(on_io_error);
     IceAddConnectionWatch(on_link, NULL);
@@ -267,7 +261,8 @@ int main(int number, char **words) {
         fprintf(stderr, "libsm_manager: %s\n", error);
         return 1;
     }
-    let_in(doors, listeners);
+    let_in(doors, listeners, authority);
+    fclose(authority);
     printf("SESSION_MANAGER=%s\n", IceComposeNetworkIdList(doors, listeners));
     fflush(stdout);
     serve(doors, listeners);
