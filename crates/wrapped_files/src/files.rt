@@ -8,6 +8,7 @@ use std::os::unix::fs::MetadataExt;
 const PERMISSIONS: u32 = 0o777;
 
 /// What was read of a file.
+#[derive(Drop)]
 pub struct Found {
     pub bytes: Vec<u8>,
     /// Its permissions.
