@@ -1,8 +1,11 @@
-"""Gives a session manager that is on libICE, and has another socket at each login, one place in a folder:
+"""A door in a folder for a client of a session manager that is on libICE, and has another socket at each login:
     door.py FOLDER
-`socket` in the folder leads to its socket, and `authority` has its cookie for that place. The manager is the one of
+`authority` in the folder has the manager's cookie for `socket` there. Whoever comes to that socket, one client, is led
+to the manager's abstract socket, by which xsm tells the clients that it can start again. The manager is the one of
 SESSION_MANAGER, and its cookie stands in ICEAUTHORITY, or else in ~/.ICEauthority."""
 import os
+import select
+import socket
 import struct
 import sys
 
@@ -19,11 +22,7 @@ def entries(data):
         yield entry
 
 
-def main():
-    folder = sys.argv[1]
-    names = os.environ["SESSION_MANAGER"].split(",")
-    (name,) = [it for it in names if it.startswith("unix/")]
-    place = os.path.join(folder, "socket")
+def write_authority(folder, name, place):
     path = os.environ.get("ICEAUTHORITY") or os.path.expanduser("~/.ICEauthority")
     with open(path, "rb") as file:
         found = [it for it in entries(file.read()) if it[0] == b"ICE" and it[2] == name.encode()]
@@ -33,9 +32,38 @@ def main():
     with open(os.path.join(folder, "authority.new"), "wb") as file:
         file.write(b"".join(struct.pack(">H", len(it)) + it for it in entry))
     os.replace(file.name, os.path.join(folder, "authority"))
-    if os.path.islink(place):
+
+
+def relay(one, other):
+    """Leads bytes both ways until one of the two ends."""
+    while True:
+        for ready in select.select([one, other], [], [])[0]:
+            data = ready.recv(65536)
+            if not data:
+                return
+            (other if ready is one else one).sendall(data)
+
+
+def main():
+    folder = sys.argv[1]
+    (name,) = [it for it in os.environ["SESSION_MANAGER"].split(",") if it.startswith("local/")]
+    place = os.path.join(folder, "socket")
+    if os.path.exists(place):
         os.remove(place)
-    os.symlink(name.split(":", 1)[1], place)
+    door = socket.socket(socket.AF_UNIX)
+    door.bind(place)
+    door.listen()
+    write_authority(folder, name, place)
+    if os.fork():
+        return
+    nothing = os.open(os.devnull, os.O_RDWR)
+    for number in range(3):
+        os.dup2(nothing, number)
+    client, _ = door.accept()
+    door.close()
+    manager = socket.socket(socket.AF_UNIX)
+    manager.connect(name.split(":", 1)[1].replace("@", "\0", 1))
+    relay(client, manager)
 
 
 main()

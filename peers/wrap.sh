@@ -4,12 +4,22 @@
 # What the editor says at first, and what is typed.
 first_text=begun
 
-# The editor's words. tmux gives it a terminal and lets keys be sent to it.
-editor_words() { echo tmux -S "$wrapped/keys" -f /dev/null new-session -d -s text nano -I "$wrapped/text"; }
+# The program that is wrapped is the editor, to which tmux gives a terminal and sends keys. xsm starts a client again by
+# its Program, with the words of its RestartCommand: so the editor leads to smwrap where it gets these.
+make_editor() {
+  cat > "$wrapped/edit" << EDIT
+#!/bin/sh
+[ "\$1" = --socket ] && exec smwrap "\$@"
+exec tmux -S "$wrapped/keys" -f /dev/null new-session -d -s text nano -I "$wrapped/text"
+EDIT
+  chmod +x "$wrapped/edit"
+}
 
 keys() { tmux -S "$wrapped/keys" "$@" 2> /dev/null; }
 
 edits() { keys has-session -t text; }
+
+edits_no() { ! edits; }
 
 # types WORDS: puts them in front of the text, and has the editor write its file.
 types() {
@@ -28,7 +38,7 @@ has_no() { [ ! -e "$wrapped/$1" ]; }
 
 # The words of the first login: the place of the manager, the state, and the editor.
 first_words() {
-  echo --socket "$wrapped/socket" --authority "$wrapped/authority" --state "$wrapped/text" --from 0 -- $(editor_words)
+  echo --socket "$wrapped/socket" --authority "$wrapped/authority" --state "$wrapped/text" --from 0 -- "$wrapped/edit"
 }
 
 # The name `smwrap` stands for the built program, behind what finds the manager's place.
@@ -49,6 +59,7 @@ wrapped_anew() {
   mkdir -p "$wrapped"
   echo "$first_text" > "$wrapped/text"
   chmod 640 "$wrapped/text"
+  make_editor
 }
 
 # two_saves MANAGER SAVE..: by the words SAVE the manager has all clients saved.
@@ -58,6 +69,7 @@ two_saves() {
   check "the editor starts under $manager" within 30 edits
   check "its first copy is made under $manager" within 30 reads text.1 "$first_text"
   check "the copy has the mode of the text under $manager" has_mode text.1 640
+  check "the editor shows its text under $manager" within 30 shows "$first_text"
   check "the editor writes under $manager" types "one "
   check "$manager saves again" "$@"
   check "the second copy is made under $manager" within 30 reads text.2 "one $first_text"
@@ -67,6 +79,7 @@ two_saves() {
 after_logout() {
   check "the last copy is made under $1" within 30 reads text.3 "one $first_text"
   keys kill-server
+  check "the editor can be ended under $1" within 20 edits_no
   echo spoiled > "$wrapped/text"
 }
 
@@ -184,7 +197,8 @@ xsm_leaves() {
 
 wrapped_by_xsm() {
   local old_path=$PATH old_home=$HOME
-  export HOME=$room/wrapped_xsm
+  # xsm aborts where the command that it starts again has more than some 230 bytes, so its folder has a short name.
+  export HOME=$room/x
   wrapped_anew "$HOME"
   name_program "python3 '$here/door.py' '$wrapped' || exit 1"
   echo "smwrap $(first_words)" > "$HOME/.xsmstartup"
