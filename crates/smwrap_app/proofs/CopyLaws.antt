@@ -73,14 +73,14 @@ told_as answer other messages is tell ask = ap (λ (a : SaveAnswer). flat_map te
 
 saved : (plan : SavePlan) (id : List ℕ) (old new : Shelf) (answer : SaveAnswer) → Saves plan id old new answer → AddsCopy plan (Some answer) old new ⊎ AddsNone (Some answer) old new
 saved plan id old new answer (inl copies) = inl (record {
-    copy = record { number = new.number; id = id; bytes = copies.bytes };
-    above = omega (arith, copies.next.raised);
-    small = omega (arith, copies.next.raised, copies.next.room);
-    number = refl;
-    held = copies.held;
-    told = copies.told;
-    tells_it = told_as answer _ _ copies.says refl;
-  })
+  copy = record { number = new.number; id = id; bytes = copies.bytes };
+  above = omega (arith, copies.next.raised);
+  small = omega (arith, copies.next.raised, copies.next.room);
+  number = refl;
+  held = copies.held;
+  told = copies.told;
+  tells_it = told_as answer _ _ copies.says refl;
+})
 saved plan id old new answer (inr (inl misses)) = inr (record { number = omega (arith, misses.next.raised); told = misses.told; tells_none = told_as answer _ [] misses.says refl })
 saved plan id old new answer (inr (inr refuses)) = inr (record { number = omega (arith, ap (λ (s : Shelf). s.number) refuses.same); told = ap (λ (s : Shelf). s.outside.told) refuses.same; tells_none = told_as answer _ [] refuses.says refl })
 

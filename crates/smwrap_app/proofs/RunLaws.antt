@@ -55,6 +55,7 @@ module _ (cookie : Cookie) (previous : List ℕ) where
     where
       as_before : (zs ts : List ℕ) → zs ++ ts ≡ stream es → bytes_for rs zs ≡ bytes_for qs zs
       as_before zs ts are = ap (λ (s : Step (Run Keeper) Entry). bytes_in (Says (Ice (ByteOrder Lsb)) ∷ s.line)) (sym (same zs ts are))
+
       by : (before after : List Effect) (other : Event) → ((more : List Effect) × (before ++ (Heard other ∷ more) ≡ es)) ⊎ ((mid : List Effect) × (before ≡ es ++ mid) × (mid ++ (Heard other ∷ after) ≡ Heard event ∷ [])) → sent before ≡ bytes_for qs (stream before)
       by before after other (inl here) = prompt before here.0 other here.1 ∙ as_before (stream before) (stream (Heard other ∷ here.0)) (sym (stream_append before (Heard other ∷ here.0)) ∙ ap stream here.1)
       by before after other (inr there) =
@@ -280,7 +281,6 @@ module _ {S D : Type 0} (answers : S → NamedAsk → Option SaveAnswer → S �
         };
         counts = fallen_never first.faults mid.faults now.faults amid.counts counts;
       }
-
 
   -- nothing was sent
   abbrev empty_script : List Entry

@@ -107,8 +107,10 @@ place_in {A} (b ∷ before) after (e ∷ es) ds a are = later (place_in before a
   where
     heads : (x y : A) (xs ys : List A) → x ∷ xs ≡ y ∷ ys → x ≡ y
     heads x y xs ys same = cc
+
     tails : (x y : A) (xs ys : List A) → x ∷ xs ≡ y ∷ ys → xs ≡ ys
     tails x y xs ys same = cc
+
     later : ((more : List A) × (before ++ (a ∷ more) ≡ es)) ⊎ ((mid : List A) × (before ≡ es ++ mid) × (mid ++ (a ∷ after) ≡ ds)) → ((more : List A) × ((b ∷ before) ++ (a ∷ more) ≡ e ∷ es)) ⊎ ((mid : List A) × (b ∷ before ≡ (e ∷ es) ++ mid) × (mid ++ (a ∷ after) ≡ ds))
     later (inl found) = inl (found.0, ap (λ x. x ∷ (before ++ (a ∷ found.0))) (heads b e (before ++ (a ∷ after)) (es ++ ds) are) ∙ ap (λ xs. e ∷ xs) found.1)
     later (inr found) = inr (found.0, ap (λ x. x ∷ before) (heads b e (before ++ (a ∷ after)) (es ++ ds) are) ∙ ap (λ xs. e ∷ xs) found.1, found.2)

@@ -9,8 +9,8 @@ ghost use Rattle.smwrap_app.specs.Words.{chosen_of};
 use crate::fault::{Fault, file_fault};
 use crate::words::Choices;
 use ice_cookie::Cookie;
-use smclient_app::{EntryRefusal, read_cookie};
 use sm_world::{Command, Duplicate, NoMemory, Octets, OctetsList, PairList, Spawner};
+use smclient_app::{EntryRefusal, read_cookie};
 use state_saver::{Files, Path, SavePlan, copy_path};
 use std::alloc::Global;
 

@@ -98,11 +98,7 @@ fn id_of(pairs: &[String]) -> Option<&str>
 }
 
 /// What these pairs ask for, beside this number and this program.
-fn choices_of<'a>(
-    pairs: &'a [String],
-    from: u32,
-    program: &'a [String],
-) -> Option<Choices<'a>>
+fn choices_of<'a>(pairs: &'a [String], from: u32, program: &'a [String]) -> Option<Choices<'a>>
     ensures none { result ≡ None → (chosen : Chosen) → ¬ (HasTexts (map string_bytes pairs.now) chosen) }
     ensures some { IfSome result (λ choices. HasTexts (map string_bytes pairs.now) (chosen_of choices)) }
     ensures from { IfSome result (λ choices. choices.from ≡ from) }

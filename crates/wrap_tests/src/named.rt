@@ -4,20 +4,20 @@ ghost use Rattle.std.specs.Prelude.{◌≡◌, None, IfSome};
 ghost use Rattle.client_engine.specs.Answering.{AreFew};
 ghost use Rattle.client_machine.specs.Saves.{IsLawful};
 
+use crate::frames::{
+    CLOSES, COMPLETE, CONNECTED, CONNECTS, DEMAND, DIE, DONE, FATAL, OPENED, OPENS, ORDER,
+    REGISTERED, REGISTERS, SAVE, UNKNOWN,
+};
 use client_machine::{SaveAnswer, SaveAsk, Stage, Step};
 use ice_cookie::Cookie;
 use ice_values::{Array8, Array8List, PropertyList};
 use named_joiner::{
-    HearFault, NamedAsk, NamedDies, NamedEnd, NamedJoiner, NamedSaves, pieces_make_no_difference,
+    ByCall, HearFault, NamedAsk, NamedDies, NamedEnd, NamedJoiner, NamedSaves,
+    pieces_make_no_difference,
 };
 use std::alloc::{Alloc, Global};
 use std::process::Abort;
 use std::test::Fail;
-
-use crate::frames::{
-    CLOSES, COMPLETE, CONNECTED, CONNECTS, DEMAND, DIE, DONE, FATAL, OPENED, OPENS, ORDER, REGISTERED,
-    REGISTERS, SAVE, UNKNOWN,
-};
 
 /// The answer of a client that sets nothing.
 fn answer_to(alloc: Global, ask: SaveAsk) -> SaveAnswer
@@ -111,11 +111,17 @@ fn a_client_saves_and_dies(rt: HostRuntime) -> Result<(), Fail> {
     let alloc = rt.alloc();
     let save = move |ask: NamedAsk| -> Option<SaveAnswer>
         ensures lawful { IfSome result (IsLawful ask.ask) }
-    { if ask.id.as_slice() == b"smd-00000001-00000001".as_slice() { Some(answer_to(alloc, ask.ask)) } else { None } };
+    {
+        if ask.id.as_slice() == b"smd-00000001-00000001".as_slice() {
+            Some(answer_to(alloc, ask.ask))
+        } else {
+            None
+        }
+    };
     let die = move || -> Option<Array8List>
         ensures few { IfSome result AreFew }
     { Some(Array8List::new(alloc)) };
-    let mut joiner = joiner(&rt, save, die)?;
+    let mut joiner = joiner(&rt, ByCall { call: save }, ByCall { call: die })?;
     registers(&rt, &mut joiner)?;
     hears(&rt, &mut joiner, SAVE, DONE, None)?;
     hears(&rt, &mut joiner, COMPLETE, b"", None)?;
@@ -133,25 +139,21 @@ fn a_callback_without_memory_ends_the_client(rt: HostRuntime) -> Result<(), Fail
     let die = || -> Option<Array8List>
         ensures none { result ≡ None }
     { None };
-    let mut joiner = joiner(&rt, save, die)?;
+    let mut joiner = joiner(&rt, ByCall { call: save }, ByCall { call: die })?;
     registers(&rt, &mut joiner)?;
     fails(&rt, &mut joiner, SAVE, HearFault::NoMemory)?;
     fails(&rt, &mut joiner, COMPLETE, HearFault::Stopped)
 }
 
 /// This frame in place of the manager's answer ends a client so.
-fn ends(
-    rt: &(impl Abort + Alloc<A = Global>),
-    frame: &[u8],
-    end: NamedEnd,
-) -> Result<(), Fail> {
+fn ends(rt: &(impl Abort + Alloc<A = Global>), frame: &[u8], end: NamedEnd) -> Result<(), Fail> {
     let save = |_ask: NamedAsk| -> Option<SaveAnswer>
         ensures none { result ≡ None }
     { None };
     let die = || -> Option<Array8List>
         ensures none { result ≡ None }
     { None };
-    let mut joiner = joiner(rt, save, die)?;
+    let mut joiner = joiner(rt, ByCall { call: save }, ByCall { call: die })?;
     hears(rt, &mut joiner, ORDER, CONNECTS, None)?;
     hears(rt, &mut joiner, frame, b"", Some(end))?;
     fails(rt, &mut joiner, DEMAND, HearFault::Stopped)

@@ -21,14 +21,16 @@ use std::test::Fail;
 /// The file `/s` with `a`, and `/long`, which has too many bytes; the call with this number fails.
 fn files(alloc: Global, failing: u64) -> Result<MemFiles, NoMemory> {
     let mut files = PairList::new(alloc);
-    files.push((Octets::from_slice(alloc, b"/s")?, Octets::from_slice(alloc, b"a")?))?;
+    files.push((
+        Octets::from_slice(alloc, b"/s")?,
+        Octets::from_slice(alloc, b"a")?,
+    ))?;
     let long = Octets::from_vec(vec![in alloc; 0; FILE_LIMIT + 1]?);
     files.push((Octets::from_slice(alloc, b"/long")?, long))?;
     let mut numbers = NumberList::new(alloc);
     numbers.push(failing)?;
     MemFiles::new(alloc, files, numbers)
 }
-
 
 fn expect_effects(
     rt: &(impl Abort + Alloc<A = Global>),
@@ -144,9 +146,24 @@ fn each_copy_has_its_number(rt: HostRuntime) -> Result<(), Fail> {
     let alloc = rt.alloc();
     let mut files = files(alloc, 0)?;
     let mut saver = Saver::new(alloc, &mut files, plan(alloc, 0)?);
-    saves(&rt, &mut saver, ask(alloc, Stage::First, b"i")?, (3, Step::Done(true), 1))?;
-    saves(&rt, &mut saver, ask(alloc, Stage::Talking, b"i")?, (0, Step::Talked(false), 1))?;
-    saves(&rt, &mut saver, ask(alloc, Stage::Second, b"i")?, (3, Step::Done(true), 2))?;
+    saves(
+        &rt,
+        &mut saver,
+        ask(alloc, Stage::First, b"i")?,
+        (3, Step::Done(true), 1),
+    )?;
+    saves(
+        &rt,
+        &mut saver,
+        ask(alloc, Stage::Talking, b"i")?,
+        (0, Step::Talked(false), 1),
+    )?;
+    saves(
+        &rt,
+        &mut saver,
+        ask(alloc, Stage::Second, b"i")?,
+        (3, Step::Done(true), 2),
+    )?;
     drop(saver);
     let want = "[Published(Octets { bytes: [47, 115, 46, 49] }, Octets { bytes: [97] }), \
         Published(Octets { bytes: [47, 115, 46, 50] }, Octets { bytes: [97] })]";
@@ -160,7 +177,12 @@ fn misses(rt: &(impl Abort + Alloc<A = Global>), failing: u64) -> Result<(), Fai
     let alloc = rt.alloc();
     let mut files = files(alloc, failing)?;
     let mut saver = Saver::new(alloc, &mut files, plan(alloc, 7)?);
-    saves(rt, &mut saver, ask(alloc, Stage::First, b"i")?, (0, Step::Done(false), 8))?;
+    saves(
+        rt,
+        &mut saver,
+        ask(alloc, Stage::First, b"i")?,
+        (0, Step::Done(false), 8),
+    )?;
     drop(saver);
     expect_effects(rt, &files, "[]")
 }
@@ -172,15 +194,16 @@ fn a_refused_copy_uses_its_number_up(rt: HostRuntime) -> Result<(), Fail> {
 }
 
 /// A save that has no number for a copy does nothing.
-fn refuses(
-    rt: &(impl Abort + Alloc<A = Global>),
-    from: u32,
-    id: &[u8],
-) -> Result<(), Fail> {
+fn refuses(rt: &(impl Abort + Alloc<A = Global>), from: u32, id: &[u8]) -> Result<(), Fail> {
     let alloc = rt.alloc();
     let mut files = files(alloc, 0)?;
     let mut saver = Saver::new(alloc, &mut files, plan(alloc, from)?);
-    saves(rt, &mut saver, ask(alloc, Stage::First, id)?, (0, Step::Done(false), from))?;
+    saves(
+        rt,
+        &mut saver,
+        ask(alloc, Stage::First, id)?,
+        (0, Step::Done(false), from),
+    )?;
     drop(saver);
     expect_effects(rt, &files, "[]")
 }

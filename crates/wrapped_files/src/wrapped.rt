@@ -9,10 +9,10 @@ use program_frame::StandardConsole;
 use program_spawner::text;
 use sm_world::{Command, Console, Failure, NoMemory, Octets, Spawner, Told};
 use state_saver::Files;
-use store_file::replace;
 use std::io;
 use std::io::ErrorKind;
 use std::process::Child;
+use store_file::replace;
 
 /// The permissions of a file that is its owner's alone.
 const PRIVATE: u32 = 0o600;
