@@ -1,5 +1,5 @@
 # The packages of Debian that peers/check needs; where some are missing they are installed.
-needed='gcc libc6-dev libsm-dev libice-dev python3 strace xvfb gkrellm twm xterm tmux nano xdotool x11-session-utils'
+needed='gcc libc6-dev libsm-dev libice-dev python3 strace xvfb gkrellm twm xterm'
 
 missing() {
   for package in $needed; do

@@ -8,4 +8,3 @@ mod files;
 mod tests;
 
 pub use disk::FileDisk;
-pub use files::replace;
