@@ -14,6 +14,12 @@ pub struct NamedAsk {
     pub ask: SaveAsk,
 }
 
+/// A closure as a callback, one that saves or one that says why a client closes.
+#[derive(Drop)]
+pub struct ByCall<F> {
+    pub call: F,
+}
+
 /// What saves a client's state under the client's ID. None where it wanted for memory. A closure is one
 /// where it may be called on every NamedAsk and gives lawful answers alone: at most 128 properties of
 /// at most 16,384 bytes, as XSMP spells them, and a step that has its place at the stage (XSMP,
@@ -32,13 +38,13 @@ pub trait NamedSaves {
         ensures step { answers self.old ask result self.new };
 }
 
-impl<F: FnMut(NamedAsk) -> Option<SaveAnswer>> NamedSaves for F {
-    ghost lawful = { λ f. F.IsAlwaysCallable f × ((g : F) (ask : NamedAsk) (answer : Option SaveAnswer) (h : F) → F.step g ask answer h → IfSome answer (IsLawful ask.ask)) };
+impl<F: FnMut(NamedAsk) -> Option<SaveAnswer>> NamedSaves for ByCall<F> {
+    ghost lawful = { λ c. F.IsAlwaysCallable c.call × ((g : F) (ask : NamedAsk) (answer : Option SaveAnswer) (h : F) → F.step g ask answer h → IfSome answer (IsLawful ask.ask)) };
 
-    ghost answers = { λ f ask answer g. F.step f ask answer g };
+    ghost answers = { λ c ask answer d. F.step c.call ask answer d.call };
 
     fn answer(&mut self, ask: NamedAsk) -> Option<SaveAnswer> {
-        self(ask)
+        (self.call)(ask)
     }
 }
 
@@ -58,12 +64,12 @@ pub trait NamedDies {
         ensures step { gives self.old result self.new };
 }
 
-impl<F: FnMut() -> Option<Array8List>> NamedDies for F {
-    ghost lawful = { λ f. F.IsAlwaysCallable f × ((g : F) (reasons : Option (List (List ℕ))) (h : F) → F.step g reasons h → IfSome reasons AreFew) };
+impl<F: FnMut() -> Option<Array8List>> NamedDies for ByCall<F> {
+    ghost lawful = { λ c. F.IsAlwaysCallable c.call × ((g : F) (reasons : Option (List (List ℕ))) (h : F) → F.step g reasons h → IfSome reasons AreFew) };
 
-    ghost gives = { λ f reasons g. F.step f reasons g };
+    ghost gives = { λ c reasons d. F.step c.call reasons d.call };
 
     fn reasons(&mut self) -> Option<Array8List> {
-        self()
+        (self.call)()
     }
 }

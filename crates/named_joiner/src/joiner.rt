@@ -29,6 +29,24 @@ pub struct NamedJoiner<S: NamedSaves, D: NamedDies> {
     callers: Callers<S, D>,
 }
 
+/// A client that lacks its callbacks still. It needs no more memory to get them.
+#[derive(Drop)]
+pub struct BareJoiner {
+    progress: Progress,
+}
+
+impl Model for BareJoiner {
+    ghost use Rattle.std.specs.Prelude.{◌≡◌, []};
+    ghost use Rattle.named_joiner.specs.Doing.{stand_of};
+    ghost use Rattle.named_joiner.specs.Standing.{Stand};
+
+    ghost Value = { Stand };
+
+    ghost view = { λ b. stand_of b.progress };
+
+    ghost invariant = { λ b. b.progress.bytes ≡ [] };
+}
+
 impl<S: NamedSaves, D: NamedDies> Model for NamedJoiner<S, D> {
     ghost use Rattle.std.specs.Prelude.{◌≡◌, [], None};
     ghost use Rattle.named_joiner.specs.Doing.{stand_of};
@@ -86,9 +104,40 @@ fn first_bytes(alloc: Global) -> Result<Octets, NoMemory>
     Ok(bytes)
 }
 
+impl BareJoiner {
+    /// A client that will register with this ID of an earlier session, or with none, and what it sends
+    /// at once.
+    pub fn new(
+        alloc: Global,
+        cookie: Cookie,
+        previous: Array8,
+    ) -> Result<(BareJoiner, Octets), NoMemory>
+        requires { length previous ≤ 512 }
+        ensures joiner { IfOk result (λ begun. begun.0 ≡ start_stand cookie previous) }
+        ensures first { IfOk result (λ begun. begun.1 ≡ spelled (Ice (ByteOrder Lsb))) }
+    {
+        let bytes = first_bytes(alloc)?;
+        let progress = Progress::begin(alloc, cookie, previous)?;
+        Ok((BareJoiner { progress }, bytes))
+    }
+
+    /// The client with its callbacks: `save` is asked in each save, and `die` when the client is told
+    /// to die.
+    pub fn with<S: NamedSaves, D: NamedDies>(self, save: S, die: D) -> NamedJoiner<S, D>
+        requires save { S.lawful save }
+        requires die { D.lawful die }
+        ensures { result ≡ record { stand = self; callbacks = record { save = save; die = die } } }
+    {
+        let BareJoiner { progress } = self;
+        let callers = Callers::new(save, die);
+        NamedJoiner { progress, callers }
+    }
+}
+
 impl<S: NamedSaves + Drop, D: NamedDies + Drop> NamedJoiner<S, D> {
     /// A client that will register with this ID of an earlier session, or with none, and what it sends
-    /// at once. `save` is asked in each save, and `die` when the client is told to die.
+    /// at once. `save` is asked in each save, and `die` when the client is told to die; a closure is
+    /// handed over as `ByCall`.
     pub fn new(
         alloc: Global,
         cookie: Cookie,
@@ -102,9 +151,7 @@ impl<S: NamedSaves + Drop, D: NamedDies + Drop> NamedJoiner<S, D> {
         ensures joiner { IfOk result (λ begun. begun.0 ≡ record { stand = start_stand cookie previous; callbacks = record { save = save; die = die } }) }
         ensures first { IfOk result (λ begun. begun.1 ≡ spelled (Ice (ByteOrder Lsb))) }
     {
-        let bytes = first_bytes(alloc)?;
-        let progress = Progress::begin(alloc, cookie, previous)?;
-        let callers = Callers::new(save, die);
-        Ok((NamedJoiner { progress, callers }, bytes))
+        let (bare, bytes) = BareJoiner::new(alloc, cookie, previous)?;
+        Ok((bare.with(save, die), bytes))
     }
 }

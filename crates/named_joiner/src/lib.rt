@@ -11,7 +11,7 @@ mod laws;
 mod progress;
 mod saying;
 
-pub use callbacks::{NamedAsk, NamedDies, NamedSaves};
+pub use callbacks::{ByCall, NamedAsk, NamedDies, NamedSaves};
 pub use ends::{HearFault, NamedEnd, NamedReply};
-pub use joiner::NamedJoiner;
+pub use joiner::{BareJoiner, NamedJoiner};
 pub use laws::pieces_make_no_difference;

@@ -15,4 +15,4 @@ pub use laws::copies_have_paths_of_their_own;
 pub use memory::MemFiles;
 pub use path::Path;
 pub use plan::SavePlan;
-pub use saver::Saver;
+pub use saver::{Saver, copy_path};

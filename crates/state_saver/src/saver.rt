@@ -29,8 +29,8 @@ pub struct Saver<'a, F: Files> {
     ghost fits: { IsPlan plan } by { Prim.hlevel props },
 }
 
-/// The path of the copy with this number.
-fn copy_path(alloc: Global, plan: &SavePlan, number: u32) -> Result<String, NoMemory>
+/// The path of the copy with this number: that of the plan's state, a dot and the number.
+pub fn copy_path(alloc: Global, plan: &SavePlan, number: u32) -> Result<String, NoMemory>
     ensures { IfOk result (λ path. string_bytes path ≡ path_of_copy plan.now.state number) }
 {
     match format!(in alloc; "{}.{number}", plan.state.as_str()) {
