@@ -1,5 +1,5 @@
 -- What a world in memory brings of a script's events, and the run of it.
-use Rattle.std.proofs.Common.{◌≡◌, inl, inr, ℕ, zero, suc, ◌+◌, ◌-◌, ◌≤◌, Bool, true, false, List, [], ◌∷◌, ◌++◌, length, take, drop, map, refl, sym, ◌∙◌, ap, arith, length-append, if◌then◌else◌}
+use Rattle.std.proofs.Common.{◌≡◌, inl, inr, ℕ, zero, suc, ◌+◌, ◌-◌, ◌≤◌, Bool, true, false, List, [], ◌∷◌, ◌++◌, length, take, drop, refl, sym, ◌∙◌, ap, arith, length-append, if◌then◌else◌}
 use Rattle.std.proofs.Math.Seq.{take-append-add}
 use Rattle.std.proofs.lemmas.List.{take_all, take-append-le, take-append-drop}
 use Rattle.std.proofs.lemmas.Bool.{cases_lt, false≢true}
@@ -7,11 +7,12 @@ use Rattle.sm_world.specs.declared.events.Event.{Event}
 use Rattle.sm_world.specs.declared.events.Event.TheVariants.{End}
 use Rattle.checkpoint_records.specs.Books.{empty_book}
 use Rattle.heard_events.specs.Brought.{next_events}
-use Rattle.session_engine.specs.Acts.{deeds_in, has_finish}
-use Rattle.session_engine.specs.Machine.{Machine, Came, Did, Item, acts_of, opening_acts, start as start_with, step, script_from, run_from}
+use Rattle.session_engine.specs.Acts.{has_finish}
+use Rattle.session_engine.specs.Machine.{Machine, Item, acts_of, opening_acts, start as start_with, step, script_from}
 use Rattle.session_engine.specs.declared.acts.Act.{Act}
 use Rattle.session_engine.specs.Carries.{script as script_with, run as run_with}
 use Rattle.session_engine.proofs.Running.{has_finish-append}
+use Rattle.session_in_memory.proofs.Stopping.{run_stops, script_stops}
 use Rattle.smd_app.specs.Rehearsals.{rehearsal_config, with_end, ends_within}
 
 -- the machine of a rehearsal
@@ -23,31 +24,6 @@ script patience events = script_with (rehearsal_config patience) empty_book even
 
 abbrev pub run : ℕ → List Event → List Item
 run patience events = run_with (rehearsal_config patience) empty_book events
-
-later_finish : (b : Bool) (rest : List Act) → (if b then true else has_finish (if b then [] else rest)) ≡ true → b ≡ false → has_finish rest ≡ true
-later_finish true rest e unfinished = absurd (false≢true (sym unfinished))
-later_finish false rest e unfinished = e
-
-same_rest : {A : Type 0} (b : Bool) (first one other : List A) → (b ≡ false → one ≡ other) → first ++ (if b then [] else one) ≡ first ++ (if b then [] else other)
-same_rest true first one other same = refl
-same_rest false first one other same = ap (λ xs. first ++ xs) (same refl)
-
--- After Finish nothing follows.
-pub script_stops : (m : Machine) (xs ys : List Event) → has_finish (script_from m xs) ≡ true → script_from m (xs ++ ys) ≡ script_from m xs
-script_stops m [] ys e = absurd (false≢true e)
-script_stops m (x ∷ xs) ys e =
-    let next = (step m x).next in
-    let acts = acts_of (step m x) in
-    same_rest (has_finish acts) acts (script_from next (xs ++ ys)) (script_from next xs)
-    (λ unfinished. script_stops next xs ys (later_finish (has_finish acts) (script_from next xs) (sym (has_finish-append acts (if has_finish acts then [] else script_from next xs)) ∙ e) unfinished))
-
-pub run_stops : (m : Machine) (xs ys : List Event) → has_finish (script_from m xs) ≡ true → run_from m (xs ++ ys) ≡ run_from m xs
-run_stops m [] ys e = absurd (false≢true e)
-run_stops m (x ∷ xs) ys e =
-    let next = (step m x).next in
-    let acts = acts_of (step m x) in
-    ap (λ is. Came x ∷ is) (same_rest (has_finish acts) (map Did (deeds_in acts)) (run_from next (xs ++ ys)) (run_from next xs)
-    (λ unfinished. run_stops next xs ys (later_finish (has_finish acts) (script_from next xs) (sym (has_finish-append acts (if has_finish acts then [] else script_from next xs)) ∙ e) unfinished)))
 
 either_way : (b : Bool) (rest : List Act) → has_finish rest ≡ true → (if b then true else has_finish (if b then [] else rest)) ≡ true
 either_way true rest e = refl

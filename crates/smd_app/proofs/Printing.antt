@@ -19,7 +19,8 @@ use Rattle.smd_app.specs.Rehearsals.{script_of, Rehearses, whole_run}
 use Rattle.smd_app.specs.Script.{ScriptSays}
 use Rattle.smd_app.specs.Statuses.{Ending, HasRehearsed, HasExercised, RunsExercise}
 use Rattle.smd_app.specs.Summaries.{came_in, sent_in, summary}
-use Rattle.smd_app.specs.Trace.{patience_text, text}
+use Rattle.session_in_memory.specs.Lines.{text}
+use Rattle.smd_app.specs.Trace.{patience_text}
 use Rattle.smd_app.specs.declared.fault.Fault.TheVariants.{BadLine, Spent, NoMemory}
 use Rattle.smd_app.specs.declared.rehearsal.Rehearsal.{Rehearsal}
 use Rattle.smd_app.specs.declared.script.ScriptFault.{ScriptFault}

@@ -1,7 +1,6 @@
 -- A run on a world in memory, and its trace.
-use Rattle.std.proofs.Common.{◌≡◌, inl, inr, ℕ, ◌==◌, IsTrue, true, false, List, [], length, replicate, slice_index, ◌<◌, Option, Some, Result, Ok, Err, refl, sym, ◌∙◌, ap, subst, arith}
+use Rattle.std.proofs.Common.{◌≡◌, inl, inr, ℕ, true, false, List, Option, Some, Result, Ok, Err, refl, sym, ◌∙◌, ap, subst}
 use Rattle.std.proofs.lemmas.Bool.{false≢true}
-use Rattle.std.proofs.lemmas.List.{get_or-replicate, length-replicate}
 use Rattle.sm_world.specs.Effects.{heard}
 use Rattle.sm_world.specs.Worlds.{steady_outside}
 use Rattle.sm_world.specs.declared.steady.SteadyWorld.{SteadyWorld}
@@ -9,56 +8,16 @@ use Rattle.sm_world.specs.Outside.{adds, Added, Outside}
 use Rattle.sm_world.specs.declared.events.Event.{Event}
 use Rattle.checkpoint_records.specs.Books.{empty_book}
 use Rattle.checkpoint_records.specs.declared.records.Book.{Book}
-use Rattle.checkpoint_slots.specs.Causes.{IsSettled}
-use Rattle.checkpoint_slots.specs.Recovery.{Recovers}
 use Rattle.checkpoint_slots.proofs.Once.{recovers-once}
 use Rattle.session_engine.specs.Acts.{commits_in}
 use Rattle.session_engine.specs.Carries.{Opens, Serves}
 use Rattle.session_engine.specs.Session.{Serving}
 use Rattle.session_engine.specs.declared.fault.ServeFault.{ServeFault}
 use Rattle.session_engine.specs.declared.fault.ServeFault.TheVariants.{Damaged, Spent, WrongSize}
-use Rattle.smd_app.specs.Rehearsals.{IsBlank, Rehearses, rehearsal_config}
+use Rattle.session_in_memory.specs.Stores.{IsFresh}
+use Rattle.session_in_memory.proofs.Blank.{blank_recovers, fresh_settled, ok_book}
+use Rattle.smd_app.specs.Rehearsals.{Rehearses, rehearsal_config}
 use Rattle.smd_app.proofs.Heard.{run, ended_run, spent_run}
-
--- A store of which nobody wrote a byte
-
-zero_at : (n i : ℕ) (xs : List ℕ) → xs ≡ replicate n 0 → i < n → slice_index xs i ≡ 0
-zero_at n i xs e h = ap (λ (ys : List ℕ). slice_index ys i) e ∙ get_or-replicate n i 0 0 h
-
--- so many zeros are such a store
-pub blank_of : (n : ℕ) (xs : List ℕ) → n ≡ 16777280 → xs ≡ replicate n 0 → IsBlank xs
-blank_of n xs size e = record {
-  size = ap (λ (ys : List ℕ). length ys) e ∙ (length-replicate n 0 ∙ size);
-  first = zero_at n 0 xs e (omega (arith, size));
-  second = zero_at n 32 xs e (omega (arith, size));
-}
-
-blank_recovers : (file : List ℕ) → IsBlank file → Recovers file (Ok empty_book)
-blank_recovers file blank = rw (blank.first, blank.second) refl
-
-same_byte : (x y : ℕ) → IsTrue (x == y) → x ≡ y
-same_byte x y e = grind (arith, e)
-
--- a world that was just made with it
-pub record IsFresh (old : Outside) (file : List ℕ) : Type 0 where
-  pub blank : IsBlank file
-  pub told : old.told ≡ Some []
-  pub first : old.first ≡ Some file
-  pub size : old.size ≡ 16777280
-
-fresh_settled : (old : Outside) (file : List ℕ) → IsFresh old file → IsSettled old file
-fresh_settled old file fresh = record {
-  began = file;
-  effects = [];
-  first = fresh.first;
-  told = fresh.told;
-  size = refl;
-  reads = λ i within. refl;
-  left = λ i byte within e. same_byte byte (slice_index file i) e;
-}
-
-ok_book : (one two : Book) → ◌≡◌ {A = Result Book ℕ} (Ok one) (Ok two) → one ≡ two
-ok_book one two e = cc
 
 -- a run over it is one over the book of nobody
 opens_blank : (old new : Outside) (file : List ℕ) (patience turns : ℕ) (answer : Result (Unit {0}) ServeFault) → IsFresh old file → (opens : Opens old new (λ opening current effects. Serves (rehearsal_config patience) opening current old.coming turns answer effects)) → Added old.told new.told (Serves (rehearsal_config patience) empty_book opens.current old.coming turns answer)

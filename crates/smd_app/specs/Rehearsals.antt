@@ -1,5 +1,5 @@
 -- A rehearsal: a script's events, and then End, are run with some patience on a world in memory, whose store has no book yet.
-use Rattle.std.specs.Prelude.{◌≡◌, ℕ, ◌≤◌, Bool, true, false, List, [], ◌∷◌, ◌++◌, length, slice_index, take, Some}
+use Rattle.std.specs.Prelude.{◌≡◌, ℕ, ◌≤◌, Bool, true, false, List, [], ◌∷◌, ◌++◌, length, take, Some}
 use Rattle.sm_world.specs.Worlds.{steady_outside}
 use Rattle.sm_world.specs.declared.effects.Effect.{Effect}
 use Rattle.sm_world.specs.declared.events.Event.{Event}
@@ -14,18 +14,14 @@ use Rattle.session_engine.specs.declared.acts.Act.{Act}
 use Rattle.session_engine.specs.Machine.{Item}
 use Rattle.program_frame.specs.Input.{front}
 use Rattle.smd_app.specs.Script.{ScriptSays}
-use Rattle.smd_app.specs.Trace.{patience_text, text}
+use Rattle.session_in_memory.specs.Lines.{text}
+use Rattle.session_in_memory.specs.Stores.{rehearsal_cookie}
+use Rattle.smd_app.specs.Trace.{patience_text}
 use Rattle.smd_app.specs.declared.rehearsal.Rehearsal.{Rehearsal}
 
 -- the cookie of each rehearsal, and the patience of this one
 abbrev pub rehearsal_config : ℕ → Config
-rehearsal_config patience = record { cookie = record { 0 = 0 ∷ 1 ∷ 2 ∷ 3 ∷ 4 ∷ 5 ∷ 6 ∷ 7 ∷ 8 ∷ 9 ∷ 10 ∷ 11 ∷ 12 ∷ 13 ∷ 14 ∷ 15 ∷ [] }; patience = patience }
-
--- the store of each rehearsal: a file of the right size, no gate of which is open
-pub record IsBlank (file : List ℕ) : Type 0 where
-  pub size : length file ≡ 16777280
-  pub first : slice_index file 0 ≡ 0
-  pub second : slice_index file 32 ≡ 0
+rehearsal_config patience = record { cookie = rehearsal_cookie; patience = patience }
 
 -- what is read as the script: of one that is too long, one byte more than it can have
 abbrev pub script_of : List ℕ → List ℕ

@@ -1,11 +1,11 @@
 //! A login by the words of `serve`, over a store whose book has six entries: all that is done, each call
 //! failing in turn, and what a crash leaves of the store.
 
-use crate::rehearsal::blank_store;
 use crate::serve_tests::{WORDS, put, status_of, world_of};
 use crate::trace::trace_text;
 use crate::trace_tests::{bytes_of, heard, trace_of};
 use checkpoint_slots::Steady;
+use session_in_memory::blank_store;
 use sm_world::{Choice, Disk, Effect, EventList, MemWorld, NoMemory, NumberList, Octets};
 use std::alloc::{Alloc, Global};
 use std::fmt::Write;

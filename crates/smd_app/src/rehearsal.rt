@@ -1,18 +1,12 @@
-ghost use Rattle.std.specs.Prelude.{◌≡◌, length, IfOk};
+ghost use Rattle.std.specs.Prelude.{IfOk};
 ghost use Rattle.std.specs.List.{AllByRecursion};
 ghost use Rattle.sm_world.specs.Events.{HasPieceSize};
-ghost use Rattle.smd_app.specs.Rehearsals.{IsBlank, Rehearses};
+ghost use Rattle.smd_app.specs.Rehearsals.{Rehearses};
 
-use ice_cookie::Cookie;
 use session_engine::{Config, ServeFault, serve};
+use session_in_memory::{REHEARSAL_COOKIE, blank_store};
 use sm_world::{EventList, NoMemory, Octets, SteadyWorld};
 use std::alloc::Global;
-
-/// The cookie of each rehearsal, so that a script can show it.
-const REHEARSAL_COOKIE: Cookie = Cookie([0, 1, 2, 3, 4, 5, 6, 7, 8, 9, 10, 11, 12, 13, 14, 15]);
-
-/// How many bytes a store has.
-const STORE_LEN: usize = 16_777_280;
 
 /// A run on a world in memory.
 #[derive(Drop)]
@@ -21,13 +15,6 @@ pub struct Rehearsal {
     pub world: SteadyWorld,
     /// Whether the run came to its own end within the turns.
     pub finished: bool,
-}
-
-/// A store that nothing was written to: its bytes are 0.
-pub fn blank_store(alloc: Global) -> Result<Octets, NoMemory>
-    ensures { IfOk result IsBlank }
-{
-    Ok(Octets::from_vec(vec![in alloc; 0; STORE_LEN]?))
 }
 
 /// Runs these events and then End on a world in memory whose store is blank, at most `turns` of them,

@@ -3,12 +3,12 @@ ghost use Rattle.std.specs.Prelude.{◌≤◌, length, IfOk};
 ghost use Rattle.std.specs.List.{AllByRecursion};
 ghost use Rattle.sm_world.specs.Events.{HasPieceSize};
 
-use crate::rehearsal::blank_store;
 use crate::script::read_script;
 use crate::tests::{printed, split_words};
 use crate::{Identity, smd_main};
 use checkpoint_slots::Steady;
 use ice_cookie::Cookie;
+use session_in_memory::blank_store;
 use sm_world::{Choice, Effect, EventList, MemWorld, NoMemory, NumberList, Octets};
 use std::alloc::{Alloc, Global};
 use std::fmt::Write;

@@ -1,33 +1,17 @@
 ghost use Rattle.std.specs.Prelude.{◌≡◌, ◌++◌, IfOk, OnOk};
 ghost use Rattle.session_engine.specs.Doing.{item_of, items};
-ghost use Rattle.control_lines.specs.Traces.{whole_line};
-ghost use Rattle.smd_app.specs.Trace.{patience_text, text};
+ghost use Rattle.session_in_memory.specs.Lines.{text};
+ghost use Rattle.smd_app.specs.Trace.{patience_text};
 
-use control_lines::{effect_line, has_line, started_line};
+use session_in_memory::trace_line;
 use sm_world::{Effect, NoMemory, Octets};
 use std::alloc::Global;
 
-/// The line of an effect, where it has one. A command is shown as started.
-fn shown_line(alloc: Global, effect: &Effect) -> Result<Option<Octets>, NoMemory>
-    ensures { IfOk result (λ line. whole_line line ≡ text (item_of effect.now)) }
-{
-    match effect {
-        Effect::Started(command, _) => Ok(Some(started_line(alloc, command, true)?)),
-        _ => {
-            if has_line(effect) {
-                Ok(Some(effect_line(alloc, effect)?))
-            } else {
-                Ok(None)
-            }
-        }
-    }
-}
-
-/// Appends the line of an effect, where it has one.
+/// Appends the line of an effect, where it has one. A command is shown as started.
 fn put_effect(alloc: Global, out: &mut Octets, effect: &Effect) -> Result<(), NoMemory>
     ensures { OnOk result (out.new ≡ out.old ++ text (item_of effect.now)) }
 {
-    if let Some(line) = shown_line(alloc, effect)? {
+    if let Some(line) = trace_line(alloc, effect)? {
         out.append(line.as_slice())?;
         out.append(b"\n")?;
     }

@@ -1,7 +1,8 @@
 use Rattle.std.proofs.Common.{ap, ◌∙◌}
 use Rattle.sm_world.specs.Disk.{told_size}
 use Rattle.sm_world.specs.Worlds.{steady_outside}
-use Rattle.smd_app.proofs.Rehearsing.{IsFresh, finished_run, spent_turns}
+use Rattle.session_in_memory.specs.Stores.{IsFresh}
+use Rattle.smd_app.proofs.Rehearsing.{finished_run, spent_turns}
 use Rattle.smd_app.proofs.rehearsal.run_in_memory.Goals as goal
 use Rattle.smd_app.proofs.rehearsal.run_in_memory.Goals.{in-Ok, in-Err-Spent}
 

@@ -1,6 +1,7 @@
 use Rattle.std.proofs.Common.{◌≡◌, ◌++◌, take}
 use Rattle.session_engine.specs.Doing.{items}
-use Rattle.smd_app.specs.Trace.{patience_text, text}
+use Rattle.session_in_memory.specs.Lines.{text}
+use Rattle.smd_app.specs.Trace.{patience_text}
 use Rattle.smd_app.proofs.trace.trace_text.Given as goal
 
 abbrev pub invariant-loop-effect : goal.invariant-loop-effect
