@@ -134,7 +134,7 @@ PUT = struct.pack("<II", 3, 0) + client(1)
 
 
 def opened(smd, folder, data, seconds):
-    """How long it takes until smd listens; None where that is longer than so many seconds."""
+    """How long it takes until smd answers an order; None where that is longer than so many seconds."""
     with tempfile.TemporaryDirectory(dir=folder) as room:
         manager = Manager(smd, room)
         with open(os.open(manager.store, os.O_WRONLY | os.O_CREAT, 0o600), "wb") as file:
@@ -142,8 +142,9 @@ def opened(smd, folder, data, seconds):
         begun = time.monotonic()
         try:
             manager.start(seconds)
+            manager.order("status", seconds)
             return time.monotonic() - begun
-        except TimeoutError:
+        except (TimeoutError, OSError):
             return None
         finally:
             manager.kill()

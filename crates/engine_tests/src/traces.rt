@@ -86,8 +86,8 @@ const ROWS: [Row; 13] = [
         shown: "malformed at 2",
     },
     Row {
-        trace: "cookie 000102030405060708090a0b0c0d0e0f",
-        shown: "malformed at 1",
+        trace: "cookie 000102030405060708090a0b0c0d0e0f / piece 1 0001000000000000",
+        shown: "in 1 1 ByteOrder order=0",
     },
 ];
 
