@@ -3,11 +3,13 @@
 #![tactic(auto)]
 
 mod kept_lines;
+mod opening;
 mod progress;
 mod record;
 mod recorder;
 mod world;
 
 pub use kept_lines::KeptLines;
+pub use opening::opening_of;
 pub use progress::Progress;
 pub use recorder::Recorder;

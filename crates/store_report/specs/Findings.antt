@@ -1,5 +1,6 @@
 -- What the bytes of a store's file stand for.
 use Rattle.std.specs.Prelude.{◌≡◌, ◌≢◌, ℕ, List, length, Ok, Err}
+use Rattle.checkpoint_records.specs.Rules.{KeepsRules}
 use Rattle.checkpoint_slots.specs.Recovery.{Recovers}
 use Rattle.store_report.specs.declared.finding.Finding.{Finding}
 use Rattle.store_report.specs.declared.finding.Finding.TheVariants.{Opens, Damaged, WrongSize}
@@ -9,3 +10,9 @@ abbrev pub StandsFor : List ℕ → Finding → Type 0
 StandsFor file (Opens book) = (length file ≡ 16777280) × Recovers file (Ok book)
 StandsFor file (Damaged at) = (length file ≡ 16777280) × Recovers file (Err at)
 StandsFor file (WrongSize size) = (size ≡ length file) × (size ≢ 16777280)
+
+-- A book that opens keeps the rules of books.
+abbrev pub OpensByRules : Finding → Type 0
+OpensByRules (Opens book) = KeepsRules book
+OpensByRules (Damaged at) = Unit {0}
+OpensByRules (WrongSize size) = Unit {0}

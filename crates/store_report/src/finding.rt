@@ -1,5 +1,5 @@
 ghost use Rattle.std.specs.Prelude.{◌≡◌, IfOk};
-ghost use Rattle.store_report.specs.Findings.{StandsFor};
+ghost use Rattle.store_report.specs.Findings.{OpensByRules, StandsFor};
 ghost use Rattle.store_report.specs.Lines.{status_of};
 
 use checkpoint_records::Book;
@@ -33,7 +33,8 @@ impl Finding {
 
 /// What these bytes of a file stand for, by the recovery with which a session begins.
 pub fn look_into(alloc: Global, file: Octets) -> Result<Finding, NoMemory>
-    ensures { IfOk result (StandsFor file) }
+    ensures stands { IfOk result (StandsFor file) }
+    ensures rules { IfOk result OpensByRules }
 {
     let mut world = SteadyWorld::new(alloc, EventList::new(alloc), Octets::new(alloc), file)?;
     match Steady::recover_from(alloc, &mut world) {
