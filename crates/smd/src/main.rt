@@ -3,13 +3,15 @@
 
 use desktop_world::{BadPlaces, DesktopWorld, Places, host_name, random_cookie};
 use program_frame::{OwnTexts, StandardConsole, read_words};
+use record_file::{RecordFile, take_record};
+use session_recorder::{Recorder, opening_of};
 use sm_world::{Console, NoMemory, Octets};
 use smd_app::{Identity, Paths, read_paths, smd_main};
 use std::io;
 use std::io::ErrorKind;
 use std::process::ExitCode;
 use store_report::read_check;
-use store_view::check_store;
+use store_view::{check_store, store_bytes};
 use unix_links::LinkOptions;
 
 const TEXTS: OwnTexts = OwnTexts {
@@ -18,6 +20,7 @@ const TEXTS: OwnTexts = OwnTexts {
         \x20                               runs the session of a desktop\n\
         \x20          --private            nobody can connect but the owner's programs\n\
         \x20          --last-wait MS       closes whoever was told to die so long ago\n\
+        \x20          --record FILE        writes what it hears and does, as a trace\n\
         \x20      smd rehearse [MS] < SCRIPT\n\
         \x20                               shows what smd does at the events of a script\n\
         \x20      smd exercise A N        saves eight clients N times in memory, and sums it up\n\
@@ -57,27 +60,57 @@ fn no_memory(_error: NoMemory) -> io::Error {
     io::Error::from(ErrorKind::OutOfMemory)
 }
 
+/// What the record of a session opens with. A store that isn't there, or that can't be read, gives no line.
+fn record_opening(rt: HostRuntime, paths: Paths<'_>, identity: &Identity) -> io::Result<Octets> {
+    let store = store_bytes(rt, paths.store).unwrap_or(Octets::new(rt.alloc()));
+    opening_of(rt.alloc(), store, &identity.cookie, paths.patience).map_err(no_memory)
+}
+
+/// The status of a run in this world, which is recorded in a file where one is named.
+fn run_in(
+    rt: HostRuntime,
+    words: &[String],
+    mut world: DesktopWorld,
+    identity: Identity,
+    record: Option<(String, Octets)>,
+) -> u8 {
+    let Some((path, opening)) = record else {
+        let status = smd_main(rt.alloc(), words, &mut world, identity, u64::MAX);
+        world.close();
+        return status;
+    };
+    let file = RecordFile::create(rt, path);
+    let mut recorder = Recorder::new(rt.alloc(), world, file, opening);
+    let status = smd_main(rt.alloc(), words, &mut recorder, identity, u64::MAX);
+    let (mut world, _) = recorder.parts();
+    world.close();
+    status
+}
+
 /// The status of a run with these words on this desktop.
 fn run(rt: HostRuntime, mut words: Vec<String>) -> io::Result<u8> {
     if let Some(check) = read_check(words.as_slice()) {
         return Ok(check_store(rt, check));
     }
     let options = LinkOptions::take(&mut words).map_err(no_memory)?;
+    let file = take_record(&mut words);
     let words = words.as_slice();
-    if let Some(paths) = read_paths(rt.alloc(), words).map_err(no_memory)? {
-        if let Some(bad) = bad_places(rt, paths) {
-            return Ok(refused(rt, bad));
-        }
-    }
     let host = host_name(&rt)?;
     let identity = Identity {
         cookie: random_cookie(&rt)?,
         host: Octets::from_vec(Vec::from_slice(rt.alloc(), host.as_bytes())?),
     };
-    let mut world = DesktopWorld::with_options(rt, host, options);
-    let status = smd_main(rt.alloc(), words, &mut world, identity, u64::MAX);
-    world.close();
-    Ok(status)
+    let mut record = None;
+    if let Some(paths) = read_paths(rt.alloc(), words).map_err(no_memory)? {
+        if let Some(bad) = bad_places(rt, paths) {
+            return Ok(refused(rt, bad));
+        }
+        if let Some(path) = file {
+            record = Some((path, record_opening(rt, paths, &identity)?));
+        }
+    }
+    let world = DesktopWorld::with_options(rt, host, options);
+    Ok(run_in(rt, words, world, identity, record))
 }
 
 fn main(rt: HostRuntime) -> ExitCode {

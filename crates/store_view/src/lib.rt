@@ -3,4 +3,4 @@
 
 mod view;
 
-pub use view::check_store;
+pub use view::{check_store, store_bytes};

@@ -149,3 +149,12 @@ pub fn check_store(rt: HostRuntime, check: Check<'_>) -> u8 {
         }
     }
 }
+
+/// The bytes of a store's file, and none where it has another size.
+pub fn store_bytes(rt: HostRuntime, path: &str) -> io::Result<Octets> {
+    let file = open_file(rt, path)?;
+    if file.metadata()?.len() != STORE_BYTES {
+        return Ok(Octets::new(rt.alloc()));
+    }
+    Ok(Octets::from_vec(read_whole(rt, &file)?))
+}
