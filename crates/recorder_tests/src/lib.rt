@@ -1,0 +1,13 @@
+//! Tests of the record of a session.
+#![tactic(auto)]
+
+#[cfg(test)]
+mod files;
+#[cfg(test)]
+mod kept;
+#[cfg(test)]
+mod openings;
+#[cfg(test)]
+mod sessions;
+#[cfg(test)]
+mod table;

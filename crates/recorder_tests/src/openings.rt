@@ -1,0 +1,36 @@
+use crate::table::expect_rows;
+use ice_cookie::Cookie;
+use session_recorder::opening_of;
+use sm_world::{NoMemory, Octets};
+use std::alloc::{Alloc, Global};
+use std::process::Abort;
+use std::test::Fail;
+
+/// So many bytes 0.
+fn zeros(alloc: Global, count: usize) -> Result<Octets, NoMemory> {
+    Ok(Octets::from_vec(vec![in alloc; 0; count]?))
+}
+
+/// The lines with which a record opens, over so many bytes 0 and with this patience.
+fn opened(alloc: Global, input: &str) -> Result<String, Fail> {
+    let (count, patience) = input.split_once(' ').ok_or("two numbers")?;
+    let store = zeros(alloc, count.parse::<usize>()?)?;
+    let text = opening_of(alloc, store, &Cookie([1; 16]), patience.parse::<u64>()?)?;
+    let mut line = String::new(alloc);
+    for part in str::from_utf8(text.as_slice())?.lines() {
+        line.push_str(part)?;
+        line.push_str("/")?;
+    }
+    Ok(line)
+}
+
+/// A store that nothing was written to has the empty book: format 1 and three times 0.
+const OPENINGS: &str = "\
+0 0 => cookie 01010101010101010101010101010101/
+0 7 => cookie 01010101010101010101010101010101/patience 7/
+16777280 120000 => cookie 01010101010101010101010101010101/book 01000000000000000000000000000000/patience 120000/";
+
+#[test]
+fn records_open(rt: HostRuntime) -> Result<(), Fail> {
+    expect_rows(&rt, OPENINGS, opened)
+}
