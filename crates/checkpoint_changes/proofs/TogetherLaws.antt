@@ -5,6 +5,7 @@ use Rattle.std.specs.List.{AllByRecursion, IsDistinct, cons_option, list_any}
 use Rattle.std.specs.Option.{option_map_or}
 use Rattle.std.specs.Str.{bytes_eq}
 use Rattle.std.specs.Cmp.Lexicographic.{pointwise}
+use lib.Pointwise.{pointwise_decides, bytes_decides}
 use Rattle.sm_world.specs.declared.commands.Command.{Command}
 use Rattle.ice_values.specs.declared.property.Property.{Property}
 use Rattle.ice_values.proofs.OptionLaws.{some_is, none_not_some}
@@ -17,7 +18,7 @@ use Rattle.checkpoint_records.specs.declared.records.Entry.{Entry}
 use Rattle.checkpoint_records.proofs.DistinctLaws.{all_more, any_false, distinct_more}
 use Rattle.checkpoint_changes.specs.Changes.{applied, with_entry, without, without_at}
 use Rattle.checkpoint_changes.specs.Parts.{HasParts}
-use Rattle.checkpoint_changes.specs.Together.{AreOfRuns, FitTogether, FitsIn, discards_by, has_words}
+use Rattle.checkpoint_changes.specs.Together.{AreOfRuns, FitTogether, FitsIn, discards_by, has_words, last_byte}
 use Rattle.checkpoint_changes.specs.declared.changes.Change.{Change}
 use Rattle.checkpoint_changes.specs.declared.changes.Change.TheVariants.{Epoch, Pend, Put, Remove, Unpend}
 use Rattle.checkpoint_changes.proofs.RuleLaws.{at_all, put_each, runs_of, whole_rules, with_entries, with_pending, without_all}
@@ -69,6 +70,13 @@ discard_some command entry property is = rw is (kind (bytes_eq (codes "LISTofARR
     kind : (b : Bool) → option_map_or (same_command command) (option_and_then (command_with entry.table) (cond b (Some property.values) None)) false ≡ (b && (pointwise bytes_eq command.words property.values && are_words property.values))
     kind true = words (are_words property.values) ∙ both (pointwise bytes_eq command.words property.values) (are_words property.values)
     kind false = refl
+
+pub ends_differ : (first second : List (List ℕ)) (m n : ℕ) → m ≡ last_byte first → n ≡ last_byte second → (m ≡ n → ⊥) → false ≡ pointwise bytes_eq first second
+ends_differ first second m n is_m is_n other = by (pointwise bytes_eq first second) refl
+  where
+    by : (b : Bool) → pointwise bytes_eq first second ≡ b → false ≡ b
+    by true same = absurd (other (is_m ∙ ap last_byte ((pointwise_decides bytes_decides first second).0 same) ∙ sym is_n))
+    by false same = refl
 
 -- ---- none of the entries names a command
 

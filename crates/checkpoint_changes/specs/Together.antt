@@ -1,6 +1,6 @@
 -- What the parts of a book owe one another, and what a change owes the book that it is made to, so that the parts do afterwards.
-use Rattle.std.specs.Prelude.{◌≡◌, ◌⊎◌, ℕ, ◌≤◌, Bool, ◌&&◌, false, List, codes, IsTrue}
-use Rattle.std.specs.List.{AllByRecursion, IsDistinct, list_any}
+use Rattle.std.specs.Prelude.{◌≡◌, ◌⊎◌, ℕ, ◌-◌, ◌≤◌, Bool, ◌&&◌, false, List, length, codes}
+use Rattle.std.specs.List.{AllByRecursion, IsDistinct, list_any, slice_get}
 use Rattle.std.specs.Option.{option_map_or}
 use Rattle.std.specs.Str.{bytes_eq}
 use Rattle.std.specs.Cmp.Lexicographic.{pointwise}
@@ -23,6 +23,10 @@ pub record FitTogether (book : Book) : Type 0 where
   pub runs : AreOfRuns book.epoch book.entries
   pub commands_differ : IsDistinct same_command book.pending
   pub none_named : AllByRecursion (λ command. names book command ≡ false) book.pending
+
+-- the last byte of the last text, or 0 where there is none
+abbrev pub last_byte : List (List ℕ) → ℕ
+last_byte texts = option_map_or (λ text. option_map_or (λ byte. byte) (slice_get text (length text - 1)) 0) (slice_get texts (length texts - 1)) 0
 
 -- a property holds the words of a command
 abbrev pub has_words : Property → Command → Bool

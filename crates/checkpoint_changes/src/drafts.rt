@@ -1,16 +1,18 @@
 ghost use Rattle.std.specs.Prelude.{◌≡◌, IsTrue, IfOk, IfSome};
 ghost use Rattle.std.specs.List.{list_any};
 ghost use Rattle.std.specs.Option.{option_map};
+ghost use Rattle.std.specs.Str.{bytes_eq};
+ghost use Rattle.std.specs.Cmp.Lexicographic.{pointwise};
 ghost use Rattle.checkpoint_records.specs.Books.{same_command as is_same};
 ghost use Rattle.checkpoint_changes.specs.Changes.{applied as applied_to};
 ghost use Rattle.checkpoint_changes.specs.declared.changes.Change.TheVariants.{Pend, Put};
-ghost use Rattle.checkpoint_changes.specs.Together.{FitsIn, FitTogether, discards_by as is_discarded_by, has_words as are_words_of};
+ghost use Rattle.checkpoint_changes.specs.Together.{FitsIn, FitTogether, discards_by as is_discarded_by, has_words as are_words_of, last_byte as last_byte_of};
 
 use crate::Change;
 use crate::applying::applied;
 use crate::rules::{PENDING_LIMIT, are_of_runs};
-use checkpoint_records::{Book, Entry, is_client_id, same_command};
-use ice_values::Property;
+use checkpoint_records::{Book, Entry, is_client_id};
+use ice_values::{Array8, Property};
 use sm_world::{Command, NoMemory};
 use xsmp_properties::{are_words, same_texts};
 
@@ -24,12 +26,33 @@ pub(crate) struct Draft {
     pub fits: bool,
 }
 
+/// The last byte of the last of some texts, or 0 where there is none.
+fn last_byte(texts: &[Array8]) -> u8
+    ensures { result ≡ last_byte_of texts.now }
+{
+    match texts.last() {
+        Some(text) => text.as_slice().last().copied().unwrap_or(0),
+        None => 0,
+    }
+}
+
+/// Whether these are the same words. Commands that differ mostly do at their ends, so these are
+/// looked at first.
+fn same_words(first: &[Array8], second: &[Array8]) -> bool
+    ensures { result ≡ pointwise bytes_eq first.now second.now }
+{
+    if last_byte(first) != last_byte(second) {
+        return false;
+    }
+    same_texts(first, second)
+}
+
 /// Whether a property holds the words of this command.
 fn has_words(property: &Property, command: &Command) -> bool
     ensures { result ≡ are_words_of property.now command.now }
 {
     LIST == property.kind.as_slice()
-        && same_texts(command.words.as_slice(), property.values.as_slice())
+        && same_words(command.words.as_slice(), property.values.as_slice())
         && are_words(property.values.as_slice())
 }
 
@@ -71,7 +94,7 @@ fn is_discarded(entries: &[Entry], command: &Command) -> bool
 fn is_among(commands: &[Command], command: &Command) -> bool
     ensures { result ≡ list_any (λ other. is_same other command.now) commands.now }
 {
-    commands.iter().any(|other| same_command(other, command))
+    commands.iter().any(|other| same_words(other.words.as_slice(), command.words.as_slice()))
 }
 
 fn may_put(book: &Book, entry: &Entry) -> bool
