@@ -67,9 +67,13 @@ discard_some command entry property is = rw is (kind (bytes_eq (codes "LISTofARR
     words true = refl
     words false = refl
 
-    kind : (b : Bool) → option_map_or (same_command command) (option_and_then (command_with entry.table) (cond b (Some property.values) None)) false ≡ (b && (pointwise bytes_eq command.words property.values && are_words property.values))
+    none : (p : Bool) → false ≡ (p && false)
+    none true = refl
+    none false = refl
+
+    kind : (b : Bool) → option_map_or (same_command command) (option_and_then (command_with entry.table) (cond b (Some property.values) None)) false ≡ (pointwise bytes_eq command.words property.values && (b && are_words property.values))
     kind true = words (are_words property.values) ∙ both (pointwise bytes_eq command.words property.values) (are_words property.values)
-    kind false = refl
+    kind false = none (pointwise bytes_eq command.words property.values)
 
 pub ends_differ : (first second : List (List ℕ)) (m n : ℕ) → m ≡ last_byte first → n ≡ last_byte second → (m ≡ n → ⊥) → false ≡ pointwise bytes_eq first second
 ends_differ first second m n is_m is_n other = by (pointwise bytes_eq first second) refl

@@ -30,7 +30,7 @@ last_byte texts = option_map_or (λ text. option_map_or (λ byte. byte) (slice_g
 
 -- a property holds the words of a command
 abbrev pub has_words : Property → Command → Bool
-has_words property command = bytes_eq (codes "LISTofARRAY8") property.kind && (pointwise bytes_eq command.words property.values && are_words property.values)
+has_words property command = pointwise bytes_eq command.words property.values && (bytes_eq (codes "LISTofARRAY8") property.kind && are_words property.values)
 
 -- an entry's DiscardCommand is the same as this command
 abbrev pub discards_by : Command → Entry → Bool

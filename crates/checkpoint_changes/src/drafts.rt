@@ -51,8 +51,8 @@ fn same_words(first: &[Array8], second: &[Array8]) -> bool
 fn has_words(property: &Property, command: &Command) -> bool
     ensures { result ≡ are_words_of property.now command.now }
 {
-    LIST == property.kind.as_slice()
-        && same_words(command.words.as_slice(), property.values.as_slice())
+    same_words(command.words.as_slice(), property.values.as_slice())
+        && LIST == property.kind.as_slice()
         && are_words(property.values.as_slice())
 }
 
