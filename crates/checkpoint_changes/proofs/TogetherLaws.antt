@@ -18,7 +18,7 @@ use Rattle.checkpoint_records.specs.declared.records.Entry.{Entry}
 use Rattle.checkpoint_records.proofs.DistinctLaws.{all_more, any_false, distinct_more}
 use Rattle.checkpoint_changes.specs.Changes.{applied, with_entry, without, without_at}
 use Rattle.checkpoint_changes.specs.Parts.{HasParts}
-use Rattle.checkpoint_changes.specs.Together.{AreOfRuns, FitTogether, FitsIn, discards_by, has_words, last_byte}
+use Rattle.checkpoint_changes.specs.Together.{FitTogether, FitsIn, discards_by, has_words, last_byte}
 use Rattle.checkpoint_changes.specs.declared.changes.Change.{Change}
 use Rattle.checkpoint_changes.specs.declared.changes.Change.TheVariants.{Epoch, Pend, Put, Remove, Unpend}
 use Rattle.checkpoint_changes.proofs.RuleLaws.{at_all, put_each, runs_of, whole_rules, with_entries, with_pending, without_all}

@@ -1,4 +1,4 @@
-use Rattle.std.proofs.Common.{◌≡◌, ◌∙◌, false, refl, sym, true}
+use Rattle.std.proofs.Common.{◌≡◌, ◌∙◌, false, sym, true}
 use Rattle.std.specs.Prelude.{Some}
 use Rattle.checkpoint_changes.specs.Taking.{AppliesAll}
 use Rattle.checkpoint_changes.proofs.ReadLaws.{not_by_rules}
