@@ -117,12 +117,14 @@ def amendment(changes):
 
 
 def store(entries, commands, changes):
-    """A store whose first slot has such a book, and behind it as many amendments of these changes as fit."""
+    """A store whose first slot has such a book, and behind it as many amendments of these changes as fit, or none."""
     content = book(entries, commands)
     slot = bytearray(struct.pack("<QQ", 1, len(content)) + content)
-    one = amendment(changes)
-    count = (SLOT - len(slot) - 1) // len(one) if changes else 0
-    slot += one * count
+    count = 0
+    if changes is not None:
+        one = amendment(changes)
+        count = (SLOT - len(slot) - 1) // len(one)
+        slot += one * count
     file = bytearray(2 * SLOT + FIRST)
     file[0] = 0xA5
     file[FIRST:FIRST + len(slot)] = slot
@@ -131,6 +133,24 @@ def store(entries, commands, changes):
 
 EPOCH = struct.pack("<II", 1, 1)
 PUT = struct.pack("<II", 3, 0) + client(1)
+
+
+def returned(commands):
+    """The last of so many pending commands goes and comes again."""
+    last = commands - 1
+    return struct.pack("<II", 4, last) + struct.pack("<II", 5, 0) + pending(last)
+
+
+def kinds_of_changes(entries, commands):
+    """What each amendment of a full slot says, and a slot without amendments. None of them changes the book."""
+    kinds = [("no kind", None), ("no change", b""), ("the epoch", EPOCH)]
+    if entries:
+        kinds.append(("a client", PUT))
+    if commands:
+        kinds.append(("a command", returned(commands)))
+    if entries and commands:
+        kinds.append(("a client and a command", PUT + returned(commands)))
+    return kinds
 
 
 def opened(smd, folder, data, seconds):
@@ -152,13 +172,11 @@ def opened(smd, folder, data, seconds):
 
 def openings(smd, folder, seconds):
     for entries, commands in ((0, 0), (128, 0), (128, 320)):
-        for name, changes in (("no", b""), ("epoch", EPOCH), ("client", PUT)):
-            if not entries and changes == PUT:
-                continue
+        for name, changes in kinds_of_changes(entries, commands):
             data, count = store(entries, commands, changes)
             took = opened(smd, folder, data, seconds)
             shown = "more than %d s" % seconds if took is None else "%.3f s" % took
-            print("%d entries, %d pending, %d amendments of the %s: opened in %s" % (entries, commands, count, name, shown))
+            print("%d entries, %d pending, %d amendments of %s: opened in %s" % (entries, commands, count, name, shown))
 
 
 def main():

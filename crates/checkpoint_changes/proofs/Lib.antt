@@ -7,6 +7,7 @@ pub mod DeltaLaws
 pub mod PlainLaws
 pub mod DifferenceLaws
 pub mod RuleLaws
+pub mod TogetherLaws
 pub mod ApplyLaws
 pub mod TakeLaws
 pub mod ReadLaws

@@ -13,14 +13,12 @@ use Rattle.checkpoint_records.specs.declared.records.Entry.{Entry}
 use Rattle.checkpoint_records.proofs.DistinctLaws.{all_more}
 use Rattle.checkpoint_changes.specs.Changes.{IsChange, applied, apply, with_entry, without, without_at}
 use Rattle.checkpoint_changes.specs.Parts.{HasParts}
+use Rattle.checkpoint_changes.specs.Together.{AreOfRuns}
 use Rattle.checkpoint_changes.specs.declared.changes.Change.{Change}
 use Rattle.checkpoint_changes.specs.declared.changes.Change.TheVariants.{Epoch, Pend, Put, Remove, Unpend}
 use Rattle.checkpoint_changes.proofs.DifferenceLaws.{next_item}
 
 -- ---- all rules from the rules of parts
-
-abbrev pub AreOfRuns : ℕ → List Entry → Type 0
-AreOfRuns epoch entries = AllByRecursion (λ (e : Entry). IsClientId epoch e.id) entries
 
 entries_of_runs : (epoch : ℕ) (entries : List Entry) → AllByRecursion (IsEntry 4294967295) entries → AreOfRuns epoch entries → AllByRecursion (IsEntry epoch) entries
 entries_of_runs epoch [] h k = tt
@@ -54,7 +52,7 @@ parts_of book rules lt = record { entries = later_entries book.epoch book.entrie
 
 -- ---- a change keeps the parts
 
-without_all : (P : Entry → Type 0) (id : List ℕ) (entries left : List Entry) → without id entries ≡ Some left → AllByRecursion P entries → AllByRecursion P left
+pub without_all : (P : Entry → Type 0) (id : List ℕ) (entries left : List Entry) → without id entries ≡ Some left → AllByRecursion P entries → AllByRecursion P left
 without_all P id [] left is h = absurd (none_not_some left is)
 without_all P id (e ∷ entries) left is h = by (bytes_eq e.id id) (without id entries) is (λ rest r. without_all P id entries rest r h.1)
   where
@@ -83,7 +81,7 @@ without_differ id (e ∷ entries) left is d = by (bytes_eq e.id id) (without id 
         subst (λ (l : List Entry). IsDistinct bytes_eq (ids_of l)) (some_is (e ∷ rest) left is)
         (ids_all (λ y. bytes_eq e.id y ≡ false) rest (without_all (λ x. bytes_eq e.id x.id ≡ false) id entries rest same (all_ids (λ y. bytes_eq e.id y ≡ false) entries d.0)), more rest refl)
 
-put_each : (P : Entry → Type 0) (f : Entry) (entries : List Entry) → P f → AllByRecursion P entries → AllByRecursion P (with_entry f entries)
+pub put_each : (P : Entry → Type 0) (f : Entry) (entries : List Entry) → P f → AllByRecursion P entries → AllByRecursion P (with_entry f entries)
 put_each P f [] p h = (p, tt)
 put_each P f (e ∷ entries) p h = by (bytes_eq e.id f.id) (put_each P f entries p h.1)
   where
@@ -101,7 +99,7 @@ put_differ f (e ∷ entries) d = by (bytes_eq e.id f.id) refl (put_differ f entr
     by false other rest =
         (ids_all (λ y. bytes_eq e.id y ≡ false) (with_entry f entries) (put_each (λ x. bytes_eq e.id x.id ≡ false) f entries other (all_ids (λ y. bytes_eq e.id y ≡ false) entries d.0)), rest)
 
-at_all : (P : Command → Type 0) (n : ℕ) (commands left : List Command) → without_at n commands ≡ Some left → AllByRecursion P commands → AllByRecursion P left
+pub at_all : (P : Command → Type 0) (n : ℕ) (commands left : List Command) → without_at n commands ≡ Some left → AllByRecursion P commands → AllByRecursion P left
 at_all P n [] left is h = absurd (none_not_some left is)
 at_all P zero (c ∷ commands) left is h = subst (AllByRecursion P) (some_is commands left is) h.1
 at_all P (suc n) (c ∷ commands) left is h = by (without_at n commands) is (λ rest r. at_all P n commands rest r h.1)
@@ -110,10 +108,10 @@ at_all P (suc n) (c ∷ commands) left is h = by (without_at n commands) is (λ 
     by None is more = absurd (none_not_some left is)
     by (Some rest) is more = subst (AllByRecursion P) (some_is (c ∷ rest) left is) (h.0, more rest refl)
 
-with_entries : Book → List Entry → Book
+unfoldable pub with_entries : Book → List Entry → Book
 with_entries book entries = record book { entries = entries }
 
-with_pending : Book → List Command → Book
+unfoldable pub with_pending : Book → List Command → Book
 with_pending book pending = record book { pending = pending }
 
 pub parts_kept : (book : Book) (change : Change) (next : Book) → HasParts book → IsChange change → applied book change ≡ Some next → HasParts next
@@ -159,11 +157,11 @@ runs_step epoch entries i e id lt is is_id of_run so_far =
 abbrev AreUnnamed : List Command → List Command → Type 0
 AreUnnamed named commands = AllByRecursion (λ command. list_any (same_command command) named ≡ false) commands
 
-pub rules_decided : (book : Book) (result : Bool) (es : List Entry) (ps ds : List Command) → HasParts book → es ≡ book.entries → ps ≡ book.pending → ds ≡ discards es → length es ≤ 128 → length ps ≤ 320 → AreOfRuns book.epoch es → IsDistinct same_command ps
+pub rules_decided : (book : Book) (result : Bool) (es : List Entry) (ps ds : List Command) → HasParts book → es ≡ book.entries → ps ≡ book.pending → ds ≡ discards es → length book.entries ≤ 128 → length book.pending ≤ 320 → AreOfRuns book.epoch es → IsDistinct same_command ps
     → (IsTrue result → AreUnnamed ds ps) × (AreUnnamed ds ps → IsTrue result) → (IsTrue result → KeepsRules book) × (KeepsRules book → IsTrue result)
 rules_decided book result es ps ds parts is_es is_ps is_ds few_entries few_pending runs differ named =
     let named_is : ds ≡ discards book.entries = is_ds ∙ ap discards is_es in (
-      λ t. whole_rules book parts (subst (λ (l : List Entry). length l ≤ 128) is_es few_entries) (subst (λ (l : List Command). length l ≤ 320) is_ps few_pending) (subst (AreOfRuns book.epoch) is_es runs) (subst (IsDistinct same_command) is_ps differ)
+      λ t. whole_rules book parts few_entries few_pending (subst (AreOfRuns book.epoch) is_es runs) (subst (IsDistinct same_command) is_ps differ)
           (subst (AreUnnamed (discards book.entries)) is_ps (subst (λ (d : List Command). AreUnnamed d ps) named_is (named.0 t))),
       λ k. named.1 (subst (λ (d : List Command). AreUnnamed d ps) (sym named_is) (subst (AreUnnamed (discards book.entries)) (sym is_ps) k.none_named)),
     )

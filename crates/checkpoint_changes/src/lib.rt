@@ -4,6 +4,7 @@
 mod applying;
 mod changes;
 mod differences;
+mod drafts;
 mod laws;
 mod lengths;
 mod reading;

@@ -1,4 +1,4 @@
-ghost use Rattle.std.specs.Prelude.{◌≡◌, ◌≤◌, ◌<◌, ◌^◌, ℕ, Option, Result, Ok, length, IfOk, IfErr};
+ghost use Rattle.std.specs.Prelude.{◌≡◌, ◌≤◌, ◌<◌, ◌^◌, ℕ, Option, Result, Ok, length, IfOk, IfErr, IfSome, IsTrue};
 ghost use Rattle.std.specs.Option.{option_map};
 ghost use Rattle.checkpoint_records.specs.Damage.{Gives};
 ghost use Rattle.checkpoint_records.specs.Rules.{KeepsRules};
@@ -6,10 +6,11 @@ ghost use Rattle.checkpoint_records.specs.declared.records.Book.{Book as AnyBook
 ghost use Rattle.checkpoint_changes.specs.Amendments.{ReadsOn, StopsAt, SlotReads, HasCause, IsSlotRefused, is_at_end};
 ghost use Rattle.checkpoint_changes.specs.Changes.{IsChange, change_cells};
 ghost use Rattle.checkpoint_changes.specs.Parts.{HasParts};
+ghost use Rattle.checkpoint_changes.specs.Together.{FitTogether};
 ghost use Rattle.checkpoint_changes.specs.Taking.{AppliesAll, TakesAmendment};
 
-use crate::applying::applied;
-use crate::rules::keeps_rules;
+use crate::drafts::{Draft, changed};
+use crate::rules::draft_keeps_rules;
 use crate::taking::{OPEN, take_change, take_delta};
 use checkpoint_records::{Book, BookRefusal, read_book};
 use sm_world::NoMemory;
@@ -22,24 +23,26 @@ fn is_at_end(bytes: &[u8]) -> bool
     bytes.len() < 8 || bytes[0] != OPEN
 }
 
-/// The book after all the changes that these bytes are.
-fn apply_all(alloc: Global, book: Book, bytes: &[u8]) -> Result<Option<Book>, NoMemory>
-    ensures { IfOk result (λ found. AppliesAll book bytes.now found) }
+/// The draft after all the changes that these bytes are.
+fn apply_all(alloc: Global, draft: Draft, bytes: &[u8]) -> Result<Option<Draft>, NoMemory>
+    requires { IsTrue draft.fits → FitTogether draft.book }
+    ensures book { IfOk result (λ found. AppliesAll draft.book bytes.now (option_map (λ draft. draft.book) found)) }
+    ensures fits { IfOk result (λ found. IfSome found (λ draft. IsTrue draft.fits → FitTogether draft.book)) }
 {
-    let mut book = book;
+    let mut draft = draft;
     let mut left = bytes;
     while !left.is_empty() {
         let (change, rest) = match take_change(alloc, left)? {
             Some(taken) => taken,
             None => return Ok(None),
         };
-        book = match applied(book, change)? {
+        draft = match changed(draft, change)? {
             Some(next) => next,
             None => return Ok(None),
         };
         left = rest;
     }
-    Ok(Some(book))
+    Ok(Some(draft))
 }
 
 /// The book after the amendment at the front, and what follows it.
@@ -58,11 +61,12 @@ fn take_amendment(
     if changes.is_empty() {
         return Ok(Some((book, rest)));
     }
-    let Some(next) = apply_all(alloc, book, changes)? else {
+    let draft = Draft { book, fits: true };
+    let Some(next) = apply_all(alloc, draft, changes)? else {
         return Ok(None);
     };
-    if keeps_rules(alloc, &next)? {
-        Ok(Some((next, rest)))
+    if draft_keeps_rules(alloc, &next)? {
+        Ok(Some((next.book, rest)))
     } else {
         Ok(None)
     }

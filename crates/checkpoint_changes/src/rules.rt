@@ -1,20 +1,23 @@
-ghost use Rattle.std.specs.Prelude.{◌≡◌, ◌↔◌, false, not, IsTrue, IfOk};
+ghost use Rattle.std.specs.Prelude.{◌≡◌, ◌↔◌, ◌≤◌, false, not, length, IsTrue, IfOk};
 ghost use Rattle.std.specs.List.{AllByRecursion, IsDistinct, list_any};
 ghost use Rattle.checkpoint_records.specs.Books.{same_command};
-ghost use Rattle.checkpoint_records.specs.Rules.{IsClientId, KeepsRules};
+ghost use Rattle.checkpoint_records.specs.Rules.{KeepsRules};
 ghost use Rattle.checkpoint_changes.specs.Parts.{HasParts};
+ghost use Rattle.checkpoint_changes.specs.Together.{AreOfRuns, FitTogether};
 
+use crate::drafts::Draft;
 use checkpoint_records::{Book, Entry, discards_of, is_client_id, is_named};
 use sm_world::{Command, NoMemory};
 use std::alloc::Global;
 
 const ENTRY_LIMIT: usize = 128;
 
-const PENDING_LIMIT: usize = 320;
+/// How many pending commands a book may have.
+pub(crate) const PENDING_LIMIT: usize = 320;
 
 /// Whether each ID is one of a run up to this epoch.
-fn are_of_runs(epoch: u32, entries: &[Entry]) -> bool
-    ensures { IsTrue result ↔ AllByRecursion (λ entry. IsClientId epoch entry.id) entries.now }
+pub(crate) fn are_of_runs(epoch: u32, entries: &[Entry]) -> bool
+    ensures { IsTrue result ↔ AreOfRuns epoch entries.now }
 {
     for entry in entries {
         if !is_client_id(epoch, entry.id.as_slice()) {
@@ -45,6 +48,13 @@ fn are_none_named(discards: &[Command], commands: &[Command]) -> bool
     commands.iter().all(|command| !is_named(discards, command))
 }
 
+/// Whether a book has no more entries and pending commands than the rules allow.
+fn is_within_limits(book: &Book) -> bool
+    ensures { IsTrue result ↔ (length book.now.entries ≤ 128) × (length book.now.pending ≤ 320) }
+{
+    book.entries.as_slice().len() <= ENTRY_LIMIT && book.pending.as_slice().len() <= PENDING_LIMIT
+}
+
 /// Whether a book that was put together from tested parts keeps the rules together too: it has at
 /// most 128 entries and at most 320 pending commands, each ID is of a run up to the book's epoch, no
 /// two pending commands are the same, and none is the DiscardCommand of an entry.
@@ -52,11 +62,11 @@ pub fn keeps_rules(alloc: Global, book: &Book) -> Result<bool, NoMemory>
     requires { HasParts book.now }
     ensures { IfOk result (λ kept. IsTrue kept ↔ KeepsRules book.now) }
 {
-    let entries = book.entries.as_slice();
-    let pending = book.pending.as_slice();
-    if entries.len() > ENTRY_LIMIT || pending.len() > PENDING_LIMIT {
+    if !is_within_limits(book) {
         return Ok(false);
     }
+    let entries = book.entries.as_slice();
+    let pending = book.pending.as_slice();
     if !are_of_runs(book.epoch, entries) || !are_distinct(pending) {
         return Ok(false);
     }
@@ -65,4 +75,18 @@ pub fn keeps_rules(alloc: Global, book: &Book) -> Result<bool, NoMemory>
     }
     let discards = discards_of(alloc, entries)?;
     Ok(are_none_named(discards.as_slice(), pending))
+}
+
+/// Whether a draft keeps the rules. Where its parts are known to fit together this is a comparison
+/// of two numbers; otherwise each part is tested against the others.
+pub(crate) fn draft_keeps_rules(alloc: Global, draft: &Draft) -> Result<bool, NoMemory>
+    requires parts { HasParts draft.now.book }
+    requires fits { IsTrue draft.now.fits → FitTogether draft.now.book }
+    ensures { IfOk result (λ kept. IsTrue kept ↔ KeepsRules draft.now.book) }
+{
+    if draft.fits {
+        Ok(is_within_limits(&draft.book))
+    } else {
+        keeps_rules(alloc, &draft.book)
+    }
 }

@@ -1,5 +1,5 @@
 use Rattle.std.proofs.Common.{drop}
-use Rattle.checkpoint_changes.proofs.RuleLaws.{AreOfRuns}
+use Rattle.checkpoint_changes.specs.Together.{AreOfRuns}
 use Rattle.checkpoint_changes.proofs.rules.are_of_runs.Given as goal
 
 abbrev pub invariant-loop-entry : goal.invariant-loop-entry

@@ -1,0 +1,198 @@
+-- A change that fits the parts of a book leaves a book whose parts fit together.
+use Rattle.std.proofs.Common.{◌≡◌, ℕ, zero, suc, ◌≤◌, inl, inr, Bool, true, false, cond, not, ◌||◌, ◌&&◌, IsTrue, List, [], ◌∷◌, ◌++◌, Option, Some, None, refl, sym, ap, ◌∙◌, subst, arith}
+use Rattle.std.specs.Prelude.{codes, length, option_map, option_and_then}
+use Rattle.std.specs.List.{AllByRecursion, IsDistinct, cons_option, list_any}
+use Rattle.std.specs.Option.{option_map_or}
+use Rattle.std.specs.Str.{bytes_eq}
+use Rattle.std.specs.Cmp.Lexicographic.{pointwise}
+use lib.Pointwise.{pointwise_decides, bytes_decides}
+use Rattle.sm_world.specs.declared.commands.Command.{Command}
+use Rattle.ice_values.specs.declared.property.Property.{Property}
+use Rattle.ice_values.proofs.OptionLaws.{some_is, none_not_some}
+use Rattle.xsmp_properties.specs.Readers.{are_words, command_of, command_with, directory_of, environment_of}
+use Rattle.xsmp_properties.specs.Tables.{find_property}
+use Rattle.checkpoint_records.specs.Books.{discards, names, same_command}
+use Rattle.checkpoint_records.specs.Rules.{IsClientId, KeepsRules}
+use Rattle.checkpoint_records.specs.declared.records.Book.{Book}
+use Rattle.checkpoint_records.specs.declared.records.Entry.{Entry}
+use Rattle.checkpoint_records.proofs.DistinctLaws.{all_more, any_false, distinct_more}
+use Rattle.checkpoint_changes.specs.Changes.{applied, with_entry, without, without_at}
+use Rattle.checkpoint_changes.specs.Parts.{HasParts}
+use Rattle.checkpoint_changes.specs.Together.{FitTogether, FitsIn, discards_by, has_words, last_byte}
+use Rattle.checkpoint_changes.specs.declared.changes.Change.{Change}
+use Rattle.checkpoint_changes.specs.declared.changes.Change.TheVariants.{Epoch, Pend, Put, Remove, Unpend}
+use Rattle.checkpoint_changes.proofs.RuleLaws.{at_all, put_each, runs_of, whole_rules, with_entries, with_pending, without_all}
+
+-- ---- tests of each item
+
+any_none : {A : Type 0} (test : A → Bool) (items : List A) → list_any test items ≡ false → AllByRecursion (λ x. test x ≡ false) items
+any_none test [] e = tt
+any_none test (x ∷ items) e = let h = any_false (test x) (list_any test items) e in (h.0, any_none test items h.1)
+
+none_any : {A : Type 0} (test : A → Bool) (items : List A) → AllByRecursion (λ x. test x ≡ false) items → list_any test items ≡ false
+none_any test [] h = refl
+none_any test (x ∷ items) h = rw (h.0, none_any test items h.1) refl
+
+pub any_alike : {A : Type 0} (f g : A → Bool) (items : List A) → ((x : A) → f x ≡ g x) → list_any f items ≡ list_any g items
+any_alike f g [] same = refl
+any_alike f g (x ∷ items) same = rw (same x, any_alike f g items same) refl
+
+pub any_nowhere : {A : Type 0} (test : A → Bool) (items : List A) → ((x : A) → test x ≡ false) → false ≡ list_any test items
+any_nowhere test [] none = refl
+any_nowhere test (x ∷ items) none = rw (none x) (any_nowhere test items none)
+
+all_onward : {A : Type 0} (P Q : A → Type 0) (items : List A) → ((x : A) → P x → Q x) → AllByRecursion P items → AllByRecursion Q items
+all_onward P Q [] on h = tt
+all_onward P Q (x ∷ items) on h = (on x h.0, all_onward P Q items on h.1)
+
+all_both : {A : Type 0} (P Q R : A → Type 0) (items : List A) → ((x : A) → P x → Q x → R x) → AllByRecursion P items → AllByRecursion Q items → AllByRecursion R items
+all_both P Q R [] on h k = tt
+all_both P Q R (x ∷ items) on h k = (on x h.0 k.0, all_both P Q R items on h.1 k.1)
+
+-- ---- the DiscardCommand of an entry
+
+pub discard_none : (command : Command) (entry : Entry) → find_property (codes "DiscardCommand") entry.table ≡ None → discards_by command entry ≡ false
+discard_none command entry is = rw is refl
+
+pub discard_some : (command : Command) (entry : Entry) (property : Property) → find_property (codes "DiscardCommand") entry.table ≡ Some property → discards_by command entry ≡ has_words property command
+discard_some command entry property is = rw is (kind (bytes_eq (codes "LISTofARRAY8") property.kind))
+  where
+    both : (p w : Bool) → cond w p false ≡ (p && w)
+    both true true = refl
+    both true false = refl
+    both false true = refl
+    both false false = refl
+
+    words : (w : Bool) → option_map_or (same_command command) (cond w (Some (record { words = property.values; directory = directory_of entry.table; environment = environment_of entry.table })) None) false ≡ cond w (pointwise bytes_eq command.words property.values) false
+    words true = refl
+    words false = refl
+
+    none : (p : Bool) → false ≡ (p && false)
+    none true = refl
+    none false = refl
+
+    kind : (b : Bool) → option_map_or (same_command command) (option_and_then (command_with entry.table) (cond b (Some property.values) None)) false ≡ (pointwise bytes_eq command.words property.values && (b && are_words property.values))
+    kind true = words (are_words property.values) ∙ both (pointwise bytes_eq command.words property.values) (are_words property.values)
+    kind false = none (pointwise bytes_eq command.words property.values)
+
+pub ends_differ : (first second : List (List ℕ)) (m n : ℕ) → m ≡ last_byte first → n ≡ last_byte second → (m ≡ n → ⊥) → false ≡ pointwise bytes_eq first second
+ends_differ first second m n is_m is_n other = by (pointwise bytes_eq first second) refl
+  where
+    by : (b : Bool) → pointwise bytes_eq first second ≡ b → false ≡ b
+    by true same = absurd (other (is_m ∙ ap last_byte ((pointwise_decides bytes_decides first second).0 same) ∙ sym is_n))
+    by false same = refl
+
+-- ---- none of the entries names a command
+
+any_discards : (command : Command) (entries : List Entry) → list_any (same_command command) (discards entries) ≡ list_any (discards_by command) entries
+any_discards command [] = refl
+any_discards command (e ∷ entries) = by (command_of (codes "DiscardCommand") e.table) (any_discards command entries)
+  where
+    by : (o : Option Command) → list_any (same_command command) (discards entries) ≡ list_any (discards_by command) entries
+        → list_any (same_command command) (cons_option o (discards entries)) ≡ (option_map_or (same_command command) o false || list_any (discards_by command) entries)
+    by None same = same
+    by (Some d) same = ap (λ (b : Bool). same_command command d || b) same
+
+-- none of the commands is named
+abbrev AreUnnamed : List Entry → List Command → Type 0
+AreUnnamed entries commands = AllByRecursion (λ (c : Command). list_any (same_command c) (discards entries) ≡ false) commands
+
+named_by_none : (c : Command) (entries : List Entry) → list_any (same_command c) (discards entries) ≡ false → AllByRecursion (λ (e : Entry). discards_by c e ≡ false) entries
+named_by_none c entries e = any_none (discards_by c) entries (sym (any_discards c entries) ∙ e)
+
+none_names : (c : Command) (entries : List Entry) → AllByRecursion (λ (e : Entry). discards_by c e ≡ false) entries → list_any (same_command c) (discards entries) ≡ false
+none_names c entries h = any_discards c entries ∙ none_any (discards_by c) entries h
+
+unnamed_without : (id : List ℕ) (entries left : List Entry) (commands : List Command) → without id entries ≡ Some left → AreUnnamed entries commands → AreUnnamed left commands
+unnamed_without id entries left commands is h =
+    all_onward (λ (c : Command). list_any (same_command c) (discards entries) ≡ false) (λ (c : Command). list_any (same_command c) (discards left) ≡ false) commands
+    (λ c none. none_names c left (without_all (λ (e : Entry). discards_by c e ≡ false) id entries left is (named_by_none c entries none))) h
+
+unnamed_with : (entry : Entry) (entries : List Entry) (commands : List Command) → list_any (λ command. discards_by command entry) commands ≡ false → AreUnnamed entries commands → AreUnnamed (with_entry entry entries) commands
+unnamed_with entry entries commands free h =
+    all_both (λ (c : Command). discards_by c entry ≡ false) (λ (c : Command). list_any (same_command c) (discards entries) ≡ false) (λ (c : Command). list_any (same_command c) (discards (with_entry entry entries)) ≡ false) commands
+    (λ c new none. none_names c (with_entry entry entries) (put_each (λ (e : Entry). discards_by c e ≡ false) entry entries new (named_by_none c entries none)))
+    (any_none (λ (command : Command). discards_by command entry) commands free) h
+
+-- ---- each change
+
+later_id : (early late : ℕ) (id : List ℕ) → early ≤ late → IsClientId early id → IsClientId late id
+later_id early late id le is = record { epoch = is.epoch; number = is.number; first = is.first; last = omega (arith, is.last, le); fits = is.fits; is = is.is }
+
+at_differ : (n : ℕ) (commands left : List Command) → without_at n commands ≡ Some left → IsDistinct same_command commands → IsDistinct same_command left
+unfolding IsDistinct
+at_differ n [] left is d = absurd (none_not_some left is)
+at_differ zero (c ∷ commands) left is d = subst (λ (l : List Command). IsDistinct same_command l) (some_is commands left is) d.1
+at_differ (suc n) (c ∷ commands) left is d = by (without_at n commands) refl is (λ rest r. at_differ n commands rest r d.1)
+  where
+    by : (o : Option (List Command)) → without_at n commands ≡ o → option_map (λ rest. c ∷ rest) o ≡ Some left → ((rest : List Command) → o ≡ Some rest → IsDistinct same_command rest) → IsDistinct same_command left
+    by None same is more = absurd (none_not_some left is)
+    by (Some rest) same is more =
+        subst (λ (l : List Command). IsDistinct same_command l) (some_is (c ∷ rest) left is)
+        (at_all (λ (k : Command). same_command c k ≡ false) n commands rest same d.0, more rest refl)
+
+pub fit_of : (book : Book) → KeepsRules book → FitTogether book
+fit_of book rules = record { runs = runs_of book.epoch book.entries rules.entries; commands_differ = rules.commands_differ; none_named = rules.none_named }
+
+pub rules_of : (book : Book) → HasParts book → FitTogether book → length book.entries ≤ 128 → length book.pending ≤ 320 → KeepsRules book
+rules_of book parts fit few_entries few_pending = whole_rules book parts few_entries few_pending fit.runs fit.commands_differ fit.none_named
+
+pub still_fit : (book : Book) (change : Change) (next : Book) → FitTogether book → FitsIn book change → applied book change ≡ Some next → FitTogether next
+unfolding with_entries with_pending
+still_fit book (Epoch epoch) next fit (inl later) is =
+    subst FitTogether (some_is (record book { epoch = epoch }) next is) (record {
+      runs = all_onward (λ (e : Entry). IsClientId book.epoch e.id) (λ (e : Entry). IsClientId epoch e.id) book.entries (λ e of_run. later_id book.epoch epoch e.id later of_run) fit.runs;
+      commands_differ = fit.commands_differ;
+      none_named = fit.none_named;
+    })
+still_fit book (Epoch epoch) next fit (inr runs) is =
+    subst FitTogether (some_is (record book { epoch = epoch }) next is) (record { runs = runs; commands_differ = fit.commands_differ; none_named = fit.none_named })
+still_fit book (Remove id) next fit fits is = by (without id book.entries) refl is
+  where
+    by : (o : Option (List Entry)) → without id book.entries ≡ o → option_map (λ entries. with_entries book entries) o ≡ Some next → FitTogether next
+    by None same is = absurd (none_not_some next is)
+    by (Some left) same is =
+        subst FitTogether (some_is (with_entries book left) next is) (record {
+          runs = without_all (λ (e : Entry). IsClientId book.epoch e.id) id book.entries left same fit.runs;
+          commands_differ = fit.commands_differ;
+          none_named = unnamed_without id book.entries left book.pending same fit.none_named;
+        })
+still_fit book (Put entry) next fit fits is =
+    subst FitTogether (some_is (with_entries book (with_entry entry book.entries)) next is) (record {
+      runs = put_each (λ (e : Entry). IsClientId book.epoch e.id) entry book.entries fits.0 fit.runs;
+      commands_differ = fit.commands_differ;
+      none_named = unnamed_with entry book.entries book.pending fits.1 fit.none_named;
+    })
+still_fit book (Unpend place) next fit fits is = by (without_at place book.pending) refl is
+  where
+    by : (o : Option (List Command)) → without_at place book.pending ≡ o → option_map (λ pending. with_pending book pending) o ≡ Some next → FitTogether next
+    by None same is = absurd (none_not_some next is)
+    by (Some left) same is =
+        subst FitTogether (some_is (with_pending book left) next is) (record {
+          runs = fit.runs;
+          commands_differ = at_differ place book.pending left same fit.commands_differ;
+          none_named = at_all (λ (c : Command). names book c ≡ false) place book.pending left same fit.none_named;
+        })
+still_fit book (Pend command) next fit fits is =
+    subst FitTogether (some_is (with_pending book (book.pending ++ command ∷ [])) next is) (record {
+      runs = fit.runs;
+      commands_differ = distinct_more same_command book.pending command fit.commands_differ fits.0;
+      none_named = all_more (λ (c : Command). names book c ≡ false) book.pending command fit.none_named (any_discards command book.entries ∙ fits.1);
+    })
+
+-- ---- the calls
+
+not_true : (b : Bool) → IsTrue (not b) → b ≡ false
+not_true true t = (let e : false ≡ true = t in absurd cc)
+not_true false t = refl
+
+pub put_fits : (book : Book) (entry : Entry) (id : List ℕ) (pending : List Command) (discarded : Bool) → id ≡ entry.id → pending ≡ book.pending → IsClientId book.epoch id → discarded ≡ list_any (λ command. discards_by command entry) pending → IsTrue (not discarded) → FitsIn book (Put entry)
+put_fits book entry id pending discarded is_id is_pending of_run is t =
+    (subst (IsClientId book.epoch) is_id of_run, ap (list_any (λ (command : Command). discards_by command entry)) (sym is_pending) ∙ sym is ∙ not_true discarded t)
+
+pub pend_fits : (book : Book) (command : Command) (entries : List Entry) (pending : List Command) (among discarded : Bool) → entries ≡ book.entries → pending ≡ book.pending → among ≡ list_any (λ other. same_command other command) pending → among ≡ false → discarded ≡ list_any (discards_by command) entries
+    → IsTrue (not discarded) → FitsIn book (Pend command)
+pend_fits book command entries pending among discarded is_entries is_pending is_among new is_discarded t = (
+  ap (list_any (λ (other : Command). same_command other command)) (sym is_pending) ∙ sym is_among ∙ new,
+  ap (list_any (discards_by command)) (sym is_entries) ∙ sym is_discarded ∙ not_true discarded t,
+)

@@ -1,0 +1,45 @@
+-- What the parts of a book owe one another, and what a change owes the book that it is made to, so that the parts do afterwards.
+use Rattle.std.specs.Prelude.{◌≡◌, ◌⊎◌, ℕ, ◌-◌, ◌≤◌, Bool, ◌&&◌, false, List, length, codes}
+use Rattle.std.specs.List.{AllByRecursion, IsDistinct, list_any, slice_get}
+use Rattle.std.specs.Option.{option_map_or}
+use Rattle.std.specs.Str.{bytes_eq}
+use Rattle.std.specs.Cmp.Lexicographic.{pointwise}
+use Rattle.sm_world.specs.declared.commands.Command.{Command}
+use Rattle.ice_values.specs.declared.property.Property.{Property}
+use Rattle.xsmp_properties.specs.Readers.{are_words, command_of}
+use Rattle.checkpoint_records.specs.Books.{names, same_command}
+use Rattle.checkpoint_records.specs.Rules.{IsClientId}
+use Rattle.checkpoint_records.specs.declared.records.Book.{Book}
+use Rattle.checkpoint_records.specs.declared.records.Entry.{Entry}
+use Rattle.checkpoint_changes.specs.declared.changes.Change.{Change}
+use Rattle.checkpoint_changes.specs.declared.changes.Change.TheVariants.{Epoch, Pend, Put, Remove, Unpend}
+
+-- each ID is one of a run up to this epoch
+abbrev pub AreOfRuns : ℕ → List Entry → Type 0
+AreOfRuns epoch entries = AllByRecursion (λ (e : Entry). IsClientId epoch e.id) entries
+
+-- The parts of a book fit together: each ID is of a run up to the book's epoch, no two pending commands are the same, and no entry names one.
+pub record FitTogether (book : Book) : Type 0 where
+  pub runs : AreOfRuns book.epoch book.entries
+  pub commands_differ : IsDistinct same_command book.pending
+  pub none_named : AllByRecursion (λ command. names book command ≡ false) book.pending
+
+-- the last byte of the last text, or 0 where there is none
+abbrev pub last_byte : List (List ℕ) → ℕ
+last_byte texts = option_map_or (λ text. option_map_or (λ byte. byte) (slice_get text (length text - 1)) 0) (slice_get texts (length texts - 1)) 0
+
+-- a property holds the words of a command
+abbrev pub has_words : Property → Command → Bool
+has_words property command = pointwise bytes_eq command.words property.values && (bytes_eq (codes "LISTofARRAY8") property.kind && are_words property.values)
+
+-- an entry's DiscardCommand is the same as this command
+abbrev pub discards_by : Command → Entry → Bool
+discards_by command entry = option_map_or (same_command command) (command_of (codes "DiscardCommand") entry.table) false
+
+-- a change fits the parts of a book
+abbrev pub FitsIn : Book → Change → Type 0
+FitsIn book (Epoch epoch) = (book.epoch ≤ epoch) ⊎ AreOfRuns epoch book.entries
+FitsIn book (Remove id) = Unit {0}
+FitsIn book (Put entry) = IsClientId book.epoch entry.id × (list_any (λ command. discards_by command entry) book.pending ≡ false)
+FitsIn book (Unpend place) = Unit {0}
+FitsIn book (Pend command) = (list_any (λ other. same_command other command) book.pending ≡ false) × (list_any (discards_by command) book.entries ≡ false)

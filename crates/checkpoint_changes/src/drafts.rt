@@ -1,0 +1,153 @@
+ghost use Rattle.std.specs.Prelude.{◌≡◌, IsTrue, IfOk, IfSome};
+ghost use Rattle.std.specs.List.{list_any};
+ghost use Rattle.std.specs.Option.{option_map};
+ghost use Rattle.std.specs.Str.{bytes_eq};
+ghost use Rattle.std.specs.Cmp.Lexicographic.{pointwise};
+ghost use Rattle.checkpoint_records.specs.Books.{same_command as is_same};
+ghost use Rattle.checkpoint_changes.specs.Changes.{applied as applied_to};
+ghost use Rattle.checkpoint_changes.specs.declared.changes.Change.TheVariants.{Pend, Put};
+ghost use Rattle.checkpoint_changes.specs.Together.{FitsIn, FitTogether, discards_by as is_discarded_by, has_words as are_words_of, last_byte as last_byte_of};
+
+use crate::Change;
+use crate::applying::applied;
+use crate::rules::{PENDING_LIMIT, are_of_runs};
+use checkpoint_records::{Book, Entry, is_client_id};
+use ice_values::{Array8, Property};
+use sm_world::{Command, NoMemory};
+use xsmp_properties::{are_words, same_texts};
+
+const LIST: &[u8] = b"LISTofARRAY8";
+
+/// A book in the midst of an amendment.
+#[derive(Drop)]
+pub(crate) struct Draft {
+    pub book: Book,
+    /// Whether its parts are known to fit together.
+    pub fits: bool,
+}
+
+/// The last byte of the last of some texts, or 0 where there is none.
+fn last_byte(texts: &[Array8]) -> u8
+    ensures { result ≡ last_byte_of texts.now }
+{
+    match texts.last() {
+        Some(text) => text.as_slice().last().copied().unwrap_or(0),
+        None => 0,
+    }
+}
+
+/// Whether these are the same words. Commands that differ mostly do at their ends, so these are
+/// looked at first.
+fn same_words(first: &[Array8], second: &[Array8]) -> bool
+    ensures { result ≡ pointwise bytes_eq first.now second.now }
+{
+    if last_byte(first) != last_byte(second) {
+        return false;
+    }
+    same_texts(first, second)
+}
+
+/// Whether a property holds the words of this command.
+fn has_words(property: &Property, command: &Command) -> bool
+    ensures { result ≡ are_words_of property.now command.now }
+{
+    same_words(command.words.as_slice(), property.values.as_slice())
+        && LIST == property.kind.as_slice()
+        && are_words(property.values.as_slice())
+}
+
+/// Whether the DiscardCommand of this entry is the same as the command. This takes no memory.
+fn discards_by(command: &Command, entry: &Entry) -> bool
+    ensures { result ≡ is_discarded_by command.now entry.now }
+{
+    match entry.table.get(b"DiscardCommand") {
+        Some(property) => has_words(property, command),
+        None => false,
+    }
+}
+
+fn holds_words_of(property: &Property, commands: &[Command]) -> bool
+    ensures { result ≡ list_any (are_words_of property.now) commands.now }
+{
+    commands.iter().any(|command| has_words(property, command))
+}
+
+/// Whether the DiscardCommand of this entry, which is looked up once, is the same as one of the
+/// commands.
+fn discards_one_of(commands: &[Command], entry: &Entry) -> bool
+    ensures { result ≡ list_any (λ command. is_discarded_by command entry.now) commands.now }
+{
+    match entry.table.get(b"DiscardCommand") {
+        Some(property) => holds_words_of(property, commands),
+        None => false,
+    }
+}
+
+/// Whether the command is the DiscardCommand of one of these entries.
+fn is_discarded(entries: &[Entry], command: &Command) -> bool
+    ensures { result ≡ list_any (is_discarded_by command.now) entries.now }
+{
+    entries.iter().any(|entry| discards_by(command, entry))
+}
+
+/// Whether one of these commands is the same as this one.
+fn is_among(commands: &[Command], command: &Command) -> bool
+    ensures { result ≡ list_any (λ other. is_same other command.now) commands.now }
+{
+    commands.iter().any(|other| same_words(other.words.as_slice(), command.words.as_slice()))
+}
+
+fn may_put(book: &Book, entry: &Entry) -> bool
+    ensures { IsTrue result → FitsIn book.now (Put entry.now) }
+{
+    is_client_id(book.epoch, entry.id.as_slice())
+        && !discards_one_of(book.pending.as_slice(), entry)
+}
+
+/// Behind so many pending commands that one more would break a rule this isn't asked, so that it
+/// takes no longer than in a book.
+fn may_pend(book: &Book, command: &Command) -> bool
+    ensures { IsTrue result → FitsIn book.now (Pend command.now) }
+{
+    let pending = book.pending.as_slice();
+    if pending.len() >= PENDING_LIMIT || is_among(pending, command) {
+        return false;
+    }
+    !is_discarded(book.entries.as_slice(), command)
+}
+
+/// Whether a change is known to fit the parts of a book.
+fn fits_in(book: &Book, change: &Change) -> bool
+    ensures { IsTrue result → FitsIn book.now change.now }
+{
+    match change {
+        Change::Epoch(epoch) => {
+            book.epoch <= *epoch || are_of_runs(*epoch, book.entries.as_slice())
+        }
+        Change::Remove(_) => true,
+        Change::Put(entry) => may_put(book, entry),
+        Change::Unpend(_) => true,
+        Change::Pend(command) => may_pend(book, command),
+    }
+}
+
+/// Whether the parts of a draft are known to fit together, and the change to fit them.
+fn is_fit_for(draft: &Draft, change: &Change) -> bool
+    requires { IsTrue draft.now.fits → FitTogether draft.now.book }
+    ensures { IsTrue result → FitTogether draft.now.book × FitsIn draft.now.book change.now }
+{
+    draft.fits && fits_in(&draft.book, change)
+}
+
+/// The draft after a change. None where it takes out what isn't there.
+pub(crate) fn changed(draft: Draft, change: Change) -> Result<Option<Draft>, NoMemory>
+    requires { IsTrue draft.fits → FitTogether draft.book }
+    ensures book { IfOk result (λ next. option_map (λ draft. draft.book) next ≡ applied_to draft.book change) }
+    ensures fits { IfOk result (λ next. IfSome next (λ draft. IsTrue draft.fits → FitTogether draft.book)) }
+{
+    let fits = is_fit_for(&draft, &change);
+    match applied(draft.book, change)? {
+        Some(book) => Ok(Some(Draft { book, fits })),
+        None => Ok(None),
+    }
+}
