@@ -1,5 +1,6 @@
 pub mod Computed
 pub mod Lists
+pub mod MoveKinds
 pub mod PhaseSteps
 pub mod Sound
 pub mod Level

@@ -16,9 +16,10 @@ use Rattle.session_model.specs.Replies.{reply}
 use Rattle.session_model.specs.Rules.{rule, go_on, settle, settled, taken, opened, run}
 use Rattle.session_model.specs.Laws.{EachMove, IsShort, HasEntries}
 use Rattle.session_model.proofs.Kept.{empty-table}
-use Rattle.session_model.proofs.Tidy.{Tidy, Proper, AllProper, tidy-step, epoch-step, proper-append}
+use Rattle.session_model.proofs.Tidy.{Tidy, Proper, AllProper, tidy-step, epoch-step}
 use Rattle.session_model.proofs.Short.{short-id, short-table, short-small, short-error}
-use Rattle.session_model.proofs.Propers.{proper-tried, proper-issue, proper-rule, proper-reply}
+use Rattle.session_model.proofs.MoveKinds.{every-append, every-tried}
+use Rattle.session_model.proofs.Propers.{proper-issue, proper-rule, proper-reply}
 
 -- A run over a book, after its first commit
 
@@ -79,8 +80,8 @@ orderly-raised opening a =
 pub orderly-opened : (opening : Opening) → AllByRecursion (IsEntry opening.book.epoch) opening.book.entries → Orderly (opening.book.epoch + 1) (opened opening)
 orderly-opened opening a =
     orderly-onto (opening.book.epoch + 1) (issue (raised opening.book) opening.book.pending ++ tried_each Restart (opening_restarts opening.book.entries)) (Committed (raised opening.book) ▷ Opened opening)
-    (proper-append (opening.book.epoch + 1) (issue (raised opening.book) opening.book.pending) (tried_each Restart (opening_restarts opening.book.entries))
-    (proper-issue (opening.book.epoch + 1) (raised opening.book) opening.book.pending (refl, later-entries opening.book.epoch opening.book.entries a)) (proper-tried (opening.book.epoch + 1) Restart (opening_restarts opening.book.entries)))
+    (every-append (Proper (opening.book.epoch + 1)) (issue (raised opening.book) opening.book.pending) (tried_each Restart (opening_restarts opening.book.entries))
+    (proper-issue (opening.book.epoch + 1) (raised opening.book) opening.book.pending (refl, later-entries opening.book.epoch opening.book.entries a)) (every-tried (Proper (opening.book.epoch + 1)) Restart (opening_restarts opening.book.entries) (λ command. tt)))
     (orderly-raised opening a)
 
 pub orderly : (opening : Opening) (events : List SessionEvent) → KeepsRules opening.book → Orderly (opening.book.epoch + 1) (run (opened opening) events)
