@@ -17,7 +17,8 @@ use Rattle.session_model.specs.declared.events.SessionEvent.TheVariants.{Joined,
 use Rattle.session_model.specs.declared.phase.Phase.{Phase}
 use Rattle.session_model.specs.declared.phase.Phase.TheVariants.{Done, Dying}
 use Rattle.session_model.specs.Books.{book_forgetting, command_anyway, discarded, issue, standing}
-use Rattle.session_model.specs.Errors.{Arrival, bad_id, full_table, lone_shutdown, no_room}
+use Rattle.session_model.specs.Errors.{bad_id, full_table, lone_shutdown, no_room}
+use Rattle.session_model.specs.declared.events.Arrival.{Arrival}
 use Rattle.session_model.specs.Moves.{Began, Blamed, Cancelled, Cause, Closed, Discard, Gave, History, Move, Outside, Printed, Unset, gave_each, tried_each, ◌▷◌}
 use Rattle.session_model.specs.Phases.{is_bound, is_dying, is_first_saving, is_interacting, is_member, is_owing, is_saving, is_shutdown, is_unregistered, may_interact}
 use Rattle.session_model.specs.Reading.{Reading, client_of, reading, wanted_in}

@@ -64,13 +64,14 @@ fn bad_value(
     Ok(error)
 }
 
-/// An Error about a message.
+/// An Error about a message. Its values fill whole units.
 fn error_about(
     arrival: &Arrival,
     class: ErrorClass,
     severity: Severity,
     values: Octets,
 ) -> ErrorBody
+    requires { length values % 8 ≡ 0 }
     ensures { result ≡ record {
       class = class_number class;
       minor = minor_of arrival.now.message;
@@ -79,11 +80,12 @@ fn error_about(
       values = values;
     } }
 {
+    let sequence = arrival.sequence;
     ErrorBody {
         class: class.number(),
         minor: minor(&arrival.message),
         severity,
-        sequence: arrival.sequence,
+        sequence,
         values,
     }
 }

@@ -110,7 +110,7 @@ abbrev pub AllPlain : List Move → Type 0
 AllPlain moves = AllByRecursion IsPlain moves
 
 pub plain-wide : IsWide IsPlain
-plain-wide = record { tried = λ cause command. tt; closed = λ c. tt; printed = λ text. tt }
+plain-wide = record { respawned = λ id command. tt; resigned = λ command. tt; closed = λ c. tt; printed = λ text. tt }
 
 -- What holds between events
 

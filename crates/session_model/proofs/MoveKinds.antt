@@ -73,15 +73,16 @@ module _ (P : Move → Type 0) where
   every-or-bad true x moves p q = q
   every-or-bad false x moves p q = (p, tt)
 
-  -- What is common to most kinds: commands may be tried, connections shut and lines printed.
+  -- What is common to most kinds: clients may be started again and resigned, connections shut and lines printed.
   pub record IsWide : Type 0 where
-    pub tried : (cause : Cause) (command : Command) → P (Tried cause command)
+    pub respawned : (id : List ℕ) (command : Command) → P (Tried (Respawn id) command)
+    pub resigned : (command : Command) → P (Tried Resign command)
     pub closed : (c : ℕ) → P (Closed c)
     pub printed : (text : List ℕ) → P (Printed text)
 
   every-respawn : (id : List ℕ) (command : Option Command) → IsWide → Every (respawn_moves id command)
   every-respawn id None wide = tt
-  every-respawn id (Some command) wide = (wide.tried (Respawn id) command, tt)
+  every-respawn id (Some command) wide = (wide.respawned id command, tt)
 
   every-entry : (r : Reading) (id : List ℕ) (entry : Option Entry) → IsWide → Every (entry_respawn r id entry)
   every-entry r id None wide = tt
@@ -103,7 +104,7 @@ module _ (P : Move → Type 0) where
 
   pub every-resigned : (command : Option Command) → IsWide → Every (resigned command)
   every-resigned None wide = tt
-  every-resigned (Some command) wide = (wide.tried Resign command, tt)
+  every-resigned (Some command) wide = (wide.resigned command, tt)
 
   every-forgotten : (r : Reading) (entry : Entry) (book : Book) → IsWide → P (Committed book) → Every (discarded r.clients book) → Every (forgotten r entry book)
   every-forgotten r entry book wide p q =
@@ -142,25 +143,26 @@ module _ (P : Move → Type 0) where
   -- What the rules ask beyond that: messages are given, rounds begin and end, and the next book is written.
   pub record IsRuled (r : Reading) : Type 0 where
     pub gave : (c : ℕ) (m : XsmpMessage) → is_ruled m ≡ true → P (Gave c m)
+    pub last : (command : Command) → P (Tried End command)
     pub began : (conns : List ℕ) (wanted : Wanted) → P (Began conns wanted)
     pub over : P Over
     pub agreed : P Agreed
     pub written : (round : Agreement) → P (Committed (next_book r round)) × Every (discarded r.clients (next_book r round))
 
-  pub every-completed : (b : Bool) (r : Reading) (round : Agreement) (book : Book) → IsWide → ((c : ℕ) (m : XsmpMessage) → is_ruled m ≡ true → P (Gave c m)) → Every (completed b r.clients round book)
-  every-completed true r round book wide k =
+  pub every-completed : (b : Bool) (r : Reading) (round : Agreement) (book : Book) → IsWide → ((command : Command) → P (Tried End command)) → ((c : ℕ) (m : XsmpMessage) → is_ruled m ≡ true → P (Gave c m)) → Every (completed b r.clients round book)
+  every-completed true r round book wide last k =
       every-append (gave_each Die r.clients.registered ++ map Closed (filter (λ c. not (is_in c r.clients.registered)) r.clients.live)) (tried_each End (filter_map (last_command r.clients) book.entries))
       (every-append (gave_each Die r.clients.registered) (map Closed (filter (λ c. not (is_in c r.clients.registered)) r.clients.live)) (every-gave Die r.clients.registered (λ c. k c Die refl))
       (every-closed (filter (λ c. not (is_in c r.clients.registered)) r.clients.live) wide.closed))
-      (every-tried End (filter_map (last_command r.clients) book.entries) (wide.tried End))
-  every-completed false r round book wide k = every-gave SaveComplete (conns_of round.members) (λ c. k c SaveComplete refl)
+      (every-tried End (filter_map (last_command r.clients) book.entries) last)
+  every-completed false r round book wide last k = every-gave SaveComplete (conns_of round.members) (λ c. k c SaveComplete refl)
 
   every-agreement : (r : Reading) (round : Agreement) → IsWide → IsRuled r → Every (agreement r round)
   every-agreement r round wide ruled = (
     (ruled.written round).0,
     (
       ruled.agreed,
-      every-append (completed round.wanted.shutdown r.clients round (next_book r round)) (discarded r.clients (next_book r round)) (every-completed round.wanted.shutdown r round (next_book r round) wide ruled.gave) (ruled.written round).1,
+      every-append (completed round.wanted.shutdown r.clients round (next_book r round)) (discarded r.clients (next_book r round)) (every-completed round.wanted.shutdown r round (next_book r round) wide ruled.last ruled.gave) (ruled.written round).1,
     ),
   )
 

@@ -31,6 +31,7 @@ use Rattle.session_model.specs.Reading.{Clients, Reading, reading, wanted_in, cl
 use Rattle.session_model.specs.Books.{next_book, book_forgetting, standing, issue, discarded, command_anyway, opening_moves, raised}
 use Rattle.session_model.specs.Replies.{or_bad_state, respawn_moves, entry_respawn, id_respawn, respawned, depart, has_no_room, may_rejoin, register, called_off, want_cancel, has_place, placed, answered, unless_dying, said, resigned, forgotten, forget_one, ordered, has_no_place, reply, is_overdue, waited}
 use Rattle.session_model.specs.Rules.{last_command, ended, completed, agreement_with, wanting_two, over_rule, agreed_rule, running_rule, save_yourself, members_for, begin_first, is_free, idle_rule, round_rule, token_rule, rule, go_on, settle, settled, taken}
+use Rattle.session_model.proofs.Driven.{taken-keeps}
 use Rattle.session_model.proofs.MoveKinds.{IsRuled, IsWide, Suffices, every-append, every-departs, every-issue, every-off, every-opening, every-ordered, every-respawned, every-rule, is_ruled}
 use Rattle.session_model.proofs.Level.{onto-append}
 
@@ -69,7 +70,7 @@ answer-cond true xs ys p q = p
 answer-cond false xs ys p q = q
 
 own-wide : IsWide IsOwn
-own-wide = record { tried = λ cause command. tt; closed = λ c. tt; printed = λ text. tt }
+own-wide = record { respawned = λ id command. tt; resigned = λ command. tt; closed = λ c. tt; printed = λ text. tt }
 
 own-issue : (book : Book) (commands : List Command) → AllOwn (issue book commands)
 own-issue book commands = every-issue IsOwn book commands (λ command. tt) tt
@@ -83,6 +84,7 @@ own-given m e = refl
 own-ruled : (r : Reading) → IsRuled IsOwn r
 own-ruled r = record {
   gave = λ c m e. own-given m e;
+  last = λ command. tt;
   began = λ conns wanted. tt;
   over = tt;
   agreed = tt;
@@ -161,18 +163,6 @@ goes-more h g moves own goes = record {
   is = ap (λ (x : History). onto x moves) goes.is ∙ sym (onto-append h goes.rest moves);
 }
 
-goes-on : (n : ℕ) (h g : History) (moves : List Move) → AllOwn moves → Goes h g → ((x : History) → Goes h x → Goes h (settle n x)) → Goes h (go_on (λ x. settle n x) g moves)
-goes-on n h g [] own goes further = goes
-goes-on n h g (m ∷ moves) own goes further = further (onto g (m ∷ moves)) (goes-more h g (m ∷ moves) own goes)
-
-goes-settle : (n : ℕ) (h g : History) → Goes h g → Goes h (settle n g)
-goes-settle zero h g goes = goes
-goes-settle (suc n) h g goes = goes-on n h g (rule (reading g)) (own-rule (reading g)) goes (λ x q. goes-settle n h x q)
-
-goes-finish : (b : Bool) (h g : History) → Goes h g → Goes h (cond b (Finished ▷ g) g)
-goes-finish true h g goes = goes-more h g (Finished ∷ []) (tt, tt) goes
-goes-finish false h g goes = goes
-
 -- what an event brings is one answer
 pub record Answers (event : SessionEvent) (h : History) : Type 0 where
   pub moves : List Move
@@ -182,8 +172,7 @@ pub record Answers (event : SessionEvent) (h : History) : Type 0 where
 pub all-answers : (event : SessionEvent) (h : History) → Answers event h
 all-answers event h =
     let replied : History = onto (Outside event ▷ h) (reply (reading h) event) in
-    let rested : History = settled replied in
-    let goes : Goes replied (taken event h) = goes-finish (of.is_ending rested && is_nil (of.live rested)) replied rested (goes-settle (4 * length (of.waits replied) + 4) replied replied (goes-none replied)) in
+    let goes : Goes replied (taken event h) = taken-keeps (Goes replied) (λ g k. goes-more replied g (rule (reading g)) (own-rule (reading g)) k) (λ g k. goes-more replied g (Finished ∷ []) (tt, tt) k) event h (goes-none replied) in
     record {
       moves = reply (reading h) event ++ goes.rest;
       answer = answer-append (reply (reading h) event) goes.rest (own-reply (reading h) event) goes.own;

@@ -42,7 +42,7 @@ use Rattle.session_model.proofs.Pending.{all-append, all-filter}
 -- Lists of moves
 
 pub proper-wide : (epoch : ℕ) → IsWide (Proper epoch)
-proper-wide epoch = record { tried = λ cause command. tt; closed = λ c. tt; printed = λ text. tt }
+proper-wide epoch = record { respawned = λ id command. tt; resigned = λ command. tt; closed = λ c. tt; printed = λ text. tt }
 
 -- the entries of a book keep the rules, in the run of this epoch
 abbrev pub IsOf : ℕ → Book → Type 0
@@ -106,6 +106,7 @@ proper-given epoch c m e = absurd (grind arith)
 proper-ruled : (epoch : ℕ) (h : History) → (of.book h).epoch ≡ epoch → Tidy epoch h → IsRuled (Proper epoch) (reading h)
 proper-ruled epoch h e t = record {
   gave = proper-given epoch;
+  last = λ command. tt;
   began = λ conns wanted. tt;
   over = tt;
   agreed = tt;

@@ -21,16 +21,17 @@ use Rattle.session_model.specs.Tables.{is_full, entry_of}
 use Rattle.checkpoint_records.specs.Rules.{client_id}
 use Rattle.session_model.specs.Errors.{no_room, bad_id, full_table, lone_shutdown}
 use Rattle.session_model.specs.declared.events.Arrival.{Arrival}
-use Rattle.session_model.specs.Moves.{Move, Outside, Gave, Blamed, Unset, Closed, Cancelled, Printed, Restart, History, Opened, ◌▷◌, onto, gave_each, tried_each, Opening}
+use Rattle.session_model.specs.Moves.{Finished, Move, Outside, Gave, Blamed, Unset, Closed, Cancelled, Printed, Restart, History, Opened, ◌▷◌, onto, gave_each, tried_each, Opening}
 use Rattle.session_model.specs.Readings as of
 use Rattle.session_model.specs.Reading.{Reading, reading, wanted_in, client_of}
 use Rattle.session_model.specs.Books.{issue, discarded, standing, command_anyway, book_forgetting, opening_moves, raised}
 use Rattle.session_model.specs.Replies.{refused, or_bad_state, respawn_moves, entry_respawn, id_respawn, respawned, depart, has_no_room, may_rejoin, register, called_off, want_cancel, has_place, placed, answered, unless_dying, said, resigned, forgotten, forget_one, forget, may_wait, ordered, has_no_place, reply, status_text, is_overdue, waited}
 use Rattle.session_model.specs.Rules.{settled, taken, opened, run}
 use Rattle.session_model.proofs.Sound.{AllFit}
+use Rattle.session_model.proofs.Driven.{taken-keeps}
 use Rattle.session_model.proofs.MoveKinds.{every-cond, every-depart, every-departs, every-forget, every-opening, every-or-bad, every-ordered, every-respawned}
 use Rattle.session_model.proofs.Level.{Good, AllPlain, IsPlain, good-by, good-plain, level-reply, level-unset, plain-wide, level-emptied, once-cancelled}
-use Rattle.session_model.proofs.Ruled.{member-by, conns-rows, plain-issue, good-settle, good-finished}
+use Rattle.session_model.proofs.Ruled.{member-by, conns-rows, plain-issue, good-rule}
 
 -- A shutdown is called off
 
@@ -166,9 +167,7 @@ good-reply (Tick milliseconds) h g =
     good-plain (waited (reading h) milliseconds) (Outside (Tick milliseconds) ▷ h) (every-departs IsPlain (reading h) (filter (is_overdue (reading h) milliseconds) (of.registered h)) plain-wide) (good-outside (Tick milliseconds) h g)
 
 pub good-taken : (event : SessionEvent) (h : History) → Good h → Good (taken event h)
-good-taken event h g =
-    let answered_to : History = onto (Outside event ▷ h) (reply (reading h) event) in
-    good-finished (settled answered_to) (good-settle (4 * length (of.waits answered_to) + 4) answered_to (good-reply event h g))
+good-taken event h g = taken-keeps Good good-rule (λ i k. good-plain (Finished ∷ []) i (tt, tt) k) event h (good-reply event h g)
 
 -- Runs
 

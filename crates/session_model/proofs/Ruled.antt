@@ -282,20 +282,3 @@ good-next false (c ∷ cs) h e g = good-token c h e g
 
 pub good-rule : (h : History) → Good h → Good (onto h (rule (reading h)))
 good-rule h g = good-next (of.is_held h) (of.waiting h) h refl g
-
--- Settling
-
-good-on : (n : ℕ) (h : History) (moves : List Move) → Good h → Good (onto h moves) → ((g : History) → Good g → Good (settle n g)) → Good (go_on (λ g. settle n g) h moves)
-good-on n h [] g k s = g
-good-on n h (m ∷ moves) g k s = s (onto h (m ∷ moves)) k
-
-pub good-settle : (n : ℕ) (h : History) → Good h → Good (settle n h)
-good-settle zero h g = g
-good-settle (suc n) h g = good-on n h (rule (reading h)) g (good-rule h g) (λ i k. good-settle n i k)
-
-good-finish : (b : Bool) (h : History) → Good h → Good (cond b (Finished ▷ h) h)
-good-finish true h g = good-plain (Finished ∷ []) h (tt, tt) g
-good-finish false h g = g
-
-pub good-finished : (h : History) → Good h → Good (finished h)
-good-finished h g = good-finish (of.is_ending h && is_nil (of.live h)) h g

@@ -50,7 +50,7 @@ abbrev pub AllMild : List Move → Type 0
 AllMild moves = AllByRecursion IsMild moves
 
 pub mild-wide : IsWide IsMild
-mild-wide = record { tried = λ cause command. tt; closed = λ c. tt; printed = λ text. tt }
+mild-wide = record { respawned = λ id command. tt; resigned = λ command. tt; closed = λ c. tt; printed = λ text. tt }
 
 pub mild-tried : (cause : Cause) (commands : List Command) → AllMild (tried_each cause commands)
 mild-tried cause commands = every-tried IsMild cause commands (λ command. tt)
@@ -210,7 +210,7 @@ part-agreement epoch h round o w =
     part-written epoch (next_book (reading h) round) (Agreed ∷ completed round.wanted.shutdown (reading h).clients round (next_book (reading h) round)) h (onto h (agreement (reading h) round)) refl
     (rules-next_book epoch h round w.orderly.is_of w.carried.tidy w.carried.ruly w.few_pending o (room-next epoch h round w.carried o))
     (is-next epoch h round w.orderly.is_of w.carried.tidy) (next-known h round)
-    (tt, every-completed IsMild round.wanted.shutdown (reading h) round (next_book (reading h) round) mild-wide mild-given-ruled) (tt, every-completed (Proper epoch) round.wanted.shutdown (reading h) round (next_book (reading h) round) (proper-wide epoch) (proper-given epoch)) w
+    (tt, every-completed IsMild round.wanted.shutdown (reading h) round (next_book (reading h) round) mild-wide (λ command. tt) mild-given-ruled) (tt, every-completed (Proper epoch) round.wanted.shutdown (reading h) round (next_book (reading h) round) (proper-wide epoch) (λ command. tt) (proper-given epoch)) w
 
 once-now : (epoch : ℕ) (r : of.Begun) (h : History) → Carried epoch h → Once (conns_of (rows_now h))
 once-now epoch r h c = subst (λ (cs : List ℕ). Once cs) (sym (conns-rows (λ d. of.phase_of d h) (λ d. of.saved_of d h) (of.members h))) (c.ruly).once_members
@@ -256,14 +256,6 @@ part-token None epoch h w = part-round (of.running h) epoch h w
 pub whole-with : (epoch : ℕ) (h : History) → Good h → Orderly epoch h → Part epoch h → Whole epoch h
 whole-with epoch h g o p = record { good = g; orderly = o; carried = p.carried; few_live = p.few_live; few_pending = p.few_pending }
 
-whole-rule : (epoch : ℕ) (h : History) → Whole epoch h → Whole epoch (onto h (rule (reading h)))
+pub whole-rule : (epoch : ℕ) (h : History) → Whole epoch h → Whole epoch (onto h (rule (reading h)))
 whole-rule epoch h w =
     whole-with epoch (onto h (rule (reading h))) (good-rule h w.good) (orderly-onto epoch (rule (reading h)) h (proper-rule epoch h w.orderly.is_of w.orderly.tidy) w.orderly) (part-token (next_holder (of.is_held h) (of.waiting h)) epoch h w)
-
-whole-on : (epoch n : ℕ) (h : History) (moves : List Move) → Whole epoch h → Whole epoch (onto h moves) → ((g : History) → Whole epoch g → Whole epoch (settle n g)) → Whole epoch (go_on (λ g. settle n g) h moves)
-whole-on epoch n h [] w k s = w
-whole-on epoch n h (m ∷ moves) w k s = s (onto h (m ∷ moves)) k
-
-pub whole-settle : (epoch n : ℕ) (h : History) → Whole epoch h → Whole epoch (settle n h)
-whole-settle epoch zero h w = w
-whole-settle epoch (suc n) h w = whole-on epoch n h (rule (reading h)) w (whole-rule epoch h w) (λ g k. whole-settle epoch n g k)

@@ -37,6 +37,7 @@ use Rattle.session_model.proofs.Level.{Good, good-plain, onto-append}
 use Rattle.session_model.proofs.Ruled.{differ, and-left, and-right}
 use Rattle.session_model.proofs.Replied.{good-reply, good-opened, unregistered-is, cond-same}
 use Rattle.session_model.proofs.Tidy.{Proper, AllProper}
+use Rattle.session_model.proofs.Driven.{taken-keeps}
 use Rattle.session_model.proofs.MoveKinds.{every-cond, every-depart, every-departs, every-off, every-or-bad, every-ordered, every-resigned, every-respawned, every-tried}
 use Rattle.session_model.proofs.Propers.{proper-reply, proper-wide, IsOf, is-forgetting}
 use Rattle.session_model.proofs.TidyRun.{orderly-onto, orderly-step, orderly-opened, later-entries, tidy-start}
@@ -48,7 +49,7 @@ use Rattle.session_model.proofs.Lawfuls.{rules-forgetting, forgetting-known, len
 use Rattle.session_model.proofs.Left.{left-few, without-none}
 use Rattle.session_model.proofs.Ruled.{any-in}
 use Rattle.session_model.proofs.Names.{IsFree, IsBefore, before-earlier}
-use Rattle.session_model.proofs.Whole.{IsMild, AllMild, mild-tried, mild-wide, Carried, carried-step, carried-issue, Whole, Part, part-of, part-mild, part-written, whole-with, whole-settle, pending-issue, live-issue}
+use Rattle.session_model.proofs.Whole.{IsMild, AllMild, mild-tried, mild-wide, Carried, carried-step, carried-issue, Whole, Part, part-of, part-mild, part-written, whole-with, whole-rule, pending-issue, live-issue}
 
 -- Mild answers
 
@@ -271,9 +272,8 @@ part-reply epoch (Tick milliseconds) h t p g w =
     part-mild epoch (waited (reading h) milliseconds) (Outside (Tick milliseconds) ▷ h) (every-departs IsMild (reading h) (filter (is_overdue (reading h) milliseconds) (of.registered h)) mild-wide) p
     (record { carried = carried-step epoch (Outside (Tick milliseconds)) h tt tt w.carried.once w.carried; few_live = w.few_live; few_pending = w.few_pending })
 
-whole-finish : (b : Bool) (epoch : ℕ) (h : History) → Whole epoch h → Whole epoch (cond b (Finished ▷ h) h)
-whole-finish true epoch h w = whole-with epoch (Finished ▷ h) (good-plain (Finished ∷ []) h (tt, tt) w.good) (orderly-step epoch Finished h tt w.orderly) (part-mild epoch (Finished ∷ []) h (tt, tt) (tt, tt) (part-of epoch h w))
-whole-finish false epoch h w = w
+whole-finished : (epoch : ℕ) (h : History) → Whole epoch h → Whole epoch (Finished ▷ h)
+whole-finished epoch h w = whole-with epoch (Finished ▷ h) (good-plain (Finished ∷ []) h (tt, tt) w.good) (orderly-step epoch Finished h tt w.orderly) (part-mild epoch (Finished ∷ []) h (tt, tt) (tt, tt) (part-of epoch h w))
 
 whole-taken : (epoch : ℕ) (event : SessionEvent) (h : History) → 1 ≤ epoch → Takes event (reading h) → Whole epoch h → Whole epoch (taken event h)
 whole-taken epoch event h one t w =
@@ -282,8 +282,7 @@ whole-taken epoch event h one t w =
     let answered_to : History = onto (Outside event ▷ h) (reply (reading h) event) in
     let answer : Whole epoch answered_to =
     whole-with epoch answered_to (good-reply event h w.good) (orderly-onto epoch (reply (reading h) event) (Outside event ▷ h) p (orderly-step epoch (Outside event) h tt w.orderly)) (part-reply epoch event h t p heard w) in
-    let rested : History = settled answered_to in
-    whole-finish (of.is_ending rested && is_nil (of.live rested)) epoch rested (whole-settle epoch (4 * length (of.waits answered_to) + 4) answered_to answer)
+    taken-keeps (Whole epoch) (whole-rule epoch) (whole-finished epoch) event h answer
 
 whole-run : (epoch : ℕ) (events : List SessionEvent) (h : History) → 1 ≤ epoch → AllTake h events → Whole epoch h → Whole epoch (run h events)
 whole-run epoch [] h one a w = w

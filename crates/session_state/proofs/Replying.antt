@@ -26,7 +26,7 @@ use Rattle.session_model.specs.Readings as of
 use Rattle.session_model.specs.Reading.{Reading, client_of, reading, wanted_in}
 use Rattle.session_model.specs.Books.{book_forgetting, command_anyway, discarded, issue, opening_moves, raised}
 use Rattle.session_model.specs.Replies.{answered, called_off, depart, entry_respawn, forget, forget_one, forgotten, has_no_place, has_no_room, has_place, placed, id_respawn, may_rejoin, or_bad_state, ordered, register, reply, resigned, respawn_moves, respawned, said, unless_dying, want_cancel, waited, is_overdue}
-use Rattle.session_model.proofs.Kinds.{every-depart, every-departs, every-forget, every-opening, every-ordered, every-respawned}
+use Rattle.session_model.proofs.MoveKinds.{every-depart, every-departs, every-forget, every-opening, every-ordered, every-respawned}
 use Rattle.session_model.proofs.Replied.{cond-same, unregistered-is}
 use Rattle.session_model.proofs.WholeReply.{registers}
 use Rattle.session_state.proofs.Suits.{AllLight, AllSuit, IsLight, light-wide, suit-light}
@@ -80,7 +80,7 @@ suit-answered r c (RegisterClient previous) sequence frame h p e =
     (λ u. suit-register r (record { conn = c; message = RegisterClient previous; sequence = sequence; frame = frame }) previous (Outside (Said c (RegisterClient previous) sequence frame) ▷ h)
     (cond-same (eqb c c) (of.phase_of c h) ∙ e ∙ unregistered-is p u))
 suit-answered r c m sequence frame h p e =
-    suit-or-bad (has_place (wanted_in r.rounds.running) m p) _ (placed r (record { conn = c; message = m; sequence = sequence; frame = frame }) m p) (Outside (Said c m sequence frame) ▷ h)
+    suit-or-bad (has_place (wanted_in r.rounds.running) m p) (record { conn = c; message = m; sequence = sequence; frame = frame }) (placed r (record { conn = c; message = m; sequence = sequence; frame = frame }) m p) (Outside (Said c m sequence frame) ▷ h)
     (λ u. suit-placed r (record { conn = c; message = m; sequence = sequence; frame = frame }) m (Outside (Said c m sequence frame) ▷ h) p refl)
 
 suit-unless : (r : Reading) (c : ℕ) (m : XsmpMessage) (sequence : ℕ) (frame : List ℕ) (h : History) (p : Option Phase) → of.phase_of c h ≡ p

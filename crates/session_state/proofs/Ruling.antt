@@ -25,7 +25,7 @@ use Rattle.session_model.proofs.Ruled.{and-left, and-right, any-in, denied, diff
 use Rattle.session_model.proofs.Asked.{phases-tell}
 use Rattle.session_state.proofs.Known.{head-in, or-later}
 use Rattle.session_state.proofs.Suits.{AllLight, AllSuit, IsLight, is_done, suit-append, suit-light}
-use Rattle.session_model.proofs.Kinds.{every-closed, every-gave, every-issue, every-tried}
+use Rattle.session_model.proofs.MoveKinds.{every-closed, every-gave, every-issue, every-tried}
 
 not-true : (x : Bool) → not x ≡ true → x ≡ false
 not-true true e = sym e

@@ -13,7 +13,7 @@ use Rattle.session_model.specs.Phases.{is_asked, is_interacting}
 use Rattle.session_model.specs.Moves.{Began, Cause, Closed, Gave, History, Move, Outside, Unset, gave_each, onto, tried_each, ◌▷◌}
 use Rattle.session_model.specs.Readings as of
 use Rattle.session_model.proofs.Level.{is_plain}
-use Rattle.session_model.proofs.Kinds.{IsWide}
+use Rattle.session_model.proofs.MoveKinds.{IsWide}
 
 abbrev pub is_done : Option Phase → Bool
 is_done (Some Done) = true
@@ -56,7 +56,7 @@ abbrev pub AllLight : List Move → Type 0
 AllLight moves = AllByRecursion IsLight moves
 
 pub light-wide : IsWide IsLight
-light-wide = record { tried = λ cause command. tt; closed = λ c. tt; printed = λ text. tt }
+light-wide = record { respawned = λ id command. tt; resigned = λ command. tt; closed = λ c. tt; printed = λ text. tt }
 
 light-given : (c : ℕ) (m : XsmpMessage) (h : History) → is_plain m ≡ true → SuitsGiven c m h
 light-given c (RegisterClientReply id) h e = absurd (grind arith)
