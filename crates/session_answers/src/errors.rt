@@ -7,7 +7,7 @@ use ice_values::{Endian, ErrorBody, ErrorClass, Severity, pad, put_bytes, put_ca
 use session_model::Arrival;
 use sm_world::{NoMemory, Octets};
 use std::alloc::Global;
-use xsmp_messages::minor;
+use xsmp_messages::{XsmpMessage, minor};
 
 /// How many bytes of an ID an Error shows at most.
 const SHOWN_LIMIT: u32 = 65_520;
@@ -16,8 +16,13 @@ const SHOWN_LIMIT: u32 = 65_520;
 pub fn bad_state(alloc: Global, arrival: &Arrival) -> ErrorBody
     ensures { result ≡ of.bad_state arrival.now }
 {
-    let values = Octets::new(alloc);
-    error_about(arrival, ErrorClass::BadState, Severity::CanContinue, values)
+    error_about(
+        &arrival.message,
+        arrival.sequence,
+        ErrorClass::BadState,
+        Severity::CanContinue,
+        Octets::new(alloc),
+    )
 }
 
 /// The Error for an ID that the sender can't have.
@@ -60,13 +65,16 @@ fn bad_value(
     ensures { IfOk result (λ error. error ≡ of.bad_value severity arrival.now at (take limit (drop at arrival.now.frame))) }
 {
     let values = values_at(alloc, at, part(arrival.frame.as_slice(), at, limit))?;
-    let error = error_about(arrival, ErrorClass::BadValue, severity, values);
+    let class = ErrorClass::BadValue;
+    let error = error_about(&arrival.message, arrival.sequence, class, severity, values);
     Ok(error)
 }
 
-/// An Error about a message. Its values fill whole units.
+/// An Error about a message with this number among those of its sender. The values fill whole
+/// units.
 fn error_about(
-    arrival: &Arrival,
+    message: &XsmpMessage,
+    sequence: u32,
     class: ErrorClass,
     severity: Severity,
     values: Octets,
@@ -74,16 +82,15 @@ fn error_about(
     requires { length values % 8 ≡ 0 }
     ensures { result ≡ record {
       class = class_number class;
-      minor = minor_of arrival.now.message;
+      minor = minor_of message.now;
       severity = severity;
-      sequence = arrival.now.sequence;
+      sequence = sequence;
       values = values;
     } }
 {
-    let sequence = arrival.sequence;
     ErrorBody {
         class: class.number(),
-        minor: minor(&arrival.message),
+        minor: minor(message),
         severity,
         sequence,
         values,
