@@ -18,7 +18,8 @@ use Rattle.xsmp_messages.specs.declared.message.XsmpMessage.TheVariants.{Connect
 use Rattle.session_model.specs.declared.events.SessionEvent.TheVariants.{Said}
 use Rattle.session_model.specs.declared.phase.Phase.{Phase}
 use Rattle.session_model.specs.declared.phase.Phase.TheVariants.{Done, Dying, Idle, Interacting, InteractingTwo, Owing, Saving, SavingTwo, Unregistered}
-use Rattle.session_model.specs.Errors.{Arrival, bad_id, full_table, lone_shutdown, no_room}
+use Rattle.session_model.specs.Errors.{bad_id, full_table, lone_shutdown, no_room}
+use Rattle.session_model.specs.declared.events.Arrival.{Arrival}
 use Rattle.session_model.specs.Moves.{Blamed, Cancelled, Closed, Gave, History, Move, Outside, Tried, Unset, gave_each, onto, ◌▷◌}
 use Rattle.session_model.specs.Phases.{allows, asked_phase, cancelled_phase, is_bound, is_dying, is_first_saving, is_interacting, is_member, is_owing, is_saving, is_shutdown, may_interact, phase_given, phase_said, saved_phase, second_phase, talked_phase}
 use Rattle.session_model.specs.Reading.{Reading, reading, wanted_in}

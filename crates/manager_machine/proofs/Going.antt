@@ -9,8 +9,9 @@ use Rattle.session_model.specs.Moves.{Move, gave_each}
 use Rattle.session_model.specs.Reading.{Reading}
 use Rattle.session_model.specs.Rules.{round_rule, running_rule, wanting_two}
 use Rattle.session_state.specs.Session.{Session, moved_all}
-use Rattle.manager_machine.specs.declared.rules.Progress.TheVariants.{SecondPhase}
-use Rattle.manager_machine.specs.Settling.{WentOn, progress_by, progress_of}
+use Rattle.session_rounds.specs.declared.running.Progress.TheVariants.{SecondPhase}
+use Rattle.manager_machine.specs.Settling.{WentOn}
+use Rattle.session_rounds.specs.Rounds.{progress_by, progress_of}
 
 ready : (b agree left : Bool) → progress_by b agree left ≡ SecondPhase → b ≡ true
 ready true agree left e = refl

@@ -12,19 +12,21 @@ use Rattle.session_model.specs.declared.waits.Wait.{Wait}
 use Rattle.session_model.specs.Moves.{Closed, Outside}
 use Rattle.session_model.specs.Tables.{strays_with}
 use Rattle.session_model.specs.Waits.{waits_left}
-use Rattle.session_clients.specs.Clients.{Held, held_by, table_in}
+use Rattle.session_clients.specs.Clients.{phase_in, Held, held_by, table_in}
+use Rattle.session_rounds.specs.Rounds.{Running, running_after}
 use Rattle.session_state.specs.Session.{Session, in_round, moved}
 
-pub left-by : (c : ℕ) (s : Session) (clients : Held) (round : Option Agreement) (waits : List Wait) (waiting : List ℕ) (holder : Option ℕ) (strays : List Command)
-    → clients ≡ held_by (Outside (Left c)) s.clients → round ≡ in_round (without_member c) s.round → waits ≡ waits_left c s.waits
+pub left-by : (c : ℕ) (s : Session) (clients : Held) (running : Running) (waits : List Wait) (waiting : List ℕ) (holder : Option ℕ) (strays : List Command)
+    → clients ≡ held_by (Outside (Left c)) s.clients → running ≡ running_after (Outside (Left c)) (λ d. phase_in d s.clients.rows) (record { round = s.round; marks = s.marks }) → waits ≡ waits_left c s.waits
     → waiting ≡ without c s.turns.waiting → holder ≡ holder_without c s.turns.holder → strays ≡ strays_with s.book (discard_of (table_in c s.clients.rows)) s.strays
-    → record s { clients = clients; round = round; waits = waits; turns = record { waiting = waiting; holder = holder }; strays = strays } ≡ moved (Outside (Left c)) s
-left-by c s clients round waits waiting holder strays k r w t h e = λ i. record s {
+    → record s { clients = clients; round = running.round; waits = waits; turns = record { waiting = waiting; holder = holder }; strays = strays; marks = running.marks } ≡ moved (Outside (Left c)) s
+left-by c s clients running waits waiting holder strays k r w t h e = λ i. record s {
   clients = k i;
-  round = r i;
+  round = (r i).round;
   waits = w i;
   turns = record { waiting = t i; holder = h i };
   strays = e i;
+  marks = (r i).marks;
   acts = sym (append-nil s.acts) i;
 }
 

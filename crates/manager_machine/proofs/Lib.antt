@@ -9,7 +9,6 @@ pub mod RoundMoves
 pub mod Holding
 pub mod Committing
 pub mod Leaving
-pub mod Asking
 pub mod Saying
 pub mod SecondPhase
 pub mod Reaching

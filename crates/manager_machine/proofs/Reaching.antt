@@ -19,7 +19,8 @@ use Rattle.session_model.proofs.Ruled.{rows_now}
 use Rattle.session_clients.specs.Clients.{phase_in}
 use Rattle.session_state.specs.Session.{Session, go_on_in, moved_all, reading_in, settle_in}
 use Rattle.session_state.proofs.Reached.{Reaches, first_saving-at, reaches-rule, round-members, saving-at, saving-round, waiting-distinct}
-use Rattle.manager_machine.specs.Order.{InOrder, SettlesInOrder, is_member_at, wants_second}
+use Rattle.manager_machine.specs.Order.{InOrder, SettlesInOrder, wants_second}
+use Rattle.session_rounds.specs.Rounds.{is_member_at}
 
 -- Members that save
 

@@ -3,26 +3,14 @@ use Rattle.std.proofs.Common.{◌≡◌, refl, ℕ, Bool, true, false, cond, ◌
 use Rattle.std.proofs.lemmas.Bool.Decides.{nat_tests}
 use Rattle.std.specs.Prelude.{Option, nat_le}
 use Rattle.ice_values.specs.Fields.{ErrorFields}
-use Rattle.ice_values.specs.Classes.{class_number}
-use Rattle.ice_values.specs.declared.class.ErrorClass.TheVariants.{BadValue}
-use Rattle.ice_values.specs.declared.severity.Severity.{Severity}
-use Rattle.xsmp_messages.specs.Messages.{minor_of}
 use Rattle.xsmp_messages.specs.declared.message.XsmpMessage.{XsmpMessage}
-use Rattle.xsmp_messages.specs.declared.message.XsmpMessage.TheVariants.{DeleteProperties, GetProperties, InteractDone, InteractRequest, RegisterClient, SaveYourselfDone, SaveYourselfPhase2Request, SaveYourselfRequest, SetProperties}
-use Rattle.session_answers.specs.Answers.{blames_value}
-use Rattle.session_answers.specs.declared.errors.Offence.{Offence}
 use Rattle.session_model.specs.declared.phase.Phase.{Phase}
-use Rattle.session_model.specs.Errors.{Arrival, bad_value, value_at}
+use Rattle.session_model.specs.declared.events.Arrival.{Arrival}
 use Rattle.session_model.specs.Moves.{Blamed, Move, Unset}
 use Rattle.session_model.specs.Reading.{Reading, wanted_in}
-use Rattle.session_model.specs.Replies.{answered, has_no_room, known_ids, or_bad_state, refused, want_cancel}
-use Rattle.manager_machine.specs.Answers.{has_place, placed}
+use Rattle.session_model.specs.Replies.{answered, has_no_room, has_place, known_ids, placed, or_bad_state, refused, want_cancel}
 
 -- Errors
-
--- the Error that shows a part of a message
-pub shown : (severity : Severity) (offence : Offence) (x : Arrival) (at : ℕ) (part bytes : List ℕ) → offence.minor ≡ minor_of x.message → offence.sequence ≡ x.sequence → part ≡ bytes → blames_value severity offence at part ≡ bad_value severity x at bytes
-shown severity offence x at part bytes m s p = λ i. record { class = class_number BadValue; minor = m i; severity = severity; sequence = s i; values = value_at at (p i) }
 
 pub blamed-then : (b : Bool) (c : ℕ) (error good : ErrorFields) (moves : List Move) → b ≡ true → error ≡ good → Blamed c error ∷ [] ≡ cond b (Blamed c good ∷ []) moves
 blamed-then b c error good moves t e = ap (λ (x : ErrorFields). Blamed c x ∷ []) e ∙ sym (ap (λ (d : Bool). cond d (Blamed c good ∷ []) moves) t)
@@ -49,24 +37,11 @@ full-by_number r n g e k f = ap (λ (m : ℕ). nat_le 4294967295 m) k ∙ sym (a
 
 -- Messages
 
-by-place : (r : Reading) (x : Arrival) (m : XsmpMessage) (phase : Option Phase) → answered r x m phase ≡ or_bad_state (has_place (wanted_in r.rounds.running) m phase) x (placed r x m phase)
-by-place r x (RegisterClient previous) phase = refl
-by-place r x (SetProperties list) phase = refl
-by-place r x (DeleteProperties names) phase = refl
-by-place r x GetProperties phase = refl
-by-place r x (SaveYourselfRequest kind shutdown style fast global) phase = refl
-by-place r x (InteractRequest dialog) phase = refl
-by-place r x (InteractDone false) phase = refl
-by-place r x (InteractDone true) phase = refl
-by-place r x (SaveYourselfDone success) phase = refl
-by-place r x SaveYourselfPhase2Request phase = refl
-by-place r x m phase = refl
-
 pub in-place : (r : Reading) (x : Arrival) (m : XsmpMessage) (phase : Option Phase) → has_place (wanted_in r.rounds.running) m phase ≡ true → placed r x m phase ≡ answered r x m phase
-in-place r x m phase t = sym (by-place r x m phase ∙ ap (λ (b : Bool). or_bad_state b x (placed r x m phase)) t)
+in-place r x m phase t = sym (ap (λ (b : Bool). or_bad_state b x (placed r x m phase)) t)
 
 pub out_of-place : (r : Reading) (x : Arrival) (m : XsmpMessage) (phase : Option Phase) → has_place (wanted_in r.rounds.running) m phase ≡ false → refused x ≡ answered r x m phase
-out_of-place r x m phase f = sym (by-place r x m phase ∙ ap (λ (b : Bool). or_bad_state b x (placed r x m phase)) f)
+out_of-place r x m phase f = sym (ap (λ (b : Bool). or_bad_state b x (placed r x m phase)) f)
 
 -- neither owes an answer nor may cancel
 pub no-cancel : (r : Reading) (x : Arrival) (b d : Bool) → b ≡ false → d ≡ false → refused x ≡ cond b [] (want_cancel r x d)

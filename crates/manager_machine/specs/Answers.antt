@@ -1,4 +1,4 @@
--- What is done about an event, as moves; and whether a message has its place, and what it brings where it has.
+-- What is done about an event, as moves.
 use Rattle.std.specs.Prelude.{Bool, List, None, Option, Some, [], codes, cond, false, flat_map, not, true, ℕ, ◌&&◌, ◌++◌, ◌||◌, ◌∷◌}
 use Rattle.xsmp_properties.specs.Tables.{set_all}
 use Rattle.checkpoint_records.specs.declared.records.Book.{Book}
@@ -9,7 +9,8 @@ use Rattle.discard_ledger.specs.Discards.{issuable}
 use Rattle.session_model.specs.declared.phase.Phase.{Phase}
 use Rattle.session_model.specs.Phases.{is_bound, is_first_saving, is_interacting, is_owing, is_saving, is_shutdown, is_unregistered, may_interact}
 use Rattle.session_model.specs.Tables.{is_full}
-use Rattle.session_model.specs.Errors.{Arrival, full_table, lone_shutdown}
+use Rattle.session_model.specs.Errors.{full_table, lone_shutdown}
+use Rattle.session_model.specs.declared.events.Arrival.{Arrival}
 use Rattle.session_model.specs.Moves.{Blamed, Cancelled, Closed, Committed, Gave, Move, Printed, Respawn, Tried, Unset, gave_each}
 use Rattle.session_model.specs.Reading.{Reading, wanted_in}
 use Rattle.session_model.specs.Books.{issue, with_entries}
@@ -20,8 +21,6 @@ use Rattle.manager_machine.specs.declared.replies.Departure.{Departure}
 use Rattle.manager_machine.specs.declared.replies.Forgetting.{Forgetting}
 use Rattle.manager_machine.specs.declared.replies.Reply.{Reply}
 use Rattle.manager_machine.specs.declared.replies.Reply.TheVariants.{Blame, CallOff, Forget, Print, PrintAndCallOff, PrintAndShut, Quiet, Register, Shut, ShutEach, StartAgain, Tell, TurnAway}
-
--- What is done
 
 -- a client that departs is started again
 abbrev pub again_moves : Option Again → List Move
@@ -59,31 +58,3 @@ moves_of s (Print text) = Printed text ∷ []
 moves_of s (PrintAndCallOff conns) = Printed (codes "ok") ∷ call_off_moves conns
 moves_of s (PrintAndShut c again) = Printed (codes "ok") ∷ shut_moves c again
 moves_of s (Forget plan) = forget_moves plan (with_entries (reading_in s).store plan.entries)
-
--- How a message is answered
-
--- a message as it arrived
-abbrev pub arrival : ℕ → XsmpMessage → ℕ → List ℕ → Arrival
-arrival c m sequence frame = record { conn = c; message = m; sequence = sequence; frame = frame }
-
--- whether a message has its place, by the phase of its sender and by what the running round was begun for
-abbrev pub has_place : Option Wanted → XsmpMessage → Option Phase → Bool
-has_place wanted (RegisterClient previous) phase = is_unregistered phase
-has_place wanted (SetProperties list) phase = is_bound phase
-has_place wanted (DeleteProperties names) phase = is_bound phase
-has_place wanted GetProperties phase = is_bound phase
-has_place wanted (SaveYourselfRequest kind shutdown style fast global) phase = is_bound phase
-has_place wanted (InteractRequest dialog) phase = is_owing phase || is_saving phase && may_interact wanted dialog
-has_place wanted (InteractDone cancel) phase = is_owing phase || is_interacting phase
-has_place wanted (SaveYourselfDone success) phase = is_owing phase || is_saving phase
-has_place wanted SaveYourselfPhase2Request phase = is_owing phase || is_first_saving phase
-has_place wanted m phase = false
-
--- what a message brings that has its place
-abbrev pub placed : Reading → Arrival → XsmpMessage → Option Phase → List Move
-placed r x (RegisterClient previous) phase = register r x previous
-placed r x (SetProperties list) phase = cond (is_full (set_all (r.clients.table x.conn) list)) (Blamed x.conn (full_table x) ∷ []) []
-placed r x GetProperties phase = Gave x.conn (GetPropertiesReply (r.clients.table x.conn)) ∷ []
-placed r x (SaveYourselfRequest kind shutdown style fast global) phase = cond (shutdown && not global) (Blamed x.conn (lone_shutdown x) ∷ []) []
-placed r x (InteractDone true) phase = cond (is_owing phase) [] (want_cancel r x (is_shutdown (wanted_in r.rounds.running)))
-placed r x m phase = []

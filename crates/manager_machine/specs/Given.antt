@@ -1,8 +1,7 @@
--- Messages by what they change, and rounds whose second phase can begin.
-use Rattle.std.specs.Prelude.{Bool, List, None, Option, Some, [], false, true, ℕ, ◌++◌, ◌∷◌}
+-- Messages by what they change.
+use Rattle.std.specs.Prelude.{Bool, List, [], false, true, ℕ, ◌++◌, ◌∷◌}
 use Rattle.xsmp_messages.specs.declared.message.XsmpMessage.{XsmpMessage}
 use Rattle.xsmp_messages.specs.declared.message.XsmpMessage.TheVariants.{Die, Interact, RegisterClientReply, SaveComplete, SaveYourself, SaveYourselfPhase2, ShutdownCancelled}
-use Rattle.round_agreement.specs.Agreement.{Agreement, two_ready}
 use Rattle.session_model.specs.declared.events.Act.TheVariants.{Say}
 use Rattle.session_model.specs.Moves.{Gave}
 use Rattle.session_clients.specs.Clients.{held_by}
@@ -36,8 +35,3 @@ told c m s = record s { clients = held_by (Gave c m) s.clients; acts = s.acts ++
 abbrev pub told_each : XsmpMessage → List ℕ → Session → Session
 told_each m [] s = s
 told_each m (c ∷ conns) s = told_each m conns (told c m s)
-
--- a round runs whose second phase can begin
-abbrev pub may_begin_second : Option Agreement → Bool
-may_begin_second None = false
-may_begin_second (Some round) = two_ready round.members

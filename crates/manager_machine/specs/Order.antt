@@ -10,11 +10,7 @@ use Rattle.session_clients.specs.Clients.{phase_in}
 use Rattle.session_model.specs.Moves.{Gave}
 use Rattle.session_model.specs.Rules.{wanting_two}
 use Rattle.session_state.specs.Session.{Session, moved, settle_in}
-
--- a member of the running round is at such a step
-abbrev pub is_member_at : (ℕ → Agreement → Bool) → ℕ → Option Agreement → Bool
-is_member_at test c None = false
-is_member_at test c (Some round) = test c round
+use Rattle.session_rounds.specs.Rounds.{is_member_at}
 
 -- a client waits for the second phase of its save
 abbrev pub wants_second : Option Phase → Bool

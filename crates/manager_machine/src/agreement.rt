@@ -4,15 +4,16 @@ ghost use Rattle.round_agreement.specs.Agreement.{Agreement};
 ghost use Rattle.session_model.specs.Rules.{agreement as agreement_moves, completed, ended};
 ghost use Rattle.session_clients.specs.Clients.{clients_in};
 ghost use Rattle.session_state.specs.Session.{moved_all, reading_in};
-ghost use Rattle.manager_machine.specs.Agreeing.{completing, discarding, ending, planned};
+ghost use Rattle.manager_machine.specs.Agreeing.{completing, ending, planned};
 
-use crate::inner::Core;
 use checkpoint_records::EntryList;
+use crate::inner::Core;
+use crate::rounds::copy_conns;
 use round_agreement::Round;
 use session_books::{last_commands, next_entries};
 use session_clients::Clients;
 use session_model::Reason;
-use sm_world::{CommandList, Conn, ConnList, NoMemory};
+use sm_world::{CommandList, ConnList, NoMemory};
 use std::alloc::Global;
 use xsmp_messages::XsmpMessage;
 
@@ -46,11 +47,65 @@ pub(crate) struct Plan {
     pub(crate) standing: CommandList,
 }
 
-/// The same connections in memory of their own.
-pub(crate) fn copy_conns(alloc: Global, conns: &[Conn]) -> Result<ConnList, NoMemory>
-    ensures { IfOk result (λ list. list ≡ conns.now) }
-{
-    Ok(ConnList::from_vec(Vec::from_slice(alloc, conns)?))
+impl Core {
+    /// The members of the running round agreed: the next book is written, the clients are told, and
+    /// what nobody needs any more is discarded.
+    pub(crate) fn agreement(&mut self) -> Result<(), NoMemory>
+        ensures { OnOk result ((round : Agreement) → self.old.round ≡ Some round → self.new ≡ moved_all (agreement_moves (reading_in self.old) round) self.old) }
+    {
+        let plan = match self.running.round() {
+            Some(round) => self.plan_agreement(round)?,
+            None => return Ok(()),
+        };
+        self.carry_out(plan)?;
+        Ok(())
+    }
+
+    /// What an agreement of this round brings.
+    fn plan_agreement(&self, round: &Round) -> Result<Plan, NoMemory>
+        ensures { IfOk result (λ plan. planned (reading_in self.now).store plan ≡ agreement_moves (reading_in self.now) round.now) }
+    {
+        let alloc = *self.acts.allocator();
+        let entries = next_entries(alloc, &self.clients, round, &self.book, &self.expected)?;
+        let completion = plan_completion(alloc, &self.clients, round, &entries)?;
+        let standing = self.clients.standing()?;
+        Ok(Plan {
+            entries,
+            completion,
+            standing,
+        })
+    }
+
+    /// Does what an agreement brings.
+    fn carry_out(&mut self, plan: Plan) -> Result<(), NoMemory>
+        ensures { OnOk result (self.new ≡ moved_all (planned (reading_in self.old).store plan) self.old) }
+    {
+        self.commit_entries(plan.entries)?;
+        self.agree()?;
+        self.complete(&plan.completion)?;
+        self.discard(&plan.standing)?;
+        Ok(())
+    }
+
+    /// Tells the clients of an agreement.
+    fn complete(&mut self, completion: &Completion) -> Result<(), NoMemory>
+        ensures { OnOk result (self.new ≡ moved_all (completing completion.now) self.old) }
+    {
+        match completion {
+            Completion::Save(conns) => self.say_each(conns.as_slice(), &XsmpMessage::SaveComplete),
+            Completion::End(end) => self.end(end),
+        }
+    }
+
+    /// Tells the registered clients to die, shuts the others, and starts the commands for the end.
+    fn end(&mut self, end: &Ending) -> Result<(), NoMemory>
+        ensures { OnOk result (self.new ≡ moved_all (ending end.now) self.old) }
+    {
+        self.kill_each(end.registered.as_slice())?;
+        self.close_each(end.others.as_slice())?;
+        self.start_each(Reason::End, &end.commands)?;
+        Ok(())
+    }
 }
 
 /// How the session ends with these entries.
@@ -77,75 +132,5 @@ fn plan_completion(
         Ok(Completion::End(plan_ending(alloc, clients, entries)?))
     } else {
         Ok(Completion::Save(copy_conns(alloc, round.members())?))
-    }
-}
-
-impl Core {
-    /// What an agreement of this round brings.
-    fn plan_agreement(&self, round: &Round) -> Result<Plan, NoMemory>
-        ensures { IfOk result (λ plan. planned (reading_in self.now).store plan ≡ agreement_moves (reading_in self.now) round.now) }
-    {
-        let alloc = *self.acts.allocator();
-        let entries = next_entries(alloc, &self.clients, round, &self.book, &self.expected)?;
-        let completion = plan_completion(alloc, &self.clients, round, &entries)?;
-        let standing = self.clients.standing()?;
-        Ok(Plan {
-            entries,
-            completion,
-            standing,
-        })
-    }
-
-    /// Tells the registered clients to die, shuts the others, and starts the commands for the end.
-    fn end(&mut self, end: &Ending) -> Result<(), NoMemory>
-        ensures { OnOk result (self.new ≡ moved_all (ending end.now) self.old) }
-    {
-        self.kill_each(end.registered.as_slice())?;
-        self.close_each(end.others.as_slice())?;
-        self.start_each(Reason::End, &end.commands)?;
-        Ok(())
-    }
-
-    /// Tells the clients of an agreement.
-    fn complete(&mut self, completion: &Completion) -> Result<(), NoMemory>
-        ensures { OnOk result (self.new ≡ moved_all (completing completion.now) self.old) }
-    {
-        match completion {
-            Completion::Save(conns) => self.say_each(conns.as_slice(), &XsmpMessage::SaveComplete),
-            Completion::End(end) => self.end(end),
-        }
-    }
-
-    /// Tries the pending commands, but for those that stand.
-    pub(crate) fn discard(&mut self, standing: &CommandList) -> Result<(), NoMemory>
-        ensures { OnOk result (self.new ≡ moved_all (discarding standing.now self.old.book) self.old) }
-    {
-        let commands = self.ledger.issuable(standing)?;
-        self.issue(&commands)?;
-        Ok(())
-    }
-
-    /// Does what an agreement brings.
-    fn carry_out(&mut self, plan: Plan) -> Result<(), NoMemory>
-        ensures { OnOk result (self.new ≡ moved_all (planned (reading_in self.old).store plan) self.old) }
-    {
-        self.commit_entries(plan.entries)?;
-        self.agree()?;
-        self.complete(&plan.completion)?;
-        self.discard(&plan.standing)?;
-        Ok(())
-    }
-
-    /// The members of the running round agreed: the next book is written, the clients are told, and
-    /// what nobody needs any more is discarded.
-    pub(crate) fn agreement(&mut self) -> Result<(), NoMemory>
-        ensures { OnOk result ((round : Agreement) → self.old.round ≡ Some round → self.new ≡ moved_all (agreement_moves (reading_in self.old) round) self.old) }
-    {
-        let plan = match &self.round {
-            Some(round) => self.plan_agreement(round)?,
-            None => return Ok(()),
-        };
-        self.carry_out(plan)?;
-        Ok(())
     }
 }

@@ -1,14 +1,24 @@
-ghost use Rattle.std.specs.Prelude.{◌≡◌, ◌++◌, ◌∷◌, [], OnOk};
+ghost use Rattle.std.specs.Prelude.{◌≡◌, ◌++◌, ◌∷◌, [], OnOk, IfOk};
+ghost use Rattle.session_model.specs.Rules.{Takes};
+ghost use Rattle.session_state.specs.Session.{reading_in, taken_in, moved_all};
+ghost use Rattle.manager_machine.specs.Keeper.{IsOfRun};
+ghost use Rattle.session_model.specs.Moves.{Outside};
+ghost use Rattle.session_model.specs.Replies.{reply as answer_to};
+ghost use Rattle.manager_machine.specs.Order.{InOrder};
 
 use checkpoint_records::Book;
 use discard_ledger::Ledger;
 use ice_values::Array8;
 use interact_queue::InteractQueue;
-use round_agreement::Round;
 use session_clients::Clients;
-use session_model::{Act, Marks, Wait};
-use sm_world::{Conn, NoMemory};
+use session_model::{Act, Arrival, SessionEvent};
+use session_rounds::{RunningRound, WaitingRounds};
+use sm_world::{Conn, ListOf, NoMemory};
 use std::marker::Model;
+use std::mem;
+
+/// What is done, in its order.
+pub type Acts = ListOf<Act>;
 
 /// How often the client of each ID was started again, as it departed.
 pub(crate) type Counts = Vec<(Array8, u32)>;
@@ -17,10 +27,8 @@ pub(crate) type Counts = Vec<(Array8, u32)>;
 #[derive(Drop)]
 pub struct Core {
     pub(crate) clients: Clients,
-    /// The round that runs.
-    pub(crate) round: Option<Round>,
-    /// The rounds that wait, in order.
-    pub(crate) waits: Vec<Wait>,
+    pub(crate) running: RunningRound,
+    pub(crate) waits: WaitingRounds,
     /// Who has the token, and who waits for it.
     pub(crate) queue: InteractQueue,
     /// The book that was written last.
@@ -37,7 +45,6 @@ pub struct Core {
     pub(crate) is_ending: bool,
     /// For how many milliseconds a client may be silent that is waited for; 0 is for ever.
     pub(crate) patience: u64,
-    pub(crate) marks: Marks,
     pub(crate) acts: Vec<Act>,
 }
 
@@ -49,8 +56,8 @@ impl Model for Core {
 
     ghost view = { λ core. record {
       clients = core.clients;
-      round = core.round;
-      waits = core.waits.items;
+      round = core.running.round;
+      waits = core.waits;
       turns = record { waiting = core.queue.waiting; holder = core.queue.holder };
       book = core.book;
       strays = core.ledger.strays;
@@ -60,7 +67,7 @@ impl Model for Core {
       counts = core.counts.items;
       is_ending = core.is_ending;
       patience = core.patience;
-      marks = core.marks;
+      marks = core.running.marks;
       acts = core.acts.items;
     } };
 
@@ -74,5 +81,50 @@ impl Core {
     {
         self.acts.push(act)?;
         Ok(())
+    }
+
+    /// Gives away what was done since the last event came.
+    pub(crate) fn hand_over(&mut self) -> Acts
+        ensures acts { result ≡ self.old.acts }
+        ensures rest { self.new ≡ record self.old { acts = [] } }
+    {
+        let none = Vec::new(*self.acts.allocator());
+        ListOf::from_vec(mem::replace(&mut self.acts, none))
+    }
+
+    /// Takes an event and answers it, and goes on until nothing is left to do.
+    pub(crate) fn take(&mut self, event: SessionEvent) -> Result<Acts, NoMemory>
+        requires of_run { IsOfRun self.old }
+        requires takes { Takes event (reading_in self.old) }
+        requires no_acts { self.old.acts ≡ [] }
+        ensures acts { IfOk result (λ acts. acts ≡ (taken_in event self.old).acts) }
+        ensures session { OnOk result (self.new ≡ record (taken_in event self.old) { acts = [] }) }
+    {
+        self.answer(event)?;
+        self.settle()?;
+        self.finish_if_over()?;
+        Ok(self.hand_over())
+    }
+
+    /// Hears an event, and answers it. What settles then is another call's.
+    fn answer(&mut self, event: SessionEvent) -> Result<(), NoMemory>
+        requires { InOrder self.old }
+        ensures { OnOk result (self.new ≡ moved_all (Outside event ∷ answer_to (reading_in self.old) event) self.old) }
+    {
+        match event {
+            SessionEvent::Joined(conn) => self.answer_joining(conn),
+            SessionEvent::Ready(conn) => self.ready(conn),
+            SessionEvent::Said(conn, message, sequence, frame) => {
+                self.answer_message(&Arrival {
+                    conn,
+                    message,
+                    sequence,
+                    frame,
+                })
+            }
+            SessionEvent::Left(conn) => self.answer_leaving(conn),
+            SessionEvent::Operator(order) => self.answer_order(&order),
+            SessionEvent::Tick(milliseconds) => self.answer_tick(milliseconds),
+        }
     }
 }

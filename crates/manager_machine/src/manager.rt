@@ -8,9 +8,8 @@ ghost use Rattle.session_model.specs.Rules.{Takes, opened, taken};
 ghost use Rattle.session_state.specs.Session.{reading_in};
 ghost use Rattle.manager_machine.specs.Keeper.{AreFit, StandsFor};
 
-use crate::events::Acts;
 use crate::faults::TakeFault;
-use crate::inner::Core;
+use crate::inner::{Acts, Core};
 use checkpoint_records::Book;
 use session_clients::is_bound;
 use session_model::{Marks, Phase, SessionEvent};
@@ -104,7 +103,7 @@ impl Manager {
     pub fn marks(&self) -> Marks
         ensures { result ≡ self.now.session.marks }
     {
-        self.core.marks
+        self.core.running.marks()
     }
 
     /// The book that was written last.

@@ -4,16 +4,57 @@ ghost use Rattle.session_model.specs.Books.{opening_moves, raised as as_raised};
 ghost use Rattle.session_model.specs.Moves.{waits_for};
 ghost use Rattle.session_state.specs.Session.{moved_all, session_of};
 
-use crate::inner::Core;
 use checkpoint_records::{Book, Entry, copy_book};
+use crate::inner::Core;
 use discard_ledger::Ledger;
 use ice_values::Array8;
 use interact_queue::InteractQueue;
 use restart_plan::plan;
 use session_clients::Clients;
-use session_model::{Marks, Reason};
+use session_model::Reason;
+use session_rounds::{RunningRound, WaitingRounds};
 use sm_world::{Duplicate, NoMemory};
 use std::alloc::Global;
+
+impl Core {
+    /// Nobody is there yet, and this book was opened.
+    pub(crate) fn open(alloc: Global, book: Book, patience: u64) -> Result<Core, NoMemory>
+        ensures { IfOk result (λ core. core ≡ session_of (waits_for patience book)) }
+    {
+        let ledger = Ledger::new(alloc, book.pending.copy()?);
+        let expected = ids_in(alloc, book.entries.as_slice())?;
+        Ok(Core {
+            clients: Clients::new(alloc),
+            running: RunningRound::new(),
+            waits: WaitingRounds::new(alloc),
+            queue: InteractQueue::new(alloc),
+            book,
+            ledger,
+            newcomer: None,
+            given: 0,
+            expected,
+            counts: Vec::new(alloc),
+            is_ending: false,
+            patience,
+            acts: Vec::new(alloc),
+        })
+    }
+
+    /// Writes the book with the next epoch, tries what is pending, and starts the clients of the
+    /// last run again.
+    pub(crate) fn begin_run(&mut self) -> Result<(), NoMemory>
+        requires { self.old.book.epoch < 4294967295 }
+        ensures { OnOk result (self.new ≡ moved_all (opening_moves self.old.book) self.old) }
+    {
+        let restarts = plan(*self.acts.allocator(), &self.book)?;
+        let pending = self.book.pending.copy()?;
+        let book = raised(&self.book)?;
+        self.commit(book)?;
+        self.issue(&pending)?;
+        self.start_each(Reason::Restart, &restarts)?;
+        Ok(())
+    }
+}
 
 /// The IDs of these entries, in order.
 fn ids_in(alloc: Global, entries: &[Entry]) -> Result<Vec<Array8>, NoMemory>
@@ -34,49 +75,4 @@ fn raised(book: &Book) -> Result<Book, NoMemory>
     let mut next = copy_book(book)?;
     next.epoch += 1;
     Ok(next)
-}
-
-impl Core {
-    /// Nobody is there yet, and this book was opened.
-    pub(crate) fn open(alloc: Global, book: Book, patience: u64) -> Result<Core, NoMemory>
-        ensures { IfOk result (λ core. core ≡ session_of (waits_for patience book)) }
-    {
-        let ledger = Ledger::new(alloc, book.pending.copy()?);
-        let expected = ids_in(alloc, book.entries.as_slice())?;
-        Ok(Core {
-            clients: Clients::new(alloc),
-            round: None,
-            waits: Vec::new(alloc),
-            queue: InteractQueue::new(alloc),
-            book,
-            ledger,
-            newcomer: None,
-            given: 0,
-            expected,
-            counts: Vec::new(alloc),
-            is_ending: false,
-            patience,
-            marks: Marks {
-                begun: 0,
-                ended: 0,
-                agreed: 0,
-            },
-            acts: Vec::new(alloc),
-        })
-    }
-
-    /// Writes the book with the next epoch, tries what is pending, and starts the clients of the
-    /// last run again.
-    pub(crate) fn begin_run(&mut self) -> Result<(), NoMemory>
-        requires { self.old.book.epoch < 4294967295 }
-        ensures { OnOk result (self.new ≡ moved_all (opening_moves self.old.book) self.old) }
-    {
-        let restarts = plan(*self.acts.allocator(), &self.book)?;
-        let pending = self.book.pending.copy()?;
-        let book = raised(&self.book)?;
-        self.commit(book)?;
-        self.issue(&pending)?;
-        self.start_each(Reason::Restart, &restarts)?;
-        Ok(())
-    }
 }

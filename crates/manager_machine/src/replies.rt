@@ -1,6 +1,12 @@
+ghost use Rattle.std.specs.Prelude.{◌≡◌, OnOk};
+ghost use Rattle.session_state.specs.Session.{moved_all};
+ghost use Rattle.manager_machine.specs.Answers.{moves_of};
+
 use checkpoint_records::EntryList;
+use crate::inner::Core;
 use ice_values::{Array8, ErrorBody, PropertyList};
-use sm_world::{Command, CommandList, Conn, ConnList, ListOf, Octets};
+use sm_world::{Command, CommandList, Conn, ConnList, ListOf, NoMemory, Octets};
+use xsmp_messages::XsmpMessage;
 
 /// A client that is started again at once, as it departs.
 #[derive(Drop)]
@@ -59,4 +65,29 @@ pub(crate) enum Reply {
     PrintAndShut(Conn, Option<Again>),
     /// The line `ok` is printed, and a client is forgotten.
     Forget(Forgetting),
+}
+
+impl Core {
+    /// Does what a reply says.
+    pub(crate) fn perform(&mut self, reply: Reply) -> Result<(), NoMemory>
+        ensures { OnOk result (self.new ≡ moved_all (moves_of self.old reply) self.old) }
+    {
+        match reply {
+            Reply::Quiet => Ok(()),
+            Reply::Blame(conn, error) => self.blame(conn, error),
+            Reply::TurnAway(conn, error) => self.turn_away(conn, error),
+            Reply::Register(conn, id) => self.register(conn, id),
+            Reply::Tell(conn, properties) => {
+                self.say(conn, XsmpMessage::GetPropertiesReply { properties })
+            }
+            Reply::CallOff(conns) => self.call_off_for(&conns),
+            Reply::Shut(conn, again) => self.shut(conn, again),
+            Reply::ShutEach(departures) => self.shut_each(departures),
+            Reply::StartAgain(again) => self.start_departed(again),
+            Reply::Print(text) => self.print(text),
+            Reply::PrintAndCallOff(conns) => self.print_and_call_off(&conns),
+            Reply::PrintAndShut(conn, again) => self.print_and_shut(conn, again),
+            Reply::Forget(plan) => self.forget(plan),
+        }
+    }
 }

@@ -6,6 +6,6 @@ mod errors;
 mod ids;
 mod status;
 
-pub use errors::{Offence, bad_state, bad_value};
+pub use errors::{bad_id, bad_state, full_table, lone_shutdown, no_room};
 pub use ids::client_id;
 pub use status::{Doing, Status, status_line};

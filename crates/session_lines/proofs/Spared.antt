@@ -21,7 +21,8 @@ use Rattle.session_model.specs.declared.events.SessionEvent.{SessionEvent}
 use Rattle.session_model.specs.declared.events.SessionEvent.TheVariants.{Joined, Ready, Said, Left, Operator, Tick}
 use Rattle.session_model.specs.Phases.{is_bound, is_unregistered, is_dying, is_owing, is_saving, is_first_saving, is_interacting, is_shutdown, may_interact}
 use Rattle.session_model.specs.Tables.{is_full, entry_of}
-use Rattle.session_model.specs.Errors.{Arrival, no_room, bad_id, full_table, lone_shutdown}
+use Rattle.session_model.specs.Errors.{no_room, bad_id, full_table, lone_shutdown}
+use Rattle.session_model.specs.declared.events.Arrival.{Arrival}
 use Rattle.session_model.specs.Moves.{Move, Cause, Outside, Gave, Blamed, Unset, Closed, Agreed, Cancelled, Committed, Finished, Tried, Discard, End, History, ◌▷◌, onto, gave_each, tried_each}
 use Rattle.session_model.specs.Readings as of
 use Rattle.session_model.specs.Reading.{Clients, Reading, reading, wanted_in}

@@ -19,6 +19,8 @@ use Rattle.session_model.specs.Readings as of
 use Rattle.session_model.specs.Reading.{reading}
 use Rattle.session_model.specs.Books.{next_book, issue, discarded, standing}
 use Rattle.session_model.specs.Rules.{last_command, ended, completed, agreement, agreement_with, over_rule, agreed_rule, running_rule, save_yourself, members_for, begin, begin_first, is_free, idle_rule, round_rule, token_rule, rule, go_on, settle, settled, finished}
+use Rattle.std.specs.List.{AllByRecursion}
+use Rattle.session_model.proofs.MoveKinds.{every-issue, every-tried}
 use Rattle.session_model.proofs.Level.{Good, onto-append, phase-each, once-begun, once-completed, once-dying}
 use Rattle.session_model.proofs.Ruled.{denied, differ, rows_now, round_now, closing, others, good-rule}
 use Rattle.session_model.proofs.Asked.{phases-tell, none-gone}
@@ -32,8 +34,7 @@ IsSilent (Committed book) = Unit {0}
 IsSilent m = ⊥
 
 abbrev pub AllSilent : List Move → Type 0
-AllSilent [] = Unit {0}
-AllSilent (m ∷ moves) = IsSilent m × AllSilent moves
+AllSilent moves = AllByRecursion IsSilent moves
 
 -- The token, the rounds that wait and the one that runs are the same.
 pub record Same (h g : History) : Type 0 where
@@ -65,17 +66,8 @@ pub silent-all : (moves : List Move) (h : History) → AllSilent moves → Same 
 silent-all [] h e = same-self h
 silent-all (m ∷ moves) h e = same-two h (m ▷ h) (onto (m ▷ h) moves) (silent-one m h e.0) (silent-all moves (m ▷ h) e.1)
 
-pub silent-append : (xs ys : List Move) → AllSilent xs → AllSilent ys → AllSilent (xs ++ ys)
-silent-append [] ys p q = q
-silent-append (x ∷ xs) ys p q = (p.0, silent-append xs ys p.1 q)
-
-pub silent-tried : (cause : Cause) (commands : List Command) → AllSilent (tried_each cause commands)
-silent-tried cause [] = tt
-silent-tried cause (c ∷ commands) = (tt, silent-tried cause commands)
-
 pub silent-issue : (book : Book) (commands : List Command) → AllSilent (issue book commands)
-silent-issue book [] = tt
-silent-issue book (c ∷ commands) = (tt, silent-append (tried_each Discard commands) _ (silent-tried Discard commands) (tt, tt))
+silent-issue book commands = every-issue IsSilent book commands (λ command. tt) tt
 
 -- An agreement
 
@@ -177,7 +169,7 @@ peace-ended book h g =
     let shut : List ℕ = others (reading h).clients in
     let last : List Command = filter_map (last_command (reading h).clients) book.entries in
     let k : AtPeace (length (of.waits h)) (onto (onto dead (map Closed shut)) (tried_each End last)) =
-    peace-same (length (of.waits h)) (onto dead (map Closed shut)) (onto (onto dead (map Closed shut)) (tried_each End last)) (silent-all (tried_each End last) (onto dead (map Closed shut)) (silent-tried End last))
+    peace-same (length (of.waits h)) (onto dead (map Closed shut)) (onto (onto dead (map Closed shut)) (tried_each End last)) (silent-all (tried_each End last) (onto dead (map Closed shut)) (every-tried IsSilent End last (λ command. tt)))
     (peace-hushed (length (of.waits h)) (onto dead (map Closed shut)) (hushed-all (length (of.waits h)) shut dead (hushed-die book h g))) in
     subst (λ (k : History). AtPeace (length (of.waits h)) k) (sym (onto-three (closing book h) (gave_each Die (of.registered h)) (map Closed shut) (tried_each End last))) k
 

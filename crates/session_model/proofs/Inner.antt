@@ -9,6 +9,7 @@ use Rattle.session_model.specs.Reading.{reading}
 use Rattle.session_model.specs.Books.{opening_moves}
 use Rattle.session_model.specs.Replies.{reply}
 use Rattle.session_model.specs.Rules.{go_on, opened, rule, settle, settled, taken}
+use Rattle.session_model.proofs.Driven.{taken-keeps}
 use Rattle.session_model.proofs.Own.{AllOwn, IsAnswer, IsOwn, own-opening, own-reply, own-rule}
 
 -- the session's own moves
@@ -38,23 +39,8 @@ module _ (P : History → Type 0) (keeps : (m : Move) (h : History) → IsInner 
   kept-onto [] h inner p = p
   kept-onto (m ∷ moves) h inner p = kept-onto moves (m ▷ h) inner.1 (keeps m h inner.0 p)
 
-  kept-on : (n : ℕ) (h : History) (moves : List Move) → AllInner moves → P h → ((g : History) → P g → P (settle n g)) → P (go_on (λ g. settle n g) h moves)
-  kept-on n h [] inner p further = p
-  kept-on n h (m ∷ moves) inner p further = further (onto h (m ∷ moves)) (kept-onto (m ∷ moves) h inner p)
-
-  kept-settle : (n : ℕ) (h : History) → P h → P (settle n h)
-  kept-settle zero h p = p
-  kept-settle (suc n) h p = kept-on n h (rule (reading h)) (all-inner (rule (reading h)) (own-rule (reading h))) p (λ g q. kept-settle n g q)
-
-  kept-finish : (b : Bool) (h : History) → P h → P (cond b (Finished ▷ h) h)
-  kept-finish true h p = keeps Finished h tt p
-  kept-finish false h p = p
-
   pub kept-replied : (event : SessionEvent) (h : History) → P (onto (Outside event ▷ h) (reply (reading h) event)) → P (taken event h)
-  kept-replied event h p =
-      let replied : History = onto (Outside event ▷ h) (reply (reading h) event) in
-      let rested : History = settled replied in
-      kept-finish (of.is_ending rested && is_nil (of.live rested)) rested (kept-settle (4 * length (of.waits replied) + 4) replied p)
+  kept-replied event h p = taken-keeps P (λ g q. kept-onto (rule (reading g)) g (all-inner (rule (reading g)) (own-rule (reading g))) q) (λ g q. keeps Finished g tt q) event h p
 
   pub kept-taken : (event : SessionEvent) (h : History) → P (Outside event ▷ h) → P (taken event h)
   kept-taken event h p = kept-replied event h (kept-onto (reply (reading h) event) (Outside event ▷ h) (inner-answer (reply (reading h) event) (own-reply (reading h) event)) p)

@@ -5,6 +5,7 @@ use Rattle.sm_world.specs.declared.commands.Command.{Command}
 use Rattle.xsmp_messages.specs.declared.message.XsmpMessage.{XsmpMessage}
 use Rattle.xsmp_messages.specs.declared.message.XsmpMessage.TheVariants.{RegisterClientReply, SaveYourself, Interact, Die, ShutdownCancelled, SaveComplete}
 use Rattle.interact_queue.specs.Queue.{is_in, without}
+use Rattle.std.specs.List.{AllByRecursion}
 use Rattle.session_model.specs.declared.phase.Phase.{Phase}
 use Rattle.session_model.specs.declared.phase.Phase.TheVariants.{Unregistered, Idle, Done}
 use Rattle.session_model.specs.declared.events.SessionEvent.{SessionEvent}
@@ -12,6 +13,7 @@ use Rattle.session_model.specs.declared.events.SessionEvent.TheVariants.{Joined,
 use Rattle.session_model.specs.Phases.{is_member, may_interact, phase_said, phase_given, ready_phase, dying_phase, begun_phase, completed_phase, cancelled_phase}
 use Rattle.session_model.specs.Moves.{Move, Cause, Outside, Gave, Unset, Closed, Began, Over, Cancelled, Agreed, History, ◌▷◌, onto, gave_each, tried_each}
 use Rattle.session_model.specs.Readings as of
+use Rattle.session_model.proofs.MoveKinds.{IsWide}
 use Rattle.session_model.proofs.Lists.{in-without}
 use Rattle.session_model.proofs.PhaseSteps.{quiet-said, quiet-ready, given-phase}
 use Rattle.session_model.proofs.Sound.{Fits, AllFit, at-one, phase-there, Sound, sound-onto}
@@ -105,8 +107,10 @@ plain-level Cancelled h e l = absurd e
 plain-level m h e l = l
 
 abbrev pub AllPlain : List Move → Type 0
-AllPlain [] = Unit {0}
-AllPlain (m ∷ moves) = IsPlain m × AllPlain moves
+AllPlain moves = AllByRecursion IsPlain moves
+
+pub plain-wide : IsWide IsPlain
+plain-wide = record { respawned = λ id command. tt; resigned = λ command. tt; closed = λ c. tt; printed = λ text. tt }
 
 -- What holds between events
 
@@ -134,22 +138,6 @@ onto-append h (x ∷ xs) ys = onto-append (x ▷ h) xs ys
 
 pub good-append : (h : History) (xs ys : List Move) → Good (onto (onto h xs) ys) → Good (onto h (xs ++ ys))
 good-append h xs ys g = subst (λ (x : History). Good x) (sym (onto-append h xs ys)) g
-
-pub plain-append : (xs ys : List Move) → AllPlain xs → AllPlain ys → AllPlain (xs ++ ys)
-plain-append [] ys p q = q
-plain-append (x ∷ xs) ys p q = (p.0, plain-append xs ys p.1 q)
-
-pub plain-tried : (cause : Cause) (commands : List Command) → AllPlain (tried_each cause commands)
-plain-tried cause [] = tt
-plain-tried cause (c ∷ commands) = (tt, plain-tried cause commands)
-
-pub plain-gave : (m : XsmpMessage) (conns : List ℕ) → is_plain m ≡ true → AllPlain (gave_each m conns)
-plain-gave m [] e = tt
-plain-gave m (c ∷ conns) e = (e, plain-gave m conns e)
-
-pub plain-closed : (conns : List ℕ) → AllPlain (map Closed conns)
-plain-closed [] = tt
-plain-closed (c ∷ conns) = (tt, plain-closed conns)
 
 -- The same message to each
 

@@ -1,5 +1,7 @@
 pub mod Computed
 pub mod Lists
+pub mod MoveKinds
+pub mod Driven
 pub mod PhaseSteps
 pub mod Sound
 pub mod Level

@@ -19,57 +19,19 @@ use Rattle.session_model.specs.declared.events.SessionEvent.TheVariants.{Joined,
 use Rattle.session_model.specs.Phases.{is_bound, is_unregistered, is_member, is_dying, is_owing, is_saving, is_first_saving, is_interacting, is_shutdown, may_interact, cancelled_phase}
 use Rattle.session_model.specs.Tables.{is_full, entry_of}
 use Rattle.checkpoint_records.specs.Rules.{client_id}
-use Rattle.session_model.specs.Errors.{Arrival, no_room, bad_id, full_table, lone_shutdown}
-use Rattle.session_model.specs.Moves.{Move, Outside, Gave, Blamed, Unset, Closed, Cancelled, Printed, Restart, History, Opened, ◌▷◌, onto, gave_each, tried_each, Opening}
+use Rattle.session_model.specs.Errors.{no_room, bad_id, full_table, lone_shutdown}
+use Rattle.session_model.specs.declared.events.Arrival.{Arrival}
+use Rattle.session_model.specs.Moves.{Finished, Move, Outside, Gave, Blamed, Unset, Closed, Cancelled, Printed, Restart, History, Opened, ◌▷◌, onto, gave_each, tried_each, Opening}
 use Rattle.session_model.specs.Readings as of
 use Rattle.session_model.specs.Reading.{Reading, reading, wanted_in, client_of}
 use Rattle.session_model.specs.Books.{issue, discarded, standing, command_anyway, book_forgetting, opening_moves, raised}
-use Rattle.session_model.specs.Replies.{refused, or_bad_state, respawn_moves, entry_respawn, id_respawn, respawned, depart, has_no_room, may_rejoin, register, called_off, want_cancel, answered, unless_dying, said, resigned, forgotten, forget_one, forget, may_wait, ordered, has_no_place, reply, status_text, is_overdue, waited}
+use Rattle.session_model.specs.Replies.{refused, or_bad_state, respawn_moves, entry_respawn, id_respawn, respawned, depart, has_no_room, may_rejoin, register, called_off, want_cancel, has_place, placed, answered, unless_dying, said, resigned, forgotten, forget_one, forget, may_wait, ordered, has_no_place, reply, status_text, is_overdue, waited}
 use Rattle.session_model.specs.Rules.{settled, taken, opened, run}
 use Rattle.session_model.proofs.Sound.{AllFit}
-use Rattle.session_model.proofs.Level.{Good, AllPlain, good-by, good-plain, level-reply, level-unset, plain-append, plain-tried, level-emptied, once-cancelled}
-use Rattle.session_model.proofs.Ruled.{member-by, conns-rows, plain-issue, good-settle, good-finished}
-
--- Plain answers
-
-plain-cond : (b : Bool) (xs ys : List Move) → AllPlain xs → AllPlain ys → AllPlain (cond b xs ys)
-plain-cond true xs ys p q = p
-plain-cond false xs ys p q = q
-
-plain-or-bad : (b : Bool) (x : Arrival) (moves : List Move) → AllPlain moves → AllPlain (or_bad_state b x moves)
-plain-or-bad true x moves p = p
-plain-or-bad false x moves p = (tt, tt)
-
-plain-respawn : (id : List ℕ) (command : Option Command) → AllPlain (respawn_moves id command)
-plain-respawn id None = tt
-plain-respawn id (Some command) = (tt, tt)
-
-plain-entry : (r : Reading) (id : List ℕ) (entry : Option Entry) → AllPlain (entry_respawn r id entry)
-plain-entry r id None = tt
-plain-entry r id (Some entry) = plain-respawn id (respawn entry (r.run.respawns id))
-
-plain-id : (r : Reading) (id : Option (List ℕ)) → AllPlain (id_respawn r id)
-plain-id r None = tt
-plain-id r (Some id) = plain-entry r id (entry_of id r.store.book)
-
-plain-respawned : (r : Reading) (c : ℕ) → AllPlain (respawned r c)
-plain-respawned r c = plain-cond (is_dying (r.clients.phase c)) [] (id_respawn r (r.clients.id c)) tt (plain-id r (r.clients.id c))
-
-plain-departs : (r : Reading) (conns : List ℕ) → AllPlain (flat_map (depart r) conns)
-plain-departs r [] = tt
-plain-departs r (c ∷ conns) = plain-append (depart r c) (flat_map (depart r) conns) (tt, plain-respawned r c) (plain-departs r conns)
-
-plain-resigned : (command : Option Command) → AllPlain (resigned command)
-plain-resigned None = tt
-plain-resigned (Some command) = (tt, tt)
-
-plain-forgotten : (r : Reading) (entry : Entry) (book : Book) → AllPlain (forgotten r entry book)
-plain-forgotten r entry book =
-    (tt, (tt, plain-append (resigned (command_anyway (codes "ResignCommand") entry)) (discarded r.clients book) (plain-resigned (command_anyway (codes "ResignCommand") entry)) (plain-issue book (issuable (standing r.clients) book.pending))))
-
-plain-forget_one : (r : Reading) (id : List ℕ) (entry : Option Entry) → AllPlain (forget_one r id entry)
-plain-forget_one r id None = (tt, tt)
-plain-forget_one r id (Some entry) = plain-cond (is_some (client_of id r.clients)) (Printed (codes "live") ∷ []) (forgotten r entry (book_forgetting r.store id)) (tt, tt) (plain-forgotten r entry (book_forgetting r.store id))
+use Rattle.session_model.proofs.Driven.{taken-keeps}
+use Rattle.session_model.proofs.MoveKinds.{every-cond, every-depart, every-departs, every-forget, every-opening, every-or-bad, every-ordered, every-respawned}
+use Rattle.session_model.proofs.Level.{Good, AllPlain, IsPlain, good-by, good-plain, level-reply, level-unset, plain-wide, level-emptied, once-cancelled}
+use Rattle.session_model.proofs.Ruled.{member-by, conns-rows, plain-issue, good-rule}
 
 -- A shutdown is called off
 
@@ -137,18 +99,16 @@ is_grave (RegisterClient previous) = true
 is_grave (InteractDone true) = true
 is_grave m = false
 
+plain-placed : (r : Reading) (x : Arrival) (m : XsmpMessage) (p : Option Phase) → is_grave m ≡ false → AllPlain (placed r x m p)
+plain-placed r x (RegisterClient previous) p e = absurd (grind arith)
+plain-placed r x (InteractDone true) p e = absurd (grind arith)
+plain-placed r x (SetProperties list) p e = every-cond IsPlain (is_full (set_all (r.clients.table x.conn) list)) (Blamed x.conn (full_table x) ∷ []) [] (tt, tt) tt
+plain-placed r x GetProperties p e = (refl, tt)
+plain-placed r x (SaveYourselfRequest kind shutdown style fast global) p e = every-cond IsPlain (shutdown && not global) (Blamed x.conn (lone_shutdown x) ∷ []) [] (tt, tt) tt
+plain-placed r x m p e = tt
+
 plain-answered : (r : Reading) (x : Arrival) (m : XsmpMessage) (p : Option Phase) → is_grave m ≡ false → AllPlain (answered r x m p)
-plain-answered r x (RegisterClient previous) p e = absurd (grind arith)
-plain-answered r x (InteractDone true) p e = absurd (grind arith)
-plain-answered r x (InteractDone false) p e = plain-or-bad (is_owing p || is_interacting p) x [] tt
-plain-answered r x (SetProperties list) p e = plain-or-bad (is_bound p) x _ (plain-cond (is_full (set_all (r.clients.table x.conn) list)) (Blamed x.conn (full_table x) ∷ []) [] (tt, tt) tt)
-plain-answered r x (DeleteProperties names) p e = plain-or-bad (is_bound p) x [] tt
-plain-answered r x GetProperties p e = plain-or-bad (is_bound p) x _ (refl, tt)
-plain-answered r x (SaveYourselfRequest kind shutdown style fast global) p e = plain-or-bad (is_bound p) x _ (plain-cond (shutdown && not global) (Blamed x.conn (lone_shutdown x) ∷ []) [] (tt, tt) tt)
-plain-answered r x (InteractRequest dialog) p e = plain-or-bad (is_owing p || is_saving p && may_interact (wanted_in r.rounds.running) dialog) x [] tt
-plain-answered r x (SaveYourselfDone success) p e = plain-or-bad (is_owing p || is_saving p) x [] tt
-plain-answered r x SaveYourselfPhase2Request p e = plain-or-bad (is_owing p || is_first_saving p) x [] tt
-plain-answered r x m p e = (tt, tt)
+plain-answered r x m p e = every-or-bad IsPlain (has_place (wanted_in r.rounds.running) m p) x (placed r x m p) tt (plain-placed r x m p e)
 
 -- the message that is answered was heard: it is the latest move
 good-answered : (c : ℕ) (m : XsmpMessage) (sequence : ℕ) (frame : List ℕ) (h : History) (p : Option Phase) → of.phase_of c h ≡ p → Good (Outside (Said c m sequence frame) ▷ h)
@@ -176,26 +136,21 @@ good-unless c m sequence frame h (Some p) e g = good-answered c m sequence frame
 
 good-said : (c : ℕ) (m : XsmpMessage) (sequence : ℕ) (frame : List ℕ) (h : History) → Good (Outside (Said c m sequence frame) ▷ h)
     → Good (onto (Outside (Said c m sequence frame) ▷ h) (said (reading h) (record { conn = c; message = m; sequence = sequence; frame = frame }) m))
-good-said c (ConnectionClosed reasons) sequence frame h g = good-plain (depart (reading h) c) (Outside (Said c (ConnectionClosed reasons) sequence frame) ▷ h) (tt, plain-respawned (reading h) c) g
+good-said c (ConnectionClosed reasons) sequence frame h g = good-plain (depart (reading h) c) (Outside (Said c (ConnectionClosed reasons) sequence frame) ▷ h) (every-depart IsPlain (reading h) c plain-wide) g
 good-said c (Error error) sequence frame h g = g
 good-said c m sequence frame h g = good-unless c m sequence frame h (of.phase_of c h) refl g
 
 -- Orders
 
 good-ordered : (order : Order) (h : History) → Good (Outside (Operator order) ▷ h) → Good (onto (Outside (Operator order) ▷ h) (ordered (reading h) order))
-good-ordered Checkpoint h g = good-plain (may_wait (reading h)) (Outside (Operator Checkpoint) ▷ h) (tt, tt) g
-good-ordered Shutdown h g = good-plain (may_wait (reading h)) (Outside (Operator Shutdown) ▷ h) (tt, tt) g
 good-ordered Cancel h g =
     good-cond (is_shutdown (wanted_in (of.round h))) (Printed (codes "ok") ∷ called_off (of.round h)) (Printed (codes "no shutdown") ∷ []) (Outside (Operator Cancel) ▷ h)
     (good-called_off (of.running h) h (Printed (codes "ok") ▷ Outside (Operator Cancel) ▷ h) refl (good-plain (Printed (codes "ok") ∷ []) (Outside (Operator Cancel) ▷ h) (tt, tt) g))
     (good-plain (Printed (codes "no shutdown") ∷ []) (Outside (Operator Cancel) ▷ h) (tt, tt) g)
-good-ordered (DropConn c) h g =
-    good-plain (ordered (reading h) (DropConn c)) (Outside (Operator (DropConn c)) ▷ h)
-    (plain-cond (is_in c (of.live h)) (Printed (codes "ok") ∷ depart (reading h) c) (Printed (codes "no connection") ∷ []) (tt, (tt, plain-respawned (reading h) c)) (tt, tt)) g
 good-ordered (Forget id) h g =
     good-plain (forget (reading h) id) (Outside (Operator (Forget id)) ▷ h)
-    (plain-cond (of.is_ending h || is_some (of.round h)) (Printed (codes "busy") ∷ []) (forget_one (reading h) id (entry_of id (of.book h))) (tt, tt) (plain-forget_one (reading h) id (entry_of id (of.book h)))) g
-good-ordered Status h g = good-plain (Printed (status_text (reading h)) ∷ []) (Outside (Operator Status) ▷ h) (tt, tt) g
+    (every-forget IsPlain (reading h) id plain-wide tt (plain-issue (book_forgetting (reading h).store id) (issuable (standing (reading h).clients) (book_forgetting (reading h).store id).pending))) g
+good-ordered order h g = good-plain (ordered (reading h) order) (Outside (Operator order) ▷ h) (every-ordered IsPlain (reading h) order plain-wide tt) g
 
 -- Events
 
@@ -203,18 +158,16 @@ good-outside : (event : SessionEvent) (h : History) → Good h → Good (Outside
 good-outside event h g = good-plain (Outside event ∷ []) h (tt, tt) g
 
 pub good-reply : (event : SessionEvent) (h : History) → Good h → Good (onto (Outside event ▷ h) (reply (reading h) event))
-good-reply (Joined c) h g = good-plain _ (Outside (Joined c) ▷ h) (plain-cond (has_no_place (reading h)) (Closed c ∷ []) [] (tt, tt) tt) (good-outside (Joined c) h g)
+good-reply (Joined c) h g = good-plain _ (Outside (Joined c) ▷ h) (every-cond IsPlain (has_no_place (reading h)) (Closed c ∷ []) [] (tt, tt) tt) (good-outside (Joined c) h g)
 good-reply (Ready c) h g = good-outside (Ready c) h g
 good-reply (Said c m sequence frame) h g = good-said c m sequence frame h (good-outside (Said c m sequence frame) h g)
-good-reply (Left c) h g = good-plain (respawned (reading h) c) (Outside (Left c) ▷ h) (plain-respawned (reading h) c) (good-outside (Left c) h g)
+good-reply (Left c) h g = good-plain (respawned (reading h) c) (Outside (Left c) ▷ h) (every-respawned IsPlain (reading h) c plain-wide) (good-outside (Left c) h g)
 good-reply (Operator order) h g = good-ordered order h (good-outside (Operator order) h g)
 good-reply (Tick milliseconds) h g =
-    good-plain (waited (reading h) milliseconds) (Outside (Tick milliseconds) ▷ h) (plain-departs (reading h) (filter (is_overdue (reading h) milliseconds) (of.registered h))) (good-outside (Tick milliseconds) h g)
+    good-plain (waited (reading h) milliseconds) (Outside (Tick milliseconds) ▷ h) (every-departs IsPlain (reading h) (filter (is_overdue (reading h) milliseconds) (of.registered h)) plain-wide) (good-outside (Tick milliseconds) h g)
 
 pub good-taken : (event : SessionEvent) (h : History) → Good h → Good (taken event h)
-good-taken event h g =
-    let answered_to : History = onto (Outside event ▷ h) (reply (reading h) event) in
-    good-finished (settled answered_to) (good-settle (4 * length (of.waits answered_to) + 4) answered_to (good-reply event h g))
+good-taken event h g = taken-keeps Good good-rule (λ i k. good-plain (Finished ∷ []) i (tt, tt) k) event h (good-reply event h g)
 
 -- Runs
 
@@ -232,7 +185,7 @@ good-start opening = record {
 }
 
 plain-opening : (book : Book) → AllPlain (opening_moves book)
-plain-opening book = (tt, plain-append (issue (raised book) book.pending) (tried_each Restart (opening_restarts book.entries)) (plain-issue (raised book) book.pending) (plain-tried Restart (opening_restarts book.entries)))
+plain-opening book = every-opening IsPlain book (λ cause command. tt) (λ written. tt)
 
 pub good-opened : (opening : Opening) → Good (opened opening)
 good-opened opening = good-plain (opening_moves opening.book) (Opened opening) (plain-opening opening.book) (good-start opening)

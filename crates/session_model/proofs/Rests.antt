@@ -15,10 +15,11 @@ use Rattle.session_model.specs.Rules.{rule, settled, taken, opened, run}
 use Rattle.session_model.proofs.Level.{Good}
 use Rattle.session_model.proofs.Replied.{good-reply, good-taken, good-opened}
 use Rattle.session_model.proofs.Rest.{left_to_do, round_part, token_part, same-next}
-use Rattle.session_model.proofs.Falls.{Same, AllSilent, silent-all, silent-append, silent-tried, silent-issue, no-round, falls-rule, rests-zero, settled-rests, finished-rests}
+use Rattle.session_model.proofs.MoveKinds.{every-opening}
+use Rattle.session_model.proofs.Falls.{Same, AllSilent, IsSilent, silent-all, no-round, falls-rule, rests-zero, settled-rests, finished-rests}
 
 silent-opening : (book : Book) → AllSilent (opening_moves book)
-silent-opening book = (tt, silent-append (issue (raised book) book.pending) (tried_each Restart (opening_restarts book.entries)) (silent-issue (raised book) book.pending) (silent-tried Restart (opening_restarts book.entries)))
+silent-opening book = every-opening IsSilent book (λ cause command. tt) (λ written. tt)
 
 nothing-left : (opening : Opening) (h : History) → Same (Opened opening) h → left_to_do h ≤ 0
 nothing-left opening h s =

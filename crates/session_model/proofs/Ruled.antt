@@ -24,7 +24,8 @@ use Rattle.session_model.specs.Reading.{Clients, reading}
 use Rattle.session_model.specs.Books.{next_book, issue, discarded, standing}
 use Rattle.session_model.specs.Rules.{last_command, ended, completed, agreement_with, wanting_two, over_rule, agreed_rule, running_rule, save_yourself, members_for, begin, begin_first, is_free, idle_rule, round_rule, token_rule, rule, go_on, settle, finished}
 use Rattle.session_model.proofs.Sound.{AllFit, AreRegistered, Sound, sound-step, is_wanted_alone, or-true}
-use Rattle.session_model.proofs.Level.{Level, Good, AllPlain, good-by, good-plain, good-append, level-token, plain-append, plain-tried, plain-gave, plain-closed, phase-each, members-each, once-begun, once-completed, once-dying, level-emptied}
+use Rattle.session_model.proofs.MoveKinds.{every-closed, every-gave, every-issue, every-tried}
+use Rattle.session_model.proofs.Level.{Level, Good, AllPlain, IsPlain, good-by, good-plain, good-append, level-token, phase-each, members-each, once-begun, once-completed, once-dying, level-emptied}
 
 -- Tests
 
@@ -99,8 +100,7 @@ conns-rows phase saved [] = refl
 conns-rows phase saved (c ∷ cs) = ap (λ (xs : List ℕ). c ∷ xs) (conns-rows phase saved cs)
 
 pub plain-issue : (book : Book) (commands : List Command) → AllPlain (issue book commands)
-plain-issue book [] = tt
-plain-issue book (c ∷ commands) = (tt, plain-append (tried_each Discard commands) _ (plain-tried Discard commands) (tt, tt))
+plain-issue book commands = every-issue IsPlain book commands (λ command. tt) tt
 
 done-step : (p : Option Phase) (success : Bool) → is_done (step_of p success) ≡ true → is_member (completed_phase p) ≡ false
 done-step (Some Done) success e = refl
@@ -170,9 +170,9 @@ good-ended book h e s =
     let last : List Command = filter_map (last_command (reading h).clients) book.entries in
     let shut : List ℕ = others (reading h).clients in
     let all_shut : Good (onto (closing book h) (gave_each Die (of.registered h) ++ map Closed shut)) =
-    good-append (closing book h) (gave_each Die (of.registered h)) (map Closed shut) (good-plain (map Closed shut) dead (plain-closed shut) (good-die book h e s)) in
+    good-append (closing book h) (gave_each Die (of.registered h)) (map Closed shut) (good-plain (map Closed shut) dead (every-closed IsPlain shut (λ c. tt)) (good-die book h e s)) in
     good-append (closing book h) (gave_each Die (of.registered h) ++ map Closed shut) (tried_each End last)
-    (good-plain (tried_each End last) (onto (closing book h) (gave_each Die (of.registered h) ++ map Closed shut)) (plain-tried End last) all_shut)
+    (good-plain (tried_each End last) (onto (closing book h) (gave_each Die (of.registered h) ++ map Closed shut)) (every-tried IsPlain End last (λ command. tt)) all_shut)
 
 -- The members are those that haven't left, and each is done.
 good-completed : (b : Bool) (book : Book) (h : History) (members : List Member) (began : Bool) (w : Wanted) → (b ≡ true → of.is_ending (closing book h) ≡ true) → conns_of members ≡ of.members h
@@ -268,7 +268,7 @@ good-agreed false r h e a g =
     (λ d. nil-rows (λ c. of.phase_of c h) (λ c. of.saved_of c h) (of.members h) (and-right (not (is_nil r.members)) (is_nil (rows_now h)) d)) g
 
 good-going : (b : Bool) (r : of.Begun) (h : History) → of.running h ≡ Some r → Good h → Good (onto h (running_rule b (reading h) (round_now r h)))
-good-going true r h e g = good-plain (gave_each SaveYourselfPhase2 (wanting_two (rows_now h))) h (plain-gave SaveYourselfPhase2 (wanting_two (rows_now h)) refl) g
+good-going true r h e g = good-plain (gave_each SaveYourselfPhase2 (wanting_two (rows_now h))) h (every-gave IsPlain SaveYourselfPhase2 (wanting_two (rows_now h)) (λ c. refl)) g
 good-going false r h e g = good-agreed (agreed (round_now r h)) r h e refl g
 
 good-round : (o : Option of.Begun) (h : History) → of.running h ≡ o → Good h → Good (onto h (round_rule (reading h) (of.course o (rows_now h))))
@@ -282,20 +282,3 @@ good-next false (c ∷ cs) h e g = good-token c h e g
 
 pub good-rule : (h : History) → Good h → Good (onto h (rule (reading h)))
 good-rule h g = good-next (of.is_held h) (of.waiting h) h refl g
-
--- Settling
-
-good-on : (n : ℕ) (h : History) (moves : List Move) → Good h → Good (onto h moves) → ((g : History) → Good g → Good (settle n g)) → Good (go_on (λ g. settle n g) h moves)
-good-on n h [] g k s = g
-good-on n h (m ∷ moves) g k s = s (onto h (m ∷ moves)) k
-
-pub good-settle : (n : ℕ) (h : History) → Good h → Good (settle n h)
-good-settle zero h g = g
-good-settle (suc n) h g = good-on n h (rule (reading h)) g (good-rule h g) (λ i k. good-settle n i k)
-
-good-finish : (b : Bool) (h : History) → Good h → Good (cond b (Finished ▷ h) h)
-good-finish true h g = good-plain (Finished ∷ []) h (tt, tt) g
-good-finish false h g = g
-
-pub good-finished : (h : History) → Good h → Good (finished h)
-good-finished h g = good-finish (of.is_ending h && is_nil (of.live h)) h g

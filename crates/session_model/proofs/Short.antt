@@ -16,7 +16,8 @@ use Rattle.checkpoint_records.specs.Rules.{hex8, client_id, IsClientId, IsTable}
 use Rattle.xsmp_messages.specs.Messages.{IsTooLong}
 use Rattle.xsmp_messages.specs.declared.message.XsmpMessage.{XsmpMessage}
 use Rattle.xsmp_messages.specs.declared.message.XsmpMessage.TheVariants.{Error, RegisterClientReply, SaveYourself, Interact, Die, ShutdownCancelled, GetPropertiesReply, SaveYourselfPhase2, SaveComplete}
-use Rattle.session_model.specs.Errors.{Arrival, value_at, bad_state, bad_id, no_room, full_table, lone_shutdown}
+use Rattle.session_model.specs.Errors.{value_at, bad_state, bad_id, no_room, full_table, lone_shutdown}
+use Rattle.session_model.specs.declared.events.Arrival.{Arrival}
 use Rattle.session_model.proofs.Tidy.{is_small}
 
 length-hex8 : (n : ℕ) → length (hex8 n) ≡ 8

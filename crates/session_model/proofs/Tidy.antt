@@ -150,9 +150,4 @@ epoch-step epoch (Committed book) h p e = p.0
 epoch-step epoch m h p e = e
 
 abbrev pub AllProper : ℕ → List Move → Type 0
-AllProper epoch [] = Unit {0}
-AllProper epoch (m ∷ moves) = Proper epoch m × AllProper epoch moves
-
-pub proper-append : (epoch : ℕ) (xs ys : List Move) → AllProper epoch xs → AllProper epoch ys → AllProper epoch (xs ++ ys)
-proper-append epoch [] ys p q = q
-proper-append epoch (x ∷ xs) ys p q = (p.0, proper-append epoch xs ys p.1 q)
+AllProper epoch moves = AllByRecursion (Proper epoch) moves

@@ -16,9 +16,11 @@ use Rattle.session_model.specs.Replies.{reply}
 use Rattle.session_model.specs.Rules.{rule, go_on, settle, settled, taken, opened, run}
 use Rattle.session_model.specs.Laws.{EachMove, IsShort, HasEntries}
 use Rattle.session_model.proofs.Kept.{empty-table}
-use Rattle.session_model.proofs.Tidy.{Tidy, Proper, AllProper, tidy-step, epoch-step, proper-append}
+use Rattle.session_model.proofs.Tidy.{Tidy, Proper, AllProper, tidy-step, epoch-step}
 use Rattle.session_model.proofs.Short.{short-id, short-table, short-small, short-error}
-use Rattle.session_model.proofs.Propers.{proper-tried, proper-issue, proper-rule, proper-reply}
+use Rattle.session_model.proofs.Driven.{taken-keeps}
+use Rattle.session_model.proofs.MoveKinds.{every-append, every-tried}
+use Rattle.session_model.proofs.Propers.{proper-issue, proper-rule, proper-reply}
 
 -- A run over a book, after its first commit
 
@@ -34,26 +36,12 @@ pub orderly-onto : (epoch : ℕ) (moves : List Move) (h : History) → AllProper
 orderly-onto epoch [] h p o = o
 orderly-onto epoch (m ∷ moves) h p o = orderly-onto epoch moves (m ▷ h) p.1 (orderly-step epoch m h p.0 o)
 
-orderly-on : (epoch n : ℕ) (h : History) (moves : List Move) → Orderly epoch h → Orderly epoch (onto h moves) → ((g : History) → Orderly epoch g → Orderly epoch (settle n g)) → Orderly epoch (go_on (λ g. settle n g) h moves)
-orderly-on epoch n h [] o k s = o
-orderly-on epoch n h (m ∷ moves) o k s = s (onto h (m ∷ moves)) k
-
-orderly-settle : (epoch n : ℕ) (h : History) → Orderly epoch h → Orderly epoch (settle n h)
-orderly-settle epoch zero h o = o
-orderly-settle epoch (suc n) h o = orderly-on epoch n h (rule (reading h)) o (orderly-onto epoch (rule (reading h)) h (proper-rule epoch h o.is_of o.tidy) o) (λ g k. orderly-settle epoch n g k)
-
-orderly-finish : (b : Bool) (epoch : ℕ) (h : History) → Orderly epoch h → Orderly epoch (cond b (Finished ▷ h) h)
-orderly-finish true epoch h o = orderly-step epoch Finished h tt o
-orderly-finish false epoch h o = o
-
 orderly-reply : (epoch : ℕ) (event : SessionEvent) (h : History) → 1 ≤ epoch → Orderly epoch h → Orderly epoch (onto (Outside event ▷ h) (reply (reading h) event))
 orderly-reply epoch event h one o = orderly-onto epoch (reply (reading h) event) (Outside event ▷ h) (proper-reply epoch h event one o.is_of o.tidy) (orderly-step epoch (Outside event) h tt o)
 
 orderly-taken : (epoch : ℕ) (event : SessionEvent) (h : History) → 1 ≤ epoch → Orderly epoch h → Orderly epoch (taken event h)
 orderly-taken epoch event h one o =
-    let answered_to : History = onto (Outside event ▷ h) (reply (reading h) event) in
-    let rested : History = settled answered_to in
-    orderly-finish (of.is_ending rested && is_nil (of.live rested)) epoch rested (orderly-settle epoch (4 * length (of.waits answered_to) + 4) answered_to (orderly-reply epoch event h one o))
+    taken-keeps (Orderly epoch) (λ g k. orderly-onto epoch (rule (reading g)) g (proper-rule epoch g k.is_of k.tidy) k) (λ g k. orderly-step epoch Finished g tt k) event h (orderly-reply epoch event h one o)
 
 orderly-run : (epoch : ℕ) (events : List SessionEvent) (h : History) → 1 ≤ epoch → Orderly epoch h → Orderly epoch (run h events)
 orderly-run epoch [] h one o = o
@@ -79,8 +67,8 @@ orderly-raised opening a =
 pub orderly-opened : (opening : Opening) → AllByRecursion (IsEntry opening.book.epoch) opening.book.entries → Orderly (opening.book.epoch + 1) (opened opening)
 orderly-opened opening a =
     orderly-onto (opening.book.epoch + 1) (issue (raised opening.book) opening.book.pending ++ tried_each Restart (opening_restarts opening.book.entries)) (Committed (raised opening.book) ▷ Opened opening)
-    (proper-append (opening.book.epoch + 1) (issue (raised opening.book) opening.book.pending) (tried_each Restart (opening_restarts opening.book.entries))
-    (proper-issue (opening.book.epoch + 1) (raised opening.book) opening.book.pending (refl, later-entries opening.book.epoch opening.book.entries a)) (proper-tried (opening.book.epoch + 1) Restart (opening_restarts opening.book.entries)))
+    (every-append (Proper (opening.book.epoch + 1)) (issue (raised opening.book) opening.book.pending) (tried_each Restart (opening_restarts opening.book.entries))
+    (proper-issue (opening.book.epoch + 1) (raised opening.book) opening.book.pending (refl, later-entries opening.book.epoch opening.book.entries a)) (every-tried (Proper (opening.book.epoch + 1)) Restart (opening_restarts opening.book.entries) (λ command. tt)))
     (orderly-raised opening a)
 
 pub orderly : (opening : Opening) (events : List SessionEvent) → KeepsRules opening.book → Orderly (opening.book.epoch + 1) (run (opened opening) events)

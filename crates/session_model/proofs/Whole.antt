@@ -1,7 +1,7 @@
 -- Every book that is written keeps the rules.
 use Rattle.std.proofs.Common.{◌≡◌, refl, ℕ, zero, suc, ◌≤◌, Bool, true, false, not, ◌||◌, List, [], ◌∷◌, ◌++◌, map, filter, length, eqb, sym, ap, subst, ◌∙◌, arith}
 use Rattle.std.specs.Prelude.{Option, Some, None, is_some, filter_map}
-use Rattle.std.specs.List.{IsDistinct}
+use Rattle.std.specs.List.{AllByRecursion, IsDistinct}
 use Rattle.std.specs.Str.{bytes_eq}
 use Rattle.sm_world.specs.declared.commands.Command.{Command}
 use Rattle.checkpoint_records.specs.declared.records.Book.{Book}
@@ -27,7 +27,8 @@ use Rattle.session_model.proofs.PhaseSteps.{is_reply}
 use Rattle.session_model.proofs.Level.{Good, onto-append}
 use Rattle.session_model.proofs.Ruled.{rows_now, round_now, good-rule, conns-rows}
 use Rattle.session_model.proofs.Tidy.{Tidy, Proper, AllProper, tidy-step}
-use Rattle.session_model.proofs.Propers.{proper-rule, proper-tried, proper-gave, proper-completed, IsOf, is-next}
+use Rattle.session_model.proofs.MoveKinds.{IsWide, every-completed, every-gave, every-tried, is_ruled}
+use Rattle.session_model.proofs.Propers.{proper-rule, proper-given, proper-wide, IsOf, is-next}
 use Rattle.session_model.proofs.TidyRun.{Orderly, orderly-onto}
 use Rattle.session_model.proofs.Pending.{filter-len, rules-without}
 use Rattle.session_model.proofs.NextIds.{next-distinct}
@@ -46,24 +47,17 @@ IsMild (Committed book) = ⊥
 IsMild m = Unit {0}
 
 abbrev pub AllMild : List Move → Type 0
-AllMild [] = Unit {0}
-AllMild (m ∷ moves) = IsMild m × AllMild moves
+AllMild moves = AllByRecursion IsMild moves
 
-pub mild-append : (xs ys : List Move) → AllMild xs → AllMild ys → AllMild (xs ++ ys)
-mild-append [] ys p q = q
-mild-append (x ∷ xs) ys p q = (p.0, mild-append xs ys p.1 q)
-
-pub mild-gave : (m : XsmpMessage) (conns : List ℕ) → is_reply m ≡ false → AllMild (gave_each m conns)
-mild-gave m [] e = tt
-mild-gave m (c ∷ conns) e = (e, mild-gave m conns e)
+pub mild-wide : IsWide IsMild
+mild-wide = record { respawned = λ id command. tt; resigned = λ command. tt; closed = λ c. tt; printed = λ text. tt }
 
 pub mild-tried : (cause : Cause) (commands : List Command) → AllMild (tried_each cause commands)
-mild-tried cause [] = tt
-mild-tried cause (c ∷ commands) = (tt, mild-tried cause commands)
+mild-tried cause commands = every-tried IsMild cause commands (λ command. tt)
 
-mild-closed : (conns : List ℕ) → AllMild (map Closed conns)
-mild-closed [] = tt
-mild-closed (c ∷ conns) = (tt, mild-closed conns)
+mild-given-ruled : (c : ℕ) (m : XsmpMessage) → is_ruled m ≡ true → IsMild (Gave c m)
+mild-given-ruled c (RegisterClientReply id) e = absurd (grind arith)
+mild-given-ruled c m e = refl
 
 -- What is carried from move to move
 
@@ -141,7 +135,7 @@ carried-issue epoch book (command ∷ commands) h k i e c =
     let g : History = onto h tried in
     let same : of.book g ≡ book = book-mild tried h (mild-tried Discard (command ∷ commands)) ∙ e in
     subst (λ (x : History). Carried epoch x) (sym (onto-append h tried (Committed left ∷ [])))
-    (committed epoch left g (rules-without book (command ∷ commands) k) i (λ q s. known-same book g same q s) (carried-mild epoch tried h (mild-tried Discard (command ∷ commands)) (proper-tried epoch Discard (command ∷ commands)) c))
+    (committed epoch left g (rules-without book (command ∷ commands) k) i (λ q s. known-same book g same q s) (carried-mild epoch tried h (mild-tried Discard (command ∷ commands)) (every-tried (Proper epoch) Discard (command ∷ commands) (λ tried. tt)) c))
 
 pub pending-issue : (book : Book) (commands : List Command) (h : History) → of.book h ≡ book → (of.book (onto h (issue book commands))).pending ≡ without_commands commands book.pending
 pending-issue book [] h e = ap (λ (x : Book). x.pending) e ∙ sym (without-none book.pending)
@@ -206,16 +200,6 @@ part-written epoch book moves h g is k i n e p w =
 
 -- The rules
 
-mild-ended : (clients : Clients) (book : Book) → AllMild (ended clients book)
-mild-ended clients book =
-    mild-append (gave_each Die clients.registered ++ map Closed (filter (λ c. not (is_in c clients.registered)) clients.live)) (tried_each End (filter_map (last_command clients) book.entries))
-    (mild-append (gave_each Die clients.registered) (map Closed (filter (λ c. not (is_in c clients.registered)) clients.live)) (mild-gave Die clients.registered refl) (mild-closed (filter (λ c. not (is_in c clients.registered)) clients.live)))
-    (mild-tried End (filter_map (last_command clients) book.entries))
-
-mild-completed : (b : Bool) (clients : Clients) (round : Agreement) (book : Book) → AllMild (completed b clients round book)
-mild-completed true clients round book = mild-ended clients book
-mild-completed false clients round book = mild-gave SaveComplete (conns_of round.members) refl
-
 room-next : (epoch : ℕ) (h : History) (round : Agreement) → Carried epoch h → Once (conns_of round.members) → length (known_with (next_entries (reading h) round) (held_ids h)) ≤ 128
 room-next epoch h round c o =
     let d : IsDistinct bytes_eq (ids_of (next_entries (reading h) round)) = next-distinct h round (c.ruly).own o (c.ruly).ids_differ in
@@ -226,7 +210,7 @@ part-agreement epoch h round o w =
     part-written epoch (next_book (reading h) round) (Agreed ∷ completed round.wanted.shutdown (reading h).clients round (next_book (reading h) round)) h (onto h (agreement (reading h) round)) refl
     (rules-next_book epoch h round w.orderly.is_of w.carried.tidy w.carried.ruly w.few_pending o (room-next epoch h round w.carried o))
     (is-next epoch h round w.orderly.is_of w.carried.tidy) (next-known h round)
-    (tt, mild-completed round.wanted.shutdown (reading h).clients round (next_book (reading h) round)) (tt, proper-completed round.wanted.shutdown epoch h round (next_book (reading h) round)) w
+    (tt, every-completed IsMild round.wanted.shutdown (reading h) round (next_book (reading h) round) mild-wide (λ command. tt) mild-given-ruled) (tt, every-completed (Proper epoch) round.wanted.shutdown (reading h) round (next_book (reading h) round) (proper-wide epoch) (λ command. tt) (proper-given epoch)) w
 
 once-now : (epoch : ℕ) (r : of.Begun) (h : History) → Carried epoch h → Once (conns_of (rows_now h))
 once-now epoch r h c = subst (λ (cs : List ℕ). Once cs) (sym (conns-rows (λ d. of.phase_of d h) (λ d. of.saved_of d h) (of.members h))) (c.ruly).once_members
@@ -241,7 +225,7 @@ part-agreed false epoch r h w = part-over (deserted (round_now r h)) epoch h (pa
 
 part-going : (b : Bool) (epoch : ℕ) (r : of.Begun) (h : History) → Whole epoch h → Part epoch (onto h (running_rule b (reading h) (round_now r h)))
 part-going true epoch r h w =
-    part-mild epoch (gave_each SaveYourselfPhase2 (wanting_two (rows_now h))) h (mild-gave SaveYourselfPhase2 (wanting_two (rows_now h)) refl) (proper-gave epoch SaveYourselfPhase2 (wanting_two (rows_now h)) (λ c. refl)) (part-of epoch h w)
+    part-mild epoch (gave_each SaveYourselfPhase2 (wanting_two (rows_now h))) h (every-gave IsMild SaveYourselfPhase2 (wanting_two (rows_now h)) (λ c. refl)) (every-gave (Proper epoch) SaveYourselfPhase2 (wanting_two (rows_now h)) (λ c. refl)) (part-of epoch h w)
 part-going false epoch r h w = part-agreed (agreed (round_now r h)) epoch r h w
 
 once-for : (o : Option ℕ) (cs : List ℕ) → Once cs → Once (members_for o cs)
@@ -250,7 +234,7 @@ once-for (Some c) cs o = (refl, tt)
 
 part-began : (epoch : ℕ) (conns : List ℕ) (wanted : Wanted) (h : History) → Once conns → Part epoch h → Part epoch (onto h (begin conns wanted))
 part-began epoch conns wanted h o w =
-    part-mild epoch (gave_each (save_yourself wanted) conns) (Began conns wanted ▷ h) (mild-gave (save_yourself wanted) conns refl) (proper-gave epoch (save_yourself wanted) conns (λ c. refl))
+    part-mild epoch (gave_each (save_yourself wanted) conns) (Began conns wanted ▷ h) (every-gave IsMild (save_yourself wanted) conns (λ c. refl)) (every-gave (Proper epoch) (save_yourself wanted) conns (λ c. refl))
     (record { carried = carried-step epoch (Began conns wanted) h o tt w.carried.once w.carried; few_live = w.few_live; few_pending = w.few_pending })
 
 part-first : (ws : List Wait) (epoch : ℕ) (h : History) → Part epoch h → Part epoch (onto h (begin_first (of.registered h) ws))
@@ -272,14 +256,6 @@ part-token None epoch h w = part-round (of.running h) epoch h w
 pub whole-with : (epoch : ℕ) (h : History) → Good h → Orderly epoch h → Part epoch h → Whole epoch h
 whole-with epoch h g o p = record { good = g; orderly = o; carried = p.carried; few_live = p.few_live; few_pending = p.few_pending }
 
-whole-rule : (epoch : ℕ) (h : History) → Whole epoch h → Whole epoch (onto h (rule (reading h)))
+pub whole-rule : (epoch : ℕ) (h : History) → Whole epoch h → Whole epoch (onto h (rule (reading h)))
 whole-rule epoch h w =
     whole-with epoch (onto h (rule (reading h))) (good-rule h w.good) (orderly-onto epoch (rule (reading h)) h (proper-rule epoch h w.orderly.is_of w.orderly.tidy) w.orderly) (part-token (next_holder (of.is_held h) (of.waiting h)) epoch h w)
-
-whole-on : (epoch n : ℕ) (h : History) (moves : List Move) → Whole epoch h → Whole epoch (onto h moves) → ((g : History) → Whole epoch g → Whole epoch (settle n g)) → Whole epoch (go_on (λ g. settle n g) h moves)
-whole-on epoch n h [] w k s = w
-whole-on epoch n h (m ∷ moves) w k s = s (onto h (m ∷ moves)) k
-
-pub whole-settle : (epoch n : ℕ) (h : History) → Whole epoch h → Whole epoch (settle n h)
-whole-settle epoch zero h w = w
-whole-settle epoch (suc n) h w = whole-on epoch n h (rule (reading h)) w (whole-rule epoch h w) (λ g k. whole-settle epoch n g k)

@@ -23,12 +23,13 @@ use Rattle.session_model.specs.declared.events.SessionEvent.{SessionEvent}
 use Rattle.session_model.specs.declared.events.SessionEvent.TheVariants.{Joined, Ready, Said, Left, Operator, Tick}
 use Rattle.session_model.specs.Phases.{is_bound, is_registered, is_unregistered, is_dying, is_owing, is_saving, is_first_saving, is_interacting, is_shutdown, may_interact}
 use Rattle.session_model.specs.Tables.{is_full, entry_of, is_recorded}
-use Rattle.session_model.specs.Errors.{Arrival, no_room, bad_id, full_table, lone_shutdown}
+use Rattle.session_model.specs.Errors.{no_room, bad_id, full_table, lone_shutdown}
+use Rattle.session_model.specs.declared.events.Arrival.{Arrival}
 use Rattle.session_model.specs.Moves.{Move, Outside, Gave, Blamed, Unset, Closed, Committed, Printed, Finished, Restart, History, Opened, ◌▷◌, onto, tried_each, Opening}
 use Rattle.session_model.specs.Readings as of
 use Rattle.session_model.specs.Reading.{Reading, reading, wanted_in, client_of, has_that_id}
 use Rattle.session_model.specs.Books.{book_forgetting, issue, command_anyway, raised}
-use Rattle.session_model.specs.Replies.{refused, or_bad_state, respawn_moves, entry_respawn, id_respawn, respawned, depart, has_no_room, known_ids, enter, may_rejoin, rejoin, register, called_off, want_cancel, answered, unless_dying, said, resigned, forgotten, forget_one, may_wait, ordered, has_no_place, reply, status_text, is_overdue, waited}
+use Rattle.session_model.specs.Replies.{refused, or_bad_state, respawn_moves, entry_respawn, id_respawn, respawned, depart, has_no_room, known_ids, enter, may_rejoin, rejoin, register, called_off, want_cancel, has_place, placed, answered, unless_dying, said, resigned, forgotten, forget_one, may_wait, ordered, has_no_place, reply, status_text, is_overdue, waited}
 use Rattle.session_model.specs.Rules.{settled, taken, Takes, opened, run}
 use Rattle.session_model.specs.Laws.{EachMove, IsWritten, AllTake}
 use Rattle.session_model.proofs.Lists.{once-push, once-without}
@@ -36,7 +37,9 @@ use Rattle.session_model.proofs.Level.{Good, good-plain, onto-append}
 use Rattle.session_model.proofs.Ruled.{differ, and-left, and-right}
 use Rattle.session_model.proofs.Replied.{good-reply, good-opened, unregistered-is, cond-same}
 use Rattle.session_model.proofs.Tidy.{Proper, AllProper}
-use Rattle.session_model.proofs.Propers.{proper-reply, proper-tried, IsOf, is-forgetting}
+use Rattle.session_model.proofs.Driven.{taken-keeps}
+use Rattle.session_model.proofs.MoveKinds.{every-cond, every-depart, every-departs, every-off, every-or-bad, every-ordered, every-resigned, every-respawned, every-tried}
+use Rattle.session_model.proofs.Propers.{proper-reply, proper-wide, IsOf, is-forgetting}
 use Rattle.session_model.proofs.TidyRun.{orderly-onto, orderly-step, orderly-opened, later-entries, tidy-start}
 use Rattle.session_model.proofs.Pending.{filter-len}
 use Rattle.session_model.proofs.Names.{asks-heard, have-ids}
@@ -46,66 +49,32 @@ use Rattle.session_model.proofs.Lawfuls.{rules-forgetting, forgetting-known, len
 use Rattle.session_model.proofs.Left.{left-few, without-none}
 use Rattle.session_model.proofs.Ruled.{any-in}
 use Rattle.session_model.proofs.Names.{IsFree, IsBefore, before-earlier}
-use Rattle.session_model.proofs.Whole.{mild-append, AllMild, mild-gave, mild-tried, Carried, carried-step, carried-issue, Whole, Part, part-of, part-mild, part-written, whole-with, whole-settle, pending-issue, live-issue}
+use Rattle.session_model.proofs.Whole.{IsMild, AllMild, mild-tried, mild-wide, Carried, carried-step, carried-issue, Whole, Part, part-of, part-mild, part-written, whole-with, whole-rule, pending-issue, live-issue}
 
 -- Mild answers
 
-mild-cond : (b : Bool) (xs ys : List Move) → AllMild xs → AllMild ys → AllMild (cond b xs ys)
-mild-cond true xs ys p q = p
-mild-cond false xs ys p q = q
-
-mild-or-bad : (b : Bool) (x : Arrival) (moves : List Move) → AllMild moves → AllMild (or_bad_state b x moves)
-mild-or-bad true x moves p = p
-mild-or-bad false x moves p = (tt, tt)
-
-mild-respawn : (id : List ℕ) (command : Option Command) → AllMild (respawn_moves id command)
-mild-respawn id None = tt
-mild-respawn id (Some command) = (tt, tt)
-
-mild-entry : (r : Reading) (id : List ℕ) (entry : Option Entry) → AllMild (entry_respawn r id entry)
-mild-entry r id None = tt
-mild-entry r id (Some entry) = mild-respawn id (respawn entry (r.run.respawns id))
-
-mild-id : (r : Reading) (id : Option (List ℕ)) → AllMild (id_respawn r id)
-mild-id r None = tt
-mild-id r (Some id) = mild-entry r id (entry_of id r.store.book)
-
-mild-respawned : (r : Reading) (c : ℕ) → AllMild (respawned r c)
-mild-respawned r c = mild-cond (is_dying (r.clients.phase c)) [] (id_respawn r (r.clients.id c)) tt (mild-id r (r.clients.id c))
-
-mild-departs : (r : Reading) (conns : List ℕ) → AllMild (flat_map (depart r) conns)
-mild-departs r [] = tt
-mild-departs r (c ∷ conns) = mild-append (depart r c) (flat_map (depart r) conns) (tt, mild-respawned r c) (mild-departs r conns)
-
-mild-resigned : (command : Option Command) → AllMild (resigned command)
-mild-resigned None = tt
-mild-resigned (Some command) = (tt, tt)
-
 mild-off : (o : Option Agreement) → AllMild (called_off o)
-mild-off None = tt
-mild-off (Some round) = (tt, mild-gave ShutdownCancelled (conns_of round.members) refl)
+mild-off o = every-off IsMild o tt (λ c. refl)
 
 mild-want_cancel : (b : Bool) (r : Reading) (x : Arrival) → AllMild (want_cancel r x b)
 mild-want_cancel true r x = mild-off r.rounds.running
 mild-want_cancel false r x = (tt, tt)
 
 -- the message that registers
-abbrev registers : XsmpMessage → Bool
+abbrev pub registers : XsmpMessage → Bool
 registers (RegisterClient previous) = true
 registers m = false
 
+mild-placed : (r : Reading) (x : Arrival) (m : XsmpMessage) (p : Option Phase) → registers m ≡ false → AllMild (placed r x m p)
+mild-placed r x (RegisterClient previous) p e = absurd (grind arith)
+mild-placed r x (SetProperties list) p e = every-cond IsMild (is_full (set_all (r.clients.table x.conn) list)) (Blamed x.conn (full_table x) ∷ []) [] (tt, tt) tt
+mild-placed r x GetProperties p e = (refl, tt)
+mild-placed r x (SaveYourselfRequest kind shutdown style fast global) p e = every-cond IsMild (shutdown && not global) (Blamed x.conn (lone_shutdown x) ∷ []) [] (tt, tt) tt
+mild-placed r x (InteractDone true) p e = every-cond IsMild (is_owing p) [] (want_cancel r x (is_shutdown (wanted_in r.rounds.running))) tt (mild-want_cancel (is_shutdown (wanted_in r.rounds.running)) r x)
+mild-placed r x m p e = tt
+
 mild-answered : (r : Reading) (x : Arrival) (m : XsmpMessage) (p : Option Phase) → registers m ≡ false → AllMild (answered r x m p)
-mild-answered r x (RegisterClient previous) p e = absurd (grind arith)
-mild-answered r x (InteractDone true) p e = mild-or-bad (is_owing p || is_interacting p) x _ (mild-cond (is_owing p) [] (want_cancel r x (is_shutdown (wanted_in r.rounds.running))) tt (mild-want_cancel (is_shutdown (wanted_in r.rounds.running)) r x))
-mild-answered r x (InteractDone false) p e = mild-or-bad (is_owing p || is_interacting p) x [] tt
-mild-answered r x (SetProperties list) p e = mild-or-bad (is_bound p) x _ (mild-cond (is_full (set_all (r.clients.table x.conn) list)) (Blamed x.conn (full_table x) ∷ []) [] (tt, tt) tt)
-mild-answered r x (DeleteProperties names) p e = mild-or-bad (is_bound p) x [] tt
-mild-answered r x GetProperties p e = mild-or-bad (is_bound p) x _ (refl, tt)
-mild-answered r x (SaveYourselfRequest kind shutdown style fast global) p e = mild-or-bad (is_bound p) x _ (mild-cond (shutdown && not global) (Blamed x.conn (lone_shutdown x) ∷ []) [] (tt, tt) tt)
-mild-answered r x (InteractRequest dialog) p e = mild-or-bad (is_owing p || is_saving p && may_interact (wanted_in r.rounds.running) dialog) x [] tt
-mild-answered r x (SaveYourselfDone success) p e = mild-or-bad (is_owing p || is_saving p) x [] tt
-mild-answered r x SaveYourselfPhase2Request p e = mild-or-bad (is_owing p || is_first_saving p) x [] tt
-mild-answered r x m p e = (tt, tt)
+mild-answered r x m p e = every-or-bad IsMild (has_place (wanted_in r.rounds.running) m p) x (placed r x m p) tt (mild-placed r x m p e)
 
 -- Registration
 
@@ -218,7 +187,7 @@ part-unless epoch c m sequence frame h (Some p) e a g w = part-answered epoch c 
 part-said : (epoch c : ℕ) (m : XsmpMessage) (sequence : ℕ) (frame : List ℕ) (h : History) → AllProper epoch (said (reading h) (record { conn = c; message = m; sequence = sequence; frame = frame }) m) → Good (Outside (Said c m sequence frame) ▷ h) → Whole epoch h
     → Part epoch (onto (Outside (Said c m sequence frame) ▷ h) (said (reading h) (record { conn = c; message = m; sequence = sequence; frame = frame }) m))
 part-said epoch c (ConnectionClosed reasons) sequence frame h a g w =
-    part-mild epoch (depart (reading h) c) (Outside (Said c (ConnectionClosed reasons) sequence frame) ▷ h) (tt, mild-respawned (reading h) c) a (part-heard epoch c (ConnectionClosed reasons) sequence frame h (part-of epoch h w))
+    part-mild epoch (depart (reading h) c) (Outside (Said c (ConnectionClosed reasons) sequence frame) ▷ h) (every-depart IsMild (reading h) c mild-wide) a (part-heard epoch c (ConnectionClosed reasons) sequence frame h (part-of epoch h w))
 part-said epoch c (Error error) sequence frame h a g w = part-heard epoch c (Error error) sequence frame h (part-of epoch h w)
 part-said epoch c m sequence frame h a g w = part-unless epoch c m sequence frame h (of.phase_of c h) refl a g w
 
@@ -237,10 +206,6 @@ whole-asked epoch id h w =
     (orderly-onto epoch (Outside (Operator (Forget id)) ∷ Printed (codes "ok") ∷ []) h (tt, (tt, tt)) w.orderly)
     (part-mild epoch (Printed (codes "ok") ∷ []) (Outside (Operator (Forget id)) ▷ h) (tt, tt) (tt, tt) (part-order epoch (Forget id) h (part-of epoch h w)))
 
-proper-resigned : (epoch : ℕ) (command : Option Command) → AllProper epoch (resigned command)
-proper-resigned epoch None = tt
-proper-resigned epoch (Some command) = (tt, tt)
-
 part-forgotten : (epoch : ℕ) (id : List ℕ) (entry : Entry) (h : History) → Whole epoch h → Part epoch (onto (Outside (Operator (Forget id)) ▷ h) (forgotten (reading h) entry (book_forgetting (reading h).store id)))
 part-forgotten epoch id entry h w =
     let g : History = asked_to_forget id h in
@@ -248,7 +213,7 @@ part-forgotten epoch id entry h w =
     let book : Book = book_forgetting (reading h).store id in
     part-written epoch book (resigned (command_anyway (codes "ResignCommand") entry)) g (onto (Outside (Operator (Forget id)) ▷ h) (forgotten (reading h) entry book)) refl
     (rules-forgetting epoch g id v.orderly.is_of v.carried.tidy v.carried.ruly v.few_pending) (is-forgetting epoch g id v.orderly.is_of v.carried.tidy) (forgetting-known g id)
-    (mild-resigned (command_anyway (codes "ResignCommand") entry)) (proper-resigned epoch (command_anyway (codes "ResignCommand") entry)) v
+    (every-resigned IsMild (command_anyway (codes "ResignCommand") entry) mild-wide) (every-resigned (Proper epoch) (command_anyway (codes "ResignCommand") entry) (proper-wide epoch)) v
 
 part-forget_one : (epoch : ℕ) (id : List ℕ) (entry : Option Entry) (h : History) → Whole epoch h → Part epoch (onto (Outside (Operator (Forget id)) ▷ h) (forget_one (reading h) id entry))
 part-forget_one epoch id None h w = part-mild epoch (Printed (codes "unknown") ∷ []) (Outside (Operator (Forget id)) ▷ h) (tt, tt) (tt, tt) (part-order epoch (Forget id) h (part-of epoch h w))
@@ -257,18 +222,12 @@ part-forget_one epoch id (Some entry) h w =
     (λ e. part-mild epoch (Printed (codes "live") ∷ []) (Outside (Operator (Forget id)) ▷ h) (tt, tt) (tt, tt) (part-order epoch (Forget id) h (part-of epoch h w))) (λ e. part-forgotten epoch id entry h w)
 
 part-ordered : (epoch : ℕ) (order : Order) (h : History) → AllProper epoch (ordered (reading h) order) → Whole epoch h → Part epoch (onto (Outside (Operator order) ▷ h) (ordered (reading h) order))
-part-ordered epoch Checkpoint h p w = part-mild epoch (may_wait (reading h)) (Outside (Operator Checkpoint) ▷ h) (tt, tt) p (part-order epoch Checkpoint h (part-of epoch h w))
-part-ordered epoch Shutdown h p w = part-mild epoch (may_wait (reading h)) (Outside (Operator Shutdown) ▷ h) (tt, tt) p (part-order epoch Shutdown h (part-of epoch h w))
-part-ordered epoch Cancel h p w =
-    part-mild epoch (ordered (reading h) Cancel) (Outside (Operator Cancel) ▷ h)
-    (mild-cond (is_shutdown (wanted_in (of.round h))) (Printed (codes "ok") ∷ called_off (of.round h)) (Printed (codes "no shutdown") ∷ []) (tt, mild-off (of.round h)) (tt, tt)) p (part-order epoch Cancel h (part-of epoch h w))
-part-ordered epoch (DropConn c) h p w =
-    part-mild epoch (ordered (reading h) (DropConn c)) (Outside (Operator (DropConn c)) ▷ h)
-    (mild-cond (is_in c (of.live h)) (Printed (codes "ok") ∷ depart (reading h) c) (Printed (codes "no connection") ∷ []) (tt, (tt, mild-respawned (reading h) c)) (tt, tt)) p (part-order epoch (DropConn c) h (part-of epoch h w))
-part-ordered epoch Status h p w = part-mild epoch (Printed (status_text (reading h)) ∷ []) (Outside (Operator Status) ▷ h) (tt, tt) p (part-order epoch Status h (part-of epoch h w))
 part-ordered epoch (Forget id) h p w =
     part-cond epoch (of.is_ending h || is_some (of.round h)) (Printed (codes "busy") ∷ []) (forget_one (reading h) id (entry_of id (of.book h))) (Outside (Operator (Forget id)) ▷ h)
     (λ e. part-mild epoch (Printed (codes "busy") ∷ []) (Outside (Operator (Forget id)) ▷ h) (tt, tt) (tt, tt) (part-order epoch (Forget id) h (part-of epoch h w))) (λ e. part-forget_one epoch id (entry_of id (of.book h)) h w)
+part-ordered epoch Cancel h p w =
+    part-mild epoch (ordered (reading h) Cancel) (Outside (Operator Cancel) ▷ h) (every-ordered IsMild (reading h) Cancel mild-wide (mild-off (of.round h))) p (part-order epoch Cancel h (part-of epoch h w))
+part-ordered epoch order h p w = part-mild epoch (ordered (reading h) order) (Outside (Operator order) ▷ h) (every-ordered IsMild (reading h) order mild-wide tt) p (part-order epoch order h (part-of epoch h w))
 
 -- Events
 
@@ -306,16 +265,15 @@ part-reply epoch (Joined c) h t p g w = part-joined (has_no_place (reading h)) e
 part-reply epoch (Ready c) h t p g w = record { carried = carried-step epoch (Outside (Ready c)) h t.0 tt w.carried.once w.carried; few_live = w.few_live; few_pending = w.few_pending }
 part-reply epoch (Said c m sequence frame) h t p g w = part-said epoch c m sequence frame h p g w
 part-reply epoch (Left c) h t p g w =
-    part-mild epoch (respawned (reading h) c) (Outside (Left c) ▷ h) (mild-respawned (reading h) c) p
+    part-mild epoch (respawned (reading h) c) (Outside (Left c) ▷ h) (every-respawned IsMild (reading h) c mild-wide) p
     (record { carried = carried-step epoch (Outside (Left c)) h tt tt (once-without c (of.registered h) w.carried.once) w.carried; few_live = omega (arith, filter-len (λ other. not (eqb other c)) (of.live h), w.few_live); few_pending = w.few_pending })
 part-reply epoch (Operator order) h t p g w = part-ordered epoch order h p w
 part-reply epoch (Tick milliseconds) h t p g w =
-    part-mild epoch (waited (reading h) milliseconds) (Outside (Tick milliseconds) ▷ h) (mild-departs (reading h) (filter (is_overdue (reading h) milliseconds) (of.registered h))) p
+    part-mild epoch (waited (reading h) milliseconds) (Outside (Tick milliseconds) ▷ h) (every-departs IsMild (reading h) (filter (is_overdue (reading h) milliseconds) (of.registered h)) mild-wide) p
     (record { carried = carried-step epoch (Outside (Tick milliseconds)) h tt tt w.carried.once w.carried; few_live = w.few_live; few_pending = w.few_pending })
 
-whole-finish : (b : Bool) (epoch : ℕ) (h : History) → Whole epoch h → Whole epoch (cond b (Finished ▷ h) h)
-whole-finish true epoch h w = whole-with epoch (Finished ▷ h) (good-plain (Finished ∷ []) h (tt, tt) w.good) (orderly-step epoch Finished h tt w.orderly) (part-mild epoch (Finished ∷ []) h (tt, tt) (tt, tt) (part-of epoch h w))
-whole-finish false epoch h w = w
+whole-finished : (epoch : ℕ) (h : History) → Whole epoch h → Whole epoch (Finished ▷ h)
+whole-finished epoch h w = whole-with epoch (Finished ▷ h) (good-plain (Finished ∷ []) h (tt, tt) w.good) (orderly-step epoch Finished h tt w.orderly) (part-mild epoch (Finished ∷ []) h (tt, tt) (tt, tt) (part-of epoch h w))
 
 whole-taken : (epoch : ℕ) (event : SessionEvent) (h : History) → 1 ≤ epoch → Takes event (reading h) → Whole epoch h → Whole epoch (taken event h)
 whole-taken epoch event h one t w =
@@ -324,8 +282,7 @@ whole-taken epoch event h one t w =
     let answered_to : History = onto (Outside event ▷ h) (reply (reading h) event) in
     let answer : Whole epoch answered_to =
     whole-with epoch answered_to (good-reply event h w.good) (orderly-onto epoch (reply (reading h) event) (Outside event ▷ h) p (orderly-step epoch (Outside event) h tt w.orderly)) (part-reply epoch event h t p heard w) in
-    let rested : History = settled answered_to in
-    whole-finish (of.is_ending rested && is_nil (of.live rested)) epoch rested (whole-settle epoch (4 * length (of.waits answered_to) + 4) answered_to answer)
+    taken-keeps (Whole epoch) (whole-rule epoch) (whole-finished epoch) event h answer
 
 whole-run : (epoch : ℕ) (events : List SessionEvent) (h : History) → 1 ≤ epoch → AllTake h events → Whole epoch h → Whole epoch (run h events)
 whole-run epoch [] h one a w = w
@@ -387,7 +344,7 @@ part-opened opening k l =
       few_pending = omega (arith, n, none-left opening.book.pending k.commands_differ);
     } in
     subst (λ (x : History). Part epoch x) (sym (onto-append start (issue (raised opening.book) opening.book.pending) (tried_each Restart (opening_restarts opening.book.entries))))
-    (part-mild epoch (tried_each Restart (opening_restarts opening.book.entries)) issued (mild-tried Restart (opening_restarts opening.book.entries)) (proper-tried epoch Restart (opening_restarts opening.book.entries)) p)
+    (part-mild epoch (tried_each Restart (opening_restarts opening.book.entries)) issued (mild-tried Restart (opening_restarts opening.book.entries)) (every-tried (Proper epoch) Restart (opening_restarts opening.book.entries) (λ command. tt)) p)
 
 pub books-keep : (opening : Opening) (events : List SessionEvent) → KeepsRules opening.book → opening.book.epoch < 4294967295 → AllTake (opened opening) events → EachMove IsWritten (run (opened opening) events)
 books-keep opening events k l a =

@@ -8,14 +8,7 @@ use Rattle.ice_values.specs.declared.class.ErrorClass.TheVariants.{BadState, Bad
 use Rattle.ice_values.specs.declared.severity.Severity.{Severity}
 use Rattle.ice_values.specs.declared.severity.Severity.TheVariants.{CanContinue, FatalToProtocol}
 use Rattle.xsmp_messages.specs.Messages.{minor_of}
-use Rattle.xsmp_messages.specs.declared.message.XsmpMessage.{XsmpMessage}
-
--- a message, the connection on which it arrived, its number among all that arrived there, and its frame
-pub record Arrival : Type 0 where
-  pub conn : ℕ
-  pub message : XsmpMessage
-  pub sequence : ℕ
-  pub frame : List ℕ
+use Rattle.session_model.specs.declared.events.Arrival.{Arrival}
 
 -- where a value stands in its message, how long it is, and the value itself, in whole units
 abbrev pub value_at : ℕ → List ℕ → List ℕ

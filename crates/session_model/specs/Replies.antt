@@ -19,7 +19,8 @@ use Rattle.restart_plan.specs.Restarts.{respawn}
 use Rattle.session_model.specs.Phases.{is_awaited, is_bound, is_dying, is_first_saving, is_interacting, is_owing, is_saving, is_shutdown, is_unregistered, may_interact}
 use Rattle.session_model.specs.Tables.{entry_of, is_full, is_recorded}
 use Rattle.checkpoint_records.specs.Rules.{client_id}
-use Rattle.session_model.specs.Errors.{Arrival, bad_id, bad_state, full_table, lone_shutdown, no_room}
+use Rattle.session_model.specs.Errors.{bad_id, bad_state, full_table, lone_shutdown, no_room}
+use Rattle.session_model.specs.declared.events.Arrival.{Arrival}
 use Rattle.session_model.specs.Moves.{Blamed, Cancelled, Closed, Committed, Gave, Move, Printed, Resign, Respawn, Tried, Unset, gave_each}
 use Rattle.session_model.specs.Readings.{quiet_for}
 use Rattle.session_model.specs.Waits.{is_busy}
@@ -95,19 +96,32 @@ abbrev pub want_cancel : Reading → Arrival → Bool → List Move
 want_cancel r x true = called_off r.rounds.running
 want_cancel r x false = refused x
 
--- one message, by the phase of its sender; whatever no line names has no place here
+-- whether a message has its place, by the phase of its sender and by what the running round was begun for; whatever no line names
+-- has no place here
+abbrev pub has_place : Option Wanted → XsmpMessage → Option Phase → Bool
+has_place wanted (RegisterClient previous) phase = is_unregistered phase
+has_place wanted (SetProperties list) phase = is_bound phase
+has_place wanted (DeleteProperties names) phase = is_bound phase
+has_place wanted GetProperties phase = is_bound phase
+has_place wanted (SaveYourselfRequest kind shutdown style fast global) phase = is_bound phase
+has_place wanted (InteractRequest dialog) phase = is_owing phase || is_saving phase && may_interact wanted dialog
+has_place wanted (InteractDone cancel) phase = is_owing phase || is_interacting phase
+has_place wanted (SaveYourselfDone success) phase = is_owing phase || is_saving phase
+has_place wanted SaveYourselfPhase2Request phase = is_owing phase || is_first_saving phase
+has_place wanted m phase = false
+
+-- what a message brings that has its place
+abbrev pub placed : Reading → Arrival → XsmpMessage → Option Phase → List Move
+placed r x (RegisterClient previous) phase = register r x previous
+placed r x (SetProperties list) phase = cond (is_full (set_all (r.clients.table x.conn) list)) (Blamed x.conn (full_table x) ∷ []) []
+placed r x GetProperties phase = Gave x.conn (GetPropertiesReply (r.clients.table x.conn)) ∷ []
+placed r x (SaveYourselfRequest kind shutdown style fast global) phase = cond (shutdown && not global) (Blamed x.conn (lone_shutdown x) ∷ []) []
+placed r x (InteractDone true) phase = cond (is_owing phase) [] (want_cancel r x (is_shutdown (wanted_in r.rounds.running)))
+placed r x m phase = []
+
+-- one message, by the phase of its sender
 abbrev pub answered : Reading → Arrival → XsmpMessage → Option Phase → List Move
-answered r x (RegisterClient previous) phase = or_bad_state (is_unregistered phase) x (register r x previous)
-answered r x (SetProperties list) phase = or_bad_state (is_bound phase) x (cond (is_full (set_all (r.clients.table x.conn) list)) (Blamed x.conn (full_table x) ∷ []) [])
-answered r x (DeleteProperties names) phase = or_bad_state (is_bound phase) x []
-answered r x GetProperties phase = or_bad_state (is_bound phase) x (Gave x.conn (GetPropertiesReply (r.clients.table x.conn)) ∷ [])
-answered r x (SaveYourselfRequest kind shutdown style fast global) phase = or_bad_state (is_bound phase) x (cond (shutdown && not global) (Blamed x.conn (lone_shutdown x) ∷ []) [])
-answered r x (InteractRequest dialog) phase = or_bad_state (is_owing phase || is_saving phase && may_interact (wanted_in r.rounds.running) dialog) x []
-answered r x (InteractDone false) phase = or_bad_state (is_owing phase || is_interacting phase) x []
-answered r x (InteractDone true) phase = or_bad_state (is_owing phase || is_interacting phase) x (cond (is_owing phase) [] (want_cancel r x (is_shutdown (wanted_in r.rounds.running))))
-answered r x (SaveYourselfDone success) phase = or_bad_state (is_owing phase || is_saving phase) x []
-answered r x SaveYourselfPhase2Request phase = or_bad_state (is_owing phase || is_first_saving phase) x []
-answered r x m phase = refused x
+answered r x m phase = or_bad_state (has_place (wanted_in r.rounds.running) m phase) x (placed r x m phase)
 
 -- a client that was told to die is heard no more
 abbrev pub unless_dying : Reading → Arrival → Option Phase → List Move

@@ -21,6 +21,17 @@ pub enum SessionEvent {
     Tick(u64),
 }
 
+/// A message of a client that arrived.
+#[derive(Drop)]
+pub struct Arrival {
+    pub conn: Conn,
+    pub message: XsmpMessage,
+    /// Its number among all that came on the connection, from 1 on.
+    pub sequence: u32,
+    /// The whole frame.
+    pub frame: Octets,
+}
+
 /// Why a command is started.
 #[derive(Clone, Copy, Debug, PartialEq, Eq)]
 pub enum Reason {

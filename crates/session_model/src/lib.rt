@@ -9,7 +9,7 @@ mod phase;
 mod sessions;
 mod waits;
 
-pub use events::{Act, Reason, SessionEvent};
+pub use events::{Act, Arrival, Reason, SessionEvent};
 pub use laws::{
     books_keep_rules, death_is_of_shutdown, entries_keep_rules, members_are_asked_to_save,
     messages_fit, nobody_registers_twice, nobody_waits_twice, one_has_the_token,

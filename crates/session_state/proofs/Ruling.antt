@@ -24,7 +24,8 @@ use Rattle.session_model.proofs.Level.{Good}
 use Rattle.session_model.proofs.Ruled.{and-left, and-right, any-in, denied, differ, interacting-registered, nobody-level, none-in, round_now, rows_now}
 use Rattle.session_model.proofs.Asked.{phases-tell}
 use Rattle.session_state.proofs.Known.{head-in, or-later}
-use Rattle.session_state.proofs.Suits.{AllLight, AllSuit, is_done, light-append, light-closed, light-gave, light-tried, suit-append, suit-light}
+use Rattle.session_state.proofs.Suits.{AllLight, AllSuit, IsLight, is_done, suit-append, suit-light}
+use Rattle.session_model.proofs.MoveKinds.{every-closed, every-gave, every-issue, every-tried}
 
 not-true : (x : Bool) → not x ≡ true → x ≡ false
 not-true true e = sym e
@@ -41,12 +42,8 @@ first-asked c cs h e = sym (phases-tell h c) ∙ ap (λ (xs : List ℕ). is_in c
 
 -- An agreement
 
-pub light-issue : (book : Book) (commands : List Command) → AllLight (issue book commands)
-light-issue book [] = tt
-light-issue book (c ∷ commands) = (tt, light-append (tried_each Discard commands) _ (light-tried Discard commands) (tt, tt))
-
 pub light-discarded : (clients : Clients) (book : Book) → AllLight (discarded clients book)
-light-discarded clients book = light-issue book (issuable (standing clients) book.pending)
+light-discarded clients book = every-issue IsLight book (issuable (standing clients) book.pending) (λ command. tt) tt
 
 -- where nobody is a member these go to no member
 suit-complete : (conns : List ℕ) (h : History) → of.members h ≡ [] → AllSuit (gave_each SaveComplete conns) h
@@ -63,8 +60,8 @@ suit-ended clients book h e =
     let shut : List Move = map Closed (filter (λ c. not (is_in c clients.registered)) clients.live) in
     let last : List Move = tried_each End (filter_map (last_command clients) book.entries) in
     suit-append (dead ++ shut) last h
-    (suit-append dead shut h (suit-die clients.registered h e) (suit-light shut (onto h dead) (light-closed (filter (λ c. not (is_in c clients.registered)) clients.live))))
-    (suit-light last (onto h (dead ++ shut)) (light-tried End (filter_map (last_command clients) book.entries)))
+    (suit-append dead shut h (suit-die clients.registered h e) (suit-light shut (onto h dead) (every-closed IsLight (filter (λ c. not (is_in c clients.registered)) clients.live) (λ c. tt))))
+    (suit-light last (onto h (dead ++ shut)) (every-tried IsLight End (filter_map (last_command clients) book.entries) (λ command. tt)))
 
 suit-completed : (b : Bool) (clients : Clients) (round : Agreement) (book : Book) (h : History) → of.members h ≡ [] → AllSuit (completed b clients round book) h
 suit-completed true clients round book h e = suit-ended clients book h e
@@ -146,7 +143,7 @@ suit-agreed true r round h = suit-agreement r.clients round (next_book r round) 
 suit-agreed false r round h = suit-over (deserted round) h
 
 suit-running : (b : Bool) (r : Reading) (round : Agreement) (h : History) → AllSuit (running_rule b r round) h
-suit-running true r round h = suit-light (gave_each SaveYourselfPhase2 (wanting_two round.members)) h (light-gave SaveYourselfPhase2 (wanting_two round.members) refl)
+suit-running true r round h = suit-light (gave_each SaveYourselfPhase2 (wanting_two round.members)) h (every-gave IsLight SaveYourselfPhase2 (wanting_two round.members) (λ c. refl))
 suit-running false r round h = suit-agreed (agreed round) r round h
 
 suit-round : (o : Option of.Begun) (h : History) → of.running h ≡ o → Good h → AllSuit (round_rule (reading h) (of.course o (rows_now h))) h

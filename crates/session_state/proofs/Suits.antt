@@ -1,6 +1,7 @@
 -- What a move asks of the history before it, for what is held to stand for the history after it.
 use Rattle.std.proofs.Common.{◌≡◌, ℕ, Bool, true, false, List, [], ◌∷◌, ◌++◌, map, arith}
 use Rattle.std.specs.Prelude.{Option, Some}
+use Rattle.std.specs.List.{AllByRecursion}
 use Rattle.sm_world.specs.declared.commands.Command.{Command}
 use Rattle.xsmp_messages.specs.declared.message.XsmpMessage.{XsmpMessage}
 use Rattle.xsmp_messages.specs.declared.message.XsmpMessage.TheVariants.{Die, Interact, RegisterClientReply, SaveComplete, SaveYourself, ShutdownCancelled}
@@ -12,6 +13,7 @@ use Rattle.session_model.specs.Phases.{is_asked, is_interacting}
 use Rattle.session_model.specs.Moves.{Began, Cause, Closed, Gave, History, Move, Outside, Unset, gave_each, onto, tried_each, ◌▷◌}
 use Rattle.session_model.specs.Readings as of
 use Rattle.session_model.proofs.Level.{is_plain}
+use Rattle.session_model.proofs.MoveKinds.{IsWide}
 
 abbrev pub is_done : Option Phase → Bool
 is_done (Some Done) = true
@@ -51,8 +53,10 @@ IsLight (Began conns wanted) = ⊥
 IsLight m = Unit {0}
 
 abbrev pub AllLight : List Move → Type 0
-AllLight [] = Unit {0}
-AllLight (m ∷ moves) = IsLight m × AllLight moves
+AllLight moves = AllByRecursion IsLight moves
+
+pub light-wide : IsWide IsLight
+light-wide = record { respawned = λ id command. tt; resigned = λ command. tt; closed = λ c. tt; printed = λ text. tt }
 
 light-given : (c : ℕ) (m : XsmpMessage) (h : History) → is_plain m ≡ true → SuitsGiven c m h
 light-given c (RegisterClientReply id) h e = absurd (grind arith)
@@ -73,19 +77,3 @@ light-suits m h e = tt
 pub suit-light : (moves : List Move) (h : History) → AllLight moves → AllSuit moves h
 suit-light [] h e = tt
 suit-light (m ∷ moves) h e = (light-suits m h e.0, suit-light moves (m ▷ h) e.1)
-
-pub light-append : (xs ys : List Move) → AllLight xs → AllLight ys → AllLight (xs ++ ys)
-light-append [] ys p q = q
-light-append (x ∷ xs) ys p q = (p.0, light-append xs ys p.1 q)
-
-pub light-tried : (cause : Cause) (commands : List Command) → AllLight (tried_each cause commands)
-light-tried cause [] = tt
-light-tried cause (c ∷ commands) = (tt, light-tried cause commands)
-
-pub light-gave : (m : XsmpMessage) (conns : List ℕ) → is_plain m ≡ true → AllLight (gave_each m conns)
-light-gave m [] e = tt
-light-gave m (c ∷ conns) e = (e, light-gave m conns e)
-
-pub light-closed : (conns : List ℕ) → AllLight (map Closed conns)
-light-closed [] = tt
-light-closed (c ∷ conns) = (tt, light-closed conns)

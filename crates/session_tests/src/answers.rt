@@ -1,8 +1,11 @@
 //! Errors, IDs and lines written down by hand.
 
 use ice_values::{ErrorBody, Severity};
-use session_answers::{Doing, Offence, Status, bad_state, bad_value, client_id, status_line};
-use sm_world::Octets;
+use session_answers::{
+    Doing, Status, bad_id, bad_state, client_id, full_table, lone_shutdown, no_room, status_line,
+};
+use session_model::Arrival;
+use sm_world::{NoMemory, Octets};
 use std::alloc::{Alloc, Global};
 use std::process::Abort;
 use std::test::Fail;
@@ -20,26 +23,49 @@ fn tells(
     assert_eq!(rt; error.values.as_slice(), values);
 }
 
+/// A RegisterClient with this previous-ID: the first message of its sender, whose frame has the
+/// length and the bytes of the ID behind its head.
+fn registering(alloc: Global, previous: &[u8], frame: &[u8]) -> Result<Arrival, NoMemory> {
+    let previous = Octets::from_slice(alloc, previous)?;
+    Ok(Arrival {
+        conn: 3,
+        message: XsmpMessage::RegisterClient { previous },
+        sequence: 1,
+        frame: Octets::from_slice(alloc, frame)?,
+    })
+}
+
 #[test]
 fn a_message_without_a_place_is_named(rt: HostRuntime) -> Result<(), Fail> {
-    let offence = Offence::of(&XsmpMessage::GetProperties, 7);
-    let error = bad_state(rt.alloc(), offence);
-    tells(&rt, &error, (0x8001, 14, 7), b"");
+    let alloc = rt.alloc();
+    let arrival = registering(alloc, b"", b"")?;
+    let error = bad_state(alloc, &arrival);
+    tells(&rt, &error, (0x8001, 1, 1), b"");
     assert!(rt; error.severity == Severity::CanContinue);
+    Ok(())
+}
+
+#[test]
+fn a_wrong_id_is_shown(rt: HostRuntime) -> Result<(), Fail> {
+    let alloc = rt.alloc();
+    let arrival = registering(alloc, b"abc", b"\x01\x01\0\0\x01\0\0\0\x03\0\0\0abc\0")?;
+    let error = bad_id(alloc, &arrival)?;
+    let values = b"\x08\0\0\0\x08\0\0\0\x03\0\0\0abc\0";
+    tells(&rt, &error, (0x8003, 1, 1), values);
+    let error = no_room(alloc, &arrival)?;
+    tells(&rt, &error, (0x8003, 1, 1), values);
+    assert!(rt; error.severity == Severity::FatalToProtocol);
     Ok(())
 }
 
 #[test]
 fn a_wrong_value_is_shown(rt: HostRuntime) -> Result<(), Fail> {
     let alloc = rt.alloc();
-    let message = XsmpMessage::RegisterClient {
-        previous: Octets::from_slice(alloc, b"abc")?,
-    };
-    let offence = Offence::of(&message, 1);
-    let error = bad_value(alloc, Severity::FatalToProtocol, offence, 8, b"abc")?;
-    let values = b"\x08\0\0\0\x03\0\0\0abc\0\0\0\0\0";
-    tells(&rt, &error, (0x8003, 1, 1), values);
-    assert!(rt; error.severity == Severity::FatalToProtocol);
+    let arrival = registering(alloc, b"abc", b"\x01\x01\0\0\x01\0\0\0\x03\0\0\0abc\0")?;
+    let error = full_table(alloc, &arrival)?;
+    tells(&rt, &error, (0x8003, 1, 1), b"\x08\0\0\0\x04\0\0\0\x03\0\0\0\0\0\0\0");
+    let error = lone_shutdown(alloc, &arrival)?;
+    tells(&rt, &error, (0x8003, 1, 1), b"\x0c\0\0\0\x01\0\0\0a\0\0\0\0\0\0\0");
     Ok(())
 }
 

@@ -1,3 +1,4 @@
+use Rattle.session_clients.specs.Clients.{phase_in}
 use Rattle.std.proofs.Common.{◌≡◌, ◌∙◌, ◌||◌, ap, cond, []}
 use Rattle.session_model.specs.Moves.{Agreed}
 use Rattle.session_model.specs.Phases.{is_shutdown}
@@ -11,7 +12,6 @@ use Rattle.manager_machine.proofs.inner.Core.agree.Goals as goal
 pub returns : goal.returns
 returns c =
     let s = the_view c.self.inside in
-    let marks : c.agreed-self-inside.result ≡ marks_after Agreed (wanted_in s.round) s.marks = rw (← c.wanted_in-wanted.ensures) c.agreed-self-inside.ensures in
-    let waits : c.drop_at_end.new.waits.items ≡ cond (is_shutdown (wanted_in s.round)) [] s.waits = rw (← c.wanted_in-wanted.ensures, ← c.is_shutdown.ensures) c.drop_at_end.ensures in
-    let ending : c.ends_with-self-inside.result ≡ (s.is_ending || is_shutdown (wanted_in s.round)) = rw (← c.wanted_in-wanted.ensures) c.ends_with-self-inside.ensures in
-    agreed-by s c.drop_at_end.new.waits.items c.ends_with-self-inside.result c.agreed-self-inside.result waits ending marks ∙ ap (λ (s : Session). moved Agreed s) c.self.view_is
+    let waits : c.end.new.self ≡ cond (is_shutdown (wanted_in s.round)) [] s.waits = rw (← c.wanted-wanted.ensures, ← c.is_shutdown.ensures) c.end.ensures in
+    let ending : c.ends_with-self-inside.result ≡ (s.is_ending || is_shutdown (wanted_in s.round)) = rw (← c.wanted-wanted.ensures) c.ends_with-self-inside.ensures in
+    agreed-by s c.end.new.self c.ends_with-self-inside.result c.agree.new.self waits ending (c.agree.ensures (λ d. phase_in d s.clients.rows)) ∙ ap (λ (s : Session). moved Agreed s) c.self.view_is

@@ -1,3 +1,4 @@
+use Rattle.session_clients.specs.Clients.{phase_in}
 use Rattle.std.proofs.Common.{◌≡◌, ◌∙◌, ap}
 use Rattle.session_model.specs.Moves.{Cancelled}
 use Rattle.session_model.specs.Reading.{wanted_in}
@@ -8,6 +9,4 @@ use Rattle.manager_machine.proofs.RoundMoves.{cancelled-by}
 use Rattle.manager_machine.proofs.inner.Core.call_off.Goals as goal
 
 pub returns : goal.returns
-returns c =
-    let marks : c.ended-self-inside.result ≡ marks_after Cancelled (wanted_in c.self.inside.round) c.self.inside.marks = rw (← c.wanted_in.ensures) c.ended-self-inside.ensures.cancelled in
-    cancelled-by (the_view c.self.inside) c.ended-self-inside.result marks ∙ ap (λ (s : Session). moved Cancelled s) c.self.view_is
+returns c = cancelled-by (the_view c.self.inside) c.end.new.self (c.end.ensures.cancelled (λ d. phase_in d c.self.inside.clients.rows)) ∙ ap (λ (s : Session). moved Cancelled s) c.self.view_is

@@ -6,5 +6,5 @@ use Rattle.manager_machine.proofs.inner.Core.order.Goals as goal
 
 pub returns : goal.returns
 returns c =
-    rw c.in_ok-add_ordered.ensures
+    rw c.in_ok-order.ensures
     (ap (λ (s : Session). record s { waits = waits_ordered c.args.order.now s.is_ending s.waits }) c.self.view_is ∙ sym (ordered c.args.order.now c.args.self.now))

@@ -10,7 +10,7 @@ pub loop-rule-preserved : goal.loop-rule-preserved
 loop-rule-preserved c =
     let s = c.loop-rule.self in
     let t = c.settle_once.new.self in
-    let limit = 4 * c.len.result + 4 in
+    let limit = 4 * c.count.result + 4 in
     let left = limit - (c.loop-rule._rule + 1) in
     let went : c.in_ok-settle_once.field-0 ≡ true = search rules in
     let fewer : suc left ≡ limit - c.loop-rule._rule = omega arith in

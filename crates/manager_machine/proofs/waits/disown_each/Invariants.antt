@@ -1,6 +1,0 @@
-use Rattle.std.proofs.Common.{◌≡◌, ◌++◌, map, take, drop}
-use Rattle.session_model.specs.Waits.{disowned}
-use Rattle.manager_machine.proofs.waits.disown_each.Given as goal
-
-abbrev pub invariant-loop-wait : goal.invariant-loop-wait
-invariant-loop-wait l = l.wait-items ≡ map (disowned l.conn) (take l.wait-index l.initial.wait-items) ++ drop l.wait-index l.initial.wait-items

@@ -1,6 +1,0 @@
-use Rattle.std.proofs.Common.{sym, arith}
-use Rattle.manager_machine.proofs.Asking.{placed-at}
-use Rattle.manager_machine.proofs.waits.replace.Goals as goal
-
-pub returns-then-is_sender : goal.returns-then-is_sender
-returns-then-is_sender c = placed-at c.args.conn c.args.request _ c.loop-wait.wait-items c.args.waits.now c.loop-wait.wait-index (omega arith) (sym c.if-is_sender.ensures) c.loop-wait.invariant.placed

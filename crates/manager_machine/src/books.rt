@@ -1,0 +1,129 @@
+ghost use Rattle.std.specs.Prelude.{◌≡◌, [], IfOk, OnOk};
+ghost use Rattle.discard_ledger.specs.Discards.{without_commands};
+ghost use Rattle.session_model.specs.Books.{issue as issue_moves, with_entries};
+ghost use Rattle.session_model.specs.Moves.{Committed as HasCommitted, Finished as HasFinished, Printed as HasPrinted, Tried as HasTried, tried_each};
+ghost use Rattle.session_state.specs.Session.{moved, moved_all, reading_in};
+ghost use Rattle.manager_machine.specs.Kept.{cause_for};
+ghost use Rattle.manager_machine.specs.Agreeing.{discarding};
+
+use checkpoint_records::{Book, EntryList, copy_book};
+use crate::inner::Core;
+use discard_ledger::Ledger;
+use session_model::{Act, Reason};
+use sm_world::{Command, CommandList, Duplicate, NoMemory, Octets};
+use std::mem;
+
+impl Core {
+    /// Starts a command for this reason, though no client departed.
+    pub(crate) fn start(&mut self, reason: Reason, command: Command) -> Result<(), NoMemory>
+        ensures { OnOk result (self.new ≡ moved (HasTried (cause_for reason) command) self.old) }
+    {
+        self.act(Act::Start(reason, command))?;
+        Ok(())
+    }
+
+    /// Starts copies of these commands for this reason, though no client departed.
+    pub(crate) fn start_each(
+        &mut self,
+        reason: Reason,
+        commands: &CommandList,
+    ) -> Result<(), NoMemory>
+        ensures { OnOk result (self.new ≡ moved_all (tried_each (cause_for reason) commands.now) self.old) }
+    {
+        for command in commands.as_slice() {
+            self.start(reason, command.copy()?)?;
+        }
+        Ok(())
+    }
+
+    /// The book of these entries, for which the pending commands of the ledger are made anew. A
+    /// refused call loses the strays.
+    fn next_book(&mut self, entries: EntryList) -> Result<Book, NoMemory>
+        ensures book { IfOk result (λ book. book ≡ with_entries (reading_in self.old).store entries) }
+        ensures rest { OnOk result (self.new ≡ record self.old { strays = [] }) }
+    {
+        let alloc = *self.acts.allocator();
+        let fresh = Ledger::new(alloc, self.book.pending.copy()?);
+        let mut ledger = mem::replace(&mut self.ledger, fresh);
+        let mut book = Book {
+            entries,
+            pending: CommandList::new(alloc),
+            epoch: self.book.epoch,
+        };
+        ledger.retire(&self.book, &book)?;
+        book.pending = ledger.pending().copy()?;
+        Ok(book)
+    }
+
+    /// A copy of the book without these pending commands.
+    fn book_without(&self, commands: &CommandList) -> Result<Book, NoMemory>
+        ensures { IfOk result (λ book. book ≡ record self.now.book { pending = without_commands commands.now self.now.book.pending }) }
+    {
+        Ok(Book {
+            entries: self.book.entries.copy()?,
+            pending: self.ledger.issuable(commands)?,
+            epoch: self.book.epoch,
+        })
+    }
+
+    /// Writes a book.
+    pub(crate) fn commit(&mut self, book: Book) -> Result<(), NoMemory>
+        ensures { OnOk result (self.new ≡ moved (HasCommitted book) self.old) }
+    {
+        let alloc = *self.acts.allocator();
+        let told = copy_book(&book)?;
+        self.ledger = Ledger::new(alloc, book.pending.copy()?);
+        self.book = book;
+        self.act(Act::Commit(told))?;
+        Ok(())
+    }
+
+    /// Writes the book with these entries, whose pending commands are those of now and those that
+    /// nobody needs from now on.
+    pub(crate) fn commit_entries(&mut self, entries: EntryList) -> Result<(), NoMemory>
+        ensures { OnOk result (self.new ≡ moved (HasCommitted (with_entries (reading_in self.old).store entries)) self.old) }
+    {
+        let book = self.next_book(entries)?;
+        self.commit(book)?;
+        Ok(())
+    }
+
+    /// Tries these commands, which are pending; and then, where there was one, writes the book
+    /// without them.
+    pub(crate) fn issue(&mut self, commands: &CommandList) -> Result<(), NoMemory>
+        ensures { OnOk result (self.new ≡ moved_all (issue_moves self.old.book commands.now) self.old) }
+    {
+        if commands.as_slice().is_empty() {
+            return Ok(());
+        }
+        let book = self.book_without(commands)?;
+        self.start_each(Reason::Discard, commands)?;
+        self.commit(book)?;
+        Ok(())
+    }
+
+    /// Tries the pending commands, but for those that stand.
+    pub(crate) fn discard(&mut self, standing: &CommandList) -> Result<(), NoMemory>
+        ensures { OnOk result (self.new ≡ moved_all (discarding standing.now self.old.book) self.old) }
+    {
+        let commands = self.ledger.issuable(standing)?;
+        self.issue(&commands)?;
+        Ok(())
+    }
+
+    /// Prints a line.
+    pub(crate) fn print(&mut self, text: Octets) -> Result<(), NoMemory>
+        ensures { OnOk result (self.new ≡ moved (HasPrinted text) self.old) }
+    {
+        self.act(Act::Print(text))?;
+        Ok(())
+    }
+
+    /// Ends the run.
+    pub(crate) fn finish(&mut self) -> Result<(), NoMemory>
+        ensures { OnOk result (self.new ≡ moved HasFinished self.old) }
+    {
+        self.act(Act::Finish)?;
+        Ok(())
+    }
+}
