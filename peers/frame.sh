@@ -64,13 +64,17 @@ paths_of() {
   printf '%s\n' --socket "$1/socket" --control "$1/control" --store "$1/store" --authority "$1/authority"
 }
 
-# start_smd FOLDER: gives back once smd has printed where it listens.
+# How many sessions were recorded.
+records=0
+
+# start_smd FOLDER: gives back once smd has printed where it listens. The session is recorded.
 start_smd() {
   at=$1
-  mkdir -p "$at"
+  mkdir -p "$at" "$room/records"
   mapfile -t paths < <(paths_of "$at")
   : > "$at/lines"
-  "$smd" serve "${paths[@]}" < /dev/null > "$at/lines" 2>> "$at/said" &
+  records=$((records + 1))
+  "$smd" serve "${paths[@]}" --record "$room/records/$records" < /dev/null > "$at/lines" 2>> "$at/said" &
   smd_id=$!
   within 30 grep -qxF "SESSION_MANAGER=local/$HOSTNAME:$at/socket" "$at/lines"
 }
