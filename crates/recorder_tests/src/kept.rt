@@ -33,7 +33,11 @@ impl KeptLines for Room {
         if self.bytes.append(&bytes[..left]).is_err() {
             return Err(Failed);
         }
-        if left < bytes.len() { Err(Failed) } else { Ok(()) }
+        if left < bytes.len() {
+            Err(Failed)
+        } else {
+            Ok(())
+        }
     }
 
     fn tell_lost(&mut self) {

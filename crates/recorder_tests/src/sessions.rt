@@ -36,7 +36,11 @@ fn world(alloc: Global, failing: u64) -> Result<MemWorld, NoMemory>
 }
 
 /// A record of that world with this limit, which opens with a line.
-fn recorder(alloc: Global, failing: u64, limit: usize) -> Result<Recorder<MemWorld, Room>, NoMemory> {
+fn recorder(
+    alloc: Global,
+    failing: u64,
+    limit: usize,
+) -> Result<Recorder<MemWorld, Room>, NoMemory> {
     let world = world(alloc, failing)?;
     let opening = Octets::from_slice(alloc, b"cookie 00\n")?;
     Ok(Recorder::new(alloc, world, Room::new(alloc, limit), opening))
@@ -53,10 +57,17 @@ fn command(alloc: Global) -> Result<Command, NoMemory> {
 }
 
 /// The call of this number in a run that makes each call once.
-fn make_call(alloc: Global, world: &mut Recorder<MemWorld, Room>, number: u64) -> Result<(), Failure> {
+fn make_call(
+    alloc: Global,
+    world: &mut Recorder<MemWorld, Room>,
+    number: u64,
+) -> Result<(), Failure> {
     match number {
         1 => world.print(b"SESSION_MANAGER=x\n"),
-        2 => world.start(&command(alloc)?).map(drop).map_err(Failure::from),
+        2 => world
+            .start(&command(alloc)?)
+            .map(drop)
+            .map_err(Failure::from),
         3 => world.next().map(drop),
         4 => world.next().map(drop),
         5 => world.send(1, &[9]),

@@ -51,6 +51,6 @@ line_of x = whole_line (effect_text x)
 -- Behind it the record gets the line of what comes.
 pub record-grows : (opening : List ℕ) (xs : List Effect) (x : Effect) → is_announced xs ≡ true → record_text opening (xs ++ x ∷ []) ≡ record_text opening xs ++ whole_line (effect_text x)
 record-grows opening xs x announced =
-  ap (λ (es : List Effect). opening ++ effects_text es) (behind-more xs (x ∷ []) announced)
-  ∙ ap (λ (t : List ℕ). opening ++ t) (flat_map-append line_of (behind_announcement xs) (x ∷ []) ∙ ap (λ (t : List ℕ). effects_text (behind_announcement xs) ++ t) (append-nil (line_of x)))
-  ∙ sym (append_assoc opening (effects_text (behind_announcement xs)) (line_of x))
+    ap (λ (es : List Effect). opening ++ effects_text es) (behind-more xs (x ∷ []) announced)
+    ∙ ap (λ (t : List ℕ). opening ++ t) (flat_map-append line_of (behind_announcement xs) (x ∷ []) ∙ ap (λ (t : List ℕ). effects_text (behind_announcement xs) ++ t) (append-nil (line_of x)))
+    ∙ sym (append_assoc opening (effects_text (behind_announcement xs)) (line_of x))

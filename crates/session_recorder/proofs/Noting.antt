@@ -44,21 +44,23 @@ goes-on opening x xs kept holds = (announced-then xs x holds.0, ap (λ (t : List
 
 -- A line was cut.
 pub is-cut : (opening : List ℕ) (x : Effect) (n : ℕ) (xs : List Effect) (kept : List ℕ) → Keeps opening Recording xs kept → Keeps opening Lost (xs ++ x ∷ []) (kept ++ take n (whole_line (effect_text x)))
-is-cut opening x n xs kept holds =
-  (drop n (whole_line (effect_text x)),
-   record-grows opening xs x holds.0
-   ∙ ap (λ (t : List ℕ). t ++ whole_line (effect_text x)) (sym holds.1)
-   ∙ ap (λ (t : List ℕ). kept ++ t) (sym (take-append-drop n (whole_line (effect_text x))))
-   ∙ sym (append_assoc kept (take n (whole_line (effect_text x))) (drop n (whole_line (effect_text x)))))
+is-cut opening x n xs kept holds = (
+  drop n (whole_line (effect_text x)),
+  record-grows opening xs x holds.0
+      ∙ ap (λ (t : List ℕ). t ++ whole_line (effect_text x)) (sym holds.1)
+      ∙ ap (λ (t : List ℕ). kept ++ t) (sym (take-append-drop n (whole_line (effect_text x))))
+      ∙ sym (append_assoc kept (take n (whole_line (effect_text x))) (drop n (whole_line (effect_text x)))),
+)
 
 -- There was no line to be kept.
 pub is-missed : (opening : List ℕ) (x : Effect) (xs : List Effect) (kept : List ℕ) → Keeps opening Recording xs kept → Keeps opening Lost (xs ++ x ∷ []) kept
 is-missed opening x xs kept holds = (whole_line (effect_text x), record-grows opening xs x holds.0 ∙ ap (λ (t : List ℕ). t ++ whole_line (effect_text x)) (sym holds.1))
 
 still-front : (announced : Bool) (opening : List ℕ) (x : Effect) (xs : List Effect) (kept left : List ℕ) → is_announced xs ≡ announced → record_text opening xs ≡ kept ++ left → Keeps opening Lost (xs ++ x ∷ []) kept
-still-front true opening x xs kept left done front =
-  (left ++ whole_line (effect_text x),
-   record-grows opening xs x done ∙ ap (λ (t : List ℕ). t ++ whole_line (effect_text x)) front ∙ append_assoc kept left (whole_line (effect_text x)))
+still-front true opening x xs kept left done front = (
+  left ++ whole_line (effect_text x),
+  record-grows opening xs x done ∙ ap (λ (t : List ℕ). t ++ whole_line (effect_text x)) front ∙ append_assoc kept left (whole_line (effect_text x)),
+)
 still-front false opening x xs kept left none front = (left, record-stays opening xs x none ∙ front)
 
 -- What was a front stays one.
@@ -83,14 +85,14 @@ pub told-more : (opening : List ℕ) (before after : Progress) (x : Effect) (mor
 told-more opening before after x more step None old new is holds effects kept told told_kept = none≢some told
 told-more opening before after x more step (Some xs) None new is holds effects kept told told_kept = none≢some (sym is ∙ told_kept)
 told-more opening before after x more step (Some xs) (Some held) new is holds effects kept told told_kept =
-  subst (λ (es : List Effect). Keeps opening after es kept) (some-injective (xs ++ x ∷ []) effects told)
+    subst (λ (es : List Effect). Keeps opening after es kept) (some-injective (xs ++ x ∷ []) effects told)
     (subst (λ (k : List ℕ). Keeps opening after (xs ++ x ∷ []) k) (some-injective (held ++ more) kept (sym is ∙ told_kept))
-      (step xs held (holds xs held refl refl)))
+    (step xs held (holds xs held refl refl)))
 
 pub told-same : (opening : List ℕ) (before after : Progress) (x : Effect) → ((xs : List Effect) (kept : List ℕ) → Keeps opening before xs kept → Keeps opening after (xs ++ x ∷ []) kept) → (told : Option (List Effect)) (old new : Option (List ℕ)) → new ≡ old → KeepsTold opening before told old → KeepsTold opening after (adds told (x ∷ [])) new
 told-same opening before after x step None old new is holds effects kept told told_kept = none≢some told
 told-same opening before after x step (Some xs) old new is holds effects kept told told_kept =
-  subst (λ (es : List Effect). Keeps opening after es kept) (some-injective (xs ++ x ∷ []) effects told) (step xs kept (holds xs kept refl (sym is ∙ told_kept)))
+    subst (λ (es : List Effect). Keeps opening after es kept) (some-injective (xs ++ x ∷ []) effects told) (step xs kept (holds xs kept refl (sym is ∙ told_kept)))
 
 silent-line : (opening : List ℕ) (x : Effect) → effect_text x ≡ None → (xs : List Effect) (kept : List ℕ) → Keeps opening Recording xs kept → Keeps opening Recording (xs ++ x ∷ []) kept
 silent-line opening x silent xs kept holds = subst (λ (k : List ℕ). Keeps opening Recording (xs ++ x ∷ []) k) (ap (λ (line : Option (List ℕ)). kept ++ whole_line line) silent ∙ append-nil kept) (goes-on opening x xs kept holds)
@@ -142,14 +144,14 @@ new-whole opening told (Some held) new fresh empty is effects kept told_is kept_
 -- A record begins with its opening,
 pub begun : (opening : List ℕ) (told : Option (List Effect)) (old new : Option (List ℕ)) → ((effects : List Effect) → told ≡ Some effects → effects ≡ []) → ((kept : List ℕ) → old ≡ Some kept → kept ≡ []) → new ≡ appended old opening → KeepsTold opening Waiting told new
 begun opening told old new fresh empty is effects kept told_is kept_is =
-  let both = new-whole opening told old new fresh empty is effects kept told_is kept_is in
-  subst (λ (es : List Effect). Keeps opening Waiting es kept) (sym both.0) (refl, both.1 ∙ sym (append-nil opening))
+    let both = new-whole opening told old new fresh empty is effects kept told_is kept_is in
+    subst (λ (es : List Effect). Keeps opening Waiting es kept) (sym both.0) (refl, both.1 ∙ sym (append-nil opening))
 
 -- or with a front of it.
 pub begun-cut : (opening : List ℕ) (told : Option (List Effect)) (old new : Option (List ℕ)) → ((effects : List Effect) → told ≡ Some effects → effects ≡ []) → ((kept : List ℕ) → old ≡ Some kept → kept ≡ []) → IsCut old new opening → KeepsTold opening Lost told new
 begun-cut opening told old new fresh empty cut effects kept told_is kept_is =
-  let both = new-whole (take cut.0 opening) told old new fresh empty cut.1 effects kept told_is kept_is in
-  subst (λ (es : List Effect). Keeps opening Lost es kept) (sym both.0)
+    let both = new-whole (take cut.0 opening) told old new fresh empty cut.1 effects kept told_is kept_is in
+    subst (λ (es : List Effect). Keeps opening Lost es kept) (sym both.0)
     (drop cut.0 opening, append-nil opening ∙ sym (take-append-drop cut.0 opening) ∙ ap (λ (k : List ℕ). k ++ drop cut.0 opening) (sym both.1))
 
 step-over : (opening : List ℕ) (before after p q : Progress) (x : Effect) (more : List ℕ) → p ≡ before → q ≡ after → Step opening before after x more → Step opening p q x more
