@@ -16,6 +16,7 @@ use Rattle.discard_ledger.specs.Discards.{discard_of}
 use Rattle.session_model.specs.declared.phase.Phase.{Phase}
 use Rattle.session_model.specs.declared.events.SessionEvent.TheVariants.{Said}
 use Rattle.session_model.specs.declared.waits.Wait.{Wait}
+use Rattle.session_model.specs.declared.marks.Marks.{Marks}
 use Rattle.session_model.specs.Moves.{Outside}
 use Rattle.session_model.specs.Phases.{may_interact}
 use Rattle.session_model.specs.Reading.{wanted_in}
@@ -74,20 +75,22 @@ stopped-spoken c m sequence frame first allowed before now e =
 
 -- The move
 
-pub said-by : (c : ℕ) (m : XsmpMessage) (sequence : ℕ) (frame : List ℕ) (s : Session) (clients : Held) (round : Option Agreement) (waits : List Wait) (turns : Turns) (strays : List Command) (newcomer : Option ℕ)
+pub said-by : (c : ℕ) (m : XsmpMessage) (sequence : ℕ) (frame : List ℕ) (s : Session) (clients : Held) (round : Option Agreement) (waits : List Wait) (turns : Turns) (strays : List Command) (newcomer : Option ℕ) (marks : Marks)
     → ((first : List ℕ → List Property) → clients ≡ held_after (Outside (Said c m sequence frame)) first (may_interact (wanted_in s.round)) s.clients)
     → round ≡ round_said c m (λ d. phase_in d s.clients.rows) s.round
     → waits ≡ waits_said c m (λ d. phase_in d s.clients.rows) s.waits
     → turns ≡ turns_said c m (λ d. phase_in d s.clients.rows) (λ dialog. may_interact (wanted_in s.round) dialog) s.turns
     → strays ≡ strays_with s.book (stopped_said c m (λ d. phase_in d s.clients.rows) (λ d. table_in d s.clients.rows)) s.strays
     → newcomer ≡ newcomer_said c m s.newcomer
-    → record s { clients = clients; round = round; waits = waits; turns = turns; strays = strays; newcomer = newcomer } ≡ moved (Outside (Said c m sequence frame)) s
-said-by c m sequence frame s clients round waits turns strays newcomer k r w t e n = λ i. record s {
+    → marks ≡ s.marks
+    → record s { clients = clients; round = round; waits = waits; turns = turns; strays = strays; newcomer = newcomer; marks = marks } ≡ moved (Outside (Said c m sequence frame)) s
+said-by c m sequence frame s clients round waits turns strays newcomer marks k r w t e n a = λ i. record s {
   clients = k (λ id. first_table s.book id) i;
   round = r i;
   waits = w i;
   turns = t i;
   strays = e i;
   newcomer = n i;
+  marks = a i;
   acts = sym (append-nil s.acts) i;
 }

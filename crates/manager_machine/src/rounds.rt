@@ -29,7 +29,7 @@ impl Core {
         requires { SettlesInOrder self.old }
         ensures { OnOk result (self.new ≡ settled_in self.old) }
     {
-        let limit = 4 * self.waits.count() + 4;
+        let limit = 4 * self.waits.as_slice().len() + 4;
         for _rule in 0..limit {
             if !self.settle_once()? {
                 return Ok(());

@@ -1,4 +1,4 @@
-ghost use Rattle.std.specs.Prelude.{◌≡◌, ◌++◌, ◌∷◌, [], ◌||◌, cond, drop, filter, length, map, not, ℕ, Option, OnOk};
+ghost use Rattle.std.specs.Prelude.{◌≡◌, ◌++◌, ◌∷◌, [], ◌||◌, cond, drop, filter, map, not, ℕ, Option, OnOk};
 ghost use Rattle.std.specs.List.{list_any};
 ghost use Rattle.session_model.specs.declared.phase.Phase.{Phase as APhase};
 ghost use Rattle.session_model.specs.Waits as of;
@@ -41,11 +41,11 @@ impl WaitingRounds {
         }
     }
 
-    /// How many wait.
-    pub fn count(&self) -> usize
-        ensures { result ≡ length self.now }
+    /// Those that wait.
+    pub fn as_slice(&self) -> &[Wait]
+        ensures { result.now ≡ self.now }
     {
-        self.waits.len()
+        self.waits.as_slice()
     }
 
     /// What the first is for.

@@ -21,7 +21,7 @@ returns c = λ sequence frame.
     let m = c.args.message.now in
     let phase : ℕ → Option Phase = λ d. phase_in d s.clients.rows in
     let clients : (first : List ℕ → List Property) → c.hear-3.new.self ≡ held_after (Outside (Said conn m sequence frame)) first (may_interact (wanted_in s.round)) s.clients
-    = λ first. rw (← c.wanted-wanted.ensures) (c.in_ok-hear-3.ensures first sequence frame) in
+    = λ first. rw (← c.wanted-wanted.ensures) (c.in_ok-hear-2.ensures first sequence frame) in
     let queue = c.hear_queue.new.queue in
     let turns : record { waiting = queue.waiting; holder = queue.holder } ≡ turns_said conn m phase (λ dialog. may_interact (wanted_in s.round) dialog) s.turns
     = rw (← c.wanted-wanted.ensures) (c.in_ok-hear_queue.ensures phase (sym c.phase-phase.ensures)) in
@@ -29,6 +29,6 @@ returns c = λ sequence frame.
     = c.stopped.ensures ∙ (λ i. stopped (c.in_ok-before.ensures i) (c.in_ok-now.ensures i)) ∙ stopped-spoken conn m sequence frame (λ id. []) (may_interact (wanted_in s.round)) s.clients c.hear-3.new.self (clients (λ id. [])) in
     let strays : c.add_stray.new.ledger.strays ≡ strays_with s.book (stopped_said conn m phase (λ d. table_in d s.clients.rows)) s.strays
     = c.in_ok-add_stray.ensures.strays ∙ ap (λ (x : Option Command). strays_with s.book x s.strays) command in
-    said-by conn m sequence frame s c.hear-3.new.self c.hear.new.self.round c.hear-2.new.self (record { waiting = queue.waiting; holder = queue.holder }) c.add_stray.new.ledger.strays c.newcomer_said-self-inside.result
-    clients (c.hear.ensures.round phase (sym c.phase-phase.ensures)) (c.in_ok-hear-2.ensures phase (sym c.phase-phase.ensures)) turns strays c.newcomer_said-self-inside.ensures
+    said-by conn m sequence frame s c.hear-3.new.self c.hear.new.self.round c.hear-2.new.self (record { waiting = queue.waiting; holder = queue.holder }) c.add_stray.new.ledger.strays c.newcomer_said-self-inside.result c.hear.new.self.marks
+    clients (c.hear.ensures.round phase (sym c.phase-phase.ensures)) (c.in_ok-hear.ensures phase (sym c.phase-phase.ensures)) turns strays c.newcomer_said-self-inside.ensures c.hear.ensures.marks
     ∙ ap (λ (t : Session). moved (Outside (Said conn m sequence frame)) t) c.self.view_is

@@ -1,4 +1,4 @@
-use Rattle.std.proofs.Common.{rules, arith, ◌≡◌, ℕ, ◌+◌, ◌*◌, ◌-◌, suc, true, ap, ◌∙◌}
+use Rattle.std.proofs.Common.{length, rules, arith, ◌≡◌, ℕ, ◌+◌, ◌*◌, ◌-◌, suc, true, ap, ◌∙◌}
 use Rattle.session_state.specs.Session.{settle_in}
 use Rattle.manager_machine.proofs.Turning.{in-order-went, settle-went}
 use Rattle.manager_machine.proofs.inner.Core.settle.Goals as goal
@@ -10,7 +10,7 @@ pub loop-rule-preserved : goal.loop-rule-preserved
 loop-rule-preserved c =
     let s = c.loop-rule.self in
     let t = c.settle_once.new.self in
-    let limit = 4 * c.count.result + 4 in
+    let limit = 4 * length c.as_slice.result.now + 4 in
     let left = limit - (c.loop-rule._rule + 1) in
     let went : c.in_ok-settle_once.field-0 ≡ true = search rules in
     let fewer : suc left ≡ limit - c.loop-rule._rule = omega arith in
