@@ -1,0 +1,11 @@
+//! What programs mean that don't keep to the letter of the session protocol: their properties as they
+//! are meant, and the ends of those that leave too early. It calls no device.
+#![tactic(auto)]
+
+mod meanings;
+mod reading;
+mod speech;
+
+pub use meanings::{amended, is_amended};
+pub use reading::Reading;
+pub use speech::Speech;
