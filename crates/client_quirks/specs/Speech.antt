@@ -95,8 +95,11 @@ is_changed f (Opens opcode) = false
 is_changed f Unread = false
 
 -- A frame that sets properties which are amended is spelled anew under its opcode; each other one is handed on as it is.
+abbrev pub set_anew : WholeFrame → List Property → List ℕ
+set_anew f properties = if is_respelled f.endian properties then canon f.endian (slice_index f.bytes 0) (as_meant properties) else f.bytes
+
 abbrev pub spelled_anew : WholeFrame → Reading → List ℕ
-spelled_anew f (Sets properties) = if is_respelled f.endian properties then canon f.endian (slice_index f.bytes 0) (as_meant properties) else f.bytes
+spelled_anew f (Sets properties) = set_anew f properties
 spelled_anew f Nothing = f.bytes
 spelled_anew f Greets = f.bytes
 spelled_anew f (Opens opcode) = f.bytes

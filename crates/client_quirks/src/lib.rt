@@ -3,9 +3,11 @@
 #![tactic(auto)]
 
 mod meanings;
+mod pieces;
 mod reading;
 mod speech;
 
 pub use meanings::{amended, is_amended};
+pub use pieces::{PieceList, StreamPiece};
 pub use reading::Reading;
 pub use speech::Speech;

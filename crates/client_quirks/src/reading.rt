@@ -23,7 +23,8 @@ pub enum Reading {
     Unread,
 }
 
-fn byte_at(bytes: &[u8], place: usize) -> u8
+/// The byte at a place, and 0 where there is none.
+pub fn byte_at(bytes: &[u8], place: usize) -> u8
     ensures { result ≡ slice_index bytes.now place }
 {
     if place < bytes.len() { bytes[place] } else { 0 }
