@@ -1,2 +1,4 @@
+pub mod Followed
+pub mod Grown
 pub mod Joining
 pub mod Walking

@@ -2,11 +2,14 @@
 //! are meant, and the ends of those that leave too early. It calls no device.
 #![tactic(auto)]
 
+mod amender;
+mod cutter;
 mod meanings;
 mod pieces;
 mod reading;
 mod speech;
 
+pub use amender::Amender;
 pub use meanings::{amended, is_amended};
 pub use pieces::{PieceList, StreamPiece};
 pub use reading::Reading;
