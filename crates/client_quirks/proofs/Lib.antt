@@ -1,4 +1,5 @@
 pub mod Followed
 pub mod Grown
 pub mod Joining
+pub mod Marking
 pub mod Walking

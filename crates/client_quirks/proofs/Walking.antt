@@ -17,7 +17,7 @@ or-nil true = refl
 or-nil false = refl
 
 -- a function of what is left, one frame on
-on : {Y : Type 0} (F : List WholeFrame → Y) (frames : List WholeFrame) (i : ℕ) (f : WholeFrame) → i < length frames → f ≡ get_or frames i f → F (f ∷ drop (i + 1) frames) ≡ F (drop i frames)
+pub on : {Y : Type 0} (F : List WholeFrame → Y) (frames : List WholeFrame) (i : ℕ) (f : WholeFrame) → i < length frames → f ≡ get_or frames i f → F (f ∷ drop (i + 1) frames) ≡ F (drop i frames)
 on F frames i f there is = ap (λ (g : WholeFrame). F (g ∷ drop (i + 1) frames)) is ∙ sym (at_drop_more F frames i f there)
 
 pub walked_one : (first : Speech) (frames : List WholeFrame) (old : List ℕ) (speech : Speech) (changed : Bool) (out : List ℕ) (i : ℕ) (f : WholeFrame) (grown : List ℕ) (next : Speech) (also : Bool) → Walking first frames old speech changed out i → i < length frames → f ≡ get_or frames i f → next ≡ after speech (reading speech f) → also ≡ is_changed f (reading speech f) → grown ≡ out ++ spelled_anew f (reading speech f)

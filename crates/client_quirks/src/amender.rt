@@ -4,7 +4,7 @@ ghost use Rattle.ice_framing.specs.declared.cutting.WholeFrame.{WholeFrame as An
 ghost use Rattle.client_quirks.specs.Amending.{Follows, Rewrites, left_open, is_within};
 
 use crate::cutter::{Cutter, Cutting};
-use crate::pieces::{PieceList, StreamPiece, add_bytes, joined};
+use crate::pieces::{PieceList, StreamPiece, add_bytes, alone, joined};
 use crate::speech::{Speech, add_frames, bytes_of};
 use ice_framing::WholeFrame;
 use sm_world::{NoMemory, Octets};
@@ -22,15 +22,6 @@ pub struct Amender {
     cutter: Option<Cutter>,
     speech: Speech,
     held: PieceList,
-}
-
-/// A list of one piece.
-fn alone(alloc: Global, piece: StreamPiece) -> Result<PieceList, NoMemory>
-    ensures { IfOk result (λ list. list ≡ piece ∷ []) }
-{
-    let mut list = PieceList::new(alloc);
-    list.push(piece)?;
-    Ok(list)
 }
 
 /// A stream that is lost is cut no more.

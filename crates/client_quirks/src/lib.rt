@@ -4,13 +4,18 @@
 
 mod amender;
 mod cutter;
+mod keeper;
 mod meanings;
 mod pieces;
 mod reading;
+mod side;
 mod speech;
+mod stage;
 
 pub use amender::Amender;
+pub use keeper::{Keeper, KeptEnd};
 pub use meanings::{amended, is_amended};
 pub use pieces::{PieceList, StreamPiece};
 pub use reading::Reading;
 pub use speech::Speech;
+pub use stage::Stage;

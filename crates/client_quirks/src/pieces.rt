@@ -1,4 +1,4 @@
-ghost use Rattle.std.specs.Prelude.{◌≡◌, ◌≤◌, ◌++◌, length, OnOk, IfOk};
+ghost use Rattle.std.specs.Prelude.{◌≡◌, ◌≤◌, ◌++◌, ◌∷◌, [], length, OnOk, IfOk};
 ghost use Rattle.std.specs.List.{concat};
 
 use sm_world::{ListOf, NoMemory, Octets, PIECE_LIMIT};
@@ -48,6 +48,15 @@ impl StreamPiece {
         let StreamPiece { bytes } = self;
         bytes
     }
+}
+
+/// A list of one piece.
+pub fn alone(alloc: Global, piece: StreamPiece) -> Result<PieceList, NoMemory>
+    ensures { IfOk result (λ list. list ≡ piece ∷ []) }
+{
+    let mut list = PieceList::new(alloc);
+    list.push(piece)?;
+    Ok(list)
 }
 
 /// Adds bytes to a list, in as few pieces as they fit into.
