@@ -51,3 +51,8 @@ Leaves false handed left list held = (concat list ≡ handed ++ left) × (held �
 abbrev pub Rewrites : ℕ → List ℕ → List ℕ → ℕ → List ℕ → Bool → List (List ℕ) → List (List ℕ) → Type 0
 Rewrites before back piece count anew within list held =
     Leaves within (take (length back - before) (back ++ piece) ++ anew) (drop count (drop (length back - before) (back ++ piece))) list held
+
+-- All that came was handed on, as it is meant; and where no frame is changed, as it came.
+pub record HandedAll (came handed : List (List ℕ)) : Type 0 where
+  pub bytes : concat handed ≡ amended_stream (concat came)
+  pub as_came : are_changed Silent (frames_of (concat came)) ≡ false → handed ≡ came

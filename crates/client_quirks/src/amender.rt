@@ -1,7 +1,7 @@
 ghost use Rattle.std.specs.Prelude.{◌≡◌, ◌≤◌, ◌+◌, ◌-◌, ◌++◌, ◌∷◌, [], ◌==◌, false, true, List, ℕ, length, take, drop, flat_map, IfOk, OnOk, if◌then◌else◌, None, Some};
 ghost use Rattle.std.specs.List.{concat};
 ghost use Rattle.ice_framing.specs.declared.cutting.WholeFrame.{WholeFrame as AnyFrame};
-ghost use Rattle.client_quirks.specs.Amending.{Follows, Rewrites, left_open, is_within};
+ghost use Rattle.client_quirks.specs.Amending.{Follows, HandedAll, Rewrites, left_open, is_within};
 
 use crate::cutter::{Cutter, Cutting};
 use crate::pieces::{PieceList, StreamPiece, add_bytes, alone, joined};
@@ -87,8 +87,9 @@ impl Amender {
         })
     }
 
-    /// Gives what is held back.
+    /// Gives what is held back, as the stream has ended.
     pub fn release(&mut self) -> PieceList
+        ensures whole { (came handed : List (List ℕ)) → Follows came handed self.old → HandedAll came (handed ++ result) }
         ensures all { result ≡ self.old.held }
         ensures none { self.new.held ≡ [] }
         ensures cutter { self.new.cutter ≡ self.old.cutter }
