@@ -4,6 +4,8 @@
 
 mod follower;
 mod news;
+mod option;
 mod world;
 
+pub use option::take_quirks;
 pub use world::QuirkWorld;

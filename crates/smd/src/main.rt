@@ -3,6 +3,7 @@
 
 use desktop_world::{BadPlaces, DesktopWorld, Places, host_name, random_cookie};
 use program_frame::{OwnTexts, StandardConsole, read_words};
+use quirk_world::{QuirkWorld, take_quirks};
 use sm_world::{Console, NoMemory, Octets};
 use smd_app::{Identity, Paths, read_paths, smd_main};
 use std::io;
@@ -18,6 +19,7 @@ const TEXTS: OwnTexts = OwnTexts {
         \x20                               runs the session of a desktop\n\
         \x20          --private            nobody can connect but the owner's programs\n\
         \x20          --last-wait MS       closes whoever was told to die so long ago\n\
+        \x20          --quirks             takes programs on Xt, Qt and twm for what they mean\n\
         \x20      smd rehearse [MS] < SCRIPT\n\
         \x20                               shows what smd does at the events of a script\n\
         \x20      smd exercise A N        saves eight clients N times in memory, and sums it up\n\
@@ -57,11 +59,32 @@ fn no_memory(_error: NoMemory) -> io::Error {
     io::Error::from(ErrorKind::OutOfMemory)
 }
 
+/// The status of a run on this desktop, whose programs are taken for what they say.
+fn serve_desktop(
+    rt: HostRuntime,
+    words: &[String],
+    mut world: DesktopWorld,
+    identity: Identity,
+) -> u8 {
+    let status = smd_main(rt.alloc(), words, &mut world, identity, u64::MAX);
+    world.close();
+    status
+}
+
+/// The same, where they are taken for what they mean.
+fn serve_quirks(rt: HostRuntime, words: &[String], world: DesktopWorld, identity: Identity) -> u8 {
+    let mut world = QuirkWorld::new(rt.alloc(), world);
+    let status = smd_main(rt.alloc(), words, &mut world, identity, u64::MAX);
+    world.into_inner().close();
+    status
+}
+
 /// The status of a run with these words on this desktop.
 fn run(rt: HostRuntime, mut words: Vec<String>) -> io::Result<u8> {
     if let Some(check) = read_check(words.as_slice()) {
         return Ok(check_store(rt, check));
     }
+    let has_quirks = take_quirks(&mut words);
     let options = LinkOptions::take(&mut words).map_err(no_memory)?;
     let words = words.as_slice();
     if let Some(paths) = read_paths(rt.alloc(), words).map_err(no_memory)? {
@@ -74,10 +97,12 @@ fn run(rt: HostRuntime, mut words: Vec<String>) -> io::Result<u8> {
         cookie: random_cookie(&rt)?,
         host: Octets::from_vec(Vec::from_slice(rt.alloc(), host.as_bytes())?),
     };
-    let mut world = DesktopWorld::with_options(rt, host, options);
-    let status = smd_main(rt.alloc(), words, &mut world, identity, u64::MAX);
-    world.close();
-    Ok(status)
+    let world = DesktopWorld::with_options(rt, host, options);
+    if has_quirks {
+        Ok(serve_quirks(rt, words, world, identity))
+    } else {
+        Ok(serve_desktop(rt, words, world, identity))
+    }
 }
 
 fn main(rt: HostRuntime) -> ExitCode {
