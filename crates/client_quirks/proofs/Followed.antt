@@ -52,8 +52,8 @@ open_by stream piece frames at next cutter held true within more is ends some no
   front = (some refl).0;
   parts = (some refl).1 ∙ ap (λ (bytes : List ℕ). (some refl).0 ++ bytes) (sym (held_then stream piece frames at more));
   prompt = λ nothing.
-    let empty : cutter.splitter.held ≡ [] = ap (λ (s : Standing). s.held) ends ∙ sym (held_then stream piece frames at more) ∙ nothing in
-    absurd (false≢true (sym (ap (λ (bytes : List ℕ). not (length bytes == 0)) empty) ∙ within));
+      let empty : cutter.splitter.held ≡ [] = ap (λ (s : Standing). s.held) ends ∙ sym (held_then stream piece frames at more) ∙ nothing in
+      absurd (false≢true (sym (ap (λ (bytes : List ℕ). not (length bytes == 0)) empty) ∙ within));
 }
 open_by stream piece frames at next cutter held false within more is ends some none =
     let empty : at.held ≡ [] = ap (λ (s : Standing). s.held) (sym ends) ∙ empty_by cutter.splitter.held within in
@@ -98,12 +98,12 @@ passed_by : (came handed held : List (List ℕ)) (piece : List ℕ) (speech : Sp
 passed_by came handed held piece speech follows (inl much) =
     let none : (cut (fed (standing_of (concat came)) piece)).frames ≡ [] = ap (λ c. c.frames) (cut-oversize (fed (standing_of (concat came)) piece) (oversize-fed (standing_of (concat came)) piece much)) in
     passed_over came handed held piece speech follows (ap (are_changed (speech_behind Silent (frames_of (concat came)))) none)
-      (record { cause = inl (subst (λ (s : Standing). IsOversize s) (sym (standing_of-oversize (concat came) piece much)) (oversize-fed (standing_of (concat came)) piece much)); none = refl })
+    (record { cause = inl (subst (λ (s : Standing). IsOversize s) (sym (standing_of-oversize (concat came) piece much)) (oversize-fed (standing_of (concat came)) piece much)); none = refl })
 passed_by came handed held piece speech follows (inr lost) =
     let more = grown (concat came) piece (standing_of (concat came)) refl in
     let fs = (cut (fed (standing_of (concat came)) piece)).frames in
     passed_over came handed held piece speech follows (ap (λ (s : Speech). are_changed s fs) lost ∙ lost_unchanged fs)
-      (record { cause = inr (speech_grown (concat came) piece fs (cut (fed (standing_of (concat came)) piece)).standing more ∙ ap (λ (s : Speech). speech_behind s fs) lost ∙ stays_lost fs); none = refl })
+    (record { cause = inr (speech_grown (concat came) piece fs (cut (fed (standing_of (concat came)) piece)).standing more ∙ ap (λ (s : Speech). speech_behind s fs) lost ∙ stays_lost fs); none = refl })
 
 pub passed : (came handed held : List (List ℕ)) (piece : List ℕ) (speech : Speech) → FollowsBy came handed held speech None → FollowsBy (came ++ piece ∷ []) (handed ++ piece ∷ []) held speech None
 passed came handed held piece speech follows = passed_by came handed held piece speech follows follows.stands.cause
@@ -134,13 +134,13 @@ kept_by came handed held list after speech next cutter rest piece frames true wi
     let now = owes_more (came ++ piece ∷ []) handed (held ++ piece ∷ []) (owes_unchanged came handed held piece frames at owes more unchanged) in
     let front = cuts.follows.stands.front ++ flat_map (λ (frame : WholeFrame). frame.bytes) frames in
     let parts : concat (held ++ piece ∷ []) ≡ front ++ at.held =
-        concat-push held piece ∙ ap (λ (bytes : List ℕ). bytes ++ piece) cuts.follows.stands.parts
-        ∙ append_assoc cuts.follows.stands.front (standing_of (concat came)).held piece
-        ∙ ap (λ (bytes : List ℕ). cuts.follows.stands.front ++ bytes) (sym more.joined_is)
-        ∙ sym (append_assoc cuts.follows.stands.front (flat_map (λ (frame : WholeFrame). frame.bytes) frames) at.held) in
+    concat-push held piece ∙ ap (λ (bytes : List ℕ). bytes ++ piece) cuts.follows.stands.parts
+    ∙ append_assoc cuts.follows.stands.front (standing_of (concat came)).held piece
+    ∙ ap (λ (bytes : List ℕ). cuts.follows.stands.front ++ bytes) (sym more.joined_is)
+    ∙ sym (append_assoc cuts.follows.stands.front (flat_map (λ (frame : WholeFrame). frame.bytes) frames) at.held) in
     let stands = stands_on (concat came) piece frames at next rest (held ++ piece ∷ []) more (next_of came handed held speech next cutter rest piece frames cuts) cuts.goes (λ yes_. (front, parts)) (λ no_. absurd (false≢true (sym no_ ∙ within))) in
     subst (λ (l : List (List ℕ)). FollowsBy (came ++ piece ∷ []) (handed ++ l) after next (left_open next rest)) (sym gives)
-      (subst (λ (h : List (List ℕ)). FollowsBy (came ++ piece ∷ []) (handed ++ []) h next (left_open next rest)) (sym holds) (followed came (handed ++ []) (held ++ piece ∷ []) piece next (left_open next rest) now stands))
+    (subst (λ (h : List (List ℕ)). FollowsBy (came ++ piece ∷ []) (handed ++ []) h next (left_open next rest)) (sym holds) (followed came (handed ++ []) (held ++ piece ∷ []) piece next (left_open next rest) now stands))
 kept_by came handed held list after speech next cutter rest piece frames false within cuts none gives holds =
     let at = (cut (fed cutter.splitter piece)).standing in
     let more = more_of came handed held speech next cutter rest piece frames cuts in
@@ -149,7 +149,7 @@ kept_by came handed held list after speech next cutter rest piece frames false w
     let now = owes_released (came ++ piece ∷ []) handed (held ++ piece ∷ []) (owes_unchanged came handed held piece frames at owes more unchanged) in
     let stands = stands_on (concat came) piece frames at next rest [] more (next_of came handed held speech next cutter rest piece frames cuts) cuts.goes (λ yes_. absurd (false≢true (sym within ∙ yes_))) (λ no_. refl) in
     subst (λ (l : List (List ℕ)). FollowsBy (came ++ piece ∷ []) (handed ++ l) after next (left_open next rest)) (sym gives)
-      (subst (λ (h : List (List ℕ)). FollowsBy (came ++ piece ∷ []) (handed ++ (held ++ piece ∷ [])) h next (left_open next rest)) (sym holds) (followed came (handed ++ (held ++ piece ∷ [])) [] piece next (left_open next rest) now stands))
+    (subst (λ (h : List (List ℕ)). FollowsBy (came ++ piece ∷ []) (handed ++ (held ++ piece ∷ [])) h next (left_open next rest)) (sym holds) (followed came (handed ++ (held ++ piece ∷ [])) [] piece next (left_open next rest) now stands))
 
 pub kept : (came handed held list after : List (List ℕ)) (speech next : Speech) (cutter : Cutter) (rest : Option Cutter) (piece : List ℕ) (frames : List WholeFrame) → Cuts came handed held speech next cutter rest piece frames → are_changed speech frames ≡ false
     → list ≡ (if is_within (left_open next rest) then [] else held ++ piece ∷ []) → after ≡ (if is_within (left_open next rest) then held ++ piece ∷ [] else []) → FollowsBy (came ++ piece ∷ []) (handed ++ list) after next (left_open next rest)
@@ -200,15 +200,15 @@ rewritten_by came handed held list after speech next cutter rest piece frames an
         → (b : Bool) → is_within (left_open next rest) ≡ b → Leaves b (handed_part ++ anew) left_part list after → FollowsBy (came ++ piece ∷ []) (handed ++ list) after next (left_open next rest)
     go front head tail parts owes more changed anew_is to true within leaves =
         let new : concat list ++ concat after ≡ (front ++ anew) ++ at_.held =
-            ap (λ (bytes : List ℕ). bytes ++ concat after) leaves.0 ∙ ap (λ (bytes : List ℕ). (bytes ++ anew) ++ concat after) head
-            ∙ ap (λ (bytes : List ℕ). (front ++ anew) ++ bytes) (leaves.1 ∙ tail) in
+        ap (λ (bytes : List ℕ). bytes ++ concat after) leaves.0 ∙ ap (λ (bytes : List ℕ). (bytes ++ anew) ++ concat after) head
+        ∙ ap (λ (bytes : List ℕ). (front ++ anew) ++ bytes) (leaves.1 ∙ tail) in
         let now = owes_changed came handed held list after piece front anew frames at_ owes more changed parts anew_is new in
         let stands = stands_on (concat came) piece frames at_ next rest after more to cuts.goes (λ yes_. ([], leaves.1 ∙ tail)) (λ no_. absurd (false≢true (sym no_ ∙ within))) in
         followed came (handed ++ list) after piece next (left_open next rest) now stands
     go front head tail parts owes more changed anew_is to false within leaves =
         let new : concat list ++ concat after ≡ (front ++ anew) ++ at_.held =
-            ap (λ (pieces : List (List ℕ)). concat list ++ concat pieces) leaves.1 ∙ append-nil (concat list) ∙ leaves.0
-            ∙ ap (λ (bytes : List ℕ). (bytes ++ anew) ++ left_part) head ∙ ap (λ (bytes : List ℕ). (front ++ anew) ++ bytes) tail in
+        ap (λ (pieces : List (List ℕ)). concat list ++ concat pieces) leaves.1 ∙ append-nil (concat list) ∙ leaves.0
+        ∙ ap (λ (bytes : List ℕ). (bytes ++ anew) ++ left_part) head ∙ ap (λ (bytes : List ℕ). (front ++ anew) ++ bytes) tail in
         let now = owes_changed came handed held list after piece front anew frames at_ owes more changed parts anew_is new in
         let stands = stands_on (concat came) piece frames at_ next rest after more to cuts.goes (λ yes_. absurd (false≢true (sym within ∙ yes_))) (λ no_. leaves.1) in
         followed came (handed ++ list) after piece next (left_open next rest) now stands
@@ -224,23 +224,23 @@ pub record Left (next : Speech) (rest open_ : Option Cutter) (speech : Speech) (
 settled : (came handed after : List (List ℕ)) (next speech : Speech) (rest open_ cutter : Option Cutter) → Left next rest open_ speech cutter → FollowsBy came handed after next (left_open next rest) → FollowsBy came handed after speech cutter
 settled came handed after next speech rest open_ cutter left follows =
     subst (λ (s : Speech). FollowsBy came handed after s cutter) (sym left.speech_is)
-      (subst (λ (c : Option Cutter). FollowsBy came handed after next c) (sym (left.cutter_is ∙ left.opens)) follows)
+    (subst (λ (c : Option Cutter). FollowsBy came handed after next c) (sym (left.cutter_is ∙ left.opens)) follows)
 
 pub take_kept : (came handed held list after : List (List ℕ)) (speech next new : Speech) (cutter : Cutter) (rest open_ now : Option Cutter) (piece : List ℕ) (frames : List WholeFrame) → Left next rest open_ new now → Cuts came handed held speech next cutter rest piece frames → are_changed speech frames ≡ false
     → list ≡ (if is_within open_ then [] else held ++ piece ∷ []) → after ≡ (if is_within open_ then held ++ piece ∷ [] else []) → FollowsBy (came ++ piece ∷ []) (handed ++ list) after new now
 take_kept came handed held list after speech next new cutter rest open_ now piece frames left cuts none gives holds =
     settled (came ++ piece ∷ []) (handed ++ list) after next new rest open_ now left
-      (kept came handed held list after speech next cutter rest piece frames cuts none
-        (gives ∙ ap (λ (o : Option Cutter). if is_within o then [] else held ++ piece ∷ []) left.opens)
-        (holds ∙ ap (λ (o : Option Cutter). if is_within o then held ++ piece ∷ [] else []) left.opens))
+    (kept came handed held list after speech next cutter rest piece frames cuts none
+    (gives ∙ ap (λ (o : Option Cutter). if is_within o then [] else held ++ piece ∷ []) left.opens)
+    (holds ∙ ap (λ (o : Option Cutter). if is_within o then held ++ piece ∷ [] else []) left.opens))
 
 pub take_rewritten : (came handed held list after : List (List ℕ)) (speech next new : Speech) (cutter : Cutter) (rest open_ now : Option Cutter) (piece : List ℕ) (frames : List WholeFrame) (anew : List ℕ) (before : ℕ) → Left next rest open_ new now → Cuts came handed held speech next cutter rest piece frames → are_changed speech frames ≡ true
     → anew ≡ handed_on speech frames → before ≡ length cutter.splitter.held → Rewrites before (concat held) piece (length (flat_map (λ (frame : WholeFrame). frame.bytes) frames)) anew (is_within open_) list after
     → FollowsBy (came ++ piece ∷ []) (handed ++ list) after new now
 take_rewritten came handed held list after speech next new cutter rest open_ now piece frames anew before left cuts some is count rewrites =
     settled (came ++ piece ∷ []) (handed ++ list) after next new rest open_ now left
-      (rewritten_by came handed held list after speech next cutter rest piece frames anew before (is_within (left_open next rest)) refl cuts some is count
-        (subst (λ (o : Option Cutter). Rewrites before (concat held) piece (length (flat_map (λ (frame : WholeFrame). frame.bytes) frames)) anew (is_within o) list after) left.opens rewrites))
+    (rewritten_by came handed held list after speech next cutter rest piece frames anew before (is_within (left_open next rest)) refl cuts some is count
+    (subst (λ (o : Option Cutter). Rewrites before (concat held) piece (length (flat_map (λ (frame : WholeFrame). frame.bytes) frames)) anew (is_within o) list after) left.opens rewrites))
 
 -- what holds of an answer
 pub with_answer : {A E : Type 0} (result : Result A E) (P Q : A → Type 0) → IfOk result P → ((x : A) → P x → Q x) → IfOk result Q

@@ -139,8 +139,8 @@ owes_unchanged came handed held piece frames at owes more none =
           ap (λ (bytes : List ℕ). concat handed ++ bytes) (concat-push held piece) ∙ sym (append_assoc (concat handed) (concat held) piece)
           ∙ ap (λ (bytes : List ℕ). bytes ++ piece) owes.bytes ∙ sym (unchanged_grown (concat came) piece frames at more none) ∙ ap amended_stream (sym stream);
       as_came = λ unchanged.
-        let before = neither (are_changed Silent (frames_of (concat came))) (are_changed (speech_behind Silent (frames_of (concat came))) frames) (sym (changed_grown (concat came) piece frames at more) ∙ ap (λ (s : List ℕ). are_changed Silent (frames_of s)) (sym stream) ∙ unchanged) in
-        sym (append_assoc handed held (piece ∷ [])) ∙ ap (λ (all : List (List ℕ)). all ++ piece ∷ []) (owes.as_came before.0);
+          let before = neither (are_changed Silent (frames_of (concat came))) (are_changed (speech_behind Silent (frames_of (concat came))) frames) (sym (changed_grown (concat came) piece frames at more) ∙ ap (λ (s : List ℕ). are_changed Silent (frames_of s)) (sym stream) ∙ unchanged) in
+          sym (append_assoc handed held (piece ∷ [])) ∙ ap (λ (all : List (List ℕ)). all ++ piece ∷ []) (owes.as_came before.0);
     }
 
 -- the new frames are handed on as they are meant
@@ -150,8 +150,8 @@ pub owes_changed : (came handed held list after : List (List ℕ)) (piece front 
 owes_changed came handed held list after piece front anew frames at owes more some parts is new =
     let stream = concat-push came piece in
     let first : concat handed ++ front ≡ handed_on Silent (frames_of (concat came)) =
-        append_cancel_right (concat handed ++ front) (handed_on Silent (frames_of (concat came))) (standing_of (concat came)).held
-          (append_assoc (concat handed) front (standing_of (concat came)).held ∙ ap (λ (bytes : List ℕ). concat handed ++ bytes) (sym parts) ∙ owes.bytes) in
+    append_cancel_right (concat handed ++ front) (handed_on Silent (frames_of (concat came))) (standing_of (concat came)).held
+    (append_assoc (concat handed) front (standing_of (concat came)).held ∙ ap (λ (bytes : List ℕ). concat handed ++ bytes) (sym parts) ∙ owes.bytes) in
     record {
       bytes =
           ap (λ (bytes : List ℕ). bytes ++ concat after) (concat-append handed list) ∙ append_assoc (concat handed) (concat list) (concat after)
@@ -161,6 +161,6 @@ owes_changed came handed held list after piece front anew frames at owes more so
           ∙ ap (λ (bytes : List ℕ). handed_on Silent (frames_of (concat came)) ++ (bytes ++ at.held)) is
           ∙ sym (amended_grown (concat came) piece frames at more) ∙ ap amended_stream (sym stream);
       as_came = λ unchanged.
-        let before = neither (are_changed Silent (frames_of (concat came))) (are_changed (speech_behind Silent (frames_of (concat came))) frames) (sym (changed_grown (concat came) piece frames at more) ∙ ap (λ (s : List ℕ). are_changed Silent (frames_of s)) (sym stream) ∙ unchanged) in
-        absurd (false≢true (sym before.1 ∙ some));
+          let before = neither (are_changed Silent (frames_of (concat came))) (are_changed (speech_behind Silent (frames_of (concat came))) frames) (sym (changed_grown (concat came) piece frames at more) ∙ ap (λ (s : List ℕ). are_changed Silent (frames_of s)) (sym stream) ∙ unchanged) in
+          absurd (false≢true (sym before.1 ∙ some));
     }

@@ -4,12 +4,9 @@ use Rattle.std.specs.Prelude.{if◌then◌else◌}
 use Rattle.std.proofs.lemmas.List.{at_drop_more, at_drop_all}
 use Rattle.ice_framing.specs.declared.cutting.WholeFrame.{WholeFrame}
 use Rattle.client_quirks.proofs.Walking.{on}
-use Rattle.client_quirks.specs.Leaving.{Mark, mark_heard, mark_told, heard_behind, told_behind, front_count, is_kept}
+use Rattle.client_quirks.specs.Leaving.{Mark, mark, mark_heard, mark_told, heard_behind, told_behind, front_count, is_kept}
 use Rattle.client_quirks.specs.declared.speech.Speech.{Speech}
 use Rattle.client_quirks.specs.declared.stage.Stage.{Stage}
-
-abbrev pub mark : Speech → Stage → Mark
-mark speech stage = record { speech = speech; stage = stage }
 
 pub record Hearing (first : Mark) (frames : List WholeFrame) (speech : Speech) (stage : Stage) (count i : ℕ) : Type 0 where
   pub leads : heard_behind (mark speech stage) (drop i frames) ≡ heard_behind first frames
@@ -22,7 +19,7 @@ heard_one first frames speech stage count i f next to more hearing there is goes
     let m : mark next to ≡ mark_heard (mark speech stage) f = ap (λ (s : Speech). mark s to) goes ∙ ap (λ (t : Stage). mark (mark_heard (mark speech stage) f).speech t) comes in
     let added : more ≡ (if is_kept (mark_heard (mark speech stage) f).stage then 0 else 1) = adds ∙ ap (λ (t : Stage). if is_kept t then 0 else 1) comes in
     let step : more + front_count (mark next to) (drop (i + 1) frames) ≡ front_count (mark speech stage) (drop i frames) =
-        ap (λ (k : Mark). more + front_count k (drop (i + 1) frames)) m ∙ ap (λ (n : ℕ). n + front_count (mark_heard (mark speech stage) f) (drop (i + 1) frames)) added ∙ on (front_count (mark speech stage)) frames i f there is in
+    ap (λ (k : Mark). more + front_count k (drop (i + 1) frames)) m ∙ ap (λ (n : ℕ). n + front_count (mark_heard (mark speech stage) f) (drop (i + 1) frames)) added ∙ on (front_count (mark speech stage)) frames i f there is in
     record {
       leads = ap (λ (k : Mark). heard_behind k (drop (i + 1) frames)) m ∙ on (heard_behind (mark speech stage)) frames i f there is ∙ hearing.leads;
       counts = omega (arith, step, hearing.counts);

@@ -72,11 +72,14 @@ pub record Mark : Type 0 where
   pub speech : Speech
   pub stage : Stage
 
+abbrev pub mark : Speech → Stage → Mark
+mark speech stage = record { speech = speech; stage = stage }
+
 abbrev pub mark_told : Mark → WholeFrame → Mark
-mark_told m f = record { speech = after m.speech (reading m.speech f); stage = told m.speech m.stage f }
+mark_told m f = mark (after m.speech (reading m.speech f)) (told m.speech m.stage f)
 
 abbrev pub mark_heard : Mark → WholeFrame → Mark
-mark_heard m f = record { speech = after m.speech (reading m.speech f); stage = heard m.speech m.stage f }
+mark_heard m f = mark (after m.speech (reading m.speech f)) (heard m.speech m.stage f)
 
 abbrev pub told_behind : Mark → List WholeFrame → Mark
 told_behind m [] = m
@@ -101,7 +104,11 @@ front_count m (f ∷ fs) = (if is_kept (mark_heard m f).stage then 0 else 1) + f
 -- ---- what is handed on of a piece
 
 abbrev pub mark_of : Side → Stage → Mark
-mark_of side stage = record { speech = side.speech; stage = stage }
+mark_of side stage = mark side.speech stage
+
+-- behind these bytes that the manager sends
+abbrev pub told_by : Keeper → List ℕ → Mark
+told_by k bytes = told_behind (mark_of k.sent k.stage) (new_frames k.sent.cutter bytes)
 
 abbrev pub frames_in : Keeper → List ℕ → List WholeFrame
 frames_in k piece = new_frames k.came.cutter piece

@@ -1,6 +1,6 @@
 -- One party's stream, as it is cut.
 use Rattle.std.specs.Prelude.{◌≡◌, ℕ, List, [], length, Option, Some, None, MatchOption}
-use Rattle.ice_framing.specs.Frames.{fed, cut, IsOversize}
+use Rattle.ice_framing.specs.Frames.{Standing, fed, cut, IsOversize}
 use Rattle.ice_framing.specs.declared.cutting.WholeFrame.{WholeFrame}
 use Rattle.client_quirks.specs.declared.cutter.Cutter.{Cutter}
 
@@ -14,6 +14,11 @@ abbrev pub held_of : Option Cutter → ℕ
 held_of None = 0
 held_of (Some cutter) = length cutter.splitter.held
 
+-- a stream stands here, where it goes on; behind a header that states too much it doesn't
+abbrev pub GoesOn : Standing → Option Cutter → Type 0
+GoesOn at rest = MatchOption rest (IsOversize at) (λ (c : Cutter). c.splitter ≡ at)
+
 -- where the stream stands behind the piece
-abbrev pub cut_of : List ℕ → Option Cutter → Cutter → Type 0
-cut_of piece new old = MatchOption new (IsOversize (cut (fed old.splitter piece)).standing) (λ (c : Cutter). c.splitter ≡ (cut (fed old.splitter piece)).standing)
+abbrev pub CutsOn : Option Cutter → List ℕ → Option Cutter → Type 0
+CutsOn None piece new = new ≡ None
+CutsOn (Some old) piece new = GoesOn (cut (fed old.splitter piece)).standing new

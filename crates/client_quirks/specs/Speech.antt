@@ -1,5 +1,5 @@
 -- How far somebody understands one party's stream who follows its frames, and what is handed on of each frame.
-use Rattle.std.specs.Prelude.{ℕ, ◌+◌, ◌*◌, ◌==◌, ◌&&◌, ◌||◌, not, nat_le, nat_lt, Bool, true, false, if◌then◌else◌, List, [], ◌∷◌, ◌++◌, length, drop, map, codes, slice_index, Result, Ok, Err}
+use Rattle.std.specs.Prelude.{ℕ, ◌+◌, ◌*◌, ◌==◌, ◌&&◌, ◌||◌, not, nat_le, nat_lt, Bool, true, false, if◌then◌else◌, List, [], ◌∷◌, ◌++◌, length, drop, map, codes, slice_index, flat_map, Option, Some, None, Result, Ok, Err}
 use Rattle.std.specs.List.{list_any}
 use Rattle.std.specs.Str.{bytes_eq}
 use Rattle.ice_values.specs.Cells.{byte}
@@ -83,6 +83,10 @@ after speech Unread = Lost
 abbrev pub as_meant : List Property → XsmpMessage
 as_meant properties = SetProperties (map amended properties)
 
+-- it, where a rule applies to one of them
+abbrev pub meant_by : List Property → Option XsmpMessage
+meant_by properties = if list_any is_amended properties then Some (as_meant properties) else None
+
 -- One of the properties is amended, and the message isn't too long then.
 abbrev pub is_respelled : Endian → List Property → Bool
 is_respelled e properties = list_any is_amended properties && nat_le (length (layout byte e (as_meant properties)).1) 65536
@@ -114,6 +118,10 @@ speech_behind speech (f ∷ fs) = speech_behind (after speech (reading speech f)
 abbrev pub handed_on : Speech → List WholeFrame → List ℕ
 handed_on speech [] = []
 handed_on speech (f ∷ fs) = spelled_anew f (reading speech f) ++ handed_on (after speech (reading speech f)) fs
+
+-- these frames one behind the other
+abbrev pub bytes_in : List WholeFrame → List ℕ
+bytes_in frames = flat_map (λ (f : WholeFrame). f.bytes) frames
 
 abbrev pub are_changed : Speech → List WholeFrame → Bool
 are_changed speech [] = false

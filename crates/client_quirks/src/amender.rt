@@ -1,7 +1,5 @@
-ghost use Rattle.std.specs.Prelude.{◌≡◌, ◌≤◌, ◌+◌, ◌-◌, ◌++◌, ◌∷◌, [], ◌==◌, false, true, List, ℕ, length, take, drop, flat_map, IfOk, OnOk, if◌then◌else◌, None, Some};
-ghost use Rattle.std.specs.List.{concat};
-ghost use Rattle.ice_framing.specs.declared.cutting.WholeFrame.{WholeFrame as AnyFrame};
-ghost use Rattle.client_quirks.specs.Amending.{Follows, HandedAll, Rewrites, left_open, is_within};
+ghost use Rattle.std.specs.Prelude.{◌≡◌, ◌≤◌, ◌++◌, ◌∷◌, [], length, take, drop, IfOk, OnOk};
+ghost use Rattle.client_quirks.specs.Amending.{Follows, Takes, Ends, RewritesFrames, left_open, is_within, between, held_within};
 
 use crate::cutter::{Cutter, Cutting};
 use crate::pieces::{PieceList, StreamPiece, add_bytes, alone, joined};
@@ -13,8 +11,8 @@ use std::mem;
 
 /// Hands on the pieces of a client's stream, with its properties as they are meant.
 ///
-/// A piece that ends within a frame is held back until the frame is whole, and where nothing is amended
-/// each is then handed on as it came.
+/// A piece that ends within a frame is held back until the frame is whole, and where nothing is
+/// amended each is then handed on as it came.
 #[derive(Debug, Drop)]
 pub struct Amender {
     alloc: Global,
@@ -89,7 +87,7 @@ impl Amender {
 
     /// Gives what is held back, as the stream has ended.
     pub fn release(&mut self) -> PieceList
-        ensures whole { (came handed : List (List ℕ)) → Follows came handed self.old → HandedAll came (handed ++ result) }
+        ensures whole { Ends self.old result }
         ensures all { result ≡ self.old.held }
         ensures none { self.new.held ≡ [] }
         ensures cutter { self.new.cutter ≡ self.old.cutter }
@@ -100,8 +98,10 @@ impl Amender {
 
     /// Holds a piece back, and gives what is held back where the stream stands between frames.
     fn keep(&mut self, piece: StreamPiece) -> Result<PieceList, NoMemory>
-        ensures given { IfOk result (λ list. list ≡ if is_within self.old.cutter then [] else self.old.held ++ piece ∷ []) }
-        ensures held { OnOk result (self.new.held ≡ if is_within self.old.cutter then self.old.held ++ piece ∷ [] else []) }
+        ensures given { IfOk result (λ list.
+            list ≡ between (is_within self.old.cutter) (self.old.held ++ piece ∷ [])) }
+        ensures held { OnOk result
+            (self.new.held ≡ held_within (is_within self.old.cutter) (self.old.held ++ piece ∷ [])) }
         ensures cutter { self.new.cutter ≡ self.old.cutter }
         ensures speech { self.new.speech ≡ self.old.speech }
     {
@@ -122,7 +122,8 @@ impl Amender {
         frames: &[WholeFrame],
         anew: &[u8],
     ) -> Result<PieceList, NoMemory>
-        ensures rewrites { IfOk result (λ list. Rewrites before (concat self.old.held) piece.now (length (flat_map (λ (frame : AnyFrame). frame.bytes) frames.now)) anew.now (is_within self.old.cutter) list self.new.held) }
+        ensures rewrites { IfOk result (λ list.
+            RewritesFrames before piece.now frames.now anew.now self.old list self.new) }
         ensures cutter { self.new.cutter ≡ self.old.cutter }
         ensures speech { self.new.speech ≡ self.old.speech }
     {
@@ -145,7 +146,7 @@ impl Amender {
     /// Takes the next piece of the stream, and gives the pieces that are handed on. After NoMemory
     /// nothing is known of the stream any more.
     pub fn take(&mut self, piece: StreamPiece) -> Result<PieceList, NoMemory>
-        ensures { IfOk result (λ list. (came handed : List (List ℕ)) → Follows came handed self.old → Follows (came ++ piece ∷ []) (handed ++ list) self.new) }
+        ensures { IfOk result (λ list. Takes self.old piece list self.new) }
     {
         let Some(cutter) = self.cutter.take() else {
             return alone(self.alloc, piece);

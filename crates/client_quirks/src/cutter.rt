@@ -24,8 +24,9 @@ pub struct Cutting {
 }
 
 impl Cutter {
-    ghost use Rattle.std.specs.Prelude.{◌≡◌, ◌≤◌, length, IfOk, MatchOption};
-    ghost use Rattle.ice_framing.specs.Frames.{beginning, fed, cut, IsOversize};
+    ghost use Rattle.std.specs.Prelude.{◌≡◌, length, IfOk};
+    ghost use Rattle.ice_framing.specs.Frames.{beginning, fed, cut};
+    ghost use Rattle.client_quirks.specs.Sides.{GoesOn};
 
     /// Before a stream's first byte.
     pub fn new(alloc: Global) -> Result<Cutter, NoMemory>
@@ -45,9 +46,10 @@ impl Cutter {
 
     /// Cuts one piece more.
     pub fn cut(self, alloc: Global, piece: &[u8]) -> Result<Cutting, NoMemory>
-        ensures frames { IfOk result (λ cutting. cutting.frames ≡ (cut (fed self.splitter piece.now)).frames) }
-        ensures rest { IfOk result (λ cutting. MatchOption cutting.rest (IsOversize (cut (fed self.splitter piece.now)).standing)
-            (λ after. after.splitter ≡ (cut (fed self.splitter piece.now)).standing)) }
+        ensures frames { IfOk result (λ cutting.
+            cutting.frames ≡ (cut (fed self.splitter piece.now)).frames) }
+        ensures rest { IfOk result (λ cutting.
+            GoesOn (cut (fed self.splitter piece.now)).standing cutting.rest) }
     {
         let Cutter { mut splitter } = self;
         let mut frames = WholeFrameList::new(alloc);

@@ -1,7 +1,6 @@
 ghost use Rattle.std.specs.Prelude.{◌≡◌, ◌++◌, ◌∷◌, ◌≤◌, [], take, drop, length, true, false, not, ◌||◌, IfOk, OnOk};
 ghost use Rattle.std.specs.List.{concat};
-ghost use Rattle.client_quirks.specs.Sides.{new_frames};
-ghost use Rattle.client_quirks.specs.Leaving.{told_behind, heard_behind, front_count, is_kept, closing, mark_of, Hears, Listens};
+ghost use Rattle.client_quirks.specs.Leaving.{mark, told_behind, told_by, heard_behind, front_count, is_kept, closing, Hears, Listens};
 ghost use Rattle.client_quirks.specs.declared.stage.Stage.TheVariants.{Free};
 
 use crate::pieces::{PieceList, StreamPiece, add_bytes, alone};
@@ -51,9 +50,12 @@ fn walk_heard(
     stage: Stage,
     frames: &[WholeFrame],
 ) -> Result<Walked, NoMemory>
-    ensures speech { IfOk result (λ walked. walked.speech ≡ (heard_behind (record { speech = speech; stage = stage }) frames.now).speech) }
-    ensures stage { IfOk result (λ walked. walked.stage ≡ (heard_behind (record { speech = speech; stage = stage }) frames.now).stage) }
-    ensures count { IfOk result (λ walked. walked.count ≡ front_count (record { speech = speech; stage = stage }) frames.now) }
+    ensures speech { IfOk result (λ walked.
+        walked.speech ≡ (heard_behind (mark speech stage) frames.now).speech) }
+    ensures stage { IfOk result (λ walked.
+        walked.stage ≡ (heard_behind (mark speech stage) frames.now).stage) }
+    ensures count { IfOk result (λ walked.
+        walked.count ≡ front_count (mark speech stage) frames.now) }
     ensures within { IfOk result (λ walked. walked.count ≤ length frames.now) }
 {
     let mut walked = Walked {
@@ -81,8 +83,10 @@ fn walk_told(
     stage: Stage,
     frames: &[WholeFrame],
 ) -> Result<Walked, NoMemory>
-    ensures speech { IfOk result (λ walked. walked.speech ≡ (told_behind (record { speech = speech; stage = stage }) frames.now).speech) }
-    ensures stage { IfOk result (λ walked. walked.stage ≡ (told_behind (record { speech = speech; stage = stage }) frames.now).stage) }
+    ensures speech { IfOk result (λ walked.
+        walked.speech ≡ (told_behind (mark speech stage) frames.now).speech) }
+    ensures stage { IfOk result (λ walked.
+        walked.stage ≡ (told_behind (mark speech stage) frames.now).stage) }
 {
     let mut walked = Walked {
         speech,
@@ -126,7 +130,8 @@ impl Keeper {
     /// Hands on the front of a piece, and holds back what stands behind it.
     fn part(&mut self, piece: StreamPiece, front: usize) -> Result<PieceList, NoMemory>
         ensures front { IfOk result (λ list. concat list ≡ take front piece) }
-        ensures back { OnOk result (concat self.new.pieces ≡ concat self.old.pieces ++ drop front piece) }
+        ensures back { OnOk result
+            (concat self.new.pieces ≡ concat self.old.pieces ++ drop front piece) }
         ensures stage { self.new.stage ≡ self.old.stage }
         ensures came { self.new.came ≡ self.old.came }
     {
@@ -175,7 +180,8 @@ impl Keeper {
     pub fn end(&mut self) -> bool
         ensures stage { self.new.stage ≡ closing self.old.stage }
         ensures handed { result ≡ not (is_kept (closing self.old.stage)) }
-        ensures ended { self.new.has_ended ≡ (is_kept (closing self.old.stage) || self.old.has_ended) }
+        ensures ended { self.new.has_ended
+            ≡ (is_kept (closing self.old.stage) || self.old.has_ended) }
         ensures pieces { self.new.pieces ≡ self.old.pieces }
     {
         self.stage = self.stage.closing();
@@ -186,8 +192,8 @@ impl Keeper {
 
     /// Hears what the manager sends to the client.
     pub fn tell(&mut self, bytes: &[u8]) -> Result<(), NoMemory>
-        ensures stage { OnOk result (self.new.stage ≡ (told_behind (mark_of self.old.sent self.old.stage) (new_frames self.old.sent.cutter bytes.now)).stage) }
-        ensures speech { OnOk result (self.new.sent.speech ≡ (told_behind (mark_of self.old.sent self.old.stage) (new_frames self.old.sent.cutter bytes.now)).speech) }
+        ensures stage { OnOk result (self.new.stage ≡ (told_by self.old bytes.now).stage) }
+        ensures speech { OnOk result (self.new.sent.speech ≡ (told_by self.old bytes.now).speech) }
         ensures came { self.new.came ≡ self.old.came }
         ensures pieces { self.new.pieces ≡ self.old.pieces }
         ensures ended { self.new.has_ended ≡ self.old.has_ended }

@@ -1,5 +1,5 @@
-//! What programs mean that don't keep to the letter of the session protocol: their properties as they
-//! are meant, and the ends of those that leave too early. It calls no device.
+//! What programs mean that don't keep to the letter of the session protocol: their properties as
+//! they are meant, and the ends of those that leave too early. It calls no device.
 #![tactic(auto)]
 
 mod amender;

@@ -50,10 +50,7 @@ fn without_nul(word: &[u8]) -> &[u8]
 fn is_wide(value: &[u8]) -> bool
     ensures { result ≡ is_wide value.now }
 {
-    value.len() == 4
-        && value[1] == 0
-        && value[2] == 0
-        && (value[0] == 0 || value[3] == 0)
+    value.len() == 4 && value[1] == 0 && value[2] == 0 && (value[0] == 0 || value[3] == 0)
 }
 
 /// The one byte that four bytes stand for.

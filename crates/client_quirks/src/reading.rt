@@ -76,7 +76,9 @@ fn setup_in(message: &IceMessage) -> Reading
 {
     match message {
         IceMessage::ProtocolSetup {
-            opcode, protocol, ..
+            opcode,
+            protocol,
+            ..
         } => {
             if protocol.as_slice() == b"XSMP".as_slice() {
                 opened_under(*opcode)

@@ -1,6 +1,6 @@
-ghost use Rattle.std.specs.Prelude.{◌≡◌, [], length, IfOk, OnOk, MatchOption, Some, None};
-ghost use Rattle.ice_framing.specs.Frames.{beginning, IsOversize, fed, cut};
-ghost use Rattle.client_quirks.specs.Sides.{new_frames, held_of, cut_of};
+ghost use Rattle.std.specs.Prelude.{◌≡◌, IfOk, OnOk};
+ghost use Rattle.ice_framing.specs.Frames.{beginning};
+ghost use Rattle.client_quirks.specs.Sides.{new_frames, held_of, GoesOn, CutsOn};
 ghost use Rattle.client_quirks.specs.declared.speech.Speech.TheVariants.{Silent};
 
 use crate::cutter::{Cutter, Cutting};
@@ -19,7 +19,7 @@ pub struct Side {
 impl Side {
     /// Before the first byte.
     pub fn new(alloc: Global) -> Result<Side, NoMemory>
-        ensures frames { IfOk result (λ side. MatchOption side.cutter ⊥ (λ cutter. cutter.splitter ≡ beginning)) }
+        ensures cutter { IfOk result (λ side. GoesOn beginning side.cutter) }
         ensures speech { IfOk result (λ side. side.speech ≡ Silent) }
     {
         Ok(Side {
@@ -41,7 +41,7 @@ impl Side {
     /// The frames that a piece makes whole; none behind a header that states too much.
     pub fn take(&mut self, alloc: Global, piece: &[u8]) -> Result<WholeFrameList, NoMemory>
         ensures frames { IfOk result (λ frames. frames ≡ new_frames self.old.cutter piece.now) }
-        ensures rest { OnOk result (MatchOption self.old.cutter (self.new.cutter ≡ None) (cut_of piece.now self.new.cutter)) }
+        ensures rest { OnOk result (CutsOn self.old.cutter piece.now self.new.cutter) }
         ensures speech { self.new.speech ≡ self.old.speech }
     {
         let Some(cutter) = self.cutter.take() else {

@@ -1,8 +1,7 @@
-ghost use Rattle.std.specs.Prelude.{◌≡◌, ◌++◌, map, flat_map, IfOk, OnOk, Some, None, false, if◌then◌else◌, ◌||◌};
+ghost use Rattle.std.specs.Prelude.{◌≡◌, ◌++◌, map, IfOk, OnOk, false, ◌||◌};
 ghost use Rattle.std.specs.List.{list_any};
-ghost use Rattle.ice_framing.specs.declared.cutting.WholeFrame.{WholeFrame as AnyFrame};
 ghost use Rattle.client_quirks.specs.Meanings.{amended as amended_by, is_amended as is_amended_by};
-ghost use Rattle.client_quirks.specs.Speech.{reading as reading_by, after as after_reading, is_changed, spelled_anew, speech_behind, handed_on, are_changed, as_meant, is_respelled, set_anew};
+ghost use Rattle.client_quirks.specs.Speech.{reading as reading_by, after as after_reading, is_changed, spelled_anew, speech_behind, handed_on, are_changed, is_respelled, set_anew, meant_by, bytes_in};
 
 use crate::meanings::{amended, is_amended};
 use crate::reading::{Reading, byte_at, greeting_in, is_whole, opening_in, setting_in};
@@ -74,7 +73,7 @@ fn amended_list(alloc: Global, properties: &[Property]) -> Result<PropertyList, 
 
 /// The message that sets the properties as they are meant, where a rule applies to one of them.
 fn meant_message(alloc: Global, properties: &[Property]) -> Result<Option<XsmpMessage>, NoMemory>
-    ensures { IfOk result (λ message. message ≡ if list_any is_amended_by properties.now then Some (as_meant properties.now) else None) }
+    ensures { IfOk result (λ message. message ≡ meant_by properties.now) }
 {
     if !are_amended(properties) {
         return Ok(None);
@@ -90,7 +89,8 @@ fn add_setting(
     properties: &[Property],
     out: &mut Octets,
 ) -> Result<bool, NoMemory>
-    ensures changed { IfOk result (λ changed. changed ≡ is_respelled frame.now.endian properties.now) }
+    ensures changed { IfOk result (λ changed.
+        changed ≡ is_respelled frame.now.endian properties.now) }
     ensures added { OnOk result (out.new ≡ out.old ++ set_anew frame.now properties.now) }
 {
     let bytes = frame.bytes.as_slice();
@@ -137,9 +137,12 @@ fn add_frame(
     frame: &WholeFrame,
     out: &mut Octets,
 ) -> Result<Handed, NoMemory>
-    ensures speech { IfOk result (λ handed. handed.speech ≡ after_reading speech (reading_by speech frame.now)) }
-    ensures changed { IfOk result (λ handed. handed.changed ≡ is_changed frame.now (reading_by speech frame.now)) }
-    ensures added { OnOk result (out.new ≡ out.old ++ spelled_anew frame.now (reading_by speech frame.now)) }
+    ensures speech { IfOk result (λ handed.
+        handed.speech ≡ after_reading speech (reading_by speech frame.now)) }
+    ensures changed { IfOk result (λ handed.
+        handed.changed ≡ is_changed frame.now (reading_by speech frame.now)) }
+    ensures added { OnOk result
+        (out.new ≡ out.old ++ spelled_anew frame.now (reading_by speech frame.now)) }
 {
     let reading = speech.reading(alloc, frame)?;
     let after = speech.after(&reading);
@@ -150,7 +153,10 @@ fn add_frame(
         Reading::Opens(_) => add_as_it_is(frame, out)?,
         Reading::Unread => add_as_it_is(frame, out)?,
     };
-    Ok(Handed { speech: after, changed })
+    Ok(Handed {
+        speech: after,
+        changed,
+    })
 }
 
 /// Adds a frame that isn't changed.
@@ -186,7 +192,7 @@ pub fn add_frames(
 
 /// The bytes of these frames, one behind the other.
 pub fn bytes_of(alloc: Global, frames: &[WholeFrame]) -> Result<Octets, NoMemory>
-    ensures { IfOk result (λ bytes. bytes ≡ flat_map (λ (frame : AnyFrame). frame.bytes) frames.now) }
+    ensures { IfOk result (λ bytes. bytes ≡ bytes_in frames.now) }
 {
     let mut bytes = Octets::new(alloc);
     for frame in frames {

@@ -64,15 +64,16 @@ impl Follower {
         Ok(is_over)
     }
 
-    /// Hears what the manager sends; true where it goes out, which it doesn't while the client's end is
-    /// held back.
+    /// Hears what the manager sends; true where it goes out, which it doesn't while the client's
+    /// end is held back.
     pub fn tell(&mut self, bytes: &[u8]) -> Result<bool, NoMemory> {
         let goes_out = !self.keeper.stage().is_kept();
         self.keeper.tell(bytes)?;
         Ok(goes_out)
     }
 
-    /// Hands on what was held back of a client whose logout is over; true where its end is among that.
+    /// Hands on what was held back of a client whose logout is over; true where its end is among
+    /// that.
     pub fn release(&mut self, waiting: &mut VecDeque<News>) -> Result<bool, NoMemory> {
         if self.keeper.stage().is_kept() {
             return Ok(false);

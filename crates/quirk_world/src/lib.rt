@@ -1,5 +1,5 @@
-//! The outside of a session manager with programs as they are: a world around a world, which hands on
-//! what clients mean (`client_quirks`) and everything else as it comes.
+//! The outside of a session manager with programs as they are: a world around a world, which hands
+//! on what clients mean (`client_quirks`) and everything else as it comes.
 #![tactic(auto)]
 
 mod follower;

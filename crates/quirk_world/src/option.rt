@@ -5,8 +5,8 @@ fn is_word(words: &[String], at: usize, text: &str) -> bool {
     }
 }
 
-/// Takes `--quirks` out of the words of `serve`, and says whether it was there. Of the other options
-/// `--private` has no value, and each one else has one; a value is never taken.
+/// Takes `--quirks` out of the words of `serve`, and says whether it was there. Of the other
+/// options `--private` has no value, and each one else has one; a value is never taken.
 pub fn take_quirks(words: &mut Vec<String>) -> bool {
     if !is_word(words, 0, "serve") {
         return false;

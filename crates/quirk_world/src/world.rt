@@ -11,8 +11,8 @@ use sm_world::{
 use std::alloc::Global;
 use std::collections::VecDeque;
 
-/// A world whose clients are taken to mean what programs as they are mean. What is handed on of it is
-/// told to nobody.
+/// A world whose clients are taken to mean what programs as they are mean. What is handed on of it
+/// is told to nobody.
 ///
 /// An event of which nothing is handed on is answered by a tick of no time.
 #[derive(Drop)]
@@ -185,7 +185,8 @@ impl<W: Disk + Drop> Disk for QuirkWorld<W> {
     ghost use Rattle.std.proofs.Common.{refl};
     ghost use Rattle.sm_world.specs.Disk.{untold_size};
 
-    ghost sized = { λ world first told. untold_size (W.outside world.inner).size first None refl told };
+    ghost sized = { λ world first told.
+        untold_size (W.outside world.inner).size first None refl told };
 
     fn attach(&mut self, path: &str) -> Result<(), Failure> {
         self.inner.attach(path)

@@ -1,4 +1,5 @@
-use Rattle.client_quirks.proofs.Marking.{mark, Hearing}
+use Rattle.client_quirks.specs.Leaving.{mark}
+use Rattle.client_quirks.proofs.Marking.{Hearing}
 use Rattle.client_quirks.proofs.keeper.walk_heard.Given as goal
 
 abbrev pub invariant-loop-frame : goal.invariant-loop-frame

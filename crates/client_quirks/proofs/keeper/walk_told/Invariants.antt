@@ -1,4 +1,5 @@
-use Rattle.client_quirks.proofs.Marking.{mark, Telling}
+use Rattle.client_quirks.specs.Leaving.{mark}
+use Rattle.client_quirks.proofs.Marking.{Telling}
 use Rattle.client_quirks.proofs.keeper.walk_told.Given as goal
 
 abbrev pub invariant-loop-frame : goal.invariant-loop-frame

@@ -3,9 +3,8 @@ use Rattle.std.specs.List.{concat}
 use Rattle.std.specs.Prelude.{flat_map}
 use Rattle.ice_framing.specs.declared.cutting.WholeFrame.{WholeFrame}
 use Rattle.client_quirks.specs.Sides.{held_of}
-use Rattle.client_quirks.specs.Leaving.{Mark, heard_behind, front_count, is_kept, mark_of, frames_in, behind, front_in, Passes, Listens}
+use Rattle.client_quirks.specs.Leaving.{Mark, mark, heard_behind, front_count, is_kept, mark_of, frames_in, behind, front_in, Passes, Listens}
 use Rattle.client_quirks.specs.declared.speech.Speech.{Speech}
-use Rattle.client_quirks.proofs.Marking.{mark}
 use Rattle.client_quirks.proofs.Followed.{with_both}
 use Rattle.client_quirks.proofs.keeper.Keeper.listen.Goals as goal
 
@@ -21,12 +20,12 @@ returns c =
     let count : c.in_ok-walked.walked.count ≡ front_count m (frames_in old piece) = c.in_ok-walked.ensures.count ∙ ap (λ (k : Mark). front_count k c.as_slice-2.result.now) m_is ∙ ap (front_count m) frames in
     let same : c.as_slice-3.result.now ≡ c.as_slice-2.result.now = search rules in
     let before : c.split_at.result.0.now ≡ take (front_count m (frames_in old piece)) (frames_in old piece) =
-        c.split_at.ensures.front ∙ ap (take c.in_ok-walked.walked.count) (same ∙ frames) ∙ ap (λ (n : ℕ). take n (frames_in old piece)) count in
+    c.split_at.ensures.front ∙ ap (take c.in_ok-walked.walked.count) (same ∙ frames) ∙ ap (λ (n : ℕ). take n (frames_in old piece)) count in
     let len : c.len-front.result ≡ length (flat_map (λ (f : WholeFrame). f.bytes) c.split_at.result.0.now) = search rules in
     let minus : c.saturating_sub.result ≡ c.len-front.result - c.held-held.result = search rules in
     let front : c.saturating_sub.result ≡ front_in old piece =
-        minus ∙ ap (λ (n : ℕ). n - c.held-held.result) (len ∙ ap (λ (fs : List WholeFrame). length (flat_map (λ (f : WholeFrame). f.bytes) fs)) before)
-        ∙ ap (λ (n : ℕ). length (flat_map (λ (f : WholeFrame). f.bytes) (take (front_count m (frames_in old piece)) (frames_in old piece))) - n) c.held-held.ensures in
+    minus ∙ ap (λ (n : ℕ). n - c.held-held.result) (len ∙ ap (λ (fs : List WholeFrame). length (flat_map (λ (f : WholeFrame). f.bytes) fs)) before)
+    ∙ ap (λ (n : ℕ). length (flat_map (λ (f : WholeFrame). f.bytes) (take (front_count m (frames_in old piece)) (frames_in old piece))) - n) c.held-held.ensures in
     let kept : is_kept (behind old piece).stage ≡ true = sym (search rules ∙ ap is_kept stage_then) in
     let stage : c.part.new.self.stage ≡ (behind old piece).stage = c.part.ensures.stage ∙ stage_then in
     let speech : c.part.new.self.came.speech ≡ (behind old piece).speech = ap (λ side. side.speech) c.part.ensures.came ∙ speech_then in
