@@ -64,13 +64,13 @@ paths_of() {
   printf '%s\n' --socket "$1/socket" --control "$1/control" --store "$1/store" --authority "$1/authority"
 }
 
-# start_smd FOLDER: gives back once smd has printed where it listens.
+# start_smd FOLDER WORD..: gives back once smd has printed where it listens; the words are more options of it.
 start_smd() {
   at=$1
   mkdir -p "$at"
   mapfile -t paths < <(paths_of "$at")
   : > "$at/lines"
-  "$smd" serve "${paths[@]}" < /dev/null > "$at/lines" 2>> "$at/said" &
+  "$smd" serve "${paths[@]}" "${@:2}" < /dev/null > "$at/lines" 2>> "$at/said" &
   smd_id=$!
   within 30 grep -qxF "SESSION_MANAGER=local/$HOSTNAME:$at/socket" "$at/lines"
 }

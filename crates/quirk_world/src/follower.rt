@@ -13,11 +13,7 @@ pub struct Follower {
 }
 
 /// Adds pieces of a connection to what is to be handed on.
-fn add_pieces(
-    conn: Conn,
-    pieces: PieceList,
-    waiting: &mut VecDeque<News>,
-) -> Result<(), NoMemory> {
+fn add_pieces(conn: Conn, pieces: PieceList, waiting: &mut VecDeque<News>) -> Result<(), NoMemory> {
     for piece in pieces.into_vec() {
         waiting.push_back(News::Piece(conn, piece))?;
     }

@@ -17,7 +17,11 @@ pub fn take_quirks(words: &mut Vec<String>) -> bool {
             let _ = words.remove(at);
             return true;
         }
-        let count = if is_word(words, at, "--private") { 1 } else { 2 };
+        let count = if is_word(words, at, "--private") {
+            1
+        } else {
+            2
+        };
         at = at.saturating_add(count);
     }
     false
