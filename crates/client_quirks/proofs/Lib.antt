@@ -1,4 +1,5 @@
 pub mod Followed
+pub mod Following
 pub mod Grown
 pub mod Joining
 pub mod Marking

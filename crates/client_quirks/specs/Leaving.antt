@@ -3,7 +3,7 @@ use Rattle.std.specs.Prelude.{◌≡◌, ℕ, ◌+◌, ◌-◌, ◌==◌, ◌||�
 use Rattle.std.specs.List.{concat}
 use Rattle.ice_framing.specs.Frames.{fed, cut, IsOversize}
 use Rattle.ice_framing.specs.declared.cutting.WholeFrame.{WholeFrame}
-use Rattle.client_quirks.specs.Sides.{new_frames, held_of}
+use Rattle.client_quirks.specs.Sides.{new_frames, held_of, Follows}
 use Rattle.client_quirks.specs.Speech.{is_message, reading, after}
 use Rattle.client_quirks.specs.declared.speech.Speech.{Speech}
 use Rattle.client_quirks.specs.declared.speech.Speech.TheVariants.{Silent, Greeted, Speaks, Lost}
@@ -129,6 +129,8 @@ Passes true old piece list new = (concat list ≡ take (front_in old piece) piec
 pub record Listens (old : Keeper) (piece : List ℕ) (list : List (List ℕ)) (new : Keeper) : Type 0 where
   pub stage : new.stage ≡ (behind old piece).stage
   pub speech : new.came.speech ≡ (behind old piece).speech
+  pub came : Follows old.came piece new.came
+  pub sent : new.sent ≡ old.sent
   pub passes : Passes (is_kept (behind old piece).stage) old piece list new
 
 -- all that comes is held back

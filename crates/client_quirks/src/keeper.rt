@@ -1,5 +1,6 @@
 ghost use Rattle.std.specs.Prelude.{◌≡◌, ◌++◌, ◌∷◌, ◌≤◌, [], take, drop, length, true, false, not, ◌||◌, IfOk, OnOk};
 ghost use Rattle.std.specs.List.{concat};
+ghost use Rattle.client_quirks.specs.Sides.{IsSide, Follows};
 ghost use Rattle.client_quirks.specs.Leaving.{mark, told_behind, told_by, heard_behind, front_count, is_kept, closing, Hears, Listens};
 ghost use Rattle.client_quirks.specs.declared.stage.Stage.TheVariants.{Free};
 
@@ -109,6 +110,8 @@ impl Keeper {
     pub fn new(alloc: Global) -> Result<Keeper, NoMemory>
         ensures stage { IfOk result (λ keeper. keeper.stage ≡ Free) }
         ensures pieces { IfOk result (λ keeper. keeper.pieces ≡ []) }
+        ensures came { IfOk result (λ keeper. IsSide [] keeper.came) }
+        ensures sent { IfOk result (λ keeper. IsSide [] keeper.sent) }
     {
         Ok(Keeper {
             alloc,
@@ -134,6 +137,7 @@ impl Keeper {
             (concat self.new.pieces ≡ concat self.old.pieces ++ drop front piece) }
         ensures stage { self.new.stage ≡ self.old.stage }
         ensures came { self.new.came ≡ self.old.came }
+        ensures sent { self.new.sent ≡ self.old.sent }
     {
         let bytes = piece.as_slice();
         let (head, tail) = bytes.split_at(front.min(bytes.len()));
@@ -194,6 +198,7 @@ impl Keeper {
     pub fn tell(&mut self, bytes: &[u8]) -> Result<(), NoMemory>
         ensures stage { OnOk result (self.new.stage ≡ (told_by self.old bytes.now).stage) }
         ensures speech { OnOk result (self.new.sent.speech ≡ (told_by self.old bytes.now).speech) }
+        ensures sent { OnOk result (Follows self.old.sent bytes.now self.new.sent) }
         ensures came { self.new.came ≡ self.old.came }
         ensures pieces { self.new.pieces ≡ self.old.pieces }
         ensures ended { self.new.has_ended ≡ self.old.has_ended }

@@ -1,7 +1,5 @@
-ghost use Rattle.std.specs.Prelude.{◌≡◌, IfOk, OnOk};
-ghost use Rattle.ice_framing.specs.Frames.{beginning};
-ghost use Rattle.client_quirks.specs.Sides.{new_frames, held_of, GoesOn, CutsOn};
-ghost use Rattle.client_quirks.specs.declared.speech.Speech.TheVariants.{Silent};
+ghost use Rattle.std.specs.Prelude.{◌≡◌, [], IfOk, OnOk};
+ghost use Rattle.client_quirks.specs.Sides.{new_frames, held_of, IsSide, CutsOn};
 
 use crate::cutter::{Cutter, Cutting};
 use crate::speech::Speech;
@@ -19,8 +17,7 @@ pub struct Side {
 impl Side {
     /// Before the first byte.
     pub fn new(alloc: Global) -> Result<Side, NoMemory>
-        ensures cutter { IfOk result (λ side. GoesOn beginning side.cutter) }
-        ensures speech { IfOk result (λ side. side.speech ≡ Silent) }
+        ensures { IfOk result (λ side. IsSide [] side) }
     {
         Ok(Side {
             cutter: Some(Cutter::new(alloc)?),
