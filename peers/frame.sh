@@ -67,14 +67,15 @@ paths_of() {
 # How many sessions were recorded.
 records=0
 
-# start_smd FOLDER: gives back once smd has printed where it listens. The session is recorded.
+# start_smd FOLDER WORD..: gives back once smd has printed where it listens; the words are more options of it. The
+# session is recorded.
 start_smd() {
   at=$1
   mkdir -p "$at" "$room/records"
   mapfile -t paths < <(paths_of "$at")
   : > "$at/lines"
   records=$((records + 1))
-  "$smd" serve "${paths[@]}" --record "$room/records/$records" < /dev/null > "$at/lines" 2>> "$at/said" &
+  "$smd" serve "${paths[@]}" "${@:2}" --record "$room/records/$records" < /dev/null > "$at/lines" 2>> "$at/said" &
   smd_id=$!
   within 30 grep -qxF "SESSION_MANAGER=local/$HOSTNAME:$at/socket" "$at/lines"
 }

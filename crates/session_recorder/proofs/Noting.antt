@@ -11,7 +11,7 @@ use Rattle.sm_world.specs.declared.effects.Effect.TheVariants.{Wrote, Torn, Sync
 use Rattle.sm_world.specs.declared.failures.Failed.{Failed}
 use Rattle.sm_world.specs.declared.failures.Failure.{Failure}
 use Rattle.control_lines.specs.Traces.{effect_text, whole_line}
-use Rattle.session_recorder.specs.Recorded.{appended, is_announced, IsLineOf, is_printed, record_text, IsCut, Keeps, KeepsTold}
+use Rattle.session_recorder.specs.Recorded.{appended, is_announced, IsLineOf, is_printed, record_text, IsCut, IsNew, Keeps, KeepsTold}
 use Rattle.session_recorder.specs.declared.progress.Progress.{Progress}
 use Rattle.session_recorder.specs.declared.progress.Progress.TheVariants.{Waiting, Recording, Lost}
 use Rattle.session_recorder.proofs.Behind.{record-stays, record-grows}
@@ -137,18 +137,22 @@ pub told-synced : {A : Type 0} (opening : List ℕ) (progress : Progress) (resul
 told-synced opening progress (Ok x) told new kept ok err holds = told-is opening progress (adds told (Synced ∷ [])) new kept ok (told-silent opening progress Synced refl refl told kept holds)
 told-synced opening progress (Err e) told new kept ok err holds = told-is opening progress (adds told err.effects) new kept err.added (failed-sync opening progress err.effects err.holds told kept holds)
 
-new-whole : (opening : List ℕ) (told : Option (List Effect)) (old new : Option (List ℕ)) → ((effects : List Effect) → told ≡ Some effects → effects ≡ []) → ((kept : List ℕ) → old ≡ Some kept → kept ≡ []) → new ≡ appended old opening → (effects : List Effect) (kept : List ℕ) → told ≡ Some effects → new ≡ Some kept → (effects ≡ []) × (kept ≡ opening)
+new-empty : {A : Type 0} (told : Option (List A)) → IsNew told → (items : List A) → told ≡ Some items → items ≡ []
+new-empty {A} None new items is = none≢some is
+new-empty {A} (Some held) new items is = sym (some-injective held items is) ∙ new
+
+new-whole : (opening : List ℕ) (told : Option (List Effect)) (old new : Option (List ℕ)) → IsNew told → IsNew old → new ≡ appended old opening → (effects : List Effect) (kept : List ℕ) → told ≡ Some effects → new ≡ Some kept → (effects ≡ []) × (kept ≡ opening)
 new-whole opening told None new fresh empty is effects kept told_is kept_is = none≢some (sym is ∙ kept_is)
-new-whole opening told (Some held) new fresh empty is effects kept told_is kept_is = (fresh effects told_is, sym (some-injective (held ++ opening) kept (sym is ∙ kept_is)) ∙ ap (λ (h : List ℕ). h ++ opening) (empty held refl))
+new-whole opening told (Some held) new fresh empty is effects kept told_is kept_is = (new-empty told fresh effects told_is, sym (some-injective (held ++ opening) kept (sym is ∙ kept_is)) ∙ ap (λ (h : List ℕ). h ++ opening) empty)
 
 -- A record begins with its opening,
-pub begun : (opening : List ℕ) (told : Option (List Effect)) (old new : Option (List ℕ)) → ((effects : List Effect) → told ≡ Some effects → effects ≡ []) → ((kept : List ℕ) → old ≡ Some kept → kept ≡ []) → new ≡ appended old opening → KeepsTold opening Waiting told new
+pub begun : (opening : List ℕ) (told : Option (List Effect)) (old new : Option (List ℕ)) → IsNew told → IsNew old → new ≡ appended old opening → KeepsTold opening Waiting told new
 begun opening told old new fresh empty is effects kept told_is kept_is =
     let both = new-whole opening told old new fresh empty is effects kept told_is kept_is in
     subst (λ (es : List Effect). Keeps opening Waiting es kept) (sym both.0) (refl, both.1 ∙ sym (append-nil opening))
 
 -- or with a front of it.
-pub begun-cut : (opening : List ℕ) (told : Option (List Effect)) (old new : Option (List ℕ)) → ((effects : List Effect) → told ≡ Some effects → effects ≡ []) → ((kept : List ℕ) → old ≡ Some kept → kept ≡ []) → IsCut old new opening → KeepsTold opening Lost told new
+pub begun-cut : (opening : List ℕ) (told : Option (List Effect)) (old new : Option (List ℕ)) → IsNew told → IsNew old → IsCut old new opening → KeepsTold opening Lost told new
 begun-cut opening told old new fresh empty cut effects kept told_is kept_is =
     let both = new-whole (take cut.0 opening) told old new fresh empty cut.1 effects kept told_is kept_is in
     subst (λ (es : List Effect). Keeps opening Lost es kept) (sym both.0)

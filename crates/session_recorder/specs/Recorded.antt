@@ -46,6 +46,11 @@ Keeps opening Lost effects kept = (left : List ℕ) × (record_text opening effe
 abbrev pub KeepsTold : List ℕ → Progress → Option (List Effect) → Option (List ℕ) → Type 0
 KeepsTold opening progress told told_kept = (effects : List Effect) (kept : List ℕ) → told ≡ Some effects → told_kept ≡ Some kept → Keeps opening progress effects kept
 
+-- nothing is told, or that there is nothing yet
+abbrev pub IsNew : {A : Type 0} → Option (List A) → Type 0
+IsNew {A} None = Unit {0}
+IsNew {A} (Some items) = items ≡ []
+
 -- these bytes were appended, where the record tells what it keeps
 abbrev pub appended : Option (List ℕ) → List ℕ → Option (List ℕ)
 appended None bytes = None

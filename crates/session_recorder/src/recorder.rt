@@ -1,6 +1,6 @@
-ghost use Rattle.std.specs.Prelude.{◌≡◌, [], List, ℕ, Some};
+ghost use Rattle.std.specs.Prelude.{◌≡◌, List, ℕ, Some};
 ghost use Rattle.sm_world.specs.declared.effects.Effect.{Effect};
-ghost use Rattle.session_recorder.specs.Recorded.{Keeps};
+ghost use Rattle.session_recorder.specs.Recorded.{IsNew, Keeps};
 
 use crate::kept_lines::KeptLines;
 use crate::progress::Progress;
@@ -34,8 +34,8 @@ impl<W: Told, R: KeptLines> Model for Recorder<W, R> {
 impl<W: Told, R: KeptLines> Recorder<W, R> {
     /// Records what this world will hear and do, behind this opening.
     pub fn new(alloc: Global, world: W, mut lines: R, opening: Octets) -> Recorder<W, R>
-        requires world { (effects : List Effect) → (W.outside world).told ≡ Some effects → effects ≡ [] }
-        requires lines { (kept : List ℕ) → R.kept lines ≡ Some kept → kept ≡ [] }
+        requires world { IsNew (W.outside world).told }
+        requires lines { IsNew (R.kept lines) }
         ensures world { result.world ≡ world }
         ensures opening { result.opening ≡ opening }
     {

@@ -1,11 +1,14 @@
 //! `smd`, the session manager.
 #![tactic(auto)]
 
+ghost use Rattle.session_recorder.specs.Recorded.{IsNew};
+
 use desktop_world::{BadPlaces, DesktopWorld, Places, host_name, random_cookie};
 use program_frame::{OwnTexts, StandardConsole, read_words};
+use quirk_world::{QuirkWorld, take_quirks};
 use record_file::{RecordFile, take_record};
 use session_recorder::{Recorder, opening_of};
-use sm_world::{Console, NoMemory, Octets};
+use sm_world::{Console, Disk, Links, NoMemory, Octets, Spawner};
 use smd_app::{Identity, Paths, read_paths, smd_main};
 use std::io;
 use std::io::ErrorKind;
@@ -20,6 +23,7 @@ const TEXTS: OwnTexts = OwnTexts {
         \x20                               runs the session of a desktop\n\
         \x20          --private            nobody can connect but the owner's programs\n\
         \x20          --last-wait MS       closes whoever was told to die so long ago\n\
+        \x20          --quirks             takes programs on Xt, Qt and twm for what they mean\n\
         \x20          --record FILE        writes what it hears and does, as a trace\n\
         \x20      smd rehearse [MS] < SCRIPT\n\
         \x20                               shows what smd does at the events of a script\n\
@@ -60,29 +64,64 @@ fn no_memory(_error: NoMemory) -> io::Error {
     io::Error::from(ErrorKind::OutOfMemory)
 }
 
-/// What the record of a session opens with. A store that isn't there, or that can't be read, gives no line.
-fn record_opening(rt: HostRuntime, paths: Paths<'_>, identity: &Identity) -> io::Result<Octets> {
-    let store = store_bytes(rt, paths.store).unwrap_or(Octets::new(rt.alloc()));
-    opening_of(rt.alloc(), store, &identity.cookie, paths.patience).map_err(no_memory)
+/// The record of a session: its file, and what it opens with.
+#[derive(Drop)]
+struct Record {
+    path: String,
+    opening: Octets,
 }
 
-/// The status of a run in this world, which is recorded in a file where one is named.
-fn run_in(
+/// The record of a session in this file. A store that isn't there, or that can't be read, gives no line.
+fn record_in(
+    rt: HostRuntime,
+    path: String,
+    paths: Paths<'_>,
+    identity: &Identity,
+) -> io::Result<Record> {
+    let store = store_bytes(rt, paths.store).unwrap_or(Octets::new(rt.alloc()));
+    let opening =
+        opening_of(rt.alloc(), store, &identity.cookie, paths.patience).map_err(no_memory)?;
+    Ok(Record { path, opening })
+}
+
+/// The status of a run in this world, and the world behind it. The run is recorded where a file is named.
+fn serve_in<W: Disk + Links + Spawner + Console + Drop>(
     rt: HostRuntime,
     words: &[String],
-    mut world: DesktopWorld,
+    mut world: W,
     identity: Identity,
-    record: Option<(String, Octets)>,
-) -> u8 {
-    let Some((path, opening)) = record else {
+    record: Option<Record>,
+) -> (u8, W)
+    requires { IsNew (W.outside world).told }
+{
+    let Some(Record { path, opening }) = record else {
         let status = smd_main(rt.alloc(), words, &mut world, identity, u64::MAX);
-        world.close();
-        return status;
+        return (status, world);
     };
     let file = RecordFile::create(rt, path);
     let mut recorder = Recorder::new(rt.alloc(), world, file, opening);
     let status = smd_main(rt.alloc(), words, &mut recorder, identity, u64::MAX);
-    let (mut world, _) = recorder.parts();
+    let (world, _) = recorder.parts();
+    (status, world)
+}
+
+/// The status of a run on this desktop, whose programs are taken for what they mean, or for what they
+/// say.
+fn serve_desktop(
+    rt: HostRuntime,
+    words: &[String],
+    world: DesktopWorld,
+    identity: Identity,
+    record: Option<Record>,
+    has_quirks: bool,
+) -> u8 {
+    let (status, mut world) = if has_quirks {
+        let around = QuirkWorld::new(rt.alloc(), world);
+        let (status, around) = serve_in(rt, words, around, identity, record);
+        (status, around.into_inner())
+    } else {
+        serve_in(rt, words, world, identity, record)
+    };
     world.close();
     status
 }
@@ -92,6 +131,7 @@ fn run(rt: HostRuntime, mut words: Vec<String>) -> io::Result<u8> {
     if let Some(check) = read_check(words.as_slice()) {
         return Ok(check_store(rt, check));
     }
+    let has_quirks = take_quirks(&mut words);
     let options = LinkOptions::take(&mut words).map_err(no_memory)?;
     let file = take_record(&mut words);
     let words = words.as_slice();
@@ -106,11 +146,11 @@ fn run(rt: HostRuntime, mut words: Vec<String>) -> io::Result<u8> {
             return Ok(refused(rt, bad));
         }
         if let Some(path) = file {
-            record = Some((path, record_opening(rt, paths, &identity)?));
+            record = Some(record_in(rt, path, paths, &identity)?);
         }
     }
     let world = DesktopWorld::with_options(rt, host, options);
-    Ok(run_in(rt, words, world, identity, record))
+    Ok(serve_desktop(rt, words, world, identity, record, has_quirks))
 }
 
 fn main(rt: HostRuntime) -> ExitCode {

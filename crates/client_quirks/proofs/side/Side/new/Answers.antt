@@ -1,0 +1,10 @@
+use Rattle.std.proofs.Common.{Some, refl}
+use Rattle.client_quirks.specs.declared.side.Side.{Side}
+use Rattle.client_quirks.specs.declared.speech.Speech.TheVariants.{Silent}
+use Rattle.client_quirks.proofs.Following.{begins}
+use Rattle.client_quirks.proofs.side.Side.new.Goals as goal
+
+pub returns : goal.returns
+returns c =
+    let side : Side = record { cutter = Some c.in_ok-new.field-0; speech = Silent } in
+    begins c.in_ok-new.field-0 side c.in_ok-new.ensures refl refl

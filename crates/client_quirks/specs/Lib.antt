@@ -1,0 +1,5 @@
+pub mod Amending
+pub mod Leaving
+pub mod Meanings
+pub mod Sides
+pub mod Speech

@@ -1,0 +1,226 @@
+ghost use Rattle.std.specs.Prelude.{◌≡◌, ◌++◌, ◌∷◌, ◌≤◌, [], take, drop, length, true, false, not, ◌||◌, IfOk, OnOk};
+ghost use Rattle.std.specs.List.{concat};
+ghost use Rattle.client_quirks.specs.Sides.{IsSide, Follows};
+ghost use Rattle.client_quirks.specs.Leaving.{mark, told_behind, told_by, heard_behind, front_count, is_kept, closing, Hears, Listens};
+ghost use Rattle.client_quirks.specs.declared.stage.Stage.TheVariants.{Free};
+
+use crate::pieces::{PieceList, StreamPiece, add_bytes, alone};
+use crate::side::Side;
+use crate::speech::{Speech, bytes_of};
+use crate::stage::Stage;
+use ice_framing::WholeFrame;
+use sm_world::NoMemory;
+use std::alloc::Global;
+use std::mem;
+
+/// Holds back the end of a client that has answered a logout and leaves before it is told to die.
+#[derive(Debug, Drop)]
+pub struct Keeper {
+    alloc: Global,
+    /// What the client says.
+    came: Side,
+    /// What the manager sends.
+    sent: Side,
+    stage: Stage,
+    /// What is held back of the client's stream.
+    pieces: PieceList,
+    /// Its end is held back, too.
+    has_ended: bool,
+}
+
+/// What was held back of a client that has left.
+#[derive(Debug, Drop)]
+pub struct KeptEnd {
+    pub pieces: PieceList,
+    /// The stream has ended behind them.
+    pub has_ended: bool,
+}
+
+/// Where frames lead, and how many of them stand in front of the one with which the client closes.
+#[derive(Clone, Copy, Debug)]
+struct Walked {
+    speech: Speech,
+    stage: Stage,
+    count: usize,
+}
+
+/// Goes over frames that the client says.
+fn walk_heard(
+    alloc: Global,
+    speech: Speech,
+    stage: Stage,
+    frames: &[WholeFrame],
+) -> Result<Walked, NoMemory>
+    ensures speech { IfOk result (λ walked.
+        walked.speech ≡ (heard_behind (mark speech stage) frames.now).speech) }
+    ensures stage { IfOk result (λ walked.
+        walked.stage ≡ (heard_behind (mark speech stage) frames.now).stage) }
+    ensures count { IfOk result (λ walked.
+        walked.count ≡ front_count (mark speech stage) frames.now) }
+    ensures within { IfOk result (λ walked. walked.count ≤ length frames.now) }
+{
+    let mut walked = Walked {
+        speech,
+        stage,
+        count: 0,
+    };
+    for frame in frames {
+        let reading = walked.speech.reading(alloc, frame)?;
+        let stage = walked.stage.heard(walked.speech, frame);
+        let more = if stage.is_kept() { 0 } else { 1 };
+        walked = Walked {
+            speech: walked.speech.after(&reading),
+            stage,
+            count: more + walked.count,
+        };
+    }
+    Ok(walked)
+}
+
+/// Goes over frames that the manager sends.
+fn walk_told(
+    alloc: Global,
+    speech: Speech,
+    stage: Stage,
+    frames: &[WholeFrame],
+) -> Result<Walked, NoMemory>
+    ensures speech { IfOk result (λ walked.
+        walked.speech ≡ (told_behind (mark speech stage) frames.now).speech) }
+    ensures stage { IfOk result (λ walked.
+        walked.stage ≡ (told_behind (mark speech stage) frames.now).stage) }
+{
+    let mut walked = Walked {
+        speech,
+        stage,
+        count: 0,
+    };
+    for frame in frames {
+        let reading = walked.speech.reading(alloc, frame)?;
+        walked = Walked {
+            speech: walked.speech.after(&reading),
+            stage: walked.stage.told(walked.speech, frame),
+            count: 0,
+        };
+    }
+    Ok(walked)
+}
+
+impl Keeper {
+    /// Before the first byte of either party.
+    pub fn new(alloc: Global) -> Result<Keeper, NoMemory>
+        ensures stage { IfOk result (λ keeper. keeper.stage ≡ Free) }
+        ensures pieces { IfOk result (λ keeper. keeper.pieces ≡ []) }
+        ensures came { IfOk result (λ keeper. IsSide [] keeper.came) }
+        ensures sent { IfOk result (λ keeper. IsSide [] keeper.sent) }
+    {
+        Ok(Keeper {
+            alloc,
+            came: Side::new(alloc)?,
+            sent: Side::new(alloc)?,
+            stage: Stage::Free,
+            pieces: PieceList::new(alloc),
+            has_ended: false,
+        })
+    }
+
+    /// How far a logout has come for the client.
+    pub fn stage(&self) -> Stage
+        ensures { result ≡ self.now.stage }
+    {
+        self.stage
+    }
+
+    /// Hands on the front of a piece, and holds back what stands behind it.
+    fn part(&mut self, piece: StreamPiece, front: usize) -> Result<PieceList, NoMemory>
+        ensures front { IfOk result (λ list. concat list ≡ take front piece) }
+        ensures back { OnOk result
+            (concat self.new.pieces ≡ concat self.old.pieces ++ drop front piece) }
+        ensures stage { self.new.stage ≡ self.old.stage }
+        ensures came { self.new.came ≡ self.old.came }
+        ensures sent { self.new.sent ≡ self.old.sent }
+    {
+        let bytes = piece.as_slice();
+        let (head, tail) = bytes.split_at(front.min(bytes.len()));
+        let mut list = PieceList::new(self.alloc);
+        add_bytes(self.alloc, head, &mut list)?;
+        add_bytes(self.alloc, tail, &mut self.pieces)?;
+        Ok(list)
+    }
+
+    /// Listens to a piece of the client's stream.
+    fn listen(&mut self, piece: StreamPiece) -> Result<PieceList, NoMemory>
+        ensures { IfOk result (λ list. Listens self.old piece list self.new) }
+    {
+        let held = self.came.held();
+        let frames = self.came.take(self.alloc, piece.as_slice())?;
+        let walked = walk_heard(self.alloc, self.came.speech, self.stage, frames.as_slice())?;
+        self.came.speech = walked.speech;
+        self.stage = walked.stage;
+        if !walked.stage.is_kept() {
+            return alone(self.alloc, piece);
+        }
+        let (before, _) = frames.as_slice().split_at(walked.count);
+        let front = bytes_of(self.alloc, before)?.len();
+        self.part(piece, front.saturating_sub(held))
+    }
+
+    /// Hears a piece of the client's stream, and gives the pieces that are handed on.
+    pub fn hear(&mut self, piece: StreamPiece) -> Result<PieceList, NoMemory>
+        ensures { IfOk result (λ list. Hears self.old piece list self.new) }
+    {
+        match self.stage {
+            Stage::Kept => {
+                self.pieces.push(piece)?;
+                Ok(PieceList::new(self.alloc))
+            }
+            Stage::Released => alone(self.alloc, piece),
+            Stage::Free => self.listen(piece),
+            Stage::Asked => self.listen(piece),
+            Stage::Answered => self.listen(piece),
+        }
+    }
+
+    /// Hears that the client's stream has ended, and says whether that is handed on.
+    pub fn end(&mut self) -> bool
+        ensures stage { self.new.stage ≡ closing self.old.stage }
+        ensures handed { result ≡ not (is_kept (closing self.old.stage)) }
+        ensures ended { self.new.has_ended
+            ≡ (is_kept (closing self.old.stage) || self.old.has_ended) }
+        ensures pieces { self.new.pieces ≡ self.old.pieces }
+    {
+        self.stage = self.stage.closing();
+        let is_kept = self.stage.is_kept();
+        self.has_ended = is_kept || self.has_ended;
+        !is_kept
+    }
+
+    /// Hears what the manager sends to the client.
+    pub fn tell(&mut self, bytes: &[u8]) -> Result<(), NoMemory>
+        ensures stage { OnOk result (self.new.stage ≡ (told_by self.old bytes.now).stage) }
+        ensures speech { OnOk result (self.new.sent.speech ≡ (told_by self.old bytes.now).speech) }
+        ensures sent { OnOk result (Follows self.old.sent bytes.now self.new.sent) }
+        ensures came { self.new.came ≡ self.old.came }
+        ensures pieces { self.new.pieces ≡ self.old.pieces }
+        ensures ended { self.new.has_ended ≡ self.old.has_ended }
+    {
+        let frames = self.sent.take(self.alloc, bytes)?;
+        let walked = walk_told(self.alloc, self.sent.speech, self.stage, frames.as_slice())?;
+        self.sent.speech = walked.speech;
+        self.stage = walked.stage;
+        Ok(())
+    }
+
+    /// Gives all that is held back.
+    pub fn release(&mut self) -> KeptEnd
+        ensures pieces { result.pieces ≡ self.old.pieces }
+        ensures ended { result.has_ended ≡ self.old.has_ended }
+        ensures none { self.new.pieces ≡ [] }
+        ensures over { self.new.has_ended ≡ false }
+        ensures stage { self.new.stage ≡ self.old.stage }
+    {
+        let has_ended = self.has_ended;
+        self.has_ended = false;
+        let pieces = mem::replace(&mut self.pieces, PieceList::new(self.alloc));
+        KeptEnd { pieces, has_ended }
+    }
+}

@@ -1,0 +1,21 @@
+//! What programs mean that don't keep to the letter of the session protocol: their properties as
+//! they are meant, and the ends of those that leave too early. It calls no device.
+#![tactic(auto)]
+
+mod amender;
+mod cutter;
+mod keeper;
+mod meanings;
+mod pieces;
+mod reading;
+mod side;
+mod speech;
+mod stage;
+
+pub use amender::Amender;
+pub use keeper::{Keeper, KeptEnd};
+pub use meanings::{amended, is_amended};
+pub use pieces::{PieceList, StreamPiece};
+pub use reading::Reading;
+pub use speech::Speech;
+pub use stage::Stage;

@@ -1,0 +1,52 @@
+ghost use Rattle.std.specs.Prelude.{◌≡◌, [], IfOk, OnOk};
+ghost use Rattle.client_quirks.specs.Sides.{new_frames, held_of, IsSide, CutsOn};
+
+use crate::cutter::{Cutter, Cutting};
+use crate::speech::Speech;
+use ice_framing::WholeFrameList;
+use sm_world::NoMemory;
+use std::alloc::Global;
+
+/// One party's stream, as it is cut and understood.
+#[derive(Debug, Drop)]
+pub struct Side {
+    cutter: Option<Cutter>,
+    pub speech: Speech,
+}
+
+impl Side {
+    /// Before the first byte.
+    pub fn new(alloc: Global) -> Result<Side, NoMemory>
+        ensures { IfOk result (λ side. IsSide [] side) }
+    {
+        Ok(Side {
+            cutter: Some(Cutter::new(alloc)?),
+            speech: Speech::Silent,
+        })
+    }
+
+    /// How many bytes came behind the last whole frame.
+    pub fn held(&self) -> usize
+        ensures { result ≡ held_of self.now.cutter }
+    {
+        match &self.cutter {
+            Some(cutter) => cutter.held(),
+            None => 0,
+        }
+    }
+
+    /// The frames that a piece makes whole; none behind a header that states too much.
+    pub fn take(&mut self, alloc: Global, piece: &[u8]) -> Result<WholeFrameList, NoMemory>
+        ensures frames { IfOk result (λ frames. frames ≡ new_frames self.old.cutter piece.now) }
+        ensures rest { OnOk result (CutsOn self.old.cutter piece.now self.new.cutter) }
+        ensures speech { self.new.speech ≡ self.old.speech }
+    {
+        let Some(cutter) = self.cutter.take() else {
+            return Ok(WholeFrameList::new(alloc));
+        };
+        let cutting = cutter.cut(alloc, piece)?;
+        let Cutting { frames, rest } = cutting;
+        self.cutter = rest;
+        Ok(frames)
+    }
+}

@@ -1,0 +1,13 @@
+//! Tests of what programs are taken to mean that don't keep to the letter of the session protocol.
+#![tactic(auto)]
+
+#[cfg(test)]
+mod ends;
+#[cfg(test)]
+mod properties;
+#[cfg(test)]
+mod streams;
+#[cfg(test)]
+mod table;
+#[cfg(test)]
+mod worlds;

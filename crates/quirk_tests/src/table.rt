@@ -1,0 +1,51 @@
+//! Tables of tests. A table is a text, and each of its lines is a row: `INPUT => WANTED`.
+
+use client_quirks::{PieceList, StreamPiece};
+use sm_world::{NoMemory, Octets};
+use std::alloc::{Alloc, Global};
+use std::process::Abort;
+use std::test::Fail;
+
+/// Ends the test where an input is shown otherwise than its row wants.
+pub fn expect_rows<F: Fn(Global, &str) -> Result<String, Fail>>(
+    rt: &(impl Abort + Alloc<A = Global>),
+    rows: &str,
+    shown: F,
+) -> Result<(), Fail>
+    requires { F.IsAlwaysCallable shown }
+{
+    for row in rows.lines() {
+        let Some((input, want)) = row.split_once(" => ") else {
+            return Err("a row without an arrow".into());
+        };
+        let text = shown(rt.alloc(), input)?;
+        assert_eq!(rt; text.as_str(), want, "for {input}");
+    }
+    Ok(())
+}
+
+/// The bytes that a row writes as hex digits.
+pub fn bytes_of(alloc: Global, digits: &str) -> Result<Vec<u8>, Fail> {
+    Ok(hex::decode(alloc, digits)?)
+}
+
+/// The piece that a row writes as hex digits.
+pub fn piece_of(alloc: Global, digits: &str) -> Result<StreamPiece, Fail> {
+    let bytes = Octets::from_vec(bytes_of(alloc, digits)?);
+    if bytes.len() == 0 || bytes.len() > 65_536 {
+        return Err("no piece".into());
+    }
+    Ok(StreamPiece::new(bytes))
+}
+
+/// Adds pieces in hex digits with a stroke behind each, or a dash where there are none.
+pub fn put_pieces(alloc: Global, pieces: &PieceList, text: &mut String) -> Result<(), Fail> {
+    if pieces.as_slice().is_empty() {
+        text.push_str("-")?;
+    }
+    for piece in pieces.as_slice() {
+        text.push_str(hex::encode(alloc, piece.as_slice())?.as_str())?;
+        text.push_str("/")?;
+    }
+    Ok(())
+}

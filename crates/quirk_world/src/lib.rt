@@ -1,0 +1,11 @@
+//! The outside of a session manager with programs as they are: a world around a world, which hands
+//! on what clients mean (`client_quirks`) and everything else as it comes.
+#![tactic(auto)]
+
+mod follower;
+mod news;
+mod option;
+mod world;
+
+pub use option::take_quirks;
+pub use world::QuirkWorld;
