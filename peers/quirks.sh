@@ -38,7 +38,7 @@ with_twm() {
   joins emacs 7 emacs -Q
   sleep 2
   check "the programs log out with --quirks" logs_out
-  check "xterm's words are kept" has_words "xterm -title words"
+  check "the words of xterm are kept" has_words "-title words"
   come_back twm gkrellm xterm xclock featherpad qt6_window emacs
 }
 
