@@ -22,6 +22,9 @@ come_back() {
   done
 }
 
+# twm's states of saves before the last are removed, by the lines that it gives for a shell.
+has_one_state() { [ "$(find "$HOME" -maxdepth 1 -name '.twm??????' | wc -l)" -eq 1 ]; }
+
 # The commands that the store keeps.
 restarts() { "$smd" store-check --store "$at/store"; }
 
@@ -38,8 +41,9 @@ with_twm() {
   joins emacs 7 emacs -Q
   sleep 2
   check "the programs log out with --quirks" logs_out
-  check "xterm's words are kept" has_words "xterm -title words"
+  check "the words of xterm are kept" has_words "-title words"
   come_back twm gkrellm xterm xclock featherpad qt6_window emacs
+  check "twm's old states are removed" within 10 has_one_state
 }
 
 with_openbox() {

@@ -1,25 +1,21 @@
 -- What a piece more does to what is handed on of a stream.
-use Rattle.std.proofs.Common.{◌≡◌, ℕ, ◌-◌, ◌⊎◌, inl, inr, List, [], ◌∷◌, ◌++◌, length, take, drop, Bool, true, false, ◌||◌, Option, Some, None, refl, sym, ap, ◌∙◌, subst, arith, append_assoc, append-nil}
-use Rattle.std.specs.Prelude.{flat_map, MatchOption, ◌==◌, not, nat_eq}
+use Rattle.std.proofs.Common.{◌≡◌, ℕ, List, [], ◌∷◌, ◌++◌, Bool, true, false, ◌||◌, refl, sym, ap, ◌∙◌, subst, append_assoc, append-nil}
+use Rattle.std.specs.Prelude.{flat_map}
 use Rattle.std.specs.List.{concat}
 use Rattle.std.proofs.Math.Bool.{or_assoc}
 use Rattle.std.proofs.lemmas.Bool.{false≢true}
 use Rattle.std.proofs.lemmas.List.{append_cancel_right}
 use Rattle.std.proofs.lemmas.List.Folds.{concat-append}
-use Rattle.ice_framing.specs.Frames.{Standing, beginning, fed, cut, frames_of, standing_of, IsOversize}
+use Rattle.ice_framing.specs.Frames.{Standing, fed, cut, frames_of, standing_of}
 use Rattle.ice_framing.specs.declared.cutting.WholeFrame.{WholeFrame}
-use Rattle.ice_framing.proofs.Cuts.{cut-oversize, oversize-fed}
 use Rattle.ice_framing.proofs.Shapes.{joined}
 use Rattle.ice_framing.proofs.Streams.{frames_of-append, standing_of-append}
-use Rattle.ice_values.specs.declared.property.Property.{Property}
 use Rattle.client_quirks.proofs.Joining.{concat-push}
-use Rattle.client_quirks.specs.Speech.{is_whole, reading, after, is_respelled, is_changed, spelled_anew, speech_behind, handed_on, are_changed, amended_stream}
-use Rattle.client_quirks.specs.Amending.{FollowsBy, IsOpen, HasEnded, left_open, is_within}
+use Rattle.client_quirks.specs.Speech.{is_whole, reading, after, is_changed, spelled_anew, speech_behind, handed_on, are_changed, amended_stream}
 use Rattle.client_quirks.specs.declared.speech.Speech.{Speech}
-use Rattle.client_quirks.specs.declared.speech.Speech.TheVariants.{Silent, Greeted, Speaks, Lost}
+use Rattle.client_quirks.specs.declared.speech.Speech.TheVariants.{Silent, Lost}
 use Rattle.client_quirks.specs.declared.reading.Reading.{Reading}
 use Rattle.client_quirks.specs.declared.reading.Reading.TheVariants.{Nothing, Greets, Opens, Sets, Unread}
-use Rattle.client_quirks.specs.declared.cutter.Cutter.{Cutter}
 
 -- ---- frames behind frames
 

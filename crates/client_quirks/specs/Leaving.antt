@@ -1,13 +1,11 @@
 -- Clients that leave too early: what the frames of both parties say of a logout, and which ends are held back.
-use Rattle.std.specs.Prelude.{◌≡◌, ℕ, ◌+◌, ◌-◌, ◌==◌, ◌||◌, Bool, true, false, if◌then◌else◌, List, [], ◌∷◌, ◌++◌, length, take, drop, flat_map, slice_index, Option, Some, None}
+use Rattle.std.specs.Prelude.{◌≡◌, ℕ, ◌+◌, ◌-◌, ◌==◌, ◌||◌, Bool, true, false, if◌then◌else◌, List, [], ◌∷◌, ◌++◌, length, take, drop, flat_map, slice_index}
 use Rattle.std.specs.List.{concat}
-use Rattle.ice_framing.specs.Frames.{fed, cut, IsOversize}
 use Rattle.ice_framing.specs.declared.cutting.WholeFrame.{WholeFrame}
 use Rattle.client_quirks.specs.Sides.{new_frames, held_of, Follows}
 use Rattle.client_quirks.specs.Speech.{is_message, reading, after}
 use Rattle.client_quirks.specs.declared.speech.Speech.{Speech}
 use Rattle.client_quirks.specs.declared.speech.Speech.TheVariants.{Silent, Greeted, Speaks, Lost}
-use Rattle.client_quirks.specs.declared.cutter.Cutter.{Cutter}
 use Rattle.client_quirks.specs.declared.side.Side.{Side}
 use Rattle.client_quirks.specs.declared.stage.Stage.{Stage}
 use Rattle.client_quirks.specs.declared.stage.Stage.TheVariants.{Free, Asked, Answered, Kept, Released}

@@ -1,5 +1,5 @@
 -- What the properties of a client are taken to mean (XSMP, chapter 11: Predefined Properties). Four rules, each on one property.
-use Rattle.std.specs.Prelude.{ℕ, ◌+◌, ◌==◌, ◌&&◌, ◌||◌, not, Bool, true, if◌then◌else◌, List, [], ◌∷◌, length, take, drop, map, codes, slice_index, Option, Some, None, position}
+use Rattle.std.specs.Prelude.{ℕ, ◌+◌, ◌==◌, ◌&&◌, ◌||◌, not, Bool, if◌then◌else◌, List, ◌∷◌, length, take, drop, map, codes, slice_index, Option, Some, None, position}
 use Rattle.std.specs.List.{list_any}
 use Rattle.std.specs.Str.{bytes_eq}
 use Rattle.ice_values.specs.declared.property.Property.{Property}

@@ -1,4 +1,3 @@
-use Rattle.std.proofs.Common.{◌≡◌, ◌∙◌}
 use Rattle.client_quirks.proofs.Joining.{joined_more}
 use Rattle.client_quirks.proofs.pieces.joined.Goals as goal
 

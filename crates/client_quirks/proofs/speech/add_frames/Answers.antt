@@ -1,6 +1,6 @@
-use Rattle.std.proofs.Common.{◌≡◌, ◌∙◌, Bool, ◌||◌, subst, sym, ℕ, ◌+◌}
+use Rattle.std.proofs.Common.{Bool, ◌||◌, subst, sym, ◌+◌}
 use Rattle.client_quirks.specs.declared.speech.Speech.{Speech}
-use Rattle.client_quirks.proofs.Walking.{Walking, walked_one, walked_all}
+use Rattle.client_quirks.proofs.Walking.{Walking, walked_one}
 use Rattle.client_quirks.proofs.speech.add_frames.Goals as goal
 
 pub loop-frame-preserved : goal.loop-frame-preserved

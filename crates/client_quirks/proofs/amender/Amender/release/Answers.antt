@@ -1,5 +1,4 @@
-use Rattle.std.proofs.Common.{◌≡◌, ◌++◌, ◌∙◌, sym, ap, subst, List, ℕ}
-use Rattle.std.specs.List.{concat}
+use Rattle.std.proofs.Common.{◌++◌, ◌∙◌, sym, subst, List, ℕ}
 use Rattle.std.proofs.lemmas.List.Folds.{concat-append}
 use Rattle.client_quirks.specs.Amending.{HandedAll}
 use Rattle.client_quirks.proofs.amender.Amender.release.Goals as goal

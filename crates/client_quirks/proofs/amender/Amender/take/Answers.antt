@@ -1,10 +1,10 @@
-use Rattle.std.proofs.Common.{rules, ◌≡◌, ◌++◌, ◌∷◌, [], ◌∙◌, sym, ap, subst, List, ℕ, length, Some, None, true, false, Bool, Option}
-use Rattle.std.specs.Prelude.{flat_map, if◌then◌else◌, MatchOption}
+use Rattle.std.proofs.Common.{rules, ◌≡◌, ◌++◌, ◌∷◌, [], sym, subst, List, ℕ, length, Some, None, true, false, Option}
+use Rattle.std.specs.Prelude.{flat_map, MatchOption}
 use Rattle.std.specs.List.{concat}
 use Rattle.ice_framing.specs.Frames.{fed, cut, IsOversize}
 use Rattle.ice_framing.specs.declared.cutting.WholeFrame.{WholeFrame}
-use Rattle.client_quirks.specs.Speech.{speech_behind, are_changed, handed_on}
-use Rattle.client_quirks.specs.Amending.{Follows, FollowsBy, Rewrites, left_open, is_within}
+use Rattle.client_quirks.specs.Speech.{are_changed, handed_on}
+use Rattle.client_quirks.specs.Amending.{FollowsBy, Rewrites, is_within}
 use Rattle.client_quirks.specs.declared.cutter.Cutter.{Cutter}
 use Rattle.client_quirks.proofs.Followed.{passed, Cuts, Left, take_kept, take_rewritten, with_answer, with_both}
 use Rattle.client_quirks.proofs.amender.Amender.take.Goals as goal

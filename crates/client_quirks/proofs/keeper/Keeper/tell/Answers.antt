@@ -14,7 +14,7 @@ returns-clause-sent c = λ stream side.
     let frames : c.as_slice.result.now ≡ new_frames old.cutter c.args.bytes.now = search rules in
     let new : Side = record { cutter = c.take.new.self.cutter; speech = c.in_ok-walked.walked.speech } in
     let speech : new.speech ≡ speech_behind old.speech (new_frames old.cutter c.args.bytes.now) =
-        c.in_ok-walked.ensures.speech ∙ told_speech (mark c.take.new.self.speech c.args.self.now.stage) c.as_slice.result.now
-        ∙ ap (λ (s : Speech). speech_behind s c.as_slice.result.now) c.take.ensures.speech
-        ∙ ap (λ (fs : List WholeFrame). speech_behind old.speech fs) frames in
+    c.in_ok-walked.ensures.speech ∙ told_speech (mark c.take.new.self.speech c.args.self.now.stage) c.as_slice.result.now
+    ∙ ap (λ (s : Speech). speech_behind s c.as_slice.result.now) c.take.ensures.speech
+    ∙ ap (λ (fs : List WholeFrame). speech_behind old.speech fs) frames in
     side_grown stream c.args.bytes.now old new c.in_ok-frames.ensures.rest speech side
