@@ -5,4 +5,4 @@ mod spawner;
 #[cfg(test)]
 mod tests;
 
-pub use spawner::ProgramSpawner;
+pub use spawner::{ProgramSpawner, prepared, text};

@@ -22,12 +22,12 @@ pub struct ProgramSpawner {
 }
 
 /// These bytes as text.
-fn text(bytes: &Octets) -> io::Result<&str> {
+pub fn text(bytes: &Octets) -> io::Result<&str> {
     str::from_utf8(bytes.as_slice()).map_err(|_| io::Error::from(ErrorKind::InvalidInput))
 }
 
 /// The system's command for a command.
-fn prepared(alloc: Global, command: &Command) -> io::Result<process::Command> {
+pub fn prepared(alloc: Global, command: &Command) -> io::Result<process::Command> {
     let mut words = command.words.as_slice().iter();
     let Some(program) = words.next() else {
         return Err(io::Error::from(ErrorKind::InvalidInput));

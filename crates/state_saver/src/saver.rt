@@ -67,6 +67,19 @@ impl<'a, F: Files> Saver<'a, F> {
         }
     }
 
+    /// Hands the files back.
+    pub fn into_files(self) -> &'a mut F
+        ensures { result ≡ self.entry.files }
+    {
+        let Saver {
+            alloc: _alloc,
+            files,
+            plan: _plan,
+            number: _number,
+        } = self;
+        files
+    }
+
     /// The number of the last copy.
     pub fn number(&self) -> u32
         ensures { result ≡ self.now.number }

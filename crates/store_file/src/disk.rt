@@ -165,7 +165,7 @@ impl Disk for FileDisk {
     }
 
     fn publish(&mut self, path: &str, bytes: &[u8]) -> Result<(), Failure> {
-        match replace(self.rt, path, bytes) {
+        match replace(self.rt, path, bytes, None) {
             Ok(()) => Ok(()),
             Err(error) => Err(self.failure(path, error)),
         }

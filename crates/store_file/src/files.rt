@@ -1,6 +1,6 @@
-use std::fs::{File, OpenOptions, TryLockError};
+use std::fs::{File, OpenOptions, Permissions, TryLockError};
 use std::io::{ErrorKind, Write};
-use std::os::unix::fs::{MetadataExt, OpenOptionsExt};
+use std::os::unix::fs::{MetadataExt, OpenOptionsExt, PermissionsExt};
 use std::path::Path;
 use std::time::Duration;
 use std::{fs, io, process, thread};
@@ -127,18 +127,28 @@ pub fn take_store(rt: HostRuntime, path: &str, size: u64) -> io::Result<(File, u
     Ok((file, size))
 }
 
-fn write_new(rt: HostRuntime, new: &str, path: &str, bytes: &[u8]) -> io::Result<()> {
+fn write_new(
+    rt: HostRuntime,
+    new: &str,
+    path: &str,
+    bytes: &[u8],
+    mode: Option<u32>,
+) -> io::Result<()> {
     let mut file = create_private(rt, new)?;
     file.write_all(bytes)?;
+    if let Some(mode) = mode {
+        file.set_permissions(Permissions::from_mode(mode))?;
+    }
     file.sync_all()?;
     fs::rename(&rt, new, path)
 }
 
-/// Puts a new file, which is its owner's alone, in the place of a file. Whoever reads the file finds
-/// the old one or the new one, and never a part.
-pub fn replace(rt: HostRuntime, path: &str, bytes: &[u8]) -> io::Result<()> {
+/// Puts a new file in the place of a file: one with this mode, or one that is its owner's alone.
+/// Whoever reads the file finds the old one or the new one, and never a part; the new one is on the
+/// disk then.
+pub fn replace(rt: HostRuntime, path: &str, bytes: &[u8], mode: Option<u32>) -> io::Result<()> {
     let new = name_beside(rt, path)?;
-    match write_new(rt, new.as_str(), path, bytes) {
+    match write_new(rt, new.as_str(), path, bytes, mode) {
         Ok(()) => sync_folder(rt, path),
         Err(error) => {
             let _ = fs::remove_file(&rt, new.as_str());

@@ -8,3 +8,4 @@ mod files;
 mod tests;
 
 pub use disk::FileDisk;
+pub use files::replace;

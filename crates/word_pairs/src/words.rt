@@ -21,11 +21,11 @@ pub fn is_word(words: &[String], at: usize, word: &str) -> bool
     word_at(words, at) == word
 }
 
-/// The value of the first pair with this name, of the pairs behind the first word.
-pub fn value_of<'a>(words: &'a [String], name: &str) -> Option<&'a str>
-    ensures { MatchOption result (value_in (pairs_of (drop 1 (map string_bytes words.now))) name.now ≡ None) (λ value. value_in (pairs_of (drop 1 (map string_bytes words.now))) name.now ≡ Some value.now) }
+/// The value of the first pair with this name, of the pairs that begin at this word.
+pub fn value_from<'a>(words: &'a [String], from: usize, name: &str) -> Option<&'a str>
+    ensures { MatchOption result (value_in (pairs_of (drop from (map string_bytes words.now))) name.now ≡ None) (λ value. value_in (pairs_of (drop from (map string_bytes words.now))) name.now ≡ Some value.now) }
 {
-    let mut at = 1;
+    let mut at = from;
     while at < words.len() && words.len() - at >= 2 {
         if is_word(words, at, name) {
             return Some(word_at(words, at + 1));
@@ -33,6 +33,13 @@ pub fn value_of<'a>(words: &'a [String], name: &str) -> Option<&'a str>
         at += 2;
     }
     None
+}
+
+/// The value of the first pair with this name, of the pairs behind the first word.
+pub fn value_of<'a>(words: &'a [String], name: &str) -> Option<&'a str>
+    ensures { MatchOption result (value_in (pairs_of (drop 1 (map string_bytes words.now))) name.now ≡ None) (λ value. value_in (pairs_of (drop 1 (map string_bytes words.now))) name.now ≡ Some value.now) }
+{
+    value_from(words, 1, name)
 }
 
 /// Whether a path can be named: it has 1 to 4,096 bytes.

@@ -1,8 +1,8 @@
 use Rattle.std.proofs.Common.{arith, map, string_bytes, sym, ◌∙◌, ap, Some, ◌≤◌, ◌+◌, length}
 use Rattle.std.proofs.lemmas.List.{length-map}
 use Rattle.word_pairs.proofs.Pairing.{found_here, found_later, none_left}
-use Rattle.word_pairs.proofs.words.value_of.Goals as goal
-use Rattle.word_pairs.proofs.words.value_of.Goals.{then-loop-at-test+else-words-at-ge2, else-loop-at-test}
+use Rattle.word_pairs.proofs.words.value_from.Goals as goal
+use Rattle.word_pairs.proofs.words.value_from.Goals.{then-loop-at-test+else-words-at-ge2, else-loop-at-test}
 
 pub returns-then-is_word : goal.returns-then-is_word
 returns-then-is_word c =

@@ -1,0 +1,8 @@
+pub mod WordLaws
+pub mod EffectLaws
+pub mod ScriptLaws
+pub mod RunLaws
+pub mod CopyLaws
+pub mod TellLaws
+pub mod JoinLaws
+pub mod ProgramLaws

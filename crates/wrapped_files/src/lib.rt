@@ -1,0 +1,11 @@
+//! The outside of a real program that is wrapped: its files, how it is started, and the console. What
+//! they hold is told to nobody; the faults are counted.
+#![tactic(auto)]
+
+mod files;
+mod starting;
+#[cfg(test)]
+mod tests;
+mod wrapped;
+
+pub use wrapped::WrappedFiles;
