@@ -6,9 +6,9 @@ ghost use Rattle.session_clients.specs.Clients.{clients_in};
 ghost use Rattle.session_state.specs.Session.{moved_all, reading_in};
 ghost use Rattle.manager_machine.specs.Agreeing.{completing, ending, planned};
 
-use checkpoint_records::EntryList;
 use crate::inner::Core;
 use crate::rounds::copy_conns;
+use checkpoint_records::EntryList;
 use round_agreement::Round;
 use session_books::{last_commands, next_entries};
 use session_clients::Clients;

@@ -6,8 +6,8 @@ ghost use Rattle.session_state.specs.Session.{moved, moved_all, reading_in};
 ghost use Rattle.manager_machine.specs.Kept.{cause_for};
 ghost use Rattle.manager_machine.specs.Agreeing.{discarding};
 
-use checkpoint_records::{Book, EntryList, copy_book};
 use crate::inner::Core;
+use checkpoint_records::{Book, EntryList, copy_book};
 use discard_ledger::Ledger;
 use session_model::{Act, Reason};
 use sm_world::{Command, CommandList, Duplicate, NoMemory, Octets};

@@ -7,11 +7,11 @@ ghost use Rattle.manager_machine.specs.Answers.{departures_moves, again_moves, m
 ghost use Rattle.restart_plan.specs.Restarts.{respawn as respawn_of};
 ghost use Rattle.session_model.specs.Replies as of;
 
-use checkpoint_records::Entry;
 use crate::inner::{Core, Counts};
 use crate::messages::add_stray;
 use crate::registrations::one_more;
 use crate::replies::{Again, Departure, Reply};
+use checkpoint_records::Entry;
 use ice_values::Array8;
 use restart_plan::respawn;
 use session_clients::{entry_of, is_dying};

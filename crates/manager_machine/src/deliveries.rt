@@ -181,11 +181,7 @@ fn wants_second(phase: Option<Phase>) -> bool
 }
 
 /// Those of these connections whose clients wait for the second phase, in their order.
-fn wanting_among(
-    alloc: Global,
-    clients: &Clients,
-    conns: &[Conn],
-) -> Result<ConnList, NoMemory>
+fn wanting_among(alloc: Global, clients: &Clients, conns: &[Conn]) -> Result<ConnList, NoMemory>
     ensures { IfOk result (λ wanting. wanting ≡ filter (λ c. wants_it (phase_in c clients.now.rows)) conns.now) }
 {
     let mut wanting = ConnList::new(alloc);

@@ -15,16 +15,19 @@ ghost use Rattle.manager_machine.specs.Order.{InOrder};
 ghost use Rattle.interact_queue.specs.Queue.{is_holder, is_in};
 ghost use Rattle.session_model.specs.declared.phase.Phase.{Phase as APhase};
 
-use checkpoint_records::{Book, same_command};
 use crate::inner::Core;
 use crate::registrations::newcomer_said;
 use crate::replies::Reply;
+use checkpoint_records::{Book, same_command};
 use discard_ledger::Ledger;
 use ice_values::PropertyList;
 use interact_queue::InteractQueue;
 use round_agreement::Wanted;
 use session_answers::{bad_state, full_table, lone_shutdown};
-use session_clients::{is_bound, is_dying, is_first_saving, is_interacting, is_owing, is_saving, is_shutdown, is_unregistered, may_interact};
+use session_clients::{
+    is_bound, is_dying, is_first_saving, is_interacting, is_owing, is_saving, is_shutdown,
+    is_unregistered, may_interact,
+};
 use session_model::{Arrival, Phase};
 use sm_world::{Command, Conn, NoMemory};
 use std::alloc::Global;
@@ -36,7 +39,10 @@ impl Core {
         ensures { IfOk result (λ reply. (s : Session) → moves_of s reply ≡ of.reply (reading_in self.now) (HasSaid arrival.now.conn arrival.now.message arrival.now.sequence arrival.now.frame)) }
     {
         match &arrival.message {
-            XsmpMessage::ConnectionClosed { .. } => Ok(Reply::Shut(arrival.conn, self.again(arrival.conn)?)),
+            XsmpMessage::ConnectionClosed { .. } => Ok(Reply::Shut(
+                arrival.conn,
+                self.again(arrival.conn)?,
+            )),
             XsmpMessage::Error(_) => Ok(Reply::Quiet),
             _ => self.reply_to_client(arrival),
         }
@@ -87,7 +93,10 @@ impl Core {
             XsmpMessage::SetProperties { properties } => {
                 self.reply_to_setting(arrival, properties)
             }
-            XsmpMessage::GetProperties => Ok(Reply::Tell(arrival.conn, self.properties_of(arrival.conn)?)),
+            XsmpMessage::GetProperties => Ok(Reply::Tell(
+                arrival.conn,
+                self.properties_of(arrival.conn)?,
+            )),
             XsmpMessage::SaveYourselfRequest {
                 shutdown,
                 global,
@@ -96,15 +105,17 @@ impl Core {
                 let is_lone = *shutdown && !*global;
                 self.reply_to_save_request(arrival, is_lone)
             }
-            XsmpMessage::InteractDone { cancel: true } => {
-                self.reply_to_cancelling(arrival)
-            }
+            XsmpMessage::InteractDone { cancel: true } => { self.reply_to_cancelling(arrival) }
             _ => Ok(Reply::Quiet),
         }
     }
 
     /// The answer to a client that sets properties.
-    fn reply_to_setting(&self, arrival: &Arrival, properties: &PropertyList) -> Result<Reply, NoMemory>
+    fn reply_to_setting(
+        &self,
+        arrival: &Arrival,
+        properties: &PropertyList,
+    ) -> Result<Reply, NoMemory>
         ensures { IfOk result (λ reply. (s : Session) → moves_of s reply ≡ cond (is_full (set_all (table_in arrival.now.conn self.now.clients.rows) properties.now)) (Blamed arrival.now.conn (errors.full_table arrival.now) ∷ []) []) }
     {
         if self.clients.would_be_full(arrival.conn, properties)? {

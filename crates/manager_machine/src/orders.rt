@@ -11,10 +11,10 @@ ghost use Rattle.session_state.specs.Session.{Session, reading_in, moved, moved_
 ghost use Rattle.manager_machine.specs.Answers.{moves_of, call_off_moves, forget_moves, shut_moves};
 ghost use Rattle.session_model.specs.Replies.{resigned};
 
-use checkpoint_records::Entry;
 use crate::inner::Core;
 use crate::replies::{Again, Forgetting, Reply};
 use crate::rounds::members_of;
+use checkpoint_records::Entry;
 use round_agreement::Round;
 use session_answers::{Doing, Status, status_line};
 use session_books::{command_anyway, entries_without};
@@ -166,7 +166,11 @@ impl Core {
     }
 
     /// The line `ok` is printed, and a connection is shut.
-    pub(crate) fn print_and_shut(&mut self, conn: Conn, again: Option<Again>) -> Result<(), NoMemory>
+    pub(crate) fn print_and_shut(
+        &mut self,
+        conn: Conn,
+        again: Option<Again>,
+    ) -> Result<(), NoMemory>
         ensures { OnOk result (self.new ≡ moved_all (Printed (codes "ok") ∷ shut_moves conn again) self.old) }
     {
         self.print_ok()?;

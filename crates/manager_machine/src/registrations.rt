@@ -25,7 +25,11 @@ const ID_LIMIT: usize = 128;
 
 impl Core {
     /// The answer to a client that registers, by the ID that it had before.
-    pub(crate) fn reply_to_registering(&self, arrival: &Arrival, previous: &Array8) -> Result<Reply, NoMemory>
+    pub(crate) fn reply_to_registering(
+        &self,
+        arrival: &Arrival,
+        previous: &Array8,
+    ) -> Result<Reply, NoMemory>
         ensures { IfOk result (λ reply. (s : Session) → moves_of s reply ≡ of.register (reading_in self.now) arrival.now previous.now) }
     {
         if previous.as_slice().is_empty() {

@@ -2,8 +2,8 @@ ghost use Rattle.std.specs.Prelude.{◌≡◌, OnOk};
 ghost use Rattle.session_state.specs.Session.{moved_all};
 ghost use Rattle.manager_machine.specs.Answers.{moves_of};
 
-use checkpoint_records::EntryList;
 use crate::inner::Core;
+use checkpoint_records::EntryList;
 use ice_values::{Array8, ErrorBody, PropertyList};
 use sm_world::{Command, CommandList, Conn, ConnList, ListOf, NoMemory, Octets};
 use xsmp_messages::XsmpMessage;

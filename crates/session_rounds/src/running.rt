@@ -184,12 +184,7 @@ fn leave_round(round: &mut Option<Round>, conn: Conn)
 }
 
 /// A member says something of its save, and was in this phase before.
-fn hear_round(
-    round: &mut Option<Round>,
-    conn: Conn,
-    message: &XsmpMessage,
-    phase: Option<Phase>,
-)
+fn hear_round(round: &mut Option<Round>, conn: Conn, message: &XsmpMessage, phase: Option<Phase>)
     requires saving { is_saving phase ≡ true → is_member_at (λ d r. is_at saves d r.members) conn round.old ≡ true }
     requires saving_first { is_first_saving phase ≡ true → is_member_at (λ d r. is_at saves_first d r.members) conn round.old ≡ true }
     ensures { (phases : ℕ → Option APhase) → phases conn ≡ phase → round.new ≡ round_said conn message.now phases round.old }

@@ -131,7 +131,9 @@ impl WaitingRounds {
                 style,
                 fast,
                 global: false,
-            } if is_bound(phase) => { self.add_request(conn, lone_wait(conn, *kind, *style, *fast)) }
+            } if is_bound(phase) => {
+                self.add_request(conn, lone_wait(conn, *kind, *style, *fast))
+            }
             _ => Ok(()),
         }
     }

@@ -74,7 +74,13 @@ pub(crate) fn lone_wait(conn: Conn, kind: SaveKind, style: SaveStyle, fast: bool
 }
 
 /// A client's request for all.
-pub(crate) fn global_wait(conn: Conn, kind: SaveKind, shutdown: bool, style: SaveStyle, fast: bool) -> Wait
+pub(crate) fn global_wait(
+    conn: Conn,
+    kind: SaveKind,
+    shutdown: bool,
+    style: SaveStyle,
+    fast: bool,
+) -> Wait
     ensures { result ≡ of.global_wait conn kind shutdown style fast }
 {
     Wait {

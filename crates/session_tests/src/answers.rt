@@ -63,9 +63,19 @@ fn a_wrong_value_is_shown(rt: HostRuntime) -> Result<(), Fail> {
     let alloc = rt.alloc();
     let arrival = registering(alloc, b"abc", b"\x01\x01\0\0\x01\0\0\0\x03\0\0\0abc\0")?;
     let error = full_table(alloc, &arrival)?;
-    tells(&rt, &error, (0x8003, 1, 1), b"\x08\0\0\0\x04\0\0\0\x03\0\0\0\0\0\0\0");
+    tells(
+        &rt,
+        &error,
+        (0x8003, 1, 1),
+        b"\x08\0\0\0\x04\0\0\0\x03\0\0\0\0\0\0\0",
+    );
     let error = lone_shutdown(alloc, &arrival)?;
-    tells(&rt, &error, (0x8003, 1, 1), b"\x0c\0\0\0\x01\0\0\0a\0\0\0\0\0\0\0");
+    tells(
+        &rt,
+        &error,
+        (0x8003, 1, 1),
+        b"\x0c\0\0\0\x01\0\0\0a\0\0\0\0\0\0\0",
+    );
     Ok(())
 }
 
