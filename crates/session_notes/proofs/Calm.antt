@@ -1,5 +1,5 @@
 -- Moves that ask nothing of the history, and the discards that go with a book.
-use Rattle.std.proofs.Common.{◌≡◌, refl, ℕ, Bool, true, false, cond, ◌||◌, List, [], ◌∷◌, ◌++◌, map, eqb, sym, ap, subst, ◌∙◌, arith}
+use Rattle.std.proofs.Common.{◌≡◌, refl, ℕ, Bool, true, false, cond, ◌||◌, List, [], ◌∷◌, ◌++◌, eqb, sym, ap, subst, ◌∙◌, arith}
 use Rattle.std.specs.Prelude.{Option, None}
 use Rattle.std.specs.List.{AllByRecursion}
 use Rattle.sm_world.specs.declared.commands.Command.{Command}
@@ -12,7 +12,7 @@ use Rattle.discard_ledger.specs.Discards.{discard_of, is_among, without_commands
 use Rattle.session_model.specs.declared.phase.Phase.{Phase}
 use Rattle.session_model.specs.Phases.{is_member, is_registered, phase_given}
 use Rattle.session_model.specs.Tables.{is_same}
-use Rattle.session_model.specs.Moves.{Move, Cause, Discard, Outside, Gave, Blamed, Unset, Closed, Began, Agreed, Tried, Committed, History, ◌▷◌, onto, gave_each, tried_each}
+use Rattle.session_model.specs.Moves.{Move, Cause, Discard, Outside, Gave, Blamed, Unset, Closed, Began, Agreed, Tried, Committed, History, ◌▷◌, onto, tried_each}
 use Rattle.session_model.specs.Readings as of
 use Rattle.session_model.specs.Reading.{reading}
 use Rattle.session_model.specs.Books.{issue, discarded, standing}

@@ -1,10 +1,10 @@
 -- Messages that come, and the answers to events.
 use Rattle.std.proofs.Common.{◌≡◌, refl, ℕ, Bool, true, false, cond, not, ◌&&◌, ◌||◌, List, [], ◌∷◌, ◌++◌, ◌+◌, ◌<◌, filter, eqb, sym, ap, subst, ◌∙◌, arith}
-use Rattle.std.specs.Prelude.{Option, Some, None, is_some, is_none, codes, nat_le, flat_map}
+use Rattle.std.specs.Prelude.{Option, Some, None, is_some, is_none, codes, nat_le}
 use Rattle.std.proofs.lemmas.Bool.Decides.{nat_tests}
 use Rattle.sm_world.specs.declared.commands.Command.{Command}
 use Rattle.sm_world.specs.declared.events.Order.{Order}
-use Rattle.sm_world.specs.declared.events.Order.TheVariants.{Cancel, DropConn, Forget}
+use Rattle.sm_world.specs.declared.events.Order.TheVariants.{Cancel, Forget}
 use Rattle.sm_world.specs.declared.events.Dialog.{Dialog}
 use Rattle.ice_values.specs.Fields.{ErrorFields}
 use Rattle.ice_values.specs.declared.property.Property.{Property}
@@ -12,14 +12,13 @@ use Rattle.xsmp_properties.specs.Tables.{set_all, without_names}
 use Rattle.checkpoint_records.specs.declared.records.Book.{Book}
 use Rattle.checkpoint_records.specs.declared.records.Entry.{Entry}
 use Rattle.checkpoint_records.specs.Rules.{client_id}
-use Rattle.restart_plan.specs.Restarts.{respawn}
 use Rattle.discard_ledger.specs.Discards.{discard_of}
-use Rattle.round_agreement.specs.Agreement.{Agreement, conns_of, is_nil}
+use Rattle.round_agreement.specs.Agreement.{Agreement, is_nil}
 use Rattle.round_agreement.specs.declared.wanted.Wanted.{Wanted}
 use Rattle.round_agreement.specs.declared.round.Member.{Member}
 use Rattle.xsmp_messages.specs.declared.message.XsmpMessage.{XsmpMessage}
-use Rattle.xsmp_messages.specs.declared.message.XsmpMessage.TheVariants.{Error, RegisterClient, RegisterClientReply, SaveYourselfRequest, InteractRequest, InteractDone, SaveYourselfDone, ShutdownCancelled, ConnectionClosed, SetProperties, DeleteProperties, GetProperties, GetPropertiesReply, SaveYourselfPhase2Request}
-use Rattle.interact_queue.specs.Queue.{is_in, without}
+use Rattle.xsmp_messages.specs.declared.message.XsmpMessage.TheVariants.{Error, RegisterClient, RegisterClientReply, SaveYourselfRequest, InteractRequest, InteractDone, SaveYourselfDone, ConnectionClosed, SetProperties, DeleteProperties, GetProperties, GetPropertiesReply, SaveYourselfPhase2Request}
+use Rattle.interact_queue.specs.Queue.{without}
 use Rattle.session_model.specs.declared.phase.Phase.{Phase}
 use Rattle.session_model.specs.declared.phase.Phase.TheVariants.{Unregistered, Saving, SavingTwo, Interacting, InteractingTwo, Owing, Dying}
 use Rattle.session_model.specs.declared.events.SessionEvent.{SessionEvent}
@@ -30,9 +29,9 @@ use Rattle.session_model.specs.Errors.{no_room, bad_id, full_table, lone_shutdow
 use Rattle.session_model.specs.declared.events.Arrival.{Arrival}
 use Rattle.session_model.specs.Moves.{Move, Outside, Gave, Blamed, Unset, Closed, Committed, Printed, History, Opened, ◌▷◌, onto}
 use Rattle.session_model.specs.Readings as of
-use Rattle.session_model.specs.Reading.{Reading, reading, wanted_in, client_of}
+use Rattle.session_model.specs.Reading.{reading, wanted_in, client_of}
 use Rattle.session_model.specs.Books.{discarded, command_anyway, book_forgetting}
-use Rattle.session_model.specs.Replies.{or_bad_state, respawn_moves, entry_respawn, id_respawn, respawned, depart, has_no_room, known_ids, may_rejoin, register, called_off, want_cancel, answered, unless_dying, said, resigned, forgotten, forget_one, ordered, has_no_place, reply, waited, is_overdue}
+use Rattle.session_model.specs.Replies.{or_bad_state, respawned, depart, has_no_room, known_ids, may_rejoin, register, called_off, want_cancel, answered, unless_dying, said, resigned, forgotten, forget_one, ordered, has_no_place, reply, waited, is_overdue}
 use Rattle.session_model.proofs.Sound.{Sound, sound-step}
 use Rattle.session_model.proofs.Level.{Good}
 use Rattle.session_model.proofs.Names.{asks-heard}

@@ -1,5 +1,5 @@
 -- The rules, and whole runs.
-use Rattle.std.proofs.Common.{◌≡◌, refl, ℕ, zero, suc, ◌+◌, ◌*◌, Bool, true, false, cond, not, ◌&&◌, ◌||◌, List, [], ◌∷◌, ◌++◌, map, length, eqb, sym, ap, subst, ◌∙◌, arith, inl}
+use Rattle.std.proofs.Common.{◌≡◌, refl, ℕ, Bool, true, false, cond, not, ◌&&◌, ◌||◌, List, [], ◌∷◌, ◌++◌, map, eqb, sym, ap, subst, ◌∙◌, arith, inl}
 use Rattle.std.specs.Prelude.{Option, Some, None, is_some, filter_map, ◌⊎◌}
 use Rattle.std.specs.List.{AllByRecursion, Contains, IsDistinct, list_any, list_all}
 use Rattle.std.specs.Str.{bytes_eq}
@@ -13,7 +13,7 @@ use Rattle.checkpoint_records.specs.Rules.{KeepsRules}
 use Rattle.round_agreement.specs.declared.wanted.Wanted.{Wanted}
 use Rattle.round_agreement.specs.declared.round.Member.{Member}
 use Rattle.round_agreement.specs.declared.round.Step.{Step}
-use Rattle.round_agreement.specs.Agreement.{Agreement, is_done, wants_two, all_done, two_ready, agreed, deserted, is_nil, conns_of}
+use Rattle.round_agreement.specs.Agreement.{Agreement, is_done, wants_two, all_done, two_ready, agreed, deserted, conns_of}
 use Rattle.discard_ledger.specs.Discards.{is_among}
 use Rattle.restart_plan.specs.Restarts.{opening_restarts}
 use Rattle.xsmp_messages.specs.declared.message.XsmpMessage.{XsmpMessage}
@@ -25,12 +25,11 @@ use Rattle.session_model.specs.declared.waits.Wait.{Wait}
 use Rattle.session_model.specs.declared.events.SessionEvent.{SessionEvent}
 use Rattle.session_model.specs.declared.events.Act.TheVariants.{Say}
 use Rattle.session_model.specs.Phases.{is_interacting, is_first_saving, is_member, is_shutdown, step_of, begun_phase, completed_phase, dying_phase, second_begun_phase}
-use Rattle.session_model.specs.Moves.{Move, Outside, Gave, Closed, Began, Over, Agreed, Tried, Committed, Finished, End, Restart, History, Opened, ◌▷◌, onto, gave_each, tried_each, Opening, waits_for}
+use Rattle.session_model.specs.Moves.{Move, Gave, Closed, Began, Over, Agreed, Tried, Committed, Finished, End, Restart, History, Opened, ◌▷◌, onto, gave_each, tried_each, Opening, waits_for}
 use Rattle.session_model.specs.Readings as of
 use Rattle.session_model.specs.Reading.{Clients, has_that_id, reading}
 use Rattle.session_model.specs.Books.{is_eligible, next_book, issue, discarded, raised}
-use Rattle.session_model.specs.Replies.{reply}
-use Rattle.session_model.specs.Rules.{last_command, ended, completed, agreement, wanting_two, over_rule, agreed_rule, running_rule, save_yourself, members_for, begin, begin_first, is_free, idle_rule, round_rule, token_rule, rule, go_on, settle, settled, taken, opened, run}
+use Rattle.session_model.specs.Rules.{last_command, ended, completed, agreement, wanting_two, over_rule, agreed_rule, running_rule, save_yourself, members_for, begin, begin_first, is_free, idle_rule, round_rule, token_rule, rule, taken, opened, run}
 use Rattle.session_model.proofs.Sound.{AreRegistered, or-true, or-either}
 use Rattle.session_model.proofs.Pending.{all-more, command_equiv}
 use Rattle.session_model.proofs.Level.{Good, good-plain, onto-append, phase-each, members-each, once-begun, once-completed, once-dying}
@@ -53,7 +52,7 @@ use Rattle.session_notes.proofs.Entries.{completes-next, fates-next}
 use Rattle.session_notes.proofs.Standing.{Completes, Holding, Standing, fates-same, holds-opened, standing-first, standing-step}
 use Rattle.session_notes.proofs.Fresh.{aged-opening}
 use Rattle.session_notes.proofs.Fine.{OneHas, IsDue, IdsHold, DiscardsHold, KeptHolds, IsOwed, Fine, bound-member, fine-step}
-use Rattle.session_notes.proofs.Calm.{fine-calm, fine-append, fine-issue, fine-discarded, IsCalm, IsStill, AllStill, still-onto, still-ruled, still-wide}
+use Rattle.session_notes.proofs.Calm.{fine-calm, fine-append, fine-issue, fine-discarded, IsCalm, IsStill, still-onto, still-ruled, still-wide}
 use Rattle.session_model.proofs.MoveKinds.{every-closed, every-completed, every-tried}
 use Rattle.session_model.proofs.Driven.{taken-keeps}
 use Rattle.session_notes.proofs.Heard.{fine-reply_to}
