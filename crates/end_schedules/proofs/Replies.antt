@@ -1,31 +1,26 @@
 -- The direct answer to what comes from one client gives nothing to the others but that their round is cancelled.
-use Rattle.std.proofs.Common.{◌≡◌, ◌≢◌, refl, sym, ap, ◌∙◌, subst, ℕ, Bool, true, false, cond, not, ◌&&◌, ◌||◌, List, [], ◌∷◌, ◌++◌, arith, filter}
-use Rattle.std.specs.Prelude.{Option, Some, None, flat_map, is_some, codes}
+use Rattle.std.proofs.Common.{◌≡◌, ◌≢◌, refl, sym, ap, ◌∙◌, subst, ℕ, Bool, true, false, cond, not, ◌&&◌, ◌||◌, List, [], ◌∷◌, arith, filter}
+use Rattle.std.specs.Prelude.{Option, Some, None, is_some, codes}
 use Rattle.std.specs.List.{AllByRecursion}
-use Rattle.sm_world.specs.declared.commands.Command.{Command}
 use Rattle.sm_world.specs.declared.events.Order.{Order}
-use Rattle.sm_world.specs.declared.events.Order.TheVariants.{Cancel, Checkpoint, DropConn, Forget, Shutdown, Status}
+use Rattle.sm_world.specs.declared.events.Order.TheVariants.{Cancel, Forget}
 use Rattle.xsmp_properties.specs.Tables.{set_all}
-use Rattle.checkpoint_records.specs.declared.records.Book.{Book}
-use Rattle.checkpoint_records.specs.declared.records.Entry.{Entry}
-use Rattle.restart_plan.specs.Restarts.{respawn}
 use Rattle.discard_ledger.specs.Discards.{issuable}
-use Rattle.interact_queue.specs.Queue.{is_in}
 use Rattle.xsmp_messages.specs.declared.message.XsmpMessage.{XsmpMessage}
-use Rattle.xsmp_messages.specs.declared.message.XsmpMessage.TheVariants.{ConnectionClosed, DeleteProperties, Error, GetProperties, GetPropertiesReply, InteractDone, InteractRequest, RegisterClient, RegisterClientReply, SaveYourselfDone, SaveYourselfPhase2Request, SaveYourselfRequest, SetProperties, ShutdownCancelled}
+use Rattle.xsmp_messages.specs.declared.message.XsmpMessage.TheVariants.{ConnectionClosed, Error, GetProperties, GetPropertiesReply, InteractDone, RegisterClient, RegisterClientReply, SaveYourselfRequest, SetProperties, ShutdownCancelled}
 use Rattle.session_model.specs.declared.events.SessionEvent.{SessionEvent}
 use Rattle.session_model.specs.declared.events.SessionEvent.TheVariants.{Joined, Left, Operator, Ready, Said, Tick}
 use Rattle.session_model.specs.declared.phase.Phase.{Phase}
 use Rattle.session_model.specs.declared.phase.Phase.TheVariants.{Done, Dying}
-use Rattle.session_model.specs.Books.{book_forgetting, command_anyway, discarded, issue, standing}
+use Rattle.session_model.specs.Books.{book_forgetting, standing}
 use Rattle.session_model.specs.Errors.{bad_id, full_table, lone_shutdown, no_room}
 use Rattle.session_model.specs.declared.events.Arrival.{Arrival}
-use Rattle.session_model.specs.Moves.{Began, Blamed, Cancelled, Cause, Closed, Discard, Gave, History, Move, Outside, Printed, Unset, gave_each, tried_each, ◌▷◌}
-use Rattle.session_model.specs.Phases.{is_bound, is_dying, is_first_saving, is_interacting, is_member, is_owing, is_saving, is_shutdown, is_unregistered, may_interact}
-use Rattle.session_model.specs.Reading.{Reading, client_of, reading, wanted_in}
+use Rattle.session_model.specs.Moves.{Began, Blamed, Cancelled, Closed, Gave, History, Move, Outside, Printed, Unset, gave_each, ◌▷◌}
+use Rattle.session_model.specs.Phases.{is_interacting, is_member, is_owing, is_shutdown}
+use Rattle.session_model.specs.Reading.{Reading, reading, wanted_in}
 use Rattle.session_model.specs.Readings as of
-use Rattle.session_model.specs.Replies.{has_place, placed, answered, called_off, depart, entry_respawn, forget, forget_one, forgotten, has_no_place, has_no_room, id_respawn, is_overdue, may_rejoin, may_wait, or_bad_state, ordered, refused, register, reply, resigned, respawn_moves, respawned, said, status_text, unless_dying, want_cancel, waited}
-use Rattle.session_model.specs.Tables.{entry_of, is_full}
+use Rattle.session_model.specs.Replies.{has_place, placed, answered, called_off, depart, forget, has_no_place, has_no_room, is_overdue, may_rejoin, or_bad_state, ordered, refused, register, reply, respawned, said, unless_dying, want_cancel, waited}
+use Rattle.session_model.specs.Tables.{is_full}
 use Rattle.session_model.proofs.MoveKinds.{IsWide, every-cond, every-depart, every-departs, every-forget, every-issue, every-or-bad, every-ordered, every-respawned}
 use Rattle.session_model.proofs.Level.{Good, good-plain}
 use Rattle.session_model.proofs.Ruled.{conns-rows}

@@ -1,7 +1,6 @@
 -- What each event brings, and what holds between events.
-use Rattle.std.proofs.Common.{◌≡◌, ◌≢◌, refl, sym, ap, ◌∙◌, subst, ℕ, zero, suc, ◌+◌, ◌*◌, Bool, true, false, cond, ◌&&◌, List, [], ◌∷◌, ◌++◌, length, eqb, arith}
+use Rattle.std.proofs.Common.{◌≡◌, ◌≢◌, refl, sym, ap, ◌∙◌, subst, ℕ, suc, false, List, [], ◌∷◌, ◌++◌, eqb, arith}
 use Rattle.std.proofs.lemmas.Bool.Decides.{nat_tests}
-use Rattle.round_agreement.specs.Agreement.{is_nil}
 use Rattle.restart_plan.specs.Restarts.{opening_restarts}
 use Rattle.session_model.specs.declared.events.SessionEvent.{SessionEvent}
 use Rattle.session_model.specs.declared.events.SessionEvent.TheVariants.{Said}
@@ -9,9 +8,8 @@ use Rattle.session_model.specs.Books.{issue, opening_moves, raised}
 use Rattle.session_model.specs.Laws.{Always}
 use Rattle.session_model.specs.Moves.{Finished, History, Move, Opened, Outside, Restart, onto, tried_each, ◌▷◌, Opening}
 use Rattle.session_model.specs.Reading.{reading}
-use Rattle.session_model.specs.Readings as of
 use Rattle.session_model.specs.Replies.{reply}
-use Rattle.session_model.specs.Rules.{finished, go_on, opened, rule, run, settle, taken}
+use Rattle.session_model.specs.Rules.{opened, rule, run, taken}
 use Rattle.session_model.proofs.Driven.{taken-keeps}
 use Rattle.session_model.proofs.Level.{Good, good-plain, onto-append}
 use Rattle.session_model.proofs.Replied.{good-opened, good-reply, good-taken}
@@ -56,7 +54,7 @@ went-taken event h g s =
     let k : History = answered_to event h in
     (taken-keeps (λ x. Went k x × (Good x × Steady x))
     (λ x p. let moves : List Move = rule (reading x) in let a : AllGo moves x = go-rule x p.1.0 p.1.1 in
-      (went-both k x (onto x moves) p.0 (record { moves = moves; there = refl; all = a }), (good-rule x p.1.0, steady-onto moves x (go-need moves x a) p.1.1)))
+    (went-both k x (onto x moves) p.0 (record { moves = moves; there = refl; all = a }), (good-rule x p.1.0, steady-onto moves x (go-need moves x a) p.1.1)))
     (λ x p. (
       went-both k x (Finished ▷ x) p.0 (record { moves = Finished ∷ []; there = refl; all = (record { comes = tt; needs = tt }, tt) }),
       (good-plain (Finished ∷ []) x (tt, tt) p.1.0, steady-step Finished x tt p.1.1),
