@@ -1,30 +1,27 @@
 -- The direct answer to what comes from one client gives nothing to the others but that their round is cancelled.
-use Rattle.std.proofs.Common.{◌≡◌, ◌≢◌, refl, sym, ap, ◌∙◌, subst, ℕ, Bool, true, false, cond, not, ◌&&◌, ◌||◌, List, [], ◌∷◌, ◌++◌, arith, filter}
-use Rattle.std.specs.Prelude.{Option, Some, None, flat_map, is_some, codes}
-use Rattle.sm_world.specs.declared.commands.Command.{Command}
+use Rattle.std.proofs.Common.{◌≡◌, ◌≢◌, refl, sym, ap, ◌∙◌, subst, ℕ, Bool, true, false, cond, not, ◌&&◌, ◌||◌, List, [], ◌∷◌, arith, filter}
+use Rattle.std.specs.Prelude.{Option, Some, None, is_some, codes}
+use Rattle.std.specs.List.{AllByRecursion}
 use Rattle.sm_world.specs.declared.events.Order.{Order}
-use Rattle.sm_world.specs.declared.events.Order.TheVariants.{Cancel, Checkpoint, DropConn, Forget, Shutdown, Status}
+use Rattle.sm_world.specs.declared.events.Order.TheVariants.{Cancel, Forget}
 use Rattle.xsmp_properties.specs.Tables.{set_all}
-use Rattle.checkpoint_records.specs.declared.records.Book.{Book}
-use Rattle.checkpoint_records.specs.declared.records.Entry.{Entry}
-use Rattle.restart_plan.specs.Restarts.{respawn}
 use Rattle.discard_ledger.specs.Discards.{issuable}
-use Rattle.interact_queue.specs.Queue.{is_in}
 use Rattle.xsmp_messages.specs.declared.message.XsmpMessage.{XsmpMessage}
-use Rattle.xsmp_messages.specs.declared.message.XsmpMessage.TheVariants.{ConnectionClosed, DeleteProperties, Error, GetProperties, GetPropertiesReply, InteractDone, InteractRequest, RegisterClient, RegisterClientReply, SaveYourselfDone, SaveYourselfPhase2Request, SaveYourselfRequest, SetProperties, ShutdownCancelled}
+use Rattle.xsmp_messages.specs.declared.message.XsmpMessage.TheVariants.{ConnectionClosed, Error, GetProperties, GetPropertiesReply, InteractDone, RegisterClient, RegisterClientReply, SaveYourselfRequest, SetProperties, ShutdownCancelled}
 use Rattle.session_model.specs.declared.events.SessionEvent.{SessionEvent}
 use Rattle.session_model.specs.declared.events.SessionEvent.TheVariants.{Joined, Left, Operator, Ready, Said, Tick}
 use Rattle.session_model.specs.declared.phase.Phase.{Phase}
 use Rattle.session_model.specs.declared.phase.Phase.TheVariants.{Done, Dying}
-use Rattle.session_model.specs.Books.{book_forgetting, command_anyway, discarded, issue, standing}
+use Rattle.session_model.specs.Books.{book_forgetting, standing}
 use Rattle.session_model.specs.Errors.{bad_id, full_table, lone_shutdown, no_room}
 use Rattle.session_model.specs.declared.events.Arrival.{Arrival}
-use Rattle.session_model.specs.Moves.{Began, Blamed, Cancelled, Cause, Closed, Discard, Gave, History, Move, Outside, Printed, Unset, gave_each, tried_each, ◌▷◌}
-use Rattle.session_model.specs.Phases.{is_bound, is_dying, is_first_saving, is_interacting, is_member, is_owing, is_saving, is_shutdown, is_unregistered, may_interact}
-use Rattle.session_model.specs.Reading.{Reading, client_of, reading, wanted_in}
+use Rattle.session_model.specs.Moves.{Began, Blamed, Cancelled, Closed, Gave, History, Move, Outside, Printed, Unset, gave_each, ◌▷◌}
+use Rattle.session_model.specs.Phases.{is_interacting, is_member, is_owing, is_shutdown}
+use Rattle.session_model.specs.Reading.{Reading, reading, wanted_in}
 use Rattle.session_model.specs.Readings as of
-use Rattle.session_model.specs.Replies.{answered, called_off, depart, entry_respawn, forget, forget_one, forgotten, has_no_place, has_no_room, id_respawn, is_overdue, may_rejoin, may_wait, or_bad_state, ordered, refused, register, reply, resigned, respawn_moves, respawned, said, status_text, unless_dying, want_cancel, waited}
-use Rattle.session_model.specs.Tables.{entry_of, is_full}
+use Rattle.session_model.specs.Replies.{has_place, placed, answered, called_off, depart, forget, has_no_place, has_no_room, is_overdue, may_rejoin, or_bad_state, ordered, refused, register, reply, respawned, said, unless_dying, want_cancel, waited}
+use Rattle.session_model.specs.Tables.{is_full}
+use Rattle.session_model.proofs.MoveKinds.{IsWide, every-cond, every-depart, every-departs, every-forget, every-issue, every-or-bad, every-ordered, every-respawned}
 use Rattle.session_model.proofs.Level.{Good, good-plain}
 use Rattle.session_model.proofs.Ruled.{conns-rows}
 use Rattle.end_agreement.specs.Sides.{may_cancel, may_give}
@@ -65,8 +62,10 @@ IsTo d (Began conns wanted) = ⊥
 IsTo d m = Unit {0}
 
 abbrev AllTo : ℕ → List Move → Type 0
-AllTo d [] = Unit {0}
-AllTo d (m ∷ moves) = IsTo d m × AllTo d moves
+AllTo d moves = AllByRecursion (IsTo d) moves
+
+to-wide : (d : ℕ) → IsWide (IsTo d)
+to-wide d = record { respawned = λ id command. tt; resigned = λ command. tt; closed = λ c. tt; printed = λ text. tt }
 
 pass-to : (c d : ℕ) (m : Move) (h : History) → d ≢ c → IsTo d m → Passes c m h
 pass-to c d (Outside event) h n t = absurd t
@@ -129,74 +128,25 @@ answer-off d (Some r) before h e g s =
 
 -- Other answers
 
-to-cond : (d : ℕ) (b : Bool) (xs ys : List Move) → AllTo d xs → AllTo d ys → AllTo d (cond b xs ys)
-to-cond d true xs ys p q = p
-to-cond d false xs ys p q = q
-
-to-append : (d : ℕ) (xs ys : List Move) → AllTo d xs → AllTo d ys → AllTo d (xs ++ ys)
-to-append d [] ys p q = q
-to-append d (x ∷ xs) ys p q = (p.0, to-append d xs ys p.1 q)
-
-to-tried : (d : ℕ) (cause : Cause) (commands : List Command) → AllTo d (tried_each cause commands)
-to-tried d cause [] = tt
-to-tried d cause (c ∷ commands) = (tt, to-tried d cause commands)
-
-to-issue : (d : ℕ) (book : Book) (commands : List Command) → AllTo d (issue book commands)
-to-issue d book [] = tt
-to-issue d book (c ∷ commands) = (tt, to-append d (tried_each Discard commands) _ (to-tried d Discard commands) (tt, tt))
-
-to-respawn : (d : ℕ) (id : List ℕ) (command : Option Command) → AllTo d (respawn_moves id command)
-to-respawn d id None = tt
-to-respawn d id (Some command) = (tt, tt)
-
-to-entry : (d : ℕ) (r : Reading) (id : List ℕ) (entry : Option Entry) → AllTo d (entry_respawn r id entry)
-to-entry d r id None = tt
-to-entry d r id (Some entry) = to-respawn d id (respawn entry (r.run.respawns id))
-
-to-id : (d : ℕ) (r : Reading) (id : Option (List ℕ)) → AllTo d (id_respawn r id)
-to-id d r None = tt
-to-id d r (Some id) = to-entry d r id (entry_of id r.store.book)
-
-to-respawned : (d : ℕ) (r : Reading) (c : ℕ) → AllTo d (respawned r c)
-to-respawned d r c = to-cond d (is_dying (r.clients.phase c)) [] (id_respawn r (r.clients.id c)) tt (to-id d r (r.clients.id c))
-
-to-resigned : (d : ℕ) (command : Option Command) → AllTo d (resigned command)
-to-resigned d None = tt
-to-resigned d (Some command) = (tt, tt)
-
-to-forgotten : (d : ℕ) (r : Reading) (entry : Entry) (book : Book) → AllTo d (forgotten r entry book)
-to-forgotten d r entry book =
-    (tt, (tt, to-append d (resigned (command_anyway (codes "ResignCommand") entry)) (discarded r.clients book) (to-resigned d (command_anyway (codes "ResignCommand") entry)) (to-issue d book (issuable (standing r.clients) book.pending))))
-
-to-forget-one : (d : ℕ) (r : Reading) (id : List ℕ) (entry : Option Entry) → AllTo d (forget_one r id entry)
-to-forget-one d r id None = (tt, tt)
-to-forget-one d r id (Some entry) = to-cond d (is_some (client_of id r.clients)) (Printed (codes "live") ∷ []) (forgotten r entry (book_forgetting r.store id)) (tt, tt) (to-forgotten d r entry (book_forgetting r.store id))
-
 to-register : (r : Reading) (x : Arrival) (previous : List ℕ) → AllTo x.conn (register r x previous)
-to-register r x [] = to-cond x.conn (has_no_room r) (Blamed x.conn (no_room x) ∷ Unset x.conn ∷ []) _ (refl, (refl, tt)) ((refl, refl), tt)
-to-register r x (b ∷ id) = to-cond x.conn (may_rejoin r (b ∷ id)) (Gave x.conn (RegisterClientReply (b ∷ id)) ∷ []) (Blamed x.conn (bad_id x) ∷ []) ((refl, refl), tt) (refl, tt)
+to-register r x [] = every-cond (IsTo x.conn) (has_no_room r) (Blamed x.conn (no_room x) ∷ Unset x.conn ∷ []) _ (refl, (refl, tt)) ((refl, refl), tt)
+to-register r x (b ∷ id) = every-cond (IsTo x.conn) (may_rejoin r (b ∷ id)) (Gave x.conn (RegisterClientReply (b ∷ id)) ∷ []) (Blamed x.conn (bad_id x) ∷ []) ((refl, refl), tt) (refl, tt)
 
 -- the message to which others may hear something
 abbrev wants_off : XsmpMessage → Bool
 wants_off (InteractDone true) = true
 wants_off m = false
 
-to-or-bad : (b : Bool) (x : Arrival) (moves : List Move) → AllTo x.conn moves → AllTo x.conn (or_bad_state b x moves)
-to-or-bad true x moves p = p
-to-or-bad false x moves p = (refl, tt)
+to-placed : (r : Reading) (x : Arrival) (m : XsmpMessage) (p : Option Phase) → wants_off m ≡ false → AllTo x.conn (placed r x m p)
+to-placed r x (RegisterClient previous) p e = to-register r x previous
+to-placed r x (InteractDone true) p e = absurd (grind arith)
+to-placed r x (SetProperties list) p e = every-cond (IsTo x.conn) (is_full (set_all (r.clients.table x.conn) list)) (Blamed x.conn (full_table x) ∷ []) [] (refl, tt) tt
+to-placed r x GetProperties p e = ((refl, refl), tt)
+to-placed r x (SaveYourselfRequest kind shutdown style fast global) p e = every-cond (IsTo x.conn) (shutdown && not global) (Blamed x.conn (lone_shutdown x) ∷ []) [] (refl, tt) tt
+to-placed r x m p e = tt
 
 to-answered : (r : Reading) (x : Arrival) (m : XsmpMessage) (p : Option Phase) → wants_off m ≡ false → AllTo x.conn (answered r x m p)
-to-answered r x (RegisterClient previous) p e = to-or-bad (is_unregistered p) x (register r x previous) (to-register r x previous)
-to-answered r x (InteractDone true) p e = absurd (grind arith)
-to-answered r x (InteractDone false) p e = to-or-bad (is_owing p || is_interacting p) x [] tt
-to-answered r x (SetProperties list) p e = to-or-bad (is_bound p) x _ (to-cond x.conn (is_full (set_all (r.clients.table x.conn) list)) (Blamed x.conn (full_table x) ∷ []) [] (refl, tt) tt)
-to-answered r x (DeleteProperties names) p e = to-or-bad (is_bound p) x [] tt
-to-answered r x GetProperties p e = to-or-bad (is_bound p) x _ ((refl, refl), tt)
-to-answered r x (SaveYourselfRequest kind shutdown style fast global) p e = to-or-bad (is_bound p) x _ (to-cond x.conn (shutdown && not global) (Blamed x.conn (lone_shutdown x) ∷ []) [] (refl, tt) tt)
-to-answered r x (InteractRequest dialog) p e = to-or-bad (is_owing p || is_saving p && may_interact (wanted_in r.rounds.running) dialog) x [] tt
-to-answered r x (SaveYourselfDone success) p e = to-or-bad (is_owing p || is_saving p) x [] tt
-to-answered r x SaveYourselfPhase2Request p e = to-or-bad (is_owing p || is_first_saving p) x [] tt
-to-answered r x m p e = (refl, tt)
+to-answered r x m p e = every-or-bad (IsTo x.conn) (has_place (wanted_in r.rounds.running) m p) x (placed r x m p) refl (to-placed r x m p e)
 
 answer-want : (b : Bool) (x : Arrival) (before h : History) → of.members before ≡ of.members h → Good h → Steady h → Answer x.conn (want_cancel (reading before) x b) h
 answer-want true x before h e g s = answer-off x.conn (of.running before) before h e g s
@@ -214,10 +164,6 @@ answer-answered c m sequence frame h p g s =
     answer-to c (answered (reading h) (record { conn = c; message = m; sequence = sequence; frame = frame }) m p) (Outside (Said c m sequence frame) ▷ h)
     (to-answered (reading h) (record { conn = c; message = m; sequence = sequence; frame = frame }) m p refl)
 
-to-departs : (d : ℕ) (r : Reading) (conns : List ℕ) → AllTo d (flat_map (depart r) conns)
-to-departs d r [] = tt
-to-departs d r (c ∷ conns) = to-append d (depart r c) (flat_map (depart r) conns) (tt, to-respawned d r c) (to-departs d r conns)
-
 answer-unless : (c : ℕ) (m : XsmpMessage) (sequence : ℕ) (frame : List ℕ) (h : History) (p : Option Phase) → Good (Outside (Said c m sequence frame) ▷ h) → Steady (Outside (Said c m sequence frame) ▷ h)
     → Answer c (unless_dying (reading h) (record { conn = c; message = m; sequence = sequence; frame = frame }) p) (Outside (Said c m sequence frame) ▷ h)
 answer-unless c m sequence frame h (Some Dying) g s = answer-to c [] (Outside (Said c m sequence frame) ▷ h) tt
@@ -226,26 +172,21 @@ answer-unless c m sequence frame h (Some p) g s = answer-answered c m sequence f
 
 answer-said : (c : ℕ) (m : XsmpMessage) (sequence : ℕ) (frame : List ℕ) (h : History) → Good (Outside (Said c m sequence frame) ▷ h) → Steady (Outside (Said c m sequence frame) ▷ h)
     → Answer c (said (reading h) (record { conn = c; message = m; sequence = sequence; frame = frame }) m) (Outside (Said c m sequence frame) ▷ h)
-answer-said c (ConnectionClosed reasons) sequence frame h g s = answer-to c (depart (reading h) c) (Outside (Said c (ConnectionClosed reasons) sequence frame) ▷ h) (tt, to-respawned c (reading h) c)
+answer-said c (ConnectionClosed reasons) sequence frame h g s = answer-to c (depart (reading h) c) (Outside (Said c (ConnectionClosed reasons) sequence frame) ▷ h) (every-depart (IsTo c) (reading h) c (to-wide c))
 answer-said c (Error error) sequence frame h g s = answer-to c [] (Outside (Said c (Error error) sequence frame) ▷ h) tt
 answer-said c m sequence frame h g s = answer-unless c m sequence frame h (of.phase_of c h) g s
 
 answer-ordered : (d : ℕ) (order : Order) (h : History) → Good (Outside (Operator order) ▷ h) → Steady (Outside (Operator order) ▷ h) → Answer d (ordered (reading h) order) (Outside (Operator order) ▷ h)
-answer-ordered d Checkpoint h g s = answer-to d (may_wait (reading h)) (Outside (Operator Checkpoint) ▷ h) (tt, tt)
-answer-ordered d Shutdown h g s = answer-to d (may_wait (reading h)) (Outside (Operator Shutdown) ▷ h) (tt, tt)
 answer-ordered d Cancel h g s =
     answer-cond (is_shutdown (wanted_in (of.round h))) d (Printed (codes "ok") ∷ called_off (of.round h)) (Printed (codes "no shutdown") ∷ []) (Outside (Operator Cancel) ▷ h)
     (let a : Answer d (called_off (of.round h)) (Printed (codes "ok") ▷ Outside (Operator Cancel) ▷ h) =
     answer-off d (of.running h) h (Printed (codes "ok") ▷ Outside (Operator Cancel) ▷ h) refl (good-plain (Printed (codes "ok") ∷ []) (Outside (Operator Cancel) ▷ h) (tt, tt) g) (steady-step (Printed (codes "ok")) (Outside (Operator Cancel) ▷ h) tt s) in
     record { pass = λ c n. (tt, a.pass c n); need = (tt, a.need) })
     (answer-to d (Printed (codes "no shutdown") ∷ []) (Outside (Operator Cancel) ▷ h) (tt, tt))
-answer-ordered d (DropConn c) h g s =
-    answer-to d (ordered (reading h) (DropConn c)) (Outside (Operator (DropConn c)) ▷ h)
-    (to-cond d (is_in c (of.live h)) (Printed (codes "ok") ∷ depart (reading h) c) (Printed (codes "no connection") ∷ []) (tt, (tt, to-respawned d (reading h) c)) (tt, tt))
 answer-ordered d (Forget id) h g s =
     answer-to d (forget (reading h) id) (Outside (Operator (Forget id)) ▷ h)
-    (to-cond d (of.is_ending h || is_some (of.round h)) (Printed (codes "busy") ∷ []) (forget_one (reading h) id (entry_of id (of.book h))) (tt, tt) (to-forget-one d (reading h) id (entry_of id (of.book h))))
-answer-ordered d Status h g s = answer-to d (Printed (status_text (reading h)) ∷ []) (Outside (Operator Status) ▷ h) (tt, tt)
+    (every-forget (IsTo d) (reading h) id (to-wide d) tt (every-issue (IsTo d) (book_forgetting (reading h).store id) (issuable (standing (reading h).clients) (book_forgetting (reading h).store id).pending) (λ command. tt) tt))
+answer-ordered d order h g s = answer-to d (ordered (reading h) order) (Outside (Operator order) ▷ h) (every-ordered (IsTo d) (reading h) order (to-wide d) tt)
 
 -- the event comes from nobody else among those that may be answered
 abbrev pub IsFrom : SessionEvent → ℕ → Type 0
@@ -256,12 +197,12 @@ pub good-outside : (event : SessionEvent) (h : History) → Good h → Good (Out
 good-outside event h g = good-plain (Outside event ∷ []) h (tt, tt) g
 
 pub answer : (event : SessionEvent) (d : ℕ) (h : History) → IsFrom event d → Good h → Steady h → Answer d (reply (reading h) event) (Outside event ▷ h)
-answer (Joined c) d h f g s = answer-to d _ (Outside (Joined c) ▷ h) (to-cond d (has_no_place (reading h)) (Closed c ∷ []) [] (tt, tt) tt)
+answer (Joined c) d h f g s = answer-to d _ (Outside (Joined c) ▷ h) (every-cond (IsTo d) (has_no_place (reading h)) (Closed c ∷ []) [] (tt, tt) tt)
 answer (Ready c) d h f g s = answer-to d [] (Outside (Ready c) ▷ h) tt
 answer (Said c m sequence frame) d h f g s =
     subst (λ (x : ℕ). Answer x (said (reading h) (record { conn = c; message = m; sequence = sequence; frame = frame }) m) (Outside (Said c m sequence frame) ▷ h)) f
     (answer-said c m sequence frame h (good-outside (Said c m sequence frame) h g) (steady-step (Outside (Said c m sequence frame)) h tt s))
-answer (Left c) d h f g s = answer-to d (respawned (reading h) c) (Outside (Left c) ▷ h) (to-respawned d (reading h) c)
+answer (Left c) d h f g s = answer-to d (respawned (reading h) c) (Outside (Left c) ▷ h) (every-respawned (IsTo d) (reading h) c (to-wide d))
 answer (Operator order) d h f g s = answer-ordered d order h (good-outside (Operator order) h g) (steady-step (Outside (Operator order)) h tt s)
 answer (Tick milliseconds) d h f g s =
-    answer-to d (waited (reading h) milliseconds) (Outside (Tick milliseconds) ▷ h) (to-departs d (reading h) (filter (is_overdue (reading h) milliseconds) (of.registered h)))
+    answer-to d (waited (reading h) milliseconds) (Outside (Tick milliseconds) ▷ h) (every-departs (IsTo d) (reading h) (filter (is_overdue (reading h) milliseconds) (of.registered h)) (to-wide d))

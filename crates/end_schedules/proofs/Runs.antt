@@ -1,7 +1,6 @@
 -- What each event brings, and what holds between events.
-use Rattle.std.proofs.Common.{◌≡◌, ◌≢◌, refl, sym, ap, ◌∙◌, subst, ℕ, zero, suc, ◌+◌, ◌*◌, Bool, true, false, cond, ◌&&◌, List, [], ◌∷◌, ◌++◌, length, eqb, arith}
+use Rattle.std.proofs.Common.{◌≡◌, ◌≢◌, refl, sym, ap, ◌∙◌, subst, ℕ, suc, false, List, [], ◌∷◌, ◌++◌, eqb, arith}
 use Rattle.std.proofs.lemmas.Bool.Decides.{nat_tests}
-use Rattle.round_agreement.specs.Agreement.{is_nil}
 use Rattle.restart_plan.specs.Restarts.{opening_restarts}
 use Rattle.session_model.specs.declared.events.SessionEvent.{SessionEvent}
 use Rattle.session_model.specs.declared.events.SessionEvent.TheVariants.{Said}
@@ -9,10 +8,10 @@ use Rattle.session_model.specs.Books.{issue, opening_moves, raised}
 use Rattle.session_model.specs.Laws.{Always}
 use Rattle.session_model.specs.Moves.{Finished, History, Move, Opened, Outside, Restart, onto, tried_each, ◌▷◌, Opening}
 use Rattle.session_model.specs.Reading.{reading}
-use Rattle.session_model.specs.Readings as of
 use Rattle.session_model.specs.Replies.{reply}
-use Rattle.session_model.specs.Rules.{finished, go_on, opened, rule, run, settle, taken}
-use Rattle.session_model.proofs.Level.{Good, onto-append}
+use Rattle.session_model.specs.Rules.{opened, rule, run, taken}
+use Rattle.session_model.proofs.Driven.{taken-keeps}
+use Rattle.session_model.proofs.Level.{Good, good-plain, onto-append}
 use Rattle.session_model.proofs.Replied.{good-opened, good-reply, good-taken}
 use Rattle.session_model.proofs.Ruled.{good-rule}
 use Rattle.end_schedules.specs.Laws.{AllPass, IsPassed, OthersPass, SavesAreOfTheRound, SettlingPasses, answered_to}
@@ -37,20 +36,6 @@ went-both : (h g k : History) → Went h g → Went g k → Went h k
 went-both h g k v w =
     went-on h v.moves k v.all (subst (λ (x : History). Went x k) v.there w)
 
-went-next : (n : ℕ) (h : History) (moves : List Move) → AllGo moves h → (Went (onto h moves) (settle n (onto h moves))) → Went h (go_on (λ g. settle n g) h moves)
-went-next n h [] a w = stayed h
-went-next n h (m ∷ moves) a w = went-on h (m ∷ moves) (settle n (onto h (m ∷ moves))) a w
-
-went-settle : (n : ℕ) (h : History) → Good h → Steady h → Went h (settle n h)
-went-settle zero h g s = stayed h
-went-settle (suc n) h g s =
-    let a : AllGo (rule (reading h)) h = go-rule h g s in
-    went-next n h (rule (reading h)) a (went-settle n (onto h (rule (reading h))) (good-rule h g) (steady-onto (rule (reading h)) h (go-need (rule (reading h)) h a) s))
-
-went-finish : (b : Bool) (h : History) → Went h (cond b (Finished ▷ h) h)
-went-finish true h = record { moves = Finished ∷ []; there = refl; all = (record { comes = tt; needs = tt }, tt) }
-went-finish false h = stayed h
-
 -- who is answered
 abbrev sender : SessionEvent → ℕ
 sender (Said c m sequence frame) = c
@@ -67,8 +52,14 @@ steady-reply event h g s =
 pub went-taken : (event : SessionEvent) (h : History) → Good h → Steady h → Went (answered_to event h) (taken event h)
 went-taken event h g s =
     let k : History = answered_to event h in
-    let n : ℕ = 4 * length (of.waits k) + 4 in
-    went-both k (settle n k) (finished (settle n k)) (went-settle n k (good-reply event h g) (steady-reply event h g s)) (went-finish (of.is_ending (settle n k) && is_nil (of.live (settle n k))) (settle n k))
+    (taken-keeps (λ x. Went k x × (Good x × Steady x))
+    (λ x p. let moves : List Move = rule (reading x) in let a : AllGo moves x = go-rule x p.1.0 p.1.1 in
+    (went-both k x (onto x moves) p.0 (record { moves = moves; there = refl; all = a }), (good-rule x p.1.0, steady-onto moves x (go-need moves x a) p.1.1)))
+    (λ x p. (
+      went-both k x (Finished ▷ x) p.0 (record { moves = Finished ∷ []; there = refl; all = (record { comes = tt; needs = tt }, tt) }),
+      (good-plain (Finished ∷ []) x (tt, tt) p.1.0, steady-step Finished x tt p.1.1),
+    ))
+    event h (stayed k, (good-reply event h g, steady-reply event h g s))).0
 
 steady-went : (h g : History) → Went h g → Steady h → Steady g
 steady-went h g w s = subst (λ (x : History). Steady x) (sym w.there) (steady-onto w.moves h (go-need w.moves h w.all) s)

@@ -1,5 +1,5 @@
 -- Moves that ask nothing of the history, and the discards that go with a book.
-use Rattle.std.proofs.Common.{◌≡◌, refl, ℕ, Bool, true, false, cond, ◌||◌, List, [], ◌∷◌, ◌++◌, map, eqb, sym, ap, subst, ◌∙◌, arith}
+use Rattle.std.proofs.Common.{◌≡◌, refl, ℕ, Bool, true, false, cond, ◌||◌, List, [], ◌∷◌, ◌++◌, eqb, sym, ap, subst, ◌∙◌, arith}
 use Rattle.std.specs.Prelude.{Option, None}
 use Rattle.std.specs.List.{AllByRecursion}
 use Rattle.sm_world.specs.declared.commands.Command.{Command}
@@ -12,12 +12,13 @@ use Rattle.discard_ledger.specs.Discards.{discard_of, is_among, without_commands
 use Rattle.session_model.specs.declared.phase.Phase.{Phase}
 use Rattle.session_model.specs.Phases.{is_member, is_registered, phase_given}
 use Rattle.session_model.specs.Tables.{is_same}
-use Rattle.session_model.specs.Moves.{Move, Cause, Discard, Outside, Gave, Blamed, Unset, Closed, Began, Agreed, Tried, Committed, History, ◌▷◌, onto, gave_each, tried_each}
+use Rattle.session_model.specs.Moves.{Move, Cause, Discard, Outside, Gave, Blamed, Unset, Closed, Began, Agreed, Tried, Committed, History, ◌▷◌, onto, tried_each}
 use Rattle.session_model.specs.Readings as of
 use Rattle.session_model.specs.Reading.{reading}
 use Rattle.session_model.specs.Books.{issue, discarded, standing}
 use Rattle.session_model.proofs.PhaseSteps.{is_reply, given-phase}
 use Rattle.session_model.proofs.Sound.{AreRegistered, or-either}
+use Rattle.session_model.proofs.MoveKinds.{IsWide, is_ruled}
 use Rattle.session_model.proofs.Level.{onto-append}
 use Rattle.session_model.proofs.Pending.{all-more}
 use Rattle.session_notes.specs.Keeping.{is_started}
@@ -72,8 +73,10 @@ calm-suits (Committed book) h e = absurd e
 calm-suits m h e = tt
 
 abbrev pub AllCalm : List Move → Type 0
-AllCalm [] = Unit {0}
-AllCalm (m ∷ moves) = IsCalm m × AllCalm moves
+AllCalm moves = AllByRecursion IsCalm moves
+
+pub calm-wide : IsWide IsCalm
+calm-wide = record { respawned = λ id command. refl; resigned = λ command. refl; closed = λ c. tt; printed = λ text. tt }
 
 pub fine-calm : (moves : List Move) (h : History) → AllCalm moves → Fine h → Fine (onto h moves)
 fine-calm [] h e f = f
@@ -81,22 +84,6 @@ fine-calm (m ∷ moves) h e f = fine-calm moves (m ▷ h) e.1 (fine-step m h (ca
 
 pub fine-append : (h : History) (xs ys : List Move) → Fine (onto (onto h xs) ys) → Fine (onto h (xs ++ ys))
 fine-append h xs ys f = subst (λ (x : History). Fine x) (sym (onto-append h xs ys)) f
-
-pub calm-tried : (cause : Cause) (commands : List Command) → discards cause ≡ false → AllCalm (tried_each cause commands)
-calm-tried cause [] e = tt
-calm-tried cause (c ∷ commands) e = (e, calm-tried cause commands e)
-
-pub calm-gave : (m : XsmpMessage) (conns : List ℕ) → is_calm m ≡ true → AllCalm (gave_each m conns)
-calm-gave m [] e = tt
-calm-gave m (c ∷ conns) e = (e, calm-gave m conns e)
-
-pub calm-closed : (conns : List ℕ) → AllCalm (map Closed conns)
-calm-closed [] = tt
-calm-closed (c ∷ conns) = (tt, calm-closed conns)
-
-pub calm-cond : (b : Bool) (xs ys : List Move) → AllCalm xs → AllCalm ys → AllCalm (cond b xs ys)
-calm-cond true xs ys p q = p
-calm-cond false xs ys p q = q
 
 -- Commands that discard states
 
@@ -139,8 +126,7 @@ IsStill (Gave c m) = is_reply m ≡ false
 IsStill m = Unit {0}
 
 abbrev pub AllStill : List Move → Type 0
-AllStill [] = Unit {0}
-AllStill (m ∷ moves) = IsStill m × AllStill moves
+AllStill moves = AllByRecursion IsStill moves
 
 was-registered : (b : Bool) (p q : Option Phase) → is_registered q ≡ is_registered p → is_registered (cond b q p) ≡ true → is_registered p ≡ true
 was-registered true p q e k = sym e ∙ k
@@ -172,21 +158,12 @@ pub still-onto : (moves : List Move) (h g : History) → AllStill moves → Same
 still-onto [] h g i s = s
 still-onto (m ∷ moves) h g i s = still-onto moves h (m ▷ g) i.1 (still-step m h g i.0 s)
 
-pub still-append : (xs ys : List Move) → AllStill xs → AllStill ys → AllStill (xs ++ ys)
-still-append [] ys p q = q
-still-append (x ∷ xs) ys p q = (p.0, still-append xs ys p.1 q)
+pub still-wide : IsWide IsStill
+still-wide = record { respawned = λ id command. tt; resigned = λ command. tt; closed = λ c. tt; printed = λ text. tt }
 
-pub still-gave : (m : XsmpMessage) (conns : List ℕ) → is_reply m ≡ false → AllStill (gave_each m conns)
-still-gave m [] e = tt
-still-gave m (c ∷ conns) e = (e, still-gave m conns e)
-
-pub still-closed : (conns : List ℕ) → AllStill (map Closed conns)
-still-closed [] = tt
-still-closed (c ∷ conns) = (tt, still-closed conns)
-
-pub still-tried : (cause : Cause) (commands : List Command) → AllStill (tried_each cause commands)
-still-tried cause [] = tt
-still-tried cause (c ∷ commands) = (tt, still-tried cause commands)
+pub still-ruled : (c : ℕ) (m : XsmpMessage) → is_ruled m ≡ true → IsStill (Gave c m)
+still-ruled c (RegisterClientReply id) e = absurd (grind arith)
+still-ruled c m e = refl
 
 -- The discards that go with a book
 

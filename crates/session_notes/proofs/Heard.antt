@@ -1,10 +1,10 @@
 -- Messages that come, and the answers to events.
 use Rattle.std.proofs.Common.{◌≡◌, refl, ℕ, Bool, true, false, cond, not, ◌&&◌, ◌||◌, List, [], ◌∷◌, ◌++◌, ◌+◌, ◌<◌, filter, eqb, sym, ap, subst, ◌∙◌, arith}
-use Rattle.std.specs.Prelude.{Option, Some, None, is_some, is_none, codes, nat_le, flat_map}
+use Rattle.std.specs.Prelude.{Option, Some, None, is_some, is_none, codes, nat_le}
 use Rattle.std.proofs.lemmas.Bool.Decides.{nat_tests}
 use Rattle.sm_world.specs.declared.commands.Command.{Command}
 use Rattle.sm_world.specs.declared.events.Order.{Order}
-use Rattle.sm_world.specs.declared.events.Order.TheVariants.{Cancel, DropConn, Forget}
+use Rattle.sm_world.specs.declared.events.Order.TheVariants.{Cancel, Forget}
 use Rattle.sm_world.specs.declared.events.Dialog.{Dialog}
 use Rattle.ice_values.specs.Fields.{ErrorFields}
 use Rattle.ice_values.specs.declared.property.Property.{Property}
@@ -12,14 +12,13 @@ use Rattle.xsmp_properties.specs.Tables.{set_all, without_names}
 use Rattle.checkpoint_records.specs.declared.records.Book.{Book}
 use Rattle.checkpoint_records.specs.declared.records.Entry.{Entry}
 use Rattle.checkpoint_records.specs.Rules.{client_id}
-use Rattle.restart_plan.specs.Restarts.{respawn}
 use Rattle.discard_ledger.specs.Discards.{discard_of}
-use Rattle.round_agreement.specs.Agreement.{Agreement, conns_of, is_nil}
+use Rattle.round_agreement.specs.Agreement.{Agreement, is_nil}
 use Rattle.round_agreement.specs.declared.wanted.Wanted.{Wanted}
 use Rattle.round_agreement.specs.declared.round.Member.{Member}
 use Rattle.xsmp_messages.specs.declared.message.XsmpMessage.{XsmpMessage}
-use Rattle.xsmp_messages.specs.declared.message.XsmpMessage.TheVariants.{Error, RegisterClient, RegisterClientReply, SaveYourselfRequest, InteractRequest, InteractDone, SaveYourselfDone, ShutdownCancelled, ConnectionClosed, SetProperties, DeleteProperties, GetProperties, GetPropertiesReply, SaveYourselfPhase2Request}
-use Rattle.interact_queue.specs.Queue.{is_in, without}
+use Rattle.xsmp_messages.specs.declared.message.XsmpMessage.TheVariants.{Error, RegisterClient, RegisterClientReply, SaveYourselfRequest, InteractRequest, InteractDone, SaveYourselfDone, ConnectionClosed, SetProperties, DeleteProperties, GetProperties, GetPropertiesReply, SaveYourselfPhase2Request}
+use Rattle.interact_queue.specs.Queue.{without}
 use Rattle.session_model.specs.declared.phase.Phase.{Phase}
 use Rattle.session_model.specs.declared.phase.Phase.TheVariants.{Unregistered, Saving, SavingTwo, Interacting, InteractingTwo, Owing, Dying}
 use Rattle.session_model.specs.declared.events.SessionEvent.{SessionEvent}
@@ -30,9 +29,9 @@ use Rattle.session_model.specs.Errors.{no_room, bad_id, full_table, lone_shutdow
 use Rattle.session_model.specs.declared.events.Arrival.{Arrival}
 use Rattle.session_model.specs.Moves.{Move, Outside, Gave, Blamed, Unset, Closed, Committed, Printed, History, Opened, ◌▷◌, onto}
 use Rattle.session_model.specs.Readings as of
-use Rattle.session_model.specs.Reading.{Reading, reading, wanted_in, client_of}
+use Rattle.session_model.specs.Reading.{reading, wanted_in, client_of}
 use Rattle.session_model.specs.Books.{discarded, command_anyway, book_forgetting}
-use Rattle.session_model.specs.Replies.{or_bad_state, respawn_moves, entry_respawn, id_respawn, respawned, depart, has_no_room, known_ids, may_rejoin, register, called_off, want_cancel, answered, unless_dying, said, resigned, forgotten, forget_one, ordered, has_no_place, reply, waited, is_overdue}
+use Rattle.session_model.specs.Replies.{or_bad_state, respawned, depart, has_no_room, known_ids, may_rejoin, register, called_off, want_cancel, answered, unless_dying, said, resigned, forgotten, forget_one, ordered, has_no_place, reply, waited, is_overdue}
 use Rattle.session_model.proofs.Sound.{Sound, sound-step}
 use Rattle.session_model.proofs.Level.{Good}
 use Rattle.session_model.proofs.Names.{asks-heard}
@@ -53,41 +52,14 @@ use Rattle.session_notes.proofs.Fresh.{aged-refused}
 use Rattle.session_notes.proofs.Keeps.{Keeps}
 use Rattle.session_notes.proofs.Tells.{Told}
 use Rattle.session_notes.proofs.Fine.{OneHas, IdsHold, DiscardsHold, KeptHolds, Fine, fine-step}
-use Rattle.session_notes.proofs.Calm.{AllCalm, fine-calm, fine-append, calm-gave, calm-cond, AllStill, still-onto, fine-discarded}
+use Rattle.session_notes.proofs.Calm.{AllCalm, IsCalm, IsStill, calm-wide, fine-calm, fine-append, still-onto, still-wide, fine-discarded}
+use Rattle.session_model.proofs.MoveKinds.{every-cond, every-depart, every-departs, every-off, every-ordered, every-resigned, every-respawned}
 use Rattle.session_notes.proofs.Tests.{and-after, cond-one, moved, or-none, or-second, own, filter-same}
 
 -- Moves that ask nothing
 
-calm-respawn : (id : List ℕ) (command : Option Command) → AllCalm (respawn_moves id command)
-calm-respawn id None = tt
-calm-respawn id (Some command) = (refl, tt)
-
-calm-entry : (r : Reading) (id : List ℕ) (entry : Option Entry) → AllCalm (entry_respawn r id entry)
-calm-entry r id None = tt
-calm-entry r id (Some entry) = calm-respawn id (respawn entry (r.run.respawns id))
-
-calm-id : (r : Reading) (id : Option (List ℕ)) → AllCalm (id_respawn r id)
-calm-id r None = tt
-calm-id r (Some id) = calm-entry r id (entry_of id r.store.book)
-
-calm-respawned : (r : Reading) (c : ℕ) → AllCalm (respawned r c)
-calm-respawned r c = calm-cond (is_dying (r.clients.phase c)) [] (id_respawn r (r.clients.id c)) tt (calm-id r (r.clients.id c))
-
-calm-append : (xs ys : List Move) → AllCalm xs → AllCalm ys → AllCalm (xs ++ ys)
-calm-append [] ys p q = q
-calm-append (x ∷ xs) ys p q = (p.0, calm-append xs ys p.1 q)
-
-calm-departs : (r : Reading) (conns : List ℕ) → AllCalm (flat_map (depart r) conns)
-calm-departs r [] = tt
-calm-departs r (c ∷ conns) = calm-append (depart r c) (flat_map (depart r) conns) (tt, calm-respawned r c) (calm-departs r conns)
-
-calm-resigned : (command : Option Command) → AllCalm (resigned command)
-calm-resigned None = tt
-calm-resigned (Some command) = (refl, tt)
-
 calm-off : (o : Option Agreement) → AllCalm (called_off o)
-calm-off None = tt
-calm-off (Some round) = (tt, calm-gave ShutdownCancelled (conns_of round.members) refl)
+calm-off o = every-off IsCalm o tt (λ c. refl)
 
 -- A message that is refused
 
@@ -377,7 +349,7 @@ fine-unless c m sequence frame h None e f = subst (λ (p : Option Phase). Fine (
 fine-unless c m sequence frame h (Some p) e f = subst (λ (q : Option Phase). Fine (onto (heard c m sequence frame h) (answered (reading h) (arrival c m sequence frame) m q))) e (fine-answered c m sequence frame h f)
 
 fine-said : (c : ℕ) (m : XsmpMessage) (sequence : ℕ) (frame : List ℕ) (h : History) → Fine h → Fine (onto (heard c m sequence frame h) (said (reading h) (arrival c m sequence frame) m))
-fine-said c (ConnectionClosed reasons) sequence frame h f = fine-heard c (ConnectionClosed reasons) sequence frame (depart (reading h) c) h tt (tt, calm-respawned (reading h) c) f
+fine-said c (ConnectionClosed reasons) sequence frame h f = fine-heard c (ConnectionClosed reasons) sequence frame (depart (reading h) c) h tt (every-depart IsCalm (reading h) c calm-wide) f
 fine-said c (Error error) sequence frame h f = fine-heard c (Error error) sequence frame [] h tt tt f
 fine-said c m sequence frame h f = fine-unless c m sequence frame h (of.phase_of c h) refl f
 
@@ -391,10 +363,6 @@ lone-resigned : (c : ℕ) (command : Option Command) (g : History) → is_member
 lone-resigned c None g e = e
 lone-resigned c (Some command) g e = e
 
-still-resigned : (command : Option Command) → AllStill (resigned command)
-still-resigned None = tt
-still-resigned (Some command) = (tt, tt)
-
 book-resigned : (command : Option Command) (g : History) → of.book (onto g (resigned command)) ≡ of.book g
 book-resigned None g = refl
 book-resigned (Some command) g = refl
@@ -407,8 +375,8 @@ fine-forgotten id entry h a none f =
     let written : History = Committed book ▷ asked in
     let g : History = onto written (resigned last) in
     fine-append written (resigned last) (discarded (reading h).clients book)
-    (fine-discarded book h g f.sound.registered_are (still-onto (resigned last) h written (still-resigned last) (λ c e. (e, refl))) (book-resigned last written) (λ c. lone-resigned c last written (a c))
-    (fine-calm (resigned last) written (calm-resigned last)
+    (fine-discarded book h g f.sound.registered_are (still-onto (resigned last) h written (every-resigned IsStill last still-wide) (λ c e. (e, refl))) (book-resigned last written) (λ c. lone-resigned c last written (a c))
+    (fine-calm (resigned last) written (every-resigned IsCalm last calm-wide)
     (fine-step (Committed book) asked (forgetting-is asked id (noted_of asked) (λ o. fates-forgetting (opened_of h) asked id (noted_of h) f.keeps.book (none-held h (opened_of h) id (noted_of h) f.keeps (f.standing o) none))) (fine-step (Printed (codes "ok")) (Outside (Operator (Forget id)) ▷ h) tt (fine-step (Outside (Operator (Forget id))) h tt f)))))
 
 no-round : (o : Option of.Begun) (members : List Member) → is_some (of.course o members) ≡ false → is_some o ≡ false
@@ -429,18 +397,14 @@ fine-ordered (Forget id) h g f =
     fine-cond (of.is_ending h || is_some (of.round h)) (Printed (codes "busy") ∷ []) (forget_one (reading h) id (entry_of id (of.book h))) (Outside (Operator (Forget id)) ▷ h)
     (λ e. fine-calm (Printed (codes "busy") ∷ []) (Outside (Operator (Forget id)) ▷ h) (tt, tt) (fine-step (Outside (Operator (Forget id))) h tt f))
     (λ e. fine-forget_one id (entry_of id (of.book h)) h (nobody-saves h (or-none (of.is_ending h) (is_some (of.round h)) e).1 g) f)
-fine-ordered Cancel h g f =
-    fine-calm (ordered (reading h) Cancel) (Outside (Operator Cancel) ▷ h) (calm-cond (is_shutdown (wanted_in (of.round h))) (Printed (codes "ok") ∷ called_off (of.round h)) (Printed (codes "no shutdown") ∷ []) (tt, calm-off (of.round h)) (tt, tt)) (fine-step (Outside (Operator Cancel)) h tt f)
-fine-ordered (DropConn c) h g f =
-    fine-calm (ordered (reading h) (DropConn c)) (Outside (Operator (DropConn c)) ▷ h) (calm-cond (is_in c (of.live h)) (Printed (codes "ok") ∷ depart (reading h) c) (Printed (codes "no connection") ∷ []) (tt, (tt, calm-respawned (reading h) c)) (tt, tt))
-    (fine-step (Outside (Operator (DropConn c))) h tt f)
-fine-ordered order h g f = fine-calm (ordered (reading h) order) (Outside (Operator order) ▷ h) (tt, tt) (fine-step (Outside (Operator order)) h tt f)
+fine-ordered Cancel h g f = fine-calm (ordered (reading h) Cancel) (Outside (Operator Cancel) ▷ h) (every-ordered IsCalm (reading h) Cancel calm-wide (calm-off (of.round h))) (fine-step (Outside (Operator Cancel)) h tt f)
+fine-ordered order h g f = fine-calm (ordered (reading h) order) (Outside (Operator order) ▷ h) (every-ordered IsCalm (reading h) order calm-wide tt) (fine-step (Outside (Operator order)) h tt f)
 
 pub fine-reply_to : (event : SessionEvent) (h : History) → Good h → Fine h → Fine (onto (Outside event ▷ h) (reply (reading h) event))
-fine-reply_to (Joined c) h g f = fine-calm _ (Outside (Joined c) ▷ h) (calm-cond (has_no_place (reading h)) (Closed c ∷ []) [] (tt, tt) tt) (fine-step (Outside (Joined c)) h tt f)
+fine-reply_to (Joined c) h g f = fine-calm _ (Outside (Joined c) ▷ h) (every-cond IsCalm (has_no_place (reading h)) (Closed c ∷ []) [] (tt, tt) tt) (fine-step (Outside (Joined c)) h tt f)
 fine-reply_to (Ready c) h g f = fine-step (Outside (Ready c)) h tt f
 fine-reply_to (Said c m sequence frame) h g f = fine-said c m sequence frame h f
-fine-reply_to (Left c) h g f = fine-calm (respawned (reading h) c) (Outside (Left c) ▷ h) (calm-respawned (reading h) c) (fine-step (Outside (Left c)) h tt f)
+fine-reply_to (Left c) h g f = fine-calm (respawned (reading h) c) (Outside (Left c) ▷ h) (every-respawned IsCalm (reading h) c calm-wide) (fine-step (Outside (Left c)) h tt f)
 fine-reply_to (Operator order) h g f = fine-ordered order h g f
 fine-reply_to (Tick milliseconds) h g f =
-    fine-calm (waited (reading h) milliseconds) (Outside (Tick milliseconds) ▷ h) (calm-departs (reading h) (filter (is_overdue (reading h) milliseconds) (of.registered h))) (fine-step (Outside (Tick milliseconds)) h tt f)
+    fine-calm (waited (reading h) milliseconds) (Outside (Tick milliseconds) ▷ h) (every-departs IsCalm (reading h) (filter (is_overdue (reading h) milliseconds) (of.registered h)) calm-wide) (fine-step (Outside (Tick milliseconds)) h tt f)

@@ -1,5 +1,5 @@
 -- The rules, and whole runs.
-use Rattle.std.proofs.Common.{◌≡◌, refl, ℕ, zero, suc, ◌+◌, ◌*◌, Bool, true, false, cond, not, ◌&&◌, ◌||◌, List, [], ◌∷◌, ◌++◌, map, length, eqb, sym, ap, subst, ◌∙◌, arith, inl}
+use Rattle.std.proofs.Common.{◌≡◌, refl, ℕ, Bool, true, false, cond, not, ◌&&◌, ◌||◌, List, [], ◌∷◌, ◌++◌, map, eqb, sym, ap, subst, ◌∙◌, arith, inl}
 use Rattle.std.specs.Prelude.{Option, Some, None, is_some, filter_map, ◌⊎◌}
 use Rattle.std.specs.List.{AllByRecursion, Contains, IsDistinct, list_any, list_all}
 use Rattle.std.specs.Str.{bytes_eq}
@@ -13,7 +13,7 @@ use Rattle.checkpoint_records.specs.Rules.{KeepsRules}
 use Rattle.round_agreement.specs.declared.wanted.Wanted.{Wanted}
 use Rattle.round_agreement.specs.declared.round.Member.{Member}
 use Rattle.round_agreement.specs.declared.round.Step.{Step}
-use Rattle.round_agreement.specs.Agreement.{Agreement, is_done, wants_two, all_done, two_ready, agreed, deserted, is_nil, conns_of}
+use Rattle.round_agreement.specs.Agreement.{Agreement, is_done, wants_two, all_done, two_ready, agreed, deserted, conns_of}
 use Rattle.discard_ledger.specs.Discards.{is_among}
 use Rattle.restart_plan.specs.Restarts.{opening_restarts}
 use Rattle.xsmp_messages.specs.declared.message.XsmpMessage.{XsmpMessage}
@@ -25,15 +25,14 @@ use Rattle.session_model.specs.declared.waits.Wait.{Wait}
 use Rattle.session_model.specs.declared.events.SessionEvent.{SessionEvent}
 use Rattle.session_model.specs.declared.events.Act.TheVariants.{Say}
 use Rattle.session_model.specs.Phases.{is_interacting, is_first_saving, is_member, is_shutdown, step_of, begun_phase, completed_phase, dying_phase, second_begun_phase}
-use Rattle.session_model.specs.Moves.{Move, Outside, Gave, Closed, Began, Over, Agreed, Tried, Committed, Finished, End, Restart, History, Opened, ◌▷◌, onto, gave_each, tried_each, Opening, waits_for}
+use Rattle.session_model.specs.Moves.{Move, Gave, Closed, Began, Over, Agreed, Tried, Committed, Finished, End, Restart, History, Opened, ◌▷◌, onto, gave_each, tried_each, Opening, waits_for}
 use Rattle.session_model.specs.Readings as of
 use Rattle.session_model.specs.Reading.{Clients, has_that_id, reading}
 use Rattle.session_model.specs.Books.{is_eligible, next_book, issue, discarded, raised}
-use Rattle.session_model.specs.Replies.{reply}
-use Rattle.session_model.specs.Rules.{last_command, ended, completed, agreement, wanting_two, over_rule, agreed_rule, running_rule, save_yourself, members_for, begin, begin_first, is_free, idle_rule, round_rule, token_rule, rule, go_on, settle, settled, taken, opened, run}
+use Rattle.session_model.specs.Rules.{last_command, ended, completed, agreement, wanting_two, over_rule, agreed_rule, running_rule, save_yourself, members_for, begin, begin_first, is_free, idle_rule, round_rule, token_rule, rule, taken, opened, run}
 use Rattle.session_model.proofs.Sound.{AreRegistered, or-true, or-either}
 use Rattle.session_model.proofs.Pending.{all-more, command_equiv}
-use Rattle.session_model.proofs.Level.{Good, onto-append, phase-each, members-each, once-begun, once-completed, once-dying}
+use Rattle.session_model.proofs.Level.{Good, good-plain, onto-append, phase-each, members-each, once-begun, once-completed, once-dying}
 use Rattle.session_model.proofs.Ruled.{denied, differ, and-left, and-right, any-in, interacting-registered, member-registered, nobody-level, member-by, conns-rows, others, rows_now, round_now, good-rule}
 use Rattle.session_model.proofs.Replied.{good-reply, good-opened, good-run}
 use Rattle.session_notes.specs.Notes.{Did, Entry, Given, Note, Wrote, noted, notes}
@@ -53,7 +52,9 @@ use Rattle.session_notes.proofs.Entries.{completes-next, fates-next}
 use Rattle.session_notes.proofs.Standing.{Completes, Holding, Standing, fates-same, holds-opened, standing-first, standing-step}
 use Rattle.session_notes.proofs.Fresh.{aged-opening}
 use Rattle.session_notes.proofs.Fine.{OneHas, IsDue, IdsHold, DiscardsHold, KeptHolds, IsOwed, Fine, bound-member, fine-step}
-use Rattle.session_notes.proofs.Calm.{fine-calm, fine-append, fine-issue, fine-discarded, calm-tried, calm-closed, AllStill, still-onto, still-append, still-gave, still-closed, still-tried}
+use Rattle.session_notes.proofs.Calm.{fine-calm, fine-append, fine-issue, fine-discarded, IsCalm, IsStill, still-onto, still-ruled, still-wide}
+use Rattle.session_model.proofs.MoveKinds.{every-closed, every-completed, every-tried}
+use Rattle.session_model.proofs.Driven.{taken-keeps}
 use Rattle.session_notes.proofs.Heard.{fine-reply_to}
 use Rattle.session_model.proofs.Ruly.{own_text}
 use Rattle.session_notes.proofs.Tests.{contains-all, or-first, or-second, own}
@@ -212,8 +213,8 @@ fine-ended clients book h e a f =
     let last : List Command = filter_map (last_command clients) book.entries in
     let dead : History = onto h (gave_each Die clients.registered) in
     fine-append h (gave_each Die clients.registered ++ map Closed (others clients)) (tried_each End last)
-    (fine-calm (tried_each End last) (onto h (gave_each Die clients.registered ++ map Closed (others clients))) (calm-tried End last refl)
-    (fine-append h (gave_each Die clients.registered) (map Closed (others clients)) (fine-calm (map Closed (others clients)) dead (calm-closed (others clients)) (fine-die clients.registered h e a f))))
+    (fine-calm (tried_each End last) (onto h (gave_each Die clients.registered ++ map Closed (others clients))) (every-tried IsCalm End last (λ command. refl))
+    (fine-append h (gave_each Die clients.registered) (map Closed (others clients)) (fine-calm (map Closed (others clients)) dead (every-closed IsCalm (others clients) (λ c. tt)) (fine-die clients.registered h e a f))))
 
 fine-completed : (b : Bool) (clients : Clients) (round : Agreement) (book : Book) (h : History) → (b ≡ true → of.is_ending h ≡ true) → AllSaved h → AllComplete (conns_of round.members) h → Fine h → Fine (onto h (completed b clients round book))
 fine-completed true clients round book h e s a f = fine-ended clients book h (e refl) s f
@@ -275,15 +276,6 @@ lone-completed : (b : Bool) (r : of.Begun) (written : Book) (h : History) → al
 lone-completed true r written h a g = lone-ended written written h g
 lone-completed false r written h a g = lone-complete r written h a g
 
-still-ended : (clients : Clients) (book : Book) → AllStill (ended clients book)
-still-ended clients book =
-    still-append (gave_each Die clients.registered ++ map Closed (others clients)) (tried_each End (filter_map (last_command clients) book.entries))
-    (still-append (gave_each Die clients.registered) (map Closed (others clients)) (still-gave Die clients.registered refl) (still-closed (others clients))) (still-tried End (filter_map (last_command clients) book.entries))
-
-still-completed : (b : Bool) (clients : Clients) (round : Agreement) (book : Book) → AllStill (completed b clients round book)
-still-completed true clients round book = still-ended clients book
-still-completed false clients round book = still-gave SaveComplete (conns_of round.members) refl
-
 -- the book that stands is left by all that tells of an agreement
 
 book-gave : (m : XsmpMessage) (conns : List ℕ) (h : History) → of.book (onto h (gave_each m conns)) ≡ of.book h
@@ -324,7 +316,7 @@ fine-agreement r h e a g f =
     let book : Book = next_book (reading h) (round_now r h) in
     let tail : List Move = completed r.wanted.shutdown (reading h).clients (round_now r h) book in
     fine-append (agreed_now book h) tail (discarded (reading h).clients book)
-    (fine-discarded book h (onto (agreed_now book h) tail) g.sound.registered_are (still-onto tail h (agreed_now book h) (still-completed r.wanted.shutdown (reading h).clients (round_now r h) book) (λ c i. (i, refl)))
+    (fine-discarded book h (onto (agreed_now book h) tail) g.sound.registered_are (still-onto tail h (agreed_now book h) (every-completed IsStill r.wanted.shutdown (reading h) (round_now r h) book still-wide (λ command. tt) still-ruled) (λ c i. (i, refl)))
     (book-completed r.wanted.shutdown (reading h).clients (round_now r h) book (agreed_now book h)) (lone-completed r.wanted.shutdown r book h a g)
     (fine-completed r.wanted.shutdown (reading h).clients (round_now r h) book (agreed_now book h) (ends-session r h e) (λ o c i. complete-now r h e g f o c (in-round r h e g f c i)) (complete-now r h e g f) (fine-agreed_now r h e a g f)))
 
@@ -358,23 +350,10 @@ fine-rule h g f = fine-next (of.is_held h) (of.waiting h) h refl refl (good-rule
 
 -- Settling
 
-fine-on : (n : ℕ) (h : History) (moves : List Move) → Fine h → Good (onto h moves) → Fine (onto h moves) → ((x : History) → Good x → Fine x → Fine (settle n x)) → Fine (go_on (λ x. settle n x) h moves)
-fine-on n h [] f g k s = f
-fine-on n h (m ∷ moves) f g k s = s (onto h (m ∷ moves)) g k
-
-fine-settle : (n : ℕ) (h : History) → Good h → Fine h → Fine (settle n h)
-fine-settle zero h g f = f
-fine-settle (suc n) h g f = fine-on n h (rule (reading h)) f (good-rule h g) (fine-rule h g f) (λ x i j. fine-settle n x i j)
-
-fine-finish : (b : Bool) (h : History) → Fine h → Fine (cond b (Finished ▷ h) h)
-fine-finish true h f = fine-step Finished h tt f
-fine-finish false h f = f
-
 fine-taken : (event : SessionEvent) (h : History) → Good h → Fine h → Fine (taken event h)
 fine-taken event h g f =
-    let answered_to : History = onto (Outside event ▷ h) (reply (reading h) event) in
-    let rested : History = settled answered_to in
-    fine-finish (of.is_ending rested && is_nil (of.live rested)) rested (fine-settle (4 * length (of.waits answered_to) + 4) answered_to (good-reply event h g) (fine-reply_to event h g f))
+    (taken-keeps (λ x. Good x × Fine x) (λ x p. (good-rule x p.0, fine-rule x p.0 p.1)) (λ x p. (good-plain (Finished ∷ []) x (tt, tt) p.0, fine-step Finished x tt p.1)) event h
+    (good-reply event h g, fine-reply_to event h g f)).1
 
 good-taken : (event : SessionEvent) (h : History) → Good h → Good (taken event h)
 good-taken event h g = good-run (event ∷ []) h g
@@ -449,7 +428,7 @@ fine-opened : (opening : Opening) → Fine (opened opening)
 fine-opened opening =
     let issued : History = onto (begun opening) (issue (raised opening.book) opening.book.pending) in
     fine-append (begun opening) (issue (raised opening.book) opening.book.pending) (tried_each Restart (opening_restarts opening.book.entries))
-    (fine-calm (tried_each Restart (opening_restarts opening.book.entries)) issued (calm-tried Restart (opening_restarts opening.book.entries) refl)
+    (fine-calm (tried_each Restart (opening_restarts opening.book.entries)) issued (every-tried IsCalm Restart (opening_restarts opening.book.entries) (λ command. refl))
     (fine-issue (raised opening.book) opening.book.pending (begun opening) refl (all-more (λ command. is_among command opening.book.pending ≡ true) (λ command. IsNeedless command (begun opening)) (λ command k. record { pending = k; unset = λ c e. absurd (grind arith); alone = λ c. refl }) opening.book.pending (all-among opening.book.pending)) (fine-opening opening)))
 
 pub fine : (opening : Opening) (events : List SessionEvent) → Fine (run (opened opening) events)
