@@ -25,7 +25,8 @@ fn served_over(
 }
 
 /// What opens a store that has a book of epoch 1, and then the end of the events.
-const LOGIN: &str = "Wrote(97, Octets { bytes: [0, 0, 0, 8, 0, 0, 0, 1, 0, 0, 0, 2, 0, 0, 0, 0] }) Synced \
+const LOGIN: &str =
+    "Wrote(97, Octets { bytes: [0, 0, 0, 8, 0, 0, 0, 1, 0, 0, 0, 2, 0, 0, 0, 0] }) Synced \
     Wrote(96, Octets { bytes: [165] }) Synced Heard(End) ";
 
 #[test]
@@ -85,22 +86,45 @@ fn a_full_slot_is_compacted_once(rt: HostRuntime) -> Result<(), Fail> {
     Ok(())
 }
 
+/// What recovery gives by each choice where the compaction isn't there yet, where its gate is in
+/// doubt, and where it is there.
+const UNCOMPACTED: &str = "1/0 1/0 1/0 1/0 1/0 ";
+
+const COMPACTING: &str = "2/0 1/0 1/0 2/0 1/0 ";
+
+const COMPACT: &str = "2/0 2/0 2/0 2/0 2/0 ";
+
 #[test]
-fn a_crash_of_a_compaction_leaves_either_book(rt: HostRuntime) -> Result<(), Fail> {
+fn a_crash_of_a_compaction_leaves_the_old_book(rt: HostRuntime) -> Result<(), Fail> {
     let store = full_store(rt.alloc(), TO_THE_GATE)?;
-    let world = served_over(&rt, &FIRST_SAVE, store)?;
-    let old = "1/0 1/0 1/0 1/0 1/0 ";
-    let either = "2/0 1/0 1/0 2/0 1/0 ";
-    let new = "2/0 2/0 2/0 2/0 2/0 ";
-    expect_left(&rt, &world, 0, &[old, old, old, old, old, either, new])
+    let world = served_over(&rt, &[], store)?;
+    expect_left(
+        &rt,
+        &world,
+        0,
+        &[UNCOMPACTED, UNCOMPACTED, UNCOMPACTED, UNCOMPACTED],
+    )
 }
 
 #[test]
-fn a_crash_behind_a_compaction_leaves_either_book(rt: HostRuntime) -> Result<(), Fail> {
+fn a_crash_at_the_gate_of_a_compaction_leaves_either_book(rt: HostRuntime) -> Result<(), Fail> {
+    let store = full_store(rt.alloc(), TO_THE_GATE)?;
+    let world = served_over(&rt, &[], store)?;
+    expect_left(&rt, &world, 4, &[UNCOMPACTED, COMPACTING, COMPACT])
+}
+
+#[test]
+fn a_crash_behind_a_compaction_leaves_its_book(rt: HostRuntime) -> Result<(), Fail> {
     let store = full_store(rt.alloc(), TO_THE_GATE)?;
     let world = served_over(&rt, &FIRST_SAVE, store)?;
-    let old = "2/0 2/0 2/0 2/0 2/0 ";
+    expect_left(&rt, &world, BEFORE_SAVE, &[COMPACT, COMPACT, COMPACT])
+}
+
+#[test]
+fn a_crash_at_the_gate_behind_a_compaction_leaves_either_book(rt: HostRuntime) -> Result<(), Fail> {
+    let store = full_store(rt.alloc(), TO_THE_GATE)?;
+    let world = served_over(&rt, &FIRST_SAVE, store)?;
     let either = "2/1 2/0 2/0 2/1 2/0 ";
     let new = "2/1 2/1 2/1 2/1 2/1 ";
-    expect_left(&rt, &world, BEFORE_SAVE, &[old, old, old, either, new])
+    expect_left(&rt, &world, BEFORE_SAVE + 3, &[either, new])
 }

@@ -191,24 +191,35 @@ fn appends_fill_a_slot_up_to_its_last_gate(rt: HostRuntime) -> Result<(), Fail> 
     Ok(())
 }
 
-/// Appends the delta of two books to a store that has the first, and gives the book that recovery
-/// finds then, byte by byte.
-fn appended(alloc: Global, old: &str, new: &str) -> Result<String, Fail> {
-    let bytes = bytes_of(alloc, old)?;
+/// A store whose first slot has the book that these digits write.
+fn store_of(alloc: Global, digits: &str) -> Result<Octets, Fail>
+    ensures { IfOk result (λ store. length store ≡ 16777280) }
+{
+    let bytes = bytes_of(alloc, digits)?;
     let length = (bytes.len() as u64).to_le_bytes();
-    let slot = [
-        OPEN_GATE,
-        (64, &[1]),
-        (72, length.as_slice()),
-        (80, bytes.as_slice()),
-    ];
-    let mut world = world_of(alloc, store_with(alloc, &slot)?, &[])?;
-    let delta = delta_of(alloc, &read(alloc, old)?, &read(alloc, new)?)?;
-    if !append(alloc, &mut world, &delta)? {
+    let parts = [OPEN_GATE, (64, &[1]), (72, &length), (80, bytes.as_slice())];
+    Ok(store_with(alloc, &parts)?)
+}
+
+/// The delta of the two books that these digits write.
+fn delta_between(alloc: Global, old: &str, new: &str) -> Result<Delta, Fail> {
+    Ok(delta_of(alloc, &read(alloc, old)?, &read(alloc, new)?)?)
+}
+
+/// The digits of the book that recovery finds.
+fn recovered<D: Disk>(alloc: Global, disk: &mut D) -> Result<String, Fail> {
+    let (_, book) = Journal::recover_from(alloc, disk)?;
+    digits_of(alloc, spell_book(alloc, &book)?.as_slice())
+}
+
+/// Appends the delta of two books to a store that has the first, and gives the book that recovery
+/// finds then.
+fn appended(alloc: Global, old: &str, new: &str) -> Result<String, Fail> {
+    let mut world = world_of(alloc, store_of(alloc, old)?, &[])?;
+    if !append(alloc, &mut world, &delta_between(alloc, old, new)?)? {
         return Err("no room".into());
     }
-    let (_, book) = Journal::recover_from(alloc, &mut world)?;
-    digits_of(alloc, spell_book(alloc, &book)?.as_slice())
+    recovered(alloc, &mut world)
 }
 
 /// Ends the test where a store isn't led from the first book of a row to its second.
