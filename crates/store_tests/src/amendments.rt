@@ -86,7 +86,7 @@ fn slots_are_read(rt: HostRuntime) -> Result<(), Fail> {
 }
 
 /// The book that bytes spell.
-fn read(alloc: Global, digits: &str) -> Result<Book, Fail>
+pub fn read(alloc: Global, digits: &str) -> Result<Book, Fail>
     ensures { IfOk result (λ book. KeepsRules book × (book.epoch < 2 ^ 32)) }
 {
     let bytes = bytes_of(alloc, digits)?;
@@ -112,7 +112,7 @@ fn delta_shown(alloc: Global, input: &str) -> Result<String, Fail> {
 
 /// Two equal books; another epoch; an entry that comes, one that goes, one that says more, and one that
 /// comes last again; a pending command that goes, and one that is run elsewhere; and all of these.
-const DELTAS: &str = "\
+pub const DELTAS: &str = "\
 01000000010000000000000000000000 01000000010000000000000000000000 => 0 
 01000000010000000000000000000000 01000000020000000000000000000000 => 8 0100000002000000
 01000000010000000000000000000000 0100000001000000010000000000000015000000736d642d30303030303030312d3030303030303031000000000000000000000000000000 => 48 030000000000000015000000736d642d30303030303030312d3030303030303031000000000000000000000000000000

@@ -1,17 +1,20 @@
 //! The journal over a world in memory: what an append writes, what a crash leaves of it after each
 //! effect, a slot that appends fill, and a compaction behind appends.
 
-ghost use Rattle.std.specs.Prelude.{◌≡◌, IfOk};
+ghost use Rattle.std.specs.Prelude.{◌≡◌, IfOk, length};
 ghost use Rattle.sm_world.specs.Worlds.{mem_outside};
 
+use crate::amendments::{DELTAS, read};
 use crate::slots::{
     FIRST_BODY, OPEN_GATE, blank_store, book_of, byte_at, epoch_in, epochs_left, is_sync, is_write,
     store_with, world_of,
 };
-use checkpoint_changes::{Change, Delta};
+use crate::table::{bytes_of, digits_of};
+use checkpoint_changes::{Change, Delta, delta_length, delta_of, spell_delta};
 use checkpoint_journal::Journal;
+use checkpoint_records::spell_book;
 use checkpoint_slots::StoreFault;
-use sm_world::{Disk, MemWorld, NoMemory};
+use sm_world::{Disk, MemWorld, NoMemory, Octets};
 use std::alloc::{Alloc, Global};
 use std::process::Abort;
 use std::test::Fail;
@@ -134,6 +137,106 @@ fn nothing_is_appended_to_a_blank_store(rt: HostRuntime) -> Result<(), Fail> {
 /// How many changes of an epoch fill the first slot behind a book of sixteen bytes, but for eight
 /// bytes with the last gate.
 const FILLING: u32 = 1_048_570;
+
+/// How many changes of an epoch fill it to its last byte, where no gate stands.
+const TO_THE_END: u32 = 1_048_571;
+
+/// A store of epoch 1 whose first slot has so many changes behind its book, in one amendment.
+fn filled_store(alloc: Global, epoch: u32, count: u32) -> Result<Octets, NoMemory>
+    ensures { IfOk result (λ store. length store ≡ 16777280) }
+{
+    let delta = epochs(alloc, epoch, count)?;
+    if delta_length(&delta) >= 4_294_967_296 {
+        return blank_store(alloc);
+    }
+    let bytes = spell_delta(alloc, &delta)?;
+    let length = (bytes.len() as u32).to_le_bytes();
+    let amendment = [
+        OPEN_GATE,
+        (64, FIRST_BODY.as_slice()),
+        (96, &[0xa5]),
+        (100, &length),
+        (104, bytes.as_slice()),
+    ];
+    store_with(alloc, &amendment)
+}
+
+#[test]
+fn nothing_fits_behind_the_last_byte(rt: HostRuntime) -> Result<(), Fail> {
+    let store = filled_store(rt.alloc(), 7, TO_THE_END)?;
+    let mut world = world_of(rt.alloc(), store, &[])?;
+    assert_eq!(rt; epoch_in(rt.alloc(), &mut world), Ok(7));
+    assert_eq!(rt; byte_at(&world, 8_388_671), Some(0));
+    let none = epochs(rt.alloc(), 8, 0)?;
+    assert_eq!(rt; append(rt.alloc(), &mut world, &none), Ok(false));
+    assert_eq!(rt; compact(rt.alloc(), &mut world, 8), Ok(()));
+    let next = epochs(rt.alloc(), 9, 1)?;
+    assert_eq!(rt; append(rt.alloc(), &mut world, &next), Ok(true));
+    assert_eq!(rt; epoch_in(rt.alloc(), &mut world), Ok(9));
+    Ok(())
+}
+
+#[test]
+fn appends_fill_a_slot_up_to_its_last_gate(rt: HostRuntime) -> Result<(), Fail> {
+    let mut world = first_world(rt.alloc(), &[])?;
+    let most = epochs(rt.alloc(), 7, FILLING - 3)?;
+    assert_eq!(rt; append(rt.alloc(), &mut world, &most), Ok(true));
+    let one = epochs(rt.alloc(), 8, 1)?;
+    assert_eq!(rt; append(rt.alloc(), &mut world, &one), Ok(true));
+    assert_eq!(rt; append(rt.alloc(), &mut world, &one), Ok(false));
+    let none = epochs(rt.alloc(), 9, 0)?;
+    assert_eq!(rt; append(rt.alloc(), &mut world, &none), Ok(true));
+    assert_eq!(rt; append(rt.alloc(), &mut world, &none), Ok(false));
+    assert_eq!(rt; epoch_in(rt.alloc(), &mut world), Ok(8));
+    Ok(())
+}
+
+/// A store whose first slot has the book that these digits write.
+fn store_of(alloc: Global, digits: &str) -> Result<Octets, Fail>
+    ensures { IfOk result (λ store. length store ≡ 16777280) }
+{
+    let bytes = bytes_of(alloc, digits)?;
+    let length = (bytes.len() as u64).to_le_bytes();
+    let parts = [OPEN_GATE, (64, &[1]), (72, &length), (80, bytes.as_slice())];
+    Ok(store_with(alloc, &parts)?)
+}
+
+/// The delta of the two books that these digits write.
+fn delta_between(alloc: Global, old: &str, new: &str) -> Result<Delta, Fail> {
+    Ok(delta_of(alloc, &read(alloc, old)?, &read(alloc, new)?)?)
+}
+
+/// The digits of the book that recovery finds.
+fn recovered<D: Disk>(alloc: Global, disk: &mut D) -> Result<String, Fail> {
+    let (_, book) = Journal::recover_from(alloc, disk)?;
+    digits_of(alloc, spell_book(alloc, &book)?.as_slice())
+}
+
+/// Appends the delta of two books to a store that has the first, and gives the book that recovery
+/// finds then.
+fn appended(alloc: Global, old: &str, new: &str) -> Result<String, Fail> {
+    let mut world = world_of(alloc, store_of(alloc, old)?, &[])?;
+    if !append(alloc, &mut world, &delta_between(alloc, old, new)?)? {
+        return Err("no room".into());
+    }
+    recovered(alloc, &mut world)
+}
+
+/// Ends the test where a store isn't led from the first book of a row to its second.
+fn expect_recovered(rt: &(impl Abort + Alloc<A = Global>), rows: &str) -> Result<(), Fail> {
+    for row in rows.lines() {
+        let (books, _) = row.split_once(" => ").ok_or("a row without an arrow")?;
+        let (old, new) = books.split_once(' ').ok_or("no second book")?;
+        let found = appended(rt.alloc(), old, new)?;
+        assert_eq!(rt; found.as_str(), new, "from {old}");
+    }
+    Ok(())
+}
+
+#[test]
+fn what_changed_is_recovered(rt: HostRuntime) -> Result<(), Fail> {
+    expect_recovered(&rt, DELTAS)
+}
 
 #[test]
 fn a_full_slot_is_compacted_into_the_other(rt: HostRuntime) -> Result<(), Fail> {
