@@ -79,8 +79,9 @@ fn record_in(
     identity: &Identity,
 ) -> io::Result<Record> {
     let store = store_bytes(rt, paths.store).unwrap_or(Octets::new(rt.alloc()));
-    let opening =
-        opening_of(rt.alloc(), store, &identity.cookie, paths.patience).map_err(no_memory)?;
+    let opening = opening_of(rt.alloc(), store, &identity.cookie, paths.patience).map_err(
+        no_memory,
+    )?;
     Ok(Record { path, opening })
 }
 
