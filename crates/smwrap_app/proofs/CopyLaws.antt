@@ -1,9 +1,8 @@
 -- The copies that a run makes: their numbers rise, so that no two have one path.
-use Rattle.std.proofs.Common.{◌≡◌, ◌≢◌, ◌⊎◌, inl, inr, ℕ, ◌+◌, ◌<◌, ◌≤◌, ◌^◌, Bool, false, List, [], ◌∷◌, ◌++◌, map, Option, None, Some, refl, sym, ◌∙◌, ap, subst, arith}
+use Rattle.std.proofs.Common.{◌≡◌, ◌⊎◌, inl, inr, ℕ, ◌+◌, ◌<◌, ◌≤◌, ◌^◌, false, List, [], ◌∷◌, ◌++◌, map, Option, None, Some, refl, sym, ◌∙◌, ap, subst, arith}
 use Rattle.std.specs.List.{AllByRecursion, flat_map}
 use Rattle.sm_world.specs.Disk.{UsesDisk}
 use Rattle.sm_world.specs.Outside.{NotFallen, Outside, adds}
-use Rattle.sm_world.specs.declared.effects.Effect.{Effect}
 use Rattle.sm_world.proofs.Adding.{adds-adds, adds-none, fallen_never, never_fallen}
 use Rattle.xsmp_messages.specs.declared.message.XsmpMessage.{XsmpMessage}
 use Rattle.client_engine.specs.Answering.{answer_messages}
@@ -14,7 +13,6 @@ use Rattle.named_joiner.specs.Doing.{Follows}
 use Rattle.named_joiner.specs.Script.{Callbacks, Entry, Says, AsksSave, AsksReasons}
 use Rattle.named_joiner.specs.declared.callbacks.NamedAsk.{NamedAsk}
 use Rattle.state_saver.specs.Files.{Holds}
-use Rattle.state_saver.specs.Plans.{copy_path}
 use Rattle.state_saver.specs.Saving.{AnswersAt, AnswersSo, Saves, Shelf}
 use Rattle.state_saver.specs.declared.plan.SavePlan.{SavePlan}
 use Rattle.state_saver.proofs.PlanLaws.{own_paths}

@@ -1,8 +1,7 @@
 -- A client whose callback is a saver over files: what its run says of the files and of their copies.
-use Rattle.std.proofs.Common.{◌≡◌, ◌⊎◌, inl, inr, ℕ, ◌≤◌, List, [], ◌∷◌, ◌++◌, map, Option, None, Some, Result, Ok, Err, refl, sym, ◌∙◌, ap, subst}
+use Rattle.std.proofs.Common.{◌≡◌, inl, inr, ℕ, List, [], ◌∷◌, Option, Some, Err, refl, sym, ◌∙◌, ap, subst}
 use Rattle.ice_cookie.specs.declared.cookies.Cookie.{Cookie}
-use Rattle.sm_world.specs.Outside.{Added, NotFallen, Outside, Rose, adds}
-use Rattle.sm_world.specs.declared.effects.Effect.{Effect}
+use Rattle.sm_world.specs.Outside.{Outside}
 use Rattle.sm_world.proofs.Adding.{adds-none, never_fallen}
 use Rattle.client_machine.specs.declared.saves.SaveAnswer.{SaveAnswer}
 use Rattle.named_joiner.specs.Doing.{Follows as Asks}
@@ -10,14 +9,12 @@ use Rattle.named_joiner.specs.Script.{Callbacks, Entry, Says, AsksSave, AsksReas
 use Rattle.named_joiner.specs.declared.callbacks.NamedAsk.{NamedAsk}
 use Rattle.state_saver.specs.Saving.{AnswersSo, Shelf, shelf}
 use Rattle.state_saver.specs.declared.plan.SavePlan.{SavePlan}
-use Rattle.smwrap_app.specs.Copies.{Copy, copied}
 use Rattle.smwrap_app.specs.Faults.{Ending}
-use Rattle.smwrap_app.specs.Running.{Joins}
 use Rattle.smwrap_app.specs.Starting.{MayJoin}
-use Rattle.smwrap_app.specs.Statuses.{Follows, NeverJoins, NoReasons, SavesBy, keeping, plan_by}
+use Rattle.smwrap_app.specs.Statuses.{NoReasons, SavesBy, keeping, plan_by}
 use Rattle.smwrap_app.specs.Turning.{Finishes}
 use Rattle.smwrap_app.specs.Words.{Chosen}
-use Rattle.smwrap_app.specs.declared.fault.Fault.TheVariants.{Link, NoMemory}
+use Rattle.smwrap_app.specs.declared.fault.Fault.TheVariants.{NoMemory}
 use Rattle.smwrap_app.proofs.CopyLaws.{Makes, made_by, makes_copies}
 
 -- ---- callbacks, as files and numbers

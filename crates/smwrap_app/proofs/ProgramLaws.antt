@@ -1,5 +1,5 @@
 -- How a call of `smwrap` ends.
-use Rattle.std.proofs.Common.{◌≡◌, ◌≢◌, ◌⊎◌, inl, inr, ℕ, ◌≤◌, ◌&&◌, Bool, true, false, codes, List, [], ◌∷◌, ◌++◌, length, map, Option, None, Some, Result, Ok, Err, refl, sym, ◌∙◌, ap, subst, arith, append-nil, append_assoc}
+use Rattle.std.proofs.Common.{◌≡◌, ◌≢◌, ◌⊎◌, inl, inr, ℕ, ◌≤◌, ◌&&◌, Bool, true, false, codes, List, [], ◌∷◌, ◌++◌, length, map, None, Result, Ok, Err, refl, sym, ◌∙◌, ap, subst, arith, append-nil}
 use Rattle.std.specs.List.{AllByRecursion, list_all}
 use Rattle.std.proofs.lemmas.Bool.{false≢true}
 use Rattle.std.proofs.lemmas.Bool.Decides.{nat_tests}
@@ -11,13 +11,13 @@ use Rattle.sm_world.specs.declared.effects.Effect.TheVariants.{Published, Starte
 use Rattle.sm_world.specs.declared.failures.Failure.{Failure}
 use Rattle.sm_world.specs.declared.failures.Failure.TheVariants.{Failed, NoMemory as DeviceMemory}
 use Rattle.sm_world.specs.declared.failures.NoMemory.{NoMemory as WantsMemory}
-use Rattle.sm_world.proofs.Adding.{adds-adds, adds-none, fallen_never, never_fallen}
+use Rattle.sm_world.proofs.Adding.{adds-adds, adds-none, fallen_never}
 use Rattle.program_frame.specs.Printing.{Tries}
 use Rattle.program_frame.specs.Programs.{line_by, status_by}
 use Rattle.program_frame.proofs.InputLemmas.{rose_since}
 use Rattle.program_frame.proofs.ProgramLemmas.{concluded}
 use Rattle.state_saver.specs.Files.{Holds}
-use Rattle.state_saver.specs.Plans.{IsPlan, IsWord, copy_path}
+use Rattle.state_saver.specs.Plans.{IsWord, copy_path}
 use Rattle.state_saver.specs.declared.plan.SavePlan.{SavePlan}
 use Rattle.smwrap_app.specs.Copies.{Copy, copied}
 use Rattle.smwrap_app.specs.Faults.{Ending, fault_line, fault_status, file_fault, peer_fault}

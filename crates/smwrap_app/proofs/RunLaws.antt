@@ -1,5 +1,5 @@
 -- One receive after another: how far a run is, and how it ends.
-use Rattle.std.proofs.Common.{◌≡◌, ◌≢◌, ◌⊎◌, inl, inr, ℕ, ◌+◌, ◌<◌, ◌≤◌, Bool, true, false, List, [], ◌∷◌, ◌++◌, length, map, Option, None, Some, Result, Ok, Err, option_map, refl, sym, ◌∙◌, ap, subst, arith, append-nil, append_assoc, length-append}
+use Rattle.std.proofs.Common.{◌≡◌, ◌≢◌, ◌⊎◌, inl, inr, ℕ, ◌+◌, ◌<◌, ◌≤◌, false, List, [], ◌∷◌, ◌++◌, length, map, Option, None, Some, Ok, Err, option_map, refl, sym, ◌∙◌, ap, subst, arith, append-nil, append_assoc, length-append}
 use Rattle.std.proofs.lemmas.Grind.{flat_map-append}
 use Rattle.std.proofs.lemmas.List.{map-append}
 use Rattle.ice_cookie.specs.declared.cookies.Cookie.{Cookie}
@@ -8,13 +8,13 @@ use Rattle.ice_framing.specs.Parts.{parts_of}
 use Rattle.ice_messages.specs.declared.message.IceMessage.TheVariants.{ByteOrder}
 use Rattle.ice_values.specs.declared.numbers.Endian.TheVariants.{Lsb}
 use Rattle.sm_world.specs.Effects.{heard}
-use Rattle.sm_world.specs.Outside.{NotFallen, Outside, Rose, adds}
+use Rattle.sm_world.specs.Outside.{NotFallen, Outside, adds}
 use Rattle.sm_world.specs.declared.effects.Effect.{Effect}
 use Rattle.sm_world.specs.declared.effects.Effect.TheVariants.{Heard}
 use Rattle.sm_world.specs.declared.events.Event.{Event}
 use Rattle.sm_world.specs.declared.failures.Failure.{Failure}
 use Rattle.sm_world.specs.declared.failures.Failure.TheVariants.{Failed, NoMemory as DeviceMemory}
-use Rattle.sm_world.proofs.Adding.{adds-adds, adds-none, fallen_never, never_fallen}
+use Rattle.sm_world.proofs.Adding.{adds-adds, adds-none, fallen_never}
 use Rattle.client_engine.specs.Driving.{Run, Step, both}
 use Rattle.client_engine.specs.Messages.{spelled}
 use Rattle.client_engine.specs.declared.messages.Message.TheVariants.{Ice}
@@ -38,7 +38,7 @@ use Rattle.smwrap_app.specs.Turning.{Amid, BreaksAt, Delivers, Finishes, HearsPi
 use Rattle.smwrap_app.specs.declared.fault.Fault.{Fault}
 use Rattle.smwrap_app.specs.declared.fault.Fault.TheVariants.{BadWords, Refused, StreamEnded, NoEntry, Link, Spent, NoMemory, Malformed, Disk}
 use Rattle.smwrap_app.proofs.EffectLaws.{all_append, heard_append, heard_delivery, not_heard, only_one, sent_append, sent_delivery, sent_more, stream_append, stream_delivery, stream_more}
-use Rattle.smwrap_app.proofs.ScriptLaws.{GoesOn, goes_on, place_in}
+use Rattle.smwrap_app.proofs.ScriptLaws.{goes_on, place_in}
 
 pub going_on : (ending : Option Spending) → is_over ending ≡ false → ending ≡ None
 going_on None going = refl

@@ -21,7 +21,7 @@ use Rattle.client_machine.specs.Phases.{ClientState, is_done, is_member, is_owin
 use Rattle.client_machine.specs.Saves.{at_stage}
 use Rattle.client_machine.specs.Taking.{act_taken, blamed_act, registers_again, second_act, taken, talk_act}
 use Rattle.client_machine.specs.declared.acts.ClientAct.{ClientAct}
-use Rattle.client_machine.specs.declared.acts.ClientAct.TheVariants.{Nothing as HasNothing, Registered as HasId, Again, Save as IsAsked, Die as IsTold, Cancelled as WasCancelled, Complete as AllSaved, Properties as HasProperties, Refused as WasRefused, Unexpected}
+use Rattle.client_machine.specs.declared.acts.ClientAct.TheVariants.{Nothing as HasNothing, Registered as HasId, Again, Save as IsAsked, Die as IsTold, Cancelled as WasCancelled, Complete as AllSaved, Properties as HasProperties, Unexpected}
 use Rattle.client_machine.specs.declared.phase.ClientPhase.{ClientPhase}
 use Rattle.client_machine.specs.declared.phase.ClientPhase.TheVariants.{Asked, AskedTwo, WantsTwo}
 use Rattle.client_machine.specs.declared.saves.SaveAnswer.{SaveAnswer}
@@ -29,7 +29,7 @@ use Rattle.client_machine.specs.declared.saves.SaveAsk.{SaveAsk}
 use Rattle.client_machine.specs.declared.saves.Stage.{Stage}
 use Rattle.client_machine.specs.declared.saves.Stage.TheVariants.{First}
 use Rattle.client_engine.specs.Answering.{answer_messages, owed_messages}
-use Rattle.client_engine.specs.Driving.{Step, behind}
+use Rattle.client_engine.specs.Driving.{Step}
 use Rattle.client_engine.specs.Hearing.{acted, arrived, fatal_class, frame_heard, joined_moved, opening_at, opening_heard, opening_moved, oversize_heard, part_heard, speaking_heard, unless_fatal}
 use Rattle.client_engine.specs.Messages.{answer_of}
 use Rattle.client_engine.specs.Places.{phase_at}
@@ -46,7 +46,7 @@ use Rattle.client_engine.specs.declared.place.Place.TheVariants.{Opening, Speaki
 use Rattle.client_engine.specs.declared.place.Talk.{Talk}
 use Rattle.client_engine.specs.declared.received.Received.{Received}
 use Rattle.client_engine.specs.declared.received.Received.TheVariants.{Ice as GotIce, Xsmp as GotXsmp, Stray, Unspelled}
-use Rattle.named_joiner.specs.Script.{Entry, Keeper, Replies, Says, AsksSave, answered, answered_again, cancelled, cued, died, next_stage, reacts, start}
+use Rattle.named_joiner.specs.Script.{Entry, Keeper, Replies, Says, answered, answered_again, cued, died, next_stage, reacts, start}
 use Rattle.smwrap_app.specs.Copies.{TellsWhatItAnswers, asked_tells, said_tells, tells}
 use Rattle.smwrap_app.proofs.ScriptLaws.{first_reply, taken_by}
 

@@ -1,5 +1,5 @@
 -- The copies that a run makes of the program's state, each with a number of its own, and what the client tells of them.
-use Rattle.std.specs.Prelude.{◌≡◌, ◌≢◌, ◌<◌, ◌^◌, ℕ, true, List, [], ◌∷◌, ◌++◌, map, Option, Some, None}
+use Rattle.std.specs.Prelude.{◌≡◌, ◌≢◌, ◌<◌, ◌^◌, ℕ, true, List, [], ◌∷◌, ◌++◌, Some, None}
 use Rattle.std.specs.List.{AllByRecursion, flat_map}
 use Rattle.sm_world.specs.Outside.{Outside, adds}
 use Rattle.sm_world.specs.declared.effects.Effect.{Effect}

@@ -1,4 +1,4 @@
-ghost use Rattle.std.specs.Prelude.{◌≡◌, ◌≤◌, [], ℕ, List, length, false, IfOk};
+ghost use Rattle.std.specs.Prelude.{◌≡◌, [], ℕ, List, length, false, IfOk};
 ghost use Rattle.client_engine.specs.Messages.{spelled};
 ghost use Rattle.client_engine.specs.declared.messages.Message.TheVariants.{Ice};
 ghost use Rattle.ice_cookie.specs.declared.cookies.Cookie.{Cookie};

@@ -1,4 +1,4 @@
-ghost use Rattle.std.specs.Prelude.{◌≡◌, ◌≢◌, [], ◌∷◌, ◌++◌, map, string_bytes, false, IfErr, IfOk, Ok};
+ghost use Rattle.std.specs.Prelude.{◌≡◌, ◌≢◌, [], map, string_bytes, false, IfErr, IfOk, Ok};
 ghost use Rattle.sm_world.specs.Disk.{UsesDisk};
 ghost use Rattle.sm_world.specs.Outside.{Added, NotFallen, UsesSpawner, adds, of_ok};
 ghost use Rattle.sm_world.specs.declared.effects.Effect.TheVariants.{Started};

@@ -1,6 +1,6 @@
 ghost use Rattle.std.specs.Prelude.{◌≡◌, ℕ, List, None, map, string_bytes, IfOk, IfSome, MatchOption};
 ghost use Rattle.std.specs.List.{list_all};
-ghost use Rattle.smwrap_app.specs.Words.{AreBad, AreChosen, AreChosenAt, AreOptions, Chosen, HasId, HasNumber, HasText, HasTexts, chosen_of, is_program as is_program_spec, is_text as is_text_spec};
+ghost use Rattle.smwrap_app.specs.Words.{AreBad, AreChosen, AreChosenAt, Chosen, HasId, HasNumber, HasText, HasTexts, chosen_of, is_program as is_program_spec, is_text as is_text_spec};
 
 use control_lines::read_number;
 use sm_world::NoMemory;

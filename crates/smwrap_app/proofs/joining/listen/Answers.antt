@@ -1,6 +1,5 @@
-use Rattle.std.proofs.Common.{arith, rules, subst, sym}
+use Rattle.std.proofs.Common.{arith, rules}
 use Rattle.smwrap_app.proofs.RunLaws.{ended_next, going_on, sent_next, spent, unheard, unsent_next}
-use Rattle.smwrap_app.specs.Turning.{Delivers}
 use Rattle.smwrap_app.proofs.joining.listen.Goals as goal
 
 pub returns-in-Err : goal.returns-in-Err

@@ -1,6 +1,6 @@
 use Rattle.std.proofs.Common.{map, string_bytes}
 use Rattle.smwrap_app.specs.Words.{chosen_of}
-use Rattle.smwrap_app.proofs.ProgramLaws.{bad_words, by_words, fits, no_memory}
+use Rattle.smwrap_app.proofs.ProgramLaws.{fits, no_memory}
 use Rattle.smwrap_app.proofs.program.run_words.Goals as goal
 
 pub wrap-requires : goal.wrap-requires
