@@ -1,6 +1,8 @@
 //! `smd`, the session manager.
 #![tactic(auto)]
 
+ghost use Rattle.std.specs.Prelude.{◌≤◌, length};
+
 use desktop_world::{BadPlaces, DesktopWorld, Places, host_name, random_cookie};
 use program_frame::{OwnTexts, StandardConsole, read_words};
 use quirk_world::{QuirkWorld, take_quirks};
@@ -65,14 +67,18 @@ fn serve_desktop(
     words: &[String],
     mut world: DesktopWorld,
     identity: Identity,
-) -> u8 {
+) -> u8
+    requires { length identity.host ≤ 255 }
+{
     let status = smd_main(rt.alloc(), words, &mut world, identity, u64::MAX);
     world.close();
     status
 }
 
 /// The same, where they are taken for what they mean.
-fn serve_quirks(rt: HostRuntime, words: &[String], world: DesktopWorld, identity: Identity) -> u8 {
+fn serve_quirks(rt: HostRuntime, words: &[String], world: DesktopWorld, identity: Identity) -> u8
+    requires { length identity.host ≤ 255 }
+{
     let mut world = QuirkWorld::new(rt.alloc(), world);
     let status = smd_main(rt.alloc(), words, &mut world, identity, u64::MAX);
     world.into_inner().close();
