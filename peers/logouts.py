@@ -206,6 +206,31 @@ def prompt(session, _):
     session.comes_back(["prompt"])
 
 
+def leave_early(session):
+    """Of two one has saved, and leaves while the other still saves."""
+    early, other = member(session, "early"), member(session, "other")
+    session.expect("shutdown", "ok")
+    save_once(early, session.words_of("early"))
+    early.close()
+    time.sleep(0.5)
+    save_once(other, session.words_of("other"))
+    session.end(leave(other), 0)
+
+
+def early(session, _):
+    """Who leaves a logout early comes back."""
+    leave_early(session)
+    session.comes_back(["early", "other"])
+
+
+def to_the_letter(session, _):
+    """Without quirks who leaves a logout early doesn't come back."""
+    leave_early(session)
+    session.comes_back(["other"])
+    if os.path.exists(os.fsdecode(session.words_of("early")[1])):
+        raise ValueError("who has left is started again")
+
+
 def count_of(program):
     """How many processes of this program run."""
     found = 0
@@ -240,8 +265,8 @@ def windows(session, window):
     session.end(asked, 0)
 
 
-SETTINGS = {"stopped_before": {"SMD_PATIENCE": str(int(1000 * PATIENCE))}}
-TESTS = {it.__name__: it for it in (ignored, stopped_before, stopped_after, prompt, windows)}
+SETTINGS = {"stopped_before": {"SMD_PATIENCE": str(int(1000 * PATIENCE))}, "to_the_letter": {"SMD_QUIRKS": "0"}}
+TESTS = {it.__name__: it for it in (ignored, stopped_before, stopped_after, prompt, early, to_the_letter, windows)}
 
 
 def main():

@@ -1,6 +1,7 @@
 //! `smd`, the session manager.
 #![tactic(auto)]
 
+ghost use Rattle.std.specs.Prelude.{◌≤◌, length};
 ghost use Rattle.session_recorder.specs.Recorded.{IsNew};
 
 use desktop_world::{BadPlaces, DesktopWorld, Places, host_name, random_cookie};
@@ -85,7 +86,26 @@ fn record_in(
     Ok(Record { path, opening })
 }
 
-/// The status of a run in this world, and the world behind it. The run is recorded where a file is named.
+/// The status of a run in this world, which is recorded, and the world behind it.
+fn serve_recorded<W: Disk + Links + Spawner + Console + Drop>(
+    rt: HostRuntime,
+    words: &[String],
+    world: W,
+    identity: Identity,
+    record: Record,
+) -> (u8, W)
+    requires host { length identity.host ≤ 255 }
+    requires new { IsNew (W.outside world).told }
+{
+    let file = RecordFile::create(rt, record.path);
+    let mut recorder = Recorder::new(rt.alloc(), world, file, record.opening);
+    let status = smd_main(rt.alloc(), words, &mut recorder, identity, u64::MAX);
+    let (world, _) = recorder.parts();
+    (status, world)
+}
+
+/// The status of a run in this world, and the world behind it. The run is recorded where there is a
+/// record.
 fn serve_in<W: Disk + Links + Spawner + Console + Drop>(
     rt: HostRuntime,
     words: &[String],
@@ -93,37 +113,46 @@ fn serve_in<W: Disk + Links + Spawner + Console + Drop>(
     identity: Identity,
     record: Option<Record>,
 ) -> (u8, W)
-    requires { IsNew (W.outside world).told }
+    requires host { length identity.host ≤ 255 }
+    requires new { IsNew (W.outside world).told }
 {
-    let Some(Record { path, opening }) = record else {
-        let status = smd_main(rt.alloc(), words, &mut world, identity, u64::MAX);
-        return (status, world);
-    };
-    let file = RecordFile::create(rt, path);
-    let mut recorder = Recorder::new(rt.alloc(), world, file, opening);
-    let status = smd_main(rt.alloc(), words, &mut recorder, identity, u64::MAX);
-    let (world, _) = recorder.parts();
-    (status, world)
+    match record {
+        Some(record) => serve_recorded(rt, words, world, identity, record),
+        None => {
+            let status = smd_main(rt.alloc(), words, &mut world, identity, u64::MAX);
+            (status, world)
+        }
+    }
 }
 
-/// The status of a run on this desktop, whose programs are taken for what they mean, or for what they
-/// say.
+/// The status of a run on this desktop, whose programs are taken for what they say.
 fn serve_desktop(
     rt: HostRuntime,
     words: &[String],
     world: DesktopWorld,
     identity: Identity,
     record: Option<Record>,
-    has_quirks: bool,
-) -> u8 {
-    let (status, mut world) = if has_quirks {
-        let around = QuirkWorld::new(rt.alloc(), world);
-        let (status, around) = serve_in(rt, words, around, identity, record);
-        (status, around.into_inner())
-    } else {
-        serve_in(rt, words, world, identity, record)
-    };
+) -> u8
+    requires { length identity.host ≤ 255 }
+{
+    let (status, mut world) = serve_in(rt, words, world, identity, record);
     world.close();
+    status
+}
+
+/// The same, where they are taken for what they mean.
+fn serve_quirks(
+    rt: HostRuntime,
+    words: &[String],
+    world: DesktopWorld,
+    identity: Identity,
+    record: Option<Record>,
+) -> u8
+    requires { length identity.host ≤ 255 }
+{
+    let around = QuirkWorld::new(rt.alloc(), world);
+    let (status, around) = serve_in(rt, words, around, identity, record);
+    around.into_inner().close();
     status
 }
 
@@ -151,7 +180,11 @@ fn run(rt: HostRuntime, mut words: Vec<String>) -> io::Result<u8> {
         }
     }
     let world = DesktopWorld::with_options(rt, host, options);
-    Ok(serve_desktop(rt, words, world, identity, record, has_quirks))
+    if has_quirks {
+        Ok(serve_quirks(rt, words, world, identity, record))
+    } else {
+        Ok(serve_desktop(rt, words, world, identity, record))
+    }
 }
 
 fn main(rt: HostRuntime) -> ExitCode {
