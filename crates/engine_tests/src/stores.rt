@@ -68,7 +68,7 @@ const SHUTDOWN: &[u8] = b"\x0f\0\0\0ShutdownCommand\0\0\0\0\0\x0c\0\0\0LISTofARR
 
 /// What happens in a session.
 #[derive(Clone, Copy)]
-pub enum Step {
+enum Step {
     Joins(Conn),
     /// A client says all until it speaks XSMP.
     SetsUp(Conn),
@@ -169,27 +169,27 @@ fn events_of(alloc: Global, steps: &[Step]) -> Result<EventList, NoMemory>
 
 // What a store holds
 
-pub const OPEN_GATE: &[u8] = &[0xa5];
+const OPEN_GATE: &[u8] = &[0xa5];
 
 /// The generation of the first commit, and the last one that there is.
-pub const FIRST: &[u8] = &[1, 0, 0, 0, 0, 0, 0, 0];
+const FIRST: &[u8] = &[1, 0, 0, 0, 0, 0, 0, 0];
 
 const LAST: &[u8] = &[0xff; 8];
 
 /// Books without entries, of the epoch 1 and of the last one.
-pub const EMPTY_BOOK: &[u8] = &[1, 0, 0, 0, 1, 0, 0, 0, 0, 0, 0, 0, 0, 0, 0, 0];
+const EMPTY_BOOK: &[u8] = &[1, 0, 0, 0, 1, 0, 0, 0, 0, 0, 0, 0, 0, 0, 0, 0];
 
 const LAST_BOOK: &[u8] = &[1, 0, 0, 0, 0xff, 0xff, 0xff, 0xff, 0, 0, 0, 0, 0, 0, 0, 0];
 
 /// Puts bytes at a place of the store, where there is room for them.
-pub fn put(store: &mut Octets, at: usize, bytes: &[u8]) {
+fn put(store: &mut Octets, at: usize, bytes: &[u8]) {
     if bytes.len() <= store.len() && at <= store.len() - bytes.len() {
         store.overwrite(at, bytes);
     }
 }
 
 /// A store whose first slot has this book.
-pub fn store_of(alloc: Global, generation: &[u8], book: &[u8]) -> Result<Octets, NoMemory> {
+fn store_of(alloc: Global, generation: &[u8], book: &[u8]) -> Result<Octets, NoMemory> {
     let mut store = blank_store(alloc)?;
     put(&mut store, 0, OPEN_GATE);
     put(&mut store, 64, generation);
@@ -317,7 +317,7 @@ fn put_effect(out: &mut Octets, effect: &Effect) -> Result<(), NoMemory> {
 }
 
 /// Ends the test where other things were done than these.
-pub fn expect_done(
+fn expect_done(
     rt: &(impl Abort + Alloc<A = Global>),
     world: &MemWorld,
     want: &str,
@@ -333,7 +333,7 @@ pub fn expect_done(
 // Runs
 
 /// A world with this store, in which this happens, and the calls of these numbers fail.
-pub fn world_of(
+fn world_of(
     alloc: Global,
     steps: &[Step],
     store: Octets,
@@ -409,7 +409,7 @@ const CHOICES: [Choice; 5] = [
 
 /// Expects after each of some effects in a row, up to so many at the first, what recovery gives by
 /// each choice.
-pub fn expect_left(
+fn expect_left(
     rt: &(impl Abort + Alloc<A = Global>),
     world: &MemWorld,
     first: usize,
@@ -438,11 +438,11 @@ fn a_crash_of_the_opening_leaves_one_of_two_books(rt: HostRuntime) -> Result<(),
 }
 
 /// A client joins, and saves for the first time.
-pub const FIRST_SAVE: [Step; 2] = [Step::Joins(1), Step::SavesFirst(1)];
+const FIRST_SAVE: [Step; 2] = [Step::Joins(1), Step::SavesFirst(1)];
 
 /// Before the commit of the first save there are the six effects of the opening, two events that were
 /// heard, and seven messages.
-pub const BEFORE_SAVE: usize = 15;
+const BEFORE_SAVE: usize = 15;
 
 #[test]
 fn a_save_is_committed_before_its_client_hears_of_it(rt: HostRuntime) -> Result<(), Fail> {
