@@ -416,6 +416,23 @@ on_terminal() {
   (sleep 2; echo "$line"; sleep 2) | DISPLAY= script -qec "$(printf '%q ' "$@"); echo status \$?" /dev/null
 }
 
+# recorded_sessions: with SMD_RECORD the records of the last three sessions stay, and each replays.
+recorded_sessions() {
+  local number name
+  for number in 1 2 3 4; do
+    check "recorded login $number begins" logs_in SMD_RECORD=yes
+    check "the four programs are there in recorded login $number" within 60 has 4
+    check "recorded login $number is left" leaves
+  done
+  check "three records stay" test "$(ls "$stores/records" | wc -l)" = 3
+  for name in "$stores"/records/*; do
+    check "the record ${name##*/} replays" replays "$name"
+  done
+  check "a login without SMD_RECORD begins" logs_in
+  check "it is left" leaves
+  check "no record was made of it" test "$(ls "$stores/records" | wc -l)" = 3
+}
+
 yesterday() {
   make_desktop
   two_sessions
@@ -431,6 +448,7 @@ yesterday() {
   five_at_most
   damaged_store
   judgements
+  recorded_sessions
   no_store
   asks
 }
