@@ -447,8 +447,8 @@ yesterday() {
   check "a store is read and not written" reads_only "$stores/store"
   five_at_most
   damaged_store
-  judgements
   recorded_sessions
+  judgements
   no_store
   asks
 }
