@@ -183,20 +183,12 @@ fn choice_of(name: &str) -> Result<Choice, Fail> {
     })
 }
 
-/// A commit on this disk, and what a crash leaves after so many effects of it, by a choice.
-fn crash_of_commit(world: &mut SteadyWorld, first: usize, name: &str) -> Result<Octets, Fail>
-    requires { 6 ≤ (steady_outside world.old).size }
-{
-    commit(world)?;
-    left(world, first, choice_of(name)?)
-}
-
-/// The same as it is shown, on a disk of six bytes.
+/// What a crash leaves after so many effects of a commit, by a choice.
 fn commit_left(alloc: Global, input: &str) -> Result<String, Fail> {
     let (first, name) = input.split_once(' ').ok_or("no choice")?;
-    let first = first.parse::<usize>()?;
     let mut world = steady_disk(alloc, &[0; 6])?;
-    let file = crash_of_commit(&mut world, first, name)?;
+    commit(&mut world)?;
+    let file = left(&world, first.parse::<usize>()?, choice_of(name)?)?;
     text_of(alloc, &file.as_slice())
 }
 
@@ -257,23 +249,12 @@ fn failing_shown(alloc: Global, world: &MemWorld) -> Result<String, Fail> {
     Ok(format!(in alloc; "{file} {} {effects} {left}", world.unrecorded())?)
 }
 
-/// What a write at the front of a disk answers, and what the disk tells then.
-fn written_shown(alloc: Global, world: &mut MemWorld, bytes: &[u8]) -> Result<String, Fail>
-    requires { length bytes.now ≤ (mem_outside world.old).size }
-{
-    let answer = world.write_at(0, bytes);
-    let told = failing_shown(alloc, world)?;
-    Ok(format!(in alloc; "{answer:?} {told}")?)
-}
-
 /// A first write of bytes from 7 on, as many as it is told, which fails.
 fn failed_write(alloc: Global, count: &str) -> Result<String, Fail> {
     let mut world = failing_disk(alloc, &[0, 0, 0], numbers(alloc, 1, 9)?)?;
-    if count == "1" {
-        written_shown(alloc, &mut world, &[7])
-    } else {
-        written_shown(alloc, &mut world, &[7, 8])
-    }
+    let bytes: &[u8] = if count == "1" { &[7] } else { &[7, 8] };
+    let answer = text_of(alloc, &world.write_at(0, bytes))?;
+    Ok(format!(in alloc; "{answer} {}", failing_shown(alloc, &world)?)?)
 }
 
 #[test]
@@ -284,21 +265,14 @@ fn a_failed_write_of_one_byte_tears_nothing(rt: HostRuntime) -> Result<(), Fail>
     expect_rows(&rt, rows, failed_write)
 }
 
-/// What a write and two syncs answer, and the effects of a disk then.
-fn synced_shown(alloc: Global, world: &mut MemWorld) -> Result<String, Fail>
-    requires { 3 ≤ (mem_outside world.old).size }
-{
+/// A write, and two syncs of which the first fails.
+fn failed_sync(alloc: Global, _input: &str) -> Result<String, Fail> {
+    let mut world = failing_disk(alloc, &[0, 0, 0], numbers(alloc, 2, 9)?)?;
     let written = world.write_at(1, &[7, 8]);
     let first = world.sync();
     let second = world.sync();
     let effects = text_of(alloc, &world.effects())?;
     Ok(format!(in alloc; "{written:?} {first:?} {second:?} {effects}")?)
-}
-
-/// A write, and two syncs of which the first fails.
-fn failed_sync(alloc: Global, _input: &str) -> Result<String, Fail> {
-    let mut world = failing_disk(alloc, &[0, 0, 0], numbers(alloc, 2, 9)?)?;
-    synced_shown(alloc, &mut world)
 }
 
 #[test]
@@ -321,8 +295,9 @@ fn large_left(alloc: Global, input: &str) -> Result<String, Fail> {
         return Err("too small".into());
     }
     let mut world = steady_disk(alloc, file.as_slice())?;
-    let left = crash_of_commit(&mut world, 5, name)?;
-    Ok(format!(in alloc; "{} {:?}", left.len(), left.as_slice().first())?)
+    commit(&mut world)?;
+    let file = left(&world, 5, choice_of(name)?)?;
+    Ok(format!(in alloc; "{} {:?}", file.len(), file.as_slice().first())?)
 }
 
 /// As many bytes as the store of the session manager has.
