@@ -83,7 +83,7 @@ after_logout() {
   echo spoiled > "$wrapped/text"
 }
 
-comes_back() {
+editor_comes_back() {
   check "the editor comes back under $1" within 30 edits
   check "with the last text under $1" within 30 shows "one $first_text"
   check "which is its file under $1" reads text "one $first_text"
@@ -107,7 +107,7 @@ wrapped_by_smd() {
   check "smwrap ends well" ends "$wrapper" 0
   after_logout smd
   check "smd starts again for the editor" start_smd "$wrapped"
-  comes_back smd
+  editor_comes_back smd
   check "smd has the editor again" within 30 stands 1 1 2
   long_state
   check "the second session of the editor logs out" logs_out
@@ -166,7 +166,7 @@ wrapped_by_libsm() {
   check "the manager on libSM starts again" start_libsm_manager 2
   IFS=$'\t' read -ra words < <(last_command)
   "${words[@]}" < /dev/null &
-  comes_back libSM
+  editor_comes_back libSM
   check "its ID is the old one" within 20 has_lines 2 "registered ${words[10]}" "$wrapped/log"
   check "the manager on libSM ends again" libsm_leaves 2
   unset ICEAUTHORITY SESSION_MANAGER
