@@ -21,8 +21,8 @@ edits() { keys has-session -t text; }
 
 edits_no() { ! edits; }
 
-# types WORDS: puts them in front of the text, and has the editor write its file.
-types() {
+# writes_text WORDS: puts them in front of the text, and has the editor write its file.
+writes_text() {
   keys send-keys -t text C-Home && keys send-keys -t text -l "$1" && keys send-keys -t text C-o Enter && within 20 reads text "$1"
 }
 
@@ -70,7 +70,7 @@ two_saves() {
   check "its first copy is made under $manager" within 30 reads text.1 "$first_text"
   check "the copy has the mode of the text under $manager" has_mode text.1 640
   check "the editor shows its text under $manager" within 30 shows "$first_text"
-  check "the editor writes under $manager" types "one "
+  check "the editor writes under $manager" writes_text "one "
   check "$manager saves again" "$@"
   check "the second copy is made under $manager" within 30 reads text.2 "one $first_text"
 }
