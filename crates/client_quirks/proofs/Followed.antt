@@ -11,10 +11,11 @@ use Rattle.ice_framing.proofs.Cuts.{cut-oversize, oversize-fed}
 use Rattle.ice_framing.proofs.Streams.{frames_of-nil, standing_of-nil, standing_of-oversize}
 use Rattle.client_quirks.proofs.Joining.{concat-push}
 use Rattle.client_quirks.proofs.Grown.{Grown, grown, speech_grown, stays_lost, lost_unchanged, Owes, owes_released, owes_more, owes_unchanged, owes_changed}
-use Rattle.client_quirks.specs.Speech.{speech_behind, handed_on, are_changed}
+use Rattle.frame_speech.specs.Speech.{speech_behind}
+use Rattle.client_quirks.specs.Speech.{handed_on, are_changed}
 use Rattle.client_quirks.specs.Amending.{FollowsBy, IsOpen, HasEnded, left_open, is_within, Rewrites, Leaves}
-use Rattle.client_quirks.specs.declared.speech.Speech.{Speech}
-use Rattle.client_quirks.specs.declared.speech.Speech.TheVariants.{Silent, Greeted, Speaks, Lost}
+use Rattle.frame_speech.specs.declared.speech.Speech.{Speech}
+use Rattle.frame_speech.specs.declared.speech.Speech.TheVariants.{Silent, Greeted, Speaks, Lost}
 use Rattle.client_quirks.specs.declared.cutter.Cutter.{Cutter}
 
 abbrev pub Stands : List ℕ → List (List ℕ) → Speech → Option Cutter → Type 0

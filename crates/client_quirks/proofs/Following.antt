@@ -5,11 +5,11 @@ use Rattle.ice_framing.specs.declared.cutting.WholeFrame.{WholeFrame}
 use Rattle.ice_framing.proofs.Cuts.{oversize-fed}
 use Rattle.ice_framing.proofs.Streams.{frames_of-nil, standing_of-nil, frames_of-oversize, standing_of-oversize}
 use Rattle.client_quirks.proofs.Grown.{grown, speech_grown}
-use Rattle.client_quirks.specs.Speech.{speech_behind}
+use Rattle.frame_speech.specs.Speech.{speech_behind}
 use Rattle.client_quirks.specs.Sides.{new_frames, GoesOn, CutsOn, IsSide}
 use Rattle.client_quirks.specs.Leaving.{Mark, mark_heard, mark_told, heard_behind, told_behind}
-use Rattle.client_quirks.specs.declared.speech.Speech.{Speech}
-use Rattle.client_quirks.specs.declared.speech.Speech.TheVariants.{Silent}
+use Rattle.frame_speech.specs.declared.speech.Speech.{Speech}
+use Rattle.frame_speech.specs.declared.speech.Speech.TheVariants.{Silent}
 use Rattle.client_quirks.specs.declared.cutter.Cutter.{Cutter}
 use Rattle.client_quirks.specs.declared.side.Side.{Side}
 

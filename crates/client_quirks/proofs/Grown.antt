@@ -11,17 +11,15 @@ use Rattle.ice_framing.specs.declared.cutting.WholeFrame.{WholeFrame}
 use Rattle.ice_framing.proofs.Shapes.{joined}
 use Rattle.ice_framing.proofs.Streams.{frames_of-append, standing_of-append}
 use Rattle.client_quirks.proofs.Joining.{concat-push}
-use Rattle.client_quirks.specs.Speech.{is_whole, reading, after, is_changed, spelled_anew, speech_behind, handed_on, are_changed, amended_stream}
-use Rattle.client_quirks.specs.declared.speech.Speech.{Speech}
-use Rattle.client_quirks.specs.declared.speech.Speech.TheVariants.{Silent, Lost}
-use Rattle.client_quirks.specs.declared.reading.Reading.{Reading}
-use Rattle.client_quirks.specs.declared.reading.Reading.TheVariants.{Nothing, Greets, Opens, Sets, Unread}
+use Rattle.frame_speech.proofs.Speeches.{speech_behind-append}
+use Rattle.frame_speech.specs.Speech.{is_whole, reading, after, speech_behind}
+use Rattle.client_quirks.specs.Speech.{is_changed, spelled_anew, handed_on, are_changed, amended_stream}
+use Rattle.frame_speech.specs.declared.speech.Speech.{Speech}
+use Rattle.frame_speech.specs.declared.speech.Speech.TheVariants.{Silent, Lost}
+use Rattle.frame_speech.specs.declared.reading.Reading.{Reading}
+use Rattle.frame_speech.specs.declared.reading.Reading.TheVariants.{Nothing, Greets, Opens, Sets, Unread}
 
 -- ---- frames behind frames
-
-pub speech_behind-append : (s : Speech) (xs ys : List WholeFrame) → speech_behind s (xs ++ ys) ≡ speech_behind (speech_behind s xs) ys
-speech_behind-append s [] ys = refl
-speech_behind-append s (f ∷ xs) ys = speech_behind-append (after s (reading s f)) xs ys
 
 pub handed_on-append : (s : Speech) (xs ys : List WholeFrame) → handed_on s (xs ++ ys) ≡ handed_on s xs ++ handed_on (speech_behind s xs) ys
 handed_on-append s [] ys = refl

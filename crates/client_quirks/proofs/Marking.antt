@@ -3,9 +3,9 @@ use Rattle.std.proofs.Common.{◌≡◌, ℕ, ◌+◌, ◌<◌, ◌≤◌, List,
 use Rattle.std.specs.Prelude.{if◌then◌else◌}
 use Rattle.std.proofs.lemmas.List.{at_drop_all}
 use Rattle.ice_framing.specs.declared.cutting.WholeFrame.{WholeFrame}
-use Rattle.client_quirks.proofs.Walking.{on}
+use Rattle.frame_speech.proofs.Speeches.{on}
 use Rattle.client_quirks.specs.Leaving.{Mark, mark, mark_heard, mark_told, heard_behind, told_behind, front_count, is_kept}
-use Rattle.client_quirks.specs.declared.speech.Speech.{Speech}
+use Rattle.frame_speech.specs.declared.speech.Speech.{Speech}
 use Rattle.client_quirks.specs.declared.stage.Stage.{Stage}
 
 pub record Hearing (first : Mark) (frames : List WholeFrame) (speech : Speech) (stage : Stage) (count i : ℕ) : Type 0 where

@@ -1,10 +1,12 @@
 -- Going over the frames of a stream, one after another.
 use Rattle.std.proofs.Common.{◌≡◌, ℕ, ◌+◌, ◌<◌, ◌≤◌, List, ◌∷◌, ◌++◌, length, drop, get_or, Bool, true, false, ◌||◌, refl, sym, ap, ◌∙◌, append_assoc, append-nil}
 use Rattle.std.proofs.Math.Bool.{or_assoc}
-use Rattle.std.proofs.lemmas.List.{at_drop_more, at_drop_all}
+use Rattle.std.proofs.lemmas.List.{at_drop_all}
 use Rattle.ice_framing.specs.declared.cutting.WholeFrame.{WholeFrame}
-use Rattle.client_quirks.specs.Speech.{reading, after, is_changed, spelled_anew, speech_behind, handed_on, are_changed}
-use Rattle.client_quirks.specs.declared.speech.Speech.{Speech}
+use Rattle.frame_speech.proofs.Speeches.{on}
+use Rattle.frame_speech.specs.Speech.{reading, after, speech_behind}
+use Rattle.client_quirks.specs.Speech.{is_changed, spelled_anew, handed_on, are_changed}
+use Rattle.frame_speech.specs.declared.speech.Speech.{Speech}
 
 -- The frames before the i-th were walked over: what is left does to what there is what all of them do to what there was.
 pub record Walking (first : Speech) (frames : List WholeFrame) (old : List ℕ) (speech : Speech) (changed : Bool) (out : List ℕ) (i : ℕ) : Type 0 where
@@ -15,10 +17,6 @@ pub record Walking (first : Speech) (frames : List WholeFrame) (old : List ℕ) 
 or-nil : (a : Bool) → (a || false) ≡ a
 or-nil true = refl
 or-nil false = refl
-
--- a function of what is left, one frame on
-pub on : {Y : Type 0} (F : List WholeFrame → Y) (frames : List WholeFrame) (i : ℕ) (f : WholeFrame) → i < length frames → f ≡ get_or frames i f → F (f ∷ drop (i + 1) frames) ≡ F (drop i frames)
-on F frames i f there is = ap (λ (g : WholeFrame). F (g ∷ drop (i + 1) frames)) is ∙ sym (at_drop_more F frames i f there)
 
 pub walked_one : (first : Speech) (frames : List WholeFrame) (old : List ℕ) (speech : Speech) (changed : Bool) (out : List ℕ) (i : ℕ) (f : WholeFrame) (grown : List ℕ) (next : Speech) (also : Bool) → Walking first frames old speech changed out i → i < length frames → f ≡ get_or frames i f → next ≡ after speech (reading speech f) → also ≡ is_changed f (reading speech f) → grown ≡ out ++ spelled_anew f (reading speech f)
     → Walking first frames old next (changed || also) grown (i + 1)

@@ -3,9 +3,10 @@ use Rattle.std.specs.Prelude.{◌≡◌, ◌⊎◌, ◌==◌, ◌-◌, if◌then
 use Rattle.std.specs.List.{concat}
 use Rattle.ice_framing.specs.Frames.{frames_of, standing_of, IsOversize}
 use Rattle.ice_framing.specs.declared.cutting.WholeFrame.{WholeFrame}
-use Rattle.client_quirks.specs.Speech.{speech_behind, are_changed, amended_stream}
-use Rattle.client_quirks.specs.declared.speech.Speech.{Speech}
-use Rattle.client_quirks.specs.declared.speech.Speech.TheVariants.{Silent, Greeted, Speaks, Lost}
+use Rattle.frame_speech.specs.Speech.{speech_behind}
+use Rattle.client_quirks.specs.Speech.{are_changed, amended_stream}
+use Rattle.frame_speech.specs.declared.speech.Speech.{Speech}
+use Rattle.frame_speech.specs.declared.speech.Speech.TheVariants.{Silent, Greeted, Speaks, Lost}
 use Rattle.client_quirks.specs.declared.cutter.Cutter.{Cutter}
 use Rattle.client_quirks.specs.declared.amender.Amender.{Amender}
 

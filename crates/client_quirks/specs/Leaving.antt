@@ -3,20 +3,12 @@ use Rattle.std.specs.Prelude.{◌≡◌, ℕ, ◌+◌, ◌-◌, ◌==◌, ◌||�
 use Rattle.std.specs.List.{concat}
 use Rattle.ice_framing.specs.declared.cutting.WholeFrame.{WholeFrame}
 use Rattle.client_quirks.specs.Sides.{new_frames, held_of, Follows}
-use Rattle.client_quirks.specs.Speech.{is_message, reading, after}
-use Rattle.client_quirks.specs.declared.speech.Speech.{Speech}
-use Rattle.client_quirks.specs.declared.speech.Speech.TheVariants.{Silent, Greeted, Speaks, Lost}
+use Rattle.frame_speech.specs.Speech.{reading, after, is_said}
+use Rattle.frame_speech.specs.declared.speech.Speech.{Speech}
 use Rattle.client_quirks.specs.declared.side.Side.{Side}
 use Rattle.client_quirks.specs.declared.stage.Stage.{Stage}
 use Rattle.client_quirks.specs.declared.stage.Stage.TheVariants.{Free, Asked, Answered, Kept, Released}
 use Rattle.client_quirks.specs.declared.keeper.Keeper.{Keeper}
-
--- a message of XSMP of this minor opcode, under its sender's major opcode
-abbrev pub is_said : Speech → ℕ → WholeFrame → Bool
-is_said Silent minor f = false
-is_said Greeted minor f = false
-is_said (Speaks opcode) minor f = is_message opcode minor f
-is_said Lost minor f = false
 
 -- ---- what the manager says
 

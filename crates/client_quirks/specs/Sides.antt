@@ -2,8 +2,8 @@
 use Rattle.std.specs.Prelude.{◌≡◌, ℕ, List, [], ◌++◌, length, Option, Some, None, MatchOption}
 use Rattle.ice_framing.specs.Frames.{Standing, fed, cut, frames_of, standing_of, IsOversize}
 use Rattle.ice_framing.specs.declared.cutting.WholeFrame.{WholeFrame}
-use Rattle.client_quirks.specs.Speech.{speech_behind}
-use Rattle.client_quirks.specs.declared.speech.Speech.TheVariants.{Silent}
+use Rattle.frame_speech.specs.Speech.{speech_behind}
+use Rattle.frame_speech.specs.declared.speech.Speech.TheVariants.{Silent}
 use Rattle.client_quirks.specs.declared.cutter.Cutter.{Cutter}
 use Rattle.client_quirks.specs.declared.side.Side.{Side}
 

@@ -3,7 +3,8 @@ ghost use Rattle.client_quirks.specs.Amending.{Follows, Takes, Ends, RewritesFra
 
 use crate::cutter::{Cutter, Cutting};
 use crate::pieces::{PieceList, StreamPiece, add_bytes, alone, joined};
-use crate::speech::{Speech, add_frames, bytes_of};
+use crate::speech::{add_frames, bytes_of};
+use frame_speech::Speech;
 use ice_framing::WholeFrame;
 use sm_world::{NoMemory, Octets};
 use std::alloc::Global;

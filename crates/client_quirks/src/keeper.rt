@@ -6,8 +6,9 @@ ghost use Rattle.client_quirks.specs.declared.stage.Stage.TheVariants.{Free};
 
 use crate::pieces::{PieceList, StreamPiece, add_bytes, alone};
 use crate::side::Side;
-use crate::speech::{Speech, bytes_of};
+use crate::speech::bytes_of;
 use crate::stage::Stage;
+use frame_speech::Speech;
 use ice_framing::WholeFrame;
 use sm_world::NoMemory;
 use std::alloc::Global;

@@ -2,7 +2,7 @@ ghost use Rattle.std.specs.Prelude.{◌≡◌, [], IfOk, OnOk};
 ghost use Rattle.client_quirks.specs.Sides.{new_frames, held_of, IsSide, CutsOn};
 
 use crate::cutter::{Cutter, Cutting};
-use crate::speech::Speech;
+use frame_speech::Speech;
 use ice_framing::WholeFrameList;
 use sm_world::NoMemory;
 use std::alloc::Global;

@@ -1,8 +1,7 @@
 ghost use Rattle.std.specs.Prelude.{◌≡◌};
-ghost use Rattle.client_quirks.specs.Leaving.{is_said, asked_by, is_last, over, told, answered_by, closing, heard, is_kept};
+ghost use Rattle.client_quirks.specs.Leaving.{asked_by, is_last, over, told, answered_by, closing, heard, is_kept};
 
-use crate::reading::{byte_at, is_message};
-use crate::speech::Speech;
+use frame_speech::{Speech, byte_at};
 use ice_framing::WholeFrame;
 
 /// How far a logout has come for one client.
@@ -18,20 +17,6 @@ pub enum Stage {
     Kept,
     /// What was held back is handed on, as all that comes.
     Released,
-}
-
-impl Speech {
-    /// Whether a frame is a message of XSMP of this minor opcode.
-    pub fn is_said(self, minor: u8, frame: &WholeFrame) -> bool
-        ensures { result ≡ is_said self minor frame.now }
-    {
-        match self {
-            Speech::Silent => false,
-            Speech::Greeted => false,
-            Speech::Speaks(opcode) => is_message(opcode, minor, frame),
-            Speech::Lost => false,
-        }
-    }
 }
 
 fn is_last(speech: Speech, frame: &WholeFrame) -> bool

@@ -1,8 +1,9 @@
-use crate::table::{bytes_of, expect_rows, piece_of, put_pieces};
+use crate::table::{bytes_of, piece_of, put_pieces};
 use client_quirks::Keeper;
 use std::alloc::{Alloc, Global};
 use std::process::Abort;
 use std::test::Fail;
+use test_tables::expect_rows;
 
 /// What one turn does: `c` is a piece of the client's, `s` one of the manager's, `e` the end of the
 /// client's stream, and `r` hands on what is held back.

@@ -1,10 +1,10 @@
-use crate::table::expect_rows;
 use client_quirks::{amended, is_amended};
 use ice_values::{Array8, Array8List, Property};
 use sm_world::{NoMemory, Octets};
 use std::alloc::{Alloc, Global};
 use std::process::Abort;
 use std::test::Fail;
+use test_tables::expect_rows;
 
 /// What a row writes of some bytes: `~` is a NUL, and `!` a byte 1.
 fn read(alloc: Global, text: &str) -> Result<Array8, NoMemory> {

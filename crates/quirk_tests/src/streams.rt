@@ -1,8 +1,9 @@
-use crate::table::{expect_rows, piece_of, put_pieces};
+use crate::table::{piece_of, put_pieces};
 use client_quirks::Amender;
 use std::alloc::{Alloc, Global};
 use std::process::Abort;
 use std::test::Fail;
+use test_tables::expect_rows;
 
 /// What is handed on of the pieces of a stream, one by one, and behind a semicolon what is left when it
 /// ends.

@@ -1,10 +1,11 @@
-use crate::table::{bytes_of, expect_rows};
+use crate::table::bytes_of;
 use event_script::{ScriptFault, Taken, read_script};
 use quirk_world::{QuirkWorld, take_quirks};
 use sm_world::{Effect, Event, Links, MemWorld, NumberList, Octets};
 use std::alloc::{Alloc, Global};
 use std::process::Abort;
 use std::test::Fail;
+use test_tables::expect_rows;
 
 /// A world in memory that brings the events of a script, whose lines are parted by commas.
 fn world_of(alloc: Global, input: &str) -> Result<QuirkWorld<MemWorld>, Fail> {

@@ -1,9 +1,9 @@
 -- What is seen of a connection by following the frames that the manager sends on it.
-use Rattle.std.specs.Prelude.{◌≡◌, ℕ, Bool, not, ◌&&◌, ◌==◌, List, ◌++◌, slice_index, MatchOption, None}
+use Rattle.std.specs.Prelude.{◌≡◌, ℕ, Bool, not, ◌&&◌, ◌==◌, List, slice_index}
 use Rattle.std.specs.List.{list_any}
-use Rattle.ice_framing.specs.Frames.{frames_of, standing_of, StandsAt, IsOversize}
+use Rattle.ice_framing.specs.Frames.{frames_of}
 use Rattle.ice_framing.specs.declared.cutting.WholeFrame.{WholeFrame}
-use Rattle.stream_watch.specs.declared.side.Side.{Side}
+use Rattle.frame_speech.specs.Streams.{IsAt}
 use Rattle.stream_watch.specs.declared.watch.Watch.{Watch}
 
 -- ConnectionReply of ICE (ICE, chapter 7: major opcode 0, minor opcode 6)
@@ -21,15 +21,6 @@ is_let_in sent = list_any is_connection_reply (frames_of sent)
 -- Die was sent
 abbrev pub is_told_to_die : List ℕ → Bool
 is_told_to_die sent = list_any is_die (frames_of sent)
-
--- this is how far a stream was cut
-abbrev pub IsAt : List ℕ → Side → Type 0
-IsAt stream side = MatchOption side.rest (IsOversize (standing_of stream)) (λ rest. StandsAt (standing_of stream) rest None)
-
--- These frames came behind those of the stream, which was cut so far then.
-pub record Cuts (stream bytes : List ℕ) (new : List WholeFrame) (after : Side) : Type 0 where
-  pub frames : frames_of (stream ++ bytes) ≡ frames_of stream ++ new
-  pub stands : IsAt (stream ++ bytes) after
 
 -- what is known of a connection on which all this was sent
 pub record Follows (sent : List ℕ) (watch : Watch) : Type 0 where

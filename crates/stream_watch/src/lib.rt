@@ -2,12 +2,9 @@
 //! way for others. It calls no device.
 #![tactic(auto)]
 
-mod naming;
-mod side;
 mod visitor;
 mod visitors;
 mod watch;
 
-pub use naming::Naming;
 pub use visitors::{Place, Visitors};
 pub use watch::Watch;

@@ -1,18 +1,11 @@
-ghost use Rattle.std.specs.Prelude.{◌≡◌, ◌++◌, ℕ, List, [], slice_index, OnOk};
+ghost use Rattle.std.specs.Prelude.{◌≡◌, ◌++◌, ℕ, List, [], OnOk};
 ghost use Rattle.std.specs.List.{list_any};
 ghost use Rattle.stream_watch.specs.Watching.{Follows, is_connection_reply as lets_in, is_die as tells_to_die};
 
-use crate::side::Side;
+use frame_speech::{CutStream, byte_at};
 use ice_framing::WholeFrame;
 use sm_world::NoMemory;
 use std::alloc::Global;
-
-/// The byte at a place, and 0 where there is none.
-pub fn byte_at(bytes: &[u8], place: usize) -> u8
-    ensures { result ≡ slice_index bytes.now place }
-{
-    if place < bytes.len() { bytes[place] } else { 0 }
-}
 
 fn is_connection_reply(frame: &WholeFrame) -> bool
     ensures { result ≡ lets_in frame.now }
@@ -44,7 +37,7 @@ fn have_die(frames: &[WholeFrame]) -> bool
 #[derive(Debug, Drop)]
 pub struct Watch {
     alloc: Global,
-    sent: Side,
+    sent: CutStream,
     let_in: bool,
     told_to_die: bool,
 }
@@ -56,7 +49,7 @@ impl Watch {
     {
         Watch {
             alloc,
-            sent: Side::new(alloc),
+            sent: CutStream::new(alloc),
             let_in: false,
             told_to_die: false,
         }

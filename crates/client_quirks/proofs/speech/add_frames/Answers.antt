@@ -1,5 +1,5 @@
 use Rattle.std.proofs.Common.{Bool, ◌||◌, subst, sym, ◌+◌}
-use Rattle.client_quirks.specs.declared.speech.Speech.{Speech}
+use Rattle.frame_speech.specs.declared.speech.Speech.{Speech}
 use Rattle.client_quirks.proofs.Walking.{Walking, walked_one}
 use Rattle.client_quirks.proofs.speech.add_frames.Goals as goal
 

@@ -6,7 +6,7 @@ use Rattle.client_quirks.specs.Sides.{CutsOn, IsSide, Follows}
 use Rattle.client_quirks.specs.Leaving.{Mark, mark, heard_behind, front_count, is_kept, mark_of, frames_in, behind, front_in, Passes}
 use Rattle.client_quirks.specs.declared.keeper.Keeper.{Keeper}
 use Rattle.client_quirks.specs.declared.side.Side.{Side}
-use Rattle.client_quirks.specs.declared.speech.Speech.{Speech}
+use Rattle.frame_speech.specs.declared.speech.Speech.{Speech}
 use Rattle.client_quirks.proofs.Followed.{with_answer, with_both}
 use Rattle.client_quirks.proofs.Following.{heard_speech, side_grown}
 use Rattle.client_quirks.proofs.keeper.Keeper.listen.Goals as goal

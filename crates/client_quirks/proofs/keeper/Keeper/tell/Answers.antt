@@ -1,10 +1,10 @@
 use Rattle.std.proofs.Common.{rules, ◌≡◌, ◌∙◌, ap, List}
 use Rattle.ice_framing.specs.declared.cutting.WholeFrame.{WholeFrame}
-use Rattle.client_quirks.specs.Speech.{speech_behind}
+use Rattle.frame_speech.specs.Speech.{speech_behind}
 use Rattle.client_quirks.specs.Sides.{new_frames}
 use Rattle.client_quirks.specs.Leaving.{mark}
 use Rattle.client_quirks.specs.declared.side.Side.{Side}
-use Rattle.client_quirks.specs.declared.speech.Speech.{Speech}
+use Rattle.frame_speech.specs.declared.speech.Speech.{Speech}
 use Rattle.client_quirks.proofs.Following.{told_speech, side_grown}
 use Rattle.client_quirks.proofs.keeper.Keeper.tell.Goals as goal
 

@@ -1,6 +1,6 @@
 use Rattle.std.proofs.Common.{Some, refl}
 use Rattle.client_quirks.specs.declared.side.Side.{Side}
-use Rattle.client_quirks.specs.declared.speech.Speech.TheVariants.{Silent}
+use Rattle.frame_speech.specs.declared.speech.Speech.TheVariants.{Silent}
 use Rattle.client_quirks.proofs.Following.{begins}
 use Rattle.client_quirks.proofs.side.Side.new.Goals as goal
 

@@ -1,5 +1,5 @@
 use Rattle.stream_watch.specs.Watching.{is_connection_reply, is_die}
-use Rattle.stream_watch.proofs.Streams.{none_yet}
+use Rattle.stream_watch.proofs.Beginning.{none_yet}
 use Rattle.stream_watch.proofs.watch.Watch.new.Goals as goal
 
 pub returns : goal.returns

@@ -1,7 +1,7 @@
 use Rattle.std.proofs.Common.{rules, ◌≡◌, Some, None, []}
 use Rattle.ice_framing.specs.Frames.{fed, cut}
-use Rattle.stream_watch.proofs.Streams.{taken_on, taken_none}
-use Rattle.stream_watch.proofs.side.Side.take.Goals as goal
+use Rattle.frame_speech.proofs.Streams.{taken_on, taken_none}
+use Rattle.frame_speech.proofs.stream.CutStream.take.Goals as goal
 
 pub returns-in_ok-self-in-Some : goal.returns-in_ok-self-in-Some
 returns-in_ok-self-in-Some c = λ stream at.

@@ -1,6 +1,6 @@
 ghost use Rattle.std.specs.Prelude.{◌≡◌, ◌≤◌, length, slice_index, IfOk, IsTrue};
 ghost use Rattle.ice_values.specs.Frames.{IsFrame};
-ghost use Rattle.client_quirks.specs.Speech.{is_message, is_whole, greeting_in, opened_under, setup_in, opening_in, setting_in};
+ghost use Rattle.frame_speech.specs.Speech.{is_message, is_whole, greeting_in, opened_under, setup_in, opening_in, setting_in};
 
 use ice_framing::WholeFrame;
 use ice_messages::{IceMessage, decode_ice};

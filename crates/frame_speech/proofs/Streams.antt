@@ -1,8 +1,6 @@
 -- What is known of a stream as it goes on.
-use Rattle.std.proofs.Common.{◌≡◌, ℕ, ◌≤◌, List, [], ◌++◌, Bool, false, ◌||◌, Option, Some, None, sym, ap, ◌∙◌, subst, arith, append-nil}
+use Rattle.std.proofs.Common.{◌≡◌, ℕ, ◌≤◌, List, [], ◌++◌, Option, Some, None, sym, ap, ◌∙◌, subst, arith, append-nil}
 use Rattle.std.specs.Prelude.{MatchOption}
-use Rattle.std.specs.List.{list_any}
-use Rattle.std.proofs.lemmas.List.Folds.{list_any-append}
 use Rattle.ice_framing.specs.Frames.{Standing, beginning, fed, cut, frames_of, standing_of, StandsAt, IsPartial, IsOversize, units, unit_limit}
 use Rattle.ice_framing.specs.declared.cutting.WholeFrame.{WholeFrame}
 use Rattle.ice_framing.proofs.Cuts.{oversize-fed}
@@ -48,10 +46,3 @@ pub taken_none : (stream bytes : List ℕ) (before : Option Standing) (new : Lis
 taken_none stream bytes before new after at is none gone =
     let much : IsOversize (standing_of stream) = subst (λ (o : Option Standing). Stands stream o) is at in
     rw (none, gone) (was_over stream bytes much)
-
-pub none_yet : (test : WholeFrame → Bool) → false ≡ list_any test (frames_of [])
-none_yet test = sym (ap (list_any test) frames_of-nil)
-
--- one of the frames is such a one where one of the old or of the new is
-pub any_more : (test : WholeFrame → Bool) (stream bytes : List ℕ) (frames : List WholeFrame) → frames_of (stream ++ bytes) ≡ frames_of stream ++ frames → list_any test (frames_of (stream ++ bytes)) ≡ (list_any test (frames_of stream) || list_any test frames)
-any_more test stream bytes frames are = ap (list_any test) are ∙ list_any-append test (frames_of stream) frames

@@ -1,6 +1,6 @@
 ghost use Rattle.std.specs.Prelude.{◌≡◌, ◌++◌, ℕ, List, [], IfOk};
-ghost use Rattle.ice_framing.specs.Frames.{frames_of};
-ghost use Rattle.stream_watch.specs.Watching.{IsAt, Cuts};
+ghost use Rattle.ice_framing.specs.Frames.{standing_of, is_oversize};
+ghost use Rattle.frame_speech.specs.Streams.{IsAt, Cuts};
 
 use ice_framing::{Remainder, WholeFrameList};
 use sm_world::NoMemory;
@@ -8,17 +8,17 @@ use std::alloc::Global;
 
 /// How far one direction of a connection was cut into frames.
 #[derive(Debug, Drop)]
-pub struct Side {
+pub struct CutStream {
     /// What came behind the last whole frame; None behind a header that states too much.
     rest: Option<Remainder>,
 }
 
-impl Side {
+impl CutStream {
     /// Before its first byte; this takes no memory.
-    pub fn new(alloc: Global) -> Side
+    pub fn new(alloc: Global) -> CutStream
         ensures { IsAt [] result }
     {
-        Side {
+        CutStream {
             rest: Some(Remainder::new(alloc)),
         }
     }
@@ -35,5 +35,12 @@ impl Side {
             }
             None => Ok(frames),
         }
+    }
+
+    /// Whether a header stated too much, behind which nothing is cut.
+    pub fn has_ended(&self) -> bool
+        ensures { (stream : List ℕ) → IsAt stream self.now → result ≡ is_oversize (standing_of stream) }
+    {
+        self.rest.is_none()
     }
 }

@@ -1,0 +1,2 @@
+pub mod Speeches
+pub mod Streams

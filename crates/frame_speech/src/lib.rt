@@ -1,0 +1,12 @@
+//! How one direction of a connection is cut into frames, and how far somebody understands it who
+//! follows them: the order of its numbers, and under which major opcode its sender speaks XSMP. It
+//! calls no device.
+#![tactic(auto)]
+
+mod reading;
+mod speech;
+mod stream;
+
+pub use reading::{Reading, byte_at, is_message, is_whole};
+pub use speech::Speech;
+pub use stream::CutStream;
