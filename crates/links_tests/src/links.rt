@@ -46,8 +46,8 @@ pub fn dial(rt: HostRuntime, path: &str) -> Result<UnixStream, Fail> {
 
 /// Whether these bytes come to a peer next.
 fn reads(peer: &mut UnixStream, want: &[u8]) -> io::Result<bool> {
-    let mut came = [0u8; 16];
-    let room = &mut came[..want.len().min(16)];
+    let mut came = [0u8; 32];
+    let room = &mut came[..want.len().min(32)];
     peer.read_exact(room)?;
     Ok(&*room == want)
 }
@@ -164,13 +164,13 @@ fn order(
 ) -> Result<(), Fail> {
     let mut first = dial(rt, paths.control.as_str())?;
     let mut second = dial(rt, paths.control.as_str())?;
-    first.write_all(b"nonsense\nstatus\nshut")?;
+    first.write_all(b"nonsense\nclients\nstatus\nshut")?;
     assert!(test; asks_status(links));
     links.answer(b"idle\n");
     second.write_all(b"drop 7\n")?;
     assert!(test; asks_drop(links, 7));
     links.answer(b"no connection\n");
-    assert!(test; reads(&mut first, b"bad order\nidle\n")?);
+    assert!(test; reads(&mut first, b"bad order\nclients 0\nidle\n")?);
     assert!(test; reads(&mut second, b"no connection\n")?);
     Ok(())
 }

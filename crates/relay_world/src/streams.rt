@@ -48,10 +48,10 @@ impl Streams {
             return Ok(());
         };
         let first = second - 1;
-        let Some(near) = Client::new(self.alloc, registry, first, near) else {
+        let Some(near) = Client::new(self.alloc, registry, first, near, 0) else {
             return Ok(());
         };
-        let Some(far) = Client::new(self.alloc, registry, second, far) else {
+        let Some(far) = Client::new(self.alloc, registry, second, far, 0) else {
             return Ok(());
         };
         self.last = second;

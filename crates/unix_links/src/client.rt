@@ -2,18 +2,18 @@ use crate::outbox::{Outbox, Progress};
 use crate::sources::Source;
 use mio::net::UnixStream;
 use mio::{Interest, Registry};
+use session_watch::ClientWatch;
 use sm_world::{Conn, NoMemory};
 use std::alloc::Global;
 use std::io;
 use std::net::Shutdown;
-use stream_watch::Naming;
 
 /// A client's connection.
 #[derive(Drop)]
 pub struct Client {
     pub stream: UnixStream,
-    /// What the client says that its program is.
-    pub naming: Naming,
+    /// What is known of the client by what passed.
+    pub watch: ClientWatch,
     outbox: Outbox,
     /// The system told that the peer sends no more. It won't tell again, so all is read that is left.
     pub ends: bool,
@@ -23,12 +23,13 @@ pub struct Client {
 }
 
 impl Client {
-    /// A connection of which the system is to tell; none where it can't.
+    /// A connection that begins now and of which the system is to tell; none where it can't.
     pub fn new(
         alloc: Global,
         registry: &Registry,
         conn: Conn,
         mut stream: UnixStream,
+        now: u64,
     ) -> Option<Client> {
         let token = Source::Client(conn).token();
         if registry
@@ -39,7 +40,7 @@ impl Client {
         }
         Some(Client {
             stream,
-            naming: Naming::new(alloc),
+            watch: ClientWatch::new(alloc, now),
             outbox: Outbox::new(alloc),
             ends: false,
             waits: false,

@@ -7,6 +7,7 @@ use crate::news::News;
 use crate::reading::{Reading, is_passing, would_wait};
 use mio::Registry;
 use mio::net::UnixStream;
+use session_watch::{put_client, put_count, put_shown};
 use sm_world::{Conn, Event, Failure, NoMemory, Octets, PIECE_LIMIT};
 use std::alloc::{AllocError, Global};
 use std::collections::{BTreeMap, VecDeque};
@@ -72,7 +73,7 @@ impl Clients {
         let Some(conn) = self.last.checked_add(1) else {
             return Ok(());
         };
-        let Some(client) = Client::new(self.alloc, registry, conn, stream) else {
+        let Some(client) = Client::new(self.alloc, registry, conn, stream, self.now) else {
             return Ok(());
         };
         if let Place::Of(stranger) = self.place() {
@@ -116,7 +117,7 @@ impl Clients {
                 // A read that doesn't fill its room took all that there was.
                 let more = client.ends || count == PIECE_LIMIT;
                 let bytes = Octets::from_slice(self.alloc, &self.piece[..count])?;
-                client.naming.hear(bytes.as_slice())?;
+                client.watch.hear(self.now, bytes.as_slice())?;
                 Ok(Reading {
                     event: Some(Event::Piece(conn, bytes)),
                     more,
@@ -141,6 +142,7 @@ impl Clients {
             return Ok(());
         };
         self.visitors.follow(to, self.now, bytes)?;
+        client.watch.tell(self.now, bytes)?;
         if client.send(registry, to, bytes)? {
             Ok(())
         } else {
@@ -183,11 +185,27 @@ impl Clients {
     }
 
     /// The program at the other end of a connection, as it can be printed.
-    pub fn program(&self, conn: Conn) -> &str {
-        match self.open.get(&conn) {
-            Some(client) => client.naming.name(),
-            None => "a program",
+    pub fn program(&self, conn: Conn) -> Result<Octets, NoMemory> {
+        let mut name = Octets::new(self.alloc);
+        let program = match self.open.get(&conn) {
+            Some(client) => client.watch.program(),
+            None => None,
+        };
+        match program {
+            Some(program) => put_shown(self.alloc, &mut name, program.as_slice())?,
+            None => name.append(b"a program without a name")?,
         }
+        Ok(name)
+    }
+
+    /// The lines that say who is there.
+    pub fn lines(&self) -> Result<Octets, NoMemory> {
+        let mut lines = Octets::new(self.alloc);
+        put_count(self.alloc, &mut lines, self.open.len() as u64)?;
+        for (conn, client) in &self.open {
+            put_client(self.alloc, &mut lines, *conn, self.now, &client.watch)?;
+        }
+        Ok(lines)
     }
 
     /// Closes a connection that is to be told as gone.

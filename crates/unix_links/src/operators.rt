@@ -7,6 +7,7 @@ use bytes::BytesMut;
 use control_lines::{OrderRefusal, read_order, split_once};
 use mio::net::UnixStream;
 use mio::{Interest, Registry};
+use session_watch::asks_who_is_there;
 use sm_world::{Event, NoMemory, Order};
 use std::alloc::Global;
 use std::collections::BTreeMap;
@@ -25,6 +26,8 @@ const CHUNK: usize = 512;
 #[derive(Drop)]
 enum Said {
     Order(Order),
+    /// It asks who is there.
+    Clients,
     BadLine,
     /// Nothing yet; the flag says whether there may be more to read.
     Part(bool),
@@ -49,12 +52,14 @@ impl Operator {
         };
         let is_long = self.skips || line.len() > LINE_LIMIT;
         let order = read_order(alloc, line);
+        let asks = asks_who_is_there(line);
         let length = line.len() + 1;
         self.held.advance(length);
         self.skips = false;
         match order {
             Err(OrderRefusal::NoMemory) => Err(NoMemory),
             Ok(order) if !is_long => Ok(Said::Order(order)),
+            _ if asks && !is_long => Ok(Said::Clients),
             _ => Ok(Said::BadLine),
         }
     }
@@ -95,6 +100,8 @@ pub struct Operators {
     last: u32,
     /// Whose order was told last, until another event is.
     asked: Option<u32>,
+    /// Who asks who is there and has no answer yet.
+    asking: Option<u32>,
 }
 
 impl Operators {
@@ -104,6 +111,7 @@ impl Operators {
             open: BTreeMap::new(alloc),
             last: 0,
             asked: None,
+            asking: None,
         }
     }
 
@@ -143,6 +151,10 @@ impl Operators {
                 self.asked = Some(number);
                 Ok(Reading::one(Event::Operator(order)))
             }
+            Said::Clients => {
+                self.asking = Some(number);
+                Ok(Reading::later())
+            }
             Said::BadLine => {
                 self.write(number, b"bad order\n");
                 Ok(Reading::later())
@@ -156,8 +168,13 @@ impl Operators {
         }
     }
 
-    /// Writes a line to an operator. One that doesn't take it whole is dropped.
-    fn write(&mut self, number: u32, line: &[u8]) {
+    /// Who asks who is there. That one is to be answered.
+    pub fn next_asking(&mut self) -> Option<u32> {
+        self.asking.take()
+    }
+
+    /// Writes lines to an operator. One that doesn't take them whole is dropped.
+    pub fn write(&mut self, number: u32, line: &[u8]) {
         let Some(operator) = self.open.get_mut(&number) else {
             return;
         };

@@ -137,7 +137,8 @@ impl Sockets {
             let Some(conn) = self.clients.lingering(self.last_wait) else {
                 break;
             };
-            let program = self.clients.program(conn);
+            let program = self.clients.program(conn)?;
+            let program = str::from_utf8(program.as_slice()).unwrap_or("?");
             let _ = eprintln!(self.rt;
                 "smd: {program} was told to die, and its connection {conn} is closed"
             );
@@ -220,8 +221,21 @@ impl Sockets {
             Source::Hidden => self.join(source),
             Source::Control => self.admit(),
             Source::Client(conn) => Ok(self.clients.read(conn)?),
-            Source::Operator(number) => Ok(self.operators.hear(number)?),
+            Source::Operator(number) => {
+                let reading = self.operators.hear(number)?;
+                self.tell_who_is_there()?;
+                Ok(reading)
+            }
         }
+    }
+
+    /// Answers the operator who asks who is there, if one does.
+    fn tell_who_is_there(&mut self) -> Result<(), NoMemory> {
+        if let Some(number) = self.operators.next_asking() {
+            let lines = self.clients.lines()?;
+            self.operators.write(number, lines.as_slice());
+        }
+        Ok(())
     }
 
     /// Takes in a client who comes at this door. Where all places are taken, and none of a stranger's

@@ -1,0 +1,4 @@
+pub mod Following
+pub mod Lining
+pub mod Noting
+pub mod Stories

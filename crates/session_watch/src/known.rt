@@ -1,0 +1,230 @@
+ghost use Rattle.std.specs.Prelude.{◌≡◌, [], take, true, false, None, IfOk, OnOk, option_copied, option_and_then, option_map, unwrap_or};
+ghost use Rattle.std.specs.List.{list_any};
+ghost use Rattle.std.specs.Option.{option_or};
+ghost use Rattle.session_watch.specs.Knowing.{latest, name_in, is_program, set_by, program_in, id_in, asks as asked_in, answers as answered_in, told_in, work_in, worked_in, logout_in, known_by, noted};
+ghost use Rattle.session_watch.specs.declared.party.Party.TheVariants.{Client, Manager};
+
+use crate::asking::{Answered, Asked, answers, asks};
+use crate::party::Party;
+use crate::stage::{Stage, work, worked};
+use ice_values::{Array8, Property};
+use sm_world::{NoMemory, Octets};
+use std::alloc::Global;
+use xsmp_messages::XsmpMessage;
+
+/// How many bytes of a program's name are kept.
+const PROGRAM_LIMIT: usize = 255;
+
+/// How many bytes of an ID are kept.
+const ID_LIMIT: usize = 512;
+
+/// What is known of a client by the messages that passed.
+#[derive(Debug, Drop)]
+pub struct Known {
+    pub program: Option<Octets>,
+    pub id: Option<Octets>,
+    /// What it was asked last.
+    pub asked: Option<Asked>,
+    /// What it has answered since.
+    pub answered: Option<Answered>,
+    /// Whether a logout runs for it.
+    pub logout: Option<bool>,
+    pub work: Option<Stage>,
+}
+
+/// The first bytes, of which there are no more than so many.
+fn shortened(alloc: Global, bytes: &[u8], limit: usize) -> Result<Octets, NoMemory>
+    ensures { IfOk result (λ front. front ≡ take limit bytes.now) }
+{
+    let (front, _) = bytes.split_at(limit.min(bytes.len()));
+    Octets::from_slice(alloc, front)
+}
+
+fn is_program(name: &[u8]) -> bool
+    ensures { result ≡ is_program name.now }
+{
+    name == b"Program".as_slice()
+}
+
+/// The name of a program that these values are.
+fn name_in(alloc: Global, values: &[Array8]) -> Result<Option<Octets>, NoMemory>
+    ensures { IfOk result (λ name. name ≡ name_in values.now) }
+{
+    match values.first() {
+        Some(value) => Ok(Some(shortened(alloc, value.as_slice(), PROGRAM_LIMIT)?)),
+        None => Ok(None),
+    }
+}
+
+/// The program behind a property that is set.
+fn program_with(
+    alloc: Global,
+    property: &Property,
+    before: Option<Octets>,
+) -> Result<Option<Octets>, NoMemory>
+    ensures { IfOk result (λ program. program ≡ unwrap_or (set_by property.now) before) }
+{
+    if is_program(property.name.as_slice()) {
+        name_in(alloc, property.values.as_slice())
+    } else {
+        Ok(before)
+    }
+}
+
+/// The program behind properties that are set.
+fn program_set(
+    alloc: Global,
+    properties: &[Property],
+    before: Option<Octets>,
+) -> Result<Option<Octets>, NoMemory>
+    ensures { IfOk result (λ program. program ≡ unwrap_or (latest set_by properties.now) before) }
+{
+    let mut program = before;
+    for property in properties {
+        program = program_with(alloc, property, program)?;
+    }
+    Ok(program)
+}
+
+fn have_program(names: &[Array8]) -> bool
+    ensures { result ≡ list_any is_program names.now }
+{
+    names.iter().any(|name| is_program(name.as_slice()))
+}
+
+/// The program behind a message of the client's.
+fn program_after(
+    alloc: Global,
+    message: &XsmpMessage,
+    before: Option<Octets>,
+) -> Result<Option<Octets>, NoMemory>
+    ensures { IfOk result (λ program. program ≡ unwrap_or (program_in message.now) before) }
+{
+    match message {
+        XsmpMessage::SetProperties { properties } => {
+            program_set(alloc, properties.as_slice(), before)
+        }
+        XsmpMessage::DeleteProperties { names } => {
+            if have_program(names.as_slice()) {
+                Ok(None)
+            } else {
+                Ok(before)
+            }
+        }
+        _ => Ok(before),
+    }
+}
+
+/// The ID behind a message of the manager's.
+fn id_after(
+    alloc: Global,
+    message: &XsmpMessage,
+    before: Option<Octets>,
+) -> Result<Option<Octets>, NoMemory>
+    ensures { IfOk result (λ id. id ≡ option_or (id_in message.now) before) }
+{
+    match message {
+        XsmpMessage::RegisterClientReply { id } => {
+            Ok(Some(shortened(alloc, id.as_slice(), ID_LIMIT)?))
+        }
+        _ => Ok(before),
+    }
+}
+
+fn logout_in(asked: Asked) -> Option<bool>
+    ensures { result ≡ logout_in asked }
+{
+    match asked {
+        Asked::Save { shutdown, .. } => Some(shutdown),
+        Asked::Interaction => None,
+        Asked::PhaseTwo => None,
+        Asked::Complete => Some(false),
+        Asked::Cancelled => Some(false),
+        Asked::Death => Some(true),
+    }
+}
+
+/// What a client does that answers so, if it does.
+fn heard(answer: Option<Answered>) -> Option<Stage>
+    ensures { result ≡ option_and_then worked_in answer }
+{
+    match answer {
+        Some(answered) => worked(answered),
+        None => None,
+    }
+}
+
+/// What a client has to do behind a message of the manager's.
+fn told(message: &XsmpMessage) -> Option<Stage>
+    ensures { result ≡ told_in message.now }
+{
+    match message {
+        XsmpMessage::RegisterClientReply { .. } => Some(Stage::Idle),
+        _ => asks(message).and_then(|asked| work(asked)),
+    }
+}
+
+/// What it has answered, once it was asked this.
+fn answered_since(asked: Option<Asked>, before: Option<Answered>) -> Option<Answered>
+    ensures { result ≡ unwrap_or (option_map (λ _. None) asked) before }
+{
+    match asked {
+        Some(_) => None,
+        None => before,
+    }
+}
+
+impl Known {
+    /// Nothing passed yet.
+    pub fn nothing() -> Known
+        ensures { result ≡ known_by [] }
+    {
+        Known {
+            program: None,
+            id: None,
+            asked: None,
+            answered: None,
+            logout: None,
+            work: None,
+        }
+    }
+
+    /// Notes a message of the client's.
+    fn hear(&mut self, alloc: Global, message: &XsmpMessage) -> Result<(), NoMemory>
+        ensures { OnOk result (self.new ≡ noted Client message.now self.old) }
+    {
+        let answer = answers(message);
+        self.program = program_after(alloc, message, self.program.take())?;
+        self.answered = answer.or(self.answered);
+        self.work = heard(answer).or(self.work);
+        Ok(())
+    }
+
+    /// Notes a message of the manager's.
+    fn tell(&mut self, alloc: Global, message: &XsmpMessage) -> Result<(), NoMemory>
+        ensures { OnOk result (self.new ≡ noted Manager message.now self.old) }
+    {
+        let asked = asks(message);
+        self.id = id_after(alloc, message, self.id.take())?;
+        self.asked = asked.or(self.asked);
+        self.answered = answered_since(asked, self.answered);
+        self.logout = asked.and_then(|asked| logout_in(asked)).or(self.logout);
+        self.work = told(message).or(self.work);
+        Ok(())
+    }
+
+    /// Notes a message.
+    pub fn note(
+        &mut self,
+        alloc: Global,
+        party: Party,
+        message: &XsmpMessage,
+    ) -> Result<(), NoMemory>
+        ensures { OnOk result (self.new ≡ noted party message.now self.old) }
+    {
+        match party {
+            Party::Client => self.hear(alloc, message),
+            Party::Manager => self.tell(alloc, message),
+        }
+    }
+}

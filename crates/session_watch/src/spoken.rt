@@ -1,0 +1,88 @@
+ghost use Rattle.std.specs.Prelude.{◌≡◌, IfOk, OnOk, option_to_list};
+ghost use Rattle.ice_values.specs.Frames.{IsFrame};
+ghost use Rattle.std.specs.Result.{result_ok};
+ghost use Rattle.xsmp_messages.specs.Reading.{decode_at};
+ghost use Rattle.frame_speech.specs.Speech.{speech_behind};
+ghost use Rattle.session_watch.specs.Story.{spoken as spoken_by, messages_in};
+ghost use Rattle.session_watch.specs.Knowing.{noted_all};
+
+use crate::known::Known;
+use crate::party::Party;
+use frame_speech::{Speech, byte_at, is_whole};
+use ice_framing::WholeFrame;
+use ice_values::DecodeRefusal;
+use sm_world::NoMemory;
+use std::alloc::Global;
+use xsmp_messages::{XsmpMessage, decode_xsmp};
+
+/// The message that a frame spells, if it spells one.
+fn read(alloc: Global, frame: &WholeFrame) -> Result<Option<XsmpMessage>, NoMemory>
+    requires { IsFrame frame.now.endian frame.now.bytes }
+    ensures { IfOk result (λ message. message ≡ result_ok (decode_at frame.now.endian frame.now.bytes)) }
+{
+    match decode_xsmp(alloc, frame.endian, frame.bytes.as_slice()) {
+        Ok(message) => Ok(Some(message)),
+        Err(DecodeRefusal::BadMinor) => Ok(None),
+        Err(DecodeRefusal::BadLength) => Ok(None),
+        Err(DecodeRefusal::BadValue { .. }) => Ok(None),
+        Err(DecodeRefusal::NoMemory) => Err(NoMemory),
+    }
+}
+
+/// The message that a frame is, where its sender speaks XSMP and it can be read.
+fn spoken(
+    alloc: Global,
+    speech: Speech,
+    frame: &WholeFrame,
+) -> Result<Option<XsmpMessage>, NoMemory>
+    ensures { IfOk result (λ message. message ≡ spoken_by speech frame.now) }
+{
+    match speech {
+        Speech::Speaks(opcode) => {
+            if is_whole(frame) && byte_at(frame.bytes.as_slice(), 0) == opcode {
+                read(alloc, frame)
+            } else {
+                Ok(None)
+            }
+        }
+        Speech::Silent => Ok(None),
+        Speech::Greeted => Ok(None),
+        Speech::Lost => Ok(None),
+    }
+}
+
+/// Notes the message that a frame is.
+fn note_frame(
+    alloc: Global,
+    party: Party,
+    speech: Speech,
+    frame: &WholeFrame,
+    known: &mut Known,
+) -> Result<(), NoMemory>
+    ensures { OnOk result (known.new ≡ noted_all party (option_to_list (spoken_by speech frame.now)) known.old) }
+{
+    match spoken(alloc, speech, frame)? {
+        Some(message) => known.note(alloc, party, &message),
+        None => Ok(()),
+    }
+}
+
+/// Notes the messages of these frames, and says how far their sender is understood behind them.
+pub fn note_frames(
+    alloc: Global,
+    party: Party,
+    speech: Speech,
+    frames: &[WholeFrame],
+    known: &mut Known,
+) -> Result<Speech, NoMemory>
+    ensures speech { IfOk result (λ after. after ≡ speech_behind speech frames.now) }
+    ensures known { OnOk result (known.new ≡ noted_all party (messages_in speech frames.now) known.old) }
+{
+    let mut speech = speech;
+    for frame in frames {
+        let reading = speech.reading(alloc, frame)?;
+        note_frame(alloc, party, speech, frame, known)?;
+        speech = speech.after(&reading);
+    }
+    Ok(speech)
+}
