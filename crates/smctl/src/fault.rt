@@ -6,7 +6,7 @@ ghost use Rattle.smctl.specs.declared.fault.Fault.TheVariants.{NoMemory as OutOf
 use control_lines::OrderRefusal;
 use program_frame::{ProgramFault, try_line};
 use sm_world::{Console, Failure, NoMemory};
-use std::alloc::Global;
+use std::alloc::{AllocError, Global};
 use std::env::VarError;
 use std::io;
 use std::io::ErrorKind;
@@ -17,8 +17,16 @@ pub enum Fault {
     BadWords,
     /// Neither the words nor the environment name the control socket.
     NoControl,
-    /// The manager isn't reached, or goes before it answers.
+    /// The manager has no place for a logout that is to be waited for.
+    Unordered,
+    /// The logout that is waited for was cancelled.
+    Cancelled,
+    /// The manager isn't reached, or the connection fails.
     Link,
+    /// The manager goes before it answers.
+    Gone,
+    /// What the manager answers can't be read.
+    Unreadable,
     Console,
     NoMemory,
 }
@@ -38,6 +46,14 @@ impl From<NoMemory> for Fault {
     ghost from_gives = { λ _ fault. fault ≡ OutOfMemory };
 
     fn from(_error: NoMemory) -> Fault {
+        Fault::NoMemory
+    }
+}
+
+impl From<AllocError> for Fault {
+    ghost from_gives = { λ _ fault. fault ≡ OutOfMemory };
+
+    fn from(_error: AllocError) -> Fault {
         Fault::NoMemory
     }
 }
@@ -70,6 +86,9 @@ impl From<io::Error> for Fault {
     fn from(error: io::Error) -> Fault {
         match error.kind() {
             ErrorKind::OutOfMemory => Fault::NoMemory,
+            ErrorKind::UnexpectedEof | ErrorKind::BrokenPipe | ErrorKind::ConnectionReset => {
+                Fault::Gone
+            }
             _ => Fault::Link,
         }
     }
@@ -83,9 +102,12 @@ impl ProgramFault for Fault {
     fn status(self) -> u8 {
         match self {
             Fault::BadWords | Fault::NoControl => 1,
+            Fault::Unordered | Fault::Cancelled => 1,
             Fault::Link => 5,
+            Fault::Gone => 5,
             Fault::Console => 6,
             Fault::NoMemory => 10,
+            Fault::Unreadable => 11,
         }
     }
 
@@ -93,7 +115,10 @@ impl ProgramFault for Fault {
         match self {
             Fault::BadWords => try_line(world, b"smctl: bad words\n"),
             Fault::NoControl => try_line(world, b"smctl: no control socket\n"),
-            Fault::Link => try_line(world, b"smctl: no answer\n"),
+            Fault::Unordered => try_line(world, b"smctl: no logout was ordered\n"),
+            Fault::Cancelled => try_line(world, b"smctl: the logout was cancelled\n"),
+            Fault::Link | Fault::Gone => try_line(world, b"smctl: no answer\n"),
+            Fault::Unreadable => try_line(world, b"smctl: the answer can't be read\n"),
             Fault::Console => {}
             Fault::NoMemory => try_line(world, b"smctl: no memory\n"),
         }

@@ -1,27 +1,33 @@
 //! `smctl`, which gives orders to a session manager.
 #![tactic(auto)]
 
-ghost use Rattle.std.specs.Prelude.{◌≢◌, map, string_bytes, IfErr};
-ghost use Rattle.smctl.specs.declared.fault.Fault.TheVariants.{BadWords};
-ghost use Rattle.smctl.specs.Requests.{IsRefused};
+ghost use Rattle.std.specs.Prelude.{◌≡◌, map, string_bytes, IfErr};
+ghost use Rattle.smctl.specs.Requests.{IsRefused, IsUnnamed};
 
+mod client_line;
+mod clients;
 mod fault;
 mod request;
+mod table;
 mod talk;
 #[cfg(test)]
 mod tests;
+mod waiting;
 
+use crate::clients::{give, show_plain, show_table, wait_for_end};
 use crate::fault::Fault;
-use crate::request::read_request;
-use crate::talk::{receive, send};
+use crate::request::{Task, read_request};
+use crate::talk::Talk;
 use program_frame::{OwnTexts, StandardConsole, conclude, read_words};
-use sm_world::Console;
 use std::env;
+use std::io::IsTerminal;
 use std::process::ExitCode;
 
 const TEXTS: OwnTexts = OwnTexts {
     help: "smctl, which gives orders to a session manager\n\n\
         usage: smctl [--control SOCKET] ORDER\n\
+        \x20      smctl [--control SOCKET] shutdown --wait    stays until the manager ends\n\
+        \x20      smctl [--control SOCKET] clients [--plain]  shows who is there\n\
         \x20      smctl --help            shows this\n\
         \x20      smctl --version         shows the version\n\n\
         orders: checkpoint, shutdown, cancel, status, drop NUMBER, forget ID\n\
@@ -32,25 +38,27 @@ const TEXTS: OwnTexts = OwnTexts {
 
 /// The control socket that the environment names.
 fn named_control(rt: &HostRuntime) -> Result<String, Fault>
-    ensures none { IfErr result (λ fault. fault ≢ BadWords) }
+    ensures none { IfErr result IsUnnamed }
 {
     Ok(env::var(rt, "SMD_CONTROL")?)
 }
 
-/// Gives the order of the words and prints the answer.
+/// Does what the words ask for.
 fn run(rt: &HostRuntime, words: &[String], console: &mut StandardConsole) -> Result<(), Fault>
     ensures cause { IfErr result (IsRefused (map string_bytes words.now)) }
 {
-    let request = read_request(rt.alloc(), words)?;
-    let control = request.control;
-    let line = request.line.as_slice();
-    let stream = match control {
-        Some(path) => send(rt, path, line)?,
-        None => send(rt, named_control(rt)?.as_str(), line)?,
+    let alloc = rt.alloc();
+    let request = read_request(alloc, words)?;
+    let mut talk = match request.control {
+        Some(path) => Talk::open(rt, alloc, path)?,
+        None => Talk::open(rt, alloc, named_control(rt)?.as_str())?,
     };
-    let answer = receive(rt.alloc(), stream)?;
-    console.print(answer.as_slice())?;
-    Ok(())
+    match &request.task {
+        Task::Order(line) => give(&mut talk, console, line.as_slice()),
+        Task::Table => show_table(alloc, &mut talk, console),
+        Task::Plain => show_plain(alloc, &mut talk, console),
+        Task::Logout => wait_for_end(alloc, &mut talk, console, rt.stdout().is_terminal()),
+    }
 }
 
 fn main(rt: HostRuntime) -> ExitCode {
