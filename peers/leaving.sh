@@ -1,0 +1,185 @@
+# session/smd-logout: what it asks, and what it shows while somebody is waited for.
+
+# A dialog that gives the answers of a file in turn, and waits where there is none.
+make_dialogs() {
+  mkdir -p "$at/bin"
+  cp "$top/session/smd-logout" "$top/session/smd-ask" "$at/bin"
+  ln -s "$smctl" "$at/bin/smctl"
+  cp "$(command -v sleep)" "$at/bin/unanswered"
+  cat > "$at/bin/zenity" << DIALOG
+#!/bin/sh
+for word; do echo "\$word"; done >> "$at/questions"
+answer=\$(sed -n 1p "$at/answers")
+sed -i 1d "$at/answers"
+[ -n "\$answer" ] || exec unanswered 60
+echo "\$answer"
+DIALOG
+  chmod +x "$at/bin/zenity"
+}
+
+# to_leave FOLDER NAME..: a session of these programs, of which the last can be stopped.
+to_leave() {
+  local count=$(($# - 1))
+  start_smd "$1" || return 1
+  make_dialogs
+  for name in "${@:2}"; do
+    member "$name"
+    stopped_id=$!
+  done
+  within 20 has_stages "$count" idle
+}
+
+# is_left ANSWERS WORD..: starts smd-logout with these words, whose dialogs are answered so.
+is_left() {
+  printf '%s\n' $1 > "$at/answers"
+  : > "$at/questions"
+  SMD_CONTROL=$at/control DISPLAY=:none "$at/bin/smd-logout" "${@:2}" < /dev/null > /dev/null 2> "$at/leaving" &
+  leaving_id=$!
+}
+
+asks_about() { within 20 grep -qxF -e "--text=$1" "$at/questions"; }
+
+is_idle() { order status | grep -q ' idle$'; }
+
+stays() {
+  is_left 3
+  ends "$leaving_id" 1 && asks_about 'Log out?' && is_idle
+}
+
+# A client that closes after its second save.
+saves_alone() {
+  "$smclient" --socket "$at/socket" --authority "$at/authority" --program brief --saves 2 \
+    < /dev/null > "$at/brief" 2>&1 &
+  local brief_id=$!
+  within 20 has_stages 2 idle || return 1
+  is_left 2
+  ends "$leaving_id" 0 && ends "$brief_id" 0 && is_idle && has_lines 2 saved "$at/brief"
+}
+
+# Nobody answers, and the save comes to its end.
+shows_until_it_is_saved() {
+  kill -STOP "$stopped_id"
+  is_left '' --save
+  asks_about 'Waiting for one.' && within 10 runs unanswered || return 1
+  kill -CONT "$stopped_id"
+  ends "$leaving_id" 0 && within 10 runs_no unanswered
+}
+
+# The answer to who is waited for is to stay.
+stays_when_it_lasts() {
+  kill -STOP "$stopped_id"
+  is_left 2 --now
+  asks_about 'Waiting for one.' && ends "$leaving_id" 1 && is_idle
+}
+
+# The program still owes its answer to the logout before, and is gone on without.
+leaves_behind_one_called_off() {
+  is_left 1 --now
+  asks_about 'Waiting for one.' && ends "$leaving_id" 0 && ends "$smd_id" 0
+}
+
+# It is the last program that is stopped.
+goes_on_without() {
+  kill -STOP "$stopped_id"
+  is_left '1 1'
+  asks_about "Waiting for $1." && ends "$leaving_id" 0 && ends "$smd_id" 0
+}
+
+# The operator calls the logout off.
+is_called_off() {
+  kill -STOP "$stopped_id"
+  is_left '' --now
+  asks_about 'Waiting for two.' && answers ok cancel && ends "$leaving_id" 1 || return 1
+  kill -CONT "$stopped_id"
+  grep -qxF 'smd-logout: the logout was called off' "$at/leaving" && within 20 has_stages 2 idle
+}
+
+screen() { tmux -S "$at/keys" "$@" 2> /dev/null; }
+
+screen_shows() { screen capture-pane -p -t leave | grep -qF "$1"; }
+
+# On a terminal, without a display: the question, who is waited for, and an interrupt for the answer to stay.
+leaves_by_terminal() {
+  local script="trap : INT; '$at/bin/smd-logout'; echo ended with \$?; exec sleep 60"
+  kill -STOP "$stopped_id"
+  DISPLAY= WAYLAND_DISPLAY= SMD_CONTROL=$at/control screen -f /dev/null new-session -d -s leave "$script"
+  within 20 screen_shows 'Which number?' || return 1
+  screen send-keys -t leave 1 Enter
+  within 20 screen_shows 'smd-logout: waiting for two' || return 1
+  screen send-keys -t leave C-c
+  within 20 screen_shows 'ended with 1' && is_idle || return 1
+  screen kill-server
+  kill -CONT "$stopped_id"
+  within 20 has_stages 2 idle
+}
+
+# The dialogs that smd-ask would rather take aren't there.
+only_xmessage() {
+  local tool
+  for tool in zenity kdialog yad; do
+    printf '#!/bin/sh\necho cannot open display\nexit 1\n' > "$at/bin/$tool"
+    chmod +x "$at/bin/$tool"
+  done
+}
+
+# asks_by_xmessage TEXT: whether a window shows this.
+asks_by_xmessage() {
+  local id
+  for id in $(marked); do
+    [ "$(cat "/proc/$id/comm" 2> /dev/null)" = xmessage ] || continue
+    grep -qzF "$1" "/proc/$id/cmdline" && xdotool search --onlyvisible --name '^smd$' > /dev/null && return 0
+  done
+  return 1
+}
+
+# press_button N: of the window that is there, counted from the left.
+press_button() {
+  local window x y
+  window=$(xdotool search --onlyvisible --name '^smd$') || return 1
+  read -r y x < <(xwininfo -tree -id "$window" | sed -n 's/.* +\([0-9]*\)+\([0-9]*\)$/\2 \1/p' \
+    | sort -k 1,1nr -k 2,2n | sed -n "$1p")
+  xdotool mousemove "$((x + 5))" "$((y + 5))" click 1
+}
+
+leaves_by_xmessage() {
+  only_xmessage
+  kill -STOP "$stopped_id"
+  SMD_CONTROL=$at/control "$at/bin/smd-logout" < /dev/null > /dev/null 2> "$at/leaving" &
+  leaving_id=$!
+  within 20 asks_by_xmessage 'Log out?' && press_button 1 || return 1
+  within 20 asks_by_xmessage 'Waiting for two.' && press_button 2 || return 1
+  ends "$leaving_id" 1 && is_idle || return 1
+  kill -CONT "$stopped_id"
+  within 20 has_stages 2 idle
+}
+
+# at_a_display WORD..: with a display of their own.
+at_a_display() {
+  local display_id before=${DISPLAY-} status
+  start_display || return 1
+  display_id=$!
+  "$@"
+  status=$?
+  kill "$display_id"
+  if [ -n "$before" ]; then DISPLAY=$before; else unset DISPLAY; fi
+  return "$status"
+}
+
+leaving() {
+  check "a session of one program is there to be left" to_leave "$room/leaving" one
+  check "who stays is still there" stays
+  check "a save alone is made" saves_alone
+  check "what is saved needs no answer" shows_until_it_is_saved
+  check "who is waited for is named, and the user stays" stays_when_it_lasts
+  check "who owes an answer to a logout that was called off is waited for" leaves_behind_one_called_off
+  is_left ''
+  check "nobody is left where no session is" ends "$leaving_id" 5
+  check "a session of one program is there again" to_leave "$room/leaving_alone" one
+  check "a logout goes on without the only program" goes_on_without one
+  check "a session of two programs is there to be left" to_leave "$room/leaving_two" one two
+  check "a logout that is called off is told" is_called_off
+  check "on a terminal the user is asked, and an interrupt is to stay" leaves_by_terminal
+  check "a logout goes on without a program" goes_on_without two
+  check "a session of two programs is there for xmessage" to_leave "$room/leaving_x" one two
+  check "xmessage asks, and shows who is waited for" at_a_display leaves_by_xmessage
+}
