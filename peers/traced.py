@@ -33,7 +33,10 @@ open .
 sync .
 """
 
-PUBLISHED = """make authority.new-PID
+# No other living smd may have replaced the file.
+PUBLISHED = """make authority.lock
+lock authority.lock
+make authority.new-PID
 write authority.new-PID all bytes
 sync authority.new-PID
 rename authority.new-PID authority
@@ -186,6 +189,26 @@ def taken_store(smd, room):
     first.shutdown()
 
 
+def held_authority(smd, room):
+    """A second smd doesn't replace the authority file of one that lives, and takes it once that one was killed."""
+    first, second = Manager(smd, room), Manager(smd, room)
+    first.start()
+    with open(first.authority, "rb") as file:
+        entries = file.read()
+    second.socket, second.control, second.store = [it + "-2" for it in (first.socket, first.control, first.store)]
+    second.begin()
+    if second.process.wait(30) != 4:
+        raise ValueError("it ended with %d" % second.process.returncode)
+    with open(first.authority, "rb") as file:
+        if file.read() != entries:
+            raise ValueError("the file was replaced")
+    first.saved()
+    first.kill()
+    second.start()
+    second.saved()
+    second.shutdown()
+
+
 def one_place(smd, room):
     """An smd two of whose places are one does nothing at all."""
     for name in ("control", "store", "authority"):
@@ -241,7 +264,7 @@ def no_hard_links(smd, room):
 
 TESTS = {
     it.__name__: it
-    for it in (first_start, one_round, short_writes, short_publishing, short_making, taken_store, one_place, bad_socket, failed_opening,
+    for it in (first_start, one_round, short_writes, short_publishing, short_making, taken_store, held_authority, one_place, bad_socket, failed_opening,
                failed_sync, no_hard_links)
 }
 

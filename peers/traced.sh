@@ -14,6 +14,7 @@ system_calls() {
   traced short_publishing "what the system doesn't take of the authority file is written behind it"
   traced short_making "what the system doesn't take of a new store is written behind it"
   traced taken_store "a second smd tries the store's lock for two seconds, and does nothing more"
+  traced held_authority "a second smd leaves the authority file of a living one alone"
   traced one_place "an smd of whose places two are one touches nothing"
   traced bad_socket "an smd that can't listen at its path touches nothing"
   traced failed_opening "a store that can't be synced at its opening isn't read"

@@ -4,6 +4,7 @@
 //! a crash may leave none.
 
 ghost use Rattle.std.specs.Prelude.{◌≡◌, length, IfOk};
+ghost use Rattle.checkpoint_slots.specs.Layout.{store_size};
 ghost use Rattle.sm_world.specs.Worlds.{mem_outside};
 ghost use Rattle.checkpoint_records.specs.Rules.{KeepsRules};
 
@@ -33,14 +34,14 @@ const SECOND_SLOT: [u8; 24] = [
 ];
 
 fn blank_store(alloc: Global) -> Result<Octets, NoMemory>
-    ensures { IfOk result (λ store. length store ≡ 16777280) }
+    ensures { IfOk result (λ store. length store ≡ store_size) }
 {
     Ok(Octets::from_vec(vec![in alloc; 0; STORE_LEN]?))
 }
 
 /// A blank store with these bytes at their places.
 fn store_with(alloc: Global, parts: &[(usize, &[u8])]) -> Result<Octets, NoMemory>
-    ensures { IfOk result (λ store. length store ≡ 16777280) }
+    ensures { IfOk result (λ store. length store ≡ store_size) }
 {
     let mut store = blank_store(alloc)?;
     for (at, bytes) in parts {

@@ -74,7 +74,8 @@ fn programs_know_where_the_manager_is(rt: HostRuntime) -> Result<(), Fail> {
     let wanted = format!(in alloc; "local/host:{socket} {authority} 0\n")?;
     assert_eq!(rt; line_of(rt, said.as_str())?.as_str(), wanted.as_str());
     world.close();
-    for path in [&store, &authority, &said] {
+    let lock = format!(in alloc; "{authority}.lock")?;
+    for path in [&store, &authority, &lock, &said] {
         fs::remove_file(&rt, path.as_str())?;
     }
     assert_eq!(rt; fs::exists(&rt, socket.as_str())?, false);

@@ -3,12 +3,19 @@ ghost use Rattle.sm_world.specs.Outside.{Rose};
 ghost use Rattle.store_file.specs.Untold.{disk_outside};
 ghost use Rattle.store_file.specs.Losses.{SameStore};
 
-use crate::files::{replace, take_store};
+use crate::files::{hold_name, replace, take_store};
 use sm_world::{Disk, Failed, Failure, Told};
 use std::fs::File;
 use std::io;
 use std::io::ErrorKind;
 use std::os::unix::fs::FileExt;
+
+/// A small file that is ours to replace, as long as this lives.
+#[derive(Drop)]
+struct Published {
+    path: String,
+    _lock: File,
+}
 
 /// The store in a file that no other process of ours takes, and small files beside it. What they hold
 /// is told to nobody; each fault is counted.
@@ -16,10 +23,14 @@ use std::os::unix::fs::FileExt;
 /// A missing store is made with zeros, and stands under its name only when it is whole on the disk.
 /// After a sync that failed nothing is read or written any more, and no store is taken, since the
 /// system may have dropped what it couldn't write.
+///
+/// A small file is replaced only where no other living process of ours has replaced it.
 #[derive(Drop)]
 pub struct FileDisk {
     rt: HostRuntime,
     file: Option<File>,
+    /// The small file that was replaced last.
+    published: Option<Published>,
     /// The size of a store that is made anew.
     new_size: u64,
     size: u64,
@@ -33,11 +44,37 @@ impl FileDisk {
         FileDisk {
             rt,
             file: None,
+            published: None,
             new_size,
             size: 0,
             is_lost: false,
             faults: 0,
         }
+    }
+
+    /// Has a small file for us alone from here on.
+    fn hold(&mut self, path: &str) -> io::Result<()>
+        ensures untouched { disk_outside self.new ≡ disk_outside self.old }
+    {
+        if let Some(published) = &self.published {
+            if published.path.as_str() == path {
+                return Ok(());
+            }
+        }
+        let lock = hold_name(self.rt, path)?;
+        self.published = Some(Published {
+            path: path.to_string(self.rt.alloc())?,
+            _lock: lock,
+        });
+        Ok(())
+    }
+
+    /// Puts these bytes in the place of a small file.
+    fn put(&mut self, path: &str, bytes: &[u8]) -> io::Result<()>
+        ensures untouched { disk_outside self.new ≡ disk_outside self.old }
+    {
+        self.hold(path)?;
+        replace(self.rt, path, bytes, None)
     }
 
     /// The file, as long as it can be relied on.
@@ -165,7 +202,7 @@ impl Disk for FileDisk {
     }
 
     fn publish(&mut self, path: &str, bytes: &[u8]) -> Result<(), Failure> {
-        match replace(self.rt, path, bytes, None) {
+        match self.put(path, bytes) {
             Ok(()) => Ok(()),
             Err(error) => Err(self.failure(path, error)),
         }

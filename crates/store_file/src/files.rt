@@ -127,6 +127,18 @@ pub fn take_store(rt: HostRuntime, path: &str, size: u64) -> io::Result<(File, u
     Ok((file, size))
 }
 
+/// Locks a file's name beside it, for as long as what is given lives, so that no other manager puts its
+/// own in the place. The lock's file stays behind.
+pub fn hold_name(rt: HostRuntime, path: &str) -> io::Result<File> {
+    let name = format!(in rt.alloc(); "{path}.lock")?;
+    let mut how = OpenOptions::new();
+    how.read(true).write(true).create(true);
+    how.mode(PRIVATE);
+    let file = how.open(&rt, name.as_str())?;
+    lock(rt, &file)?;
+    Ok(file)
+}
+
 fn write_new(
     rt: HostRuntime,
     new: &str,

@@ -19,6 +19,17 @@ fn mode_of(rt: HostRuntime, path: &str) -> Result<u32, Fail> {
     Ok(fs::metadata(&rt, path)?.permissions().mode() & 0o777)
 }
 
+fn remove_lock(rt: HostRuntime, path: &str) -> Result<(), Fail> {
+    let lock = format!(in rt.alloc(); "{path}.lock")?;
+    fs::remove_file(&rt, lock.as_str())?;
+    Ok(())
+}
+
+fn remove_published(rt: HostRuntime, path: &str) -> Result<(), Fail> {
+    fs::remove_file(&rt, path)?;
+    remove_lock(rt, path)
+}
+
 /// Writes three bytes at 5, and gives the three at 4.
 fn write_and_read(disk: &mut FileDisk) -> Result<[u8; 3], Failure> {
     if disk.size()? < 8 {
@@ -74,8 +85,24 @@ fn a_small_file_is_replaced(rt: HostRuntime) -> Result<(), Fail> {
         assert_eq!(rt; fs::read_to_string(&rt, path.as_str())?.as_str(), text);
         assert_eq!(rt; mode_of(rt, path.as_str())?, 0o600);
     }
-    fs::remove_file(&rt, path.as_str())?;
-    Ok(())
+    remove_published(rt, path.as_str())
+}
+
+#[test]
+fn a_small_file_of_another_stays(rt: HostRuntime) -> Result<(), Fail> {
+    let path = path_of(rt, "held")?;
+    let mut first = FileDisk::new(rt, SIZE);
+    assert_eq!(rt; first.publish(path.as_str(), b"first"), Ok(()));
+    let mut second = FileDisk::new(rt, SIZE);
+    assert_eq!(rt;
+        second.publish(path.as_str(), b"second"),
+        Err(Failure::Failed)
+    );
+    assert_eq!(rt; fs::read_to_string(&rt, path.as_str())?.as_str(), "first");
+    drop(first);
+    assert_eq!(rt; second.publish(path.as_str(), b"second"), Ok(()));
+    assert_eq!(rt; fs::read_to_string(&rt, path.as_str())?.as_str(), "second");
+    remove_published(rt, path.as_str())
 }
 
 #[test]
@@ -86,6 +113,7 @@ fn what_is_no_file_is_refused(rt: HostRuntime) -> Result<(), Fail> {
     assert_eq!(rt; disk.attach(folder.as_str()), Err(Failure::Failed));
     assert_eq!(rt; disk.publish(folder.as_str(), b"x"), Err(Failure::Failed));
     fs::remove_dir(&rt, folder.as_str())?;
+    remove_lock(rt, folder.as_str())?;
     let missing = format!(in rt.alloc(); "{folder}/store")?;
     assert_eq!(rt; disk.attach(missing.as_str()), Err(Failure::Failed));
     assert_eq!(rt; disk.publish(missing.as_str(), b"x"), Err(Failure::Failed));
