@@ -1,5 +1,5 @@
 # The packages of Debian that peers/check needs; where some are missing they are installed.
-needed='gcc g++ libc6-dev libsm-dev libice-dev qt6-base-dev qt6-qpa-plugins python3 strace x11-xserver-utils xvfb gkrellm twm xterm x11-utils bsdutils openbox featherpad x11-apps emacs-lucid tmux nano xdotool x11-session-utils'
+needed='gcc g++ libc6-dev libsm-dev libice-dev qt6-base-dev qt6-qpa-plugins python3 strace x11-xserver-utils xvfb gkrellm twm xterm x11-utils bsdutils procps openbox featherpad x11-apps emacs-lucid tmux nano xdotool x11-session-utils xfwm4 xfce4-panel xfdesktop4 xfce4-terminal thunar xfce4-settings dbus-daemon'
 
 missing() {
   for package in $needed; do

@@ -1,0 +1,81 @@
+# A whole Xfce under smd-session, in the place of its own session manager: a login, a logout and the next logins.
+
+xfce_programs='xfsettingsd xfwm4 xfce4-panel xfdesktop Thunar xfce4-terminal'
+
+make_xfce() {
+  xfce=$room/xfce
+  at=$xfce/run/smd
+  mkdir -p "$xfce/bin" "$xfce/.config/smd"
+  mkdir -m 700 "$xfce/run"
+  for name in smd-session smd-ask smd-logout; do cp "$top/session/$name" "$xfce/bin"; done
+  ln -s "$smd" "$xfce/bin/smd"
+  ln -s "$smctl" "$xfce/bin/smctl"
+  # The list of the page.
+  sed '1,/^```$/d; /^```$/,$d' "$top/docs/xfce.md" > "$xfce/.config/smd/session"
+}
+
+# in_xfce WORD..: the words with the variables of that desktop, and those before them.
+in_xfce() {
+  env -u SESSION_MANAGER -u ICEAUTHORITY HOME="$xfce" XDG_RUNTIME_DIR="$xfce/run" XDG_CONFIG_HOME="$xfce/.config" \
+    XDG_STATE_HOME="$xfce/state" XDG_CACHE_HOME="$xfce/cache" XDG_CURRENT_DESKTOP=XFCE "$@"
+}
+
+# xfce_logs_in VARIABLE..: starts a session with these variables, which is recorded, and waits for its manager.
+xfce_logs_in() {
+  rm -rf "$at"
+  in_xfce SMD_RECORD=yes "$@" setsid -w dbus-run-session -- "$xfce/bin/smd-session" < /dev/null >> "$xfce/said" 2>&1 &
+  session_id=$!
+  within 60 answers_any
+}
+
+# Each program is there once.
+all_run() {
+  local id count=0
+  for id in $(marked); do
+    case " $xfce_programs " in *" $(cat "/proc/$id/comm" 2> /dev/null) "*) count=$((count + 1)) ;; esac
+  done
+  [ "$count" -eq 6 ]
+}
+
+none_runs() {
+  local id
+  for id in $(marked); do
+    case " $xfce_programs " in *" $(cat "/proc/$id/comm" 2> /dev/null) "*) return 1 ;; esac
+  done
+}
+
+xfce_ids() { "$smd" store-check --store "$xfce/state/smd/store" | sed -n 's/^entry //p'; }
+
+# all_live ID..: whether each ID is a living program's.
+all_live() {
+  local id
+  for id; do answers live forget "$id" || return 1; done
+}
+
+# xfce_comes_back TEXT VARIABLE..: whether all programs come back at a login with these variables, with their old IDs.
+xfce_comes_back() {
+  local own
+  own=$(xfce_ids)
+  check "a login of Xfce $1 begins" xfce_logs_in "${@:2}"
+  check "all programs of Xfce $1 come back" within 90 has 6
+  check "all programs of Xfce $1 have their old IDs" all_live $own
+  check "each program of Xfce $1 runs once" all_run
+  check "Xfce $1 logs out" leaves
+  check "Xfce $1 has ended" within 20 none_runs
+}
+
+xfce_sessions() {
+  local record
+  make_xfce
+  check "a first login of Xfce begins" xfce_logs_in
+  check "the programs of Xfce join" within 90 connected 6
+  check "Xfce saves at the order" answers ok checkpoint
+  check "all programs of Xfce are saved" within 30 has 6
+  check "Xfce logs out" leaves
+  check "Xfce has ended" within 20 none_runs
+  xfce_comes_back "with quirks"
+  xfce_comes_back "without quirks" SMD_QUIRKS=0
+  for record in "$xfce"/state/smd/records/*; do
+    check "a record of Xfce replays" replays "$record"
+  done
+}
