@@ -10,10 +10,11 @@ use Rattle.sm_world.specs.declared.failures.Faults.{Faults}
 use Rattle.sm_world.proofs.Adding.{adds-adds, adds-none, never_fallen, fallen_never}
 use Rattle.client_machine.specs.declared.saves.SaveAnswer.{SaveAnswer}
 use Rattle.client_machine.specs.declared.saves.SaveAsk.{SaveAsk}
-use Rattle.client_engine.specs.Messages.{AreShort, IsTooLong, spelled}
+use Rattle.client_engine.specs.Messages.{AreShort, spelled}
+use Rattle.protocol_messages.specs.Messages.{IsTooLong}
 use Rattle.client_callbacks.specs.Doing.{Callbacks, CarriesOut, Desk, desk, Does, Follows, IsCaused, IsUnsent, Sends, effect_of, effects_in, failure_in, line_of, lines_in, sent}
 use Rattle.client_callbacks.specs.Script.{Entry, Hears, Says, AsksSave, AsksReasons, TellsCancelled, Notes}
-use Rattle.client_engine.specs.declared.messages.Message.{Message}
+use Rattle.protocol_messages.specs.declared.message.Message.{Message}
 
 pub cause_later : (first second third : Faults) (failure : Option Failure) → NotFallen first second → IsCaused second third failure → IsCaused first third failure
 cause_later first second third None one cause = tt

@@ -13,7 +13,7 @@ use Rattle.client_machine.specs.declared.saves.Stage.{Stage}
 use Rattle.client_engine.specs.Answering.{after_answer, after_owed, answer_messages, closes, owed_messages, stage_again}
 use Rattle.client_engine.specs.Driving.{Step, behind}
 use Rattle.client_engine.specs.declared.hearing.Cue.{Cue}
-use Rattle.client_engine.specs.declared.messages.Message.{Message}
+use Rattle.protocol_messages.specs.declared.message.Message.{Message}
 use Rattle.client_callbacks.specs.Answers.{Replies, unasked}
 use Rattle.client_callbacks.specs.Doing.{Callbacks, Desk, desk, CarriesOut, Follows, Sends, Takes}
 use Rattle.client_callbacks.specs.Script.{Entry, Keeper, Says, AsksSave, AsksReasons, TellsCancelled, Notes, answer_line, answered, answered_again, cancelled, closed, completed, cued, died, on_client, saved}

@@ -11,7 +11,7 @@ use Rattle.ice_cookie.specs.declared.cookies.Cookie.{Cookie}
 use Rattle.client_machine.specs.declared.saves.SaveAnswer.{SaveAnswer}
 use Rattle.client_machine.specs.declared.saves.SaveAsk.{SaveAsk}
 use Rattle.client_engine.specs.Driving.{Run}
-use Rattle.client_engine.specs.declared.messages.Message.{Message}
+use Rattle.protocol_messages.specs.declared.message.Message.{Message}
 use Rattle.client_callbacks.specs.Doing.{Callbacks, Follows, IsUnsent, bytes_in, effect_of, effects_in, heard_in}
 use Rattle.client_callbacks.specs.Laws.{HasOneEnd, SayOne}
 use Rattle.client_callbacks.specs.Running.{IsAnswer, answer_of, failure_of}

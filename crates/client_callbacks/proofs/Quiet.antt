@@ -13,7 +13,7 @@ use Rattle.client_engine.specs.Hearing.{part_heard}
 use Rattle.client_engine.specs.declared.hearing.Cue.{Cue}
 use Rattle.client_engine.specs.declared.hearing.Cue.TheVariants.{Nothing, Registered, Save, Cancelled, Complete, Die, Properties, Refused, Malformed}
 use Rattle.client_engine.specs.declared.hearing.Heard.{Heard}
-use Rattle.client_engine.specs.declared.messages.Message.{Message}
+use Rattle.protocol_messages.specs.declared.message.Message.{Message}
 use Rattle.client_callbacks.specs.Answers.{Replies, unasked}
 use Rattle.client_callbacks.specs.Doing.{heard_in, heard_of}
 use Rattle.client_callbacks.specs.Script.{Entry, Says, Keeper, answer_line, answered_again, completed, cued, on_client, owes, reacts, talk_of, turn}

@@ -1,6 +1,6 @@
 -- One receive after another.
-use Rattle.std.proofs.Common.{◌≡◌, ℕ, ◌+◌, ◌-◌, ◌<◌, ◌≤◌, ◌⊎◌, inl, inr, arith, Bool, true, false, List, [], ◌∷◌, ◌++◌, length, take, drop, Option, None, Some, Result, Err, refl, sym, ◌∙◌, ap, subst, append_assoc, append-nil, length-append}
-use Rattle.std.proofs.lemmas.List.{length-drop, length-take, map-append, take_all}
+use Rattle.std.proofs.Common.{◌≡◌, ℕ, ◌+◌, ◌<◌, ◌≤◌, ◌⊎◌, inl, inr, arith, Bool, true, false, List, [], ◌∷◌, ◌++◌, length, take, drop, Option, None, Some, Result, Err, refl, sym, ◌∙◌, ap, subst, append_assoc, append-nil, length-append}
+use Rattle.std.proofs.lemmas.List.{length-drop, length-take, map-append}
 use Rattle.sm_world.specs.declared.failures.Failure.{Failure}
 use Rattle.sm_world.specs.declared.failures.Failure.TheVariants.{Failed, NoMemory}
 use Rattle.sm_world.specs.declared.effects.Effect.TheVariants.{Heard}
@@ -13,7 +13,7 @@ use Rattle.client_machine.specs.declared.saves.SaveAnswer.{SaveAnswer}
 use Rattle.client_machine.specs.declared.saves.SaveAsk.{SaveAsk}
 use Rattle.client_engine.specs.Driving.{Run, Step}
 use Rattle.client_engine.specs.Places.{is_listening, phase_at}
-use Rattle.client_engine.specs.declared.messages.Message.TheVariants.{Ice}
+use Rattle.protocol_messages.specs.declared.message.Message.TheVariants.{Ice}
 use Rattle.client_callbacks.specs.Answers.{Replies}
 use Rattle.client_callbacks.specs.Doing.{Callbacks, CarriesOut, Sends, Desk, desk, Does, IsCaused, IsRun, IsUnsent, TakesPiece, TakesTurn, bytes_in, heard_in, keeper_of}
 use Rattle.client_callbacks.specs.Script.{Came, Entry, Hears, Keeper, is_over, over, run_after, Says, script, script_from, start, turn}
@@ -26,14 +26,6 @@ use Rattle.client_callbacks.specs.declared.ends.JoinFault.TheVariants.{Spent}
 use Rattle.client_callbacks.specs.declared.progress.Progress.{Progress}
 use Rattle.client_callbacks.proofs.DoingLaws.{carries_none, carries_sent, does_as, does_more, does_never, sends_does}
 use Rattle.client_callbacks.proofs.Quiet.{heard-append, quiet-front, quiet-turn}
-
--- the part of a slice from a place on
-pub from_place : (n : ℕ) (xs : List ℕ) → take (length xs - n) (drop n xs) ≡ drop n xs
-from_place n xs = take_all (length xs - n) (drop n xs) (omega (arith, length-drop n xs))
-
-pub none_left : (bytes : List ℕ) → length bytes ≡ 0 → bytes ≡ []
-none_left [] none = refl
-none_left (b ∷ bytes) none = absurd (omega arith)
 
 pub some_taken : (n : ℕ) (xs : List ℕ) → n ≤ length xs → (n ≡ 0 → ⊥) → length (take n xs) ≡ 0 → ⊥
 some_taken n xs within some none = some (omega (arith, length-take n xs, within, none))

@@ -1,5 +1,5 @@
 -- What the calls of a run do: to the peer, to the noted lines and to the callbacks.
-use Rattle.std.specs.Prelude.{◌≡◌, ◌≢◌, ◌⊎◌, ℕ, ◌≤◌, true, length, List, [], ◌∷◌, ◌++◌, map, Option, None, Some, Result, Ok, Err}
+use Rattle.std.specs.Prelude.{◌≡◌, ◌≢◌, ◌⊎◌, ℕ, ◌≤◌, length, List, [], ◌∷◌, ◌++◌, map, Option, None, Some, Result}
 use Rattle.std.specs.List.{flat_map}
 use Rattle.sm_world.specs.Outside.{Outside, adds, Rose, NotFallen}
 use Rattle.sm_world.specs.declared.effects.Effect.{Effect}
@@ -10,11 +10,11 @@ use Rattle.sm_world.specs.declared.failures.Faults.{Faults}
 use Rattle.client_peer.specs.Peers.{received}
 use Rattle.client_machine.specs.declared.saves.SaveAnswer.{SaveAnswer}
 use Rattle.client_machine.specs.declared.saves.SaveAsk.{SaveAsk}
-use Rattle.client_engine.specs.Driving.{Run, Step, piece_taken}
+use Rattle.client_engine.specs.Driving.{Run, Step}
+use Rattle.client_engine.specs.Keeping.{IsRun as IsRunOf, Takes as TakesStep, TakesPiece as TakesPieceOf, fault_in}
 use Rattle.client_engine.specs.Messages.{spelled}
-use Rattle.client_engine.specs.Places.{is_listening}
-use Rattle.client_engine.specs.declared.messages.Message.{Message}
-use Rattle.client_callbacks.specs.Answers.{Replies, unasked}
+use Rattle.protocol_messages.specs.declared.message.Message.{Message}
+use Rattle.client_callbacks.specs.Answers.{unasked}
 use Rattle.client_callbacks.specs.Script.{Entry, Hears, Says, AsksSave, AsksReasons, TellsCancelled, Notes, Came, Keeper, reacts, talk_of, run_after, script_from}
 use Rattle.client_callbacks.specs.declared.progress.Progress.{Progress}
 
@@ -86,8 +86,7 @@ IsCaused old new (Some NoMemory) = Unit {0}
 
 -- why a call did nothing more
 abbrev pub failure_in : {A : Type 0} → Result A Failure → Option Failure
-failure_in (Ok x) = None
-failure_in (Err failure) = Some failure
+failure_in result = fault_in result
 
 -- the effect of a message that is sent
 abbrev pub sent : Message → Effect
@@ -109,9 +108,8 @@ abbrev pub keeper_of : Progress → Keeper
 keeper_of progress = record { talk = progress.core.talk; saves = progress.saves; ending = progress.ending }
 
 -- The client stands where the run does, and as long as it takes parts its core holds what the stream has left.
-pub record IsRun (run : Run Keeper) (progress : Progress) : Type 0 where
-  pub keeper : keeper_of progress ≡ run.keeper
-  pub feeds : is_listening progress.core.talk.place ≡ true → progress.core.splitter ≡ run.standing
+abbrev pub IsRun : Run Keeper → Progress → Type 0
+IsRun run progress = IsRunOf talk_of run (keeper_of progress) progress.core.splitter
 
 -- All that follows is said of callbacks that answer so.
 module _ {S D C : Type 0} (answers : S → SaveAsk → SaveAnswer → S → Type 0) (gives : D → List (List ℕ) → D → Type 0) (hears : C → C → Type 0) where
@@ -143,16 +141,12 @@ module _ {S D C : Type 0} (answers : S → SaveAsk → SaveAnswer → S → Type
     pub unsent : failure ≡ Some Failed → IsUnsent does.left
 
   -- For something that the callbacks said the step was made, and so the client's keeper is then.
-  pub record Takes {A : Type 0} (old new : Desk S D C) (step : A → Step Keeper Entry) (after : Keeper) (failure : Option Failure) : Type 0 where
-    pub said : A
-    pub does : CarriesOut old new (step said).line failure
-    pub next : failure ≡ None → after ≡ (step said).next
+  abbrev pub Takes : {A : Type 0} → Desk S D C → Desk S D C → (A → Step Keeper Entry) → Keeper → Option Failure → Type 0
+  Takes old new step after failure = TakesStep CarriesOut old new step after failure
 
   -- The parts were taken that a piece completes.
-  pub record TakesPiece (old new : Desk S D C) (run : Run Keeper) (bytes : List ℕ) (after : Progress) (failure : Option Failure) : Type 0 where
-    pub replies : List Replies
-    pub does : CarriesOut old new (piece_taken unasked talk_of reacts run bytes replies).line failure
-    pub next : failure ≡ None → IsRun (piece_taken unasked talk_of reacts run bytes replies).next after
+  abbrev pub TakesPiece : Desk S D C → Desk S D C → Run Keeper → List ℕ → Progress → Option Failure → Type 0
+  TakesPiece old new run bytes after failure = TakesPieceOf CarriesOut unasked talk_of reacts old new run bytes (keeper_of after) after.core.splitter failure
 
   -- At most one receive was made, and what it brought was done. Where the connection failed, a message wasn't sent, or nothing was received.
   pub record TakesTurn (old new : Desk S D C) (run : Run Keeper) (after : Progress) (failure : Option Failure) : Type 0 where

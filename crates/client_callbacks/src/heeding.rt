@@ -3,22 +3,20 @@ use crate::ends::Ending;
 use crate::joiner::Joiner;
 use crate::progress::Progress;
 use crate::saying::{note, note_id, say, say_all};
-use client_engine::{Cue, Taken, stage_again};
+use client_engine::{Cue, Keeps, Taken, stage_again};
 use client_machine::SaveAsk;
 use client_peer::Peer;
 use ice_values::Array8List;
 use sm_world::{Failure, NoMemory};
 
 impl<S: Saves, D: Dies, C: Cancels> Joiner<S, D, C> {
-    ghost use Rattle.std.specs.Prelude.{◌≡◌, ◌==◌, map, Ok, Some};
+    ghost use Rattle.std.specs.Prelude.{◌≡◌, ◌==◌, Ok, Some};
     ghost use Rattle.client_engine.specs.Answering.{stage_again as stage_again_spec};
-    ghost use Rattle.client_engine.specs.Driving.{behind};
-    ghost use Rattle.client_engine.specs.Messages.{AreShort};
     ghost use Rattle.client_engine.specs.Speaking.{HasPlace, MayAnswer};
     ghost use Rattle.client_machine.specs.Saves.{at_stage};
     ghost use Rattle.client_machine.specs.declared.saves.Stage.{Stage};
     ghost use Rattle.client_callbacks.specs.Doing.{Takes, desk, failure_in, keeper_of};
-    ghost use Rattle.client_callbacks.specs.Script.{Says, answered, cancelled, completed, cued, died, owes, saved};
+    ghost use Rattle.client_callbacks.specs.Script.{answered, cancelled, completed, cued, died, owes, saved};
 
     /// Asks how the client saves, and sends the answer.
     fn answer_save<P: Peer>(
@@ -144,22 +142,62 @@ impl<S: Saves, D: Dies, C: Cancels> Joiner<S, D, C> {
             }
         }
     }
+}
 
-    /// Says what the client says by itself about a part of the stream, and does what its cue asks.
-    pub(crate) fn serve<P: Peer>(
+impl<P: Peer, S: Saves, D: Dies, C: Cancels> Keeps<P, Progress> for Joiner<S, D, C> {
+    ghost use Rattle.std.specs.Prelude.{refl};
+    ghost use Rattle.client_callbacks.specs.Answers.{Replies, unasked as nothing_asked};
+    ghost use Rattle.client_callbacks.specs.Doing.{CarriesOut, Desk as RunDesk, desk as desk_with, keeper_of};
+    ghost use Rattle.client_callbacks.specs.Script.{Entry as ScriptEntry, Keeper as ScriptKeeper, Says, cued as heeded, stand_at as standing_at, talk_of as talk_in};
+
+    type Fault = Failure;
+
+    ghost Keeper = { ScriptKeeper };
+
+    ghost Reply = { Replies };
+
+    ghost Entry = { ScriptEntry };
+
+    ghost Desk = { RunDesk S D C };
+
+    ghost core = { λ progress. progress.core };
+
+    ghost keeper = { keeper_of };
+
+    ghost desk = { λ joiner peer progress. desk_with (P.outside peer) progress.lines joiner };
+
+    ghost unasked = { nothing_asked };
+
+    ghost talk_of = { talk_in };
+
+    ghost stand_at = { standing_at };
+
+    ghost says = { Says };
+
+    ghost cued = { heeded };
+
+    ghost carries = { CarriesOut S.answers D.gives C.hears };
+
+    fn cut(progress: &mut Progress, left: &[u8]) -> Result<Option<Taken>, Failure> {
+        match progress.core.cut(progress.alloc, left) {
+            Ok(taken) => Ok(taken),
+            Err(NoMemory) => Err(Failure::NoMemory),
+        }
+    }
+
+    fn serve(
         &mut self,
         peer: &mut P,
         progress: &mut Progress,
         taken: Taken,
-    ) -> Result<(), Failure>
-        requires short { AreShort taken.said }
-        requires asked { HasPlace taken.cue progress.old.core.talk.place }
-        ensures takes { Takes S.answers D.gives C.hears (desk (P.outside peer.old) progress.old.lines self.old) (desk (P.outside peer.new) progress.new.lines self.new) (λ r. behind (map Says taken.said) (cued (keeper_of progress.old) r taken.cue)) (keeper_of progress.new) (failure_in result) }
-        ensures splitter { progress.new.core.splitter ≡ progress.old.core.splitter }
-    {
+    ) -> Result<(), Failure> {
         match say_all(progress.alloc, peer, taken.said.as_slice()) {
             Ok(()) => self.heed(peer, progress, taken.cue),
             Err(failure) => Err(failure),
         }
     }
+
+    ghost talk_is = { λ progress. refl };
+
+    ghost stands_there = { λ keeper. refl };
 }

@@ -2,7 +2,7 @@ ghost use Rattle.std.specs.Prelude.{◌≡◌, ◌≤◌, [], ◌∷◌, length,
 ghost use Rattle.ice_framing.specs.Frames.{beginning};
 ghost use Rattle.ice_messages.specs.declared.message.IceMessage.TheVariants.{ByteOrder};
 ghost use Rattle.ice_values.specs.declared.numbers.Endian.TheVariants.{Lsb};
-ghost use Rattle.client_engine.specs.declared.messages.Message.TheVariants.{Ice};
+ghost use Rattle.protocol_messages.specs.declared.message.Message.TheVariants.{Ice};
 ghost use Rattle.client_callbacks.specs.Doing.{Sends, failure_in, keeper_of};
 ghost use Rattle.client_callbacks.specs.Script.{start};
 
@@ -11,7 +11,7 @@ use crate::ends::{ClientEnd, Ending, JoinFault, fault};
 use crate::joiner::{Join, Joiner};
 use crate::progress::Progress;
 use crate::saying::say;
-use client_engine::greeting;
+use client_engine::{greeting, take_piece};
 use client_peer::Peer;
 use sm_world::{Failure, NoMemory};
 use std::alloc::Global;
@@ -47,34 +47,9 @@ fn begin<P: Peer>(alloc: Global, peer: &mut P, join: &Join) -> Result<Progress, 
 impl<S: Saves, D: Dies, C: Cancels> Joiner<S, D, C> {
     ghost use Rattle.std.specs.Prelude.{◌≡◌, ◌≤◌, length, None};
     ghost use Rattle.client_engine.specs.Driving.{Run};
-    ghost use Rattle.client_callbacks.specs.Doing.{IsRun, TakesPiece, TakesTurn, desk, failure_in, keeper_of};
+    ghost use Rattle.client_callbacks.specs.Doing.{IsRun, TakesTurn, desk, failure_in, keeper_of};
     ghost use Rattle.client_callbacks.specs.Running.{FollowsRun, Joins};
     ghost use Rattle.client_callbacks.specs.Script.{Keeper};
-
-    /// Takes the parts that a piece completes.
-    fn take_piece<P: Peer>(
-        &mut self,
-        peer: &mut P,
-        progress: &mut Progress,
-        piece: &[u8],
-    ) -> Result<(), Failure>
-        ensures { (run : Run Keeper) → IsRun run progress.old → TakesPiece S.answers D.gives C.hears (desk (P.outside peer.old) progress.old.lines self.old) (desk (P.outside peer.new) progress.new.lines self.new) run piece.now progress.new (failure_in result) }
-    {
-        let mut left = piece;
-        while !left.is_empty() {
-            let taken = match progress.core.cut(progress.alloc, left) {
-                Ok(Some(taken)) => taken,
-                Ok(None) => return Ok(()),
-                Err(NoMemory) => return Err(Failure::NoMemory),
-            };
-            left = &left[taken.count..];
-            match self.serve(peer, progress, taken) {
-                Ok(()) => {}
-                Err(failure) => return Err(failure),
-            }
-        }
-        Ok(())
-    }
 
     /// Receives once, and does what that brings.
     fn take_turn<P: Peer>(
@@ -95,7 +70,7 @@ impl<S: Saves, D: Dies, C: Cancels> Joiner<S, D, C> {
             progress.ending = Some(Ending::StreamEnded(progress.core.phase()));
             return Ok(());
         }
-        self.take_piece(peer, progress, &room[..count])
+        take_piece(self, peer, progress, &room[..count])
     }
 
     /// Follows the session to the client's end: at most so many receives.

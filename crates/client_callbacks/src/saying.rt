@@ -1,9 +1,11 @@
 ghost use Rattle.std.specs.Prelude.{◌≡◌, [], ◌∷◌, ◌++◌, codes, OnOk, OnErr};
-ghost use Rattle.client_engine.specs.Messages.{AreShort, IsTooLong};
+ghost use Rattle.client_engine.specs.Messages.{AreShort};
+ghost use Rattle.protocol_messages.specs.Messages.{IsTooLong};
 ghost use Rattle.client_callbacks.specs.Doing.{Sends, failure_in};
 
-use client_engine::{Message, spell};
+use client_engine::spell;
 use client_peer::Peer;
+use protocol_messages::Message;
 use sm_world::{Failure, NoMemory, Octets, OctetsList};
 use std::alloc::Global;
 

@@ -29,8 +29,8 @@ use Rattle.client_machine.proofs.Places.{asked_in_phase, lawful_places}
 use Rattle.client_engine.specs.Answering.{after_answer, answered_at, stage_again}
 use Rattle.client_engine.specs.Places.{on_client}
 use Rattle.client_engine.specs.Speaking.{IsAsked, MayAct, MayAnswer}
-use Rattle.client_engine.specs.declared.messages.Message.{Message}
-use Rattle.client_engine.specs.declared.messages.Message.TheVariants.{Xsmp}
+use Rattle.protocol_messages.specs.declared.message.Message.{Message}
+use Rattle.protocol_messages.specs.declared.message.Message.TheVariants.{Xsmp}
 use Rattle.client_engine.specs.declared.place.Place.{Place}
 use Rattle.client_engine.specs.declared.place.Place.TheVariants.{Opening, Speaking, Stopped}
 use Rattle.client_engine.proofs.Short.{short-previous}

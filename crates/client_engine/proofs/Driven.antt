@@ -6,9 +6,10 @@ use Rattle.ice_framing.specs.Parts.{Part, Whole, TooMuch, parts_at}
 use Rattle.ice_framing.specs.declared.cutting.WholeFrame.{WholeFrame}
 use Rattle.ice_framing.proofs.Cuts.{cut-fed, cut-partial, fed-fed, fed-nil, is_oversize-false, is_oversize-true}
 use Rattle.ice_framing.proofs.Parts.{parts_at-ended, parts_at-more, parts_at-partial}
+use Rattle.client_machine.specs.Phases.{ClientState}
 use Rattle.client_engine.specs.Driving.{ComesInParts, IsStillOnceStopped, StaysStopped, Step, behind, part_taken, parts_taken, piece_taken, reply, standing_at, stays}
 use Rattle.client_engine.specs.Hearing.{frame_heard, oversize_heard, part_heard, saying}
-use Rattle.client_engine.specs.Places.{is_listening}
+use Rattle.client_engine.specs.Places.{is_listening, on_client}
 use Rattle.client_engine.specs.declared.hearing.Heard.{Heard}
 use Rattle.client_engine.specs.declared.place.Counts.{Counts}
 use Rattle.client_engine.specs.declared.place.Place.{Place}
@@ -35,6 +36,12 @@ pub oversize_stops : (counts : Counts) (place : Place) → is_listening (oversiz
 oversize_stops counts (Opening opener previous) = refl
 oversize_stops counts (Speaking joined c) = refl
 oversize_stops counts Stopped = refl
+
+-- what becomes of a client has none that stopped listen again
+pub still_at : (change : ClientState → ClientState) (place : Place) → is_listening place ≡ false → is_listening (on_client change place) ≡ false
+still_at change (Opening opener previous) deaf = deaf
+still_at change (Speaking joined c) deaf = deaf
+still_at change Stopped deaf = deaf
 
 module _ {K R E : Type 0} (unasked : R) (talk_of : K → Talk) (reacts : K → Heard → R → Step K E) where
   abbrev Laws : Type 0

@@ -1,3 +1,4 @@
 pub mod Driven
 pub mod Acting
 pub mod Short
+pub mod Kept

@@ -19,8 +19,9 @@ use Rattle.client_machine.specs.declared.saves.Step.{Step}
 use Rattle.client_machine.specs.declared.saves.Step.TheVariants.{Done, PhaseTwo, Interact, Talked}
 use Rattle.client_engine.specs.Answering.{AreFew}
 use Rattle.client_engine.specs.Hearing.{out_of_place}
-use Rattle.client_engine.specs.Messages.{AreShort, IsTooLong}
-use Rattle.client_engine.specs.declared.messages.Message.{Message}
+use Rattle.client_engine.specs.Messages.{AreShort}
+use Rattle.protocol_messages.specs.Messages.{IsTooLong}
+use Rattle.protocol_messages.specs.declared.message.Message.{Message}
 
 pub short-order : ¬ (IsLongIce Lsb (ByteOrder Lsb))
 short-order = λ long. elim long [ inl long_part ↦ long_part | inr long ↦ omega (arith, long) ]

@@ -1,10 +1,12 @@
 -- A client's keeper over a whole stream: what it does about each part that comes.
-use Rattle.std.specs.Prelude.{◌≡◌, ℕ, false, List, [], ◌∷◌, ◌++◌, length, drop}
+use Rattle.std.specs.Prelude.{◌≡◌, ℕ, false, List, [], ◌∷◌, ◌++◌, length, map, drop}
 use Rattle.ice_framing.specs.Frames.{Standing, fed, cut}
 use Rattle.ice_framing.specs.Parts.{Part, parts_at}
 use Rattle.client_engine.specs.Hearing.{part_heard, saying}
 use Rattle.client_engine.specs.Places.{is_listening}
+use Rattle.client_engine.specs.declared.hearing.Cue.{Cue}
 use Rattle.client_engine.specs.declared.hearing.Heard.{Heard}
+use Rattle.protocol_messages.specs.declared.message.Message.{Message}
 use Rattle.client_engine.specs.declared.place.Talk.{Talk}
 
 -- What is done, each thing an E, and what the keeper is then.
@@ -18,6 +20,14 @@ behind line step = record { line = line ++ step.line; next = step.next }
 -- nothing is done
 abbrev pub stays : {K E : Type 0} → K → Step K E
 stays keeper = record { line = []; next = keeper }
+
+-- The client says what it says by itself, each message an entry, and then the cue is heeded.
+abbrev pub heeding : {K R E : Type 0} → (Message → E) → (K → R → Cue → Step K E) → List Message → K → Cue → R → Step K E
+heeding says cued said keeper cue r = behind (map says said) (cued keeper r cue)
+
+-- So a keeper reacts to what a part brings, which has the client stand elsewhere.
+abbrev pub reacting : {K R E : Type 0} → (Talk → K → K) → (Message → E) → (K → R → Cue → Step K E) → K → Heard → R → Step K E
+reacting stand_at says cued keeper heard r = heeding says cued heard.said (stand_at heard.next keeper) heard.cue r
 
 -- How far a run is: where the stream stands behind the parts that were taken, and what the keeper is.
 pub record Run (K : Type 0) : Type 0 where

@@ -6,3 +6,4 @@ pub mod Hearing
 pub mod Answering
 pub mod Cutting
 pub mod Driving
+pub mod Keeping

@@ -2,23 +2,16 @@
 use Rattle.std.specs.Prelude.{ℕ, List, [], ◌∷◌, Option, Some, None}
 use Rattle.std.specs.List.{AllByRecursion}
 use Rattle.ice_values.specs.declared.numbers.Endian.TheVariants.{Lsb}
-use Rattle.ice_messages.specs.Messages.{canon as ice_canon, IsTooLong as IsLongIce}
+use Rattle.ice_messages.specs.Messages.{IsTooLong as IsLongIce}
 use Rattle.ice_messages.specs.declared.message.IceMessage.{IceMessage}
 use Rattle.ice_setup.specs.Opener.{client_opcode}
-use Rattle.xsmp_messages.specs.Messages.{canon as xsmp_canon, IsTooLong as IsLongXsmp}
-use Rattle.client_engine.specs.declared.messages.Message.{Message}
-use Rattle.client_engine.specs.declared.messages.Message.TheVariants.{Ice, Xsmp}
+use Rattle.protocol_messages.specs.Messages.{spelled_under, IsTooLong}
+use Rattle.protocol_messages.specs.declared.message.Message.{Message}
+use Rattle.protocol_messages.specs.declared.message.Message.TheVariants.{Ice}
 
--- Messages are written least significant byte first, with zeros in unused bytes: those of ICE under major opcode 0, those
--- of XSMP under the client's own.
+-- a message's bytes, those of XSMP under the client's opcode
 abbrev pub spelled : Message → List ℕ
-spelled (Ice message) = ice_canon Lsb message
-spelled (Xsmp message) = xsmp_canon Lsb client_opcode message
-
--- the body has more than 65,536 bytes, or a part of it is too long
-abbrev pub IsTooLong : Message → Type 0
-IsTooLong (Ice message) = IsLongIce Lsb message
-IsTooLong (Xsmp message) = IsLongXsmp Lsb message
+spelled message = spelled_under client_opcode message
 
 -- each of these messages has a spelling
 abbrev pub AreShort : List Message → Type 0

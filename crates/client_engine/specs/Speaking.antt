@@ -5,10 +5,10 @@ use Rattle.client_machine.specs.Phases.{ClientState}
 use Rattle.client_machine.specs.declared.acts.ClientAct.{ClientAct}
 use Rattle.client_machine.specs.declared.acts.ClientAct.TheVariants.{Again, Save as ToSave}
 use Rattle.client_machine.specs.declared.saves.SaveAsk.{SaveAsk}
-use Rattle.client_engine.specs.Messages.{IsTooLong}
+use Rattle.protocol_messages.specs.Messages.{IsTooLong}
 use Rattle.client_engine.specs.declared.hearing.Cue.{Cue}
 use Rattle.client_engine.specs.declared.hearing.Cue.TheVariants.{Save}
-use Rattle.client_engine.specs.declared.messages.Message.TheVariants.{Xsmp}
+use Rattle.protocol_messages.specs.declared.message.Message.TheVariants.{Xsmp}
 use Rattle.client_engine.specs.declared.place.Place.{Place}
 use Rattle.client_engine.specs.declared.place.Place.TheVariants.{Speaking}
 

@@ -1,14 +1,16 @@
 ghost use Rattle.std.specs.Prelude.{◌≡◌, IfOk};
 ghost use Rattle.xsmp_properties.specs.Tables.{IsTableFull};
 ghost use Rattle.client_engine.specs.Answering.{sets, stage_again as stage_again_spec};
-ghost use Rattle.client_engine.specs.Messages.{AreShort, IsTooLong};
+ghost use Rattle.client_engine.specs.Messages.{AreShort};
+ghost use Rattle.protocol_messages.specs.Messages.{IsTooLong};
 
 use crate::engine::Core;
-use crate::messages::{Message, MessageList, one};
+use crate::messages::{MessageList, one};
 use crate::place::Place;
 use client_machine::{AskRefusal, ClientPhase, Request, SaveAnswer, SaveAsk, Stage};
 use ice_messages::IceMessage;
 use ice_values::{Array8List, Endian, PropertyList};
+use protocol_messages::Message;
 use sm_world::NoMemory;
 use std::alloc::Global;
 use xsmp_messages::XsmpMessage;
@@ -54,7 +56,8 @@ impl Core {
     ghost use Rattle.client_machine.specs.Phases.{is_owing};
     ghost use Rattle.client_machine.specs.Saves.{IsLawful, at_stage};
     ghost use Rattle.client_engine.specs.Answering.{AreFew, answered_at, answer_messages, after_answer, after_owed, changed, closes, owed_messages, stopped};
-    ghost use Rattle.client_engine.specs.Messages.{AreShort, IsTooLong};
+    ghost use Rattle.client_engine.specs.Messages.{AreShort};
+    ghost use Rattle.protocol_messages.specs.Messages.{IsTooLong};
     ghost use Rattle.client_engine.specs.Places.{id_at, phase_at};
     ghost use Rattle.client_engine.specs.Speaking.{MayAnswer};
 

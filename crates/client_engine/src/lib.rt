@@ -5,6 +5,7 @@
 mod asking;
 mod engine;
 mod hearing;
+mod keeping;
 mod laws;
 mod messages;
 mod opening;
@@ -15,6 +16,7 @@ mod speaking;
 pub use asking::{greeting, stage_again};
 pub use engine::{Core, Taken};
 pub use hearing::Cue;
+pub use keeping::{Keeps, take_piece};
 pub use laws::{a_piece_comes_in_parts, one_who_stopped_does_nothing};
-pub use messages::{Message, MessageList, spell};
+pub use messages::{MessageList, spell};
 pub use place::{Counts, Place, Talk};

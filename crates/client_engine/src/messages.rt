@@ -1,37 +1,17 @@
-ghost use Rattle.std.specs.Prelude.{◌≡◌, [], ◌∷◌, ◌++◌, IfOk, OnOk, OnErr, IsErrOf};
-ghost use Rattle.client_engine.specs.Messages.{spelled, IsTooLong, AreShort, CanBeSaid, answer_of};
+ghost use Rattle.std.specs.Prelude.{◌≡◌, [], ◌∷◌, ◌++◌, IfOk, OnOk, OnErr};
+ghost use Rattle.client_engine.specs.Messages.{spelled, AreShort, CanBeSaid, answer_of};
+ghost use Rattle.protocol_messages.specs.Messages.{IsTooLong};
 
-use ice_messages::{IceMessage, encode_ice};
-use ice_values::{EncodeRefusal, Endian};
+use ice_messages::IceMessage;
+use ice_values::EncodeRefusal;
+use protocol_messages::{Message, encode};
 use sm_world::{ListOf, NoMemory, Octets};
 use std::alloc::Global;
-use xsmp_messages::{XsmpMessage, encode_xsmp};
 
 /// The client's major opcode for the messages of XSMP.
 const CLIENT_OPCODE: u8 = 1;
 
-/// What a client says to its manager.
-#[derive(Debug, Drop)]
-pub enum Message {
-    /// Under major opcode 0.
-    Ice(IceMessage),
-    /// Under the client's own major opcode for XSMP.
-    Xsmp(XsmpMessage),
-}
-
 pub type MessageList = ListOf<Message>;
-
-/// Appends the bytes of a message, if it is not too long.
-fn encode(message: &Message, bytes: &mut Octets) -> Result<(), EncodeRefusal>
-    ensures ok { OnOk result (bytes.new ≡ bytes.old ++ spelled message.now) }
-    ensures err { OnErr result (bytes.new ≡ bytes.old) }
-    ensures too_long { IsErrOf result EncodeRefusal.TooLong → IsTooLong message.now }
-{
-    match message {
-        Message::Ice(message) => encode_ice(Endian::Lsb, message, bytes),
-        Message::Xsmp(message) => encode_xsmp(Endian::Lsb, CLIENT_OPCODE, message, bytes),
-    }
-}
 
 /// Appends the bytes of a message (ICE, chapter 3, Message Format), which has at most 65,536 of them
 /// behind its header. Numbers have the least significant byte first.
@@ -40,7 +20,7 @@ pub fn spell(message: &Message, bytes: &mut Octets) -> Result<(), NoMemory>
     ensures ok { OnOk result (bytes.new ≡ bytes.old ++ spelled message.now) }
     ensures err { OnErr result (bytes.new ≡ bytes.old) }
 {
-    match encode(message, bytes) {
+    match encode(CLIENT_OPCODE, message, bytes) {
         Ok(()) => Ok(()),
         Err(EncodeRefusal::NoMemory) => Err(NoMemory),
         Err(EncodeRefusal::TooLong) => unreachable!(),

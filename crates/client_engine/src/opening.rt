@@ -6,13 +6,14 @@ ghost use Rattle.client_engine.specs.Places.{HasShortId};
 ghost use Rattle.client_engine.specs.Speaking.{HasPlace};
 
 use crate::hearing::{Cue, Heard};
-use crate::messages::{Message, answers, one};
+use crate::messages::{answers, one};
 use crate::place::{Arrival, Place};
 use crate::received::Received;
 use client_machine::Client;
 use ice_messages::IceMessage;
 use ice_setup::{AnyOpener, Joined, Offending, OpenMoved, error_of};
 use ice_values::{Array8, ErrorBody, ErrorClass, Severity};
+use protocol_messages::Message;
 use sm_world::{NoMemory, Octets};
 use std::alloc::Global;
 

@@ -6,12 +6,13 @@ ghost use Rattle.client_engine.specs.Places.{HasShortId};
 ghost use Rattle.client_engine.specs.Speaking.{HasPlace, MayAct};
 
 use crate::hearing::{Cue, Heard};
-use crate::messages::{Message, MessageList, one};
+use crate::messages::{MessageList, one};
 use crate::opening::{out_of_place, take_ice, take_stray};
 use crate::place::{Arrival, Place};
 use crate::received::Received;
 use client_machine::{Client, ClientAct};
 use ice_setup::Joined;
+use protocol_messages::Message;
 use sm_world::NoMemory;
 use std::alloc::Global;
 use xsmp_messages::XsmpMessage;

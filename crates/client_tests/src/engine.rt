@@ -5,11 +5,12 @@ use crate::calls::{
     CLOSES, CONNECTED, CONNECTS, COOKIE, DEMAND, DONE, OPENED, OPENS, ORDER, REGISTERED, REGISTERS,
     SAVE, WAITS,
 };
-use client_engine::{Core, Cue, Message, greeting, spell, stage_again};
+use client_engine::{Core, Cue, greeting, spell, stage_again};
 use client_machine::{AskRefusal, ClientPhase, Request, SaveAnswer, Stage, Step};
 use ice_cookie::Cookie;
 use ice_messages::encode_ice;
 use ice_values::{Array8, Array8List, EncodeRefusal, Endian, PropertyList};
+use protocol_messages::Message;
 use sm_world::Octets;
 use std::alloc::{Alloc, Global};
 use std::process::Abort;

@@ -4,8 +4,9 @@ use Rattle.std.specs.Prelude.{flat_map}
 use Rattle.std.proofs.lemmas.Grind.{flat_map-append}
 use Rattle.std.proofs.lemmas.List.{take_more}
 use Rattle.client_machine.specs.declared.saves.SaveAnswer.{SaveAnswer}
-use Rattle.client_engine.specs.Messages.{AreShort, IsTooLong, spelled}
-use Rattle.client_engine.specs.declared.messages.Message.{Message}
+use Rattle.client_engine.specs.Messages.{AreShort, spelled}
+use Rattle.protocol_messages.specs.Messages.{IsTooLong}
+use Rattle.protocol_messages.specs.declared.message.Message.{Message}
 use Rattle.named_joiner.specs.Doing.{Begins, Desk, Does, Follows, bytes_in, bytes_of, desk}
 use Rattle.named_joiner.specs.Script.{Callbacks, Entry, Says, AsksSave, AsksReasons}
 use Rattle.named_joiner.specs.declared.callbacks.NamedAsk.{NamedAsk}

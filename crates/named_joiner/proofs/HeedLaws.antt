@@ -13,7 +13,7 @@ use Rattle.client_engine.specs.Messages.{spelled}
 use Rattle.client_engine.specs.Places.{phase_at}
 use Rattle.client_engine.specs.declared.hearing.Cue.{Cue}
 use Rattle.client_engine.specs.declared.hearing.Cue.TheVariants.{Die}
-use Rattle.client_engine.specs.declared.messages.Message.{Message}
+use Rattle.protocol_messages.specs.declared.message.Message.{Message}
 use Rattle.named_joiner.specs.Doing.{Answers, Begins, Breaks, Desk, Does, Follows, Takes, Tries, desk, keeper_of}
 use Rattle.named_joiner.specs.Script.{Callbacks, Entry, Keeper, Replies, Says, AsksSave, AsksReasons, answer_line, answered, answered_again, cancelled, closed, cued, died, named, next_stage, on_client, saved, unasked}
 use Rattle.named_joiner.specs.declared.callbacks.NamedAsk.{NamedAsk}

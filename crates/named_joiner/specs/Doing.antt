@@ -1,5 +1,5 @@
 -- What the calls of a client do: to what is to be sent, and to the callbacks.
-use Rattle.std.specs.Prelude.{◌≡◌, ℕ, List, [], ◌∷◌, ◌++◌, Option, Some, Result, Ok, Err, option_map}
+use Rattle.std.specs.Prelude.{◌≡◌, ℕ, List, [], ◌∷◌, ◌++◌, Option, None, Some, Result, Ok, Err, option_map}
 use Rattle.std.specs.List.{flat_map}
 use Rattle.sm_world.specs.declared.failures.NoMemory.{NoMemory}
 use Rattle.client_machine.specs.declared.saves.SaveAnswer.{SaveAnswer}
@@ -65,6 +65,11 @@ module _ {S D : Type 0} (answers : S → NamedAsk → Option SaveAnswer → S �
     pub left : List Entry
     pub parts : done ++ left ≡ line
     pub follows : Follows done old new
+
+  -- The entries were done, or where memory was wanting the callbacks were asked as the first of them say.
+  abbrev pub Carries : Desk S D → Desk S D → List Entry → Option NoMemory → Type 0
+  Carries old new line None = Does old new line
+  Carries old new line (Some e) = Begins old.callbacks new.callbacks line
 
   -- For something that the callbacks said the step was made, and so the client is then.
   pub record Takes {A : Type 0} (old new : Desk S D) (step : A → Step Keeper Entry) (after : Keeper) : Type 0 where

@@ -12,13 +12,13 @@ use Rattle.client_machine.specs.declared.saves.SaveAsk.{SaveAsk}
 use Rattle.client_machine.specs.declared.saves.Stage.{Stage}
 use Rattle.client_engine.specs.Answering.{after_answer, after_owed, answer_messages, changed, closes, owed_messages, stage_again, stopped}
 use Rattle.client_engine.specs.Cutting.{opening}
-use Rattle.client_engine.specs.Driving.{Run, Step, behind, piece_taken, stays}
+use Rattle.client_engine.specs.Driving.{Run, Step, behind, piece_taken, reacting, stays}
 use Rattle.client_engine.specs.Places.{id_at, phase_at}
 use Rattle.client_engine.specs.declared.hearing.Cue.{Cue}
 use Rattle.client_engine.specs.declared.hearing.Cue.TheVariants.{Nothing, Registered, Save, Cancelled, Complete, Die, Properties, Refused as IsRefused, Malformed as IsMalformed}
 use Rattle.client_engine.specs.declared.hearing.Heard.{Heard}
-use Rattle.client_engine.specs.declared.messages.Message.{Message}
-use Rattle.client_engine.specs.declared.messages.Message.TheVariants.{Ice}
+use Rattle.protocol_messages.specs.declared.message.Message.{Message}
+use Rattle.protocol_messages.specs.declared.message.Message.TheVariants.{Ice}
 use Rattle.client_engine.specs.declared.place.Talk.{Talk}
 use Rattle.named_joiner.specs.declared.callbacks.NamedAsk.{NamedAsk}
 use Rattle.named_joiner.specs.declared.ends.Ending.{Ending}
@@ -57,6 +57,10 @@ pub record Keeper : Type 0 where
 
 abbrev pub talk_of : Keeper → Talk
 talk_of keeper = keeper.talk
+
+-- it stands there
+abbrev pub stand_at : Talk → Keeper → Keeper
+stand_at talk keeper = record keeper { talk = talk }
 
 -- these things are done, and it is so then
 abbrev pub doing : List Entry → Keeper → Step Keeper Entry
@@ -125,7 +129,7 @@ cued keeper r (IsMalformed at) = doing [] (over (Ended (Malformed at)) keeper)
 
 -- What a part of the stream brought: the client says what it says by itself, and then the cue is heeded.
 abbrev pub reacts : Keeper → Heard → Replies → Step Keeper Entry
-reacts keeper heard r = behind (map Says heard.said) (cued (record keeper { talk = heard.next }) r heard.cue)
+reacts keeper heard r = reacting stand_at Says cued keeper heard r
 
 -- ---- pieces
 

@@ -1,12 +1,12 @@
 -- Where a client stands in its manager's stream.
-use Rattle.std.specs.Prelude.{◌≡◌, ℕ, true, List, Option, None}
+use Rattle.std.specs.Prelude.{ℕ, List, Option, None}
 use Rattle.ice_cookie.specs.declared.cookies.Cookie.{Cookie}
 use Rattle.ice_framing.specs.Frames.{Standing, beginning}
 use Rattle.client_engine.specs.Cutting.{opening}
 use Rattle.client_engine.specs.Driving.{Run}
-use Rattle.client_engine.specs.Places.{is_listening}
+use Rattle.client_engine.specs.Keeping.{IsRun as IsRunOf}
 use Rattle.client_engine.specs.declared.place.Talk.{Talk}
-use Rattle.named_joiner.specs.Script.{Callbacks, Keeper}
+use Rattle.named_joiner.specs.Script.{Callbacks, Keeper, talk_of}
 use Rattle.named_joiner.specs.declared.ends.Ending.{Ending}
 
 -- how far it has come, what its stream has left, and how it is spent, once it is
@@ -28,6 +28,5 @@ abbrev pub start_stand : Cookie → List ℕ → Stand
 start_stand cookie previous = record { talk = opening cookie previous; splitter = beginning; ending = None }
 
 -- The client stands where the run does, and as long as it takes parts it holds what the stream has left.
-pub record IsRun (run : Run Keeper) (stand : Stand) : Type 0 where
-  pub keeper : keeper_at stand ≡ run.keeper
-  pub feeds : is_listening stand.talk.place ≡ true → stand.splitter ≡ run.standing
+abbrev pub IsRun : Run Keeper → Stand → Type 0
+IsRun run stand = IsRunOf talk_of run (keeper_at stand) stand.splitter

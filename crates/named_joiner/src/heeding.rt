@@ -3,7 +3,7 @@ use crate::callers::Callers;
 use crate::ends::{Ending, NamedEnd};
 use crate::progress::Progress;
 use crate::saying::say_all;
-use client_engine::{Cue, Taken, spell, stage_again};
+use client_engine::{Cue, Keeps, Taken, spell, stage_again};
 use client_machine::SaveAsk;
 use sm_world::NoMemory;
 
@@ -27,17 +27,14 @@ impl Progress {
 }
 
 impl<S: NamedSaves, D: NamedDies> Callers<S, D> {
-    ghost use Rattle.std.specs.Prelude.{◌≡◌, map, Ok, Some};
+    ghost use Rattle.std.specs.Prelude.{◌≡◌, Ok, Some};
     ghost use Rattle.client_engine.specs.Answering.{stage_again as stage_again_spec};
-    ghost use Rattle.client_engine.specs.Driving.{Run, behind};
-    ghost use Rattle.client_engine.specs.Messages.{AreShort};
     ghost use Rattle.client_engine.specs.Speaking.{HasPlace, MayAnswer};
     ghost use Rattle.client_machine.specs.Saves.{at_stage};
     ghost use Rattle.client_machine.specs.declared.saves.SaveAnswer.{SaveAnswer};
     ghost use Rattle.client_machine.specs.declared.saves.Stage.{Stage};
-    ghost use Rattle.named_joiner.specs.Doing.{Answers, Tries, TriesPiece, desk, keeper_of, stand_of};
-    ghost use Rattle.named_joiner.specs.Script.{Keeper, Says, cued, died, saved};
-    ghost use Rattle.named_joiner.specs.Standing.{IsRun};
+    ghost use Rattle.named_joiner.specs.Doing.{Answers, Tries, desk, keeper_of};
+    ghost use Rattle.named_joiner.specs.Script.{cued, died, saved};
 
     /// Asks how the client saves, and says the answer.
     fn answer_save(&mut self, progress: &mut Progress, ask: SaveAsk) -> Result<(), NoMemory>
@@ -115,37 +112,61 @@ impl<S: NamedSaves, D: NamedDies> Callers<S, D> {
             }
         }
     }
+}
 
-    /// Says what the client says by itself about a part of the stream, and does what its cue asks.
-    fn serve(&mut self, progress: &mut Progress, taken: Taken) -> Result<(), NoMemory>
-        requires short { AreShort taken.said }
-        requires asked { HasPlace taken.cue progress.old.core.talk.place }
-        ensures takes { Tries S.answers D.gives result (desk progress.old.bytes self.old) (desk progress.new.bytes self.new) (λ r. behind (map Says taken.said) (cued (keeper_of progress.old) r taken.cue)) (keeper_of progress.new) }
-        ensures splitter { progress.new.core.splitter ≡ progress.old.core.splitter }
-    {
+impl<S: NamedSaves, D: NamedDies> Keeps<(), Progress> for Callers<S, D> {
+    ghost use Rattle.std.specs.Prelude.{refl};
+    ghost use Rattle.named_joiner.specs.Doing.{Carries, Desk as HearDesk, desk as desk_with, keeper_of};
+    ghost use Rattle.named_joiner.specs.Script.{Entry as ScriptEntry, Keeper as ScriptKeeper, Replies, Says, cued as heeded, stand_at as standing_at, talk_of as talk_in, unasked as nothing_asked};
+
+    type Fault = NoMemory;
+
+    ghost Keeper = { ScriptKeeper };
+
+    ghost Reply = { Replies };
+
+    ghost Entry = { ScriptEntry };
+
+    ghost Desk = { HearDesk S D };
+
+    ghost core = { λ progress. progress.core };
+
+    ghost keeper = { keeper_of };
+
+    ghost desk = { λ callers none progress. desk_with progress.bytes callers };
+
+    ghost unasked = { nothing_asked };
+
+    ghost talk_of = { talk_in };
+
+    ghost stand_at = { standing_at };
+
+    ghost says = { Says };
+
+    ghost cued = { heeded };
+
+    ghost carries = { Carries S.answers D.gives };
+
+    fn cut(progress: &mut Progress, left: &[u8]) -> Result<Option<Taken>, NoMemory> {
+        match progress.core.cut(progress.alloc, left) {
+            Ok(taken) => Ok(taken),
+            Err(NoMemory) => Err(NoMemory),
+        }
+    }
+
+    fn serve(
+        &mut self,
+        _none: &mut (),
+        progress: &mut Progress,
+        taken: Taken,
+    ) -> Result<(), NoMemory> {
         match say_all(taken.said.as_slice(), &mut progress.bytes) {
             Ok(()) => self.heed(progress, taken.cue),
             Err(NoMemory) => Err(NoMemory),
         }
     }
 
-    /// Takes the parts that a piece completes.
-    pub fn take_piece(&mut self, progress: &mut Progress, piece: &[u8]) -> Result<(), NoMemory>
-        ensures { (run : Run Keeper) → IsRun run (stand_of progress.old) → TriesPiece S.answers D.gives result (desk progress.old.bytes self.old) (desk progress.new.bytes self.new) run piece.now progress.new }
-    {
-        let mut left = piece;
-        while !left.is_empty() {
-            let taken = match progress.core.cut(progress.alloc, left) {
-                Ok(Some(taken)) => taken,
-                Ok(None) => return Ok(()),
-                Err(NoMemory) => return Err(NoMemory),
-            };
-            left = &left[taken.count..];
-            match self.serve(progress, taken) {
-                Ok(()) => {}
-                Err(NoMemory) => return Err(NoMemory),
-            }
-        }
-        Ok(())
-    }
+    ghost talk_is = { λ progress. refl };
+
+    ghost stands_there = { λ keeper. refl };
 }

@@ -3,7 +3,7 @@ ghost use Rattle.ice_messages.specs.declared.message.IceMessage.TheVariants.{Byt
 ghost use Rattle.ice_values.specs.declared.numbers.Endian.TheVariants.{Lsb};
 ghost use Rattle.client_engine.specs.Driving.{Run};
 ghost use Rattle.client_engine.specs.Messages.{spelled};
-ghost use Rattle.client_engine.specs.declared.messages.Message.TheVariants.{Ice};
+ghost use Rattle.protocol_messages.specs.declared.message.Message.TheVariants.{Ice};
 ghost use Rattle.named_joiner.specs.Hearing.{Hears, gave_end};
 ghost use Rattle.named_joiner.specs.Script.{Keeper, is_over};
 ghost use Rattle.named_joiner.specs.Standing.{IsRun, start_stand};
@@ -13,7 +13,7 @@ use crate::callbacks::{NamedDies, NamedSaves};
 use crate::callers::Callers;
 use crate::ends::{Ending, HearFault, NamedReply};
 use crate::progress::Progress;
-use client_engine::{greeting, spell};
+use client_engine::{greeting, spell, take_piece};
 use ice_cookie::Cookie;
 use ice_values::Array8;
 use sm_world::{NoMemory, Octets};
@@ -85,7 +85,7 @@ impl<S: NamedSaves, D: NamedDies> NamedJoiner<S, D> {
         if self.progress.ending.is_some() {
             return Err(HearFault::Stopped);
         }
-        match self.callers.take_piece(&mut self.progress, piece) {
+        match take_piece(&mut self.callers, &mut (), &mut self.progress, piece) {
             Ok(()) => self.progress.reply(),
             Err(NoMemory) => {
                 self.progress.ending = Some(Ending::Starved);

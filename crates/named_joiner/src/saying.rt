@@ -1,7 +1,8 @@
 ghost use Rattle.std.specs.Prelude.{◌≡◌, ◌++◌, flat_map, OnOk};
 ghost use Rattle.client_engine.specs.Messages.{AreShort, spelled};
 
-use client_engine::{Message, spell};
+use client_engine::spell;
+use protocol_messages::Message;
 use sm_world::{NoMemory, Octets};
 
 /// Appends the bytes of these messages.

@@ -4,7 +4,7 @@ use Rattle.xsmp_messages.specs.Messages.{IsTooLong}
 use Rattle.xsmp_messages.specs.declared.message.XsmpMessage.{XsmpMessage}
 use Rattle.client_engine.specs.Messages.{AreShort}
 use Rattle.client_engine.specs.declared.hearing.Heard.{Heard}
-use Rattle.client_engine.specs.declared.messages.Message.TheVariants.{Xsmp}
+use Rattle.protocol_messages.specs.declared.message.Message.TheVariants.{Xsmp}
 use Rattle.client_engine.proofs.Short.{short-previous, short_more}
 use Rattle.client_engine.proofs.opening.open_at.Goals as goal
 

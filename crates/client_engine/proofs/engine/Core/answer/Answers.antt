@@ -6,8 +6,8 @@ use Rattle.client_engine.specs.Answering.{sets}
 use Rattle.client_engine.specs.Messages.{AreShort}
 use Rattle.client_engine.specs.Places.{on_client}
 use Rattle.client_engine.specs.Speaking.{MayAnswer}
-use Rattle.client_engine.specs.declared.messages.Message.{Message}
-use Rattle.client_engine.specs.declared.messages.Message.TheVariants.{Xsmp}
+use Rattle.protocol_messages.specs.declared.message.Message.{Message}
+use Rattle.protocol_messages.specs.declared.message.Message.TheVariants.{Xsmp}
 use Rattle.client_engine.specs.declared.place.Place.{Place}
 use Rattle.client_engine.specs.declared.place.Talk.{Talk}
 use Rattle.client_engine.proofs.Acting.{asked_again, message_said, not_refused}
