@@ -3,7 +3,7 @@ use Rattle.std.proofs.Common.{◌≡◌, ℕ, zero, suc, ◌+◌, ◌*◌, Bool,
 use Rattle.std.proofs.lemmas.List.{append-nil}
 use Rattle.std.proofs.lemmas.Grind.{flat_map-append}
 use Rattle.std.specs.Prelude.{Option, None, Some, is_some, filter_map, codes}
-use Rattle.std.specs.List.{flat_map}
+use Rattle.std.specs.List.{AllByRecursion, flat_map}
 use Rattle.sm_world.specs.declared.commands.Command.{Command}
 use Rattle.sm_world.specs.declared.events.Order.{Order}
 use Rattle.sm_world.specs.declared.events.Order.TheVariants.{Cancel, Checkpoint, DropConn, Forget, Shutdown, Status}
@@ -32,8 +32,10 @@ use Rattle.session_model.specs.Moves.{Agreed, Began, Blamed, Cancelled, Cause, C
 use Rattle.session_model.specs.Readings as of
 use Rattle.session_model.specs.Reading.{Clients, Reading, client_of, reading, wanted_in}
 use Rattle.session_model.specs.Books.{book_forgetting, command_anyway, discarded, issue, next_book, opening_moves, raised, standing}
-use Rattle.session_model.specs.Replies.{answered, called_off, depart, enter, entry_respawn, forget_one, forgotten, has_no_place, has_no_room, id_respawn, is_overdue, may_rejoin, or_bad_state, ordered, register, rejoin, reply, resigned, respawn_moves, respawned, said, unless_dying, waited, want_cancel}
+use Rattle.session_model.specs.Replies.{answered, called_off, depart, enter, entry_respawn, forget_one, forgotten, has_no_place, has_no_room, has_place, placed, id_respawn, is_overdue, may_rejoin, or_bad_state, ordered, register, rejoin, reply, resigned, respawn_moves, respawned, said, unless_dying, waited, want_cancel}
 use Rattle.session_model.specs.Rules.{agreed_rule, begin_first, completed, ended, go_on, idle_rule, is_free, last_command, members_for, opened, over_rule, round_rule, rule, running_rule, save_yourself, settle, settled, taken, token_rule, wanting_two}
+use Rattle.session_model.proofs.Driven.{taken-keeps}
+use Rattle.session_model.proofs.MoveKinds.{IsWide, every-completed, every-cond, every-depart, every-departs, every-gave, every-off, every-or-bad, every-ordered, every-resigned, every-respawned, every-tried}
 use Rattle.book_order.specs.Order.{GoesOn, InOrder, book_of, books_of, last_of}
 use Rattle.book_order.proofs.Neighbours.{order_forgetting, order_next, order_raised, order_without}
 
@@ -73,8 +75,10 @@ IsSilent (Committed book) = ⊥
 IsSilent m = Unit {0}
 
 abbrev AllSilent : List Move → Type 0
-AllSilent [] = Unit {0}
-AllSilent (m ∷ moves) = IsSilent m × AllSilent moves
+AllSilent moves = AllByRecursion IsSilent moves
+
+silent_wide : IsWide IsSilent
+silent_wide = record { respawned = λ id command. tt; resigned = λ command. tt; closed = λ c. tt; printed = λ text. tt }
 
 silent_move : (m : Move) → IsSilent m → written_by m ≡ []
 silent_move (Committed book) silent = absurd silent
@@ -83,26 +87,6 @@ silent_move m silent = refl
 silent_moves : (moves : List Move) → AllSilent moves → written moves ≡ []
 silent_moves [] silent = refl
 silent_moves (m ∷ moves) silent = ap (λ (books : List Book). books ++ written moves) (silent_move m silent.0) ∙ silent_moves moves silent.1
-
-silent-append : (xs ys : List Move) → AllSilent xs → AllSilent ys → AllSilent (xs ++ ys)
-silent-append [] ys one two = two
-silent-append (x ∷ xs) ys one two = (one.0, silent-append xs ys one.1 two)
-
-silent_cond : (b : Bool) (xs ys : List Move) → AllSilent xs → AllSilent ys → AllSilent (cond b xs ys)
-silent_cond true xs ys one two = one
-silent_cond false xs ys one two = two
-
-silent_gave : (m : XsmpMessage) (conns : List ℕ) → AllSilent (gave_each m conns)
-silent_gave m [] = tt
-silent_gave m (c ∷ conns) = (tt, silent_gave m conns)
-
-silent_tried : (cause : Cause) (commands : List Command) → AllSilent (tried_each cause commands)
-silent_tried cause [] = tt
-silent_tried cause (command ∷ commands) = (tt, silent_tried cause commands)
-
-silent_closed : (conns : List ℕ) → AllSilent (map Closed conns)
-silent_closed [] = tt
-silent_closed (c ∷ conns) = (tt, silent_closed conns)
 
 quiet : (book : Book) (moves : List Move) → AllSilent moves → InOrder book (written moves)
 quiet book moves silent = subst (λ (books : List Book). InOrder book books) (sym (silent_moves moves silent)) tt
@@ -122,27 +106,17 @@ then_quiet book xs ys order silent =
 order_issue : (book : Book) (commands : List Command) → InOrder book (written (issue book commands))
 order_issue book [] = tt
 order_issue book (command ∷ commands) =
-    quiet_then book (tried_each Discard (command ∷ commands)) (Committed (record book { pending = without_commands (command ∷ commands) book.pending }) ∷ []) (silent_tried Discard (command ∷ commands))
+    quiet_then book (tried_each Discard (command ∷ commands)) (Committed (record book { pending = without_commands (command ∷ commands) book.pending }) ∷ []) (every-tried IsSilent Discard (command ∷ commands) (λ tried. tt))
     ((λ rules next. order_without book (command ∷ commands)), tt)
 
 -- Rules
-
-silent_ended : (clients : Clients) (book : Book) → AllSilent (ended clients book)
-silent_ended clients book =
-    silent-append (gave_each Die clients.registered ++ map Closed (filter (λ c. not (is_in c clients.registered)) clients.live)) (tried_each End (filter_map (last_command clients) book.entries))
-    (silent-append (gave_each Die clients.registered) (map Closed (filter (λ c. not (is_in c clients.registered)) clients.live)) (silent_gave Die clients.registered) (silent_closed (filter (λ c. not (is_in c clients.registered)) clients.live)))
-    (silent_tried End (filter_map (last_command clients) book.entries))
-
-silent_completed : (b : Bool) (clients : Clients) (round : Agreement) (book : Book) → AllSilent (completed b clients round book)
-silent_completed true clients round book = silent_ended clients book
-silent_completed false clients round book = silent_gave SaveComplete (conns_of round.members)
 
 order_agreed : (b : Bool) (h : History) (round : Agreement) → InOrder (of.book h) (written (agreed_rule b (reading h) round))
 order_agreed true h round =
     let book : Book = next_book (reading h) round in
     let clients : Clients = (reading h).clients in (
       order_next h round,
-      quiet_then book (completed round.wanted.shutdown clients round book) (discarded clients book) (silent_completed round.wanted.shutdown clients round book) (order_issue book (issuable (standing clients) book.pending)),
+      quiet_then book (completed round.wanted.shutdown clients round book) (discarded clients book) (every-completed IsSilent round.wanted.shutdown (reading h) round book silent_wide (λ command. tt) (λ c m e. tt)) (order_issue book (issuable (standing clients) book.pending)),
     )
 order_agreed false h round = over (deserted round) where
   over : (b : Bool) → InOrder (of.book h) (written (over_rule b))
@@ -150,12 +124,12 @@ order_agreed false h round = over (deserted round) where
   over false = tt
 
 order_running : (b : Bool) (h : History) (round : Agreement) → InOrder (of.book h) (written (running_rule b (reading h) round))
-order_running true h round = quiet (of.book h) (gave_each SaveYourselfPhase2 (wanting_two round.members)) (silent_gave SaveYourselfPhase2 (wanting_two round.members))
+order_running true h round = quiet (of.book h) (gave_each SaveYourselfPhase2 (wanting_two round.members)) (every-gave IsSilent SaveYourselfPhase2 (wanting_two round.members) (λ c. tt))
 order_running false h round = order_agreed (agreed round) h round
 
 silent_first : (conns : List ℕ) (waits : List Wait) → AllSilent (begin_first conns waits)
 silent_first conns [] = tt
-silent_first conns (wait ∷ waits) = (tt, silent_gave (save_yourself wait.wanted) (members_for wait.wanted.only conns))
+silent_first conns (wait ∷ waits) = (tt, every-gave IsSilent (save_yourself wait.wanted) (members_for wait.wanted.only conns) (λ c. tt))
 
 silent_idle : (b : Bool) (r : Reading) → AllSilent (idle_rule b r)
 silent_idle true r = silent_first r.clients.registered r.rounds.waits
@@ -174,72 +148,42 @@ order_rule h = order_token h (next_holder (reading h).token.is_held (reading h).
 
 -- Answers
 
-silent_or_bad : (b : Bool) (x : Arrival) (moves : List Move) → AllSilent moves → AllSilent (or_bad_state b x moves)
-silent_or_bad true x moves silent = silent
-silent_or_bad false x moves silent = (tt, tt)
-
-silent_respawn : (id : List ℕ) (command : Option Command) → AllSilent (respawn_moves id command)
-silent_respawn id None = tt
-silent_respawn id (Some command) = (tt, tt)
-
-silent_entry : (r : Reading) (id : List ℕ) (entry : Option Entry) → AllSilent (entry_respawn r id entry)
-silent_entry r id None = tt
-silent_entry r id (Some entry) = silent_respawn id (respawn entry (r.run.respawns id))
-
-silent_id : (r : Reading) (id : Option (List ℕ)) → AllSilent (id_respawn r id)
-silent_id r None = tt
-silent_id r (Some id) = silent_entry r id (entry_of id r.store.book)
-
-silent_respawned : (r : Reading) (c : ℕ) → AllSilent (respawned r c)
-silent_respawned r c = silent_cond (is_dying (r.clients.phase c)) [] (id_respawn r (r.clients.id c)) tt (silent_id r (r.clients.id c))
-
 silent_off : (round : Option Agreement) → AllSilent (called_off round)
-silent_off None = tt
-silent_off (Some round) = (tt, silent_gave ShutdownCancelled (conns_of round.members))
+silent_off round = every-off IsSilent round tt (λ c. tt)
 
 silent_want_cancel : (b : Bool) (r : Reading) (x : Arrival) → AllSilent (want_cancel r x b)
 silent_want_cancel true r x = silent_off r.rounds.running
 silent_want_cancel false r x = (tt, tt)
 
 silent_enter : (r : Reading) (x : Arrival) → AllSilent (enter r x)
-silent_enter r x = silent_cond (has_no_room r) (Blamed x.conn (no_room x) ∷ Unset x.conn ∷ []) (Gave x.conn (RegisterClientReply (client_id r.store.book.epoch (r.run.given + 1))) ∷ []) (tt, (tt, tt)) (tt, tt)
+silent_enter r x = every-cond IsSilent (has_no_room r) (Blamed x.conn (no_room x) ∷ Unset x.conn ∷ []) (Gave x.conn (RegisterClientReply (client_id r.store.book.epoch (r.run.given + 1))) ∷ []) (tt, (tt, tt)) (tt, tt)
 
 silent_rejoin : (r : Reading) (x : Arrival) (id : List ℕ) → AllSilent (rejoin r x id)
-silent_rejoin r x id = silent_cond (may_rejoin r id) (Gave x.conn (RegisterClientReply id) ∷ []) (Blamed x.conn (bad_id x) ∷ []) (tt, tt) (tt, tt)
+silent_rejoin r x id = every-cond IsSilent (may_rejoin r id) (Gave x.conn (RegisterClientReply id) ∷ []) (Blamed x.conn (bad_id x) ∷ []) (tt, tt) (tt, tt)
 
 silent_register : (r : Reading) (x : Arrival) (previous : List ℕ) → AllSilent (register r x previous)
 silent_register r x [] = silent_enter r x
 silent_register r x (c ∷ id) = silent_rejoin r x (c ∷ id)
 
+silent_placed : (r : Reading) (x : Arrival) (m : XsmpMessage) (p : Option Phase) → AllSilent (placed r x m p)
+silent_placed r x (RegisterClient previous) p = silent_register r x previous
+silent_placed r x (SetProperties list) p = every-cond IsSilent (is_full (set_all (r.clients.table x.conn) list)) (Blamed x.conn (full_table x) ∷ []) [] (tt, tt) tt
+silent_placed r x GetProperties p = (tt, tt)
+silent_placed r x (SaveYourselfRequest kind shutdown style fast global) p = every-cond IsSilent (shutdown && not global) (Blamed x.conn (lone_shutdown x) ∷ []) [] (tt, tt) tt
+silent_placed r x (InteractDone true) p = every-cond IsSilent (is_owing p) [] (want_cancel r x (is_shutdown (wanted_in r.rounds.running))) tt (silent_want_cancel (is_shutdown (wanted_in r.rounds.running)) r x)
+silent_placed r x m p = tt
+
 silent_answered : (r : Reading) (x : Arrival) (m : XsmpMessage) (p : Option Phase) → AllSilent (answered r x m p)
-silent_answered r x (RegisterClient previous) p = silent_or_bad (is_unregistered p) x (register r x previous) (silent_register r x previous)
-silent_answered r x (InteractDone true) p = silent_or_bad (is_owing p || is_interacting p) x _ (silent_cond (is_owing p) [] (want_cancel r x (is_shutdown (wanted_in r.rounds.running))) tt (silent_want_cancel (is_shutdown (wanted_in r.rounds.running)) r x))
-silent_answered r x (InteractDone false) p = silent_or_bad (is_owing p || is_interacting p) x [] tt
-silent_answered r x (SetProperties list) p = silent_or_bad (is_bound p) x _ (silent_cond (is_full (set_all (r.clients.table x.conn) list)) (Blamed x.conn (full_table x) ∷ []) [] (tt, tt) tt)
-silent_answered r x (DeleteProperties names) p = silent_or_bad (is_bound p) x [] tt
-silent_answered r x GetProperties p = silent_or_bad (is_bound p) x _ (tt, tt)
-silent_answered r x (SaveYourselfRequest kind shutdown style fast global) p = silent_or_bad (is_bound p) x _ (silent_cond (shutdown && not global) (Blamed x.conn (lone_shutdown x) ∷ []) [] (tt, tt) tt)
-silent_answered r x (InteractRequest dialog) p = silent_or_bad (is_owing p || is_saving p && may_interact (wanted_in r.rounds.running) dialog) x [] tt
-silent_answered r x (SaveYourselfDone success) p = silent_or_bad (is_owing p || is_saving p) x [] tt
-silent_answered r x SaveYourselfPhase2Request p = silent_or_bad (is_owing p || is_first_saving p) x [] tt
-silent_answered r x m p = (tt, tt)
+silent_answered r x m p = every-or-bad IsSilent (has_place (wanted_in r.rounds.running) m p) x (placed r x m p) tt (silent_placed r x m p)
 
 silent_unless : (r : Reading) (x : Arrival) (p : Option Phase) → AllSilent (unless_dying r x p)
 silent_unless r x (Some Dying) = tt
 silent_unless r x p = silent_answered r x x.message p
 
 silent_said : (r : Reading) (x : Arrival) (m : XsmpMessage) → AllSilent (said r x m)
-silent_said r x (ConnectionClosed reasons) = (tt, silent_respawned r x.conn)
+silent_said r x (ConnectionClosed reasons) = every-depart IsSilent r x.conn silent_wide
 silent_said r x (Error error) = tt
 silent_said r x m = silent_unless r x (r.clients.phase x.conn)
-
-silent_departs : (r : Reading) (conns : List ℕ) → AllSilent (flat_map (depart r) conns)
-silent_departs r [] = tt
-silent_departs r (c ∷ conns) = silent-append (depart r c) (flat_map (depart r) conns) (tt, silent_respawned r c) (silent_departs r conns)
-
-silent_resigned : (command : Option Command) → AllSilent (resigned command)
-silent_resigned None = tt
-silent_resigned (Some command) = (tt, tt)
 
 order_cond : (book : Book) (b : Bool) (xs ys : List Move) → InOrder book (written xs) → InOrder book (written ys) → InOrder book (written (cond b xs ys))
 order_cond book true xs ys one two = one
@@ -249,27 +193,24 @@ order_forgotten : (r : Reading) (id : List ℕ) (entry : Entry) → InOrder r.st
 order_forgotten r id entry =
     let book : Book = book_forgetting r.store id in
     let last : Option Command = command_anyway (codes "ResignCommand") entry in
-    (order_forgetting r.store id, quiet_then book (resigned last) (discarded r.clients book) (silent_resigned last) (order_issue book (issuable (standing r.clients) book.pending)))
+    (order_forgetting r.store id, quiet_then book (resigned last) (discarded r.clients book) (every-resigned IsSilent last silent_wide) (order_issue book (issuable (standing r.clients) book.pending)))
 
 order_forget_one : (r : Reading) (id : List ℕ) (entry : Option Entry) → InOrder r.store.book (written (forget_one r id entry))
 order_forget_one r id None = tt
 order_forget_one r id (Some entry) = order_cond r.store.book (is_some (client_of id r.clients)) (Printed (codes "live") ∷ []) (forgotten r entry (book_forgetting r.store id)) tt (order_forgotten r id entry)
 
 order_ordered : (r : Reading) (order : Order) → InOrder r.store.book (written (ordered r order))
-order_ordered r Checkpoint = tt
-order_ordered r Shutdown = tt
-order_ordered r Cancel = order_cond r.store.book (is_shutdown (wanted_in r.rounds.running)) (Printed (codes "ok") ∷ called_off r.rounds.running) (Printed (codes "no shutdown") ∷ []) (quiet r.store.book (called_off r.rounds.running) (silent_off r.rounds.running)) tt
-order_ordered r (DropConn c) = order_cond r.store.book (is_in c r.clients.live) (Printed (codes "ok") ∷ depart r c) (Printed (codes "no connection") ∷ []) (quiet r.store.book (depart r c) (tt, silent_respawned r c)) tt
 order_ordered r (Forget id) = order_cond r.store.book (r.run.is_ending || is_some r.rounds.running) (Printed (codes "busy") ∷ []) (forget_one r id (entry_of id r.store.book)) tt (order_forget_one r id (entry_of id r.store.book))
-order_ordered r Status = tt
+order_ordered r Cancel = quiet r.store.book (ordered r Cancel) (every-ordered IsSilent r Cancel silent_wide (silent_off r.rounds.running))
+order_ordered r order = quiet r.store.book (ordered r order) (every-ordered IsSilent r order silent_wide tt)
 
 order_reply : (r : Reading) (event : SessionEvent) → InOrder r.store.book (written (reply r event))
 order_reply r (Joined c) = order_cond r.store.book (has_no_place r) (Closed c ∷ []) [] tt tt
 order_reply r (Ready c) = tt
 order_reply r (Said c m sequence frame) = quiet r.store.book (said r (record { conn = c; message = m; sequence = sequence; frame = frame }) m) (silent_said r (record { conn = c; message = m; sequence = sequence; frame = frame }) m)
-order_reply r (Left c) = quiet r.store.book (respawned r c) (silent_respawned r c)
+order_reply r (Left c) = quiet r.store.book (respawned r c) (every-respawned IsSilent r c silent_wide)
 order_reply r (Operator order) = order_ordered r order
-order_reply r (Tick milliseconds) = quiet r.store.book (waited r milliseconds) (silent_departs r (filter (is_overdue r milliseconds) r.clients.registered))
+order_reply r (Tick milliseconds) = quiet r.store.book (waited r milliseconds) (every-departs IsSilent r (filter (is_overdue r milliseconds) r.clients.registered) silent_wide)
 
 -- All that an event brings
 
@@ -293,30 +234,15 @@ follows_onto h g (m ∷ moves) order follows =
     let parts = order-parts (of.book g) (written_by m) (written moves) order in
     follows_onto h (m ▷ g) moves (subst (λ (b : Book). InOrder b (written moves)) (last_moved m (of.book g)) parts.1) (follows_move h g m parts.0 follows)
 
-follows_on : (n : ℕ) (h g : History) (moves : List Move) → InOrder (of.book g) (written moves) → GoesOn h g → ((x : History) → GoesOn h x → GoesOn h (settle n x)) → GoesOn h (go_on (λ x. settle n x) g moves)
-follows_on n h g [] order follows further = follows
-follows_on n h g (m ∷ moves) order follows further = further (onto g (m ∷ moves)) (follows_onto h g (m ∷ moves) order follows)
-
-follows_settle : (n : ℕ) (h g : History) → GoesOn h g → GoesOn h (settle n g)
-follows_settle zero h g follows = follows
-follows_settle (suc n) h g follows = follows_on n h g (rule (reading g)) (order_rule g) follows (λ x f. follows_settle n h x f)
-
-follows_finish : (b : Bool) (h g : History) → GoesOn h g → GoesOn h (cond b (Finished ▷ g) g)
-follows_finish true h g follows = follows_move h g Finished tt follows
-follows_finish false h g follows = follows
-
 pub books_keep : (event : SessionEvent) (h : History) → GoesOn h (taken event h)
 books_keep event h =
-    let replied : History = onto (Outside event ▷ h) (reply (reading h) event) in
-    let rested : History = settled replied in
-    follows_finish (of.is_ending rested && is_nil (of.live rested)) h rested
-    (follows_settle (4 * length (of.waits replied) + 4) h replied
-    (follows_onto h (Outside event ▷ h) (reply (reading h) event) (order_reply (reading h) event) (follows_move h h (Outside event) tt (follows_itself h))))
+    taken-keeps (GoesOn h) (λ g follows. follows_onto h g (rule (reading g)) (order_rule g) follows) (λ g follows. follows_move h g Finished tt follows) event h
+    (follows_onto h (Outside event ▷ h) (reply (reading h) event) (order_reply (reading h) event) (follows_move h h (Outside event) tt (follows_itself h)))
 
 pub openings_keep : (opening : Opening) → GoesOn (Opened opening) (opened opening)
 openings_keep opening =
     let book : Book = opening.book in
     follows_onto (Opened opening) (Opened opening) (opening_moves book) (
       (λ rules next. order_raised book),
-      then_quiet (raised book) (issue (raised book) book.pending) (tried_each Restart (opening_restarts book.entries)) (order_issue (raised book) book.pending) (silent_tried Restart (opening_restarts book.entries)),
+      then_quiet (raised book) (issue (raised book) book.pending) (tried_each Restart (opening_restarts book.entries)) (order_issue (raised book) book.pending) (every-tried IsSilent Restart (opening_restarts book.entries) (λ command. tt)),
     ) (follows_itself (Opened opening))

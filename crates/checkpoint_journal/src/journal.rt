@@ -1,4 +1,5 @@
 ghost use Rattle.std.specs.Prelude.{◌≡◌, ◌↔◌, ◌+◌, ◌++◌, ◌∷◌, [], ◌≤◌, ◌<◌, ◌^◌, IsTrue, ℕ, List, is_err, length, replicate, IfErr, IfOk, Err, Some};
+ghost use Rattle.checkpoint_slots.specs.Layout.{store_size};
 ghost use Rattle.byteorder.specs.Endian.{little_bytes};
 ghost use Rattle.sm_world.specs.Disk.{KeepsToldSize, UsesDisk};
 ghost use Rattle.sm_world.specs.Outside.{Added};
@@ -55,8 +56,8 @@ fn behind_gate(alloc: Global, delta: &Delta) -> Result<Octets, NoMemory>
 
 /// Puts these bytes behind the gate at this place, and then opens the gate.
 fn put_behind<D: Disk>(disk: &mut D, gate: u64, tail: &[u8]) -> Result<(), Failed>
-    requires size { (D.outside disk.old).size ≡ 16777280 }
-    requires room { gate + 1 + length tail.now ≤ 16777280 }
+    requires size { (D.outside disk.old).size ≡ store_size }
+    requires room { gate + 1 + length tail.now ≤ store_size }
     ensures effects { Added (D.outside disk.old).told (D.outside disk.new).told (PutsAll ((gate + 1, tail.now) ∷ (gate, 165 ∷ []) ∷ []) result) }
     ensures size { (D.outside disk.new).size ≡ (D.outside disk.old).size }
     ensures uses { UsesDisk (D.outside disk.old) (D.outside disk.new) (is_err result) }
@@ -69,7 +70,7 @@ fn put_behind<D: Disk>(disk: &mut D, gate: u64, tail: &[u8]) -> Result<(), Faile
 
 /// Writes this book into the other slot, whole.
 fn put_book<D: Disk>(steady: Steady, disk: &mut D, body: &Octets) -> Result<Steady, StoreFault>
-    requires size { (D.outside disk.old).size ≡ 16777280 }
+    requires size { (D.outside disk.old).size ≡ store_size }
     requires room { length body.now ≤ 8388608 }
     ensures effects { Added (D.outside disk.old).told (D.outside disk.new).told (Compacted steady body.now result) }
     ensures size { (D.outside disk.new).size ≡ (D.outside disk.old).size }
@@ -92,7 +93,7 @@ impl Journal {
     /// `Steady::recover_from`.
     pub fn recover_from<D: Disk>(alloc: Global, disk: &mut D) -> Result<(Journal, Book), StoreFault>
         ensures told { (D.outside disk.new).told ≡ (D.outside disk.old).told }
-        ensures size { IfOk result (λ recovered. (D.outside disk.new).size ≡ 16777280) }
+        ensures size { IfOk result (λ recovered. (D.outside disk.new).size ≡ store_size) }
         ensures kept { KeepsToldSize (D.outside disk.old) (D.outside disk.new) }
         ensures recovers { (file : List ℕ) → IsSettled (D.outside disk.old) file → IfOk result (λ recovered. SteadyFile recovered.0 recovered.1 file) }
         ensures rules { IfOk result (λ recovered. KeepsRules recovered.1) }
@@ -123,7 +124,7 @@ impl Journal {
         disk: &mut D,
         delta: &Delta,
     ) -> Result<Journal, (Option<Journal>, StoreFault)>
-        requires size { (D.outside disk.old).size ≡ 16777280 }
+        requires size { (D.outside disk.old).size ≡ store_size }
         requires fits { HasRoomFor self (size_of delta.now) }
         ensures effects { Added (D.outside disk.old).told (D.outside disk.new).told (Appends self delta.now result) }
         ensures worn { next_generation self ≡ 2 ^ 64 → result ≡ Err (Some self, IsWorn) }
@@ -159,7 +160,7 @@ impl Journal {
         disk: &mut D,
         book: &Book,
     ) -> Result<Journal, (Option<Journal>, StoreFault)>
-        requires size { (D.outside disk.old).size ≡ 16777280 }
+        requires size { (D.outside disk.old).size ≡ store_size }
         requires rules { KeepsRules book.now }
         ensures effects { Added (D.outside disk.old).told (D.outside disk.new).told (Compacts self book.now result) }
         ensures worn { next_generation self ≡ 2 ^ 64 → result ≡ Err (Some self, IsWorn) }

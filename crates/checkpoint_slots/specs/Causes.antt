@@ -8,7 +8,7 @@ use Rattle.checkpoint_slots.specs.declared.fault.StoreFault.{StoreFault}
 use Rattle.checkpoint_slots.specs.declared.fault.StoreFault.TheVariants.{Damaged, DiskFault, NoMemory, Worn, WrongSize}
 use Rattle.checkpoint_changes.specs.Amendments.{SlotDamaged}
 use Rattle.checkpoint_slots.specs.declared.layout.Slot.TheVariants.{First, Second}
-use Rattle.checkpoint_slots.specs.Layout.{is_open}
+use Rattle.checkpoint_slots.specs.Layout.{is_open, store_size}
 use Rattle.checkpoint_slots.specs.Recovery.{Recovers}
 
 -- No byte of the store is in doubt: what a read gives, and all that a crash may leave, is this file.
@@ -31,8 +31,8 @@ is_disk_fault (Err NoMemory) = false
 
 -- Why recovery fails, where the size that the disk tells then is this one: the size first, then the damage.
 abbrev pub IsRecoveryFault : Outside → ℕ → StoreFault → Type 0
-IsRecoveryFault outside told (WrongSize size) = (size ≡ told) × (size ≢ 16777280)
-IsRecoveryFault outside told (Damaged at) = (told ≡ 16777280) × ((file : List ℕ) → IsSettled outside file → Recovers file (Err at))
+IsRecoveryFault outside told (WrongSize size) = (size ≡ told) × (size ≢ store_size)
+IsRecoveryFault outside told (Damaged at) = (told ≡ store_size) × ((file : List ℕ) → IsSettled outside file → Recovers file (Err at))
 IsRecoveryFault outside told DiskFault = Unit {0}
 IsRecoveryFault outside told Worn = ⊥
 IsRecoveryFault outside told NoMemory = Unit {0}

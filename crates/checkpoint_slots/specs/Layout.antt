@@ -8,6 +8,10 @@ use Rattle.std.specs.Prelude.{Bool, List, drop, slice_index, take, ℕ, ◌==◌
 use Rattle.checkpoint_slots.specs.declared.layout.Slot.{Slot}
 use Rattle.checkpoint_slots.specs.declared.layout.Slot.TheVariants.{First, Second}
 
+-- how many bytes the file has
+abbrev pub store_size : ℕ
+store_size = 16777280
+
 abbrev pub gate_at : Slot → ℕ
 gate_at First = 0
 gate_at Second = 32

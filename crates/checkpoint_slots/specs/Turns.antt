@@ -11,7 +11,7 @@ use Rattle.checkpoint_slots.specs.declared.fault.StoreFault.{StoreFault}
 use Rattle.checkpoint_slots.specs.declared.layout.Slot.{Slot}
 use Rattle.checkpoint_slots.specs.declared.layout.Slot.TheVariants.{First}
 use Rattle.checkpoint_slots.specs.declared.turn.Current.{Current}
-use Rattle.checkpoint_slots.specs.Layout.{gate_at, other, slot_of, start_of}
+use Rattle.checkpoint_slots.specs.Layout.{gate_at, other, slot_of, start_of, store_size}
 use Rattle.checkpoint_slots.specs.Recovery.{LeadsTo, Recovers, chosen, generation_of, length_of, may_be_length, slot_bytes}
 
 -- At each of these effects, and before the first, every file that a crash may leave recovers to the old book or to the new one.
@@ -84,7 +84,7 @@ pub record FilledFile (current : Option Current) (book next : Book) (file : List
 
 -- The file has the size of a store. What may be read of it may be left by a crash, and every file that a crash may leave is such.
 pub record EveryImage (P : List ℕ → Type 0) (first : List ℕ) (effects : List Effect) : Type 0 where
-  pub size : length first ≡ 16777280
+  pub size : length first ≡ store_size
   pub calm : (i : ℕ) → i < length first → (byte : ℕ) → IsTrue (readable (cell_of first effects i).reads byte) → IsTrue ((cell_of first effects i).left byte)
   pub images : (file : List ℕ) → Image first effects file → P file
 

@@ -1,7 +1,7 @@
 ghost use Rattle.std.specs.Prelude.{Some, option_map, ◌^◌, ◌≡◌, ◌+◌, ◌≤◌, ◌<◌, ℕ, List, length, take, drop, slice_index, IfOk, IfErr, OnOk, Ok, Err, false, true, nat_lt};
 ghost use Rattle.sm_world.specs.Disk.{KeepsToldSize, UsesDisk, has_failed};
 ghost use Rattle.checkpoint_records.specs.Rules.{KeepsRules};
-ghost use Rattle.checkpoint_slots.specs.Layout.{start_of, gate_at, is_gate_open as opens, is_open, slot_of};
+ghost use Rattle.checkpoint_slots.specs.Layout.{start_of, gate_at, is_gate_open as opens, is_open, slot_of, store_size};
 ghost use Rattle.checkpoint_slots.specs.Recovery.{LeadsTo, SlotStands, chosen, generation_of, length_of, may_be_length};
 ghost use Rattle.checkpoint_slots.specs.Turns.{HasBook, HasCurrent, SteadyFile};
 ghost use Rattle.checkpoint_slots.specs.Causes.{AreOpen, Finds, IsBookFault, Never, IsRecoveryFault, IsSettled, Looks, Tells, is_disk_fault};
@@ -45,7 +45,7 @@ fn is_open_at<D: Disk>(disk: &mut D, at: u64) -> Result<bool, Failure>
 
 /// The generation of a slot.
 fn generation<D: Disk>(disk: &mut D, slot: Slot) -> Result<u64, Failure>
-    requires { (D.outside disk.old).size ≡ 16777280 }
+    requires { (D.outside disk.old).size ≡ store_size }
     ensures number { Tells (D.outside disk.old) (λ file number. number ≡ generation_of (slot_of file slot)) result }
     ensures world { Looks (D.outside disk.old) (D.outside disk.new) (has_failed result) }
 {
@@ -58,7 +58,7 @@ fn generation<D: Disk>(disk: &mut D, slot: Slot) -> Result<u64, Failure>
 
 /// How many bytes the book of a slot has, as its head says.
 fn book_length<D: Disk>(disk: &mut D, slot: Slot) -> Result<u32, Failure>
-    requires { (D.outside disk.old).size ≡ 16777280 }
+    requires { (D.outside disk.old).size ≡ store_size }
     ensures number { Tells (D.outside disk.old) (λ file number. number ≡ length_of (slot_of file slot)) result }
     ensures world { Looks (D.outside disk.old) (D.outside disk.new) (has_failed result) }
 {
@@ -71,7 +71,7 @@ fn book_length<D: Disk>(disk: &mut D, slot: Slot) -> Result<u32, Failure>
 
 /// This slot as the current one. Where its book ends isn't known before it is read.
 fn current<D: Disk>(disk: &mut D, slot: Slot) -> Result<Current, Failure>
-    requires { (D.outside disk.old).size ≡ 16777280 }
+    requires { (D.outside disk.old).size ≡ store_size }
     ensures slot { IfOk result (λ current. current.slot ≡ slot) }
     ensures number { Tells (D.outside disk.old) (λ file current. current.generation ≡ generation_of (slot_of file slot)) result }
     ensures world { Looks (D.outside disk.old) (D.outside disk.new) (has_failed result) }
@@ -88,7 +88,7 @@ fn current<D: Disk>(disk: &mut D, slot: Slot) -> Result<Current, Failure>
 
 /// The slot with the greater generation, where both gates are open.
 fn newer<D: Disk>(disk: &mut D) -> Result<Current, StoreFault>
-    requires { (D.outside disk.old).size ≡ 16777280 }
+    requires { (D.outside disk.old).size ≡ store_size }
     ensures found { Finds (D.outside disk.old) (λ file current. AreOpen file → HasCurrent (Some current) file) (λ file at. AreOpen file → chosen file ≡ Err at) result }
     ensures world { Looks (D.outside disk.old) (D.outside disk.new) (is_disk_fault result) }
 {
@@ -105,7 +105,7 @@ fn newer<D: Disk>(disk: &mut D) -> Result<Current, StoreFault>
 
 /// The slot that is current, by the gates; None where no gate is open.
 fn choose<D: Disk>(disk: &mut D) -> Result<Option<Current>, StoreFault>
-    requires { (D.outside disk.old).size ≡ 16777280 }
+    requires { (D.outside disk.old).size ≡ store_size }
     ensures found { Finds (D.outside disk.old) (λ file current. HasCurrent current file) (λ file at. chosen file ≡ Err at) result }
     ensures world { Looks (D.outside disk.old) (D.outside disk.new) (is_disk_fault result) }
 {
@@ -176,7 +176,7 @@ fn read_chosen<D: Disk>(
     disk: &mut D,
     slot: Slot,
 ) -> Result<(Book, Option<u64>), StoreFault>
-    requires { (D.outside disk.old).size ≡ 16777280 }
+    requires { (D.outside disk.old).size ≡ store_size }
     ensures found { Finds (D.outside disk.old) (λ file found. HasBook slot found.1 found.0 (slot_of file slot)) (λ file at. SlotStands (start_of slot) (slot_of file slot) (Err at)) result }
     ensures rules { IfOk result (λ found. KeepsRules found.0) }
     ensures world { Looks (D.outside disk.old) (D.outside disk.new) (is_disk_fault result) }
@@ -202,7 +202,7 @@ impl Steady {
     /// book. The rest of the chosen slot is read whole, 8,388,592 bytes.
     pub fn recover_from<D: Disk>(alloc: Global, disk: &mut D) -> Result<(Steady, Book), StoreFault>
         ensures told { (D.outside disk.new).told ≡ (D.outside disk.old).told }
-        ensures size { IfOk result (λ recovered. (D.outside disk.new).size ≡ 16777280) }
+        ensures size { IfOk result (λ recovered. (D.outside disk.new).size ≡ store_size) }
         ensures kept { KeepsToldSize (D.outside disk.old) (D.outside disk.new) }
         ensures recovers { (file : List ℕ) → IsSettled (D.outside disk.old) file → IfOk result (λ recovered. SteadyFile recovered.0 recovered.1 file) }
         ensures rules { IfOk result (λ recovered. KeepsRules recovered.1) }

@@ -1,4 +1,5 @@
 ghost use Rattle.std.specs.Prelude.{◌≡◌, ◌↔◌, IsTrue, ◌+◌, ◌++◌, replicate, ◌≤◌, ◌<◌, ◌^◌, ◌∷◌, [], length, is_err, IfOk, IfErr, OnOk, Err, Some};
+ghost use Rattle.checkpoint_slots.specs.Layout.{store_size};
 ghost use Rattle.byteorder.specs.Endian.{little_bytes};
 ghost use Rattle.sm_world.specs.Disk.{UsesDisk};
 ghost use Rattle.sm_world.specs.Outside.{Added};
@@ -215,7 +216,7 @@ impl Steady {
     /// Closes the gate of the other slot, by one write and one sync. After a fault the store must
     /// be recovered anew.
     pub fn close<D: Disk>(self, disk: &mut D) -> Result<Closed, StoreFault>
-        requires { (D.outside disk.old).size ≡ 16777280 }
+        requires { (D.outside disk.old).size ≡ store_size }
         ensures effects { Added (D.outside disk.old).told (D.outside disk.new).told (Closes self result) }
         ensures same { IfOk result (λ closed. closed ≡ self) }
         ensures size { (D.outside disk.new).size ≡ (D.outside disk.old).size }
@@ -234,7 +235,7 @@ impl Closed {
     /// Fills the other slot with what `spell` gave for this turn, by one write and one sync. After a
     /// fault the store must be recovered anew.
     pub fn fill<D: Disk>(self, disk: &mut D, body: &Octets) -> Result<Filled, StoreFault>
-        requires size { (D.outside disk.old).size ≡ 16777280 }
+        requires size { (D.outside disk.old).size ≡ store_size }
         requires room { length body.now ≤ 8388608 }
         ensures effects { Added (D.outside disk.old).told (D.outside disk.new).told (Fills self body.now result) }
         ensures same { IfOk result (λ filled. filled.0 ≡ self) }
@@ -258,7 +259,7 @@ impl Filled {
     /// Opens the gate of the slot that was filled, by one write and one sync. From then on that slot
     /// is the current one. After a fault the store must be recovered anew.
     pub fn lift<D: Disk>(self, disk: &mut D) -> Result<Steady, StoreFault>
-        requires { (D.outside disk.old).size ≡ 16777280 }
+        requires { (D.outside disk.old).size ≡ store_size }
         ensures effects { Added (D.outside disk.old).told (D.outside disk.new).told (Lifts self result) }
         ensures next { IfOk result (λ steady. steady ≡ Some self.1) }
         ensures size { (D.outside disk.new).size ≡ (D.outside disk.old).size }

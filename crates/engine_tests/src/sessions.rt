@@ -4,9 +4,7 @@ ghost use Rattle.sm_world.specs.Events.{HasPieceSize};
 
 use ice_cookie::Cookie;
 use session_engine::{Config, ServeFault, at_most_64_live, serve};
-use sm_world::{
-    Effect, Event, EventList, MemWorld, NoMemory, NumberList, Octets, Order, SteadyWorld,
-};
+use sm_world::{Effect, Event, EventList, NoMemory, Octets, Order, SteadyWorld};
 use std::alloc::Global;
 use std::fmt::Write;
 use std::process::Abort;
@@ -78,7 +76,7 @@ fn add_piece(alloc: Global, events: &mut EventList, bytes: &[u8]) -> Result<(), 
 }
 
 /// A connection on which these bytes come in one piece.
-fn at_once(alloc: Global, bytes: &[u8]) -> Result<EventList, NoMemory>
+pub fn at_once(alloc: Global, bytes: &[u8]) -> Result<EventList, NoMemory>
     requires some { 1 ≤ length bytes.now }
     requires fits { length bytes.now ≤ 65536 }
     ensures { IfOk result (AllByRecursion HasPieceSize) }
@@ -156,26 +154,6 @@ fn what_follows_a_wrong_first_frame_is_dropped(rt: HostRuntime) -> Result<(), Fa
     ];
     expect_served(&rt, at_once(rt.alloc(), &bytes)?, CLOSED)?;
     expect_served(&rt, byte_by_byte(rt.alloc(), &bytes)?, CLOSED)
-}
-
-#[test]
-fn a_refused_call_is_a_fault(rt: HostRuntime) -> Result<(), Fail> {
-    let alloc = rt.alloc();
-    let mut failing = NumberList::new(alloc);
-    // The store is opened by nine calls, and the tenth hears that the connection joined.
-    failing.push(11)?;
-    let events = at_once(alloc, &CLIENT)?;
-    let mut world = MemWorld::new(
-        alloc,
-        events,
-        Octets::new(alloc),
-        blank_store(alloc)?,
-        failing,
-    )?;
-    let served = serve(alloc, &mut world, CONFIG, 9);
-    assert_eq!(rt; served, Err(ServeFault::LinkFault));
-    assert_eq!(rt; world.effects().len(), 7);
-    Ok(())
 }
 
 #[test]

@@ -29,8 +29,8 @@ use Rattle.session_engine.specs.declared.answers.Outcome.{Outcome}
 use Rattle.session_engine.specs.declared.connection.Answered.{Answered}
 use Rattle.session_engine.specs.declared.connection.Connection.{Connection as Kept}
 use Rattle.session_engine.specs.declared.engine.Engine.{Engine}
-use Rattle.session_engine.specs.declared.messages.Message.{Message}
-use Rattle.session_engine.specs.declared.messages.Message.TheVariants.{Ice}
+use Rattle.protocol_messages.specs.declared.message.Message.{Message}
+use Rattle.protocol_messages.specs.declared.message.Message.TheVariants.{Ice}
 use Rattle.session_engine.proofs.Following.{agrees-left, agrees-noted, agrees-ready, agrees-said, numbers-in}
 use Rattle.session_engine.proofs.Outcomes.{FitsAnswer, fits-part}
 use Rattle.session_engine.proofs.Showing.{CutsOne, acts_noted, everywhere, gives_behind, left_of, noted_shown, others_shown, same_outcome, tell_gives, to_cut-same}

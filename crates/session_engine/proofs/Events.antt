@@ -20,7 +20,7 @@ use Rattle.session_engine.specs.declared.acts.Act.{Act}
 use Rattle.session_engine.specs.declared.acts.Act.TheVariants.{Say}
 use Rattle.session_engine.specs.declared.connection.Connection.{Connection as Kept}
 use Rattle.session_engine.specs.declared.engine.Engine.{Engine}
-use Rattle.session_engine.specs.declared.messages.Message.TheVariants.{Ice}
+use Rattle.protocol_messages.specs.declared.message.Message.TheVariants.{Ice}
 use Rattle.session_engine.proofs.Answering.{takes-joined, takes-left}
 use Rattle.session_engine.proofs.Following.{agrees-joined, agrees-left, agrees-ordered, agrees-ticked}
 use Rattle.session_engine.proofs.Showing.{acts_noted, joined_shows, live_some, others_shown, tell_gives}

@@ -25,7 +25,7 @@ use Rattle.session_engine.specs.declared.acts.Act.{Act}
 use Rattle.session_engine.specs.declared.answers.Answer.{Answer}
 use Rattle.session_engine.specs.declared.answers.Answer.TheVariants.{Stays, Begins, Closes, Speaks, Asks}
 use Rattle.session_engine.specs.declared.answers.Outcome.{Outcome}
-use Rattle.session_engine.specs.declared.messages.Message.{Message}
+use Rattle.protocol_messages.specs.declared.message.Message.{Message}
 use Rattle.session_engine.proofs.Committing.{books_in-append}
 use Rattle.session_engine.proofs.Following.{since-is}
 use Rattle.session_engine.proofs.Opening.{opened_acts}

@@ -30,7 +30,7 @@ use Rattle.session_engine.specs.Answers.{named_in, stated_order, going, speaks_x
 use Rattle.session_engine.specs.declared.answers.Answer.{Answer}
 use Rattle.session_engine.specs.declared.answers.Answer.TheVariants.{Stays, Begins, Closes, Speaks, Asks}
 use Rattle.session_engine.specs.declared.answers.Outcome.{Outcome}
-use Rattle.session_engine.specs.declared.messages.Message.{Message}
+use Rattle.protocol_messages.specs.declared.message.Message.{Message}
 
 -- an answer tells when XSMP begins, and a message of XSMP comes only where it is spoken
 abbrev pub FitsAnswer : Bool → Bool → Answer → Type 0

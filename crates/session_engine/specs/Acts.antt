@@ -7,11 +7,12 @@ use Rattle.checkpoint_records.specs.declared.records.Book.{Book}
 use Rattle.xsmp_messages.specs.declared.message.XsmpMessage.TheVariants.{Error as XsmpError}
 use Rattle.session_model.specs.declared.events.Act.{Act as SessionAct}
 use Rattle.session_model.specs.declared.events.Act.TheVariants.{Say as SaysXsmp, Blame, Unset, Shut as ShutsConn, Start as StartsCommand, Commit as Commits, Print as PrintsLine, Finish as Finishes}
-use Rattle.session_engine.specs.Messages.{spelled, IsTooLong}
+use Rattle.session_engine.specs.Messages.{spelled}
+use Rattle.protocol_messages.specs.Messages.{IsTooLong}
 use Rattle.session_engine.specs.declared.acts.Act.{Act}
 use Rattle.session_engine.specs.declared.acts.Act.TheVariants.{Say, Shut, Start, Commit, Print, Finish}
-use Rattle.session_engine.specs.declared.messages.Message.{Message}
-use Rattle.session_engine.specs.declared.messages.Message.TheVariants.{Xsmp}
+use Rattle.protocol_messages.specs.declared.message.Message.{Message}
+use Rattle.protocol_messages.specs.declared.message.Message.TheVariants.{Xsmp}
 
 -- What an act is to the outside: a deed, a book that the store has from then on, or nothing. A line is printed with its newline.
 pub data Kind : Type 0 where

@@ -27,6 +27,7 @@ use Rattle.session_engine.specs.Store.{store_of}
 use Rattle.session_engine.specs.declared.acts.Act.{Act}
 use Rattle.session_engine.specs.declared.fault.ServeFault.{ServeFault}
 use Rattle.session_engine.specs.declared.fault.ServeFault.TheVariants.{Damaged, WrongSize, DiskFault, LinkFault, ConsoleFault, Worn, Spent, NoMemory}
+use Rattle.checkpoint_slots.specs.Layout.{store_size}
 
 -- a run that wasn't cut short by a fault
 abbrev pub is_whole : Result (Unit {0}) ServeFault → Bool
@@ -139,13 +140,13 @@ module _ (config : Config) (opening : Book) where
 
 -- What recovery found is what each file stands for of which no byte is in doubt. It has the size of a store.
 abbrev pub IsRecovered : Outside → Book → Option Current → Type 0
-IsRecovered outside book current = (file : List ℕ) → IsSettled outside file → (length file ≡ 16777280) × SteadyFile current book file
+IsRecovered outside book current = (file : List ℕ) → IsSettled outside file → (length file ≡ store_size) × SteadyFile current book file
 
 -- Why no run was begun, where the disk tells this size: in this order, the size, a damage, and an epoch that can't be raised.
 abbrev pub IsUnopened : Outside → ℕ → ServeFault → Type 0
-IsUnopened outside told (WrongSize size) = (size ≡ told) × (size ≢ 16777280)
-IsUnopened outside told (Damaged at) = (told ≡ 16777280) × ((file : List ℕ) → IsSettled outside file → Recovers file (Err at))
-IsUnopened outside told Worn = (told ≡ 16777280) × ((book : Book) × (current : Option Current) × IsRecovered outside book current × (book.epoch ≡ 4294967295))
+IsUnopened outside told (WrongSize size) = (size ≡ told) × (size ≢ store_size)
+IsUnopened outside told (Damaged at) = (told ≡ store_size) × ((file : List ℕ) → IsSettled outside file → Recovers file (Err at))
+IsUnopened outside told Worn = (told ≡ store_size) × ((book : Book) × (current : Option Current) × IsRecovered outside book current × (book.epoch ≡ 4294967295))
 IsUnopened outside told DiskFault = Unit {0}
 IsUnopened outside told NoMemory = Unit {0}
 IsUnopened outside told LinkFault = ⊥
@@ -163,7 +164,7 @@ pub record Opens (old new : Outside) (P : Book → Option Current → List Effec
   pub book : Book
   pub current : Option Current
   pub recovered : IsRecovered old book current
-  pub size : new.size ≡ 16777280
+  pub size : new.size ≡ store_size
   pub below : book.epoch < 4294967295
   pub rules : KeepsRules book
   pub adds : Added old.told new.told (P book current)

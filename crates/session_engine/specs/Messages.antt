@@ -1,22 +1,12 @@
 -- What the manager says to a client, and its bytes.
 use Rattle.std.specs.Prelude.{ℕ, List, Option, Some, None}
-use Rattle.ice_values.specs.declared.numbers.Endian.TheVariants.{Lsb}
-use Rattle.ice_messages.specs.Messages.{canon as ice_canon, IsTooLong as IsLongIce}
 use Rattle.ice_setup.specs.Setup.{manager_opcode}
-use Rattle.xsmp_messages.specs.Messages.{canon as xsmp_canon, IsTooLong as IsLongXsmp}
-use Rattle.session_engine.specs.declared.messages.Message.{Message}
-use Rattle.session_engine.specs.declared.messages.Message.TheVariants.{Ice, Xsmp}
+use Rattle.protocol_messages.specs.Messages.{spelled_under, IsTooLong}
+use Rattle.protocol_messages.specs.declared.message.Message.{Message}
 
--- Messages are written least significant byte first, with zeros in unused bytes: those of ICE under major opcode 0, those of
--- XSMP under the manager's own.
+-- a message's bytes, those of XSMP under the manager's opcode
 abbrev pub spelled : Message → List ℕ
-spelled (Ice message) = ice_canon Lsb message
-spelled (Xsmp message) = xsmp_canon Lsb manager_opcode message
-
--- the body has more than 65,536 bytes, or a part of it is too long
-abbrev pub IsTooLong : Message → Type 0
-IsTooLong (Ice message) = IsLongIce Lsb message
-IsTooLong (Xsmp message) = IsLongXsmp Lsb message
+spelled message = spelled_under manager_opcode message
 
 -- what is said, if anything, has a spelling that is not too long
 abbrev pub CanBeSaid : Option Message → Type 0

@@ -1,5 +1,5 @@
 use crate::acts::Act;
-use crate::messages::Message;
+use protocol_messages::Message;
 use sm_world::{Conn, NoMemory};
 use std::alloc::Global;
 use std::marker::Model;

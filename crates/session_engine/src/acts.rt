@@ -1,5 +1,5 @@
-use crate::messages::Message;
 use checkpoint_records::Book;
+use protocol_messages::Message;
 use session_model::Reason;
 use sm_world::{Command, Conn, Octets};
 

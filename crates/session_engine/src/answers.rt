@@ -8,13 +8,13 @@ ghost use Rattle.ice_setup.specs.Setup.{HasFittingBody, CanBeSaid as MovesWithin
 ghost use Rattle.session_engine.specs.Answers.{named_in, staying, closing, going, speaks_xsmp, outcome_of, message_outcome, refused, refused_xsmp, first_outcome, read_outcome, xsmp_outcome, later_outcome, frame_outcome, is_opcode as is_opcode_of, is_ordered, error_about as error_about_of, oversize_answer, said_in, IsSpelled};
 ghost use Rattle.session_engine.specs.Messages.{CanBeSaid};
 
-use crate::messages::Message;
 use ice_framing::{Frame, Splitter};
 use ice_messages::{IceMessage, decode_ice};
 use ice_setup::{
     AnySetup, AwaitOrder, Moved, Offending, error_of, opcode_values, refusal, wrong_byte_values,
 };
 use ice_values::{DecodeRefusal, Endian, ErrorBody, ErrorClass, Severity, read_card32};
+use protocol_messages::Message;
 use sm_world::{NoMemory, Octets};
 use std::alloc::Global;
 use xsmp_messages::{XsmpMessage, decode_xsmp};

@@ -1,4 +1,5 @@
 ghost use Rattle.std.specs.Prelude.{◌≡◌, IfOk};
+ghost use Rattle.checkpoint_slots.specs.Layout.{store_size};
 ghost use Rattle.std.specs.List.{AllByRecursion};
 ghost use Rattle.sm_world.specs.declared.events.Event.TheVariants.{Joined, Piece, Gone, Operator, Tick};
 ghost use Rattle.sm_world.specs.Outside.{Added};
@@ -69,7 +70,7 @@ fn carry_out<W: Disk + Links + Spawner + Console>(
     store: Store,
     acts: &[Act],
 ) -> Result<(Store, Turn), Halt>
-    requires size { (W.outside world.old).size ≡ 16777280 }
+    requires size { (W.outside world.old).size ≡ store_size }
     requires can { AllByRecursion CanBeDone acts.now }
     ensures done { Added (W.outside world.old).told (W.outside world.new).told (Performs store acts.now (stored result)) }
     ensures turn { IfOk result (λ done. is_end done.1 ≡ has_finish acts.now) }
@@ -91,7 +92,7 @@ fn take_piece<W: Disk + Links + Spawner + Console>(
     conn: Conn,
     bytes: &[u8],
 ) -> Result<(Store, Turn), Halt>
-    requires size { (W.outside world.old).size ≡ 16777280 }
+    requires size { (W.outside world.old).size ≡ store_size }
     requires shown { IsShown all_cut engine.old }
     ensures carried { (m : Machine) → Shows all_cut engine.old m → Carried (W.outside world.old).told (W.outside world.new).told store engine.new (step m (Piece conn bytes.now)) (stored result) }
     ensures turn { (m : Machine) → Shows all_cut engine.old m → IfOk result (λ done. is_end done.1 ≡ has_finish (acts_of (step m (Piece conn bytes.now)))) }
@@ -128,7 +129,7 @@ fn take_join<W: Disk + Links + Spawner + Console>(
     store: Store,
     conn: Conn,
 ) -> Result<(Store, Turn), Halt>
-    requires size { (W.outside world.old).size ≡ 16777280 }
+    requires size { (W.outside world.old).size ≡ store_size }
     requires shown { IsShown all_cut engine.old }
     ensures carried { (m : Machine) → Shows all_cut engine.old m → Carried (W.outside world.old).told (W.outside world.new).told store engine.new (step m (Joined conn)) (stored result) }
     ensures turn { (m : Machine) → Shows all_cut engine.old m → IfOk result (λ done. is_end done.1 ≡ has_finish (acts_of (step m (Joined conn)))) }
@@ -148,7 +149,7 @@ fn take_end<W: Disk + Links + Spawner + Console>(
     store: Store,
     conn: Conn,
 ) -> Result<(Store, Turn), Halt>
-    requires size { (W.outside world.old).size ≡ 16777280 }
+    requires size { (W.outside world.old).size ≡ store_size }
     requires shown { IsShown all_cut engine.old }
     ensures carried { (m : Machine) → Shows all_cut engine.old m → Carried (W.outside world.old).told (W.outside world.new).told store engine.new (step m (Gone conn)) (stored result) }
     ensures turn { (m : Machine) → Shows all_cut engine.old m → IfOk result (λ done. is_end done.1 ≡ has_finish (acts_of (step m (Gone conn)))) }
@@ -167,7 +168,7 @@ fn hear_order<W: Disk + Links + Spawner + Console>(
     store: Store,
     order: Order,
 ) -> Result<(Store, Turn), Halt>
-    requires size { (W.outside world.old).size ≡ 16777280 }
+    requires size { (W.outside world.old).size ≡ store_size }
     requires shown { IsShown all_cut engine.old }
     ensures carried { (m : Machine) → Shows all_cut engine.old m → Carried (W.outside world.old).told (W.outside world.new).told store engine.new (step m (Operator order)) (stored result) }
     ensures turn { (m : Machine) → Shows all_cut engine.old m → IfOk result (λ done. is_end done.1 ≡ has_finish (acts_of (step m (Operator order)))) }
@@ -187,7 +188,7 @@ fn take_order<W: Disk + Links + Spawner + Console>(
     store: Store,
     order: &Order,
 ) -> Result<(Store, Turn), Halt>
-    requires size { (W.outside world.old).size ≡ 16777280 }
+    requires size { (W.outside world.old).size ≡ store_size }
     requires shown { IsShown all_cut engine.old }
     ensures carried { (m : Machine) → Shows all_cut engine.old m → Carried (W.outside world.old).told (W.outside world.new).told store engine.new (step m (Operator order.now)) (stored result) }
     ensures turn { (m : Machine) → Shows all_cut engine.old m → IfOk result (λ done. is_end done.1 ≡ has_finish (acts_of (step m (Operator order.now)))) }
@@ -207,7 +208,7 @@ fn take_tick<W: Disk + Links + Spawner + Console>(
     store: Store,
     milliseconds: u64,
 ) -> Result<(Store, Turn), Halt>
-    requires size { (W.outside world.old).size ≡ 16777280 }
+    requires size { (W.outside world.old).size ≡ store_size }
     requires shown { IsShown all_cut engine.old }
     ensures carried { (m : Machine) → Shows all_cut engine.old m → Carried (W.outside world.old).told (W.outside world.new).told store engine.new (step m (Tick milliseconds)) (stored result) }
     ensures turn { (m : Machine) → Shows all_cut engine.old m → IfOk result (λ done. is_end done.1 ≡ has_finish (acts_of (step m (Tick milliseconds)))) }
@@ -228,7 +229,7 @@ pub fn take_event<W: Disk + Links + Spawner + Console>(
     store: Store,
     event: &Event,
 ) -> Result<(Store, Turn), Halt>
-    requires size { (W.outside world.old).size ≡ 16777280 }
+    requires size { (W.outside world.old).size ≡ store_size }
     requires shown { IsShown all_cut engine.old }
     ensures carried { (m : Machine) → Shows all_cut engine.old m → Carried (W.outside world.old).told (W.outside world.new).told store engine.new (step m event.now) (stored result) }
     ensures turn { (m : Machine) → Shows all_cut engine.old m → IfOk result (λ done. is_end done.1 ≡ has_finish (acts_of (step m event.now))) }

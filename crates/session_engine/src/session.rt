@@ -1,4 +1,5 @@
 ghost use Rattle.std.specs.Prelude.{◌≡◌, ◌≢◌, ◌<◌, [], ◌∷◌, ◌++◌, ℕ, List, Option, Ok, Err, IfOk, IfErr};
+ghost use Rattle.checkpoint_slots.specs.Layout.{store_size};
 ghost use Rattle.sm_world.specs.Effects.{heard};
 ghost use Rattle.sm_world.specs.Outside.{Added, NotFallen};
 ghost use Rattle.sm_world.specs.declared.effects.Effect.{Effect};
@@ -57,7 +58,7 @@ impl Session {
         ensures coming { (W.outside world.new).coming ≡ (W.outside world.old).coming }
         ensures input { (W.outside world.new).input ≡ (W.outside world.old).input }
         ensures first { (W.outside world.new).first ≡ (W.outside world.old).first }
-        ensures size { IfOk result (λ session. (W.outside world.new).size ≡ 16777280) }
+        ensures size { IfOk result (λ session. (W.outside world.new).size ≡ store_size) }
         // So it can be stepped on.
         ensures shown { IfOk result (λ session. IsShown all_cut session.engine) }
         ensures counts { NotFallen (W.outside world.old).faults (W.outside world.new).faults }
@@ -83,7 +84,7 @@ impl Session {
         world: &mut W,
         event: Event,
     ) -> Result<Stepped, ServeFault>
-        requires size { (W.outside world.old).size ≡ 16777280 }
+        requires size { (W.outside world.old).size ≡ store_size }
         requires shown { IsShown all_cut self.engine }
         ensures steps { (config : Config) (opening : AnyBook) (current : Option Current) (effects : List Effect) → StandsFor config opening current self effects → Added (W.outside world.old).told (W.outside world.new).told (λ added. (heard added ≡ []) × StepsTo config opening current result (effects ++ Heard event ∷ added)) }
         ensures coming { (W.outside world.new).coming ≡ (W.outside world.old).coming }
@@ -136,7 +137,7 @@ fn open<W: Disk + Links + Spawner + Console>(
     config: Config,
     book: Book,
 ) -> Result<Session, Halt>
-    requires size { (W.outside world.old).size ≡ 16777280 }
+    requires size { (W.outside world.old).size ≡ store_size }
     requires rules { KeepsRules book }
     requires below { book.epoch < 4294967295 }
     ensures done { Added (W.outside world.old).told (W.outside world.new).told (Performs store (opening_acts book) (kept result)) }

@@ -1,22 +1,22 @@
-ghost use Rattle.std.specs.Prelude.{◌≡◌, [], ◌∷◌, ◌++◌, IfErr, IfOk, OnOk, IsErrOf};
+ghost use Rattle.std.specs.Prelude.{◌≡◌, [], ◌∷◌, ◌++◌, IfErr, IfOk, OnOk};
+ghost use Rattle.checkpoint_slots.specs.Layout.{store_size};
 ghost use Rattle.sm_world.specs.Events.{HasPieceSize};
 ghost use Rattle.sm_world.specs.Outside.{adds, of_ok, TakesNext};
 ghost use Rattle.sm_world.specs.declared.effects.Effect.TheVariants.{Heard};
 ghost use Rattle.session_engine.specs.Causes.{IsOfHearing, KeepsCounts};
-ghost use Rattle.session_engine.specs.Messages.{spelled, IsTooLong};
+ghost use Rattle.session_engine.specs.Messages.{spelled};
+ghost use Rattle.protocol_messages.specs.Messages.{IsTooLong};
 ghost use Rattle.session_engine.specs.Starting.{handed_on};
 
 use crate::acts::Act;
 use crate::fault::{Halt, commit_halt, console_halt, link_halt};
-use crate::messages::Message;
 use crate::store::Store;
 use checkpoint_records::Book;
-use ice_messages::encode_ice;
 use ice_setup::MANAGER_OPCODE;
-use ice_values::{EncodeRefusal, Endian};
+use ice_values::EncodeRefusal;
+use protocol_messages::{Message, encode};
 use sm_world::{Command, Conn, Console, Disk, Event, Links, NoMemory, Octets, Spawner};
 use std::alloc::Global;
-use xsmp_messages::encode_xsmp;
 
 /// The next event.
 pub fn hear<W: Links>(world: &mut W) -> Result<Event, Halt>
@@ -30,17 +30,6 @@ pub fn hear<W: Links>(world: &mut W) -> Result<Event, Halt>
     ensures counts { KeepsCounts (W.outside world.old).faults (W.outside world.new).faults result }
 {
     world.next().map_err(link_halt)
-}
-
-/// Appends the bytes of a message.
-fn spell(message: &Message, bytes: &mut Octets) -> Result<(), EncodeRefusal>
-    ensures ok { OnOk result (bytes.new ≡ bytes.old ++ spelled message.now) }
-    ensures too_long { IsErrOf result EncodeRefusal.TooLong → IsTooLong message.now }
-{
-    match message {
-        Message::Ice(message) => encode_ice(Endian::Lsb, message, bytes),
-        Message::Xsmp(message) => encode_xsmp(Endian::Lsb, MANAGER_OPCODE, message, bytes),
-    }
 }
 
 /// Writes a line in place of the bytes.
@@ -78,7 +67,8 @@ impl Shell {
     ghost use Rattle.checkpoint_records.specs.Rules.{KeepsRules};
     ghost use Rattle.session_engine.specs.Acts.{CanBeDone};
     ghost use Rattle.session_engine.specs.Causes.{HearsNone};
-    ghost use Rattle.session_engine.specs.Messages.{spelled, IsTooLong};
+    ghost use Rattle.session_engine.specs.Messages.{spelled};
+    ghost use Rattle.protocol_messages.specs.Messages.{IsTooLong};
     ghost use Rattle.session_engine.specs.Saved.{Performs};
     ghost use Rattle.session_engine.specs.Starting.{Launches};
     ghost use Rattle.session_engine.specs.Stops.{IsRefused};
@@ -100,7 +90,7 @@ impl Shell {
         ensures alone { HearsNone (W.outside world.old) (W.outside world.new) result }
     {
         self.bytes.truncate(0);
-        match spell(message, &mut self.bytes) {
+        match encode(MANAGER_OPCODE, message, &mut self.bytes) {
             Ok(()) => {}
             Err(EncodeRefusal::NoMemory) => return Err(Halt::NoMemory),
             Err(EncodeRefusal::TooLong) => unreachable!(),
@@ -142,7 +132,7 @@ impl Shell {
 
     /// Writes a checkpoint, which stands in the store once a gate is opened.
     fn commit<W: Disk>(&mut self, world: &mut W, store: Store, book: &Book) -> Result<Store, Halt>
-        requires size { (W.outside world.old).size ≡ 16777280 }
+        requires size { (W.outside world.old).size ≡ store_size }
         requires rules { KeepsRules book.now }
         ensures done { Added (W.outside world.old).told (W.outside world.new).told (Performs store (Commits book.now ∷ []) result) }
         ensures alone { HearsNone (W.outside world.old) (W.outside world.new) result }
@@ -160,7 +150,7 @@ impl Shell {
         store: Store,
         act: &Act,
     ) -> Result<Store, Halt>
-        requires size { (W.outside world.old).size ≡ 16777280 }
+        requires size { (W.outside world.old).size ≡ store_size }
         requires can { CanBeDone act.now }
         ensures done { Added (W.outside world.old).told (W.outside world.new).told (Performs store (act.now ∷ []) result) }
         ensures alone { HearsNone (W.outside world.old) (W.outside world.new) result }
@@ -182,7 +172,7 @@ impl Shell {
         store: Store,
         acts: &[Act],
     ) -> Result<Store, Halt>
-        requires size { (W.outside world.old).size ≡ 16777280 }
+        requires size { (W.outside world.old).size ≡ store_size }
         requires can { AllByRecursion CanBeDone acts.now }
         ensures done { Added (W.outside world.old).told (W.outside world.new).told (Performs store acts.now result) }
         ensures alone { HearsNone (W.outside world.old) (W.outside world.new) result }

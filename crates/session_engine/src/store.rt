@@ -1,4 +1,5 @@
 ghost use Rattle.std.specs.Prelude.{◌≡◌, ℕ, List, IfOk, IfErr};
+ghost use Rattle.checkpoint_slots.specs.Layout.{store_size};
 ghost use Rattle.sm_world.specs.Disk.{KeepsToldSize, UsesDisk};
 ghost use Rattle.sm_world.specs.Outside.{Added};
 ghost use Rattle.checkpoint_records.specs.Rules.{KeepsRules};
@@ -43,7 +44,7 @@ fn write<D: Disk>(
     delta: &Delta,
     book: &Book,
 ) -> Result<Journal, StoreFault>
-    requires size { (D.outside disk.old).size ≡ 16777280 }
+    requires size { (D.outside disk.old).size ≡ store_size }
     requires rules { KeepsRules book.now }
     ensures effects { (old : AnyBook) → Makes old delta.now book.now → Added (D.outside disk.old).told (D.outside disk.new).told (Writes journal old book.now result) }
     ensures size { (D.outside disk.new).size ≡ (D.outside disk.old).size }
@@ -68,7 +69,7 @@ impl Store {
     /// The store that the disk's file stands for, and its book.
     pub fn recover_from<D: Disk>(alloc: Global, disk: &mut D) -> Result<(Store, Book), StoreFault>
         ensures told { (D.outside disk.new).told ≡ (D.outside disk.old).told }
-        ensures size { IfOk result (λ recovered. (D.outside disk.new).size ≡ 16777280) }
+        ensures size { IfOk result (λ recovered. (D.outside disk.new).size ≡ store_size) }
         ensures kept { KeepsToldSize (D.outside disk.old) (D.outside disk.new) }
         ensures recovers { (file : List ℕ) → IsSettled (D.outside disk.old) file → IfOk result (λ recovered. SteadyFile recovered.0.journal recovered.1 file) }
         ensures same { IfOk result (λ recovered. recovered.0.book ≡ recovered.1) }
@@ -100,7 +101,7 @@ impl Store {
         disk: &mut D,
         book: &Book,
     ) -> Result<Store, StoreFault>
-        requires size { (D.outside disk.old).size ≡ 16777280 }
+        requires size { (D.outside disk.old).size ≡ store_size }
         requires rules { KeepsRules book.now }
         ensures effects { Added (D.outside disk.old).told (D.outside disk.new).told (Writes self.journal self.book book.now (journal_of result)) }
         ensures book { IfOk result (λ store. store.book ≡ book.now) }

@@ -17,8 +17,8 @@ use Rattle.session_model.specs.Tables.{first_table}
 use Rattle.session_engine.specs.Machine.{Does as DoesAct, Entry, Machine, Took as TookPart, step}
 use Rattle.ice_framing.specs.Parts.{Part, TooMuch, Whole}
 use Rattle.session_engine.specs.declared.acts.Act.TheVariants.{Commit, Say, Shut, Start}
-use Rattle.session_engine.specs.declared.messages.Message.{Message}
-use Rattle.session_engine.specs.declared.messages.Message.TheVariants.{Ice, Xsmp}
+use Rattle.protocol_messages.specs.declared.message.Message.{Message}
+use Rattle.protocol_messages.specs.declared.message.Message.TheVariants.{Ice, Xsmp}
 use Rattle.session_engine.proofs.Connections.{other, same}
 use Rattle.session_notes.specs.Notes.{Gone, Heard, Note}
 use Rattle.session_notes.specs.Keeping.{book_in, id_in, table_in}

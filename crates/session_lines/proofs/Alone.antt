@@ -28,8 +28,8 @@ use Rattle.session_engine.specs.declared.acts.Act.TheVariants.{Say, Shut}
 use Rattle.session_engine.specs.declared.answers.Answer.{Answer}
 use Rattle.session_engine.specs.declared.answers.Answer.TheVariants.{Stays, Begins, Closes, Speaks, Asks}
 use Rattle.session_engine.specs.declared.answers.Outcome.{Outcome}
-use Rattle.session_engine.specs.declared.messages.Message.{Message}
-use Rattle.session_engine.specs.declared.messages.Message.TheVariants.{Ice}
+use Rattle.protocol_messages.specs.declared.message.Message.{Message}
+use Rattle.protocol_messages.specs.declared.message.Message.TheVariants.{Ice}
 use Rattle.session_engine.proofs.Connections.{other, connection_of-append, connection_of-changed, connection_of-without}
 use Rattle.session_engine.proofs.Following.{since-is}
 use Rattle.session_lines.specs.Others.{LeavesAlone, Spares, conn_of, is_shut}

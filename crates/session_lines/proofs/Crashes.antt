@@ -21,8 +21,8 @@ use Rattle.session_engine.specs.Saved.{IsSaved}
 use Rattle.ice_framing.specs.Parts.{Part, TooMuch, Whole}
 use Rattle.session_engine.specs.declared.acts.Act.{Act}
 use Rattle.session_engine.specs.declared.acts.Act.TheVariants.{Commit, Finish, Print, Say, Shut, Start}
-use Rattle.session_engine.specs.declared.messages.Message.{Message}
-use Rattle.session_engine.specs.declared.messages.Message.TheVariants.{Ice, Xsmp}
+use Rattle.protocol_messages.specs.declared.message.Message.{Message}
+use Rattle.protocol_messages.specs.declared.message.Message.TheVariants.{Ice, Xsmp}
 use Rattle.session_notes.specs.Keeping.{IsOfRun, book_in, is_discarded, new_ids}
 use Rattle.session_notes.specs.Kept.{kept_in}
 use Rattle.session_notes.specs.Notes.{Gone, Note}

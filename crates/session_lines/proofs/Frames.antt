@@ -28,8 +28,8 @@ use Rattle.session_engine.specs.Answers.{named_in, stated_order, going, speaks_x
 use Rattle.session_engine.specs.declared.answers.Answer.{Answer}
 use Rattle.session_engine.specs.declared.answers.Answer.TheVariants.{Stays, Begins, Closes, Speaks, Asks}
 use Rattle.session_engine.specs.declared.answers.Outcome.{Outcome}
-use Rattle.session_engine.specs.declared.messages.Message.{Message}
-use Rattle.session_engine.specs.declared.messages.Message.TheVariants.{Ice}
+use Rattle.protocol_messages.specs.declared.message.Message.{Message}
+use Rattle.protocol_messages.specs.declared.message.Message.TheVariants.{Ice}
 use Rattle.session_notes.specs.Notes.{Heard, Note}
 use Rattle.session_notes.proofs.Tests.{or-first, or-second}
 use Rattle.session_lines.specs.Lines.{given_in, heard_as, heard_in, is_error}

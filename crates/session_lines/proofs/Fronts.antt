@@ -10,7 +10,7 @@ use Rattle.xsmp_messages.specs.declared.message.XsmpMessage.TheVariants.{Interac
 use Rattle.session_engine.specs.Acts.{has_finish}
 use Rattle.session_engine.specs.Machine.{Machine, acts_of, opening_acts, start, step}
 use Rattle.session_engine.specs.declared.acts.Act.TheVariants.{Commit, Say}
-use Rattle.session_engine.specs.declared.messages.Message.TheVariants.{Xsmp}
+use Rattle.protocol_messages.specs.declared.message.Message.TheVariants.{Xsmp}
 use Rattle.ice_values.specs.declared.property.Property.{Property}
 use Rattle.session_model.specs.Books.{is_eligible}
 use Rattle.session_notes.specs.Keeping.{book_in, id_in, snapshot_in}

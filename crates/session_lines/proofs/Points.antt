@@ -15,8 +15,8 @@ use Rattle.xsmp_messages.specs.declared.message.XsmpMessage.{XsmpMessage}
 use Rattle.xsmp_messages.specs.declared.message.XsmpMessage.TheVariants.{Error as XsmpError, InteractDone, SetProperties}
 use Rattle.ice_framing.specs.Parts.{Part, TooMuch, Whole}
 use Rattle.session_engine.specs.declared.acts.Act.TheVariants.{Commit, Finish, Print, Say, Shut}
-use Rattle.session_engine.specs.declared.messages.Message.{Message}
-use Rattle.session_engine.specs.declared.messages.Message.TheVariants.{Ice, Xsmp}
+use Rattle.protocol_messages.specs.declared.message.Message.{Message}
+use Rattle.protocol_messages.specs.declared.message.Message.TheVariants.{Ice, Xsmp}
 use Rattle.session_model.specs.declared.events.Act.TheVariants.{Commit as Commits, Say as SaysXsmp}
 use Rattle.session_notes.specs.Notes.{Did, Gone, Heard, Note, Ordered}
 use Rattle.session_notes.specs.Keeping.{book_in, is_discarded, sets_discard}

@@ -29,12 +29,13 @@ use Rattle.session_model.specs.Reading.{Clients, Reading, reading, wanted_in}
 use Rattle.session_model.specs.Books.{next_book, standing, issue, discarded}
 use Rattle.session_model.specs.Replies.{or_bad_state, respawn_moves, entry_respawn, id_respawn, respawned, has_no_room, may_rejoin, register, called_off, want_cancel, answered, unless_dying, said, has_no_place, reply}
 use Rattle.session_model.specs.Rules.{last_command, ended, completed, agreement, wanting_two, over_rule, agreed_rule, running_rule, save_yourself, members_for, begin_first, is_free, idle_rule, round_rule, token_rule, rule, go_on, settle, settled, taken}
+use Rattle.session_model.proofs.Driven.{taken-keeps}
 use Rattle.session_model.proofs.Level.{onto-append}
 use Rattle.session_model.proofs.Lists.{in-without}
 use Rattle.session_model.proofs.Pending.{all-more}
 use Rattle.session_model.proofs.Ruled.{others, rows_now, round_now}
 use Rattle.session_model.proofs.Sound.{or-true}
-use Rattle.session_engine.specs.declared.messages.Message.TheVariants.{Xsmp}
+use Rattle.protocol_messages.specs.declared.message.Message.TheVariants.{Xsmp}
 use Rattle.session_lines.specs.Others.{is_of_round}
 
 -- what a move may be to a connection, in the history before it
@@ -266,18 +267,6 @@ goes-more d h g moves s goes = record {
   is = ap (λ (x : History). onto x moves) goes.is ∙ sym (onto-append h goes.rest moves);
 }
 
-goes-on : (d n : ℕ) (h g : History) (moves : List Move) → AllSparing d moves g → Goes d h g → ((x : History) → Goes d h x → Goes d h (settle n x)) → Goes d h (go_on (λ x. settle n x) g moves)
-goes-on d n h g [] s goes further = goes
-goes-on d n h g (m ∷ moves) s goes further = further (onto g (m ∷ moves)) (goes-more d h g (m ∷ moves) s goes)
-
-goes-settle : (d n : ℕ) (h g : History) → Goes d h g → Goes d h (settle n g)
-goes-settle d zero h g goes = goes
-goes-settle d (suc n) h g goes = goes-on d n h g (rule (reading g)) (sparing-rule d g) goes (λ x q. goes-settle d n h x q)
-
-goes-finish : (d : ℕ) (b : Bool) (h g : History) → Goes d h g → Goes d h (cond b (Finished ▷ g) g)
-goes-finish d true h g goes = goes-more d h g (Finished ∷ []) (tt, tt) goes
-goes-finish d false h g goes = goes
-
 -- all that is done about an event
 pub record Spared (d : ℕ) (event : SessionEvent) (h : History) : Type 0 where
   pub moves : List Move
@@ -288,7 +277,6 @@ pub all-spared : (d : ℕ) (event : SessionEvent) (h : History) → IsApart d ev
 all-spared d event h a =
     let heard : History = Outside event ▷ h in
     let replied : History = onto heard (reply (reading h) event) in
-    let rested : History = settled replied in
     let begins : Goes d heard replied = goes-more d heard heard (reply (reading h) event) (sparing-reply d (reading h) event heard a) (record { rest = []; spared = tt; is = refl }) in
-    let goes : Goes d heard (taken event h) = goes-finish d (of.is_ending rested && is_nil (of.live rested)) heard rested (goes-settle d (4 * length (of.waits replied) + 4) heard replied begins) in
+    let goes : Goes d heard (taken event h) = taken-keeps (Goes d heard) (λ g q. goes-more d heard g (rule (reading g)) (sparing-rule d g) q) (λ g q. goes-more d heard g (Finished ∷ []) (tt, tt) q) event h begins in
     record { moves = goes.rest; spared = goes.spared; is = goes.is }

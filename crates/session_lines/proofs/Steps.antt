@@ -27,8 +27,8 @@ use Rattle.session_engine.specs.declared.acts.Act.TheVariants.{Say, Shut}
 use Rattle.session_engine.specs.declared.answers.Answer.{Answer}
 use Rattle.session_engine.specs.declared.answers.Answer.TheVariants.{Stays, Begins, Closes, Speaks, Asks}
 use Rattle.session_engine.specs.declared.answers.Outcome.{Outcome}
-use Rattle.session_engine.specs.declared.messages.Message.{Message}
-use Rattle.session_engine.specs.declared.messages.Message.TheVariants.{Ice, Xsmp}
+use Rattle.protocol_messages.specs.declared.message.Message.{Message}
+use Rattle.protocol_messages.specs.declared.message.Message.TheVariants.{Ice, Xsmp}
 use Rattle.session_engine.proofs.Connections.{same, other, connection_of-append}
 use Rattle.session_notes.specs.Notes.{Gone, Heard, Note, Ordered as IsOrdered}
 use Rattle.session_notes.proofs.Tests.{own}

@@ -17,7 +17,7 @@ use Rattle.session_model.specs.Rules.{opened, run, taken}
 use Rattle.session_engine.specs.Acts.{acts_for_all}
 use Rattle.session_engine.specs.Machine.{Connection, acts_since, changed, connection_of, connections_after, connections_through, opening_acts, unset_on, without}
 use Rattle.session_engine.specs.declared.acts.Act.TheVariants.{Commit, Finish, Print, Say, Shut, Start}
-use Rattle.session_engine.specs.declared.messages.Message.TheVariants.{Xsmp}
+use Rattle.protocol_messages.specs.declared.message.Message.TheVariants.{Xsmp}
 use Rattle.session_engine.proofs.Connections.{same, other, connection_of-changed, connection_of-without}
 use Rattle.session_engine.proofs.Following.{since-is}
 use Rattle.session_engine.proofs.Opening.{acts-onto}

@@ -9,7 +9,7 @@ use Rattle.ice_messages.specs.declared.message.IceMessage.TheVariants.{Error as 
 use Rattle.xsmp_messages.specs.declared.message.XsmpMessage.TheVariants.{Error as XsmpError, Interact, InteractRequest}
 use Rattle.ice_framing.specs.Parts.{Whole}
 use Rattle.session_engine.specs.declared.acts.Act.TheVariants.{Say, Shut, Start}
-use Rattle.session_engine.specs.declared.messages.Message.TheVariants.{Ice, Xsmp}
+use Rattle.protocol_messages.specs.declared.message.Message.TheVariants.{Ice, Xsmp}
 use Rattle.session_model.specs.declared.events.Reason.TheVariants.{Discard, Restart}
 use Rattle.session_notes.specs.Keeping.{is_discarded}
 use Rattle.session_notes.specs.Notes.{Given, Gone, Heard}

@@ -17,7 +17,7 @@ use Rattle.session_model.specs.Books.{is_eligible}
 use Rattle.session_engine.specs.Acts.{has_finish}
 use Rattle.session_engine.specs.Machine.{script_of}
 use Rattle.session_engine.specs.declared.acts.Act.TheVariants.{Commit, Say}
-use Rattle.session_engine.specs.declared.messages.Message.TheVariants.{Xsmp}
+use Rattle.protocol_messages.specs.declared.message.Message.TheVariants.{Xsmp}
 use Rattle.session_notes.specs.Keeping.{IsOfRun, book_in, id_in, is_discarded, is_newcomer, is_started, new_ids, snapshot_in}
 use Rattle.session_notes.specs.Kept.{Stands, kept_in}
 use Rattle.session_model.specs.Tables.{is_recorded}

@@ -15,8 +15,8 @@ use Rattle.session_engine.specs.Machine.{Entry, Does as DoesAct, Machine, Took a
 use Rattle.ice_framing.specs.Parts.{Part, TooMuch, Whole}
 use Rattle.session_engine.specs.declared.acts.Act.{Act}
 use Rattle.session_engine.specs.declared.acts.Act.TheVariants.{Commit, Say, Shut, Start}
-use Rattle.session_engine.specs.declared.messages.Message.{Message}
-use Rattle.session_engine.specs.declared.messages.Message.TheVariants.{Ice, Xsmp}
+use Rattle.protocol_messages.specs.declared.message.Message.{Message}
+use Rattle.protocol_messages.specs.declared.message.Message.TheVariants.{Ice, Xsmp}
 use Rattle.session_notes.specs.Notes.{Given, Gone, Heard, Note, Ordered, Started, Wrote}
 
 -- What is seen

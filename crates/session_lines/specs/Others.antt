@@ -9,8 +9,8 @@ use Rattle.xsmp_messages.specs.declared.message.XsmpMessage.TheVariants.{Die, In
 use Rattle.session_model.specs.Readings as of
 use Rattle.session_engine.specs.Machine.{Does, Entry, Machine, Step, Took, connection_of, step}
 use Rattle.session_engine.specs.declared.acts.Act.TheVariants.{Say, Shut}
-use Rattle.session_engine.specs.declared.messages.Message.{Message}
-use Rattle.session_engine.specs.declared.messages.Message.TheVariants.{Xsmp}
+use Rattle.protocol_messages.specs.declared.message.Message.{Message}
+use Rattle.protocol_messages.specs.declared.message.Message.TheVariants.{Xsmp}
 use Rattle.session_notes.specs.Keeping.{id_in, table_in}
 use Rattle.session_lines.specs.Lines.{Comes, Seen, notes, seen_of}
 

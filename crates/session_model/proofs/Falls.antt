@@ -13,7 +13,7 @@ use Rattle.session_model.specs.declared.phase.Phase.{Phase}
 use Rattle.session_model.specs.declared.phase.Phase.TheVariants.{Unregistered, Idle, Done}
 use Rattle.session_model.specs.declared.waits.Wait.{Wait}
 use Rattle.session_model.specs.Phases.{is_registered, is_asked, is_interacting, is_shutdown, dying_phase, begun_phase, completed_phase}
-use Rattle.session_model.specs.Moves.{Move, Cause, Closed, Began, Over, Tried, Committed, Finished, History, ◌▷◌, onto, gave_each, tried_each, Discard, End}
+use Rattle.session_model.specs.Moves.{Move, Closed, Began, Over, Tried, Committed, Finished, History, ◌▷◌, onto, gave_each, tried_each, End}
 use Rattle.session_model.specs.Waits.{is_only, disowned, waits_left}
 use Rattle.session_model.specs.Readings as of
 use Rattle.session_model.specs.Reading.{reading}

@@ -1,14 +1,12 @@
 -- None of the session's own moves comes from outside: what they keep holds once an event is taken.
-use Rattle.std.proofs.Common.{ℕ, zero, suc, ◌+◌, ◌*◌, Bool, true, false, cond, ◌&&◌, List, [], ◌∷◌, length}
+use Rattle.std.proofs.Common.{List, [], ◌∷◌}
 use Rattle.std.specs.List.{AllByRecursion}
-use Rattle.round_agreement.specs.Agreement.{is_nil}
 use Rattle.session_model.specs.declared.events.SessionEvent.{SessionEvent}
 use Rattle.session_model.specs.Moves.{Blamed, Finished, History, Move, Opened, Outside, onto, ◌▷◌, Opening}
-use Rattle.session_model.specs.Readings as of
 use Rattle.session_model.specs.Reading.{reading}
 use Rattle.session_model.specs.Books.{opening_moves}
 use Rattle.session_model.specs.Replies.{reply}
-use Rattle.session_model.specs.Rules.{go_on, opened, rule, settle, settled, taken}
+use Rattle.session_model.specs.Rules.{opened, rule, taken}
 use Rattle.session_model.proofs.Driven.{taken-keeps}
 use Rattle.session_model.proofs.Own.{AllOwn, IsAnswer, IsOwn, own-opening, own-reply, own-rule}
 

@@ -1,7 +1,6 @@
 -- Between events the members of the running round are exactly those that it has asked to save.
-use Rattle.std.proofs.Common.{◌≡◌, refl, ℕ, Bool, true, false, cond, not, ◌&&◌, ◌||◌, List, [], ◌∷◌, ◌++◌, map, eqb, sym, ap, subst, ◌∙◌, arith}
+use Rattle.std.proofs.Common.{◌≡◌, refl, ℕ, Bool, true, false, cond, not, ◌&&◌, ◌||◌, List, [], ◌∷◌, ◌++◌, eqb, sym, ap, subst, ◌∙◌, arith}
 use Rattle.std.specs.Prelude.{Option, Some, None}
-use Rattle.sm_world.specs.declared.commands.Command.{Command}
 use Rattle.xsmp_messages.specs.declared.message.XsmpMessage.{XsmpMessage}
 use Rattle.xsmp_messages.specs.declared.message.XsmpMessage.TheVariants.{RegisterClientReply, SaveYourself, Interact, Die, ShutdownCancelled, SaveComplete}
 use Rattle.interact_queue.specs.Queue.{is_in, without}
@@ -11,7 +10,7 @@ use Rattle.session_model.specs.declared.phase.Phase.TheVariants.{Unregistered, I
 use Rattle.session_model.specs.declared.events.SessionEvent.{SessionEvent}
 use Rattle.session_model.specs.declared.events.SessionEvent.TheVariants.{Joined, Ready, Said, Left, Operator, Tick}
 use Rattle.session_model.specs.Phases.{is_member, may_interact, phase_said, phase_given, ready_phase, dying_phase, begun_phase, completed_phase, cancelled_phase}
-use Rattle.session_model.specs.Moves.{Move, Cause, Outside, Gave, Unset, Closed, Began, Over, Cancelled, Agreed, History, ◌▷◌, onto, gave_each, tried_each}
+use Rattle.session_model.specs.Moves.{Move, Outside, Gave, Unset, Closed, Began, Over, Cancelled, Agreed, History, ◌▷◌, onto, gave_each}
 use Rattle.session_model.specs.Readings as of
 use Rattle.session_model.proofs.MoveKinds.{IsWide}
 use Rattle.session_model.proofs.Lists.{in-without}

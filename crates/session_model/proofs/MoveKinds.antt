@@ -1,5 +1,5 @@
 -- Lists of moves of which each is of one kind: what rules and answers are made of is of a kind where each of its moves is.
-use Rattle.std.proofs.Common.{refl, Bool, true, false, cond, not, ◌≡◌, ◌&&◌, ◌||◌, List, [], ◌∷◌, ◌++◌, ℕ, map, filter}
+use Rattle.std.proofs.Common.{refl, Bool, true, false, cond, not, ◌≡◌, ◌||◌, List, [], ◌∷◌, ◌++◌, ℕ, map, filter}
 use Rattle.std.specs.Prelude.{Option, Some, None, is_some, codes, filter_map, flat_map}
 use Rattle.std.specs.List.{AllByRecursion}
 use Rattle.sm_world.specs.declared.commands.Command.{Command}
@@ -23,7 +23,7 @@ use Rattle.session_model.specs.Moves.{Move, Cause, Gave, Blamed, Closed, Began, 
 use Rattle.session_model.specs.Reading.{Reading, client_of, wanted_in}
 use Rattle.session_model.specs.Books.{book_forgetting, command_anyway, discarded, issue, next_book, opening_moves, raised}
 use Rattle.session_model.specs.Replies.{or_bad_state, respawn_moves, entry_respawn, id_respawn, respawned, depart, called_off, resigned, forgotten, forget_one, forget, ordered}
-use Rattle.session_model.specs.Rules.{last_command, ended, completed, agreement, wanting_two, over_rule, agreed_rule, running_rule, save_yourself, members_for, begin_first, is_free, idle_rule, round_rule, token_rule, rule}
+use Rattle.session_model.specs.Rules.{last_command, completed, agreement, wanting_two, over_rule, agreed_rule, running_rule, save_yourself, members_for, begin_first, is_free, idle_rule, round_rule, token_rule, rule}
 
 -- a message that a client is given by a rule
 abbrev pub is_ruled : XsmpMessage → Bool

@@ -1,36 +1,31 @@
 -- What the session does about something that came from outside: its own moves are no events, and an Error stands only at the front
 -- of an answer.
-use Rattle.std.proofs.Common.{arith, ◌≡◌, refl, sym, ap, ◌∙◌, ℕ, zero, suc, ◌+◌, ◌*◌, Bool, true, false, cond, not, ◌&&◌, ◌||◌, List, [], ◌∷◌, ◌++◌, map, filter, length}
+use Rattle.std.proofs.Common.{arith, ◌≡◌, refl, sym, ap, ◌∙◌, ℕ, ◌+◌, Bool, true, false, cond, not, ◌&&◌, List, [], ◌∷◌, ◌++◌, filter}
 use Rattle.std.specs.List.{AllByRecursion}
-use Rattle.std.specs.Prelude.{Option, Some, None, is_some, filter_map, codes, flat_map}
+use Rattle.std.specs.Prelude.{Option, Some, None}
 use Rattle.sm_world.specs.declared.commands.Command.{Command}
 use Rattle.sm_world.specs.declared.events.Order.{Order}
-use Rattle.sm_world.specs.declared.events.Order.TheVariants.{Checkpoint, Shutdown, Cancel, Status, DropConn, Forget}
+use Rattle.sm_world.specs.declared.events.Order.TheVariants.{Cancel, Forget}
 use Rattle.checkpoint_records.specs.declared.records.Book.{Book}
-use Rattle.checkpoint_records.specs.declared.records.Entry.{Entry}
 use Rattle.checkpoint_records.specs.Rules.{client_id}
-use Rattle.round_agreement.specs.Agreement.{Agreement, two_ready, agreed, deserted, conns_of, is_nil}
-use Rattle.interact_queue.specs.Queue.{is_in, next_holder}
-use Rattle.restart_plan.specs.Restarts.{opening_restarts, respawn}
+use Rattle.round_agreement.specs.Agreement.{Agreement}
 use Rattle.discard_ledger.specs.Discards.{issuable}
 use Rattle.xsmp_properties.specs.Tables.{set_all}
 use Rattle.xsmp_messages.specs.declared.message.XsmpMessage.{XsmpMessage}
-use Rattle.xsmp_messages.specs.declared.message.XsmpMessage.TheVariants.{Error, RegisterClient, RegisterClientReply, SaveYourselfRequest, InteractRequest, InteractDone, SaveYourselfDone, Die, ShutdownCancelled, ConnectionClosed, SetProperties, DeleteProperties, GetProperties, GetPropertiesReply, SaveYourselfPhase2Request, SaveYourselfPhase2, SaveComplete}
+use Rattle.xsmp_messages.specs.declared.message.XsmpMessage.TheVariants.{Error, RegisterClient, RegisterClientReply, SaveYourselfRequest, InteractDone, ConnectionClosed, SetProperties, GetProperties}
 use Rattle.session_model.specs.declared.phase.Phase.{Phase}
 use Rattle.session_model.specs.declared.phase.Phase.TheVariants.{Dying}
-use Rattle.session_model.specs.declared.waits.Wait.{Wait}
 use Rattle.session_model.specs.declared.events.SessionEvent.{SessionEvent}
 use Rattle.session_model.specs.declared.events.SessionEvent.TheVariants.{Joined, Ready, Said, Left, Operator, Tick}
-use Rattle.session_model.specs.Phases.{is_bound, is_unregistered, is_dying, is_owing, is_saving, is_first_saving, is_interacting, is_shutdown, may_interact}
-use Rattle.session_model.specs.Tables.{is_full, entry_of}
+use Rattle.session_model.specs.Phases.{is_owing, is_shutdown}
+use Rattle.session_model.specs.Tables.{is_full}
 use Rattle.session_model.specs.Errors.{no_room, bad_id, full_table, lone_shutdown}
 use Rattle.session_model.specs.declared.events.Arrival.{Arrival}
-use Rattle.session_model.specs.Moves.{Move, Cause, Outside, Gave, Blamed, Unset, Closed, Printed, Finished, Discard, End, Restart, History, ◌▷◌, onto, gave_each, tried_each}
-use Rattle.session_model.specs.Readings as of
-use Rattle.session_model.specs.Reading.{Clients, Reading, reading, wanted_in, client_of}
-use Rattle.session_model.specs.Books.{next_book, book_forgetting, standing, issue, discarded, command_anyway, opening_moves, raised}
-use Rattle.session_model.specs.Replies.{or_bad_state, respawn_moves, entry_respawn, id_respawn, respawned, depart, has_no_room, may_rejoin, register, called_off, want_cancel, has_place, placed, answered, unless_dying, said, resigned, forgotten, forget_one, ordered, has_no_place, reply, is_overdue, waited}
-use Rattle.session_model.specs.Rules.{last_command, ended, completed, agreement_with, wanting_two, over_rule, agreed_rule, running_rule, save_yourself, members_for, begin_first, is_free, idle_rule, round_rule, token_rule, rule, go_on, settle, settled, taken}
+use Rattle.session_model.specs.Moves.{Move, Outside, Gave, Blamed, Unset, Closed, Finished, History, ◌▷◌, onto}
+use Rattle.session_model.specs.Reading.{Reading, reading, wanted_in}
+use Rattle.session_model.specs.Books.{next_book, book_forgetting, standing, issue, opening_moves}
+use Rattle.session_model.specs.Replies.{or_bad_state, respawned, has_no_room, may_rejoin, register, called_off, want_cancel, has_place, placed, answered, unless_dying, said, ordered, has_no_place, reply, is_overdue, waited}
+use Rattle.session_model.specs.Rules.{rule, taken}
 use Rattle.session_model.proofs.Driven.{taken-keeps}
 use Rattle.session_model.proofs.MoveKinds.{IsRuled, IsWide, Suffices, every-append, every-departs, every-issue, every-off, every-opening, every-ordered, every-respawned, every-rule, is_ruled}
 use Rattle.session_model.proofs.Level.{onto-append}

@@ -1,38 +1,36 @@
 -- Rules and answers move as the kept tables and IDs ask.
-use Rattle.std.proofs.Common.{◌≡◌, refl, ℕ, ◌+◌, ◌<◌, ◌≤◌, Bool, true, false, cond, not, ◌&&◌, ◌||◌, List, [], ◌∷◌, ◌++◌, map, filter, sym, subst, arith}
-use Rattle.std.specs.Prelude.{Option, Some, None, is_some, is_none, find, filter_map, nat_le, codes, flat_map}
+use Rattle.std.proofs.Common.{◌≡◌, refl, ℕ, ◌+◌, ◌<◌, ◌≤◌, Bool, true, false, cond, not, ◌&&◌, ◌||◌, List, [], ◌∷◌, filter, sym, subst, arith}
+use Rattle.std.specs.Prelude.{Option, Some, None, is_some, is_none, find, filter_map, nat_le}
 use Rattle.std.specs.List.{AllByRecursion, cons_option}
 use Rattle.std.specs.Cmp.Lexicographic.{same_text}
 use Rattle.std.proofs.lemmas.Bool.Decides.{nat_tests}
 use Rattle.sm_world.specs.declared.commands.Command.{Command}
 use Rattle.sm_world.specs.declared.events.Order.{Order}
-use Rattle.sm_world.specs.declared.events.Order.TheVariants.{Checkpoint, Shutdown, Cancel, Status, DropConn, Forget}
+use Rattle.sm_world.specs.declared.events.Order.TheVariants.{Cancel, Forget}
 use Rattle.ice_values.specs.declared.property.Property.{Property}
 use Rattle.checkpoint_records.specs.declared.records.Book.{Book}
 use Rattle.checkpoint_records.specs.declared.records.Entry.{Entry}
 use Rattle.checkpoint_records.specs.Rules.{client_id, IsClientId, IsTable, IsEntry}
-use Rattle.round_agreement.specs.Agreement.{Agreement, two_ready, agreed, deserted, conns_of}
-use Rattle.interact_queue.specs.Queue.{is_in, next_holder}
-use Rattle.restart_plan.specs.Restarts.{respawn}
+use Rattle.round_agreement.specs.Agreement.{Agreement, conns_of}
+use Rattle.interact_queue.specs.Queue.{is_in}
 use Rattle.discard_ledger.specs.Discards.{issuable}
 use Rattle.xsmp_properties.specs.Tables.{set_all}
 use Rattle.xsmp_messages.specs.declared.message.XsmpMessage.{XsmpMessage}
-use Rattle.xsmp_messages.specs.declared.message.XsmpMessage.TheVariants.{Error, Interact, RegisterClient, RegisterClientReply, SaveYourself, SaveYourselfRequest, InteractRequest, InteractDone, SaveYourselfDone, Die, ShutdownCancelled, ConnectionClosed, SetProperties, DeleteProperties, GetProperties, GetPropertiesReply, SaveYourselfPhase2Request, SaveYourselfPhase2, SaveComplete}
+use Rattle.xsmp_messages.specs.declared.message.XsmpMessage.TheVariants.{Error, Interact, RegisterClient, RegisterClientReply, SaveYourself, SaveYourselfRequest, InteractDone, Die, ConnectionClosed, SetProperties, GetProperties, SaveYourselfPhase2, SaveComplete}
 use Rattle.session_model.specs.declared.phase.Phase.{Phase}
 use Rattle.session_model.specs.declared.phase.Phase.TheVariants.{Dying}
-use Rattle.session_model.specs.declared.waits.Wait.{Wait}
 use Rattle.session_model.specs.declared.events.SessionEvent.{SessionEvent}
 use Rattle.session_model.specs.declared.events.SessionEvent.TheVariants.{Joined, Ready, Said, Left, Operator, Tick}
-use Rattle.session_model.specs.Phases.{is_bound, is_unregistered, is_dying, is_owing, is_saving, is_first_saving, is_interacting, is_shutdown, may_interact}
-use Rattle.session_model.specs.Tables.{is_full, is_of, entry_of, is_recorded}
+use Rattle.session_model.specs.Phases.{is_owing, is_shutdown}
+use Rattle.session_model.specs.Tables.{is_full, is_of, is_recorded}
 use Rattle.session_model.specs.Errors.{no_room, bad_id, full_table, lone_shutdown}
 use Rattle.session_model.specs.declared.events.Arrival.{Arrival}
-use Rattle.session_model.specs.Moves.{Move, Cause, Gave, Blamed, Unset, Closed, Printed, Discard, End, History, gave_each, tried_each}
+use Rattle.session_model.specs.Moves.{Gave, Blamed, Unset, Closed, History}
 use Rattle.session_model.specs.Readings as of
 use Rattle.session_model.specs.Reading.{Reading, reading, wanted_in, client_of}
-use Rattle.session_model.specs.Books.{is_eligible, recorded, is_kept, snapshot, entry_saved, entry_for, next_entry, new_saved, new_entry, next_book, book_forgetting, standing, issue, discarded, command_anyway}
-use Rattle.session_model.specs.Replies.{refused, or_bad_state, respawn_moves, entry_respawn, id_respawn, respawned, depart, has_no_room, known_ids, may_rejoin, register, called_off, want_cancel, has_place, placed, answered, unless_dying, said, resigned, forgotten, forget_one, ordered, has_no_place, reply, is_overdue, waited}
-use Rattle.session_model.specs.Rules.{last_command, ended, completed, agreement_with, wanting_two, over_rule, agreed_rule, running_rule, save_yourself, members_for, begin_first, is_free, idle_rule, round_rule, token_rule, rule}
+use Rattle.session_model.specs.Books.{is_eligible, recorded, is_kept, snapshot, entry_saved, entry_for, next_entry, new_saved, new_entry, next_book, book_forgetting, standing, issue}
+use Rattle.session_model.specs.Replies.{has_no_room, known_ids, may_rejoin, register, called_off, want_cancel, has_place, placed, answered, unless_dying, said, has_no_place, reply, is_overdue}
+use Rattle.session_model.specs.Rules.{rule}
 use Rattle.session_model.proofs.Tidy.{either, IsSnapshot, HasId, Tidy, Proper, AllProper}
 use Rattle.session_model.proofs.MoveKinds.{IsRuled, IsWide, Suffices, every-cond, every-depart, every-departs, every-issue, every-off, every-or-bad, every-ordered, every-respawned, every-rule, is_ruled}
 use Rattle.session_model.proofs.Short.{error-state, error-id, error-room, error-full, error-lone}

@@ -1,32 +1,29 @@
 -- The answers keep what holds between events, and so does all that an event brings.
-use Rattle.std.proofs.Common.{◌≡◌, refl, ℕ, Bool, true, false, cond, not, ◌&&◌, ◌||◌, List, [], ◌∷◌, ◌+◌, ◌*◌, length, eqb, sym, ap, ◌∙◌, arith, filter}
-use Rattle.std.specs.Prelude.{Option, Some, None, is_some, codes, flat_map}
-use Rattle.sm_world.specs.declared.commands.Command.{Command}
+use Rattle.std.proofs.Common.{◌≡◌, refl, ℕ, Bool, true, false, cond, not, ◌&&◌, ◌||◌, List, [], ◌∷◌, ◌+◌, eqb, sym, ap, ◌∙◌, arith, filter}
+use Rattle.std.specs.Prelude.{Option, Some, None, codes}
 use Rattle.sm_world.specs.declared.events.Order.{Order}
-use Rattle.sm_world.specs.declared.events.Order.TheVariants.{Checkpoint, Shutdown, Cancel, Status, DropConn, Forget}
+use Rattle.sm_world.specs.declared.events.Order.TheVariants.{Cancel, Forget}
 use Rattle.xsmp_properties.specs.Tables.{set_all}
 use Rattle.checkpoint_records.specs.declared.records.Book.{Book}
-use Rattle.checkpoint_records.specs.declared.records.Entry.{Entry}
-use Rattle.restart_plan.specs.Restarts.{respawn, opening_restarts}
 use Rattle.discard_ledger.specs.Discards.{issuable}
 use Rattle.xsmp_messages.specs.declared.message.XsmpMessage.{XsmpMessage}
-use Rattle.xsmp_messages.specs.declared.message.XsmpMessage.TheVariants.{Error, RegisterClient, RegisterClientReply, SaveYourselfRequest, InteractRequest, InteractDone, SaveYourselfDone, ShutdownCancelled, ConnectionClosed, SetProperties, DeleteProperties, GetProperties, SaveYourselfPhase2Request}
+use Rattle.xsmp_messages.specs.declared.message.XsmpMessage.TheVariants.{Error, RegisterClient, RegisterClientReply, SaveYourselfRequest, InteractDone, ShutdownCancelled, ConnectionClosed, SetProperties, GetProperties}
 use Rattle.interact_queue.specs.Queue.{is_in}
 use Rattle.session_model.specs.declared.phase.Phase.{Phase}
 use Rattle.session_model.specs.declared.phase.Phase.TheVariants.{Unregistered, Done, Dying}
 use Rattle.session_model.specs.declared.events.SessionEvent.{SessionEvent}
 use Rattle.session_model.specs.declared.events.SessionEvent.TheVariants.{Joined, Ready, Said, Left, Operator, Tick}
-use Rattle.session_model.specs.Phases.{is_bound, is_unregistered, is_member, is_dying, is_owing, is_saving, is_first_saving, is_interacting, is_shutdown, may_interact, cancelled_phase}
-use Rattle.session_model.specs.Tables.{is_full, entry_of}
+use Rattle.session_model.specs.Phases.{is_unregistered, is_member, is_owing, is_interacting, is_shutdown, cancelled_phase}
+use Rattle.session_model.specs.Tables.{is_full}
 use Rattle.checkpoint_records.specs.Rules.{client_id}
 use Rattle.session_model.specs.Errors.{no_room, bad_id, full_table, lone_shutdown}
 use Rattle.session_model.specs.declared.events.Arrival.{Arrival}
-use Rattle.session_model.specs.Moves.{Finished, Move, Outside, Gave, Blamed, Unset, Closed, Cancelled, Printed, Restart, History, Opened, ◌▷◌, onto, gave_each, tried_each, Opening}
+use Rattle.session_model.specs.Moves.{Finished, Move, Outside, Gave, Blamed, Unset, Closed, Cancelled, Printed, History, Opened, ◌▷◌, onto, gave_each, Opening}
 use Rattle.session_model.specs.Readings as of
-use Rattle.session_model.specs.Reading.{Reading, reading, wanted_in, client_of}
-use Rattle.session_model.specs.Books.{issue, discarded, standing, command_anyway, book_forgetting, opening_moves, raised}
-use Rattle.session_model.specs.Replies.{refused, or_bad_state, respawn_moves, entry_respawn, id_respawn, respawned, depart, has_no_room, may_rejoin, register, called_off, want_cancel, has_place, placed, answered, unless_dying, said, resigned, forgotten, forget_one, forget, may_wait, ordered, has_no_place, reply, status_text, is_overdue, waited}
-use Rattle.session_model.specs.Rules.{settled, taken, opened, run}
+use Rattle.session_model.specs.Reading.{Reading, reading, wanted_in}
+use Rattle.session_model.specs.Books.{standing, book_forgetting, opening_moves}
+use Rattle.session_model.specs.Replies.{refused, or_bad_state, respawned, depart, has_no_room, may_rejoin, register, called_off, want_cancel, has_place, placed, answered, unless_dying, said, forget, ordered, has_no_place, reply, is_overdue, waited}
+use Rattle.session_model.specs.Rules.{taken, opened, run}
 use Rattle.session_model.proofs.Sound.{AllFit}
 use Rattle.session_model.proofs.Driven.{taken-keeps}
 use Rattle.session_model.proofs.MoveKinds.{every-cond, every-depart, every-departs, every-forget, every-opening, every-or-bad, every-ordered, every-respawned}

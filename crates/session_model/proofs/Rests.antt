@@ -3,14 +3,13 @@ use Rattle.std.proofs.Common.{◌≡◌, ℕ, ◌≤◌, List, [], ◌∷◌, le
 use Rattle.std.specs.Prelude.{Option}
 use Rattle.checkpoint_records.specs.declared.records.Book.{Book}
 use Rattle.interact_queue.specs.Queue.{next_holder}
-use Rattle.restart_plan.specs.Restarts.{opening_restarts}
 use Rattle.session_model.specs.declared.waits.Wait.{Wait}
 use Rattle.session_model.specs.declared.events.SessionEvent.{SessionEvent}
-use Rattle.session_model.specs.Moves.{Outside, Restart, History, Opened, ◌▷◌, onto, tried_each, Opening}
+use Rattle.session_model.specs.Moves.{Outside, History, Opened, ◌▷◌, onto, Opening}
 use Rattle.session_model.specs.Readings as of
 use Rattle.session_model.specs.Reading.{reading}
 use Rattle.session_model.specs.Replies.{reply}
-use Rattle.session_model.specs.Books.{raised, issue, opening_moves}
+use Rattle.session_model.specs.Books.{opening_moves}
 use Rattle.session_model.specs.Rules.{rule, settled, taken, opened, run}
 use Rattle.session_model.proofs.Level.{Good}
 use Rattle.session_model.proofs.Replied.{good-reply, good-taken, good-opened}

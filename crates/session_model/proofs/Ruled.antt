@@ -1,5 +1,5 @@
 -- The rules keep what holds between events.
-use Rattle.std.proofs.Common.{◌≡◌, refl, ℕ, zero, suc, Bool, true, false, cond, not, ◌&&◌, ◌||◌, List, [], ◌∷◌, ◌++◌, map, filter, eqb, sym, ap, subst, ◌∙◌, arith}
+use Rattle.std.proofs.Common.{◌≡◌, refl, ℕ, Bool, true, false, cond, not, ◌&&◌, ◌||◌, List, [], ◌∷◌, ◌++◌, map, filter, eqb, sym, ap, subst, ◌∙◌, arith}
 use Rattle.std.specs.Prelude.{Option, Some, None, is_some}
 use Rattle.std.specs.List.{list_any}
 use Rattle.std.proofs.lemmas.Bool.Decides.{nat_tests}
@@ -17,12 +17,12 @@ use Rattle.session_model.specs.declared.phase.Phase.{Phase}
 use Rattle.session_model.specs.declared.phase.Phase.TheVariants.{Unregistered, Idle, Done}
 use Rattle.session_model.specs.declared.waits.Wait.{Wait}
 use Rattle.session_model.specs.Phases.{is_registered, is_member, is_interacting, is_dying, is_owing, is_shutdown, step_of, dying_phase, begun_phase, completed_phase}
-use Rattle.session_model.specs.Moves.{Move, Gave, Closed, Began, Over, Agreed, Committed, Finished, History, ◌▷◌, onto, gave_each, tried_each, Discard, End}
+use Rattle.session_model.specs.Moves.{Gave, Closed, Began, Over, Agreed, Committed, History, ◌▷◌, onto, gave_each, tried_each, End}
 use Rattle.session_model.specs.Waits.{is_only}
 use Rattle.session_model.specs.Readings as of
 use Rattle.session_model.specs.Reading.{Clients, reading}
 use Rattle.session_model.specs.Books.{next_book, issue, discarded, standing}
-use Rattle.session_model.specs.Rules.{last_command, ended, completed, agreement_with, wanting_two, over_rule, agreed_rule, running_rule, save_yourself, members_for, begin, begin_first, is_free, idle_rule, round_rule, token_rule, rule, go_on, settle, finished}
+use Rattle.session_model.specs.Rules.{last_command, ended, completed, agreement_with, wanting_two, over_rule, agreed_rule, running_rule, save_yourself, members_for, begin, begin_first, is_free, idle_rule, round_rule, token_rule, rule}
 use Rattle.session_model.proofs.Sound.{AllFit, AreRegistered, Sound, sound-step, is_wanted_alone, or-true}
 use Rattle.session_model.proofs.MoveKinds.{every-closed, every-gave, every-issue, every-tried}
 use Rattle.session_model.proofs.Level.{Level, Good, AllPlain, IsPlain, good-by, good-plain, good-append, level-token, phase-each, members-each, once-begun, once-completed, once-dying, level-emptied}

@@ -1,13 +1,12 @@
 -- What a history says of a client's silence is the sum of the milliseconds since its last sign.
-use Rattle.std.proofs.Common.{◌≡◌, refl, ℕ, ◌+◌, Bool, true, false, cond, eqb, arith}
+use Rattle.std.proofs.Common.{◌≡◌, ℕ, ◌+◌, Bool, true, false, cond, eqb, arith}
 use Rattle.std.specs.Prelude.{List, Option, Some, None, is_some, min}
 use Rattle.xsmp_messages.specs.declared.message.XsmpMessage.{XsmpMessage}
 use Rattle.xsmp_messages.specs.declared.message.XsmpMessage.TheVariants.{Error}
 use Rattle.session_model.specs.declared.phase.Phase.{Phase}
-use Rattle.session_model.specs.declared.events.SessionEvent.{SessionEvent}
 use Rattle.session_model.specs.declared.events.SessionEvent.TheVariants.{Joined, Ready, Said, Left, Operator, Tick}
 use Rattle.session_model.specs.Phases.{is_registered, may_interact, phase_given, phase_said, ready_phase}
-use Rattle.session_model.specs.Moves.{Move, Outside, Gave, Unset, Closed, History, Opened, ◌▷◌}
+use Rattle.session_model.specs.Moves.{Outside, Gave, Unset, Closed, History, Opened, ◌▷◌}
 use Rattle.session_model.specs.Readings as of
 use Rattle.session_model.specs.Laws.{SilenceIsCounted, silence}
 

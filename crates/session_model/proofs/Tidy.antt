@@ -1,5 +1,5 @@
 -- At every move of a run, whatever is kept of clients keeps the rules for it, and whatever is sent fits into a message.
-use Rattle.std.proofs.Common.{◌≡◌, ℕ, ◌≤◌, Bool, true, false, cond, List, [], ◌∷◌, ◌++◌, length, eqb}
+use Rattle.std.proofs.Common.{◌≡◌, ℕ, ◌≤◌, Bool, true, false, cond, List, [], ◌∷◌, length, eqb}
 use Rattle.std.specs.Prelude.{Option, Some, None, find}
 use Rattle.std.specs.List.{AllByRecursion}
 use Rattle.ice_values.specs.declared.property.Property.{Property}

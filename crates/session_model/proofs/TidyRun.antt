@@ -1,10 +1,9 @@
 -- Whatever is kept and sent in a run keeps the rules for it.
-use Rattle.std.proofs.Common.{◌≡◌, refl, ℕ, zero, suc, ◌+◌, ◌*◌, ◌≤◌, Bool, true, false, cond, ◌&&◌, List, [], ◌∷◌, ◌++◌, length, arith}
+use Rattle.std.proofs.Common.{◌≡◌, refl, ℕ, ◌+◌, ◌≤◌, List, [], ◌∷◌, ◌++◌, arith}
 use Rattle.std.specs.List.{AllByRecursion}
 use Rattle.checkpoint_records.specs.declared.records.Entry.{Entry}
 use Rattle.checkpoint_records.specs.Rules.{IsClientId, IsEntry, KeepsRules}
 use Rattle.restart_plan.specs.Restarts.{opening_restarts}
-use Rattle.round_agreement.specs.Agreement.{is_nil}
 use Rattle.xsmp_messages.specs.declared.message.XsmpMessage.{XsmpMessage}
 use Rattle.xsmp_messages.specs.declared.message.XsmpMessage.TheVariants.{RegisterClientReply, GetPropertiesReply}
 use Rattle.session_model.specs.declared.events.SessionEvent.{SessionEvent}
@@ -13,7 +12,7 @@ use Rattle.session_model.specs.Readings as of
 use Rattle.session_model.specs.Reading.{reading}
 use Rattle.session_model.specs.Books.{raised, issue}
 use Rattle.session_model.specs.Replies.{reply}
-use Rattle.session_model.specs.Rules.{rule, go_on, settle, settled, taken, opened, run}
+use Rattle.session_model.specs.Rules.{rule, taken, opened, run}
 use Rattle.session_model.specs.Laws.{EachMove, IsShort, HasEntries}
 use Rattle.session_model.proofs.Kept.{empty-table}
 use Rattle.session_model.proofs.Tidy.{Tidy, Proper, AllProper, tidy-step, epoch-step}

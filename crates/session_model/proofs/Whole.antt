@@ -1,6 +1,6 @@
 -- Every book that is written keeps the rules.
-use Rattle.std.proofs.Common.{◌≡◌, refl, ℕ, zero, suc, ◌≤◌, Bool, true, false, not, ◌||◌, List, [], ◌∷◌, ◌++◌, map, filter, length, eqb, sym, ap, subst, ◌∙◌, arith}
-use Rattle.std.specs.Prelude.{Option, Some, None, is_some, filter_map}
+use Rattle.std.proofs.Common.{◌≡◌, refl, ℕ, ◌≤◌, Bool, true, false, not, ◌||◌, List, [], ◌∷◌, ◌++◌, length, eqb, sym, ap, subst, ◌∙◌, arith}
+use Rattle.std.specs.Prelude.{Option, Some, None, is_some}
 use Rattle.std.specs.List.{AllByRecursion, IsDistinct}
 use Rattle.std.specs.Str.{bytes_eq}
 use Rattle.sm_world.specs.declared.commands.Command.{Command}
@@ -8,19 +8,19 @@ use Rattle.checkpoint_records.specs.declared.records.Book.{Book}
 use Rattle.checkpoint_records.specs.Rules.{ids_of, KeepsRules}
 use Rattle.round_agreement.specs.declared.wanted.Wanted.{Wanted}
 use Rattle.round_agreement.specs.Agreement.{Agreement, two_ready, agreed, deserted, conns_of}
-use Rattle.interact_queue.specs.Queue.{is_in, next_holder}
+use Rattle.interact_queue.specs.Queue.{next_holder}
 use Rattle.discard_ledger.specs.Discards.{issuable, without_commands}
 use Rattle.xsmp_messages.specs.declared.message.XsmpMessage.{XsmpMessage}
-use Rattle.xsmp_messages.specs.declared.message.XsmpMessage.TheVariants.{RegisterClientReply, Interact, Die, SaveYourselfPhase2, SaveComplete}
+use Rattle.xsmp_messages.specs.declared.message.XsmpMessage.TheVariants.{RegisterClientReply, Interact, SaveYourselfPhase2}
 use Rattle.session_model.specs.declared.phase.Phase.{Phase}
 use Rattle.session_model.specs.declared.waits.Wait.{Wait}
 use Rattle.session_model.specs.Phases.{is_registered}
 use Rattle.session_model.specs.Tables.{has_id}
-use Rattle.session_model.specs.Moves.{Move, Cause, Outside, Gave, Closed, Began, Over, Agreed, Committed, Discard, End, History, ◌▷◌, onto, gave_each, tried_each}
+use Rattle.session_model.specs.Moves.{Move, Cause, Outside, Gave, Closed, Began, Over, Agreed, Committed, Discard, History, ◌▷◌, onto, gave_each, tried_each}
 use Rattle.session_model.specs.Readings as of
-use Rattle.session_model.specs.Reading.{Clients, reading}
+use Rattle.session_model.specs.Reading.{reading}
 use Rattle.session_model.specs.Books.{next_book, next_entries, issue, discarded, standing}
-use Rattle.session_model.specs.Rules.{last_command, ended, completed, agreement, wanting_two, over_rule, agreed_rule, running_rule, save_yourself, members_for, begin, begin_first, is_free, idle_rule, round_rule, token_rule, rule, go_on, settle}
+use Rattle.session_model.specs.Rules.{completed, agreement, wanting_two, over_rule, agreed_rule, running_rule, save_yourself, members_for, begin, begin_first, is_free, idle_rule, round_rule, token_rule, rule}
 use Rattle.session_model.specs.Laws.{EachMove, IsWritten}
 use Rattle.session_model.proofs.Lists.{Once, once-without}
 use Rattle.session_model.proofs.PhaseSteps.{is_reply}

@@ -1,27 +1,27 @@
 -- The answers write books that keep the rules, and so does every run.
-use Rattle.std.proofs.Common.{◌≡◌, refl, ℕ, suc, ◌+◌, ◌*◌, ◌<◌, ◌≤◌, Bool, true, false, cond, not, ◌&&◌, ◌||◌, List, [], ◌∷◌, ◌++◌, filter, length, eqb, sym, ap, subst, ◌∙◌, arith, length-append}
-use Rattle.std.specs.Prelude.{Option, Some, None, is_some, is_none, find, codes, nat_le, flat_map}
+use Rattle.std.proofs.Common.{◌≡◌, refl, ℕ, suc, ◌+◌, ◌<◌, ◌≤◌, Bool, true, false, cond, not, ◌&&◌, ◌||◌, List, [], ◌∷◌, ◌++◌, filter, length, eqb, sym, ap, subst, ◌∙◌, arith, length-append}
+use Rattle.std.specs.Prelude.{Option, Some, None, is_some, is_none, find, codes, nat_le}
 use Rattle.std.specs.List.{AllByRecursion, IsDistinct, list_any}
 use Rattle.std.proofs.lemmas.Bool.Decides.{nat_tests}
 use Rattle.sm_world.specs.declared.commands.Command.{Command}
 use Rattle.sm_world.specs.declared.events.Order.{Order}
-use Rattle.sm_world.specs.declared.events.Order.TheVariants.{Checkpoint, Shutdown, Cancel, Status, DropConn, Forget}
+use Rattle.sm_world.specs.declared.events.Order.TheVariants.{Cancel, Forget}
 use Rattle.xsmp_properties.specs.Tables.{set_all}
 use Rattle.checkpoint_records.specs.declared.records.Book.{Book}
 use Rattle.checkpoint_records.specs.declared.records.Entry.{Entry}
 use Rattle.checkpoint_records.specs.Books.{same_command}
 use Rattle.checkpoint_records.specs.Rules.{client_id, ids_of, IsEntry, KeepsRules}
-use Rattle.round_agreement.specs.Agreement.{Agreement, is_nil, conns_of}
+use Rattle.round_agreement.specs.Agreement.{Agreement, is_nil}
 use Rattle.interact_queue.specs.Queue.{is_in, without}
-use Rattle.restart_plan.specs.Restarts.{respawn, opening_restarts}
+use Rattle.restart_plan.specs.Restarts.{opening_restarts}
 use Rattle.discard_ledger.specs.Discards.{without_commands}
 use Rattle.xsmp_messages.specs.declared.message.XsmpMessage.{XsmpMessage}
-use Rattle.xsmp_messages.specs.declared.message.XsmpMessage.TheVariants.{Error, RegisterClient, RegisterClientReply, SaveYourselfRequest, InteractRequest, InteractDone, SaveYourselfDone, ShutdownCancelled, ConnectionClosed, SetProperties, DeleteProperties, GetProperties, SaveYourselfPhase2Request}
+use Rattle.xsmp_messages.specs.declared.message.XsmpMessage.TheVariants.{Error, RegisterClient, RegisterClientReply, SaveYourselfRequest, InteractDone, ConnectionClosed, SetProperties, GetProperties}
 use Rattle.session_model.specs.declared.phase.Phase.{Phase}
 use Rattle.session_model.specs.declared.phase.Phase.TheVariants.{Unregistered, Dying}
 use Rattle.session_model.specs.declared.events.SessionEvent.{SessionEvent}
 use Rattle.session_model.specs.declared.events.SessionEvent.TheVariants.{Joined, Ready, Said, Left, Operator, Tick}
-use Rattle.session_model.specs.Phases.{is_bound, is_registered, is_unregistered, is_dying, is_owing, is_saving, is_first_saving, is_interacting, is_shutdown, may_interact}
+use Rattle.session_model.specs.Phases.{is_registered, is_unregistered, is_owing, is_shutdown}
 use Rattle.session_model.specs.Tables.{is_full, entry_of, is_recorded}
 use Rattle.session_model.specs.Errors.{no_room, bad_id, full_table, lone_shutdown}
 use Rattle.session_model.specs.declared.events.Arrival.{Arrival}
@@ -29,8 +29,8 @@ use Rattle.session_model.specs.Moves.{Move, Outside, Gave, Blamed, Unset, Closed
 use Rattle.session_model.specs.Readings as of
 use Rattle.session_model.specs.Reading.{Reading, reading, wanted_in, client_of, has_that_id}
 use Rattle.session_model.specs.Books.{book_forgetting, issue, command_anyway, raised}
-use Rattle.session_model.specs.Replies.{refused, or_bad_state, respawn_moves, entry_respawn, id_respawn, respawned, depart, has_no_room, known_ids, enter, may_rejoin, rejoin, register, called_off, want_cancel, has_place, placed, answered, unless_dying, said, resigned, forgotten, forget_one, may_wait, ordered, has_no_place, reply, status_text, is_overdue, waited}
-use Rattle.session_model.specs.Rules.{settled, taken, Takes, opened, run}
+use Rattle.session_model.specs.Replies.{refused, or_bad_state, respawned, depart, has_no_room, known_ids, enter, may_rejoin, rejoin, register, called_off, want_cancel, has_place, placed, answered, unless_dying, said, resigned, forgotten, forget_one, ordered, has_no_place, reply, is_overdue, waited}
+use Rattle.session_model.specs.Rules.{taken, Takes, opened, run}
 use Rattle.session_model.specs.Laws.{EachMove, IsWritten, AllTake}
 use Rattle.session_model.proofs.Lists.{once-push, once-without}
 use Rattle.session_model.proofs.Level.{Good, good-plain, onto-append}

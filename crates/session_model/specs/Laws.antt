@@ -2,11 +2,11 @@
 use Rattle.std.specs.Prelude.{Bool, List, [], ◌∷◌, cond, false, min, true, ℕ, ◌≡◌, ◌==◌, ◌+◌, ◌<◌}
 use Rattle.std.specs.List.{AllByRecursion, list_any}
 use Rattle.session_model.specs.declared.events.SessionEvent.{SessionEvent}
-use Rattle.session_model.specs.declared.events.SessionEvent.TheVariants.{Left, Said, Tick}
+use Rattle.session_model.specs.declared.events.SessionEvent.TheVariants.{Said, Tick}
 use Rattle.round_agreement.specs.Agreement.{are_distinct}
 use Rattle.interact_queue.specs.Queue.{is_in}
 use Rattle.session_model.specs.Phases.{is_asked, is_dying, is_interacting, is_member, is_registered}
-use Rattle.session_model.specs.Moves.{Move, Outside, Gave, Blamed, Unset, Closed, Committed, History, Opened, Opening, ◌▷◌}
+use Rattle.session_model.specs.Moves.{Move, Outside, Gave, Blamed, Committed, History, Opened, Opening, ◌▷◌}
 use Rattle.session_model.specs.Waits.{is_only}
 use Rattle.session_model.specs.Reading.{reading}
 use Rattle.checkpoint_records.specs.Rules.{KeepsRules, IsEntry}

@@ -16,11 +16,10 @@ use Rattle.round_agreement.specs.declared.round.Member.{Member}
 use Rattle.round_agreement.specs.Agreement.{Agreement, agreed, conns_of, deserted, is_nil, two_ready, wants_two}
 use Rattle.interact_queue.specs.Queue.{is_in, next_holder}
 use Rattle.session_model.specs.Phases.{is_owing}
-use Rattle.session_model.specs.Moves.{Agreed, Began, Closed, Committed, End, Finished, Gave, History, Move, Opened, Opening, Outside, Over, gave_each, onto, tried_each, ◌▷◌}
+use Rattle.session_model.specs.Moves.{Agreed, Began, Closed, Committed, End, Finished, Gave, History, Move, Opened, Opening, Outside, Over, gave_each, onto, tried_each}
 use Rattle.session_model.specs.Reading.{Clients, Reading, client_of, reading}
 use Rattle.session_model.specs.Books.{command_anyway, discarded, next_book, opening_moves}
 use Rattle.session_model.specs.Replies.{reply}
-use Rattle.session_model.specs.Readings as of
 
 -- An agreement
 
@@ -104,28 +103,46 @@ token_rule None r = round_rule r r.rounds.running
 abbrev pub rule : Reading → List Move
 rule r = token_rule (next_holder r.token.is_held r.token.waiting) r
 
--- Settling
+-- Settling, of any state that can be read and moved
+
+module _ {S : Type 0} (read : S → Reading) (move : List Move → S → S) where
+  abbrev pub goes_on : (S → S) → S → List Move → S
+  goes_on further s [] = s
+  goes_on further s (m ∷ moves) = further (move (m ∷ moves) s)
+
+  -- the first rule that holds, again and again, at most so many times
+  abbrev pub settles : ℕ → S → S
+  settles zero s = s
+  settles (suc n) s = goes_on (λ t. settles n t) s (rule (read s))
+
+  -- so many times that no rule holds then
+  abbrev pub comes_to_rest : S → S
+  comes_to_rest s = settles (4 * length (read s).rounds.waits + 4) s
+
+  -- a run whose shutdown was agreed ends when nobody is live
+  abbrev pub ends : S → S
+  ends s = cond ((read s).run.is_ending && is_nil (read s).clients.live) (move (Finished ∷ []) s) s
+
+  -- after an event, the answer to it, and all that settles
+  abbrev pub takes : SessionEvent → S → S
+  takes event s = ends (comes_to_rest (move (Outside event ∷ reply (read s) event) s))
+
+-- of a history
 
 abbrev pub go_on : (History → History) → History → List Move → History
-go_on further h [] = h
-go_on further h (m ∷ moves) = further (onto h (m ∷ moves))
+go_on further h moves = goes_on reading (λ ms g. onto g ms) further h moves
 
--- the first rule that holds, again and again, at most so many times
 abbrev pub settle : ℕ → History → History
-settle zero h = h
-settle (suc n) h = go_on (λ g. settle n g) h (rule (reading h))
+settle n h = settles reading (λ ms g. onto g ms) n h
 
--- so many times that no rule holds then
 abbrev pub settled : History → History
-settled h = settle (4 * length (of.waits h) + 4) h
+settled h = comes_to_rest reading (λ ms g. onto g ms) h
 
--- a run whose shutdown was agreed ends when nobody is live
 abbrev pub finished : History → History
-finished h = cond (of.is_ending h && is_nil (of.live h)) (Finished ▷ h) h
+finished h = ends reading (λ ms g. onto g ms) h
 
--- the history after an event, the answer to it, and all that settles
 abbrev pub taken : SessionEvent → History → History
-taken event h = finished (settled (onto (Outside event ▷ h) (reply (reading h) event)))
+taken event h = takes reading (λ ms g. onto g ms) event h
 
 -- What an event asks of the history: who is live and how far, and a frame that spells the message.
 abbrev pub Takes : SessionEvent → Reading → Type 0

@@ -1,31 +1,28 @@
 -- The moves of each answer suit the history in which the event has come.
-use Rattle.std.proofs.Common.{◌≡◌, refl, ℕ, Bool, true, false, cond, not, ◌&&◌, ◌||◌, List, [], ◌∷◌, ◌+◌, eqb, ap, ◌∙◌, filter, arith}
-use Rattle.std.specs.Prelude.{Option, Some, None, codes, is_some, flat_map}
-use Rattle.sm_world.specs.declared.commands.Command.{Command}
+use Rattle.std.proofs.Common.{◌≡◌, refl, ℕ, Bool, true, false, cond, not, ◌&&◌, List, [], ◌∷◌, ◌+◌, eqb, ap, ◌∙◌, filter, arith}
+use Rattle.std.specs.Prelude.{Option, Some, None, codes}
 use Rattle.sm_world.specs.declared.events.Order.{Order}
-use Rattle.sm_world.specs.declared.events.Order.TheVariants.{Cancel, Checkpoint, DropConn, Forget, Shutdown, Status}
+use Rattle.sm_world.specs.declared.events.Order.TheVariants.{Cancel, Forget}
 use Rattle.xsmp_properties.specs.Tables.{set_all}
 use Rattle.checkpoint_records.specs.declared.records.Book.{Book}
-use Rattle.checkpoint_records.specs.declared.records.Entry.{Entry}
 use Rattle.checkpoint_records.specs.Rules.{client_id}
-use Rattle.restart_plan.specs.Restarts.{opening_restarts, respawn}
 use Rattle.round_agreement.specs.Agreement.{Agreement, conns_of}
 use Rattle.interact_queue.specs.Queue.{is_in}
 use Rattle.xsmp_messages.specs.declared.message.XsmpMessage.{XsmpMessage}
-use Rattle.xsmp_messages.specs.declared.message.XsmpMessage.TheVariants.{ConnectionClosed, DeleteProperties, Error, GetProperties, InteractDone, InteractRequest, RegisterClient, RegisterClientReply, SaveYourselfDone, SaveYourselfPhase2Request, SaveYourselfRequest, SetProperties, ShutdownCancelled}
+use Rattle.xsmp_messages.specs.declared.message.XsmpMessage.TheVariants.{ConnectionClosed, Error, GetProperties, InteractDone, RegisterClient, RegisterClientReply, SaveYourselfRequest, SetProperties, ShutdownCancelled}
 use Rattle.session_model.specs.declared.phase.Phase.{Phase}
 use Rattle.session_model.specs.declared.phase.Phase.TheVariants.{Dying, Unregistered}
 use Rattle.session_model.specs.declared.events.SessionEvent.{SessionEvent}
 use Rattle.session_model.specs.declared.events.SessionEvent.TheVariants.{Joined, Left, Operator, Ready, Said, Tick}
-use Rattle.session_model.specs.Phases.{is_bound, is_dying, is_first_saving, is_interacting, is_owing, is_saving, is_shutdown, is_unregistered, may_interact}
-use Rattle.session_model.specs.Tables.{entry_of, is_full}
+use Rattle.session_model.specs.Phases.{is_owing, is_shutdown, is_unregistered}
+use Rattle.session_model.specs.Tables.{is_full}
 use Rattle.session_model.specs.Errors.{bad_id, full_table, lone_shutdown, no_room}
 use Rattle.session_model.specs.declared.events.Arrival.{Arrival}
-use Rattle.session_model.specs.Moves.{Blamed, Cancelled, Closed, Gave, History, Move, Outside, Printed, Restart, Unset, gave_each, tried_each, ◌▷◌}
+use Rattle.session_model.specs.Moves.{Blamed, Cancelled, Closed, Gave, History, Move, Outside, Printed, Unset, gave_each, ◌▷◌}
 use Rattle.session_model.specs.Readings as of
-use Rattle.session_model.specs.Reading.{Reading, client_of, reading, wanted_in}
-use Rattle.session_model.specs.Books.{book_forgetting, command_anyway, discarded, issue, opening_moves, raised}
-use Rattle.session_model.specs.Replies.{answered, called_off, depart, entry_respawn, forget, forget_one, forgotten, has_no_place, has_no_room, has_place, placed, id_respawn, may_rejoin, or_bad_state, ordered, register, reply, resigned, respawn_moves, respawned, said, unless_dying, want_cancel, waited, is_overdue}
+use Rattle.session_model.specs.Reading.{Reading, reading, wanted_in}
+use Rattle.session_model.specs.Books.{book_forgetting, opening_moves}
+use Rattle.session_model.specs.Replies.{answered, called_off, depart, forget, has_no_place, has_no_room, has_place, placed, may_rejoin, or_bad_state, ordered, register, reply, respawned, said, unless_dying, want_cancel, waited, is_overdue}
 use Rattle.session_model.proofs.MoveKinds.{every-depart, every-departs, every-forget, every-opening, every-ordered, every-respawned}
 use Rattle.session_model.proofs.Replied.{cond-same, unregistered-is}
 use Rattle.session_model.proofs.WholeReply.{registers}

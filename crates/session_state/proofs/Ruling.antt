@@ -2,7 +2,6 @@
 use Rattle.std.proofs.Common.{◌≡◌, refl, ℕ, Bool, true, false, cond, not, ◌||◌, List, [], ◌∷◌, ◌++◌, map, filter, eqb, sym, ap, subst, ◌∙◌, arith}
 use Rattle.std.specs.Prelude.{Option, Some, None, filter_map, is_some}
 use Rattle.std.proofs.lemmas.Bool.Decides.{nat_tests}
-use Rattle.sm_world.specs.declared.commands.Command.{Command}
 use Rattle.checkpoint_records.specs.declared.records.Book.{Book}
 use Rattle.round_agreement.specs.declared.wanted.Wanted.{Wanted}
 use Rattle.round_agreement.specs.Agreement.{Agreement, agreed, conns_of, deserted, two_ready}
@@ -13,11 +12,11 @@ use Rattle.session_model.specs.declared.phase.Phase.{Phase}
 use Rattle.session_model.specs.declared.phase.Phase.TheVariants.{Idle}
 use Rattle.session_model.specs.declared.waits.Wait.{Wait}
 use Rattle.session_model.specs.Phases.{begun_phase, is_asked, is_dying, is_interacting, is_member, is_owing, is_registered}
-use Rattle.session_model.specs.Moves.{Agreed, Began, Closed, Committed, Discard, End, Gave, History, Move, gave_each, onto, tried_each, ◌▷◌}
+use Rattle.session_model.specs.Moves.{Agreed, Began, Closed, Committed, End, Gave, History, Move, gave_each, onto, tried_each, ◌▷◌}
 use Rattle.session_model.specs.Waits.{is_only}
 use Rattle.session_model.specs.Readings as of
 use Rattle.session_model.specs.Reading.{Clients, Reading, reading}
-use Rattle.session_model.specs.Books.{discarded, issue, next_book, standing}
+use Rattle.session_model.specs.Books.{discarded, next_book, standing}
 use Rattle.session_model.specs.Rules.{agreed_rule, agreement_with, begin, begin_first, completed, ended, idle_rule, is_free, last_command, members_for, over_rule, round_rule, rule, running_rule, save_yourself, token_rule, wanting_two}
 use Rattle.session_model.proofs.Sound.{AreRegistered, Sound, is_wanted_alone}
 use Rattle.session_model.proofs.Level.{Good}

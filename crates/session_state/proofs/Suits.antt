@@ -1,8 +1,7 @@
 -- What a move asks of the history before it, for what is held to stand for the history after it.
-use Rattle.std.proofs.Common.{◌≡◌, ℕ, Bool, true, false, List, [], ◌∷◌, ◌++◌, map, arith}
+use Rattle.std.proofs.Common.{◌≡◌, ℕ, Bool, true, false, List, [], ◌∷◌, ◌++◌, arith}
 use Rattle.std.specs.Prelude.{Option, Some}
 use Rattle.std.specs.List.{AllByRecursion}
-use Rattle.sm_world.specs.declared.commands.Command.{Command}
 use Rattle.xsmp_messages.specs.declared.message.XsmpMessage.{XsmpMessage}
 use Rattle.xsmp_messages.specs.declared.message.XsmpMessage.TheVariants.{Die, Interact, RegisterClientReply, SaveComplete, SaveYourself, ShutdownCancelled}
 use Rattle.interact_queue.specs.Queue.{is_in}
@@ -10,7 +9,7 @@ use Rattle.session_model.specs.declared.phase.Phase.{Phase}
 use Rattle.session_model.specs.declared.phase.Phase.TheVariants.{Done, Idle, Unregistered}
 use Rattle.session_model.specs.declared.events.SessionEvent.TheVariants.{Ready}
 use Rattle.session_model.specs.Phases.{is_asked, is_interacting}
-use Rattle.session_model.specs.Moves.{Began, Cause, Closed, Gave, History, Move, Outside, Unset, gave_each, onto, tried_each, ◌▷◌}
+use Rattle.session_model.specs.Moves.{Began, Gave, History, Move, Outside, Unset, onto, ◌▷◌}
 use Rattle.session_model.specs.Readings as of
 use Rattle.session_model.proofs.Level.{is_plain}
 use Rattle.session_model.proofs.MoveKinds.{IsWide}

@@ -1,5 +1,5 @@
 -- What the manager holds of a session, and how each move changes it: by the steps that the readings of a history take.
-use Rattle.std.specs.Prelude.{Bool, List, None, Option, Some, [], cond, false, is_some, length, map, suc, zero, ℕ, ◌&&◌, ◌*◌, ◌++◌, ◌+◌, ◌==◌, ◌∷◌}
+use Rattle.std.specs.Prelude.{Bool, List, None, Option, Some, [], cond, false, is_some, map, ℕ, ◌&&◌, ◌++◌, ◌+◌, ◌==◌, ◌∷◌}
 use Rattle.std.specs.Str.{bytes_eq}
 use Rattle.sm_world.specs.declared.commands.Command.{Command}
 use Rattle.sm_world.specs.declared.events.Dialog.{Dialog}
@@ -20,12 +20,11 @@ use Rattle.session_model.specs.declared.events.SessionEvent.TheVariants.{Left, S
 use Rattle.session_clients.specs.Clients.{Held, clients_in, held_after, phase_in, table_in}
 use Rattle.session_model.specs.Phases.{is_first_saving, is_interacting, is_saving, may_interact}
 use Rattle.session_model.specs.Tables.{first_table, strays_with}
-use Rattle.session_model.specs.Moves.{Agreed, Began, Cancelled, Closed, Finished, Gave, Move, Opening, Outside, Over, Respawn, Tried, acts_of}
+use Rattle.session_model.specs.Moves.{Agreed, Began, Cancelled, Closed, Gave, Move, Opening, Outside, Over, Respawn, Tried, acts_of}
 use Rattle.session_model.specs.Reading.{Reading, wanted_in}
 use Rattle.session_model.specs.Waits.{is_only}
 use Rattle.session_model.specs.Books.{opening_moves}
-use Rattle.session_model.specs.Replies.{reply}
-use Rattle.session_model.specs.Rules.{rule}
+use Rattle.session_model.specs.Rules.{comes_to_rest, ends, goes_on, settles, takes}
 use Rattle.session_model.specs.Readings as of
 
 -- The running round
@@ -153,23 +152,20 @@ reading_in s = record {
 -- What an event brings
 
 abbrev pub go_on_in : (Session → Session) → Session → List Move → Session
-go_on_in further s [] = s
-go_on_in further s (m ∷ moves) = further (moved_all (m ∷ moves) s)
+go_on_in further s moves = goes_on reading_in moved_all further s moves
 
--- the first rule that holds, again and again, at most so many times
 abbrev pub settle_in : ℕ → Session → Session
-settle_in zero s = s
-settle_in (suc n) s = go_on_in (λ t. settle_in n t) s (rule (reading_in s))
+settle_in n s = settles reading_in moved_all n s
 
 abbrev pub settled_in : Session → Session
-settled_in s = settle_in (4 * length s.waits + 4) s
+settled_in s = comes_to_rest reading_in moved_all s
 
 abbrev pub finished_in : Session → Session
-finished_in s = cond (s.is_ending && is_nil (clients_in s.clients).live) (moved Finished s) s
+finished_in s = ends reading_in moved_all s
 
 -- the session after an event, the answer to it, and all that settles
 abbrev pub taken_in : SessionEvent → Session → Session
-taken_in event s = finished_in (settled_in (moved_all (Outside event ∷ reply (reading_in s) event) (record s { acts = [] })))
+taken_in event s = takes reading_in moved_all event (record s { acts = [] })
 
 -- the session as it begins
 abbrev pub session_of : Opening → Session

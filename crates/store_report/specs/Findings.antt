@@ -4,12 +4,13 @@ use Rattle.checkpoint_records.specs.Rules.{KeepsRules}
 use Rattle.checkpoint_slots.specs.Recovery.{Recovers}
 use Rattle.store_report.specs.declared.finding.Finding.{Finding}
 use Rattle.store_report.specs.declared.finding.Finding.TheVariants.{Opens, Damaged, WrongSize}
+use Rattle.checkpoint_slots.specs.Layout.{store_size}
 
 -- The size first, and then the book or the place of the damage, as a session finds it.
 abbrev pub StandsFor : List ℕ → Finding → Type 0
-StandsFor file (Opens book) = (length file ≡ 16777280) × Recovers file (Ok book)
-StandsFor file (Damaged at) = (length file ≡ 16777280) × Recovers file (Err at)
-StandsFor file (WrongSize size) = (size ≡ length file) × (size ≢ 16777280)
+StandsFor file (Opens book) = (length file ≡ store_size) × Recovers file (Ok book)
+StandsFor file (Damaged at) = (length file ≡ store_size) × Recovers file (Err at)
+StandsFor file (WrongSize size) = (size ≡ length file) × (size ≢ store_size)
 
 -- A book that opens keeps the rules of books.
 abbrev pub OpensByRules : Finding → Type 0
