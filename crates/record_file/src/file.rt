@@ -17,8 +17,6 @@ pub struct RecordFile {
     path: String,
     /// None where the file couldn't be made.
     file: Option<File>,
-    /// Whether its user was told that the record goes no further.
-    is_told: bool,
 }
 
 /// Makes a file that is its owner's alone, in place of one that lies there.
@@ -34,20 +32,7 @@ impl RecordFile {
     /// A new file at this path, which only its user can read.
     pub fn create(rt: HostRuntime, path: String) -> RecordFile {
         let file = create(rt, path.as_str()).ok();
-        RecordFile {
-            rt,
-            path,
-            file,
-            is_told: false,
-        }
-    }
-
-    /// Says once that the record goes no further.
-    fn tell(&mut self) {
-        if !self.is_told {
-            self.is_told = true;
-            let _ = eprintln!(self.rt; "smd: what follows isn't recorded in {}", self.path);
-        }
+        RecordFile { rt, path, file }
     }
 }
 
@@ -55,18 +40,13 @@ impl KeptLines for RecordFile {
     ghost kept = { λ _. None };
 
     fn keep(&mut self, bytes: &[u8]) -> Result<(), Failed> {
-        let is_kept = match &mut self.file {
-            Some(file) => file.write_all(bytes).is_ok(),
-            None => false,
-        };
-        if is_kept {
-            return Ok(());
+        match &mut self.file {
+            Some(file) => file.write_all(bytes).map_err(|_| Failed),
+            None => Err(Failed),
         }
-        self.tell();
-        Err(Failed)
     }
 
     fn tell_lost(&mut self) {
-        self.tell();
+        let _ = eprintln!(self.rt; "smd: what follows isn't recorded in {}", self.path);
     }
 }

@@ -1,10 +1,10 @@
-use crate::table::expect_rows;
 use record_file::{RecordFile, take_record};
 use session_recorder::KeptLines;
 use std::alloc::{Alloc, Global};
 use std::process::Abort;
 use std::test::Fail;
 use std::{env, fs, process};
+use test_tables::expect_rows;
 
 /// The file that is taken out of some words, and the words that stay.
 fn taken(alloc: Global, input: &str) -> Result<String, Fail> {

@@ -9,5 +9,3 @@ mod kept;
 mod openings;
 #[cfg(test)]
 mod sessions;
-#[cfg(test)]
-mod table;

@@ -1,10 +1,10 @@
-use crate::table::expect_rows;
 use ice_cookie::Cookie;
 use session_recorder::opening_of;
 use sm_world::{NoMemory, Octets};
 use std::alloc::{Alloc, Global};
 use std::process::Abort;
 use std::test::Fail;
+use test_tables::expect_rows;
 
 /// So many bytes 0.
 fn zeros(alloc: Global, count: usize) -> Result<Octets, NoMemory> {

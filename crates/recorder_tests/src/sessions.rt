@@ -4,7 +4,6 @@ ghost use Rattle.sm_world.specs.Events.{HasPieceSize};
 ghost use Rattle.sm_world.specs.Worlds.{mem_outside};
 
 use crate::kept::Room;
-use crate::table::expect_rows;
 use session_recorder::Recorder;
 use sm_world::{
     Command, Console, Disk, Event, EventList, Failure, Links, MemWorld, NoMemory, NumberList,
@@ -13,6 +12,7 @@ use sm_world::{
 use std::alloc::{Alloc, Global};
 use std::process::Abort;
 use std::test::Fail;
+use test_tables::expect_rows;
 
 /// A client that comes, says something and goes.
 fn visit(alloc: Global) -> Result<EventList, NoMemory>
@@ -111,8 +111,8 @@ const RECORDS: &str = "\
 6 999 => cookie 00/started 78/join 1/piece 1 0708/sent 1 09/shut 1/ 0
 7 999 => cookie 00/started 78/join 1/piece 1 0708/sent 1 09/printed ok/shut 1/ 0
 8 999 => cookie 00/started 78/join 1/piece 1 0708/sent 1 09/printed ok/ 0
-0 9 => cookie 00/ 0
-0 4 => cook/ 0
+0 9 => cookie 00/ 1
+0 4 => cook/ 1
 0 10 => cookie 00/ 1
 0 15 => cookie 00/start/ 1
 0 28 => cookie 00/started 78/join 1/ 1";

@@ -1,6 +1,6 @@
-ghost use Rattle.std.specs.Prelude.{◌≡◌, List, ℕ, Some};
+ghost use Rattle.std.specs.Prelude.{◌≡◌, List, ℕ, Option, Some};
 ghost use Rattle.sm_world.specs.declared.effects.Effect.{Effect};
-ghost use Rattle.session_recorder.specs.Recorded.{IsNew, Keeps};
+ghost use Rattle.session_recorder.specs.Recorded.{IsNew, Keeps, KeepsTold};
 
 use crate::kept_lines::KeptLines;
 use crate::progress::Progress;
@@ -31,6 +31,20 @@ impl<W: Told, R: KeptLines> Model for Recorder<W, R> {
     ghost invariant = { λ r. KeepsTold r.record.opening r.record.progress (W.outside r.world).told (R.kept r.record.lines) };
 }
 
+/// Keeps what a record opens with. The user is told where that can't be kept.
+fn keep_opening<R: KeptLines>(lines: &mut R, opening: &[u8]) -> Progress
+    requires { IsNew (R.kept lines.old) }
+    ensures { (told : Option (List Effect)) → IsNew told → KeepsTold opening.now result told (R.kept lines.new) }
+{
+    match lines.keep(opening) {
+        Ok(()) => Progress::Waiting,
+        Err(_) => {
+            lines.tell_lost();
+            Progress::Lost
+        }
+    }
+}
+
 impl<W: Told, R: KeptLines> Recorder<W, R> {
     /// Records what this world will hear and do, behind this opening.
     pub fn new(alloc: Global, world: W, mut lines: R, opening: Octets) -> Recorder<W, R>
@@ -39,10 +53,7 @@ impl<W: Told, R: KeptLines> Recorder<W, R> {
         ensures world { result.world ≡ world }
         ensures opening { result.opening ≡ opening }
     {
-        let progress = match lines.keep(opening.as_slice()) {
-            Ok(()) => Progress::Waiting,
-            Err(_) => Progress::Lost,
-        };
+        let progress = keep_opening(&mut lines, opening.as_slice());
         let mut record = Record {
             lines,
             opening,

@@ -10,7 +10,10 @@ const TEXTS: OwnTexts = OwnTexts {
         usage: smtrace show < TRACE    shows each message of a trace\n\
         \x20      smtrace replay < TRACE  says whether it is what the session machine does\n\
         \x20      smtrace --help          shows this\n\
-        \x20      smtrace --version       shows the version\n",
+        \x20      smtrace --version       shows the version\n\n\
+        A trace has at most 16,777,216 bytes: in a longer one the line with the next byte is\n\
+        malformed. What stands before it can be read:\n\
+        \x20      head -c 16777216 TRACE | sed '$d' | smtrace show\n",
     version: "smtrace 0.1.0\n",
     no_memory: "smtrace: no memory\n",
 };
