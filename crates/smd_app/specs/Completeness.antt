@@ -27,6 +27,7 @@ use Rattle.smd_app.specs.Summaries.{IsSummary}
 use Rattle.smd_app.specs.Words.{Places, Task, Rehearse, Exercise, Serve, Means}
 use Rattle.smd_app.specs.declared.fault.Fault.TheVariants.{Spent}
 use Rattle.smd_app.specs.declared.identity.Identity.{Identity}
+use Rattle.checkpoint_slots.specs.Layout.{store_size}
 
 -- No count but the spawner's rose.
 pub record NoneRose (old new : Faults) : Type 0 where
@@ -37,7 +38,7 @@ pub record NoneRose (old new : Faults) : Type 0 where
 -- The store of a world recovers to this book. Its epoch can be raised, and there is a generation for each checkpoint that the machine decides over what is heard.
 pub record CanServe (config : Config) (old : Outside) (file : List ℕ) (book : Book) (events : List Event) : Type 0 where
   pub settled : IsSettled old file
-  pub size : old.size ≡ 16777280
+  pub size : old.size ≡ store_size
   pub recovers : Recovers file (Ok book)
   pub epoch : book.epoch < 4294967295
   pub generations : (current : Option Current) → HasCurrent current file → next_generation current + commits_in (script config book events) ≤ 2 ^ 64

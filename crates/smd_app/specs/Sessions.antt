@@ -20,6 +20,7 @@ use Rattle.smd_app.specs.Words.{Places}
 use Rattle.smd_app.specs.declared.fault.Fault.{Fault}
 use Rattle.smd_app.specs.declared.fault.Fault.TheVariants.{Disk, Links, Console, NoMemory}
 use Rattle.smd_app.specs.declared.identity.Identity.{Identity}
+use Rattle.checkpoint_slots.specs.Layout.{store_size}
 
 -- the address of a session, as its clients know it
 abbrev pub network : List ℕ → List ℕ → List ℕ
@@ -74,7 +75,7 @@ pub record Opened (config : Config) (turns : ℕ) (old new : Outside) (answer : 
   pub book : Book
   pub current : Option Current
   pub recovered : IsRecovered old book current
-  pub size : new.size ≡ 16777280
+  pub size : new.size ≡ store_size
   pub below : book.epoch < 4294967295
   pub serves : Serves config book current old.coming turns answer effects
 

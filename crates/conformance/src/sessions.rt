@@ -1,0 +1,241 @@
+//! Worked sessions, and the worlds in which they happen.
+
+ghost use Rattle.std.specs.Prelude.{IfOk, IsTrue};
+ghost use Rattle.std.specs.List.{AllByRecursion};
+ghost use Rattle.sm_world.specs.Events.{HasPieceSize};
+
+use crate::words::{bytes_of, digits_of};
+use control_lines::{OrderRefusal, read_script_line};
+use session_engine::{Config, serve};
+use session_in_memory::{REHEARSAL_COOKIE, blank_store};
+use sm_world::{Event, EventList, MemWorld, NoMemory, NumberList, Octets, PIECE_LIMIT};
+use std::alloc::Global;
+use std::test::Fail;
+
+/// The cookie that the names know, and no end of patience.
+pub const CONFIG: Config = Config {
+    cookie: REHEARSAL_COOKIE,
+    patience: 0,
+};
+
+/// More events than any of these sessions has.
+pub const TURNS: u64 = 99;
+
+/// A session over a store.
+#[derive(Clone, Copy)]
+pub struct Session {
+    /// The book of the first slot, of the first generation, in words; a blank store has none.
+    pub book: &'static str,
+    /// How many bytes of changes stand behind the book, in one amendment that changes nothing.
+    pub changes: u32,
+    /// The events, as the lines of a script whose bytes stand in words behind a colon.
+    pub events: &'static str,
+    /// How many calls read the store before anything is done.
+    pub reads: u64,
+}
+
+/// A client joins, and saves for the first time.
+const SAVES_FIRST: &str = "\
+join 1
+piece 1: ORDER CONNECT PROOF PROTOCOL PROOF REGISTER SET RESTART 310000 SAVED";
+
+/// It does so over a blank store.
+pub const FIRST_SAVE: Session = Session {
+    book: "",
+    changes: 0,
+    events: SAVES_FIRST,
+    reads: 3,
+};
+
+/// Five of six clients come back, of which the fifth is never to be started again. A new one saves,
+/// and then all do for the last time. The sixth has the hint Anyway and the ShutdownCommand `s6`.
+pub const LOGIN: Session = Session {
+    book: "01000000 01000000 06000000 00000000 \
+        ID 31 ID_END 0100000000000000 RESTART 310000 \
+        ID 32 ID_END 0100000000000000 RESTART 320000 \
+        ID 33 ID_END 0100000000000000 RESTART 330000 \
+        ID 34 ID_END 0100000000000000 RESTART 340000 \
+        ID 35 ID_END 0100000000000000 RESTART 350000 \
+        ID 36 ID_END 0300000000000000 RESTART 360000 HINT 01000000 SHUTDOWN 73360000",
+    changes: 0,
+    events: "\
+join 1
+piece 1: ORDER CONNECT PROOF PROTOCOL PROOF
+piece 1: RETURN ID 31 ID_END
+join 2
+piece 2: ORDER CONNECT PROOF PROTOCOL PROOF
+piece 2: RETURN ID 32 ID_END
+join 3
+piece 3: ORDER CONNECT PROOF PROTOCOL PROOF
+piece 3: RETURN ID 33 ID_END
+join 4
+piece 4: ORDER CONNECT PROOF PROTOCOL PROOF
+piece 4: RETURN ID 34 ID_END
+join 5
+piece 5: ORDER CONNECT PROOF PROTOCOL PROOF
+piece 5: RETURN ID 35 ID_END
+piece 5: SET HINT 03000000
+join 7
+piece 7: ORDER CONNECT PROOF PROTOCOL PROOF
+piece 7: REGISTER
+piece 7: SET RESTART 370000
+piece 7: SAVED
+order shutdown
+piece 1: SAVED
+piece 2: SAVED
+piece 3: SAVED
+piece 4: SAVED
+piece 5: SAVED
+piece 7: SAVED
+piece 1: CLOSE
+piece 2: CLOSE
+piece 3: CLOSE
+piece 4: CLOSE
+piece 5: CLOSE
+piece 7: CLOSE",
+    reads: 6,
+};
+
+/// A book without entries, of sixteen bytes.
+const EMPTY_BOOK: &str = "01000000 01000000 00000000 00000000";
+
+/// A login over a book without entries, at which nobody joins.
+pub const QUIET_LOGIN: Session = Session {
+    book: EMPTY_BOOK,
+    changes: 0,
+    events: "",
+    reads: 6,
+};
+
+/// A client joins and saves over a slot that has room for one gate and no more.
+pub const FULL_SLOT: Session = Session {
+    book: EMPTY_BOOK,
+    changes: 8_388_560,
+    events: SAVES_FIRST,
+    reads: 6,
+};
+
+/// The same, where the changes reach the end of the slot.
+pub const FULL_TO_THE_END: Session = Session {
+    book: EMPTY_BOOK,
+    changes: 8_388_568,
+    events: SAVES_FIRST,
+    reads: 6,
+};
+
+/// The line of a script that a line with words stands for.
+fn script_line(alloc: Global, line: &str) -> Result<String, Fail> {
+    match line.split_once(": ") {
+        Some((front, words)) => {
+            let digits = digits_of(alloc, words)?;
+            Ok(format!(in alloc; "{front} {digits}")?)
+        }
+        None => Ok(line.to_string(alloc)?),
+    }
+}
+
+/// Whether an event can come, if it is a piece.
+fn can_come(event: &Event) -> bool
+    ensures { IsTrue result → HasPieceSize event.now }
+{
+    match event {
+        Event::Piece(_, bytes) => bytes.len() >= 1 && bytes.len() <= PIECE_LIMIT,
+        Event::Joined(_) => true,
+        Event::Gone(_) => true,
+        Event::Operator(_) => true,
+        Event::Tick(_) => true,
+        Event::End => true,
+    }
+}
+
+/// The event of a line.
+fn event_of(alloc: Global, line: &str) -> Result<Event, Fail>
+    ensures { IfOk result HasPieceSize }
+{
+    let line = script_line(alloc, line)?;
+    match read_script_line(alloc, line.as_bytes()) {
+        Ok(Some(event)) => {
+            if can_come(&event) {
+                return Ok(event);
+            }
+            Err("a piece without a size".into())
+        }
+        Ok(None) => Err("a line without an event".into()),
+        Err(OrderRefusal::BadLine) => Err("no line of a script".into()),
+        Err(OrderRefusal::NoMemory) => Err("no memory".into()),
+    }
+}
+
+fn events_of(alloc: Global, lines: &str) -> Result<EventList, Fail>
+    ensures { IfOk result (AllByRecursion HasPieceSize) }
+{
+    let mut events = EventList::new(alloc);
+    for line in lines.lines() {
+        events.push(event_of(alloc, line)?)?;
+    }
+    Ok(events)
+}
+
+/// Puts bytes at a place of the store, where there is room for them.
+pub fn put(store: &mut Octets, at: usize, bytes: &[u8]) {
+    if bytes.len() <= store.len() && at <= store.len() - bytes.len() {
+        store.overwrite(at, bytes);
+    }
+}
+
+/// The change that sets the epoch 1.
+const SAME_EPOCH: &[u8] = &[1, 0, 0, 0, 1, 0, 0, 0];
+
+/// Puts so many bytes of changes in one amendment behind a book that ends there.
+fn put_changes(store: &mut Octets, end: usize, length: u32) {
+    put(store, end, &[0xa5]);
+    put(store, end.saturating_add(4), &length.to_le_bytes());
+    let mut at = end.saturating_add(8);
+    for _ in 0..length / 8 {
+        put(store, at, SAME_EPOCH);
+        at = at.saturating_add(8);
+    }
+}
+
+/// The store over which a session begins.
+pub fn store_of(alloc: Global, session: &Session) -> Result<Octets, Fail> {
+    let book = bytes_of(alloc, session.book)?;
+    let mut store = blank_store(alloc)?;
+    if book.len() > 0 {
+        put(&mut store, 0, &[0xa5]);
+        put(&mut store, 64, &[1]);
+        put(&mut store, 72, &(book.len() as u64).to_le_bytes());
+        put(&mut store, 80, book.as_slice());
+    }
+    if session.changes > 0 {
+        put_changes(&mut store, book.len().saturating_add(80), session.changes);
+    }
+    Ok(store)
+}
+
+/// A world with this store, in which nothing happens.
+pub fn quiet_world(alloc: Global, store: Octets) -> Result<MemWorld, NoMemory> {
+    MemWorld::new(
+        alloc,
+        EventList::new(alloc),
+        Octets::new(alloc),
+        store,
+        NumberList::new(alloc),
+    )
+}
+
+/// A world in which a session is to happen, and the call of this number fails; of 0 none does.
+pub fn world_of(alloc: Global, session: &Session, failing: u64) -> Result<MemWorld, Fail> {
+    let mut numbers = NumberList::new(alloc);
+    numbers.push(failing)?;
+    let store = store_of(alloc, session)?;
+    let events = events_of(alloc, session.events)?;
+    Ok(MemWorld::new(alloc, events, Octets::new(alloc), store, numbers)?)
+}
+
+/// A world in which a session has happened.
+pub fn served(alloc: Global, session: &Session) -> Result<MemWorld, Fail> {
+    let mut world = world_of(alloc, session, 0)?;
+    serve(alloc, &mut world, CONFIG, TURNS)?;
+    Ok(world)
+}
