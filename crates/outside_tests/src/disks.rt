@@ -183,12 +183,20 @@ fn choice_of(name: &str) -> Result<Choice, Fail> {
     })
 }
 
-/// What a crash leaves after so many effects of a commit, by a choice.
+/// A commit on this disk, and what a crash leaves after so many effects of it, by a choice.
+fn crash_of_commit(world: &mut SteadyWorld, first: usize, name: &str) -> Result<Octets, Fail>
+    requires { 6 ≤ (steady_outside world.old).size }
+{
+    commit(world)?;
+    left(world, first, choice_of(name)?)
+}
+
+/// The same as it is shown, on a disk of six bytes.
 fn commit_left(alloc: Global, input: &str) -> Result<String, Fail> {
     let (first, name) = input.split_once(' ').ok_or("no choice")?;
+    let first = first.parse::<usize>()?;
     let mut world = steady_disk(alloc, &[0; 6])?;
-    commit(&mut world)?;
-    let file = left(&world, first.parse::<usize>()?, choice_of(name)?)?;
+    let file = crash_of_commit(&mut world, first, name)?;
     text_of(alloc, &file.as_slice())
 }
 
@@ -243,18 +251,33 @@ fn all_left(world: &MemWorld) -> Result<Octets, NoMemory> {
 
 /// What a world tells in which calls failed: its file, its effects, and what a crash may leave.
 fn failing_shown(alloc: Global, world: &MemWorld) -> Result<String, Fail> {
-    let file = text_of(alloc, &world.file())?;
-    let effects = text_of(alloc, &world.effects())?;
-    let left = text_of(alloc, &all_left(world)?.as_slice())?;
-    Ok(format!(in alloc; "{file} {} {effects} {left}", world.unrecorded())?)
+    let left = all_left(world)?;
+    let (file, effects) = (world.file(), world.effects());
+    let text = format!(in alloc;
+        "{file:?} {} {effects:?} {:?}",
+        world.unrecorded(),
+        left.as_slice()
+    )?;
+    Ok(text)
+}
+
+/// What a write at the front of a disk answers, and what the disk tells then.
+fn written_shown(alloc: Global, world: &mut MemWorld, bytes: &[u8]) -> Result<String, Fail>
+    requires { length bytes.now ≤ (mem_outside world.old).size }
+{
+    let answer = world.write_at(0, bytes);
+    let told = failing_shown(alloc, world)?;
+    Ok(format!(in alloc; "{answer:?} {told}")?)
 }
 
 /// A first write of bytes from 7 on, as many as it is told, which fails.
 fn failed_write(alloc: Global, count: &str) -> Result<String, Fail> {
     let mut world = failing_disk(alloc, &[0, 0, 0], numbers(alloc, 1, 9)?)?;
-    let bytes: &[u8] = if count == "1" { &[7] } else { &[7, 8] };
-    let answer = text_of(alloc, &world.write_at(0, bytes))?;
-    Ok(format!(in alloc; "{answer} {}", failing_shown(alloc, &world)?)?)
+    if count == "1" {
+        written_shown(alloc, &mut world, &[7])
+    } else {
+        written_shown(alloc, &mut world, &[7, 8])
+    }
 }
 
 #[test]
@@ -265,14 +288,21 @@ fn a_failed_write_of_one_byte_tears_nothing(rt: HostRuntime) -> Result<(), Fail>
     expect_rows(&rt, rows, failed_write)
 }
 
-/// A write, and two syncs of which the first fails.
-fn failed_sync(alloc: Global, _input: &str) -> Result<String, Fail> {
-    let mut world = failing_disk(alloc, &[0, 0, 0], numbers(alloc, 2, 9)?)?;
+/// What a write and two syncs answer, and the effects of a disk then.
+fn synced_shown(alloc: Global, world: &mut MemWorld) -> Result<String, Fail>
+    requires { 3 ≤ (mem_outside world.old).size }
+{
     let written = world.write_at(1, &[7, 8]);
     let first = world.sync();
     let second = world.sync();
     let effects = text_of(alloc, &world.effects())?;
     Ok(format!(in alloc; "{written:?} {first:?} {second:?} {effects}")?)
+}
+
+/// A write, and two syncs of which the first fails.
+fn failed_sync(alloc: Global, _input: &str) -> Result<String, Fail> {
+    let mut world = failing_disk(alloc, &[0, 0, 0], numbers(alloc, 2, 9)?)?;
+    synced_shown(alloc, &mut world)
 }
 
 #[test]
@@ -287,17 +317,27 @@ fn zeros(alloc: Global, count: usize) -> Result<Octets, NoMemory> {
     Ok(Octets::from_vec(vec![in alloc; 0; count]?))
 }
 
-/// How many bytes a crash at the gate of a commit leaves, and the first, on a disk of so many.
+/// How many bytes a file has, and the first.
+fn front_shown(alloc: Global, file: &Octets) -> Result<String, Fail> {
+    Ok(format!(in alloc; "{} {:?}", file.len(), file.as_slice().first())?)
+}
+
+/// What a crash at the gate of a commit leaves on a disk with this file.
+fn gate_left(alloc: Global, file: &[u8], name: &str) -> Result<Octets, Fail>
+    requires { 6 ≤ length file.now }
+{
+    let mut world = steady_disk(alloc, file)?;
+    crash_of_commit(&mut world, 5, name)
+}
+
+/// The same as it is shown, on a disk of so many bytes.
 fn large_left(alloc: Global, input: &str) -> Result<String, Fail> {
     let (count, name) = input.split_once(' ').ok_or("no choice")?;
     let file = zeros(alloc, count.parse::<usize>()?)?;
     if file.len() < 6 {
         return Err("too small".into());
     }
-    let mut world = steady_disk(alloc, file.as_slice())?;
-    commit(&mut world)?;
-    let file = left(&world, 5, choice_of(name)?)?;
-    Ok(format!(in alloc; "{} {:?}", file.len(), file.as_slice().first())?)
+    front_shown(alloc, &gate_left(alloc, file.as_slice(), name)?)
 }
 
 /// As many bytes as the store of the session manager has.

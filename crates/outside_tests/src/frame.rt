@@ -2,6 +2,7 @@ ghost use Rattle.std.specs.Prelude.{◌++◌, codes, Some};
 ghost use Rattle.std.specs.Fmt.{decimal};
 ghost use Rattle.program_frame.specs.Printing.{line};
 
+use crate::table::{expect_rows, text_of};
 use program_frame::{
     OwnTexts, ProgramFault, StandardConsole, are_one_word, conclude, read_input, read_words,
     try_line, try_numbered,
@@ -18,22 +19,31 @@ const TEXTS: OwnTexts = OwnTexts {
     no_memory: "no memory",
 };
 
-fn answer_to(rt: HostRuntime, words: &[&str]) -> Result<Option<&'static str>, Fail> {
-    let mut list = Vec::new(rt.alloc());
-    for word in words {
-        list.push(word.to_string(rt.alloc())?)?;
+/// The words of a line.
+fn words_in(alloc: Global, line: &str) -> Result<Vec<String>, Fail> {
+    let mut list = Vec::new(alloc);
+    for word in line.split_whitespace() {
+        list.push(word.to_string(alloc)?)?;
     }
-    Ok(TEXTS.answer(list.as_slice()))
+    Ok(list)
 }
+
+/// What the words of a line are answered.
+fn answer_to(alloc: Global, line: &str) -> Result<String, Fail> {
+    let words = words_in(alloc, line)?;
+    text_of(alloc, &TEXTS.answer(words.as_slice()))
+}
+
+const ANSWERS: &str = "\
+--help => Some(\"help\")
+--version => Some(\"version\")
+--help --help => None
+show => None
+ => None";
 
 #[test]
 fn the_two_words_are_answered_alone(rt: HostRuntime) -> Result<(), Fail> {
-    assert_eq!(rt; answer_to(rt, &["--help"])?, Some("help"));
-    assert_eq!(rt; answer_to(rt, &["--version"])?, Some("version"));
-    assert_eq!(rt; answer_to(rt, &["--help", "--help"])?, None);
-    assert_eq!(rt; answer_to(rt, &["show"])?, None);
-    assert_eq!(rt; answer_to(rt, &[])?, None);
-    Ok(())
+    expect_rows(&rt, ANSWERS, answer_to)
 }
 
 #[test]
@@ -50,17 +60,29 @@ fn the_console_prints(rt: HostRuntime) -> Result<(), Fail> {
     Ok(())
 }
 
+/// A world with two lines of input, the last without its newline.
+fn read_world(alloc: Global) -> Result<SteadyWorld, NoMemory> {
+    let input = Octets::from_slice(alloc, b"line\n1")?;
+    SteadyWorld::new(alloc, EventList::new(alloc), input, Octets::new(alloc))
+}
+
+/// What is read of the input up to a limit.
+fn input_within(alloc: Global, limit: &str) -> Result<String, Fail> {
+    let limit = limit.parse::<usize>()?;
+    let mut world = read_world(alloc)?;
+    let read = read_input(alloc, &mut world, limit)?;
+    text_of(alloc, &str::from_utf8(read.as_slice())?)
+}
+
+const INPUTS: &str = "\
+0 => \"\"
+4 => \"line\"
+6 => \"line\\n1\"
+99 => \"line\\n1\"";
+
 #[test]
 fn the_input_is_read_to_its_end_or_to_the_limit(rt: HostRuntime) -> Result<(), Fail> {
-    let alloc = rt.alloc();
-    for (limit, want) in [(0, ""), (4, "line"), (6, "line\n1"), (99, "line\n1")] {
-        let input = Octets::from_slice(alloc, b"line\n1")?;
-        let events = EventList::new(alloc);
-        let mut world = SteadyWorld::new(alloc, events, input, Octets::new(alloc))?;
-        let read = read_input(alloc, &mut world, limit)?;
-        assert_eq!(rt; str::from_utf8(read.as_slice())?, want, "limit {limit}");
-    }
-    Ok(())
+    expect_rows(&rt, INPUTS, input_within)
 }
 
 /// A world without input whose second call fails.
@@ -149,31 +171,26 @@ fn a_run_ends_with_its_status_and_its_line(rt: HostRuntime) -> Result<(), Fail> 
     Ok(())
 }
 
-/// What a program gives these words: how many it hands on, or its status.
-fn begun(
-    alloc: Global,
-    world: &mut SteadyWorld,
-    words: &[&str],
-) -> Result<Result<usize, u8>, NoMemory> {
-    let mut list = Vec::new(alloc);
-    for word in words {
-        list.push(word.to_string(alloc)?)?;
-    }
-    Ok(match TEXTS.begin(Ok(list), world) {
-        Ok(words) => Ok(words.len()),
-        Err(status) => Err(status),
-    })
+/// What a program gives these words, how many it hands on or its status, and what it did.
+fn begin_in(alloc: Global, world: &mut SteadyWorld, line: &str) -> Result<String, Fail> {
+    let begun = TEXTS.begin(Ok(words_in(alloc, line)?), world);
+    let count = begun.map(|words| words.len());
+    let effects = text_of(alloc, &world.effects())?;
+    Ok(format!(in alloc; "{count:?} {effects}")?)
 }
+
+fn begun(alloc: Global, line: &str) -> Result<String, Fail> {
+    let mut world = quiet_world(alloc)?;
+    begin_in(alloc, &mut world, line)
+}
+
+const BEGUN: &str = "\
+show --help => Ok(2) []
+--help => Err(0) [Printed(Octets { bytes: [104, 101, 108, 112] })]";
 
 #[test]
 fn a_program_begins_with_its_words(rt: HostRuntime) -> Result<(), Fail> {
-    let alloc = rt.alloc();
-    let mut world = quiet_world(alloc)?;
-    assert_eq!(rt; begun(alloc, &mut world, &["show", "--help"])?, Ok(2));
-    assert_eq!(rt; world.effects().len(), 0);
-    assert_eq!(rt; begun(alloc, &mut world, &["--help"])?, Err(0));
-    assert!(rt; has_printed(world.effects(), b"help"));
-    Ok(())
+    expect_rows(&rt, BEGUN, begun)
 }
 
 #[test]

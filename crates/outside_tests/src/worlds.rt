@@ -187,16 +187,21 @@ fn read_two(alloc: Global, world: &mut SteadyWorld, buffer: &mut [u8; 2]) -> Res
     Ok(format!(in alloc; "{count} {first} {second}; ")?)
 }
 
-/// What three reads bring, and the store behind them.
-fn read_whole(alloc: Global, _input: &str) -> Result<String, Fail> {
-    let mut world = steady_world(alloc)?;
+/// What three reads of a world bring, and its store behind them.
+fn three_reads(alloc: Global, world: &mut SteadyWorld) -> Result<String, Fail> {
     let mut buffer = [0, 0];
     let mut text = String::new(alloc);
     for _ in 0..3 {
-        text.push_str(read_two(alloc, &mut world, &mut buffer)?.as_str())?;
+        text.push_str(read_two(alloc, world, &mut buffer)?.as_str())?;
     }
     text.push_str(str::from_utf8(world.file())?)?;
     Ok(text)
+}
+
+/// What three reads bring, and the store behind them.
+fn read_whole(alloc: Global, _input: &str) -> Result<String, Fail> {
+    let mut world = steady_world(alloc)?;
+    three_reads(alloc, &mut world)
 }
 
 #[test]
@@ -205,18 +210,26 @@ fn a_steady_world_is_read_to_the_end(rt: HostRuntime) -> Result<(), Fail> {
     expect_rows(&rt, row, read_whole)
 }
 
+fn talk_in(world: &mut SteadyWorld) -> Result<(), Failure> {
+    world.send(1, &[9])?;
+    world.next().map(drop)?;
+    world.shut(1)?;
+    world.print(b"hi")
+}
+
 fn talk(alloc: Global, _input: &str) -> Result<String, Fail> {
     let mut world = steady_world(alloc)?;
-    world.send(1, &[9])?;
-    world.next()?;
-    world.shut(1)?;
-    world.print(b"hi")?;
+    talk_in(&mut world)?;
     effects_of(alloc, &world)
+}
+
+fn start_in(alloc: Global, world: &mut SteadyWorld) -> Result<bool, NoMemory> {
+    world.start(&command(alloc)?)
 }
 
 fn start(alloc: Global, _input: &str) -> Result<String, Fail> {
     let mut world = steady_world(alloc)?;
-    let is_started = world.start(&command(alloc)?)?;
+    let is_started = start_in(alloc, &mut world)?;
     Ok(format!(in alloc; "{is_started} {}", effects_of(alloc, &world)?)?)
 }
 
@@ -240,16 +253,21 @@ fn told(alloc: Global, world: &MemWorld) -> Result<String, Fail> {
     text_of(alloc, &world.effects())
 }
 
+/// The answers to three starts in a world, and its effects.
+fn starts_shown(alloc: Global, world: &mut MemWorld) -> Result<String, Fail> {
+    let mut text = String::new(alloc);
+    for _ in 0..3 {
+        text.push_str(start_again(alloc, world)?.as_str())?;
+    }
+    text.push_str(told(alloc, world)?.as_str())?;
+    Ok(text)
+}
+
 /// The answers to three starts, of which the one of this number fails, and the effects.
 fn three_starts(alloc: Global, number: &str) -> Result<String, Fail> {
     let failing = numbers(alloc, 9, number.parse::<u64>()?)?;
     let mut world = failing_world(alloc, failing)?;
-    let mut text = String::new(alloc);
-    for _ in 0..3 {
-        text.push_str(start_again(alloc, &mut world)?.as_str())?;
-    }
-    text.push_str(told(alloc, &world)?.as_str())?;
-    Ok(text)
+    starts_shown(alloc, &mut world)
 }
 
 const THREE_STARTS: &str = "2 => Ok(true)Ok(false)Ok(true)\
@@ -280,20 +298,25 @@ fn make_call(world: &mut MemWorld, number: u64) -> Result<(), Failure> {
     }
 }
 
-/// Which of six calls fail in a world where the two of these numbers do, and what it tells.
+/// Which of six calls fail in a world, and what it tells.
+fn calls_shown(alloc: Global, world: &mut MemWorld) -> Result<String, Fail> {
+    let mut text = String::new(alloc);
+    for number in 1..=6 {
+        if make_call(world, number) == Err(Failure::Failed) {
+            text.push_str(text_of(alloc, &number)?.as_str())?;
+        }
+    }
+    text.push_str(told(alloc, world)?.as_str())?;
+    text.push_str(str::from_utf8(world.file())?)?;
+    Ok(text)
+}
+
+/// The same in a world where the two of these numbers do.
 fn six_calls(alloc: Global, numbers_of: &str) -> Result<String, Fail> {
     let (first, second) = numbers_of.split_once(' ').ok_or("two numbers")?;
     let failing = numbers(alloc, second.parse::<u64>()?, first.parse::<u64>()?)?;
     let mut world = failing_world(alloc, failing)?;
-    let mut text = String::new(alloc);
-    for number in 1..=6 {
-        if make_call(&mut world, number) == Err(Failure::Failed) {
-            text.push_str(text_of(alloc, &number)?.as_str())?;
-        }
-    }
-    text.push_str(told(alloc, &world)?.as_str())?;
-    text.push_str(str::from_utf8(world.file())?)?;
-    Ok(text)
+    calls_shown(alloc, &mut world)
 }
 
 const FAILING_CALLS: &str = "\

@@ -2,8 +2,9 @@
 ghost use Rattle.std.specs.Prelude.{◌≡◌, false};
 ghost use Rattle.session_clients.specs.Clients.{is_reply as is_reply_message};
 
+use crate::written::{LIST, entry, property, table};
 use checkpoint_records::{Book, Entry};
-use ice_values::{Array8, Array8List, Property, PropertyList};
+use ice_values::{Array8, PropertyList};
 use round_agreement::{Round, Wanted};
 use session_books::{command_anyway, entries_without, last_commands, next_entries};
 use session_clients::Clients;
@@ -11,47 +12,34 @@ use sm_world::{Command, Conn, ConnList, NoMemory, Octets, SaveKind, SaveStyle};
 use std::alloc::{Alloc, Global};
 use std::process::Abort;
 use std::test::Fail;
+use test_tables::{expect_rows, text_of};
 use xsmp_messages::XsmpMessage;
-use xsmp_properties::{PropertyTable, SetRefusal, command_of};
-
-/// A property of one value.
-fn property(alloc: Global, name: &[u8], kind: &[u8], value: &[u8]) -> Result<Property, NoMemory> {
-    let mut values = Array8List::new(alloc);
-    values.push(Octets::from_slice(alloc, value)?)?;
-    Ok(Property {
-        name: Octets::from_slice(alloc, name)?,
-        kind: Octets::from_slice(alloc, kind)?,
-        values,
-    })
-}
+use xsmp_properties::{SetRefusal, command_of};
 
 /// What a client says of itself: its RestartCommand, which is its ShutdownCommand too, and its
 /// RestartStyleHint.
-fn table(alloc: Global, program: &[u8], hint: u8) -> Result<PropertyTable, SetRefusal> {
+fn sayings(alloc: Global, program: &[u8], hint: u8) -> Result<PropertyList, NoMemory> {
     let mut list = PropertyList::new(alloc);
-    list.push(property(alloc, b"RestartCommand", b"LISTofARRAY8", program)?)?;
-    list.push(property(alloc, b"ShutdownCommand", b"LISTofARRAY8", program)?)?;
+    for name in [b"RestartCommand".as_slice(), b"ShutdownCommand"] {
+        list.push(property(alloc, name, LIST, program)?)?;
+    }
     list.push(property(alloc, b"RestartStyleHint", b"CARD8", &[hint])?)?;
-    let mut table = PropertyTable::new(alloc)?;
-    table.set(&list)?;
-    Ok(table)
+    Ok(list)
 }
 
-/// The entry of a client of the last session.
-fn entry(alloc: Global, id: &[u8], hint: u8) -> Result<Entry, SetRefusal> {
-    Ok(Entry {
-        id: Octets::from_slice(alloc, id)?,
-        table: table(alloc, b"old", hint)?,
-    })
+/// The entry of a client of the last session, by its ID and its hint.
+fn old_entry(alloc: Global, word: &str) -> Result<Entry, Fail> {
+    let (id, hint) = word.split_once('=').ok_or("no hint")?;
+    let list = sayings(alloc, b"old", hint.parse::<u8>()?)?;
+    Ok(entry(alloc, id.as_bytes(), &list)?)
 }
 
-/// The clients a, b, c and d of the last session, of which c may start again anyway.
-fn example(alloc: Global) -> Result<Book, SetRefusal> {
+/// The clients a, b, c and d of the last session, of which c and d may start again anyway.
+fn example(alloc: Global) -> Result<Book, Fail> {
     let mut book = Book::empty(alloc)?;
-    book.entries.push(entry(alloc, b"a", 0)?)?;
-    book.entries.push(entry(alloc, b"b", 0)?)?;
-    book.entries.push(entry(alloc, b"c", 1)?)?;
-    book.entries.push(entry(alloc, b"d", 1)?)?;
+    for word in "a=0 b=0 c=1 d=1".split(' ') {
+        book.entries.push(old_entry(alloc, word)?)?;
+    }
     Ok(book)
 }
 
@@ -77,7 +65,8 @@ fn come(
     clients.join(conn)?;
     clients.ready(conn);
     let id = Octets::from_slice(alloc, id)?;
-    clients.register(conn, id, table(alloc, b"new", 0)?)?;
+    let table = table(alloc, &sayings(alloc, b"new", 0)?)?;
+    clients.register(conn, id, table)?;
     clients.give(conn, &save_yourself());
     clients.hear(conn, &XsmpMessage::SaveYourselfDone { success }, None)?;
     Ok(())
@@ -116,7 +105,7 @@ fn add_command(text: &mut Octets, command: &Command) -> Result<(), NoMemory> {
 }
 
 /// The ID and the RestartCommand of each entry.
-fn text_of(alloc: Global, entries: &[Entry]) -> Result<Octets, NoMemory> {
+fn text_of_entries(alloc: Global, entries: &[Entry]) -> Result<Octets, NoMemory> {
     let mut text = Octets::new(alloc);
     for entry in entries {
         text.append(entry.id.as_slice())?;
@@ -133,64 +122,77 @@ fn expected(alloc: Global) -> Result<[Array8; 1], NoMemory> {
     Ok([Octets::from_slice(alloc, b"b")?])
 }
 
-fn leads_to(
-    rt: &(impl Abort + Alloc<A = Global>),
-    success: bool,
-    shutdown: bool,
-    wanted: &[u8],
-) -> Result<(), Fail> {
-    let alloc = rt.alloc();
-    let clients = two(alloc, success)?;
-    let round = round(alloc, shutdown)?;
+/// The next entries of these clients, after a round of both.
+fn next_shown(alloc: Global, clients: &Clients, round: &Round) -> Result<String, Fail> {
+    let book = example(alloc)?;
     let expected = expected(alloc)?;
-    let entries = next_entries(alloc, &clients, &round, &example(alloc)?, &expected)?;
-    let text = text_of(alloc, entries.as_slice())?;
-    assert_eq!(rt; text.as_slice(), wanted);
-    Ok(())
+    let entries = next_entries(alloc, clients, round, &book, &expected)?;
+    entries_shown(alloc, entries.as_slice())
 }
 
-#[test]
-fn a_checkpoint_keeps_who_is_expected(rt: HostRuntime) -> Result<(), Fail> {
-    leads_to(&rt, true, false, b"b old|c old|d new|e new|")
+fn entries_shown(alloc: Global, entries: &[Entry]) -> Result<String, Fail> {
+    Ok(str::from_utf8(text_of_entries(alloc, entries)?.as_slice())?.to_string(alloc)?)
 }
 
-#[test]
-fn a_shutdown_does_not_keep_who_is_expected(rt: HostRuntime) -> Result<(), Fail> {
-    leads_to(&rt, true, true, b"c old|d new|e new|")
+/// The same, by whether the saves were a success, and whether this is a shutdown.
+fn led_to(alloc: Global, input: &str) -> Result<String, Fail> {
+    let (success, shutdown) = input.split_once(' ').ok_or("two words")?;
+    let clients = two(alloc, success == "saved")?;
+    let round = round(alloc, shutdown == "shutdown")?;
+    next_shown(alloc, &clients, &round)
 }
 
+/// A checkpoint keeps who is expected, a shutdown doesn't, and a failed save keeps the old entry.
+const NEXT: &str = "\
+saved checkpoint => b old|c old|d new|e new|
+saved shutdown => c old|d new|e new|
+failed shutdown => c old|d old|";
+
 #[test]
-fn a_failed_save_keeps_the_old_entry(rt: HostRuntime) -> Result<(), Fail> {
-    leads_to(&rt, false, true, b"c old|d old|")
+fn entries_are_kept_or_new(rt: HostRuntime) -> Result<(), Fail> {
+    expect_rows(&rt, NEXT, led_to)
+}
+
+fn without_shown(alloc: Global, id: &str) -> Result<String, Fail> {
+    let entries = entries_without(alloc, &example(alloc)?, id.as_bytes())?;
+    entries_shown(alloc, entries.as_slice())
 }
 
 #[test]
 fn an_entry_is_left_out(rt: HostRuntime) -> Result<(), Fail> {
-    let alloc = rt.alloc();
-    let entries = entries_without(alloc, &example(alloc)?, b"b")?;
-    let text = text_of(alloc, entries.as_slice())?;
-    assert_eq!(rt; text.as_slice(), b"a old|c old|d old|".as_slice());
-    Ok(())
+    expect_rows(&rt, "b => a old|c old|d old|", without_shown)
+}
+
+/// Whether a client of the last session has a command for its end.
+fn anyway_shown(alloc: Global, word: &str) -> Result<String, Fail> {
+    let entry = old_entry(alloc, word)?;
+    let command = command_anyway(alloc, &entry, b"ShutdownCommand")?;
+    text_of(alloc, &command.is_some())
 }
 
 #[test]
 fn commands_are_of_the_hint_anyway(rt: HostRuntime) -> Result<(), Fail> {
-    let alloc = rt.alloc();
-    let anyway = command_anyway(alloc, &entry(alloc, b"a", 1)?, b"ShutdownCommand")?;
-    assert!(rt; anyway.is_some());
-    let running = command_anyway(alloc, &entry(alloc, b"a", 0)?, b"ShutdownCommand")?;
-    assert!(rt; running.is_none());
-    Ok(())
+    expect_rows(&rt, "a=1 => true\na=0 => false", anyway_shown)
+}
+
+fn commands_shown(alloc: Global, commands: &[Command]) -> Result<String, Fail> {
+    let mut text = Octets::new(alloc);
+    for command in commands {
+        add_command(&mut text, command)?;
+    }
+    Ok(str::from_utf8(text.as_slice())?.to_string(alloc)?)
+}
+
+fn last_shown(alloc: Global, _input: &str) -> Result<String, Fail> {
+    let clients = two(alloc, true)?;
+    let book = example(alloc)?;
+    commands_shown(
+        alloc,
+        last_commands(alloc, &clients, &book.entries)?.as_slice(),
+    )
 }
 
 #[test]
 fn who_is_there_needs_no_last_command(rt: HostRuntime) -> Result<(), Fail> {
-    let alloc = rt.alloc();
-    let commands = last_commands(alloc, &two(alloc, true)?, &example(alloc)?.entries)?;
-    let mut text = Octets::new(alloc);
-    for command in commands.as_slice() {
-        add_command(&mut text, command)?;
-    }
-    assert_eq!(rt; text.as_slice(), b"old|".as_slice());
-    Ok(())
+    expect_rows(&rt, " => old|", last_shown)
 }

@@ -2,8 +2,9 @@
 ghost use Rattle.std.specs.Prelude.{◌≡◌, false};
 ghost use Rattle.session_clients.specs.Clients.{is_reply as is_reply_message};
 
-use checkpoint_records::{Book, Entry};
-use ice_values::{Array8List, Property, PropertyList};
+use crate::written::{entry, removal, words};
+use checkpoint_records::Book;
+use ice_values::PropertyList;
 use round_agreement::Wanted;
 use session_clients::{
     Clients, entry_of, first_table, given, is_bound, is_dying, is_first_saving, is_interacting,
@@ -15,40 +16,14 @@ use sm_world::{Conn, Dialog, NoMemory, Octets, SaveKind, SaveStyle};
 use std::alloc::{Alloc, Global};
 use std::process::Abort;
 use std::test::Fail;
+use test_tables::{expect_rows, text_of};
 use xsmp_messages::XsmpMessage;
 use xsmp_properties::{PropertyTable, SetRefusal};
 
-/// A property of the kind of commands, whose words are `rm` and this one.
-fn command(alloc: Global, name: &[u8], file: &[u8]) -> Result<PropertyList, NoMemory> {
-    let mut words = Array8List::new(alloc);
-    words.push(Octets::from_slice(alloc, b"rm")?)?;
-    words.push(Octets::from_slice(alloc, file)?)?;
-    let mut list = PropertyList::new(alloc);
-    list.push(Property {
-        name: Octets::from_slice(alloc, name)?,
-        kind: Octets::from_slice(alloc, b"LISTofARRAY8")?,
-        values: words,
-    })?;
-    Ok(list)
-}
-
-/// A client says that these properties are set.
-fn set(clients: &mut Clients, conn: Conn, properties: PropertyList) -> Result<(), NoMemory> {
-    clients.hear(conn, &XsmpMessage::SetProperties { properties }, None)
-}
-
-/// A client says that the properties of these names are deleted.
-fn delete(clients: &mut Clients, conn: Conn, names: Array8List) -> Result<(), NoMemory> {
-    clients.hear(conn, &XsmpMessage::DeleteProperties { names }, None)
-}
-
 /// A book with an entry under this ID.
 fn book(alloc: Global, id: &[u8]) -> Result<Book, SetRefusal> {
-    let mut table = PropertyTable::new(alloc)?;
-    table.set(&command(alloc, b"DiscardCommand", b"a")?)?;
-    let id = Octets::from_slice(alloc, id)?;
     let mut book = Book::empty(alloc)?;
-    book.entries.push(Entry { id, table })?;
+    book.entries.push(entry(alloc, id, &removal(alloc, b"DiscardCommand", b"a")?)?)?;
     Ok(book)
 }
 
@@ -87,171 +62,197 @@ fn three(alloc: Global) -> Result<Clients, NoMemory> {
     Ok(clients)
 }
 
-/// The first client is asked to save, and saves with success or not.
-fn save(clients: &mut Clients, success: bool) -> Result<(), NoMemory> {
-    clients.give(1, &save_yourself());
-    clients.hear(1, &XsmpMessage::SaveYourselfDone { success }, None)
+/// Properties of more bytes than a table may have.
+fn large(alloc: Global) -> Result<PropertyList, NoMemory> {
+    removal(alloc, b"DiscardCommand", &[b'a'; 16_384])
+}
+
+/// What a client says: how it saved, that it has no DiscardCommand any more, a large one, or one of
+/// this file.
+fn told(alloc: Global, what: &str) -> Result<XsmpMessage, Fail> {
+    match what {
+        "saved" => Ok(XsmpMessage::SaveYourselfDone { success: true }),
+        "failed" => Ok(XsmpMessage::SaveYourselfDone { success: false }),
+        "deletes" => Ok(XsmpMessage::DeleteProperties {
+            names: words(alloc, &[b"DiscardCommand"])?,
+        }),
+        "grows" => Ok(XsmpMessage::SetProperties {
+            properties: large(alloc)?,
+        }),
+        _ => Ok(XsmpMessage::SetProperties {
+            properties: removal(alloc, b"DiscardCommand", what.as_bytes())?,
+        }),
+    }
+}
+
+/// A connection is given back, or is gone; a client is sent something; or else it says something.
+fn change(alloc: Global, clients: &mut Clients, conn: Conn, what: &str) -> Result<(), Fail> {
+    match what {
+        "unset" => clients.unset(conn),
+        "leaves" => clients.leave(conn),
+        "asked" => clients.give(conn, &save_yourself()),
+        "complete" => clients.give(conn, &XsmpMessage::SaveComplete),
+        "cancelled" => clients.give(conn, &XsmpMessage::ShutdownCancelled),
+        _ => clients.hear(conn, &told(alloc, what)?, None)?,
+    }
+    Ok(())
 }
 
 fn has_discard(table: Option<&PropertyTable>) -> bool {
     table.is_some_and(|table| table.get(b"DiscardCommand").is_some())
 }
 
-#[test]
-fn connections_join_and_register(rt: HostRuntime) -> Result<(), Fail> {
-    let clients = three(rt.alloc())?;
-    assert_eq!(rt; clients.live_count(), 3);
-    assert_eq!(rt; clients.rows().len(), 3);
-    assert_eq!(rt; clients.registered(), [1].as_slice());
-    assert!(rt; is_bound(clients.phase(1)));
-    assert!(rt; is_unregistered(clients.phase(2)));
-    assert!(rt; clients.phase(3).is_none());
-    assert!(rt;
-        clients
-            .id(1)
-            .is_some_and(|id| id.as_slice() == b"one".as_slice())
-    );
-    assert!(rt; clients.id(2).is_none());
+/// Whether something is so of what a client says of itself: there is a table, or a snapshot; there is a
+/// DiscardCommand in either, or one to be run; a small list or a large one would be too much.
+fn is_so_of_table(alloc: Global, clients: &Clients, conn: Conn, what: &str) -> Result<bool, Fail> {
+    match what {
+        "table" => Ok(clients.table(conn).is_some()),
+        "snapshot" => Ok(clients.saved(conn).is_some()),
+        "told" => Ok(has_discard(clients.table(conn))),
+        "kept" => Ok(has_discard(clients.saved(conn))),
+        "discard" => Ok(clients.discard(conn)?.is_some()),
+        "small" => {
+            let list = removal(alloc, b"DiscardCommand", b"a")?;
+            Ok(clients.would_be_full(conn, &list)?)
+        }
+        _ => Ok(clients.would_be_full(conn, &large(alloc)?)?),
+    }
+}
+
+/// Whether something is so of a connection: it is live, has a phase, is bound or unregistered, has an
+/// ID, or else something of its table.
+fn is_so(alloc: Global, clients: &Clients, conn: Conn, what: &str) -> Result<bool, Fail> {
+    match what {
+        "live" => Ok(clients.is_live(conn)),
+        "phase" => Ok(clients.phase(conn).is_some()),
+        "bound" => Ok(is_bound(clients.phase(conn))),
+        "unregistered" => Ok(is_unregistered(clients.phase(conn))),
+        "id" => Ok(clients.id(conn).is_some()),
+        "one" => Ok(
+            clients
+                .id(conn)
+                .is_some_and(|id| id.as_slice() == b"one".as_slice()),
+        ),
+        _ => is_so_of_table(alloc, clients, conn, what),
+    }
+}
+
+/// What is so of all: how many are live, and how many rows there are; who is registered, and who isn't;
+/// whether anyone owes an answer; how many commands stand; or else whose ID this is.
+fn of_all(alloc: Global, clients: &Clients, what: &str) -> Result<String, Fail> {
+    match what {
+        "live" => text_of(alloc, &clients.live_count()),
+        "rows" => text_of(alloc, &clients.rows().len()),
+        "registered" => text_of(alloc, &clients.registered()),
+        "unregistered" => text_of(alloc, &clients.unregistered()?.as_slice()),
+        "owing" => text_of(alloc, &clients.is_anyone_owing()),
+        "standing" => text_of(alloc, &clients.standing()?.as_slice().len()),
+        _ => text_of(alloc, &clients.client_of(what.as_bytes())),
+    }
+}
+
+/// What is asked, of all or of one connection.
+fn answer(alloc: Global, clients: &Clients, who: &str, what: &str) -> Result<String, Fail> {
+    if who == "all" {
+        return of_all(alloc, clients, what);
+    }
+    text_of(alloc, &is_so(alloc, clients, who.parse::<Conn>()?, what)?)
+}
+
+/// A step: something happens to a connection, or is asked.
+fn take_step(
+    alloc: Global,
+    clients: &mut Clients,
+    step: &str,
+    text: &mut String,
+) -> Result<(), Fail> {
+    let (who, what) = step.split_once(' ').ok_or("nobody does it")?;
+    match what.strip_suffix('?') {
+        Some(asked) => {
+            text.push_str(answer(alloc, clients, who, asked)?.as_str())?;
+            text.push(' ')?;
+            Ok(())
+        }
+        None => change(alloc, clients, who.parse::<Conn>()?, what),
+    }
+}
+
+fn take_steps(
+    alloc: Global,
+    clients: &mut Clients,
+    steps: &str,
+    text: &mut String,
+) -> Result<(), Fail> {
+    for step in steps.split(", ") {
+        take_step(alloc, clients, step, text)?;
+    }
     Ok(())
 }
 
-#[test]
-fn clients_are_found(rt: HostRuntime) -> Result<(), Fail> {
-    let clients = three(rt.alloc())?;
-    assert_eq!(rt; clients.client_of(b"one"), Some(1));
-    assert_eq!(rt; clients.client_of(b"two"), None);
-    assert!(rt; clients.is_live(3));
-    assert!(rt; !clients.is_live(4));
-    assert!(rt; clients.table(3).is_some());
-    assert!(rt; clients.table(4).is_none());
-    let others = clients.unregistered()?;
-    assert_eq!(rt; others.as_slice(), [2, 3].as_slice());
-    Ok(())
-}
-
-#[test]
-fn connections_leave(rt: HostRuntime) -> Result<(), Fail> {
-    let mut clients = three(rt.alloc())?;
-    clients.unset(2);
-    assert!(rt; clients.phase(2).is_none());
-    clients.leave(1);
-    assert!(rt; !clients.is_live(1));
-    assert_eq!(rt; clients.registered().len(), 0);
-    assert_eq!(rt; clients.client_of(b"one"), None);
-    Ok(())
-}
-
-/// The first two connections say that they have a DiscardCommand.
-fn told(alloc: Global) -> Result<Clients, NoMemory> {
+/// What is answered to the questions among these steps of the three connections.
+fn three_shown(alloc: Global, steps: &str) -> Result<String, Fail> {
     let mut clients = three(alloc)?;
-    set(&mut clients, 1, command(alloc, b"DiscardCommand", b"a")?)?;
-    set(&mut clients, 2, command(alloc, b"DiscardCommand", b"b")?)?;
-    Ok(clients)
+    let mut text = String::new(alloc);
+    take_steps(alloc, &mut clients, steps, &mut text)?;
+    Ok(text.trim_end().to_string(alloc)?)
 }
 
-fn discard_name(alloc: Global) -> Result<Array8List, NoMemory> {
-    let mut names = Array8List::new(alloc);
-    names.push(Octets::from_slice(alloc, b"DiscardCommand")?)?;
-    Ok(names)
-}
-
-#[test]
-fn a_registered_client_sets_properties(rt: HostRuntime) -> Result<(), Fail> {
-    let clients = told(rt.alloc())?;
-    assert!(rt; has_discard(clients.table(1)));
-    assert!(rt; !has_discard(clients.table(2)));
-    let discards = clients.standing()?;
-    assert_eq!(rt; discards.as_slice().len(), 1);
-    Ok(())
-}
+/// Connections join and register, are found, and leave.
+const CONNECTIONS: &str = "\
+all live?, all rows?, all registered?, 1 bound?, 2 unregistered?, 3 phase?, 1 one?, 2 id? => 3 3 [1] true true false true false
+all one?, all two?, 3 live?, 4 live?, 3 table?, 4 table?, all unregistered? => Some(1) None true false true false [2, 3]
+2 unset, 2 phase?, 1 leaves, 1 live?, all registered?, all one? => false false [] None";
 
 #[test]
-fn a_client_deletes_properties(rt: HostRuntime) -> Result<(), Fail> {
-    let alloc = rt.alloc();
-    let mut clients = told(alloc)?;
-    let before = clients.discard(1)?.is_some();
-    assert!(rt; before);
-    delete(&mut clients, 1, discard_name(alloc)?)?;
-    let after = clients.discard(1)?.is_some();
-    assert!(rt; !after);
-    Ok(())
+fn connections_join_register_and_leave(rt: HostRuntime) -> Result<(), Fail> {
+    expect_rows(&rt, CONNECTIONS, three_shown)
 }
 
-/// A property of more bytes than a table may have.
-fn large(alloc: Global) -> Result<PropertyList, NoMemory> {
-    command(alloc, b"DiscardCommand", &[b'a'; 16_384])
-}
+/// A registered client sets properties and deletes them; a table has its limit, and a list that doesn't
+/// fit isn't set.
+const PROPERTIES: &str = "\
+1 a, 2 b, 1 told?, 2 told?, all standing? => true false 1
+1 a, 2 b, 1 discard?, 1 deletes, 1 discard? => true false
+1 small?, 1 large? => false true
+1 grows, 1 told? => false";
 
 #[test]
-fn a_table_has_its_limit(rt: HostRuntime) -> Result<(), Fail> {
-    let alloc = rt.alloc();
+fn clients_set_and_delete_properties(rt: HostRuntime) -> Result<(), Fail> {
+    expect_rows(&rt, PROPERTIES, three_shown)
+}
+
+/// A snapshot is of a save that was a success, until the next one; and a client owes an answer after a
+/// cancelled round.
+const SAVES: &str = "\
+1 asked, 1 failed, 1 snapshot?, 1 complete, 1 a, 1 asked, 1 saved, 1 kept?, 1 complete, 1 kept?, 1 asked, 1 snapshot? => false true true false
+1 asked, all owing?, 1 cancelled, all owing?, 1 failed, all owing? => false true false";
+
+#[test]
+fn clients_save(rt: HostRuntime) -> Result<(), Fail> {
+    expect_rows(&rt, SAVES, three_shown)
+}
+
+/// How many IDs are known beside a book with an entry of this one.
+fn known_shown(alloc: Global, id: &str) -> Result<String, Fail> {
     let clients = three(alloc)?;
-    let small = command(alloc, b"DiscardCommand", b"a")?;
-    assert!(rt; !clients.would_be_full(1, &small)?);
-    assert!(rt; clients.would_be_full(1, &large(alloc)?)?);
-    Ok(())
+    let book = book(alloc, id.as_bytes())?;
+    text_of(alloc, &clients.known_ids(&book))
 }
 
-#[test]
-fn a_list_that_does_not_fit_is_not_set(rt: HostRuntime) -> Result<(), Fail> {
-    let alloc = rt.alloc();
-    let mut clients = three(alloc)?;
-    set(&mut clients, 1, large(alloc)?)?;
-    assert!(rt; !has_discard(clients.table(1)));
-    Ok(())
-}
-
-#[test]
-fn a_snapshot_is_of_a_save(rt: HostRuntime) -> Result<(), Fail> {
-    let alloc = rt.alloc();
-    let mut clients = three(alloc)?;
-    save(&mut clients, false)?;
-    assert!(rt; clients.saved(1).is_none());
-    clients.give(1, &XsmpMessage::SaveComplete);
-    set(&mut clients, 1, command(alloc, b"DiscardCommand", b"a")?)?;
-    save(&mut clients, true)?;
-    assert!(rt; has_discard(clients.saved(1)));
-    clients.give(1, &XsmpMessage::SaveComplete);
-    assert!(rt; has_discard(clients.saved(1)));
-    clients.give(1, &save_yourself());
-    assert!(rt; clients.saved(1).is_none());
-    Ok(())
-}
-
-#[test]
-fn a_client_owes_after_a_cancelled_round(rt: HostRuntime) -> Result<(), Fail> {
-    let mut clients = three(rt.alloc())?;
-    clients.give(1, &save_yourself());
-    assert!(rt; !clients.is_anyone_owing());
-    clients.give(1, &XsmpMessage::ShutdownCancelled);
-    assert!(rt; clients.is_anyone_owing());
-    let done = XsmpMessage::SaveYourselfDone { success: false };
-    clients.hear(1, &done, None)?;
-    assert!(rt; !clients.is_anyone_owing());
-    Ok(())
-}
-
-#[test]
-fn ids_are_known(rt: HostRuntime) -> Result<(), Fail> {
-    let alloc = rt.alloc();
-    let clients = three(alloc)?;
-    assert_eq!(rt; clients.known_ids(&book(alloc, b"one")?), 1);
-    assert_eq!(rt; clients.known_ids(&book(alloc, b"two")?), 2);
-    Ok(())
+/// Whether a book has an entry with this ID, finds it, and a client begins with it.
+fn entry_shown(alloc: Global, id: &str) -> Result<String, Fail> {
+    let id = id.as_bytes();
+    let book = book(alloc, b"one")?;
+    let (is, found) = (is_recorded(&book, id), entry_of(&book, id).is_some());
+    let begins = has_discard(Some(&first_table(alloc, &book, id)?));
+    Ok(format!(in alloc; "{is} {found} {begins}")?)
 }
 
 #[test]
 fn a_client_begins_with_its_entry(rt: HostRuntime) -> Result<(), Fail> {
-    let alloc = rt.alloc();
-    let book = book(alloc, b"one")?;
-    assert!(rt; is_recorded(&book, b"one"));
-    assert!(rt; !is_recorded(&book, b"two"));
-    assert!(rt; entry_of(&book, b"one").is_some());
-    let old = first_table(alloc, &book, b"one")?;
-    assert!(rt; has_discard(Some(&old)));
-    let new = first_table(alloc, &book, b"two")?;
-    assert!(rt; !has_discard(Some(&new)));
-    Ok(())
+    expect_rows(&rt, "one => 1\ntwo => 2", known_shown)?;
+    let rows = "one => true true true\ntwo => false false false";
+    expect_rows(&rt, rows, entry_shown)
 }
 
 fn asks(dialog: Dialog, style: SaveStyle) -> Option<Phase> {

@@ -1,25 +1,18 @@
 //! Books and ledgers written down by hand.
 
-use checkpoint_records::{Book, Entry};
+use crate::written::{entry, removal, words};
+use checkpoint_records::Book;
 use discard_ledger::Ledger;
-use ice_values::{Array8List, Property, PropertyList};
 use sm_world::{Command, CommandList, NoMemory, Octets, PairList};
 use std::alloc::{Alloc, Global};
 use std::process::Abort;
 use std::test::Fail;
-use xsmp_properties::{PropertyTable, SetRefusal};
+use xsmp_properties::SetRefusal;
 
-/// The words `rm` and this one.
-fn words(alloc: Global, file: &[u8]) -> Result<Array8List, NoMemory> {
-    let mut words = Array8List::new(alloc);
-    words.push(Octets::from_slice(alloc, b"rm")?)?;
-    words.push(Octets::from_slice(alloc, file)?)?;
-    Ok(words)
-}
-
+/// The command whose words are `rm` and this one.
 fn command(alloc: Global, file: &[u8]) -> Result<Command, NoMemory> {
     Ok(Command {
-        words: words(alloc, file)?,
+        words: words(alloc, &[b"rm", file])?,
         directory: Octets::new(alloc),
         environment: PairList::new(alloc),
     })
@@ -34,27 +27,13 @@ fn commands(alloc: Global, files: &[u8]) -> Result<CommandList, NoMemory> {
     Ok(list)
 }
 
-/// The entry of a client with this DiscardCommand.
-fn entry(alloc: Global, file: &[u8]) -> Result<Entry, SetRefusal> {
-    let mut list = PropertyList::new(alloc);
-    list.push(Property {
-        name: Octets::from_slice(alloc, b"DiscardCommand")?,
-        kind: Octets::from_slice(alloc, b"LISTofARRAY8")?,
-        values: words(alloc, file)?,
-    })?;
-    let mut table = PropertyTable::new(alloc)?;
-    table.set(&list)?;
-    Ok(Entry {
-        id: Octets::from_slice(alloc, b"smd-00000001-00000001")?,
-        table,
-    })
-}
-
-/// A book with an entry for each byte.
+/// A book with an entry for each byte, of a client with this DiscardCommand.
 fn book(alloc: Global, files: &[u8]) -> Result<Book, SetRefusal> {
     let mut book = Book::empty(alloc)?;
     for file in files {
-        book.entries.push(entry(alloc, &[*file])?)?;
+        let list = removal(alloc, b"DiscardCommand", &[*file])?;
+        book.entries
+            .push(entry(alloc, b"smd-00000001-00000001", &list)?)?;
     }
     Ok(book)
 }

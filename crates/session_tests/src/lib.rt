@@ -17,3 +17,5 @@ mod queue;
 mod restarts;
 #[cfg(test)]
 mod rounds;
+#[cfg(test)]
+mod written;

@@ -1,8 +1,9 @@
-//! Sessions by hand, through the public calls.
+//! Sessions by hand, through the public calls. A session is a text of steps.
 ghost use Rattle.std.specs.Prelude.{IfOk};
 ghost use Rattle.ice_values.specs.declared.numbers.Endian.TheVariants.{Lsb};
 ghost use Rattle.xsmp_messages.specs.Messages.{Spells};
 
+use crate::written::{LIST, property, words};
 use checkpoint_records::Book;
 use ice_values::{Array8List, EncodeRefusal, Endian, Property, PropertyList};
 use manager_machine::{Act, Manager, Reason, SessionEvent};
@@ -10,6 +11,7 @@ use sm_world::{Conn, Dialog, NoMemory, Octets, Order};
 use std::alloc::{Alloc, Global};
 use std::process::Abort;
 use std::test::Fail;
+use test_tables::expect_rows;
 use xsmp_messages::{XsmpMessage, encode_xsmp};
 
 // What is done, as text
@@ -114,9 +116,86 @@ fn put_acts(out: &mut Octets, acts: &[Act]) -> Result<(), NoMemory> {
     Ok(())
 }
 
+// What clients say
+
+/// A client says that it has one property of one value.
+fn setting(alloc: Global, name: &[u8], kind: &[u8], value: &[u8]) -> Result<XsmpMessage, NoMemory> {
+    let mut properties = PropertyList::new(alloc);
+    properties.push(property(alloc, name, kind, value)?)?;
+    Ok(XsmpMessage::SetProperties { properties })
+}
+
+/// What a client says of its commands and its hint.
+fn told(alloc: Global, what: &str) -> Result<XsmpMessage, Fail> {
+    let (name, value) = what.split_once(' ').ok_or("nothing is told")?;
+    Ok(match name {
+        "restarts" => setting(alloc, b"RestartCommand", LIST, value.as_bytes())?,
+        "discards" => setting(alloc, b"DiscardCommand", LIST, value.as_bytes())?,
+        _ => setting(
+            alloc,
+            b"RestartStyleHint",
+            b"CARD8",
+            &[value.parse::<u8>()?],
+        )?,
+    })
+}
+
+/// What a client says of its save; or else of itself.
+fn saving(alloc: Global, what: &str) -> Result<XsmpMessage, Fail> {
+    match what {
+        "saved" => Ok(XsmpMessage::SaveYourselfDone { success: true }),
+        "failed" => Ok(XsmpMessage::SaveYourselfDone { success: false }),
+        "wants two" => Ok(XsmpMessage::SaveYourselfPhase2Request),
+        _ => told(alloc, what),
+    }
+}
+
+/// What a client says of the token, which it asks for and gives back without or with the wish that
+/// the shutdown is cancelled; or else of its save.
+fn talking(alloc: Global, what: &str) -> Result<XsmpMessage, Fail> {
+    let dialog = Dialog::Normal;
+    match what {
+        "asks" => Ok(XsmpMessage::InteractRequest { dialog }),
+        "talked" => Ok(XsmpMessage::InteractDone { cancel: false }),
+        "cancels" => Ok(XsmpMessage::InteractDone { cancel: true }),
+        _ => saving(alloc, what),
+    }
+}
+
+/// What a client says: that it closes the connection, that it looks at its properties, that it has no
+/// DiscardCommand any more, or else of the token.
+fn said(alloc: Global, what: &str) -> Result<XsmpMessage, Fail> {
+    match what {
+        "closes" => Ok(XsmpMessage::ConnectionClosed {
+            reasons: Array8List::new(alloc),
+        }),
+        "looks" => Ok(XsmpMessage::GetProperties),
+        "deletes" => Ok(XsmpMessage::DeleteProperties {
+            names: words(alloc, &[b"DiscardCommand"])?,
+        }),
+        _ => talking(alloc, what),
+    }
+}
+
+/// The ID of the first new client.
+const FIRST_ID: &[u8] = b"smd-00000001-00000001";
+
+/// An operator's order, which drops a connection or forgets the first new client where it is none of
+/// the others.
+fn ordered(alloc: Global, what: &str) -> Result<Order, Fail> {
+    match what {
+        "checkpoint" => Ok(Order::Checkpoint),
+        "shutdown" => Ok(Order::Shutdown),
+        "cancel" => Ok(Order::Cancel),
+        "status" => Ok(Order::Status),
+        "forget" => Ok(Order::Forget(Octets::from_slice(alloc, FIRST_ID)?)),
+        _ => Ok(Order::DropConn(what.parse::<Conn>()?)),
+    }
+}
+
 // A session
 
-/// A manager, and what was done since one looked last.
+/// A manager, and what was done so far.
 #[derive(Drop)]
 struct Desk {
     manager: Manager,
@@ -133,8 +212,7 @@ fn frame_of(alloc: Global, message: &XsmpMessage) -> Result<Octets, EncodeRefusa
 }
 
 /// The manager of a session over an empty book.
-fn open(rt: &(impl Abort + Alloc<A = Global>)) -> Result<Desk, Fail> {
-    let alloc = rt.alloc();
+fn open(alloc: Global) -> Result<Desk, Fail> {
     let book = Book::empty(alloc)?;
     let (manager, acts) = Manager::begin(alloc, book, 0)?;
     let mut done = Octets::new(alloc);
@@ -142,425 +220,186 @@ fn open(rt: &(impl Abort + Alloc<A = Global>)) -> Result<Desk, Fail> {
     Ok(Desk { manager, done })
 }
 
-fn join(rt: &(impl Abort + Alloc<A = Global>), desk: &mut Desk, conn: Conn) -> Result<(), Fail> {
-    assert!(rt; !desk.manager.is_live(conn));
+fn join(desk: &mut Desk, conn: Conn) -> Result<(), Fail> {
+    if desk.manager.is_live(conn) {
+        return Err("it is live".into());
+    }
     let acts = desk.manager.take(SessionEvent::Joined(conn))?;
-    put_acts(&mut desk.done, acts.as_slice())?;
-    Ok(())
+    Ok(put_acts(&mut desk.done, acts.as_slice())?)
 }
 
 /// XSMP begins on a connection.
-fn begin(rt: &(impl Abort + Alloc<A = Global>), desk: &mut Desk, conn: Conn) -> Result<(), Fail> {
-    assert!(rt; desk.manager.is_live(conn));
-    assert!(rt; desk.manager.phase(conn).is_none());
+fn begin(desk: &mut Desk, conn: Conn) -> Result<(), Fail> {
+    if !desk.manager.is_live(conn) || desk.manager.phase(conn).is_some() {
+        return Err("XSMP can't begin".into());
+    }
     let acts = desk.manager.take(SessionEvent::Ready(conn))?;
-    put_acts(&mut desk.done, acts.as_slice())?;
-    Ok(())
+    Ok(put_acts(&mut desk.done, acts.as_slice())?)
 }
 
-fn leave(rt: &(impl Abort + Alloc<A = Global>), desk: &mut Desk, conn: Conn) -> Result<(), Fail> {
-    assert!(rt; desk.manager.is_live(conn));
+fn leave(desk: &mut Desk, conn: Conn) -> Result<(), Fail> {
+    if !desk.manager.is_live(conn) {
+        return Err("it isn't live".into());
+    }
     let acts = desk.manager.take(SessionEvent::Left(conn))?;
-    put_acts(&mut desk.done, acts.as_slice())?;
-    Ok(())
+    Ok(put_acts(&mut desk.done, acts.as_slice())?)
 }
 
 /// A client says this, in its usual frame.
-fn say(
-    rt: &(impl Abort + Alloc<A = Global>),
-    desk: &mut Desk,
-    conn: Conn,
-    message: XsmpMessage,
-) -> Result<(), Fail> {
-    let frame = frame_of(rt.alloc(), &message)?;
-    assert!(rt; desk.manager.is_live(conn));
-    assert!(rt; desk.manager.phase(conn).is_some());
-    assert!(rt; frame.len() <= 65544);
+fn say(alloc: Global, desk: &mut Desk, conn: Conn, message: XsmpMessage) -> Result<(), Fail> {
+    let frame = frame_of(alloc, &message)?;
+    if !desk.manager.is_live(conn) || desk.manager.phase(conn).is_none() || frame.len() > 65544 {
+        return Err("nobody says this".into());
+    }
     let event = SessionEvent::Said(conn, message, 9, frame);
     let acts = desk.manager.take(event)?;
-    put_acts(&mut desk.done, acts.as_slice())?;
-    Ok(())
+    Ok(put_acts(&mut desk.done, acts.as_slice())?)
 }
 
 fn order(desk: &mut Desk, order: Order) -> Result<(), Fail> {
     let acts = desk.manager.take(SessionEvent::Operator(order))?;
-    put_acts(&mut desk.done, acts.as_slice())?;
-    Ok(())
+    Ok(put_acts(&mut desk.done, acts.as_slice())?)
 }
-
-// What clients say
 
 /// A client registers, under the ID that it had before or anew under the empty one.
-fn register(
-    rt: &(impl Abort + Alloc<A = Global>),
-    desk: &mut Desk,
-    conn: Conn,
-    id: &[u8],
-) -> Result<(), Fail> {
-    join(rt, desk, conn)?;
-    begin(rt, desk, conn)?;
-    let previous = Octets::from_slice(rt.alloc(), id)?;
-    say(rt, desk, conn, XsmpMessage::RegisterClient { previous })
+fn register(alloc: Global, desk: &mut Desk, conn: Conn, id: &[u8]) -> Result<(), Fail> {
+    join(desk, conn)?;
+    begin(desk, conn)?;
+    let previous = Octets::from_slice(alloc, id)?;
+    say(alloc, desk, conn, XsmpMessage::RegisterClient { previous })
 }
 
-/// A client sets one property, to one value of one byte.
-fn set(
-    rt: &(impl Abort + Alloc<A = Global>),
-    desk: &mut Desk,
-    conn: Conn,
-    name: &[u8],
-    kind: &[u8],
-    value: u8,
-) -> Result<(), Fail> {
-    let alloc = rt.alloc();
-    let mut properties = PropertyList::new(alloc);
-    properties.push(property(alloc, name, kind, value)?)?;
-    say(rt, desk, conn, XsmpMessage::SetProperties { properties })
-}
-
-fn property(alloc: Global, name: &[u8], kind: &[u8], value: u8) -> Result<Property, NoMemory> {
-    let mut values = Array8List::new(alloc);
-    values.push(Octets::from_slice(alloc, &[value])?)?;
-    Ok(Property {
-        name: Octets::from_slice(alloc, name)?,
-        kind: Octets::from_slice(alloc, kind)?,
-        values,
-    })
-}
-
-/// A client deletes its DiscardCommand.
-fn delete(rt: &(impl Abort + Alloc<A = Global>), desk: &mut Desk, conn: Conn) -> Result<(), Fail> {
-    let mut names = Array8List::new(rt.alloc());
-    names.push(Octets::from_slice(rt.alloc(), b"DiscardCommand")?)?;
-    say(rt, desk, conn, XsmpMessage::DeleteProperties { names })
-}
-
-/// The ID of the first new client.
-const FIRST_ID: &[u8] = b"smd-00000001-00000001";
-
-/// What happens in a session.
-#[derive(Clone, Copy)]
-enum Step {
-    /// A connection is opened, and nothing comes on it.
-    Joins(Conn),
-    /// A client registers as one that is new.
-    Registers(Conn),
-    /// A client registers under the ID of the first new client.
-    Returns(Conn),
-    Leaves(Conn),
-    Closes(Conn),
-    Restarts(Conn, u8),
-    Discards(Conn, u8),
-    DiscardsNothing(Conn),
-    Hints(Conn, u8),
-    Looks(Conn),
-    Saved(Conn),
-    Failed(Conn),
-    WantsTwo(Conn),
-    Asks(Conn),
-    /// A client gives the token back, and the user wants the shutdown cancelled or doesn't.
-    Talked(Conn, bool),
-    Checkpoint,
-    Shutdown,
-    Cancel,
-    Status,
-    Drops(Conn),
-    /// The first new client is forgotten.
-    Forget,
-}
-
-fn take_order(
-    rt: &(impl Abort + Alloc<A = Global>),
-    desk: &mut Desk,
-    step: Step,
-) -> Result<(), Fail> {
-    match step {
-        Step::Checkpoint => order(desk, Order::Checkpoint),
-        Step::Shutdown => order(desk, Order::Shutdown),
-        Step::Cancel => order(desk, Order::Cancel),
-        Step::Drops(conn) => order(desk, Order::DropConn(conn)),
-        Step::Forget => {
-            let id = Octets::from_slice(rt.alloc(), FIRST_ID)?;
-            order(desk, Order::Forget(id))
-        }
-        _ => order(desk, Order::Status),
+/// A connection is opened or ends; a client registers, as one that is new or under the ID of the first
+/// new one; or else it says something.
+fn act(alloc: Global, desk: &mut Desk, conn: Conn, what: &str) -> Result<(), Fail> {
+    match what {
+        "joins" => join(desk, conn),
+        "leaves" => leave(desk, conn),
+        "registers" => register(alloc, desk, conn, b""),
+        "returns" => register(alloc, desk, conn, FIRST_ID),
+        _ => say(alloc, desk, conn, said(alloc, what)?),
     }
 }
 
-fn take_save(
-    rt: &(impl Abort + Alloc<A = Global>),
-    desk: &mut Desk,
-    step: Step,
-) -> Result<(), Fail> {
-    match step {
-        Step::Saved(conn) => {
-            let success = true;
-            say(rt, desk, conn, XsmpMessage::SaveYourselfDone { success })
-        }
-        Step::Failed(conn) => {
-            let success = false;
-            say(rt, desk, conn, XsmpMessage::SaveYourselfDone { success })
-        }
-        Step::WantsTwo(conn) => say(rt, desk, conn, XsmpMessage::SaveYourselfPhase2Request),
-        Step::Asks(conn) => {
-            let dialog = Dialog::Normal;
-            say(rt, desk, conn, XsmpMessage::InteractRequest { dialog })
-        }
-        Step::Talked(conn, cancel) => say(rt, desk, conn, XsmpMessage::InteractDone { cancel }),
-        _ => take_order(rt, desk, step),
+/// A step: who does something, and what.
+fn take_step(alloc: Global, desk: &mut Desk, step: &str) -> Result<(), Fail> {
+    let (who, what) = step.split_once(' ').ok_or("nobody does it")?;
+    if who == "operator" {
+        return order(desk, ordered(alloc, what)?);
     }
+    act(alloc, desk, who.parse::<Conn>()?, what)
 }
 
-fn take_properties(
-    rt: &(impl Abort + Alloc<A = Global>),
-    desk: &mut Desk,
-    step: Step,
-) -> Result<(), Fail> {
-    let list = b"LISTofARRAY8";
-    match step {
-        Step::Restarts(conn, value) => set(rt, desk, conn, b"RestartCommand", list, value),
-        Step::Discards(conn, value) => set(rt, desk, conn, b"DiscardCommand", list, value),
-        Step::DiscardsNothing(conn) => delete(rt, desk, conn),
-        Step::Hints(conn, hint) => set(rt, desk, conn, b"RestartStyleHint", b"CARD8", hint),
-        Step::Looks(conn) => say(rt, desk, conn, XsmpMessage::GetProperties),
-        _ => take_save(rt, desk, step),
+/// Steps, with a comma between.
+fn take_steps(alloc: Global, desk: &mut Desk, steps: &str) -> Result<(), Fail> {
+    for step in steps.split(", ") {
+        take_step(alloc, desk, step)?;
     }
-}
-
-fn take_step(
-    rt: &(impl Abort + Alloc<A = Global>),
-    desk: &mut Desk,
-    step: Step,
-) -> Result<(), Fail> {
-    match step {
-        Step::Joins(conn) => join(rt, desk, conn),
-        Step::Registers(conn) => register(rt, desk, conn, b""),
-        Step::Returns(conn) => register(rt, desk, conn, FIRST_ID),
-        Step::Leaves(conn) => leave(rt, desk, conn),
-        Step::Closes(conn) => {
-            let reasons = Array8List::new(rt.alloc());
-            say(rt, desk, conn, XsmpMessage::ConnectionClosed { reasons })
-        }
-        _ => take_properties(rt, desk, step),
-    }
-}
-
-/// These steps bring these acts, each with a bar behind it.
-fn brings(
-    rt: &(impl Abort + Alloc<A = Global>),
-    desk: &mut Desk,
-    steps: &[Step],
-    text: &[u8],
-) -> Result<(), Fail> {
-    for step in steps {
-        take_step(rt, desk, *step)?;
-    }
-    assert_eq!(rt; desk.done.as_slice(), text);
-    desk.done.truncate(0);
     Ok(())
 }
 
-/// The first new client, with a RestartCommand that is in the book.
-fn one(rt: &(impl Abort + Alloc<A = Global>)) -> Result<Desk, Fail> {
-    let mut desk = open(rt)?;
-    brings(
-        rt,
-        &mut desk,
-        &[Step::Registers(1), Step::Restarts(1, b'c'), Step::Saved(1)],
-        b"Commit |1 smd-00000001-00000001|1 SaveYourself|Commit *|1 SaveComplete|",
-    )?;
-    Ok(desk)
-}
-
-/// Two new clients that are idle and aren't in the book.
-fn two(rt: &(impl Abort + Alloc<A = Global>)) -> Result<Desk, Fail> {
-    let mut desk = open(rt)?;
-    brings(
-        rt,
-        &mut desk,
-        &[Step::Registers(1), Step::Saved(1)],
-        b"Commit |1 smd-00000001-00000001|1 SaveYourself|Commit |1 SaveComplete|",
-    )?;
-    brings(
-        rt,
-        &mut desk,
-        &[Step::Registers(2), Step::Failed(2)],
-        b"2 smd-00000001-00000002|2 SaveYourself|Commit |2 SaveComplete|",
-    )?;
-    Ok(desk)
-}
-
-// Sessions
-
-#[test]
-fn a_session_is_looked_at(rt: HostRuntime) -> Result<(), Fail> {
-    let desk = one(&rt)?;
-    assert!(rt; desk.manager.bound(1));
-    assert!(rt; !desk.manager.bound(2));
-    assert!(rt; desk.manager.is_live(1));
-    assert!(rt; desk.manager.phase(1).is_some());
-    assert_eq!(rt; desk.manager.marks().begun, 0);
-    assert_eq!(rt; desk.manager.book().entries.as_slice().len(), 1);
+/// Parts of a session, with a semicolon between. What each brings has a semicolon behind it.
+fn take_parts(alloc: Global, desk: &mut Desk, parts: &str) -> Result<(), Fail> {
+    for part in parts.split("; ") {
+        take_steps(alloc, desk, part)?;
+        desk.done.append(b";")?;
+    }
     Ok(())
 }
+
+/// The acts that a session brings, each with a bar behind it.
+fn session_shown(alloc: Global, parts: &str) -> Result<String, Fail> {
+    let mut desk = open(alloc)?;
+    take_parts(alloc, &mut desk, parts)?;
+    Ok(str::from_utf8(desk.done.as_slice())?.to_string(alloc)?)
+}
+
+// Sessions. Some begin with a client that has a RestartCommand in the book, and others with two that
+// are idle and aren't in the book.
+
+/// A client keeps properties, and can't ask for what belongs to a round.
+const PROPERTIES: &str = "\
+1 registers, 1 restarts c, 1 saved; 1 discards d, 1 looks, 1 deletes, 1 looks; 1 asks, 1 wants two => Commit |1 smd-00000001-00000001|1 SaveYourself|Commit *|1 SaveComplete|;1  c d|1  c|;1 Error|1 Error|;";
 
 #[test]
 fn a_client_keeps_properties(rt: HostRuntime) -> Result<(), Fail> {
-    let mut desk = one(&rt)?;
-    let steps = [
-        Step::Discards(1, b'd'),
-        Step::Looks(1),
-        Step::DiscardsNothing(1),
-        Step::Looks(1),
-    ];
-    brings(&rt, &mut desk, &steps, b"1  c d|1  c|")?;
-    let steps = [Step::Asks(1), Step::WantsTwo(1)];
-    brings(&rt, &mut desk, &steps, b"1 Error|1 Error|")
+    expect_rows(&rt, PROPERTIES, session_shown)
 }
+
+/// A checkpoint has a second phase, and another waits for its end.
+const CHECKPOINT: &str = "\
+1 registers, 1 saved; 2 registers, 2 failed; operator checkpoint, 2 wants two, 1 saved; operator checkpoint, operator checkpoint, 2 saved => Commit |1 smd-00000001-00000001|1 SaveYourself|Commit |1 SaveComplete|;2 smd-00000001-00000002|2 SaveYourself|Commit |2 SaveComplete|;ok|1 SaveYourself|2 SaveYourself|2 SaveYourselfPhase2|;ok|busy|Commit |1 SaveComplete|2 SaveComplete|1 SaveYourself|2 SaveYourself|;";
 
 #[test]
 fn a_checkpoint_has_a_second_phase(rt: HostRuntime) -> Result<(), Fail> {
-    let mut desk = two(&rt)?;
-    brings(
-        &rt,
-        &mut desk,
-        &[Step::Checkpoint, Step::WantsTwo(2), Step::Saved(1)],
-        b"ok|1 SaveYourself|2 SaveYourself|2 SaveYourselfPhase2|",
-    )?;
-    brings(
-        &rt,
-        &mut desk,
-        &[Step::Checkpoint, Step::Checkpoint, Step::Saved(2)],
-        b"ok|busy|Commit |1 SaveComplete|2 SaveComplete|1 SaveYourself|2 SaveYourself|",
-    )
+    expect_rows(&rt, CHECKPOINT, session_shown)
 }
 
-#[test]
-fn the_token_goes_on(rt: HostRuntime) -> Result<(), Fail> {
-    let mut desk = two(&rt)?;
-    brings(
-        &rt,
-        &mut desk,
-        &[Step::Shutdown, Step::Asks(1), Step::Asks(2)],
-        b"ok|1 SaveYourself at the end|2 SaveYourself at the end|1 Interact|",
-    )?;
-    brings(
-        &rt,
-        &mut desk,
-        &[Step::Talked(1, false), Step::Cancel, Step::Cancel],
-        b"2 Interact|ok|1 ShutdownCancelled|2 ShutdownCancelled|no shutdown|",
-    )
-}
+/// The token goes on, and a shutdown is cancelled by the operator or by a client.
+const CANCELLED: &str = "\
+1 registers, 1 saved; 2 registers, 2 failed; operator shutdown, 1 asks, 2 asks; 1 talked, operator cancel, operator cancel => Commit |1 smd-00000001-00000001|1 SaveYourself|Commit |1 SaveComplete|;2 smd-00000001-00000002|2 SaveYourself|Commit |2 SaveComplete|;ok|1 SaveYourself at the end|2 SaveYourself at the end|1 Interact|;2 Interact|ok|1 ShutdownCancelled|2 ShutdownCancelled|no shutdown|;
+1 registers, 1 saved; 2 registers, 2 failed; operator shutdown, 1 asks, 1 cancels; operator checkpoint, 1 saved, 2 saved => Commit |1 smd-00000001-00000001|1 SaveYourself|Commit |1 SaveComplete|;2 smd-00000001-00000002|2 SaveYourself|Commit |2 SaveComplete|;ok|1 SaveYourself at the end|2 SaveYourself at the end|1 Interact|1 ShutdownCancelled|2 ShutdownCancelled|;ok|1 SaveYourself|2 SaveYourself|;";
 
 #[test]
-fn a_client_cancels_a_shutdown(rt: HostRuntime) -> Result<(), Fail> {
-    let mut desk = two(&rt)?;
-    brings(
-        &rt,
-        &mut desk,
-        &[Step::Shutdown, Step::Asks(1), Step::Talked(1, true)],
-        b"ok|1 SaveYourself at the end|2 SaveYourself at the end|1 Interact|1 ShutdownCancelled|2 ShutdownCancelled|",
-    )?;
-    brings(
-        &rt,
-        &mut desk,
-        &[Step::Checkpoint, Step::Saved(1), Step::Saved(2)],
-        b"ok|1 SaveYourself|2 SaveYourself|",
-    )
+fn a_shutdown_is_cancelled(rt: HostRuntime) -> Result<(), Fail> {
+    expect_rows(&rt, CANCELLED, session_shown)
 }
+
+/// A shutdown ends the run.
+const ENDED: &str = "\
+1 registers, 1 saved; 2 registers, 2 failed; 3 joins, operator shutdown, 1 saved; 2 saved, 4 joins, operator status; 1 closes, 2 leaves => Commit |1 smd-00000001-00000001|1 SaveYourself|Commit |1 SaveComplete|;2 smd-00000001-00000002|2 SaveYourself|Commit |2 SaveComplete|;ok|1 SaveYourself at the end|2 SaveYourself at the end|;Commit |1 Die|2 Die|3 Shut|4 Shut|connections 2, records 0, pending 0, epoch 1, ending|;1 Shut|Finish|;";
 
 #[test]
 fn a_shutdown_ends_the_run(rt: HostRuntime) -> Result<(), Fail> {
-    let mut desk = two(&rt)?;
-    brings(
-        &rt,
-        &mut desk,
-        &[Step::Joins(3), Step::Shutdown, Step::Saved(1)],
-        b"ok|1 SaveYourself at the end|2 SaveYourself at the end|",
-    )?;
-    let steps = [Step::Saved(2), Step::Joins(4), Step::Status];
-    brings(
-        &rt,
-        &mut desk,
-        &steps,
-        b"Commit |1 Die|2 Die|3 Shut|4 Shut|connections 2, records 0, pending 0, epoch 1, ending|",
-    )?;
-    let steps = [Step::Closes(1), Step::Leaves(2)];
-    brings(&rt, &mut desk, &steps, b"1 Shut|Finish|")
+    expect_rows(&rt, ENDED, session_shown)
 }
+
+/// A client comes back with its properties, and is started again where its hint says so.
+const RETURNED: &str = "\
+1 registers, 1 restarts c, 1 saved; 1 leaves, 2 returns, 2 looks; 3 returns, operator forget => Commit |1 smd-00000001-00000001|1 SaveYourself|Commit *|1 SaveComplete|;2 smd-00000001-00000001|2  c|;3 Error|live|;
+1 registers, 1 restarts c, 1 saved; 1 hints 2, operator checkpoint, 1 saved; 1 leaves, 1 returns, operator 1 => Commit |1 smd-00000001-00000001|1 SaveYourself|Commit *|1 SaveComplete|;ok|1 SaveYourself|Commit *|1 SaveComplete|;Restart c|1 smd-00000001-00000001|ok|1 Shut|Restart c|;";
 
 #[test]
 fn a_client_comes_back(rt: HostRuntime) -> Result<(), Fail> {
-    let mut desk = one(&rt)?;
-    let steps = [Step::Leaves(1), Step::Returns(2), Step::Looks(2)];
-    brings(&rt, &mut desk, &steps, b"2 smd-00000001-00000001|2  c|")?;
-    let steps = [Step::Returns(3), Step::Forget];
-    brings(&rt, &mut desk, &steps, b"3 Error|live|")
+    expect_rows(&rt, RETURNED, session_shown)
 }
 
-#[test]
-fn a_client_is_started_again(rt: HostRuntime) -> Result<(), Fail> {
-    let mut desk = one(&rt)?;
-    brings(
-        &rt,
-        &mut desk,
-        &[Step::Hints(1, 2), Step::Checkpoint, Step::Saved(1)],
-        b"ok|1 SaveYourself|Commit *|1 SaveComplete|",
-    )?;
-    let steps = [Step::Leaves(1), Step::Returns(1), Step::Drops(1)];
-    brings(
-        &rt,
-        &mut desk,
-        &steps,
-        b"Restart c|1 smd-00000001-00000001|ok|1 Shut|Restart c|",
-    )
-}
+/// An old state is discarded once another is in the book.
+const DISCARDED: &str = "\
+1 registers, 1 restarts c, 1 saved; 1 discards d, operator checkpoint, 1 saved; 1 discards e, operator checkpoint, 1 saved => Commit |1 smd-00000001-00000001|1 SaveYourself|Commit *|1 SaveComplete|;ok|1 SaveYourself|Commit *|1 SaveComplete|;ok|1 SaveYourself|Commit *-|1 SaveComplete|Discard d|Commit *|;";
 
 #[test]
 fn an_old_state_is_discarded(rt: HostRuntime) -> Result<(), Fail> {
-    let mut desk = one(&rt)?;
-    brings(
-        &rt,
-        &mut desk,
-        &[Step::Discards(1, b'd'), Step::Checkpoint, Step::Saved(1)],
-        b"ok|1 SaveYourself|Commit *|1 SaveComplete|",
-    )?;
-    brings(
-        &rt,
-        &mut desk,
-        &[Step::Discards(1, b'e'), Step::Checkpoint, Step::Saved(1)],
-        b"ok|1 SaveYourself|Commit *-|1 SaveComplete|Discard d|Commit *|",
-    )
+    expect_rows(&rt, DISCARDED, session_shown)
 }
+
+/// Orders are answered, also where there is nobody; and a client is forgotten.
+const ORDERS: &str = "\
+operator status, operator cancel, operator 9, operator forget; 1 joins, operator 1, operator checkpoint => Commit |connections 0, records 0, pending 0, epoch 1, idle|no shutdown|no connection|unknown|;ok|1 Shut|ok|Commit |;
+1 registers, 1 restarts c, 1 saved; operator checkpoint, operator forget, 1 saved; 1 leaves, operator forget, operator status => Commit |1 smd-00000001-00000001|1 SaveYourself|Commit *|1 SaveComplete|;ok|1 SaveYourself|busy|Commit *|1 SaveComplete|;ok|Commit |connections 0, records 0, pending 0, epoch 1, idle|;";
 
 #[test]
 fn orders_are_answered(rt: HostRuntime) -> Result<(), Fail> {
-    let mut desk = open(&rt)?;
-    brings(
-        &rt,
-        &mut desk,
-        &[Step::Status, Step::Cancel, Step::Drops(9), Step::Forget],
-        b"Commit |connections 0, records 0, pending 0, epoch 1, idle|no shutdown|no connection|unknown|",
-    )?;
-    let steps = [Step::Joins(1), Step::Drops(1), Step::Checkpoint];
-    brings(&rt, &mut desk, &steps, b"ok|1 Shut|ok|Commit |")
+    expect_rows(&rt, ORDERS, session_shown)
+}
+
+/// Who is bound, live and how far, how far the rounds are, and how many entries there are.
+fn looked_shown(alloc: Global, parts: &str) -> Result<String, Fail> {
+    let mut desk = open(alloc)?;
+    take_parts(alloc, &mut desk, parts)?;
+    look_of(alloc, &desk.manager)
+}
+
+fn look_of(alloc: Global, manager: &Manager) -> Result<String, Fail> {
+    let (first, second) = (manager.bound(1), manager.bound(2));
+    let (live, begun) = (manager.is_live(1), manager.phase(1).is_some());
+    let rounds = manager.marks().begun;
+    let entries = manager.book().entries.as_slice().len();
+    Ok(format!(in alloc; "{first} {second} {live} {begun} {rounds} {entries}")?)
 }
 
 #[test]
-fn a_client_is_forgotten(rt: HostRuntime) -> Result<(), Fail> {
-    let mut desk = one(&rt)?;
-    let steps = [Step::Checkpoint, Step::Forget, Step::Saved(1)];
-    brings(
-        &rt,
-        &mut desk,
-        &steps,
-        b"ok|1 SaveYourself|busy|Commit *|1 SaveComplete|",
-    )?;
-    let steps = [Step::Leaves(1), Step::Forget, Step::Status];
-    brings(
-        &rt,
-        &mut desk,
-        &steps,
-        b"ok|Commit |connections 0, records 0, pending 0, epoch 1, idle|",
-    )
+fn a_session_is_looked_at(rt: HostRuntime) -> Result<(), Fail> {
+    let row = "1 registers, 1 restarts c, 1 saved => true false true true 0 1";
+    expect_rows(&rt, row, looked_shown)
 }

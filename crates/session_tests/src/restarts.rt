@@ -1,94 +1,86 @@
 //! Books written down by hand.
 
+use crate::written::{LIST, entry, property};
 use checkpoint_records::{Book, Entry};
-use ice_values::{Array8List, Property, PropertyList};
+use ice_values::PropertyList;
 use restart_plan::{plan, respawn};
-use sm_world::{Command, CommandList, NoMemory, Octets};
+use sm_world::{Command, CommandList, NoMemory};
 use std::alloc::{Alloc, Global};
 use std::process::Abort;
 use std::test::Fail;
-use xsmp_properties::{PropertyTable, SetRefusal};
+use test_tables::expect_rows;
 
-/// A property of one value.
-fn property(alloc: Global, name: &[u8], kind: &[u8], value: &[u8]) -> Result<Property, NoMemory> {
-    let mut values = Array8List::new(alloc);
-    values.push(Octets::from_slice(alloc, value)?)?;
-    Ok(Property {
-        name: Octets::from_slice(alloc, name)?,
-        kind: Octets::from_slice(alloc, kind)?,
-        values,
-    })
+/// What a client says of itself: its RestartCommand and its RestartStyleHint.
+fn sayings(alloc: Global, program: &[u8], hint: u8) -> Result<PropertyList, NoMemory> {
+    let mut list = PropertyList::new(alloc);
+    list.push(property(alloc, b"RestartCommand", LIST, program)?)?;
+    list.push(property(alloc, b"RestartStyleHint", b"CARD8", &[hint])?)?;
+    Ok(list)
 }
 
 /// The entry of a client with this RestartCommand and this RestartStyleHint.
-fn entry(alloc: Global, program: &[u8], hint: u8) -> Result<Entry, SetRefusal> {
-    let mut list = PropertyList::new(alloc);
-    list.push(property(alloc, b"RestartCommand", b"LISTofARRAY8", program)?)?;
-    list.push(property(alloc, b"RestartStyleHint", b"CARD8", &[hint])?)?;
-    let mut table = PropertyTable::new(alloc)?;
-    table.set(&list)?;
-    Ok(Entry {
-        id: Octets::from_slice(alloc, b"smd-00000001-00000001")?,
-        table,
-    })
+fn entry_of(alloc: Global, word: &str) -> Result<Entry, Fail> {
+    let (program, hint) = word.split_once('=').ok_or("no hint")?;
+    let list = sayings(alloc, program.as_bytes(), hint.parse::<u8>()?)?;
+    Ok(entry(alloc, b"smd-00000001-00000001", &list)?)
 }
 
-/// One client for each hint, and one without a RestartCommand.
-fn example(alloc: Global) -> Result<Book, SetRefusal> {
+/// A book of these entries.
+fn book_of(alloc: Global, words: &str) -> Result<Book, Fail> {
     let mut book = Book::empty(alloc)?;
-    book.entries.push(entry(alloc, b"a", 0)?)?;
-    book.entries.push(entry(alloc, b"b", 1)?)?;
-    book.entries.push(entry(alloc, b"c", 2)?)?;
-    book.entries.push(entry(alloc, b"d", 3)?)?;
-    book.entries.push(entry(alloc, b"", 0)?)?;
-    book.entries.push(entry(alloc, b"f", 0)?)?;
+    for word in words.split(' ') {
+        book.entries.push(entry_of(alloc, word)?)?;
+    }
     Ok(book)
 }
 
 /// The words of commands, each with a bar behind it.
-fn words_of(alloc: Global, commands: &[Command]) -> Result<Octets, NoMemory> {
-    let mut text = Octets::new(alloc);
+fn words_of(alloc: Global, commands: &[Command]) -> Result<String, Fail> {
+    let mut text = String::new(alloc);
     for command in commands {
-        for word in command.words.as_slice() {
-            text.append(word.as_slice())?;
-            text.append(b"|")?;
-        }
+        add_words(&mut text, command)?;
     }
     Ok(text)
 }
 
-#[test]
-fn all_but_those_with_the_hint_never_are_started(rt: HostRuntime) -> Result<(), Fail> {
-    let alloc = rt.alloc();
-    let commands = plan(alloc, &example(alloc)?)?;
-    let text = words_of(alloc, commands.as_slice())?;
-    assert_eq!(rt; text.as_slice(), b"a|b|c|f|".as_slice());
+fn add_words(text: &mut String, command: &Command) -> Result<(), Fail> {
+    for word in command.words.as_slice() {
+        text.push_str(str::from_utf8(word.as_slice())?)?;
+        text.push('|')?;
+    }
     Ok(())
 }
 
-/// What is started as the client of this entry departs: its words, or nothing.
-fn respawns(
-    rt: &(impl Abort + Alloc<A = Global>),
-    program: &[u8],
-    hint: u8,
-    count: u32,
-    words: &[u8],
-) -> Result<(), Fail> {
-    let alloc = rt.alloc();
-    let entry = entry(alloc, program, hint)?;
+fn planned(alloc: Global, words: &str) -> Result<String, Fail> {
+    let book = book_of(alloc, words)?;
+    words_of(alloc, plan(alloc, &book)?.as_slice())
+}
+
+/// One client for each hint, one without a RestartCommand, and one more.
+#[test]
+fn all_but_those_with_the_hint_never_are_started(rt: HostRuntime) -> Result<(), Fail> {
+    expect_rows(&rt, "a=0 b=1 c=2 d=3 =0 f=0 => a|b|c|f|", planned)
+}
+
+/// What is started as the client of an entry departs that was started so often: its words, or nothing.
+fn respawned(alloc: Global, input: &str) -> Result<String, Fail> {
+    let (word, count) = input.split_once(' ').ok_or("no count")?;
+    let entry = entry_of(alloc, word)?;
     let mut commands = CommandList::new(alloc);
-    if let Some(command) = respawn(alloc, &entry, count)? {
+    if let Some(command) = respawn(alloc, &entry, count.parse::<u32>()?)? {
         commands.push(command)?;
     }
-    assert_eq!(rt; words_of(alloc, commands.as_slice())?.as_slice(), words);
-    Ok(())
+    words_of(alloc, commands.as_slice())
 }
+
+const RESPAWNED: &str = "\
+c=2 0 => c|
+c=2 4 => c|
+c=2 5 => 
+c=1 0 => 
+=2 0 => ";
 
 #[test]
 fn a_client_is_started_again_five_times(rt: HostRuntime) -> Result<(), Fail> {
-    respawns(&rt, b"c", 2, 0, b"c|")?;
-    respawns(&rt, b"c", 2, 4, b"c|")?;
-    respawns(&rt, b"c", 2, 5, b"")?;
-    respawns(&rt, b"c", 1, 0, b"")?;
-    respawns(&rt, b"", 2, 0, b"")
+    expect_rows(&rt, RESPAWNED, respawned)
 }

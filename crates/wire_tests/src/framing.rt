@@ -90,6 +90,41 @@ fn cut_shown(alloc: Global, digits: &str) -> Result<String, Fail> {
     Ok(text)
 }
 
+/// The digits of the second frame of a stream in two pieces, of which the first ends at this place; none
+/// where there is no such frame.
+fn second_of(alloc: Global, stream: &[u8], at: usize) -> Result<String, Fail> {
+    let pieces = three_pieces(alloc, stream, 0, at)?;
+    let mut frames = WholeFrameList::new(alloc);
+    let _ = cut_pieces(alloc, pieces.as_slice(), &mut frames)?;
+    match frames.as_slice().get(1) {
+        Some(frame) => digits_of(alloc, frame.bytes.as_slice()),
+        None => Ok(String::new(alloc)),
+    }
+}
+
+/// A frame behind a byte order, which is whole wherever its two pieces meet; no part of it is.
+fn cut_frame(alloc: Global, order: &str, digits: &str) -> Result<String, Fail> {
+    let stream = bytes_of(alloc, format!(in alloc; "{order}{digits}")?.as_str())?;
+    for at in 8..stream.len() {
+        let (front, _) = stream.split_at(at);
+        if !second_of(alloc, front, at)?.is_empty() {
+            return Err("a part of a frame is whole".into());
+        }
+        if second_of(alloc, stream.as_slice(), at)?.as_str() != digits {
+            return Err("the pieces make a difference".into());
+        }
+    }
+    second_of(alloc, stream.as_slice(), 0)
+}
+
+/// The frames of a message in both orders, once each was cut.
+pub fn cut_frames(alloc: Global, input: &str) -> Result<String, Fail> {
+    let (lsb, msb) = input.split_once(' ').ok_or("one frame")?;
+    let lsb = cut_frame(alloc, "0001000000000000", lsb)?;
+    let msb = cut_frame(alloc, "0001010000000000", msb)?;
+    Ok(format!(in alloc; "{lsb} {msb}")?)
+}
+
 /// One frame of one unit, and a byte behind it; the order byte of a later frame, which doesn't count;
 /// 8,193 units, which end the list; nothing whole, twice.
 const STREAMS: &str = "\

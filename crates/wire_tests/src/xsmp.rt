@@ -1,6 +1,7 @@
 //! Each message as the standard spells it (XSMP, chapter 10: Messages), written down by hand under
 //! major opcode 7.
 
+use crate::framing::cut_frames;
 use crate::table::{
     agreed, bytes_of, digits_of, expect_rows, is_frame, spelled, text_of, units_of, with_units,
 };
@@ -54,6 +55,10 @@ fn message_shown(alloc: Global, input: &str) -> Result<String, Fail> {
         in_both(alloc, Endian::Lsb, lsb)?,
         in_both(alloc, Endian::Msb, msb)?,
     )
+}
+
+fn cut_shown(alloc: Global, input: &str) -> Result<String, Fail> {
+    message_shown(alloc, cut_frames(alloc, input)?.as_str())
 }
 
 /// What comes where the frame has a unit more, and where it has one fewer.
@@ -183,6 +188,7 @@ fn every_message_is_read_and_written_as_the_standard_spells_it(
     rt: HostRuntime,
 ) -> Result<(), Fail> {
     expect_rows(&rt, MESSAGES, message_shown)?;
+    expect_rows(&rt, MESSAGES, cut_shown)?;
     expect_rows(&rt, LENGTHS, lengths_shown)?;
     expect_rows(&rt, REFUSED, verdict_shown)
 }

@@ -1,0 +1,59 @@
+//! Properties, tables and entries as clients write them.
+
+use checkpoint_records::Entry;
+use ice_values::{Array8List, Property, PropertyList};
+use sm_world::{NoMemory, Octets};
+use std::alloc::Global;
+use xsmp_properties::{PropertyTable, SetRefusal};
+
+/// The kind of a command.
+pub const LIST: &[u8] = b"LISTofARRAY8";
+
+/// Words of which a command or a property consists.
+pub fn words(alloc: Global, words: &[&[u8]]) -> Result<Array8List, NoMemory> {
+    let mut list = Array8List::new(alloc);
+    for word in words {
+        list.push(Octets::from_slice(alloc, word)?)?;
+    }
+    Ok(list)
+}
+
+/// A property of one value.
+pub fn property(
+    alloc: Global,
+    name: &[u8],
+    kind: &[u8],
+    value: &[u8],
+) -> Result<Property, NoMemory> {
+    Ok(Property {
+        name: Octets::from_slice(alloc, name)?,
+        kind: Octets::from_slice(alloc, kind)?,
+        values: words(alloc, &[value])?,
+    })
+}
+
+/// A property of the kind of commands, whose words are `rm` and this one.
+pub fn removal(alloc: Global, name: &[u8], file: &[u8]) -> Result<PropertyList, NoMemory> {
+    let mut list = PropertyList::new(alloc);
+    list.push(Property {
+        name: Octets::from_slice(alloc, name)?,
+        kind: Octets::from_slice(alloc, LIST)?,
+        values: words(alloc, &[b"rm", file])?,
+    })?;
+    Ok(list)
+}
+
+/// The table in which these are set.
+pub fn table(alloc: Global, list: &PropertyList) -> Result<PropertyTable, SetRefusal> {
+    let mut table = PropertyTable::new(alloc)?;
+    table.set(list)?;
+    Ok(table)
+}
+
+/// The entry of a client that says this of itself.
+pub fn entry(alloc: Global, id: &[u8], list: &PropertyList) -> Result<Entry, SetRefusal> {
+    Ok(Entry {
+        id: Octets::from_slice(alloc, id)?,
+        table: table(alloc, list)?,
+    })
+}
