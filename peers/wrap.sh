@@ -1,5 +1,5 @@
 # A program that knows no session, wrapped by smwrap: an editor in a terminal of its own, whose text is its state. It is
-# saved twice, the session ends, and the next login brings it back with the last text, under two managers.
+# saved twice, the session ends, and the next login brings it back with the last text, under three managers.
 
 # What the editor says at first, and what is typed.
 first_text=begun
@@ -173,7 +173,69 @@ wrapped_by_libsm() {
   PATH=$old_path
 }
 
+# ---- xsm
+
+# xsm's buttons have no names: each is known by its place among the windows of its shell.
+# middle SHELL N: the middle of the Nth window of the shell that is shown, and its height.
+middle() {
+  local shell
+  shell=$(xwininfo -root -tree | awk -v shell="(\"$1\" \"XSm\")" 'index($0, shell) { print $1; exit }')
+  [ -n "$shell" ] && xwininfo -id "$shell" | grep -q IsViewable || return 1
+  xwininfo -id "$shell" -tree | awk -v place="$2" '/ 0x.*\+[0-9]+\+[0-9]+$/ && seen++ == place {
+    split($(NF - 1), size, /[x+]/)
+    split($NF, at, "+")
+    print at[2] + int(size[1] / 2), at[3] + int(size[2] / 2), size[2]
+  }'
+}
+
+# press SHELL N: once the shell is shown.
+press() {
+  local x y height
+  within 20 middle "$1" "$2" > /dev/null || return 1
+  read -r x y height < <(middle "$1" "$2")
+  xdotool mousemove "$x" "$y" click 1 && sleep 0.5
+}
+
+start_xsm() {
+  ICEAUTHORITY=$HOME/.ICEauthority xsm -session wrapped > "$wrapped/lines" 2>> "$wrapped/said" < /dev/null &
+  manager_id=$!
+}
+
+# In the window for a save stand the session's name, which is typed once, and the button that begins it.
+xsm_saves() {
+  press xsm 3 && press savePopup 2 && xdotool type wrapped && press savePopup 11 && within 20 test -s "$HOME/.XSM-wrapped"
+}
+
+# The button has a menu below it, whose first line is to save and shut down.
+xsm_leaves() {
+  local x y height
+  read -r x y height < <(middle xsm 4)
+  xdotool mousemove "$x" "$y" mousedown 1 && sleep 0.5 && xdotool mousemove "$x" $((y + height)) && sleep 0.5 && xdotool mouseup 1
+  press savePopup 11
+  ends "$manager_id" 0
+}
+
+wrapped_by_xsm() {
+  local old_path=$PATH old_home=$HOME
+  # xsm aborts where the command that it starts again has more than some 230 bytes, so its folder has a short name.
+  export HOME=$room/x
+  wrapped_anew "$HOME"
+  name_program "python3 '$here/door.py' '$wrapped' || exit 1"
+  echo "smwrap $(first_words)" > "$HOME/.xsmstartup"
+  check "Xvfb starts for xsm" start_display
+  start_xsm
+  two_saves xsm xsm_saves
+  check "xsm ends" xsm_leaves
+  after_logout xsm
+  start_xsm
+  editor_comes_back xsm
+  check "xsm ends again" xsm_leaves
+  export HOME=$old_home
+  PATH=$old_path
+}
+
 wrapped_programs() {
   wrapped_by_smd
   wrapped_by_libsm
+  wrapped_by_xsm
 }

@@ -17,7 +17,7 @@ use Rattle.sm_world.specs.declared.failures.Failure.TheVariants.{Failed, NoMemor
 use Rattle.sm_world.proofs.Adding.{adds-adds, adds-none, fallen_never}
 use Rattle.client_engine.specs.Driving.{Run, Step, both}
 use Rattle.client_engine.specs.Messages.{spelled}
-use Rattle.client_engine.specs.declared.messages.Message.TheVariants.{Ice}
+use Rattle.protocol_messages.specs.declared.message.Message.TheVariants.{Ice}
 use Rattle.client_machine.specs.declared.saves.SaveAnswer.{SaveAnswer}
 use Rattle.client_peer.specs.Peers.{received}
 use Rattle.named_joiner.specs.Doing.{Follows, bytes_in}

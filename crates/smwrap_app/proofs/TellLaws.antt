@@ -37,8 +37,8 @@ use Rattle.client_engine.specs.Received.{received_of}
 use Rattle.client_engine.specs.declared.hearing.Cue.{Cue}
 use Rattle.client_engine.specs.declared.hearing.Cue.TheVariants.{Nothing, Registered, Save, Cancelled, Complete, Die, Properties, Refused, Malformed}
 use Rattle.client_engine.specs.declared.hearing.Heard.{Heard}
-use Rattle.client_engine.specs.declared.messages.Message.{Message}
-use Rattle.client_engine.specs.declared.messages.Message.TheVariants.{Xsmp}
+use Rattle.protocol_messages.specs.declared.message.Message.{Message}
+use Rattle.protocol_messages.specs.declared.message.Message.TheVariants.{Xsmp}
 use Rattle.client_engine.specs.declared.place.Arrival.{Arrival}
 use Rattle.client_engine.specs.declared.place.Counts.{Counts}
 use Rattle.client_engine.specs.declared.place.Place.{Place}

@@ -7,8 +7,8 @@ use Rattle.sm_world.specs.declared.effects.Effect.TheVariants.{Published}
 use Rattle.xsmp_messages.specs.declared.message.XsmpMessage.{XsmpMessage}
 use Rattle.xsmp_messages.specs.declared.message.XsmpMessage.TheVariants.{SaveYourselfDone, SetProperties}
 use Rattle.client_engine.specs.Answering.{answer_messages}
-use Rattle.client_engine.specs.declared.messages.Message.{Message}
-use Rattle.client_engine.specs.declared.messages.Message.TheVariants.{Xsmp}
+use Rattle.protocol_messages.specs.declared.message.Message.{Message}
+use Rattle.protocol_messages.specs.declared.message.Message.TheVariants.{Xsmp}
 use Rattle.ice_cookie.specs.declared.cookies.Cookie.{Cookie}
 use Rattle.named_joiner.specs.Script.{Entry, Replies, Says, AsksSave, AsksReasons}
 use Rattle.state_saver.specs.Files.{Holds}

@@ -10,7 +10,7 @@ use Rattle.sm_world.specs.declared.events.Event.{Event}
 use Rattle.sm_world.specs.declared.events.Event.TheVariants.{Joined, Piece, Gone, Operator, Tick, End}
 use Rattle.client_machine.specs.declared.saves.SaveAnswer.{SaveAnswer}
 use Rattle.client_engine.specs.Driving.{Run, Step}
-use Rattle.client_engine.specs.declared.messages.Message.TheVariants.{Ice}
+use Rattle.protocol_messages.specs.declared.message.Message.TheVariants.{Ice}
 use Rattle.client_peer.specs.Peers.{received}
 use Rattle.ice_cookie.specs.declared.cookies.Cookie.{Cookie}
 use Rattle.ice_messages.specs.declared.message.IceMessage.TheVariants.{ByteOrder}

@@ -1,6 +1,6 @@
 ghost use Rattle.std.specs.Prelude.{◌≡◌, [], ℕ, List, length, false, IfOk};
 ghost use Rattle.client_engine.specs.Messages.{spelled};
-ghost use Rattle.client_engine.specs.declared.messages.Message.TheVariants.{Ice};
+ghost use Rattle.protocol_messages.specs.declared.message.Message.TheVariants.{Ice};
 ghost use Rattle.ice_cookie.specs.declared.cookies.Cookie.{Cookie};
 ghost use Rattle.ice_messages.specs.declared.message.IceMessage.TheVariants.{ByteOrder};
 ghost use Rattle.ice_values.specs.declared.numbers.Endian.TheVariants.{Lsb};

@@ -4,6 +4,8 @@
 
 mod files;
 mod starting;
+#[cfg(test)]
+mod tests;
 mod wrapped;
 
 pub use wrapped::WrappedFiles;
