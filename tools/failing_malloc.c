@@ -1,5 +1,6 @@
 // A malloc that fails once: at the call whose number MALLOC_FAILS has. It then writes a byte to the file that
-// MALLOC_TELLS names. Preloaded by tools/memory-faults.
+// MALLOC_TELLS names. Preloaded by tools/memory-faults. The programs that this one starts have a malloc that never
+// fails.
 #define _GNU_SOURCE
 #include <dlfcn.h>
 #include <errno.h>
@@ -16,6 +17,7 @@ __attribute__((constructor)) static void begin(void) {
     real_malloc = dlsym(RTLD_NEXT, "malloc");
     real_realloc = dlsym(RTLD_NEXT, "realloc");
     failing = number ? strtoul(number, 0, 10) : 0;
+    unsetenv("LD_PRELOAD");
 }
 
 static int fails(void) {
