@@ -11,10 +11,15 @@ each_file() {
   for name in $installed; do
     "$1" 755 "crates/$name/out/$name" "bin/$name"
   done
-  for name in smd-session smd-ask; do
+  for name in smd-session smd-ask smd-logout; do
     "$1" 755 "session/$name" "bin/$name"
   done
   "$1" 644 session/smd.desktop share/xsessions/smd.desktop
+  "$1" 644 session/smd-logout.desktop share/applications/smd-logout.desktop
+  for name in $installed smd-session smd-ask smd-logout; do
+    "$1" 644 session/completions/smd.bash "share/bash-completion/completions/$name"
+  done
+  "$1" 644 session/completions/_smd share/zsh/site-functions/_smd
   for page in "$top"/docs/man/*.1; do
     "$1" 644 "docs/man/$(basename "$page")" "share/man/man1/$(basename "$page")"
   done

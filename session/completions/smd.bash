@@ -1,0 +1,48 @@
+# The words of smd and its like, for bash: each program's own, and behind an option that names a file the files.
+
+_smd_words() {
+  local before=$1 line=$2
+  case $before in
+    --socket | --control | --store | --authority | --record | --to | --state) echo FILES ;;
+    --order) echo lsb msb ;;
+    drop) smctl clients --plain 2> /dev/null | sed -n 's/^conn=\([0-9]*\) .*/\1/p' ;;
+    forget) smctl clients --plain 2> /dev/null | sed -n 's/.* id=\([^ -][^ ]*\).*/\1/p' ;;
+    --patience | --last-wait | --from | --saves | --id | --program | --seconds | --restore) ;;
+    *) _smd_own "$line" ;;
+  esac
+}
+
+# _smd_own LINE: what may follow the words of the line, of which the first is the program.
+_smd_own() {
+  set -- $1
+  case ${1##*/}:${2-} in
+    smd:) echo serve rehearse exercise store-check --help --version ;;
+    smd:serve) echo --socket --control --store --authority --patience --private --last-wait --quirks --record ;;
+    smd:store-check) echo --store --json ;;
+    smctl: | smctl:--control) echo checkpoint shutdown cancel status clients drop forget --control --help --version ;;
+    smctl:clients) echo --plain ;;
+    smctl:shutdown) echo --wait ;;
+    smtrace:) echo show replay --help --version ;;
+    smclient:*) echo --socket --authority --id --program --saves --interact --phase-two --help --version ;;
+    smrelay:) echo serve rehearse --help --version ;;
+    smrelay:serve) echo --socket --to --order ;;
+    smrelay:rehearse) echo lsb msb ;;
+    smwrap:*) echo --socket --authority --state --from --id -- --help --version ;;
+    smd-session:) echo --list --restore ;;
+    smd-logout:) echo --now --save ;;
+    smd-ask:) echo --seconds --tell ;;
+  esac
+}
+
+_smd() {
+  local word=${COMP_WORDS[COMP_CWORD]} words
+  words=$(_smd_words "${COMP_WORDS[COMP_CWORD - 1]}" "${COMP_WORDS[*]:0:COMP_CWORD}")
+  if [ "$words" = FILES ]; then
+    compopt -o filenames 2> /dev/null
+    mapfile -t COMPREPLY < <(compgen -f -- "$word")
+  else
+    mapfile -t COMPREPLY < <(compgen -W "$words" -- "$word")
+  fi
+}
+
+complete -F _smd smd smctl smtrace smclient smrelay smwrap smd-session smd-logout smd-ask
