@@ -5,11 +5,11 @@ use Rattle.std.specs.Prelude.{flat_map}
 use Rattle.std.specs.List.{AllByRecursion}
 use Rattle.ice_values.specs.Cells.{Cells, Begins}
 use Rattle.ice_values.specs.Fields.{IsCounted}
-use Rattle.ice_values.specs.Reading.{◌>>=◌, many_at, FailsAs}
+use Rattle.ice_values.specs.Reading.{◌>>=◌, many_at, rest_of, FailsAs}
 use Rattle.ice_values.specs.declared.refusals.ValueRefusal.{ValueRefusal}
 use Rattle.ice_values.specs.declared.refusals.ValueRefusal.TheVariants.{TooLong, Short, NoMemory}
 use Rattle.ice_values.proofs.CellLaws.{IsBytes, Begins-append, Begins-split, Begins-fits}
-use Rattle.ice_values.proofs.OptionLaws.{some_is}
+use Rattle.ice_values.proofs.OptionLaws.{some_is, none_not_some}
 use Rattle.ice_values.proofs.FieldLaws.{Exact, bind_some}
 
 many_taken : {A : Type 0} (cells : A → Cells) (Fits : A → Type 0) (read : List ℕ → Option (A × List ℕ)) → Exact cells Fits read → (n : ℕ) (bytes : List ℕ) (xs : List A) (rest : List ℕ) → IsBytes bytes
@@ -81,3 +81,39 @@ is_done read front count i bytes total le h =
     let step : count - i ≡ 0 = omega arith in
     let is : many_at read (count - i) bytes ≡ Some ([], bytes) = rw step refl in
     sym h ∙ ap (with_front front) is ∙ rw (append-nil front) refl
+
+-- ---- in a loop that passes values over
+
+rest_behind : {A : Type 0} (o : Option (List A × List ℕ)) (x : A) → rest_of (o >>= λ others. Some (x ∷ others.0, others.1)) ≡ rest_of o
+rest_behind None x = refl
+rest_behind (Some y) x = refl
+
+pub passes_on : {A : Type 0} (read : List ℕ → Option (A × List ℕ)) (count i : ℕ) (bytes rest : List ℕ) (total : Option (List ℕ)) → i < count → rest_of (read bytes) ≡ Some rest
+    → rest_of (many_at read (count - i) bytes) ≡ total → rest_of (many_at read (count - (i + 1)) rest) ≡ total
+passes_on {A} read count i bytes rest total lt e h = passed (read bytes) refl e
+  where
+    step : count - i ≡ suc (count - (i + 1))
+    step = omega arith
+
+    passed : (o : Option (A × List ℕ)) → read bytes ≡ o → rest_of o ≡ Some rest → rest_of (many_at read (count - (i + 1)) rest) ≡ total
+    passed None is says = absurd (none_not_some rest says)
+    passed (Some x) is says =
+        let at : read bytes ≡ Some (x.0, rest) = is ∙ ap (λ r. Some (x.0, r)) (some_is x.1 rest says) in
+        sym (rest_behind (many_at read (count - (i + 1)) rest) x.0) ∙ ap rest_of (sym (next_is read (count - (i + 1)) bytes x.0 rest at)) ∙ ap (λ n. rest_of (many_at read n bytes)) (sym step) ∙ h
+
+pub passes_none : {A : Type 0} (read : List ℕ → Option (A × List ℕ)) (count i : ℕ) (bytes : List ℕ) (total : Option (List ℕ)) → i < count → rest_of (read bytes) ≡ None
+    → rest_of (many_at read (count - i) bytes) ≡ total → total ≡ None
+passes_none {A} read count i bytes total lt e h = passed (read bytes) refl e
+  where
+    step : count - i ≡ suc (count - (i + 1))
+    step = omega arith
+
+    passed : (o : Option (A × List ℕ)) → read bytes ≡ o → rest_of o ≡ None → total ≡ None
+    passed None is says = sym h ∙ ap (λ n. rest_of (many_at read n bytes)) step ∙ ap rest_of (none_is read (count - (i + 1)) bytes is)
+    passed (Some x) is says = absurd (none_not_some x.1 (sym says))
+
+pub passed_all : {A : Type 0} (read : List ℕ → Option (A × List ℕ)) (count i : ℕ) (bytes : List ℕ) (total : Option (List ℕ)) → count ≤ i → rest_of (many_at read (count - i) bytes) ≡ total → total ≡ Some bytes
+unfolding many_at
+passed_all read count i bytes total le h =
+    let step : count - i ≡ 0 = omega arith in
+    sym h ∙ ap (λ n. rest_of (many_at read n bytes)) step

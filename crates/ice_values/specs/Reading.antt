@@ -22,6 +22,16 @@ abbrev pub Answers : {X Y : Type 0} → (X → Y) → Result X ValueRefusal → 
 Answers view (Ok x) answer = answer ≡ Some (view x)
 Answers view (Err refusal) answer = FailsAs refusal answer
 
+-- a call's answer, seen by view, is this one
+abbrev pub Finds : {X Y : Type 0} → (X → Y) → Option X → Option Y → Type 0
+Finds view (Some x) answer = answer ≡ Some (view x)
+Finds view None answer = answer ≡ None
+
+-- what follows a value that was read
+abbrev pub rest_of : {A : Type 0} → Option (A × List ℕ) → Option (List ℕ)
+rest_of (Some x) = Some x.1
+rest_of None = None
+
 -- a number of n bytes
 abbrev pub card_at : Endian → ℕ → List ℕ → Option (ℕ × List ℕ)
 card_at e n bytes = if nat_lt (length bytes) n then None else Some (number e n bytes, drop n bytes)

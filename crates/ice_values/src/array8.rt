@@ -1,10 +1,10 @@
 ghost use Rattle.std.specs.Prelude.{◌≡◌, ◌<◌, ◌++◌, length, OnOk, OnErr};
 ghost use Rattle.ice_values.specs.Cells.{zeros};
 ghost use Rattle.ice_values.specs.Properties.{array8, IsArray8, array8_at, array8_list, IsListed};
-ghost use Rattle.ice_values.specs.Reading.{ReadsFront};
+ghost use Rattle.ice_values.specs.Reading.{Finds, ReadsFront};
 ghost use Rattle.ice_values.specs.Writing.{Extends};
 
-use crate::fronts::{skip, take_bytes, take_card32};
+use crate::fronts::{cut_bytes, cut_card32, pass_bytes, skip, take_bytes, take_card32};
 use crate::lengths::BODY_LIMIT;
 use crate::numbers::pad;
 use crate::spelled::{Spelled, read_front, write_whole};
@@ -29,6 +29,18 @@ fn put_counted(endian: Endian, bytes: &[u8], out: &mut Octets) -> Result<(), NoM
     put_zeros(pad(4 + bytes.len(), 8), out)
 }
 
+/// The bytes that are spelled at the front, where they lie, and what follows them. None where there are
+/// none.
+#[tactic(auto, unfolding(crate::specs::Properties::array8_at))]
+pub fn cut_array8(endian: Endian, bytes: &[u8]) -> Option<(&[u8], &[u8])>
+    ensures { Finds (λ x. (x.0.now, x.1.now)) result (array8_at endian bytes.now) }
+{
+    let (count, rest) = cut_card32(endian, bytes)?;
+    let (text, rest) = cut_bytes(count as usize, rest)?;
+    let rest = pass_bytes(pad(4 + count as usize, 8), rest)?;
+    Some((text, rest))
+}
+
 /// Bytes are spelled by their count, themselves, and padding to a multiple of 8.
 impl Spelled for Octets {
     ghost cells = { array8 };
@@ -43,6 +55,11 @@ impl Spelled for Octets {
         let (text, rest) = take_bytes(count as usize, rest)?;
         let rest = skip(pad(4 + count as usize, 8), rest)?;
         Ok((Octets::from_slice(alloc, text)?, rest))
+    }
+
+    fn pass(endian: Endian, bytes: &[u8]) -> Option<&[u8]> {
+        let (_, rest) = cut_array8(endian, bytes)?;
+        Some(rest)
     }
 
     fn put(&self, endian: Endian, out: &mut Octets) -> Result<(), NoMemory> {

@@ -51,6 +51,13 @@ impl Spelled for Property {
         Ok((Property { name, kind, values }, rest))
     }
 
+    #[tactic(auto, unfolding(crate::specs::Properties::property_at))]
+    fn pass(endian: Endian, bytes: &[u8]) -> Option<&[u8]> {
+        let rest = Array8::pass(endian, bytes)?;
+        let rest = Array8::pass(endian, rest)?;
+        Array8List::pass(endian, rest)
+    }
+
     #[tactic(auto, using(crate::proofs::WriteLaws::adds_cells))]
     fn put(&self, endian: Endian, out: &mut Octets) -> Result<(), NoMemory> {
         self.name.put(endian, out)?;

@@ -2,11 +2,11 @@ ghost use Rattle.std.specs.Prelude.{◌≡◌, ◌≤◌, ◌<◌, ◌++◌, ◌
 ghost use Rattle.std.specs.List.{AllByRecursion};
 ghost use Rattle.ice_values.specs.Cells.{Cells, zeros};
 ghost use Rattle.ice_values.specs.Properties.{listed, IsListed, listed_at};
-ghost use Rattle.ice_values.specs.Reading.{Answers, Exact, many_at, ReadsFront};
+ghost use Rattle.ice_values.specs.Reading.{Answers, Exact, Finds, many_at, ReadsFront, rest_of};
 ghost use Rattle.ice_values.specs.Writing.{Extends};
 ghost use Rattle.ice_values.specs.declared.numbers.Endian.{Endian as AnyEndian};
 
-use crate::fronts::{skip, take_card32};
+use crate::fronts::{cut_card32, pass_bytes, skip, take_card32};
 use crate::lengths::within_limit;
 use crate::writing::{put_card32, put_zeros};
 use crate::{Endian, ValueRefusal};
@@ -24,6 +24,10 @@ pub trait Spelled: Sized + Drop {
     /// The value at the front, and what follows it.
     fn take(alloc: Global, endian: Endian, bytes: &[u8]) -> Result<(Self, &[u8]), ValueRefusal>
         ensures { Answers (λ x. (x.0, x.1.now)) result (front endian bytes.now) };
+
+    /// What follows the value at the front. None where there is none. This takes no memory.
+    fn pass(endian: Endian, bytes: &[u8]) -> Option<&[u8]>
+        ensures { Finds (λ x. x.now) result (rest_of (front endian bytes.now)) };
 
     /// Adds its spelling with zeros for padding.
     fn put(&self, endian: Endian, out: &mut Octets) -> Result<(), NoMemory>
@@ -57,6 +61,17 @@ pub fn take_many<T: Spelled>(
         rest = after;
     }
     Ok((items, rest))
+}
+
+/// What follows so many values at the front. None where there are fewer.
+pub fn pass_many<T: Spelled>(endian: Endian, count: u32, bytes: &[u8]) -> Option<&[u8]>
+    ensures { Finds (λ x. x.now) result (rest_of (many_at (T.front endian) count bytes.now)) }
+{
+    let mut rest = bytes;
+    for _passed in 0..count {
+        rest = T::pass(endian, rest)?;
+    }
+    Some(rest)
 }
 
 /// Adds values, one after the other.
@@ -103,6 +118,13 @@ impl<T: Spelled> Spelled for ListOf<T> {
         let (count, rest) = take_card32(endian, bytes)?;
         let rest = skip(4, rest)?;
         take_many(alloc, endian, count, rest)
+    }
+
+    #[tactic(auto, unfolding(crate::specs::Properties::listed_at))]
+    fn pass(endian: Endian, bytes: &[u8]) -> Option<&[u8]> {
+        let (count, rest) = cut_card32(endian, bytes)?;
+        let rest = pass_bytes(4, rest)?;
+        pass_many::<T>(endian, count, rest)
     }
 
     fn put(&self, endian: Endian, out: &mut Octets) -> Result<(), NoMemory> {

@@ -4,7 +4,7 @@ ghost use Rattle.ice_values.specs.Fields.{text16, IsText16};
 ghost use Rattle.ice_values.specs.Reading.{Answers, ReadsFront, text16_at};
 ghost use Rattle.ice_values.specs.Writing.{Extends};
 
-use crate::fronts::{skip, take_bytes, take_card16};
+use crate::fronts::{cut_bytes, cut_card16, pass_bytes, skip, take_bytes, take_card16};
 use crate::lengths::BODY_LIMIT;
 use crate::numbers::pad;
 use crate::spelled::{Spelled, read_front, write_whole};
@@ -104,6 +104,13 @@ impl Spelled for Text16 {
         let (text, rest) = take_bytes(count as usize, rest)?;
         let rest = skip(pad(2 + count as usize, 4), rest)?;
         Ok((Text16::from_slice(alloc, text)?, rest))
+    }
+
+    #[tactic(auto, unfolding(crate::specs::Reading::text16_at))]
+    fn pass(endian: Endian, bytes: &[u8]) -> Option<&[u8]> {
+        let (count, rest) = cut_card16(endian, bytes)?;
+        let (_, rest) = cut_bytes(count as usize, rest)?;
+        pass_bytes(pad(2 + count as usize, 4), rest)
     }
 
     fn put(&self, endian: Endian, out: &mut Octets) -> Result<(), NoMemory> {

@@ -4,7 +4,7 @@ ghost use Rattle.ice_values.specs.Fields.{version as version_cells, IsVersion};
 ghost use Rattle.ice_values.specs.Reading.{Answers, ReadsFront, version_at};
 ghost use Rattle.ice_values.specs.Writing.{Extends};
 
-use crate::fronts::take_card16;
+use crate::fronts::{cut_card16, take_card16};
 use crate::spelled::{Spelled, write_whole};
 use crate::writing::put_card16;
 use crate::{Endian, ValueRefusal};
@@ -51,6 +51,13 @@ impl Spelled for Version {
         bytes: &[u8],
     ) -> Result<(Version, &[u8]), ValueRefusal> {
         take_version(endian, bytes)
+    }
+
+    #[tactic(auto, unfolding(crate::specs::Reading::version_at))]
+    fn pass(endian: Endian, bytes: &[u8]) -> Option<&[u8]> {
+        let (_, rest) = cut_card16(endian, bytes)?;
+        let (_, rest) = cut_card16(endian, rest)?;
+        Some(rest)
     }
 
     fn put(&self, endian: Endian, out: &mut Octets) -> Result<(), NoMemory> {
