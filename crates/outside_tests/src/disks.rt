@@ -2,7 +2,6 @@ ghost use Rattle.std.specs.Prelude.{◌≡◌, ◌≤◌, length, None, IfOk, On
 ghost use Rattle.sm_world.specs.Worlds.{mem_outside, steady_outside};
 ghost use Rattle.sm_world.specs.Outside.{Rose};
 
-use crate::table::{expect_rows, text_of};
 use crate::worlds::numbers;
 use sm_world::{
     Choice, Disk, EventList, Failed, Failure, MemWorld, NoMemory, NumberList, Octets, SteadyWorld,
@@ -11,6 +10,7 @@ use sm_world::{
 use std::alloc::{Alloc, Global};
 use std::process::Abort;
 use std::test::Fail;
+use test_tables::{expect_rows, text_of};
 
 /// A disk that tells nothing of what it does.
 #[derive(Drop)]

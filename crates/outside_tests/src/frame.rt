@@ -2,7 +2,6 @@ ghost use Rattle.std.specs.Prelude.{◌++◌, codes, Some};
 ghost use Rattle.std.specs.Fmt.{decimal};
 ghost use Rattle.program_frame.specs.Printing.{line};
 
-use crate::table::{expect_rows, text_of};
 use program_frame::{
     OwnTexts, ProgramFault, StandardConsole, are_one_word, conclude, read_input, read_words,
     try_line, try_numbered,
@@ -12,6 +11,7 @@ use std::alloc::Global;
 use std::io;
 use std::io::ErrorKind;
 use std::test::Fail;
+use test_tables::{expect_rows, text_of};
 
 const TEXTS: OwnTexts = OwnTexts {
     help: "help",

@@ -8,6 +8,4 @@ mod frame;
 #[cfg(test)]
 mod lines;
 #[cfg(test)]
-mod table;
-#[cfg(test)]
 mod worlds;

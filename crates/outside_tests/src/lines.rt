@@ -1,4 +1,3 @@
-use crate::table::{expect_rows, text_of};
 use control_lines::{
     effect_line, has_line, next_line, put_hex, read_bytes, read_conn, read_hex, read_number,
     read_order, read_script_line, split_once, started_line,
@@ -7,6 +6,7 @@ use sm_world::{Command, Effect, Event, NoMemory, Octets, OctetsList, PairList};
 use std::alloc::{Alloc, Global};
 use std::process::Abort;
 use std::test::Fail;
+use test_tables::{expect_rows, text_of};
 
 fn octets(alloc: Global, text: &str) -> Result<Octets, NoMemory> {
     Octets::from_slice(alloc, text.as_bytes())

@@ -2,7 +2,6 @@ ghost use Rattle.std.specs.Prelude.{IfOk};
 ghost use Rattle.std.specs.List.{AllByRecursion};
 ghost use Rattle.sm_world.specs.Events.{HasPieceSize};
 
-use crate::table::{expect_rows, text_of};
 use sm_world::{
     Command, Console, Duplicate, Event, EventList, Failure, Links, MemWorld, NoMemory, NumberList,
     Octets, OctetsList, Order, PairList, Spawner, SteadyWorld,
@@ -10,6 +9,7 @@ use sm_world::{
 use std::alloc::{Alloc, Global};
 use std::process::Abort;
 use std::test::Fail;
+use test_tables::{expect_rows, text_of};
 
 // Bytes and lists
 

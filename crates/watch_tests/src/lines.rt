@@ -3,6 +3,7 @@ use sm_world::Octets;
 use std::alloc::{Alloc, Global};
 use std::process::Abort;
 use std::test::Fail;
+use test_tables::expect_rows;
 
 /// Frames by their names, in the order of the least significant byte first. The client speaks XSMP
 /// under the major opcode 1, and the manager under 2.
@@ -81,18 +82,6 @@ fn line_of(alloc: Global, turns: &str) -> Result<String, Fail> {
     )
 }
 
-/// Ends the test where the turns of a row give another line than the one that is wanted.
-fn expect_lines(rt: &(impl Abort + Alloc<A = Global>), rows: &str) -> Result<(), Fail> {
-    for row in rows.lines() {
-        let Some((turns, want)) = row.split_once(" => ") else {
-            return Err("a row without an arrow".into());
-        };
-        let line = line_of(rt.alloc(), turns)?;
-        assert_eq!(rt; line.as_str(), want, "for {turns}");
-    }
-    Ok(())
-}
-
 const SAVES: &str = "\
 xsmp => conn=3 holds=no stage=joining logout=no silent=0 asked=none answered=none id=- program=-
 xsmp c:register => conn=3 holds=no stage=joining logout=no silent=0 asked=none answered=register-client id=- program=-
@@ -137,17 +126,17 @@ xsmp m:die c:die => conn=3 holds=yes stage=dying logout=yes silent=0 asked=die a
 
 #[test]
 fn saves_are_followed(rt: HostRuntime) -> Result<(), Fail> {
-    expect_lines(&rt, SAVES)
+    expect_rows(&rt, SAVES, line_of)
 }
 
 #[test]
 fn clients_are_named(rt: HostRuntime) -> Result<(), Fail> {
-    expect_lines(&rt, NAMES)
+    expect_rows(&rt, NAMES, line_of)
 }
 
 #[test]
 fn streams_are_understood(rt: HostRuntime) -> Result<(), Fail> {
-    expect_lines(&rt, STREAMS)
+    expect_rows(&rt, STREAMS, line_of)
 }
 
 #[test]

@@ -1,11 +1,12 @@
 //! Authority files against bytes written down by hand.
 
-use crate::table::{bytes_of, digits_of, expect_rows, text_of};
+use crate::written::{bytes_of, digits_of};
 use ice_cookie::{AuthorityEntry, AuthorityList, authority_bytes, read_authority};
 use sm_world::{NoMemory, Octets};
 use std::alloc::{Alloc, Global};
 use std::process::Abort;
 use std::test::Fail;
+use test_tables::{expect_rows, text_of};
 
 /// The entry by which a protocol lets a client in at the socket `/s` of the host `h`.
 fn entry(alloc: Global, protocol: &[u8], proof: &[u8]) -> Result<AuthorityEntry, NoMemory> {

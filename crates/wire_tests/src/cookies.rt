@@ -1,8 +1,8 @@
-use crate::table::{expect_rows, text_of};
 use ice_cookie::Cookie;
 use std::alloc::{Alloc, Global};
 use std::process::Abort;
 use std::test::Fail;
+use test_tables::{expect_rows, text_of};
 
 const COOKIE: Cookie = Cookie(*b"0123456789abcdef");
 

@@ -1,6 +1,6 @@
 //! Frames of the set-up by their names, and the messages that they spell.
 
-use crate::table::{bytes_of, digits_of, is_frame};
+use crate::written::{bytes_of, digits_of, is_frame};
 use ice_cookie::Cookie;
 use ice_messages::{IceMessage, decode_ice, encode_ice, minor};
 use ice_values::{DecodeRefusal, Endian, Enumerated};

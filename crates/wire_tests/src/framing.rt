@@ -1,13 +1,14 @@
 ghost use Rattle.std.specs.Prelude.{◌≤◌, IfOk};
 ghost use Rattle.ice_framing.specs.Frames.{IsPartial, units, unit_limit};
 
-use crate::table::{bytes_of, digits_of, expect_rows, text_of};
+use crate::written::{bytes_of, digits_of};
 use ice_framing::{FRAME_LIMIT, Remainder, Splitter, WholeFrameList, cut_pieces};
 use ice_values::Endian;
 use sm_world::{NoMemory, Octets, OctetsList};
 use std::alloc::{Alloc, Global};
 use std::process::Abort;
 use std::test::Fail;
+use test_tables::{expect_rows, text_of};
 
 /// The stream in pieces that end at two places.
 fn three_pieces(

@@ -2,15 +2,14 @@
 
 use crate::frames::decoded;
 use crate::framing::cut_frames;
-use crate::table::{
-    agreed, bytes_of, digits_of, expect_rows, spelled, text_of, units_of, with_units,
-};
+use crate::written::{agreed, bytes_of, digits_of, spelled, units_of, with_units};
 use ice_messages::{IceMessage, encode_ice};
 use ice_values::{Endian, Text16};
 use sm_world::Octets;
 use std::alloc::{Alloc, Global};
 use std::process::Abort;
 use std::test::Fail;
+use test_tables::{expect_rows, text_of};
 
 fn verdict(alloc: Global, endian: Endian, frame: &[u8]) -> Result<String, Fail> {
     match decoded(alloc, endian, frame)? {

@@ -16,10 +16,10 @@ mod opener;
 #[cfg(test)]
 mod setup;
 #[cfg(test)]
-mod table;
-#[cfg(test)]
 mod texts;
 #[cfg(test)]
 mod values;
+#[cfg(test)]
+mod written;
 #[cfg(test)]
 mod xsmp;

@@ -2,13 +2,13 @@
 //! byte. An input names the frames that come, one after the other.
 
 use crate::frames::{COOKIE, MESSAGES, answer_name, answer_or_dash, message_of};
-use crate::table::expect_rows;
 use ice_messages::IceMessage;
 use ice_setup::{AnyOpener, OpenMoved, OpenOrder};
 use ice_values::Endian;
 use std::alloc::{Alloc, Global};
 use std::process::Abort;
 use std::test::Fail;
+use test_tables::expect_rows;
 
 /// What a message brings in a state.
 fn taken(alloc: Global, state: AnyOpener, message: IceMessage) -> Result<OpenMoved, Fail> {

@@ -2,7 +2,7 @@
 //! byte. An input names the frames that come, one after the other.
 
 use crate::frames::{COOKIE, MESSAGES, answer_digits, answer_name, answer_or_dash, message_of};
-use crate::table::{bytes_of, digits_of, expect_rows};
+use crate::written::{bytes_of, digits_of};
 use ice_messages::IceMessage;
 use ice_setup::{
     AnySetup, AwaitOrder, Moved, Offending, error_of, opcode_values, refusal, text_values,
@@ -13,6 +13,7 @@ use sm_world::Octets;
 use std::alloc::{Alloc, Global};
 use std::process::Abort;
 use std::test::Fail;
+use test_tables::expect_rows;
 
 /// What a message brings in a state.
 fn taken(

@@ -1,13 +1,14 @@
 //! Each message as a frame, least significant byte first, and its line, both written down by hand.
 
 use crate::frames::decoded as ice_decoded;
-use crate::table::{bytes_of, expect_rows};
+use crate::written::bytes_of;
 use crate::xsmp::decoded as xsmp_decoded;
 use ice_values::Endian;
 use message_text::{ice_line, xsmp_line};
 use std::alloc::{Alloc, Global};
 use std::process::Abort;
 use std::test::Fail;
+use test_tables::expect_rows;
 
 const ICE_ROWS: &str = "\
 00000380010000000502000007060000 => Error class=32771 minor=5 severity=2 sequence=1543 values=-

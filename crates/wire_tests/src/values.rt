@@ -1,7 +1,7 @@
 //! Values as the standards spell them (ICE, chapter 7: Compound Types; XSMP, chapter 10: Types),
 //! written down by hand.
 
-use crate::table::{bytes_of, digits_of, expect_rows, other, spelled, text_of};
+use crate::written::{bytes_of, digits_of, other, spelled};
 use ice_values::{
     Array8, Enumerated, ErrorClass, Spelled, Text16, ValueRefusal, read_array8, read_array8_list,
     read_property, read_property_list, read_text16, read_version, value_at, write_array8,
@@ -12,6 +12,7 @@ use std::alloc::{Alloc, Global};
 use std::fmt::Debug;
 use std::process::Abort;
 use std::test::Fail;
+use test_tables::{expect_rows, text_of};
 
 /// A text has its count in front, and padding to 4.
 const TEXTS: &str = "\

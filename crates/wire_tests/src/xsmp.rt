@@ -2,14 +2,13 @@
 //! major opcode 7.
 
 use crate::framing::cut_frames;
-use crate::table::{
-    agreed, bytes_of, digits_of, expect_rows, is_frame, spelled, text_of, units_of, with_units,
-};
+use crate::written::{agreed, bytes_of, digits_of, is_frame, spelled, units_of, with_units};
 use ice_values::{Array8List, DecodeRefusal, Endian, Property, PropertyList};
 use sm_world::Octets;
 use std::alloc::{Alloc, Global};
 use std::process::Abort;
 use std::test::Fail;
+use test_tables::{expect_rows, text_of};
 use xsmp_messages::{XsmpMessage, decode_xsmp, encode_xsmp};
 
 pub fn decoded(
