@@ -1,14 +1,14 @@
 //! Worked sessions, and the worlds in which they happen.
 
-ghost use Rattle.std.specs.Prelude.{IfOk, IsTrue};
+ghost use Rattle.std.specs.Prelude.{IfOk};
 ghost use Rattle.std.specs.List.{AllByRecursion};
 ghost use Rattle.sm_world.specs.Events.{HasPieceSize};
 
 use crate::words::{bytes_of, digits_of};
-use control_lines::{OrderRefusal, read_script_line};
+use event_script::{ScriptFault, Taken, read_script};
 use session_engine::{Config, serve};
 use session_in_memory::{REHEARSAL_COOKIE, blank_store};
-use sm_world::{Event, EventList, MemWorld, NoMemory, NumberList, Octets, PIECE_LIMIT};
+use sm_world::{EventList, MemWorld, NoMemory, NumberList, Octets};
 use std::alloc::Global;
 use std::test::Fail;
 
@@ -134,46 +134,27 @@ fn script_line(alloc: Global, line: &str) -> Result<String, Fail> {
     }
 }
 
-/// Whether an event can come, if it is a piece.
-fn can_come(event: &Event) -> bool
-    ensures { IsTrue result → HasPieceSize event.now }
-{
-    match event {
-        Event::Piece(_, bytes) => bytes.len() >= 1 && bytes.len() <= PIECE_LIMIT,
-        Event::Joined(_) => true,
-        Event::Gone(_) => true,
-        Event::Operator(_) => true,
-        Event::Tick(_) => true,
-        Event::End => true,
+/// The script that lines with words stand for.
+fn script_of(alloc: Global, lines: &str) -> Result<Octets, Fail> {
+    let mut script = Octets::new(alloc);
+    for line in lines.lines() {
+        let line = script_line(alloc, line)?;
+        script.append(line.as_bytes())?;
+        script.append(b"\n")?;
     }
+    Ok(script)
 }
 
-/// The event of a line.
-fn event_of(alloc: Global, line: &str) -> Result<Event, Fail>
-    ensures { IfOk result HasPieceSize }
-{
-    let line = script_line(alloc, line)?;
-    match read_script_line(alloc, line.as_bytes()) {
-        Ok(Some(event)) => {
-            if can_come(&event) {
-                return Ok(event);
-            }
-            Err("a piece without a size".into())
-        }
-        Ok(None) => Err("a line without an event".into()),
-        Err(OrderRefusal::BadLine) => Err("no line of a script".into()),
-        Err(OrderRefusal::NoMemory) => Err("no memory".into()),
-    }
-}
-
+/// The events of a session.
 fn events_of(alloc: Global, lines: &str) -> Result<EventList, Fail>
     ensures { IfOk result (AllByRecursion HasPieceSize) }
 {
-    let mut events = EventList::new(alloc);
-    for line in lines.lines() {
-        events.push(event_of(alloc, line)?)?;
+    let script = script_of(alloc, lines)?;
+    match read_script(alloc, script.as_slice(), Taken::All) {
+        Ok(events) => Ok(events),
+        Err(ScriptFault::BadLine(_)) => Err("no line of a script".into()),
+        Err(ScriptFault::NoMemory) => Err("no memory".into()),
     }
-    Ok(events)
 }
 
 /// Puts bytes at a place of the store, where there is room for them.

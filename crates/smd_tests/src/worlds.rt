@@ -1,12 +1,12 @@
 //! Worlds in memory by the names that rows have for what is in them.
 
-ghost use Rattle.std.specs.Prelude.{IfOk, IsTrue};
+ghost use Rattle.std.specs.Prelude.{IfOk};
 ghost use Rattle.std.specs.List.{AllByRecursion};
 ghost use Rattle.sm_world.specs.Events.{HasPieceSize};
 
-use control_lines::{OrderRefusal, read_script_line};
+use event_script::{ScriptFault, Taken, read_script};
 use session_in_memory::blank_store;
-use sm_world::{Effect, Event, EventList, MemWorld, NoMemory, NumberList, Octets, PIECE_LIMIT};
+use sm_world::{Effect, EventList, MemWorld, NoMemory, NumberList, Octets};
 use std::alloc::Global;
 use std::test::Fail;
 
@@ -90,45 +90,15 @@ fn store_of(alloc: Global, name: &str) -> Result<Octets, NoMemory> {
     Ok(store)
 }
 
-/// Whether an event can come, if it is a piece.
-fn can_come(event: &Event) -> bool
-    ensures { IsTrue result → HasPieceSize event.now }
-{
-    match event {
-        Event::Piece(_, bytes) => bytes.len() >= 1 && bytes.len() <= PIECE_LIMIT,
-        Event::Joined(_) => true,
-        Event::Gone(_) => true,
-        Event::Operator(_) => true,
-        Event::Tick(_) => true,
-        Event::End => true,
-    }
-}
-
-/// The event of a line.
-fn event_of(alloc: Global, line: &str) -> Result<Event, Fail>
-    ensures { IfOk result HasPieceSize }
-{
-    match read_script_line(alloc, line.as_bytes()) {
-        Ok(Some(event)) => {
-            if can_come(&event) {
-                return Ok(event);
-            }
-            Err("a piece without a size".into())
-        }
-        Ok(None) => Err("a line without an event".into()),
-        Err(OrderRefusal::BadLine) => Err("no line of a script".into()),
-        Err(OrderRefusal::NoMemory) => Err("no memory".into()),
-    }
-}
-
+/// The events of a script.
 fn events_of(alloc: Global, script: &str) -> Result<EventList, Fail>
     ensures { IfOk result (AllByRecursion HasPieceSize) }
 {
-    let mut events = EventList::new(alloc);
-    for line in script.lines() {
-        events.push(event_of(alloc, line)?)?;
+    match read_script(alloc, script.as_bytes(), Taken::All) {
+        Ok(events) => Ok(events),
+        Err(ScriptFault::BadLine(_)) => Err("no line of a script".into()),
+        Err(ScriptFault::NoMemory) => Err("no memory".into()),
     }
-    Ok(events)
 }
 
 /// A world with what is heard, what is typed and what is stored, whose call of this number fails; of 0
