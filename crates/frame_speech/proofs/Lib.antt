@@ -1,2 +1,4 @@
+pub mod Counted
+pub mod Passed
 pub mod Speeches
 pub mod Streams

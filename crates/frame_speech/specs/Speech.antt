@@ -78,8 +78,11 @@ speech_behind speech [] = speech
 speech_behind speech (f ∷ fs) = speech_behind (after speech (reading speech f)) fs
 
 -- a message of XSMP of this minor opcode, under its sender's major opcode
+abbrev pub says : Speech → ℕ → List ℕ → Bool
+says Silent minor bytes = false
+says Greeted minor bytes = false
+says (Speaks opcode) minor bytes = slice_index bytes 0 == opcode && slice_index bytes 1 == minor
+says Lost minor bytes = false
+
 abbrev pub is_said : Speech → ℕ → WholeFrame → Bool
-is_said Silent minor f = false
-is_said Greeted minor f = false
-is_said (Speaks opcode) minor f = is_message opcode minor f
-is_said Lost minor f = false
+is_said speech minor f = says speech minor f.bytes

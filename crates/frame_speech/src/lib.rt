@@ -3,10 +3,14 @@
 //! calls no device.
 #![tactic(auto)]
 
+mod cutter;
+mod passing;
 mod reading;
 mod speech;
 mod stream;
 
+pub use cutter::{Cutting, FrameCutter};
+pub use passing::Heeds;
 pub use reading::{Reading, byte_at, is_message, is_whole};
 pub use speech::Speech;
 pub use stream::CutStream;

@@ -1,7 +1,7 @@
 ghost use Rattle.std.specs.Prelude.{◌≡◌, IfOk};
-ghost use Rattle.frame_speech.specs.Speech.{reading as reading_by, after as after_reading, is_said as said_by};
+ghost use Rattle.frame_speech.specs.Speech.{reading as reading_by, after as after_reading, says, is_said as said_by};
 
-use crate::reading::{Reading, greeting_in, is_message, is_whole, opening_in, setting_in};
+use crate::reading::{Reading, byte_at, greeting_in, is_whole, opening_in, setting_in};
 use ice_framing::WholeFrame;
 use sm_world::NoMemory;
 use std::alloc::Global;
@@ -48,15 +48,22 @@ impl Speech {
         }
     }
 
-    /// Whether a frame is a message of XSMP of this minor opcode.
-    pub fn is_said(self, minor: u8, frame: &WholeFrame) -> bool
-        ensures { result ≡ said_by self minor frame.now }
+    /// Whether the bytes of a frame are a message of XSMP of this minor opcode.
+    pub fn says(self, minor: u8, bytes: &[u8]) -> bool
+        ensures { result ≡ says self minor bytes.now }
     {
         match self {
             Speech::Silent => false,
             Speech::Greeted => false,
-            Speech::Speaks(opcode) => is_message(opcode, minor, frame),
+            Speech::Speaks(opcode) => byte_at(bytes, 0) == opcode && byte_at(bytes, 1) == minor,
             Speech::Lost => false,
         }
+    }
+
+    /// Whether a frame is a message of XSMP of this minor opcode.
+    pub fn is_said(self, minor: u8, frame: &WholeFrame) -> bool
+        ensures { result ≡ said_by self minor frame.now }
+    {
+        self.says(minor, frame.bytes.as_slice())
     }
 }

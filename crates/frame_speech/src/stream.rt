@@ -1,8 +1,11 @@
-ghost use Rattle.std.specs.Prelude.{◌≡◌, ◌++◌, ℕ, List, [], IfOk};
+ghost use Rattle.std.specs.Prelude.{◌≡◌, ◌++◌, ℕ, List, [], IfOk, IsTrue};
 ghost use Rattle.ice_framing.specs.Frames.{standing_of, is_oversize};
 ghost use Rattle.frame_speech.specs.Streams.{IsAt, Cuts};
+ghost use Rattle.frame_speech.specs.Passing.{PassesBy};
 
-use ice_framing::{Remainder, WholeFrameList};
+use crate::cutter::{Cutting, FrameCutter};
+use crate::passing::Heeds;
+use ice_framing::WholeFrameList;
 use sm_world::NoMemory;
 use std::alloc::Global;
 
@@ -10,7 +13,7 @@ use std::alloc::Global;
 #[derive(Debug, Drop)]
 pub struct CutStream {
     /// What came behind the last whole frame; None behind a header that states too much.
-    rest: Option<Remainder>,
+    rest: Option<FrameCutter>,
 }
 
 impl CutStream {
@@ -19,7 +22,7 @@ impl CutStream {
         ensures { IsAt [] result }
     {
         CutStream {
-            rest: Some(Remainder::new(alloc)),
+            rest: Some(FrameCutter::new(alloc)),
         }
     }
 
@@ -27,13 +30,25 @@ impl CutStream {
     pub fn take(&mut self, alloc: Global, bytes: &[u8]) -> Result<WholeFrameList, NoMemory>
         ensures { IfOk result (λ frames. (stream : List ℕ) → IsAt stream self.old → Cuts stream bytes.now frames self.new) }
     {
-        let mut frames = WholeFrameList::new(alloc);
         match self.rest.take() {
-            Some(rest) => {
-                self.rest = rest.take(alloc, bytes, &mut frames)?;
+            Some(cutter) => {
+                let cutting = cutter.cut(alloc, bytes)?;
+                let Cutting { frames, rest } = cutting;
+                self.rest = rest;
                 Ok(frames)
             }
-            None => Ok(frames),
+            None => Ok(WholeFrameList::new(alloc)),
+        }
+    }
+
+    /// Whether these bytes are whole frames, none of which is heeded, and come between two frames, or
+    /// nothing is cut any more. Then they needn't be taken.
+    pub fn passes<H: Heeds>(&self, heeds: &H, bytes: &[u8]) -> bool
+        ensures { IsTrue result → PassesBy (H.ignores heeds.now) bytes.now self.now }
+    {
+        match &self.rest {
+            Some(cutter) => cutter.passes(heeds, bytes),
+            None => true,
         }
     }
 

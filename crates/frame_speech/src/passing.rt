@@ -1,0 +1,66 @@
+ghost use Rattle.std.specs.Prelude.{◌≡◌, ◌≤◌, false, [], length, IfSome, IsTrue};
+ghost use Rattle.ice_framing.specs.declared.cutting.WholeFrame.{WholeFrame};
+ghost use Rattle.frame_speech.specs.Passing.{from, IsFront, Passes, SaysNothing};
+
+use crate::Speech;
+use crate::reading::byte_at;
+use ice_framing::UNIT_LIMIT;
+use ice_values::{Endian, read_card32};
+
+/// Who looks for some frames of a stream, and has nothing to do with any other.
+pub trait Heeds {
+    ghost ignores: { Self → WholeFrame → Type 0 };
+
+    /// Whether a frame may be one of those.
+    fn heeds(&self, endian: Endian, frame: &[u8]) -> bool
+        requires { 8 ≤ length frame.now }
+        ensures { result ≡ false → ignores self.now (record { endian = endian; bytes = frame.now }) };
+}
+
+/// What may say something of its sender.
+impl Heeds for Speech {
+    ghost ignores = { λ speech frame. SaysNothing speech frame };
+
+    fn heeds(&self, _endian: Endian, frame: &[u8]) -> bool {
+        match self {
+            Speech::Silent => true,
+            Speech::Greeted => true,
+            Speech::Speaks(opcode) => byte_at(frame, 0) == *opcode && byte_at(frame, 1) == 12,
+            Speech::Lost => false,
+        }
+    }
+}
+
+/// How many bytes the frame at the front has, which isn't the first of its stream. None where it isn't
+/// whole or states too much.
+fn front_len(endian: Endian, bytes: &[u8]) -> Option<usize>
+    ensures front { IfSome result (λ len. IsFront (from endian bytes.now) len) }
+    ensures within { IfSome result (λ len. len ≤ length bytes.now) }
+{
+    if bytes.len() < 8 {
+        return None;
+    }
+    let (_, stated) = bytes.split_at(4);
+    let units = read_card32(endian, stated);
+    if units > UNIT_LIMIT {
+        return None;
+    }
+    let len = 8 + 8 * units as usize;
+    if len <= bytes.len() { Some(len) } else { None }
+}
+
+/// Whether these bytes are whole frames, none of which is heeded, where the stream stands between two
+/// frames.
+pub fn are_passed<H: Heeds>(heeds: &H, endian: Endian, bytes: &[u8]) -> bool
+    ensures { IsTrue result → Passes (H.ignores heeds.now) (from endian []) bytes.now }
+{
+    let mut rest = bytes;
+    while let Some(len) = front_len(endian, rest) {
+        let (frame, left) = rest.split_at(len);
+        if heeds.heeds(endian, frame) {
+            return false;
+        }
+        rest = left;
+    }
+    rest.is_empty()
+}
