@@ -12,17 +12,19 @@ use Rattle.ice_framing.proofs.Streams.{frames_of-nil, standing_of-nil, standing_
 use Rattle.client_quirks.proofs.Joining.{concat-push}
 use Rattle.client_quirks.proofs.Grown.{Grown, grown, speech_grown, stays_lost, lost_unchanged, Owes, owes_released, owes_more, owes_unchanged, owes_changed}
 use Rattle.frame_speech.specs.Speech.{speech_behind}
+use Rattle.frame_speech.specs.Passing.{Passes, SaysNothing}
+use Rattle.frame_speech.proofs.Passed.{passed_speech}
+use Rattle.client_quirks.proofs.Unheeded.{passed_changed}
 use Rattle.client_quirks.specs.Speech.{handed_on, are_changed}
 use Rattle.client_quirks.specs.Amending.{FollowsBy, IsOpen, HasEnded, left_open, is_within, Rewrites, Leaves}
 use Rattle.frame_speech.specs.declared.speech.Speech.{Speech}
 use Rattle.frame_speech.specs.declared.speech.Speech.TheVariants.{Silent, Greeted, Speaks, Lost}
-use Rattle.client_quirks.specs.declared.cutter.Cutter.{Cutter}
 
-abbrev pub Stands : List ℕ → List (List ℕ) → Speech → Option Cutter → Type 0
+abbrev pub Stands : List ℕ → List (List ℕ) → Speech → Option Standing → Type 0
 Stands stream held speech cutter = MatchOption cutter (HasEnded stream held) (IsOpen stream held speech)
 
 -- before the first byte
-pub began : (cutter : Cutter) (held : List (List ℕ)) → cutter.splitter ≡ beginning → held ≡ [] → FollowsBy [] [] held Silent (Some cutter)
+pub began : (cutter : Standing) (held : List (List ℕ)) → cutter ≡ beginning → held ≡ [] → FollowsBy [] [] held Silent (Some cutter)
 began cutter held is none = record {
   bytes = ap concat none ∙ sym (ap (λ (fs : List WholeFrame). handed_on Silent fs ++ (standing_of []).held) frames_of-nil ∙ ap (λ (s : Standing). s.held) standing_of-nil);
   as_came = λ unchanged. none;
@@ -45,7 +47,7 @@ empty_by bytes is = no_bytes bytes (grind (arith, nat_tests))
 held_then : (stream piece : List ℕ) (frames : List WholeFrame) (at : Standing) → Grown stream piece frames at → (standing_of (stream ++ piece)).held ≡ at.held
 held_then stream piece frames at more = ap (λ (s : Standing). s.held) more.stands
 
-open_by : (stream piece : List ℕ) (frames : List WholeFrame) (at : Standing) (next : Speech) (cutter : Cutter) (held : List (List ℕ)) (b : Bool) → is_within (Some cutter) ≡ b → Grown stream piece frames at → next ≡ speech_behind (speech_behind Silent (frames_of stream)) frames → cutter.splitter ≡ at
+open_by : (stream piece : List ℕ) (frames : List WholeFrame) (at : Standing) (next : Speech) (cutter : Standing) (held : List (List ℕ)) (b : Bool) → is_within (Some cutter) ≡ b → Grown stream piece frames at → next ≡ speech_behind (speech_behind Silent (frames_of stream)) frames → cutter ≡ at
     → (b ≡ true → (front : List ℕ) × (concat held ≡ front ++ at.held)) → (b ≡ false → held ≡ []) → IsOpen (stream ++ piece) held next cutter
 open_by stream piece frames at next cutter held true within more is ends some none = record {
   at = ends ∙ sym more.stands;
@@ -53,11 +55,11 @@ open_by stream piece frames at next cutter held true within more is ends some no
   front = (some refl).0;
   parts = (some refl).1 ∙ ap (λ (bytes : List ℕ). (some refl).0 ++ bytes) (sym (held_then stream piece frames at more));
   prompt = λ nothing.
-      let empty : cutter.splitter.held ≡ [] = ap (λ (s : Standing). s.held) ends ∙ sym (held_then stream piece frames at more) ∙ nothing in
+      let empty : cutter.held ≡ [] = ap (λ (s : Standing). s.held) ends ∙ sym (held_then stream piece frames at more) ∙ nothing in
       absurd (false≢true (sym (ap (λ (bytes : List ℕ). not (length bytes == 0)) empty) ∙ within));
 }
 open_by stream piece frames at next cutter held false within more is ends some none =
-    let empty : at.held ≡ [] = ap (λ (s : Standing). s.held) (sym ends) ∙ empty_by cutter.splitter.held within in
+    let empty : at.held ≡ [] = ap (λ (s : Standing). s.held) (sym ends) ∙ empty_by cutter.held within in
     record {
       at = ends ∙ sym more.stands;
       understood = is ∙ sym (speech_grown stream piece frames at more);
@@ -66,19 +68,19 @@ open_by stream piece frames at next cutter held false within more is ends some n
       prompt = λ nothing. none refl;
     }
 
-by_rest : (stream piece : List ℕ) (frames : List WholeFrame) (at : Standing) (next : Speech) (rest : Option Cutter) (held : List (List ℕ)) → Grown stream piece frames at → next ≡ speech_behind (speech_behind Silent (frames_of stream)) frames → MatchOption rest (IsOversize at) (λ (c : Cutter). c.splitter ≡ at)
+by_rest : (stream piece : List ℕ) (frames : List WholeFrame) (at : Standing) (next : Speech) (rest : Option Standing) (held : List (List ℕ)) → Grown stream piece frames at → next ≡ speech_behind (speech_behind Silent (frames_of stream)) frames → MatchOption rest (IsOversize at) (λ (c : Standing). c ≡ at)
     → (is_within rest ≡ true → (front : List ℕ) × (concat held ≡ front ++ at.held)) → (is_within rest ≡ false → held ≡ []) → Stands (stream ++ piece) held next rest
 by_rest stream piece frames at next None held more is ends some none = record { cause = inl (subst (λ (s : Standing). IsOversize s) (sym more.stands) ends); none = none refl }
 by_rest stream piece frames at next (Some cutter) held more is ends some none = open_by stream piece frames at next cutter held (is_within (Some cutter)) refl more is ends some none
 
-pub stands_on : (stream piece : List ℕ) (frames : List WholeFrame) (at : Standing) (next : Speech) (rest : Option Cutter) (held : List (List ℕ)) → Grown stream piece frames at → next ≡ speech_behind (speech_behind Silent (frames_of stream)) frames → MatchOption rest (IsOversize at) (λ (c : Cutter). c.splitter ≡ at)
+pub stands_on : (stream piece : List ℕ) (frames : List WholeFrame) (at : Standing) (next : Speech) (rest : Option Standing) (held : List (List ℕ)) → Grown stream piece frames at → next ≡ speech_behind (speech_behind Silent (frames_of stream)) frames → MatchOption rest (IsOversize at) (λ (c : Standing). c ≡ at)
     → (is_within (left_open next rest) ≡ true → (front : List ℕ) × (concat held ≡ front ++ at.held)) → (is_within (left_open next rest) ≡ false → held ≡ []) → Stands (stream ++ piece) held next (left_open next rest)
 stands_on stream piece frames at Silent rest held more is ends some none = by_rest stream piece frames at Silent rest held more is ends some none
 stands_on stream piece frames at Greeted rest held more is ends some none = by_rest stream piece frames at Greeted rest held more is ends some none
 stands_on stream piece frames at (Speaks opcode) rest held more is ends some none = by_rest stream piece frames at (Speaks opcode) rest held more is ends some none
 stands_on stream piece frames at Lost rest held more is ends some none = record { cause = inr (speech_grown stream piece frames at more ∙ sym is); none = none refl }
 
-followed : (came handed held : List (List ℕ)) (piece : List ℕ) (speech : Speech) (cutter : Option Cutter) → Owes (came ++ piece ∷ []) handed held → Stands (concat came ++ piece) held speech cutter → FollowsBy (came ++ piece ∷ []) handed held speech cutter
+followed : (came handed held : List (List ℕ)) (piece : List ℕ) (speech : Speech) (cutter : Option Standing) → Owes (came ++ piece ∷ []) handed held → Stands (concat came ++ piece) held speech cutter → FollowsBy (came ++ piece ∷ []) handed held speech cutter
 followed came handed held piece speech cutter owes stands = record {
   bytes = owes.bytes;
   as_came = owes.as_came;
@@ -109,26 +111,48 @@ passed_by came handed held piece speech follows (inr lost) =
 pub passed : (came handed held : List (List ℕ)) (piece : List ℕ) (speech : Speech) → FollowsBy came handed held speech None → FollowsBy (came ++ piece ∷ []) (handed ++ piece ∷ []) held speech None
 passed came handed held piece speech follows = passed_by came handed held piece speech follows follows.stands.cause
 
+-- ---- a piece that is passed over
+
+pub let_by : (came handed held : List (List ℕ)) (piece : List ℕ) (speech : Speech) (cutter : Standing) → FollowsBy came handed held speech (Some cutter) → Passes (SaysNothing speech) cutter piece → FollowsBy (came ++ piece ∷ []) (handed ++ piece ∷ []) held speech (Some cutter)
+let_by came handed held piece speech cutter follows passes =
+    let at = (cut (fed cutter piece)).standing in
+    let frames = (cut (fed cutter piece)).frames in
+    let more = grown (concat came) piece cutter follows.stands.at in
+    let nothing_held : held ≡ [] = follows.stands.prompt (ap (λ (s : Standing). s.held) (sym follows.stands.at) ∙ passes.none_held) in
+    let none : are_changed (speech_behind Silent (frames_of (concat came))) frames ≡ false = ap (λ (s : Speech). are_changed s frames) (sym follows.stands.understood) ∙ passed_changed speech frames passes.frames in
+    let owes : Owes came handed held = record { bytes = follows.bytes; as_came = follows.as_came } in
+    let bare : Owes came handed [] = subst (λ (h : List (List ℕ)). Owes came handed h) nothing_held owes in
+    let now : Owes (came ++ piece ∷ []) (handed ++ piece ∷ []) [] = owes_released (came ++ piece ∷ []) handed (piece ∷ []) (owes_unchanged came handed [] piece frames at bare more none) in
+    let empty : (standing_of (concat came ++ piece)).held ≡ [] = ap (λ (s : Standing). s.held) (more.stands ∙ passes.stands) ∙ passes.none_held in
+    let stands : IsOpen (concat came ++ piece) [] speech cutter = record {
+      at = sym passes.stands ∙ sym more.stands;
+      understood = sym (speech_grown (concat came) piece frames at more ∙ ap (λ (s : Speech). speech_behind s frames) (sym follows.stands.understood) ∙ passed_speech speech frames passes.frames);
+      front = [];
+      parts = sym empty;
+      prompt = λ nothing. refl;
+    } in
+    subst (λ (h : List (List ℕ)). FollowsBy (came ++ piece ∷ []) (handed ++ piece ∷ []) h speech (Some cutter)) (sym nothing_held) (followed came (handed ++ piece ∷ []) [] piece speech (Some cutter) now stands)
+
 -- ---- a stream that is
 
 -- what is known once a piece was cut
-pub record Cuts (came handed held : List (List ℕ)) (speech next : Speech) (cutter : Cutter) (rest : Option Cutter) (piece : List ℕ) (frames : List WholeFrame) : Type 0 where
+pub record Cuts (came handed held : List (List ℕ)) (speech next : Speech) (cutter : Standing) (rest : Option Standing) (piece : List ℕ) (frames : List WholeFrame) : Type 0 where
   pub follows : FollowsBy came handed held speech (Some cutter)
-  pub frames_are : frames ≡ (cut (fed cutter.splitter piece)).frames
-  pub goes : MatchOption rest (IsOversize (cut (fed cutter.splitter piece)).standing) (λ (c : Cutter). c.splitter ≡ (cut (fed cutter.splitter piece)).standing)
+  pub frames_are : frames ≡ (cut (fed cutter piece)).frames
+  pub goes : MatchOption rest (IsOversize (cut (fed cutter piece)).standing) (λ (c : Standing). c ≡ (cut (fed cutter piece)).standing)
   pub understood : next ≡ speech_behind speech frames
 
-more_of : (came handed held : List (List ℕ)) (speech next : Speech) (cutter : Cutter) (rest : Option Cutter) (piece : List ℕ) (frames : List WholeFrame) → Cuts came handed held speech next cutter rest piece frames → Grown (concat came) piece frames (cut (fed cutter.splitter piece)).standing
+more_of : (came handed held : List (List ℕ)) (speech next : Speech) (cutter : Standing) (rest : Option Standing) (piece : List ℕ) (frames : List WholeFrame) → Cuts came handed held speech next cutter rest piece frames → Grown (concat came) piece frames (cut (fed cutter piece)).standing
 more_of came handed held speech next cutter rest piece frames cuts =
-    subst (λ (fs : List WholeFrame). Grown (concat came) piece fs (cut (fed cutter.splitter piece)).standing) (sym cuts.frames_are) (grown (concat came) piece cutter.splitter cuts.follows.stands.at)
+    subst (λ (fs : List WholeFrame). Grown (concat came) piece fs (cut (fed cutter piece)).standing) (sym cuts.frames_are) (grown (concat came) piece cutter cuts.follows.stands.at)
 
-next_of : (came handed held : List (List ℕ)) (speech next : Speech) (cutter : Cutter) (rest : Option Cutter) (piece : List ℕ) (frames : List WholeFrame) → Cuts came handed held speech next cutter rest piece frames → next ≡ speech_behind (speech_behind Silent (frames_of (concat came))) frames
+next_of : (came handed held : List (List ℕ)) (speech next : Speech) (cutter : Standing) (rest : Option Standing) (piece : List ℕ) (frames : List WholeFrame) → Cuts came handed held speech next cutter rest piece frames → next ≡ speech_behind (speech_behind Silent (frames_of (concat came))) frames
 next_of came handed held speech next cutter rest piece frames cuts = cuts.understood ∙ ap (λ (s : Speech). speech_behind s frames) cuts.follows.stands.understood
 
-kept_by : (came handed held list after : List (List ℕ)) (speech next : Speech) (cutter : Cutter) (rest : Option Cutter) (piece : List ℕ) (frames : List WholeFrame) (b : Bool) → is_within (left_open next rest) ≡ b → Cuts came handed held speech next cutter rest piece frames → are_changed speech frames ≡ false
+kept_by : (came handed held list after : List (List ℕ)) (speech next : Speech) (cutter : Standing) (rest : Option Standing) (piece : List ℕ) (frames : List WholeFrame) (b : Bool) → is_within (left_open next rest) ≡ b → Cuts came handed held speech next cutter rest piece frames → are_changed speech frames ≡ false
     → list ≡ (if b then [] else held ++ piece ∷ []) → after ≡ (if b then held ++ piece ∷ [] else []) → FollowsBy (came ++ piece ∷ []) (handed ++ list) after next (left_open next rest)
 kept_by came handed held list after speech next cutter rest piece frames true within cuts none gives holds =
-    let at = (cut (fed cutter.splitter piece)).standing in
+    let at = (cut (fed cutter piece)).standing in
     let more = more_of came handed held speech next cutter rest piece frames cuts in
     let owes : Owes came handed held = record { bytes = cuts.follows.bytes; as_came = cuts.follows.as_came } in
     let unchanged : are_changed (speech_behind Silent (frames_of (concat came))) frames ≡ false = ap (λ (s : Speech). are_changed s frames) (sym cuts.follows.stands.understood) ∙ none in
@@ -143,7 +167,7 @@ kept_by came handed held list after speech next cutter rest piece frames true wi
     subst (λ (l : List (List ℕ)). FollowsBy (came ++ piece ∷ []) (handed ++ l) after next (left_open next rest)) (sym gives)
     (subst (λ (h : List (List ℕ)). FollowsBy (came ++ piece ∷ []) (handed ++ []) h next (left_open next rest)) (sym holds) (followed came (handed ++ []) (held ++ piece ∷ []) piece next (left_open next rest) now stands))
 kept_by came handed held list after speech next cutter rest piece frames false within cuts none gives holds =
-    let at = (cut (fed cutter.splitter piece)).standing in
+    let at = (cut (fed cutter piece)).standing in
     let more = more_of came handed held speech next cutter rest piece frames cuts in
     let owes : Owes came handed held = record { bytes = cuts.follows.bytes; as_came = cuts.follows.as_came } in
     let unchanged : are_changed (speech_behind Silent (frames_of (concat came))) frames ≡ false = ap (λ (s : Speech). are_changed s frames) (sym cuts.follows.stands.understood) ∙ none in
@@ -152,7 +176,7 @@ kept_by came handed held list after speech next cutter rest piece frames false w
     subst (λ (l : List (List ℕ)). FollowsBy (came ++ piece ∷ []) (handed ++ l) after next (left_open next rest)) (sym gives)
     (subst (λ (h : List (List ℕ)). FollowsBy (came ++ piece ∷ []) (handed ++ (held ++ piece ∷ [])) h next (left_open next rest)) (sym holds) (followed came (handed ++ (held ++ piece ∷ [])) [] piece next (left_open next rest) now stands))
 
-pub kept : (came handed held list after : List (List ℕ)) (speech next : Speech) (cutter : Cutter) (rest : Option Cutter) (piece : List ℕ) (frames : List WholeFrame) → Cuts came handed held speech next cutter rest piece frames → are_changed speech frames ≡ false
+pub kept : (came handed held list after : List (List ℕ)) (speech next : Speech) (cutter : Standing) (rest : Option Standing) (piece : List ℕ) (frames : List WholeFrame) → Cuts came handed held speech next cutter rest piece frames → are_changed speech frames ≡ false
     → list ≡ (if is_within (left_open next rest) then [] else held ++ piece ∷ []) → after ≡ (if is_within (left_open next rest) then held ++ piece ∷ [] else []) → FollowsBy (came ++ piece ∷ []) (handed ++ list) after next (left_open next rest)
 kept came handed held list after speech next cutter rest piece frames cuts none gives holds = kept_by came handed held list after speech next cutter rest piece frames (is_within (left_open next rest)) refl cuts none gives holds
 
@@ -174,11 +198,11 @@ halved front at piece middle rest back before parts count joins =
           ∙ drop_at middle rest (length middle) refl;
     }
 
-rewritten_by : (came handed held list after : List (List ℕ)) (speech next : Speech) (cutter : Cutter) (rest : Option Cutter) (piece : List ℕ) (frames : List WholeFrame) (anew : List ℕ) (before : ℕ) (b : Bool) → is_within (left_open next rest) ≡ b → Cuts came handed held speech next cutter rest piece frames → are_changed speech frames ≡ true
-    → anew ≡ handed_on speech frames → before ≡ length cutter.splitter.held → Rewrites before (concat held) piece (length (flat_map (λ (frame : WholeFrame). frame.bytes) frames)) anew b list after
+rewritten_by : (came handed held list after : List (List ℕ)) (speech next : Speech) (cutter : Standing) (rest : Option Standing) (piece : List ℕ) (frames : List WholeFrame) (anew : List ℕ) (before : ℕ) (b : Bool) → is_within (left_open next rest) ≡ b → Cuts came handed held speech next cutter rest piece frames → are_changed speech frames ≡ true
+    → anew ≡ handed_on speech frames → before ≡ length cutter.held → Rewrites before (concat held) piece (length (flat_map (λ (frame : WholeFrame). frame.bytes) frames)) anew b list after
     → FollowsBy (came ++ piece ∷ []) (handed ++ list) after next (left_open next rest)
 rewritten_by came handed held list after speech next cutter rest piece frames anew before b within cuts some is count rewrites =
-    let at = (cut (fed cutter.splitter piece)).standing in
+    let at = (cut (fed cutter piece)).standing in
     let more = more_of came handed held speech next cutter rest piece frames cuts in
     let owes : Owes came handed held = record { bytes = cuts.follows.bytes; as_came = cuts.follows.as_came } in
     let changed : are_changed (speech_behind Silent (frames_of (concat came))) frames ≡ true = ap (λ (s : Speech). are_changed s frames) (sym cuts.follows.stands.understood) ∙ some in
@@ -189,7 +213,7 @@ rewritten_by came handed held list after speech next cutter rest piece frames an
     go front halves.head halves.tail cuts.follows.stands.parts owes more changed anew_is to b within rewrites
   where
     at_ : Standing
-    at_ = (cut (fed cutter.splitter piece)).standing
+    at_ = (cut (fed cutter piece)).standing
 
     handed_part : List ℕ
     handed_part = take (length (concat held) - before) (concat held ++ piece)
@@ -217,31 +241,31 @@ rewritten_by came handed held list after speech next cutter rest piece frames an
 -- ---- as the calls say it
 
 -- where the stream stands then, and how it is kept
-pub record Left (next : Speech) (rest open_ : Option Cutter) (speech : Speech) (cutter : Option Cutter) : Type 0 where
+pub record Left (next : Speech) (rest open_ : Option Standing) (speech : Speech) (cutter : Option Standing) : Type 0 where
   pub opens : open_ ≡ left_open next rest
   pub cutter_is : cutter ≡ open_
   pub speech_is : speech ≡ next
 
-settled : (came handed after : List (List ℕ)) (next speech : Speech) (rest open_ cutter : Option Cutter) → Left next rest open_ speech cutter → FollowsBy came handed after next (left_open next rest) → FollowsBy came handed after speech cutter
+settled : (came handed after : List (List ℕ)) (next speech : Speech) (rest open_ cutter : Option Standing) → Left next rest open_ speech cutter → FollowsBy came handed after next (left_open next rest) → FollowsBy came handed after speech cutter
 settled came handed after next speech rest open_ cutter left follows =
     subst (λ (s : Speech). FollowsBy came handed after s cutter) (sym left.speech_is)
-    (subst (λ (c : Option Cutter). FollowsBy came handed after next c) (sym (left.cutter_is ∙ left.opens)) follows)
+    (subst (λ (c : Option Standing). FollowsBy came handed after next c) (sym (left.cutter_is ∙ left.opens)) follows)
 
-pub take_kept : (came handed held list after : List (List ℕ)) (speech next new : Speech) (cutter : Cutter) (rest open_ now : Option Cutter) (piece : List ℕ) (frames : List WholeFrame) → Left next rest open_ new now → Cuts came handed held speech next cutter rest piece frames → are_changed speech frames ≡ false
+pub take_kept : (came handed held list after : List (List ℕ)) (speech next new : Speech) (cutter : Standing) (rest open_ now : Option Standing) (piece : List ℕ) (frames : List WholeFrame) → Left next rest open_ new now → Cuts came handed held speech next cutter rest piece frames → are_changed speech frames ≡ false
     → list ≡ (if is_within open_ then [] else held ++ piece ∷ []) → after ≡ (if is_within open_ then held ++ piece ∷ [] else []) → FollowsBy (came ++ piece ∷ []) (handed ++ list) after new now
 take_kept came handed held list after speech next new cutter rest open_ now piece frames left cuts none gives holds =
     settled (came ++ piece ∷ []) (handed ++ list) after next new rest open_ now left
     (kept came handed held list after speech next cutter rest piece frames cuts none
-    (gives ∙ ap (λ (o : Option Cutter). if is_within o then [] else held ++ piece ∷ []) left.opens)
-    (holds ∙ ap (λ (o : Option Cutter). if is_within o then held ++ piece ∷ [] else []) left.opens))
+    (gives ∙ ap (λ (o : Option Standing). if is_within o then [] else held ++ piece ∷ []) left.opens)
+    (holds ∙ ap (λ (o : Option Standing). if is_within o then held ++ piece ∷ [] else []) left.opens))
 
-pub take_rewritten : (came handed held list after : List (List ℕ)) (speech next new : Speech) (cutter : Cutter) (rest open_ now : Option Cutter) (piece : List ℕ) (frames : List WholeFrame) (anew : List ℕ) (before : ℕ) → Left next rest open_ new now → Cuts came handed held speech next cutter rest piece frames → are_changed speech frames ≡ true
-    → anew ≡ handed_on speech frames → before ≡ length cutter.splitter.held → Rewrites before (concat held) piece (length (flat_map (λ (frame : WholeFrame). frame.bytes) frames)) anew (is_within open_) list after
+pub take_rewritten : (came handed held list after : List (List ℕ)) (speech next new : Speech) (cutter : Standing) (rest open_ now : Option Standing) (piece : List ℕ) (frames : List WholeFrame) (anew : List ℕ) (before : ℕ) → Left next rest open_ new now → Cuts came handed held speech next cutter rest piece frames → are_changed speech frames ≡ true
+    → anew ≡ handed_on speech frames → before ≡ length cutter.held → Rewrites before (concat held) piece (length (flat_map (λ (frame : WholeFrame). frame.bytes) frames)) anew (is_within open_) list after
     → FollowsBy (came ++ piece ∷ []) (handed ++ list) after new now
 take_rewritten came handed held list after speech next new cutter rest open_ now piece frames anew before left cuts some is count rewrites =
     settled (came ++ piece ∷ []) (handed ++ list) after next new rest open_ now left
     (rewritten_by came handed held list after speech next cutter rest piece frames anew before (is_within (left_open next rest)) refl cuts some is count
-    (subst (λ (o : Option Cutter). Rewrites before (concat held) piece (length (flat_map (λ (frame : WholeFrame). frame.bytes) frames)) anew (is_within o) list after) left.opens rewrites))
+    (subst (λ (o : Option Standing). Rewrites before (concat held) piece (length (flat_map (λ (frame : WholeFrame). frame.bytes) frames)) anew (is_within o) list after) left.opens rewrites))
 
 -- what holds of an answer
 pub with_answer : {A E : Type 0} (result : Result A E) (P Q : A → Type 0) → IfOk result P → ((x : A) → P x → Q x) → IfOk result Q

@@ -10,7 +10,6 @@ use Rattle.client_quirks.specs.Sides.{new_frames, GoesOn, CutsOn, IsSide}
 use Rattle.client_quirks.specs.Leaving.{Mark, mark_heard, mark_told, heard_behind, told_behind}
 use Rattle.frame_speech.specs.declared.speech.Speech.{Speech}
 use Rattle.frame_speech.specs.declared.speech.Speech.TheVariants.{Silent}
-use Rattle.client_quirks.specs.declared.cutter.Cutter.{Cutter}
 use Rattle.client_quirks.specs.declared.side.Side.{Side}
 
 pub heard_speech : (m : Mark) (fs : List WholeFrame) → (heard_behind m fs).speech ≡ speech_behind m.speech fs
@@ -22,20 +21,20 @@ told_speech m [] = refl
 told_speech m (f ∷ fs) = told_speech (mark_told m f) fs
 
 -- before the first byte
-pub begins : (cutter : Cutter) (side : Side) → cutter.splitter ≡ beginning → side.cutter ≡ Some cutter → side.speech ≡ Silent → IsSide [] side
+pub begins : (cutter : Standing) (side : Side) → cutter ≡ beginning → side.cutter ≡ Some cutter → side.speech ≡ Silent → IsSide [] side
 begins cutter side is some silent = record {
-  stands = subst (λ (c : Option Cutter). GoesOn (standing_of []) c) (sym some) (is ∙ sym standing_of-nil);
+  stands = subst (λ (c : Option Standing). GoesOn (standing_of []) c) (sym some) (is ∙ sym standing_of-nil);
   understood = silent ∙ sym (ap (speech_behind Silent) frames_of-nil);
 }
 
-goes_on : (stream piece : List ℕ) (old new : Option Cutter) → GoesOn (standing_of stream) old → CutsOn old piece new → GoesOn (standing_of (stream ++ piece)) new
+goes_on : (stream piece : List ℕ) (old new : Option Standing) → GoesOn (standing_of stream) old → CutsOn old piece new → GoesOn (standing_of (stream ++ piece)) new
 goes_on stream piece None new much none =
-    subst (λ (c : Option Cutter). GoesOn (standing_of (stream ++ piece)) c) (sym none) (subst (λ (s : Standing). IsOversize s) (sym (standing_of-oversize stream piece much)) (oversize-fed (standing_of stream) piece much))
-goes_on stream piece (Some cutter) new is on = subst (λ (s : Standing). GoesOn s new) (sym (grown stream piece cutter.splitter is).stands) on
+    subst (λ (c : Option Standing). GoesOn (standing_of (stream ++ piece)) c) (sym none) (subst (λ (s : Standing). IsOversize s) (sym (standing_of-oversize stream piece much)) (oversize-fed (standing_of stream) piece much))
+goes_on stream piece (Some cutter) new is on = subst (λ (s : Standing). GoesOn s new) (sym (grown stream piece cutter is).stands) on
 
-speech_on : (stream piece : List ℕ) (old : Option Cutter) → GoesOn (standing_of stream) old → speech_behind (speech_behind Silent (frames_of stream)) (new_frames old piece) ≡ speech_behind Silent (frames_of (stream ++ piece))
+speech_on : (stream piece : List ℕ) (old : Option Standing) → GoesOn (standing_of stream) old → speech_behind (speech_behind Silent (frames_of stream)) (new_frames old piece) ≡ speech_behind Silent (frames_of (stream ++ piece))
 speech_on stream piece None much = sym (ap (speech_behind Silent) (frames_of-oversize stream piece much))
-speech_on stream piece (Some cutter) is = sym (speech_grown stream piece (cut (fed cutter.splitter piece)).frames (cut (fed cutter.splitter piece)).standing (grown stream piece cutter.splitter is))
+speech_on stream piece (Some cutter) is = sym (speech_grown stream piece (cut (fed cutter piece)).frames (cut (fed cutter piece)).standing (grown stream piece cutter is))
 
 pub side_grown : (stream piece : List ℕ) (old new : Side) → CutsOn old.cutter piece new.cutter → new.speech ≡ speech_behind old.speech (new_frames old.cutter piece) → IsSide stream old → IsSide (stream ++ piece) new
 side_grown stream piece old new on speech side = record {

@@ -1,18 +1,17 @@
 -- What is handed on of a connection's pieces, said over all that came and all that was handed on so far.
 use Rattle.std.specs.Prelude.{◌≡◌, ◌⊎◌, ◌==◌, ◌-◌, if◌then◌else◌, flat_map, not, Bool, true, false, ℕ, List, [], ◌∷◌, ◌++◌, length, take, drop, Option, Some, None, MatchOption}
 use Rattle.std.specs.List.{concat}
-use Rattle.ice_framing.specs.Frames.{frames_of, standing_of, IsOversize}
+use Rattle.ice_framing.specs.Frames.{Standing, frames_of, standing_of, IsOversize}
 use Rattle.ice_framing.specs.declared.cutting.WholeFrame.{WholeFrame}
 use Rattle.frame_speech.specs.Speech.{speech_behind}
 use Rattle.client_quirks.specs.Speech.{are_changed, amended_stream}
 use Rattle.frame_speech.specs.declared.speech.Speech.{Speech}
 use Rattle.frame_speech.specs.declared.speech.Speech.TheVariants.{Silent, Greeted, Speaks, Lost}
-use Rattle.client_quirks.specs.declared.cutter.Cutter.{Cutter}
 use Rattle.client_quirks.specs.declared.amender.Amender.{Amender}
 
 -- The stream goes on and is understood so far. Nothing is held back between two frames; within one, that part of a frame and what came in the same pieces.
-pub record IsOpen (stream : List ℕ) (held : List (List ℕ)) (speech : Speech) (cutter : Cutter) : Type 0 where
-  pub at : cutter.splitter ≡ standing_of stream
+pub record IsOpen (stream : List ℕ) (held : List (List ℕ)) (speech : Speech) (cutter : Standing) : Type 0 where
+  pub at : cutter ≡ standing_of stream
   pub understood : speech ≡ speech_behind Silent (frames_of stream)
   pub front : List ℕ
   pub parts : concat held ≡ front ++ (standing_of stream).held
@@ -23,7 +22,7 @@ pub record HasEnded (stream : List ℕ) (held : List (List ℕ)) : Type 0 where
   pub cause : IsOversize (standing_of stream) ⊎ (speech_behind Silent (frames_of stream) ≡ Lost)
   pub none : held ≡ []
 
-pub record FollowsBy (came handed held : List (List ℕ)) (speech : Speech) (cutter : Option Cutter) : Type 0 where
+pub record FollowsBy (came handed held : List (List ℕ)) (speech : Speech) (cutter : Option Standing) : Type 0 where
   -- what was handed on and what is held back are the stream as it is meant
   pub bytes : concat handed ++ concat held ≡ amended_stream (concat came)
   -- Where no frame is changed, they are the pieces as they came.
@@ -34,16 +33,16 @@ abbrev pub Follows : List (List ℕ) → List (List ℕ) → Amender → Type 0
 Follows came handed a = FollowsBy came handed a.held a.speech a.cutter
 
 -- a stream that is lost is cut no more
-abbrev pub left_open : Speech → Option Cutter → Option Cutter
+abbrev pub left_open : Speech → Option Standing → Option Standing
 left_open Silent rest = rest
 left_open Greeted rest = rest
 left_open (Speaks opcode) rest = rest
 left_open Lost rest = None
 
 -- it stands within a frame
-abbrev pub is_within : Option Cutter → Bool
+abbrev pub is_within : Option Standing → Bool
 is_within None = false
-is_within (Some cutter) = not (length cutter.splitter.held == 0)
+is_within (Some cutter) = not (length cutter.held == 0)
 
 -- Whatever came and was handed on before, this piece came and these were handed on then.
 abbrev pub Takes : Amender → List ℕ → List (List ℕ) → Amender → Type 0

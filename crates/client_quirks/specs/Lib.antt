@@ -1,4 +1,5 @@
 pub mod Amending
+pub mod Heeding
 pub mod Leaving
 pub mod Meanings
 pub mod Sides

@@ -1,30 +1,36 @@
 -- One party's stream, as it is cut.
 use Rattle.std.specs.Prelude.{◌≡◌, ℕ, List, [], ◌++◌, length, Option, Some, None, MatchOption}
+use Rattle.std.specs.List.{AllByRecursion}
 use Rattle.ice_framing.specs.Frames.{Standing, fed, cut, frames_of, standing_of, IsOversize}
 use Rattle.ice_framing.specs.declared.cutting.WholeFrame.{WholeFrame}
+use Rattle.frame_speech.specs.Passing.{IsPassed}
 use Rattle.frame_speech.specs.Speech.{speech_behind}
 use Rattle.frame_speech.specs.declared.speech.Speech.TheVariants.{Silent}
-use Rattle.client_quirks.specs.declared.cutter.Cutter.{Cutter}
 use Rattle.client_quirks.specs.declared.side.Side.{Side}
 
 -- the frames that a piece makes whole
-abbrev pub new_frames : Option Cutter → List ℕ → List WholeFrame
+abbrev pub new_frames : Option Standing → List ℕ → List WholeFrame
 new_frames None piece = []
-new_frames (Some cutter) piece = (cut (fed cutter.splitter piece)).frames
+new_frames (Some cutter) piece = (cut (fed cutter piece)).frames
 
 -- how many bytes came behind the last whole frame
-abbrev pub held_of : Option Cutter → ℕ
+abbrev pub held_of : Option Standing → ℕ
 held_of None = 0
-held_of (Some cutter) = length cutter.splitter.held
+held_of (Some cutter) = length cutter.held
 
 -- a stream stands here, where it goes on; behind a header that states too much it doesn't
-abbrev pub GoesOn : Standing → Option Cutter → Type 0
-GoesOn at rest = MatchOption rest (IsOversize at) (λ (c : Cutter). c.splitter ≡ at)
+abbrev pub GoesOn : Standing → Option Standing → Type 0
+GoesOn at rest = MatchOption rest (IsOversize at) (λ (c : Standing). c ≡ at)
 
 -- where the stream stands behind the piece
-abbrev pub CutsOn : Option Cutter → List ℕ → Option Cutter → Type 0
+abbrev pub CutsOn : Option Standing → List ℕ → Option Standing → Type 0
 CutsOn None piece new = new ≡ None
-CutsOn (Some old) piece new = GoesOn (cut (fed old.splitter piece)).standing new
+CutsOn (Some old) piece new = GoesOn (cut (fed old piece)).standing new
+
+-- a piece is whole frames, all of which are ignored, and the stream stands behind it as it stood
+pub record GoesBy (ignores : WholeFrame → Type 0) (cutter : Option Standing) (piece : List ℕ) : Type 0 where
+  pub cuts : CutsOn cutter piece cutter
+  pub frames : AllByRecursion (IsPassed ignores) (new_frames cutter piece)
 
 -- what is known of a party that has said all this
 pub record IsSide (stream : List ℕ) (side : Side) : Type 0 where

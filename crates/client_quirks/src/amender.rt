@@ -1,10 +1,9 @@
-ghost use Rattle.std.specs.Prelude.{◌≡◌, ◌≤◌, ◌++◌, ◌∷◌, [], length, take, drop, IfOk, OnOk};
+ghost use Rattle.std.specs.Prelude.{◌≡◌, ◌≤◌, ◌++◌, ◌∷◌, [], length, take, drop, IfOk, OnOk, IsTrue};
 ghost use Rattle.client_quirks.specs.Amending.{Follows, Takes, Ends, RewritesFrames, left_open, is_within, between, held_within};
 
-use crate::cutter::{Cutter, Cutting};
 use crate::pieces::{PieceList, StreamPiece, add_bytes, alone, joined};
 use crate::speech::{add_frames, bytes_of};
-use frame_speech::Speech;
+use frame_speech::{Cutting, FrameCutter, Speech};
 use ice_framing::WholeFrame;
 use sm_world::{NoMemory, Octets};
 use std::alloc::Global;
@@ -18,13 +17,13 @@ use std::mem;
 pub struct Amender {
     alloc: Global,
     /// None where the stream isn't followed any more.
-    cutter: Option<Cutter>,
+    cutter: Option<FrameCutter>,
     speech: Speech,
     held: PieceList,
 }
 
 /// A stream that is lost is cut no more.
-fn left_open(speech: Speech, rest: Option<Cutter>) -> Option<Cutter>
+fn left_open(speech: Speech, rest: Option<FrameCutter>) -> Option<FrameCutter>
     ensures { result ≡ left_open speech rest }
 {
     match speech {
@@ -35,7 +34,7 @@ fn left_open(speech: Speech, rest: Option<Cutter>) -> Option<Cutter>
     }
 }
 
-fn is_within(cutter: &Option<Cutter>) -> bool
+fn is_within(cutter: &Option<FrameCutter>) -> bool
     ensures { result ≡ is_within cutter.now }
 {
     match cutter {
@@ -75,15 +74,15 @@ fn parted(
 
 impl Amender {
     /// Before the first byte of a stream.
-    pub fn new(alloc: Global) -> Result<Amender, NoMemory>
-        ensures { IfOk result (λ amender. Follows [] [] amender) }
+    pub fn new(alloc: Global) -> Amender
+        ensures { Follows [] [] result }
     {
-        Ok(Amender {
+        Amender {
             alloc,
-            cutter: Some(Cutter::new(alloc)?),
+            cutter: Some(FrameCutter::new(alloc)),
             speech: Speech::Silent,
             held: PieceList::new(alloc),
-        })
+        }
     }
 
     /// Gives what is held back, as the stream has ended.
@@ -142,6 +141,17 @@ impl Amender {
             add_bytes(self.alloc, halves.left.as_slice(), &mut list)?;
         }
         Ok(list)
+    }
+
+    /// Whether the next piece of the stream is handed on as it came, and nothing else changes, so that
+    /// it needn't be taken. This looks at no more than the headers of its frames.
+    pub fn lets_pass(&self, piece: &[u8]) -> bool
+        ensures { IsTrue result → Takes self.now piece.now (piece.now ∷ []) self.now }
+    {
+        match &self.cutter {
+            Some(cutter) => cutter.passes(&self.speech, piece),
+            None => true,
+        }
     }
 
     /// Takes the next piece of the stream, and gives the pieces that are handed on. After NoMemory

@@ -1,9 +1,11 @@
-ghost use Rattle.std.specs.Prelude.{◌≡◌, ◌++◌, ◌∷◌, ◌≤◌, [], take, drop, length, true, false, not, ◌||◌, IfOk, OnOk};
+ghost use Rattle.std.specs.Prelude.{◌≡◌, ◌++◌, ◌∷◌, ◌≤◌, [], take, drop, length, true, false, not, ◌||◌, IfOk, OnOk, IsTrue};
 ghost use Rattle.std.specs.List.{concat};
 ghost use Rattle.client_quirks.specs.Sides.{IsSide, Follows};
 ghost use Rattle.client_quirks.specs.Leaving.{mark, told_behind, told_by, heard_behind, front_count, is_kept, closing, Hears, Listens};
+ghost use Rattle.client_quirks.specs.Heeding.{HasNothing};
 ghost use Rattle.client_quirks.specs.declared.stage.Stage.TheVariants.{Free};
 
+use crate::heeding::{Heard, Told};
 use crate::pieces::{PieceList, StreamPiece, add_bytes, alone};
 use crate::side::Side;
 use crate::speech::bytes_of;
@@ -108,20 +110,20 @@ fn walk_told(
 
 impl Keeper {
     /// Before the first byte of either party.
-    pub fn new(alloc: Global) -> Result<Keeper, NoMemory>
-        ensures stage { IfOk result (λ keeper. keeper.stage ≡ Free) }
-        ensures pieces { IfOk result (λ keeper. keeper.pieces ≡ []) }
-        ensures came { IfOk result (λ keeper. IsSide [] keeper.came) }
-        ensures sent { IfOk result (λ keeper. IsSide [] keeper.sent) }
+    pub fn new(alloc: Global) -> Keeper
+        ensures stage { result.stage ≡ Free }
+        ensures pieces { result.pieces ≡ [] }
+        ensures came { IsSide [] result.came }
+        ensures sent { IsSide [] result.sent }
     {
-        Ok(Keeper {
+        Keeper {
             alloc,
-            came: Side::new(alloc)?,
-            sent: Side::new(alloc)?,
+            came: Side::new(alloc),
+            sent: Side::new(alloc),
             stage: Stage::Free,
             pieces: PieceList::new(alloc),
             has_ended: false,
-        })
+        }
     }
 
     /// How far a logout has come for the client.
@@ -165,6 +167,31 @@ impl Keeper {
         self.part(piece, front.saturating_sub(held))
     }
 
+    /// Whether a piece has no frame that may change what is known of the client.
+    fn has_nothing(&self, piece: &[u8]) -> bool
+        ensures { IsTrue result → HasNothing self.now piece.now }
+    {
+        let heard = Heard {
+            speech: self.came.speech,
+            stage: self.stage,
+        };
+        self.came.passes(&heard, piece)
+    }
+
+    /// Whether a piece of the client's stream is handed on as it came, and nothing else changes, so
+    /// that it needn't be heard. This looks at no more than the headers of its frames.
+    pub fn lets_pass(&self, piece: &[u8]) -> bool
+        ensures { IsTrue result → Hears self.now piece.now (piece.now ∷ []) self.now }
+    {
+        match self.stage {
+            Stage::Kept => false,
+            Stage::Released => true,
+            Stage::Free => self.has_nothing(piece),
+            Stage::Asked => self.has_nothing(piece),
+            Stage::Answered => self.has_nothing(piece),
+        }
+    }
+
     /// Hears a piece of the client's stream, and gives the pieces that are handed on.
     pub fn hear(&mut self, piece: StreamPiece) -> Result<PieceList, NoMemory>
         ensures { IfOk result (λ list. Hears self.old piece list self.new) }
@@ -204,6 +231,13 @@ impl Keeper {
         ensures pieces { self.new.pieces ≡ self.old.pieces }
         ensures ended { self.new.has_ended ≡ self.old.has_ended }
     {
+        let told = Told {
+            speech: self.sent.speech,
+            stage: self.stage,
+        };
+        if self.sent.passes(&told, bytes) {
+            return Ok(());
+        }
         let frames = self.sent.take(self.alloc, bytes)?;
         let walked = walk_told(self.alloc, self.sent.speech, self.stage, frames.as_slice())?;
         self.sent.speech = walked.speech;

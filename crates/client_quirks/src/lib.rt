@@ -3,7 +3,7 @@
 #![tactic(auto)]
 
 mod amender;
-mod cutter;
+mod heeding;
 mod keeper;
 mod meanings;
 mod pieces;

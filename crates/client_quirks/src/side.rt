@@ -1,8 +1,7 @@
-ghost use Rattle.std.specs.Prelude.{◌≡◌, [], IfOk, OnOk};
-ghost use Rattle.client_quirks.specs.Sides.{new_frames, held_of, IsSide, CutsOn};
+ghost use Rattle.std.specs.Prelude.{◌≡◌, [], IfOk, OnOk, IsTrue};
+ghost use Rattle.client_quirks.specs.Sides.{new_frames, held_of, IsSide, CutsOn, GoesBy};
 
-use crate::cutter::{Cutter, Cutting};
-use frame_speech::Speech;
+use frame_speech::{Cutting, FrameCutter, Heeds, Speech};
 use ice_framing::WholeFrameList;
 use sm_world::NoMemory;
 use std::alloc::Global;
@@ -10,19 +9,19 @@ use std::alloc::Global;
 /// One party's stream, as it is cut and understood.
 #[derive(Debug, Drop)]
 pub struct Side {
-    cutter: Option<Cutter>,
+    cutter: Option<FrameCutter>,
     pub speech: Speech,
 }
 
 impl Side {
     /// Before the first byte.
-    pub fn new(alloc: Global) -> Result<Side, NoMemory>
-        ensures { IfOk result (λ side. IsSide [] side) }
+    pub fn new(alloc: Global) -> Side
+        ensures { IsSide [] result }
     {
-        Ok(Side {
-            cutter: Some(Cutter::new(alloc)?),
+        Side {
+            cutter: Some(FrameCutter::new(alloc)),
             speech: Speech::Silent,
-        })
+        }
     }
 
     /// How many bytes came behind the last whole frame.
@@ -32,6 +31,18 @@ impl Side {
         match &self.cutter {
             Some(cutter) => cutter.held(),
             None => 0,
+        }
+    }
+
+    /// Whether a piece is whole frames, none of which is heeded, and comes between two frames, or
+    /// nothing is cut any more. Then it needn't be taken.
+    pub fn passes<H: Heeds>(&self, heeds: &H, piece: &[u8]) -> bool
+        ensures { IsTrue result
+            → GoesBy (H.ignores heeds.now) self.now.cutter piece.now }
+    {
+        match &self.cutter {
+            Some(cutter) => cutter.passes(heeds, piece),
+            None => true,
         }
     }
 

@@ -26,7 +26,7 @@ fn put_turn(alloc: Global, keeper: &mut Keeper, turn: &str, text: &mut String) -
 }
 
 fn turns_shown(alloc: Global, input: &str) -> Result<String, Fail> {
-    let mut keeper = Keeper::new(alloc)?;
+    let mut keeper = Keeper::new(alloc);
     let mut text = String::new(alloc);
     for turn in input.split(' ') {
         put_turn(alloc, &mut keeper, turn, &mut text)?;

@@ -4,6 +4,8 @@
 #[cfg(test)]
 mod ends;
 #[cfg(test)]
+mod passing;
+#[cfg(test)]
 mod properties;
 #[cfg(test)]
 mod streams;

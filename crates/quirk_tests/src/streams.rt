@@ -8,7 +8,7 @@ use test_tables::expect_rows;
 /// What is handed on of the pieces of a stream, one by one, and behind a semicolon what is left when it
 /// ends.
 fn handed_on(alloc: Global, input: &str) -> Result<String, Fail> {
-    let mut amender = Amender::new(alloc)?;
+    let mut amender = Amender::new(alloc);
     let mut text = String::new(alloc);
     for digits in input.split(' ') {
         let pieces = amender.take(piece_of(alloc, digits)?)?;

@@ -22,12 +22,12 @@ fn add_pieces(conn: Conn, pieces: PieceList, waiting: &mut VecDeque<News>) -> Re
 
 impl Follower {
     /// A connection that comes now.
-    pub fn new(alloc: Global, conn: Conn) -> Result<Follower, NoMemory> {
-        Ok(Follower {
+    pub fn new(alloc: Global, conn: Conn) -> Follower {
+        Follower {
             conn,
-            amender: Amender::new(alloc)?,
-            keeper: Keeper::new(alloc)?,
-        })
+            amender: Amender::new(alloc),
+            keeper: Keeper::new(alloc),
+        }
     }
 
     /// Hears pieces as they are meant, and adds those that aren't held back.
@@ -37,6 +37,11 @@ impl Follower {
             add_pieces(self.conn, handed, waiting)?;
         }
         Ok(())
+    }
+
+    /// Whether a piece that came is handed on as it is, and nothing else changes.
+    pub fn lets_pass(&self, piece: &[u8]) -> bool {
+        self.amender.lets_pass(piece) && self.keeper.lets_pass(piece)
     }
 
     /// Hears a piece that came.

@@ -1,4 +1,4 @@
-ghost use Rattle.std.specs.Prelude.{◌≡◌, ◌<◌, length, IfOk, IfSome};
+ghost use Rattle.std.specs.Prelude.{◌≡◌, ◌<◌, ◌≤◌, length, IfOk, IfSome};
 ghost use Rattle.sm_world.specs.Events.{HasPieceSize};
 ghost use Rattle.quirk_world.specs.Untold.{around};
 
@@ -6,7 +6,7 @@ use crate::follower::Follower;
 use crate::news::News;
 use client_quirks::StreamPiece;
 use sm_world::{
-    Command, Conn, Console, Disk, Event, Failed, Failure, Links, NoMemory, Spawner, Told,
+    Command, Conn, Console, Disk, Event, Failed, Failure, Links, NoMemory, Octets, Spawner, Told,
 };
 use std::alloc::Global;
 use std::collections::VecDeque;
@@ -71,20 +71,26 @@ impl<W: Drop> QuirkWorld<W> {
     fn join(&mut self, conn: Conn) -> Result<(), NoMemory>
         ensures { self.new.inner ≡ self.old.inner }
     {
-        let row = Follower::new(self.alloc, conn)?;
-        self.rows.push(row)?;
+        self.rows.push(Follower::new(self.alloc, conn))?;
         Ok(())
     }
 
-    fn hear(&mut self, conn: Conn, piece: StreamPiece) -> Result<(), NoMemory>
-        ensures { self.new.inner ≡ self.old.inner }
+    /// What is handed on next once a piece came; before that nothing waits.
+    fn hear(&mut self, conn: Conn, bytes: Octets) -> Result<Event, NoMemory>
+        requires some { 1 ≤ length bytes }
+        requires within { length bytes ≤ 65536 }
+        ensures inner { self.new.inner ≡ self.old.inner }
+        ensures size { IfOk result HasPieceSize }
     {
         match place_of(&self.rows, conn) {
-            Some(place) => self.rows[place].hear(piece, &mut self.waiting),
-            None => {
-                self.waiting.push_back(News::Piece(conn, piece))?;
-                Ok(())
+            Some(place) => {
+                if self.rows[place].lets_pass(bytes.as_slice()) {
+                    return Ok(Event::Piece(conn, bytes));
+                }
+                self.rows[place].hear(StreamPiece::new(bytes), &mut self.waiting)?;
+                Ok(self.next_waiting())
             }
+            None => Ok(Event::Piece(conn, bytes)),
         }
     }
 
@@ -112,7 +118,8 @@ impl<W: Drop> QuirkWorld<W> {
         match place_of(&self.rows, conn) {
             Some(place) => {
                 let goes_out = self.rows[place].tell(bytes)?;
-                if self.rows[place].release(&mut self.waiting)? {
+                // What goes out goes to a client of which nothing is held back.
+                if !goes_out && self.rows[place].release(&mut self.waiting)? {
                     self.forget(conn);
                 }
                 Ok(goes_out)
@@ -132,10 +139,7 @@ impl<W: Drop> QuirkWorld<W> {
                 self.join(conn)?;
                 Ok(Event::Joined(conn))
             }
-            Event::Piece(conn, bytes) => {
-                self.hear(conn, StreamPiece::new(bytes))?;
-                Ok(self.next_waiting())
-            }
+            Event::Piece(conn, bytes) => self.hear(conn, bytes),
             Event::Gone(conn) => {
                 self.end(conn)?;
                 Ok(self.next_waiting())

@@ -6,5 +6,5 @@ use Rattle.client_quirks.proofs.side.Side.new.Goals as goal
 
 pub returns : goal.returns
 returns c =
-    let side : Side = record { cutter = Some c.in_ok-new.field-0; speech = Silent } in
-    begins c.in_ok-new.field-0 side c.in_ok-new.ensures refl refl
+    let side : Side = record { cutter = Some c.new.result; speech = Silent } in
+    begins c.new.result side c.new.ensures refl refl
