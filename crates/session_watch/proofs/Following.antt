@@ -7,16 +7,17 @@ use Rattle.xsmp_messages.specs.declared.message.XsmpMessage.{XsmpMessage}
 use Rattle.frame_speech.proofs.Speeches.{speech_behind-append}
 use Rattle.frame_speech.specs.Speech.{speech_behind}
 use Rattle.frame_speech.specs.Streams.{IsAt, Cuts}
+use Rattle.frame_speech.specs.Passing.{PassesBy}
 use Rattle.frame_speech.specs.declared.speech.Speech.{Speech}
 use Rattle.frame_speech.specs.declared.speech.Speech.TheVariants.{Silent}
 use Rattle.frame_speech.specs.declared.stream.CutStream.{CutStream}
-use Rattle.session_watch.specs.Story.{Passage, Said, say, part_of, stream_of, messages_in, brought, messages}
+use Rattle.session_watch.specs.Story.{Passage, Said, say, IsNoMessage, part_of, stream_of, messages_in, brought, messages}
 use Rattle.session_watch.specs.Knowing.{Follows, known_by, noted_all}
 use Rattle.session_watch.specs.declared.known.Known.{Known}
 use Rattle.session_watch.specs.declared.party.Party.{Party}
 use Rattle.session_watch.specs.declared.party.Party.TheVariants.{Client, Manager}
 use Rattle.session_watch.specs.declared.watch.ClientWatch.{ClientWatch}
-use Rattle.session_watch.proofs.Noting.{known_more}
+use Rattle.session_watch.proofs.Noting.{known_more, passed_messages}
 use Rattle.session_watch.proofs.Stories.{stream_grown, messages_grown, brought_is, silent_grown}
 
 -- how far a party is understood by what it sent
@@ -66,6 +67,19 @@ heard start story old at bytes frames new follows more =
       since = more.since ∙ sym (silent_grown start story p);
     }
 
+-- it sent nothing that is a message
+pub heard_nothing : (old : ClientWatch) (at : ℕ) (bytes : List ℕ) (new : ClientWatch) → (passes : PassesBy (IsNoMessage old.said) bytes old.came) → new ≡ record old { since = at } → Heard old at bytes passes.new new
+heard_nothing old at bytes new passes is =
+    let none = passed_messages old.said passes.new passes.frames in
+    subst (λ (w : ClientWatch). Heard old at bytes passes.new w) (sym is) (record {
+      cuts = passes.cuts;
+      said = sym none.1;
+      known = sym (ap (λ (ms : List XsmpMessage). noted_all Client ms old.known) none.0);
+      since = refl;
+      sent = refl;
+      told = refl;
+    })
+
 -- the manager sent more
 pub record Told (old : ClientWatch) (bytes : List ℕ) (frames : List WholeFrame) (new : ClientWatch) : Type 0 where
   pub cuts : (stream : List ℕ) → IsAt stream old.sent → Cuts stream bytes frames new.sent
@@ -88,4 +102,17 @@ told start story old at bytes frames new follows more =
       told = subst (λ (s : List ℕ). Understood s new.told) (sym sent) (speech_on (stream_of Manager story) bytes frames old.told new.told cuts.frames follows.told more.told);
       known = known_on Manager (messages story) (stream_of Manager story) bytes frames old.told old.known new.known cuts.frames follows.told follows.known more.known ∙ sym (ap known_by (messages_grown story p));
       since = more.since ∙ follows.since ∙ sym (silent_grown start story p);
+    }
+
+-- it sent nothing that is a message
+pub told_nothing : (old : ClientWatch) (bytes : List ℕ) → (passes : PassesBy (IsNoMessage old.told) bytes old.sent) → Told old bytes passes.new old
+told_nothing old bytes passes =
+    let none = passed_messages old.told passes.new passes.frames in
+    record {
+      cuts = passes.cuts;
+      told = sym none.1;
+      known = sym (ap (λ (ms : List XsmpMessage). noted_all Manager ms old.known) none.0);
+      since = refl;
+      came = refl;
+      said = refl;
     }

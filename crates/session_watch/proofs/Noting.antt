@@ -1,15 +1,21 @@
 -- What is known as messages are noted one after another.
 use Rattle.std.proofs.Common.{◌≡◌, ℕ, ◌+◌, ◌<◌, ◌≤◌, List, [], ◌∷◌, ◌++◌, length, take, drop, get_or, map, Option, Some, None, refl, sym, ap, ◌∙◌, append_assoc, append-nil}
 use Rattle.std.specs.Prelude.{unwrap_or, option_map, option_to_list}
+use Rattle.std.specs.List.{AllByRecursion}
 use Rattle.std.specs.Option.{option_or, option_flatten}
+use Rattle.std.proofs.lemmas.Bool.{false≢true}
 use Rattle.std.proofs.lemmas.List.{at_drop_all, take_more}
 use Rattle.ice_values.specs.declared.property.Property.{Property}
 use Rattle.ice_framing.specs.declared.cutting.WholeFrame.{WholeFrame}
 use Rattle.xsmp_messages.specs.declared.message.XsmpMessage.{XsmpMessage}
 use Rattle.frame_speech.proofs.Speeches.{on}
 use Rattle.frame_speech.specs.Speech.{reading, after, speech_behind}
+use Rattle.frame_speech.specs.Passing.{IsPassed}
 use Rattle.frame_speech.specs.declared.speech.Speech.{Speech}
-use Rattle.session_watch.specs.Story.{Said, say, spoken, messages_in}
+use Rattle.frame_speech.specs.declared.speech.Speech.TheVariants.{Silent, Greeted, Speaks, Lost}
+use Rattle.frame_speech.specs.declared.reading.Reading.{Reading}
+use Rattle.frame_speech.specs.declared.reading.Reading.TheVariants.{Nothing}
+use Rattle.session_watch.specs.Story.{Said, say, IsNoMessage, spoken, messages_in}
 use Rattle.session_watch.specs.Knowing.{latest, set_by, program_by, id_by, asked_by, answered_by, logout_by, work_by, known_by, noted, noted_all}
 use Rattle.session_watch.specs.declared.known.Known.{Known}
 use Rattle.session_watch.specs.declared.party.Party.{Party}
@@ -94,3 +100,20 @@ noted_every party first frames before speech known i noting over = (
   sym (at_drop_all (speech_behind speech) frames i over) ∙ noting.speech_is,
   sym (at_drop_all (λ (fs : List WholeFrame). noted_all party (messages_in speech fs) known) frames i over) ∙ noting.known_is,
 )
+
+-- ---- frames that are passed over
+
+passed_message : (s : Speech) (f : WholeFrame) → IsPassed (IsNoMessage s) f → (spoken s f ≡ None) × (reading s f ≡ Nothing)
+passed_message Silent f passed = absurd (false≢true (sym passed.1))
+passed_message Greeted f passed = absurd (false≢true (sym passed.1))
+passed_message (Speaks opcode) f passed = rw (passed.0, passed.1) (refl, refl)
+passed_message Lost f passed = (refl, rw passed.0 refl)
+
+pub passed_messages : (s : Speech) (fs : List WholeFrame) → AllByRecursion (IsPassed (IsNoMessage s)) fs → (messages_in s fs ≡ []) × (speech_behind s fs ≡ s)
+passed_messages s [] all = (refl, refl)
+passed_messages s (f ∷ fs) all =
+    let one = passed_message s f all.0 in
+    let others = passed_messages s fs all.1 in (
+      ap (λ (o : Option XsmpMessage). option_to_list o ++ messages_in (after s (reading s f)) fs) one.0 ∙ ap (λ (r : Reading). messages_in (after s r) fs) one.1 ∙ others.0,
+      ap (λ (r : Reading). speech_behind (after s r) fs) one.1 ∙ others.1,
+    )

@@ -1,5 +1,5 @@
 -- What passed on a client's connection in both directions, and the messages of XSMP that it brought, in the order in which they passed. Times are in milliseconds.
-use Rattle.std.specs.Prelude.{ℕ, ◌==◌, ◌&&◌, if◌then◌else◌, List, [], ◌∷◌, ◌++◌, length, drop, map, flat_map, slice_index, Option, None, option_to_list}
+use Rattle.std.specs.Prelude.{◌≡◌, ℕ, Bool, true, false, ◌==◌, ◌&&◌, if◌then◌else◌, List, [], ◌∷◌, ◌++◌, length, drop, map, flat_map, slice_index, Option, None, option_to_list}
 use Rattle.std.specs.Result.{result_ok}
 use Rattle.ice_framing.specs.Frames.{frames_of}
 use Rattle.ice_framing.specs.declared.cutting.WholeFrame.{WholeFrame}
@@ -39,6 +39,16 @@ spoken Silent f = None
 spoken Greeted f = None
 spoken (Speaks opcode) f = if is_whole f && slice_index f.bytes 0 == opcode then result_ok (decode_at f.endian f.bytes) else None
 spoken Lost f = None
+
+-- a frame that may be one, or say something of its sender
+abbrev pub may_speak : Speech → WholeFrame → Bool
+may_speak Silent f = true
+may_speak Greeted f = true
+may_speak (Speaks opcode) f = slice_index f.bytes 0 == opcode
+may_speak Lost f = false
+
+abbrev pub IsNoMessage : Speech → WholeFrame → Type 0
+IsNoMessage speech f = may_speak speech f ≡ false
 
 abbrev pub messages_in : Speech → List WholeFrame → List XsmpMessage
 messages_in speech [] = []

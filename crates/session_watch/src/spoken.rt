@@ -3,17 +3,36 @@ ghost use Rattle.ice_values.specs.Frames.{IsFrame};
 ghost use Rattle.std.specs.Result.{result_ok};
 ghost use Rattle.xsmp_messages.specs.Reading.{decode_at};
 ghost use Rattle.frame_speech.specs.Speech.{speech_behind};
-ghost use Rattle.session_watch.specs.Story.{spoken as spoken_by, messages_in};
+ghost use Rattle.session_watch.specs.Story.{IsNoMessage, spoken as spoken_by, messages_in};
 ghost use Rattle.session_watch.specs.Knowing.{noted_all};
 
 use crate::known::Known;
 use crate::party::Party;
-use frame_speech::{Speech, byte_at, is_whole};
+use frame_speech::{Heeds, Speech, byte_at, is_whole};
 use ice_framing::WholeFrame;
-use ice_values::DecodeRefusal;
+use ice_values::{DecodeRefusal, Endian};
 use sm_world::NoMemory;
 use std::alloc::Global;
 use xsmp_messages::{XsmpMessage, decode_xsmp};
+
+/// Looks for the messages of XSMP.
+#[derive(Clone, Copy, Debug)]
+pub struct Messages {
+    pub speech: Speech,
+}
+
+impl Heeds for Messages {
+    ghost ignores = { λ messages frame. IsNoMessage messages.speech frame };
+
+    fn heeds(&self, _endian: Endian, frame: &[u8]) -> bool {
+        match self.speech {
+            Speech::Silent => true,
+            Speech::Greeted => true,
+            Speech::Speaks(opcode) => byte_at(frame, 0) == opcode,
+            Speech::Lost => false,
+        }
+    }
+}
 
 /// The message that a frame spells, if it spells one.
 fn read(alloc: Global, frame: &WholeFrame) -> Result<Option<XsmpMessage>, NoMemory>

@@ -6,7 +6,7 @@ ghost use Rattle.session_watch.specs.declared.party.Party.TheVariants.{Client, M
 use crate::asking::{Answered, Asked};
 use crate::known::Known;
 use crate::party::Party;
-use crate::spoken::note_frames;
+use crate::spoken::{Messages, note_frames};
 use crate::stage::Stage;
 use frame_speech::{CutStream, Speech};
 use sm_world::{NoMemory, Octets};
@@ -59,6 +59,10 @@ impl ClientWatch {
         ensures { OnOk result ((start : ℕ) (story : List Passage) → Follows start story self.old
             → Follows start (story ++ record { by = Client; at = now; bytes = bytes.now } ∷ []) self.new) }
     {
+        self.since = now;
+        if self.came.passes(&Messages { speech: self.said }, bytes) {
+            return Ok(());
+        }
         let frames = self.came.take(self.alloc, bytes)?;
         let frames = frames.as_slice();
         self.said = note_frames(
@@ -68,7 +72,6 @@ impl ClientWatch {
             frames,
             &mut self.known,
         )?;
-        self.since = now;
         Ok(())
     }
 
@@ -77,6 +80,9 @@ impl ClientWatch {
         ensures { OnOk result ((start : ℕ) (story : List Passage) → Follows start story self.old
             → Follows start (story ++ record { by = Manager; at = now; bytes = bytes.now } ∷ []) self.new) }
     {
+        if self.sent.passes(&Messages { speech: self.told }, bytes) {
+            return Ok(());
+        }
         let frames = self.sent.take(self.alloc, bytes)?;
         let frames = frames.as_slice();
         self.told = note_frames(

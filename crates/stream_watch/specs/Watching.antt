@@ -1,5 +1,5 @@
 -- What is seen of a connection by following the frames that the manager sends on it.
-use Rattle.std.specs.Prelude.{◌≡◌, ℕ, Bool, not, ◌&&◌, ◌==◌, List, slice_index}
+use Rattle.std.specs.Prelude.{◌≡◌, ℕ, Bool, false, not, ◌&&◌, ◌||◌, ◌==◌, List, slice_index}
 use Rattle.std.specs.List.{list_any}
 use Rattle.ice_framing.specs.Frames.{frames_of}
 use Rattle.ice_framing.specs.declared.cutting.WholeFrame.{WholeFrame}
@@ -13,6 +13,10 @@ is_connection_reply frame = slice_index frame.bytes 0 == 0 && slice_index frame.
 -- Die of XSMP (XSMP, chapter 10: minor opcode 9). Whatever isn't ICE's own is XSMP's: the manager speaks nothing else.
 abbrev pub is_die : WholeFrame → Bool
 is_die frame = not (slice_index frame.bytes 0 == 0) && slice_index frame.bytes 1 == 9
+
+-- neither of these
+abbrev pub IsNoTurn : WholeFrame → Type 0
+IsNoTurn frame = (is_connection_reply frame || is_die frame) ≡ false
 
 -- ConnectionReply was sent
 abbrev pub is_let_in : List ℕ → Bool

@@ -1,9 +1,10 @@
 ghost use Rattle.std.specs.Prelude.{◌≡◌, ◌++◌, ℕ, List, [], OnOk};
 ghost use Rattle.std.specs.List.{list_any};
-ghost use Rattle.stream_watch.specs.Watching.{Follows, is_connection_reply as lets_in, is_die as tells_to_die};
+ghost use Rattle.stream_watch.specs.Watching.{Follows, is_connection_reply as lets_in, is_die as tells_to_die, IsNoTurn};
 
-use frame_speech::{CutStream, byte_at};
+use frame_speech::{CutStream, Heeds, byte_at};
 use ice_framing::WholeFrame;
+use ice_values::Endian;
 use sm_world::NoMemory;
 use std::alloc::Global;
 
@@ -19,6 +20,19 @@ fn is_die(frame: &WholeFrame) -> bool
 {
     let bytes = frame.bytes.as_slice();
     byte_at(bytes, 0) != 0 && byte_at(bytes, 1) == 9
+}
+
+/// Looks for what lets a client in and what tells it to die.
+struct Turns;
+
+impl Heeds for Turns {
+    ghost ignores = { λ turns frame. IsNoTurn frame };
+
+    fn heeds(&self, _endian: Endian, frame: &[u8]) -> bool {
+        let major = byte_at(frame, 0);
+        let minor = byte_at(frame, 1);
+        (major == 0 && minor == 6) || (major != 0 && minor == 9)
+    }
 }
 
 fn have_connection_reply(frames: &[WholeFrame]) -> bool
@@ -59,6 +73,9 @@ impl Watch {
     pub fn follow(&mut self, bytes: &[u8]) -> Result<(), NoMemory>
         ensures { OnOk result ((sent : List ℕ) → Follows sent self.old → Follows (sent ++ bytes.now) self.new) }
     {
+        if self.sent.passes(&Turns, bytes) {
+            return Ok(());
+        }
         let frames = self.sent.take(self.alloc, bytes)?;
         let let_in = have_connection_reply(frames.as_slice());
         let told_to_die = have_die(frames.as_slice());

@@ -1,8 +1,10 @@
 use Rattle.std.proofs.Common.{rules, ◌≡◌, List, refl, subst}
 use Rattle.ice_framing.specs.declared.cutting.WholeFrame.{WholeFrame}
 use Rattle.frame_speech.specs.Streams.{Cuts}
+use Rattle.frame_speech.specs.Passing.{PassesBy}
+use Rattle.session_watch.specs.Story.{IsNoMessage}
 use Rattle.session_watch.specs.declared.watch.ClientWatch.{ClientWatch}
-use Rattle.session_watch.proofs.Following.{heard}
+use Rattle.session_watch.proofs.Following.{heard, heard_nothing}
 use Rattle.session_watch.proofs.watch.ClientWatch.hear.Goals as goal
 
 pub returns : goal.returns
@@ -19,3 +21,10 @@ returns c = λ start story follows.
       sent = refl;
       told = refl;
     })
+
+pub returns-then-passes : goal.returns-then-passes
+returns-then-passes c = λ start story follows.
+    let old = c.args.self.now in
+    let passes : PassesBy (IsNoMessage old.said) c.args.bytes.now old.came = search rules in
+    let new : ClientWatch = record old { since = c.args.now } in
+    heard start story old c.args.now c.args.bytes.now passes.new new follows (heard_nothing old c.args.now c.args.bytes.now new passes refl)

@@ -1,8 +1,10 @@
 use Rattle.std.proofs.Common.{rules, ◌≡◌, List, refl, subst}
 use Rattle.ice_framing.specs.declared.cutting.WholeFrame.{WholeFrame}
 use Rattle.frame_speech.specs.Streams.{Cuts}
+use Rattle.frame_speech.specs.Passing.{PassesBy}
+use Rattle.session_watch.specs.Story.{IsNoMessage}
 use Rattle.session_watch.specs.declared.watch.ClientWatch.{ClientWatch}
-use Rattle.session_watch.proofs.Following.{told}
+use Rattle.session_watch.proofs.Following.{told, told_nothing}
 use Rattle.session_watch.proofs.watch.ClientWatch.tell.Goals as goal
 
 pub returns : goal.returns
@@ -19,3 +21,9 @@ returns c = λ start story follows.
       came = refl;
       said = refl;
     })
+
+pub returns-then-passes : goal.returns-then-passes
+returns-then-passes c = λ start story follows.
+    let old = c.args.self.now in
+    let passes : PassesBy (IsNoMessage old.told) c.args.bytes.now old.sent = search rules in
+    told start story old c.args.now c.args.bytes.now passes.new old follows (told_nothing old c.args.bytes.now passes)
