@@ -1,0 +1,7 @@
+//! Tests of a manager as a client of an outer one.
+#![tactic(auto)]
+
+#[cfg(test)]
+mod agents;
+#[cfg(test)]
+mod frames;

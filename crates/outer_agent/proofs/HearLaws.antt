@@ -1,0 +1,90 @@
+-- What a piece brings, what an agent is told, and pieces one after another.
+use Rattle.std.proofs.Common.{◌≡◌, ℕ, Bool, true, false, List, [], ◌∷◌, ◌++◌, length, drop, Option, None, Some, refl, sym, ◌∙◌, ap, subst, arith}
+use Rattle.std.proofs.lemmas.Bool.{false≢true}
+use Rattle.ice_framing.specs.Frames.{Standing, cut, fed}
+use Rattle.ice_framing.specs.Parts.{Part, parts_at}
+use Rattle.sm_world.specs.declared.failures.NoMemory.{NoMemory}
+use Rattle.client_machine.specs.Asking.{after_asked}
+use Rattle.client_machine.specs.Phases.{ClientState}
+use Rattle.client_machine.specs.declared.requests.Request.TheVariants.{Done}
+use Rattle.client_engine.specs.Driving.{Run, Step, behind, both, part_taken, parts_taken, piece_taken, standing_at}
+use Rattle.client_engine.specs.Keeping.{TakesPiece}
+use Rattle.client_engine.specs.Places.{id_at, is_listening, on_client}
+use Rattle.client_engine.specs.declared.place.Place.{Place}
+use Rattle.client_engine.specs.declared.place.Place.TheVariants.{Opening, Speaking, Stopped}
+use Rattle.client_engine.proofs.Driven.{in_parts, still_at}
+use Rattle.outer_agent.specs.Doing.{Carries}
+use Rattle.outer_agent.specs.Laws.{PiecesMakeNoDifference}
+use Rattle.outer_agent.specs.Script.{Keeper, closed, closing_with, piece_heard, reacts, talk_of, telling, told}
+use Rattle.outer_agent.specs.Standing.{Gives, IsRun, Stand}
+use Rattle.outer_agent.specs.declared.acts.AgentAct.{AgentAct}
+use Rattle.outer_agent.proofs.HeedLaws.{stays_stopped}
+
+abbrev all_taken : Keeper → List Part → List (Unit {0}) → Step Keeper AgentAct
+all_taken keeper parts rs = parts_taken tt talk_of reacts keeper parts rs
+
+-- nothing comes to an agent from without
+silent : (keeper : Keeper) (parts : List Part) (rs : List (Unit {0})) → all_taken keeper parts rs ≡ all_taken keeper parts []
+silent keeper [] rs = refl
+silent keeper (part ∷ parts) rs = ap (behind (part_taken tt talk_of reacts keeper part tt).line) (silent (part_taken tt talk_of reacts keeper part tt).next parts (drop 1 rs))
+
+pub silent_piece : (run : Run Keeper) (bytes : List ℕ) (rs : List (Unit {0})) → piece_taken tt talk_of reacts run bytes rs ≡ piece_heard run bytes
+silent_piece run bytes rs = ap (standing_at (cut (fed run.standing bytes)).standing) (silent run.keeper (parts_at (fed run.standing bytes)) rs)
+
+-- ---- pieces one after another
+
+-- one for each part
+abbrev blanks : List Part → List (Unit {0})
+blanks [] = []
+blanks (part ∷ parts) = tt ∷ blanks parts
+
+length-blanks : (parts : List Part) → length (blanks parts) ≡ length parts
+length-blanks [] = refl
+length-blanks (part ∷ parts) = omega (arith, length-blanks parts)
+
+pub no_difference : PiecesMakeNoDifference
+no_difference run xs ys =
+    let rs : List (Unit {0}) = blanks (parts_at (fed run.standing xs)) in
+    let pieces : Run Keeper → List ℕ → List (Unit {0}) → Step (Run Keeper) AgentAct = λ at bytes more. piece_taken tt talk_of reacts at bytes more in
+    sym (silent_piece run (xs ++ ys) (rs ++ []))
+    ∙ (in_parts tt talk_of reacts stays_stopped run xs ys rs [] (length-blanks (parts_at (fed run.standing xs)))
+    ∙ ap (λ (first : Step (Run Keeper) AgentAct). both first (piece_heard first.next ys)) (silent_piece run xs rs))
+
+-- ---- what a call gives
+
+-- all acts of a piece
+pub heard : (none acts : List AgentAct) (run : Run Keeper) (piece : List ℕ) (after : Stand) → none ≡ [] → TakesPiece Carries tt talk_of reacts none acts run piece after.keeper after.splitter None → Gives acts (piece_heard run piece) after
+heard none acts run piece after are takes =
+    let same : piece_taken tt talk_of reacts run piece takes.replies ≡ piece_heard run piece = silent_piece run piece takes.replies in
+    record {
+      line = takes.does ∙ (ap (λ (more : List AgentAct). more ++ (piece_taken tt talk_of reacts run piece takes.replies).line) are ∙ ap (λ (s : Step (Run Keeper) AgentAct). s.line) same);
+      next = subst (λ (s : Step (Run Keeper) AgentAct). IsRun s.next after) same (takes.next refl);
+    }
+
+-- one whose client changes by what it says holds the stream as before
+pub said : (step : Keeper → Step Keeper ℕ) (bytes : List ℕ) (run : Run Keeper) (old new : Stand) → ((keeper : Keeper) → is_listening keeper.talk.place ≡ false → is_listening (step keeper).next.talk.place ≡ false) → IsRun run old → bytes ≡ (step old.keeper).line → new.keeper ≡ (step old.keeper).next → new.splitter ≡ old.splitter
+    → Gives bytes (record { line = (step run.keeper).line; next = record run { keeper = (step run.keeper).next } }) new
+said step bytes run old new stops is_run gave stands same = record {
+  line = gave ∙ ap (λ (k : Keeper). (step k).line) is_run.keeper;
+  next = record {
+    keeper = stands ∙ ap (λ (k : Keeper). (step k).next) is_run.keeper;
+    feeds = λ listens. same ∙ holds (is_listening old.keeper.talk.place) refl listens;
+  };
+}
+  where
+    holds : (b : Bool) → is_listening old.keeper.talk.place ≡ b → is_listening new.keeper.talk.place ≡ true → old.splitter ≡ run.standing
+    holds true listens still = is_run.feeds listens
+    holds false deaf still = absurd (false≢true (sym (stops old.keeper deaf) ∙ (ap (λ (k : Keeper). is_listening k.talk.place) (sym stands) ∙ still)))
+
+told_stops : (success : Bool) (keeper : Keeper) → is_listening keeper.talk.place ≡ false → is_listening (telling keeper success).next.talk.place ≡ false
+told_stops success keeper deaf = still_at (after_asked (Done success)) keeper.talk.place deaf
+
+closed_stops : (id : Option (List ℕ)) (keeper : Keeper) → is_listening keeper.talk.place ≡ false → is_listening (closing_with keeper id).next.talk.place ≡ false
+closed_stops None keeper deaf = deaf
+closed_stops (Some id) keeper deaf = refl
+
+pub told_by : (success : Bool) (bytes : List ℕ) (run : Run Keeper) (old new : Stand) → IsRun run old → bytes ≡ (telling old.keeper success).line → new.keeper ≡ (telling old.keeper success).next → new.splitter ≡ old.splitter → Gives bytes (told run success) new
+told_by success bytes run old new = said (λ keeper. telling keeper success) bytes run old new (told_stops success)
+
+pub closed_by : (bytes : List ℕ) (run : Run Keeper) (old new : Stand) → IsRun run old → bytes ≡ (closing_with old.keeper (id_at old.keeper.talk.place)).line → new.keeper ≡ (closing_with old.keeper (id_at old.keeper.talk.place)).next → new.splitter ≡ old.splitter → Gives bytes (closed run) new
+closed_by bytes run old new = said (λ keeper. closing_with keeper (id_at keeper.talk.place)) bytes run old new (λ keeper. closed_stops (id_at keeper.talk.place) keeper)

@@ -1,0 +1,5 @@
+pub mod WordLaws
+pub mod HeedLaws
+pub mod HearLaws
+pub mod EndLaws
+pub mod SuccessLaws
