@@ -2,6 +2,7 @@
 #![tactic(auto)]
 
 use program_frame::{OwnTexts, read_words};
+use program_texts::{SMCLIENT, first_meant, try_hint};
 use smclient_app::smclient_main;
 use std::process::ExitCode;
 use unix_peer::UnixPeer;
@@ -16,18 +17,46 @@ const TEXTS: OwnTexts = OwnTexts {
         \x20 --saves N          closes after N saves, from 1 to 1000000 (1)\n\
         \x20 --interact         talks to the user in each save that lets it\n\
         \x20 --phase-two        saves when all others are done\n\n\
+        as: smclient --socket s --authority a --program editor --saves 2 --interact\n\n\
         usage: smclient --help      shows this\n\
         \x20      smclient --version   shows the version\n",
-    version: "smclient 0.1.0\n",
+    version: SMCLIENT,
     no_memory: "smclient: no memory\n",
 };
+
+/// The status for words that aren't those of a command.
+const BAD_WORDS: u8 = 1;
+
+/// The words that it knows, of which one may be meant by one that it doesn't know.
+const KNOWN: [&str; 9] = [
+    "--socket",
+    "--authority",
+    "--id",
+    "--program",
+    "--saves",
+    "--interact",
+    "--phase-two",
+    "--help",
+    "--version",
+];
 
 fn main(rt: HostRuntime) -> ExitCode {
     let alloc = rt.alloc();
     let words = read_words(&rt);
     let mut world = UnixPeer::new(rt);
     let status = match TEXTS.begin(words, &mut world) {
-        Ok(words) => smclient_main(alloc, words.as_slice(), &mut world, u64::MAX),
+        Ok(words) => {
+            let status = smclient_main(alloc, words.as_slice(), &mut world, u64::MAX);
+            if status == BAD_WORDS {
+                try_hint(
+                    alloc,
+                    &mut world,
+                    "smclient",
+                    first_meant(words.as_slice(), &KNOWN),
+                );
+            }
+            status
+        }
         Err(status) => status,
     };
     ExitCode::from(status)

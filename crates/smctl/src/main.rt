@@ -19,6 +19,7 @@ use crate::fault::Fault;
 use crate::request::{Task, read_request};
 use crate::talk::Talk;
 use program_frame::{OwnTexts, StandardConsole, conclude, read_words};
+use program_texts::{SMCTL, first_meant, try_hint};
 use std::env;
 use std::io::IsTerminal;
 use std::process::ExitCode;
@@ -30,9 +31,14 @@ const TEXTS: OwnTexts = OwnTexts {
         \x20      smctl [--control SOCKET] clients [--plain]  shows who is there\n\
         \x20      smctl --help            shows this\n\
         \x20      smctl --version         shows the version\n\n\
-        orders: checkpoint, shutdown, cancel, status, drop NUMBER, forget ID\n\
+        orders: checkpoint     saves the state of every program\n\
+        \x20       shutdown       ends the session, once all have saved\n\
+        \x20       cancel         calls the logout off\n\
+        \x20       status         tells how many are there, and what the session is at\n\
+        \x20       drop NUMBER    goes on without a client, as: smctl drop 3\n\
+        \x20       forget ID      doesn't start a program again that is gone, by its ID\n\n\
         Without --control the socket is the one that SMD_CONTROL names.\n",
-    version: "smctl 0.1.0\n",
+    version: SMCTL,
     no_memory: "smctl: no memory\n",
 };
 
@@ -61,13 +67,41 @@ fn run(rt: &HostRuntime, words: &[String], console: &mut StandardConsole) -> Res
     }
 }
 
+/// The status for words that aren't those of a command.
+const BAD_WORDS: u8 = 1;
+
+/// The words that it knows, of which one may be meant by one that it doesn't know.
+const KNOWN: [&str; 12] = [
+    "checkpoint",
+    "shutdown",
+    "cancel",
+    "status",
+    "drop",
+    "forget",
+    "clients",
+    "--control",
+    "--wait",
+    "--plain",
+    "--help",
+    "--version",
+];
+
 fn main(rt: HostRuntime) -> ExitCode {
     let words = read_words(&rt);
     let mut console = StandardConsole::new(rt);
     let status = match TEXTS.begin(words, &mut console) {
         Ok(words) => {
             let ending = run(&rt, words.as_slice(), &mut console);
-            conclude(rt.alloc(), &mut console, ending)
+            let status = conclude(rt.alloc(), &mut console, ending);
+            if status == BAD_WORDS {
+                try_hint(
+                    rt.alloc(),
+                    &mut console,
+                    "smctl",
+                    first_meant(words.as_slice(), &KNOWN),
+                );
+            }
+            status
         }
         Err(status) => status,
     };

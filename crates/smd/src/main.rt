@@ -6,6 +6,7 @@ ghost use Rattle.session_recorder.specs.Recorded.{IsNew};
 
 use desktop_world::{BadPlaces, DesktopWorld, Places, host_name, random_cookie};
 use program_frame::{OwnTexts, StandardConsole, read_words};
+use program_texts::{SMD, first_meant, try_hint};
 use quirk_world::{QuirkWorld, take_quirks};
 use record_file::{RecordFile, take_record};
 use session_recorder::{Recorder, opening_of};
@@ -26,16 +27,20 @@ const TEXTS: OwnTexts = OwnTexts {
         \x20          --last-wait MS       closes whoever was told to die so long ago\n\
         \x20          --quirks             takes programs on Xt, Qt and twm for what they mean\n\
         \x20          --record FILE        writes what it hears and does, as a trace\n\
+        \x20                               as: smd serve --socket s --control c --store f --authority a\n\
         \x20      smd rehearse [MS] < SCRIPT\n\
         \x20                               shows what smd does at the events of a script\n\
+        \x20                               as: smd rehearse < examples/logout.script\n\
         \x20      smd exercise A N        saves eight clients N times in memory, and sums it up\n\
+        \x20                               as: smd exercise 0 1000\n\
         \x20      smd store-check --store F [--json]\n\
         \x20                               shows what stands in a store, reading only\n\
+        \x20                               as: smd store-check --store ~/.local/state/smd/store\n\
         \x20      smd --help              shows this\n\
         \x20      smd --version           shows the version\n\n\
         With a patience of MS milliseconds a client is shut that is silent for so long\n\
         while the session waits for it.\n",
-    version: "smd 0.1.0\n",
+    version: SMD,
     no_memory: "smd: no memory\n",
 };
 
@@ -187,18 +192,53 @@ fn run(rt: HostRuntime, mut words: Vec<String>) -> io::Result<u8> {
     }
 }
 
+/// The same; where there was no memory for it, this is printed.
+fn run_or_tell(rt: HostRuntime, words: Vec<String>, console: &mut StandardConsole) -> u8 {
+    match run(rt, words) {
+        Ok(status) => status,
+        // Neither the host's name nor a cookie is refused for another reason.
+        Err(_) => {
+            let _ = console.print(TEXTS.no_memory.as_bytes());
+            10
+        }
+    }
+}
+
+/// The status for words that aren't those of a command.
+const BAD_WORDS: u8 = 1;
+
+/// The words that it knows, of which one may be meant by one that it doesn't know.
+const KNOWN: [&str; 16] = [
+    "serve",
+    "rehearse",
+    "exercise",
+    "store-check",
+    "--socket",
+    "--control",
+    "--store",
+    "--authority",
+    "--patience",
+    "--private",
+    "--last-wait",
+    "--quirks",
+    "--record",
+    "--json",
+    "--help",
+    "--version",
+];
+
 fn main(rt: HostRuntime) -> ExitCode {
     let words = read_words(&rt);
     let mut console = StandardConsole::new(rt);
     let status = match TEXTS.begin(words, &mut console) {
-        Ok(words) => match run(rt, words) {
-            Ok(status) => status,
-            // Neither the host's name nor a cookie is refused for another reason.
-            Err(_) => {
-                let _ = console.print(TEXTS.no_memory.as_bytes());
-                10
+        Ok(words) => {
+            let meant = first_meant(words.as_slice(), &KNOWN);
+            let status = run_or_tell(rt, words, &mut console);
+            if status == BAD_WORDS {
+                try_hint(rt.alloc(), &mut console, "smd", meant);
             }
-        },
+            status
+        }
         Err(status) => status,
     };
     ExitCode::from(status)

@@ -2,6 +2,7 @@
 #![tactic(auto)]
 
 use program_frame::{OwnTexts, StandardConsole, read_words};
+use program_texts::{SMRELAY, first_meant, try_hint};
 use relay_world::RelayWorld;
 use smrelay_app::smrelay_main;
 use std::process::ExitCode;
@@ -10,11 +11,13 @@ const TEXTS: OwnTexts = OwnTexts {
     help: "smrelay, a relay between byte orders\n\n\
         usage: smrelay serve --socket P --to Q --order lsb|msb\n\
         \x20                               leads those who come at P to the manager at Q\n\
+        \x20                               as: smrelay serve --socket p --to q --order msb\n\
         \x20      smrelay rehearse lsb|msb < SCRIPT\n\
         \x20                               shows what smrelay does at the events of a script\n\
+        \x20                               as: smrelay rehearse msb < examples/relay.msb\n\
         \x20      smrelay --help           shows this\n\
         \x20      smrelay --version        shows the version\n",
-    version: "smrelay 0.1.0\n",
+    version: SMRELAY,
     no_memory: "smrelay: no memory\n",
 };
 
@@ -26,11 +29,38 @@ fn run(rt: HostRuntime, words: &[String]) -> u8 {
     status
 }
 
+/// The status for words that aren't those of a command.
+const BAD_WORDS: u8 = 1;
+
+/// The words that it knows, of which one may be meant by one that it doesn't know.
+const KNOWN: [&str; 9] = [
+    "serve",
+    "rehearse",
+    "lsb",
+    "msb",
+    "--socket",
+    "--to",
+    "--order",
+    "--help",
+    "--version",
+];
+
 fn main(rt: HostRuntime) -> ExitCode {
     let words = read_words(&rt);
     let mut console = StandardConsole::new(rt);
     let status = match TEXTS.begin(words, &mut console) {
-        Ok(words) => run(rt, words.as_slice()),
+        Ok(words) => {
+            let status = run(rt, words.as_slice());
+            if status == BAD_WORDS {
+                try_hint(
+                    rt.alloc(),
+                    &mut console,
+                    "smrelay",
+                    first_meant(words.as_slice(), &KNOWN),
+                );
+            }
+            status
+        }
         Err(status) => status,
     };
     ExitCode::from(status)

@@ -2,6 +2,7 @@
 #![tactic(auto)]
 
 use program_frame::{OwnTexts, StandardConsole, read_words};
+use program_texts::{SMTRACE, first_meant, try_hint};
 use smtrace_app::smtrace_main;
 use std::process::ExitCode;
 
@@ -14,16 +15,33 @@ const TEXTS: OwnTexts = OwnTexts {
         A trace has at most 16,777,216 bytes: in a longer one the line with the next byte is\n\
         malformed. What stands before it can be read:\n\
         \x20      head -c 16777216 TRACE | sed '$d' | smtrace show\n",
-    version: "smtrace 0.1.0\n",
+    version: SMTRACE,
     no_memory: "smtrace: no memory\n",
 };
+
+/// The status for words that aren't those of a command.
+const BAD_WORDS: u8 = 1;
+
+/// The words that it knows, of which one may be meant by one that it doesn't know.
+const KNOWN: [&str; 4] = ["show", "replay", "--help", "--version"];
 
 fn main(rt: HostRuntime) -> ExitCode {
     let alloc = rt.alloc();
     let words = read_words(&rt);
     let mut console = StandardConsole::new(rt);
     let status = match TEXTS.begin(words, &mut console) {
-        Ok(words) => smtrace_main(alloc, words.as_slice(), &mut console),
+        Ok(words) => {
+            let status = smtrace_main(alloc, words.as_slice(), &mut console);
+            if status == BAD_WORDS {
+                try_hint(
+                    alloc,
+                    &mut console,
+                    "smtrace",
+                    first_meant(words.as_slice(), &KNOWN),
+                );
+            }
+            status
+        }
         Err(status) => status,
     };
     ExitCode::from(status)

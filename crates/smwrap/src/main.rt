@@ -2,6 +2,7 @@
 #![tactic(auto)]
 
 use program_frame::{OwnTexts, read_words};
+use program_texts::{SMWRAP, first_meant, try_hint};
 use smwrap_app::smwrap_main;
 use std::process::ExitCode;
 use unix_peer::UnixPeer;
@@ -15,11 +16,26 @@ const TEXTS: OwnTexts = OwnTexts {
         \x20 --state FILE       the file in which the program keeps its state\n\
         \x20 --from N           the number of the copy with which it begins, or 0\n\
         \x20 --id ID            the ID that it had in an earlier session\n\n\
+        as: smwrap --socket s --authority a --state notes.txt --from 0 -- nano notes.txt\n\n\
         usage: smwrap --help      shows this\n\
         \x20      smwrap --version   shows the version\n",
-    version: "smwrap 0.1.0\n",
+    version: SMWRAP,
     no_memory: "smwrap: no memory\n",
 };
+
+/// The status for words that aren't those of a command.
+const BAD_WORDS: u8 = 1;
+
+/// The words that it knows, of which one may be meant by one that it doesn't know.
+const KNOWN: [&str; 7] = [
+    "--socket",
+    "--authority",
+    "--state",
+    "--from",
+    "--id",
+    "--help",
+    "--version",
+];
 
 fn main(rt: HostRuntime) -> ExitCode {
     let alloc = rt.alloc();
@@ -27,7 +43,18 @@ fn main(rt: HostRuntime) -> ExitCode {
     let mut files = WrappedFiles::new(rt);
     let mut peer = UnixPeer::new(rt);
     let status = match TEXTS.begin(words, &mut files) {
-        Ok(words) => smwrap_main(alloc, words.as_slice(), &mut peer, &mut files, u64::MAX),
+        Ok(words) => {
+            let status = smwrap_main(alloc, words.as_slice(), &mut peer, &mut files, u64::MAX);
+            if status == BAD_WORDS {
+                try_hint(
+                    alloc,
+                    &mut files,
+                    "smwrap",
+                    first_meant(words.as_slice(), &KNOWN),
+                );
+            }
+            status
+        }
         Err(status) => status,
     };
     ExitCode::from(status)

@@ -1,0 +1,19 @@
+/// The line of a program: its name, the version, which is that of all of them, and the kit that proved
+/// them, as `rt version` tells it.
+macro_rules! version_of {
+    ($program:literal) => {
+        concat!($program, " 0.1.0, proved with rattle-kit-13f logic dac8208d650f15bf\n")
+    };
+}
+
+pub const SMD: &str = version_of!("smd");
+
+pub const SMCTL: &str = version_of!("smctl");
+
+pub const SMTRACE: &str = version_of!("smtrace");
+
+pub const SMCLIENT: &str = version_of!("smclient");
+
+pub const SMRELAY: &str = version_of!("smrelay");
+
+pub const SMWRAP: &str = version_of!("smwrap");
