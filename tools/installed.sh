@@ -12,14 +12,14 @@ each_file() {
     "$1" 755 "crates/$name/out/$name" "bin/$name"
   done
   for name in smd-session smd-ask smd-logout; do
-    "$1" 755 "session/$name" "bin/$name"
+    "$1" 755 "desktop/$name" "bin/$name"
   done
-  "$1" 644 session/smd.desktop share/xsessions/smd.desktop
-  "$1" 644 session/smd-logout.desktop share/applications/smd-logout.desktop
+  "$1" 644 desktop/smd.desktop share/xsessions/smd.desktop
+  "$1" 644 desktop/smd-logout.desktop share/applications/smd-logout.desktop
   for name in $installed smd-session smd-ask smd-logout; do
-    "$1" 644 session/completions/smd.bash "share/bash-completion/completions/$name"
+    "$1" 644 desktop/completions/smd.bash "share/bash-completion/completions/$name"
   done
-  "$1" 644 session/completions/_smd share/zsh/site-functions/_smd
+  "$1" 644 desktop/completions/_smd share/zsh/site-functions/_smd
   for page in "$top"/docs/man/*.1; do
     "$1" 644 "docs/man/$(basename "$page")" "share/man/man1/$(basename "$page")"
   done
