@@ -1,9 +1,9 @@
-# session/smd-logout: what it asks, and what it shows while somebody is waited for.
+# desktop/smd-logout: what it asks, and what it shows while somebody is waited for.
 
 # A dialog that gives the answers of a file in turn, and waits where there is none.
 make_dialogs() {
   mkdir -p "$at/bin"
-  cp "$top/session/smd-logout" "$top/session/smd-ask" "$at/bin"
+  cp "$top/desktop/smd-logout" "$top/desktop/smd-ask" "$at/bin"
   ln -s "$smctl" "$at/bin/smctl"
   cp "$(command -v sleep)" "$at/bin/unanswered"
   cat > "$at/bin/zenity" << DIALOG

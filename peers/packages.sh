@@ -1,19 +1,49 @@
-# The packages of Debian that peers/check needs; where some are missing they are installed.
-needed='gcc g++ libc6-dev libsm-dev libice-dev qt6-base-dev qt6-qpa-plugins python3 strace x11-xserver-utils xvfb gkrellm twm xterm x11-utils bsdutils procps openbox featherpad x11-apps emacs-lucid tmux nano xdotool x11-session-utils xfwm4 xfce4-panel xfdesktop4 xfce4-terminal thunar xfce4-settings dbus-daemon'
+# The packages of Debian that the parts of peers/check need beside bash, and how they are installed.
 
+# What every part needs.
+basic='python3 procps bsdutils'
+compiler='gcc libc6-dev libsm-dev libice-dev'
+qt6="$compiler g++ qt6-base-dev qt6-qpa-plugins"
+display='xvfb xdotool x11-utils x11-xserver-utils'
+desktop="$display x11-apps xterm twm gkrellm featherpad tmux"
+editor="$display $compiler tmux nano x11-session-utils"
+xfce="$desktop $qt6 openbox emacs-lucid xfwm4 xfce4-panel xfdesktop4 xfce4-terminal thunar xfce4-settings dbus-daemon"
+packer='lintian binutils'
+needed="$xfce $editor $packer strace $basic"
+
+# missing PACKAGE..: those of the packages that aren't installed; where there is no Debian, all of them.
 missing() {
-  for package in $needed; do
+  for package in "$@"; do
     dpkg-query -W -f '${Status}\n' "$package" 2> /dev/null | grep -q ' installed$' || echo "$package"
   done
 }
 
 has_lists() { [ -n "$(find /var/lib/apt/lists -name '*_Packages*' -print -quit 2> /dev/null)" ]; }
 
+can_install() { [ "$(id -u)" -eq 0 ] && command -v apt-get > /dev/null; }
+
+# Installs what is missing, where somebody can do so here.
 install_packages() {
   local packages
-  packages=$(missing)
+  packages=$(missing $needed | sort -u)
   [ -n "$packages" ] || return 0
+  can_install || return 1
   export DEBIAN_FRONTEND=noninteractive
   has_lists || apt-get update -q > /dev/null || return 1
   apt-get install -y -q --no-install-recommends $packages > /dev/null
+}
+
+# The parts that are left out, a line each.
+left_out=()
+
+# part PACKAGES TEXT WORD..: calls the words where these packages and the basic ones are installed. Otherwise it is kept
+# what was left out for lack of which.
+part() {
+  local lacking
+  lacking=$(missing $basic $1 | sort -u | tr '\n' ' ')
+  if [ -z "$lacking" ]; then
+    "${@:3}"
+  else
+    left_out+=("$2, for lack of ${lacking% }")
+  fi
 }

@@ -1,11 +1,11 @@
-# Sessions by session/smd-session: each way to lose a desktop, and the way back.
+# Sessions by desktop/smd-session: each way to lose a desktop, and the way back.
 
 # A desktop of four programs. Each needs a display, a variable and room on the disk, and comes with its old ID.
 make_desktop() {
   desk=$room/yesterday
   stores=$desk/state/smd
   mkdir -p "$desk/bin" "$desk/config/smd" "$desk/run"
-  cp "$top/session/smd-session" "$top/session/smd-ask" "$desk/bin"
+  cp "$top/desktop/smd-session" "$top/desktop/smd-ask" "$desk/bin"
   ln -s "$smd" "$desk/bin/smd"
   ln -s "$smctl" "$desk/bin/smctl"
   cat > "$desk/client" << 'CLIENT'
