@@ -5,6 +5,7 @@ pub mod FieldLaws
 pub mod ListLaws
 pub mod PropertyLaws
 pub mod FrontLaws
+pub mod WalkLaws
 pub mod WriteLaws
 pub mod HeaderLaws
 pub mod BodyLaws

@@ -102,3 +102,8 @@ unfoldable pub error_at : Endian → List ℕ → Result ErrorFields DecodeRefus
 error_at e bytes = if nat_lt (length bytes) 16 then Err BadLength else do
   severity ← means_at severity_meaning bytes 9
   Ok (record { class = number e 2 (drop 2 bytes); minor = slice_index bytes 8; severity = severity; sequence = number e 4 (drop 12 bytes); values = drop 16 bytes })
+
+-- whether it is read, without what is read
+abbrev pub is_read : {A : Type 0} → Result A DecodeRefusal → Result (Unit {0}) DecodeRefusal
+is_read (Ok x) = Ok tt
+is_read (Err refusal) = Err refusal

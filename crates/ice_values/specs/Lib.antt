@@ -7,3 +7,4 @@ pub mod Properties
 pub mod Saves
 pub mod Frames
 pub mod Classes
+pub mod Walks

@@ -106,3 +106,14 @@ pub record ReadsFront {X : Type 0} (cells : X → Cells) (Fits : X → Type 0) (
   -- it is Short only where no front is a spelling
   pub short : IsErrOf result Short → (x : X) (rest : List ℕ) → Fits x → Begins (cells x) bytes rest → ⊥
   pub not_long : IsErrOf result TooLong → ⊥
+
+-- A front is cut off what follows it: alone it is read as the value at the front, and it is as long as the value's spelling.
+pub record CutsFront {X : Type 0} (cells : X → Cells) (read : List ℕ → Option (X × List ℕ)) (bytes front rest : List ℕ) : Type 0 where
+  pub value : X
+  pub whole : read bytes ≡ Some (value, rest)
+  pub alone : read front ≡ Some (value, [])
+  pub len : length front ≡ length (cells value)
+
+abbrev pub CutsAt : {X : Type 0} → (X → Cells) → (List ℕ → Option (X × List ℕ)) → List ℕ → Option (List ℕ × List ℕ) → Type 0
+CutsAt cells read bytes (Some x) = CutsFront cells read bytes x.0 x.1
+CutsAt cells read bytes None = read bytes ≡ None

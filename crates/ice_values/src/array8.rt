@@ -1,8 +1,9 @@
-ghost use Rattle.std.specs.Prelude.{◌≡◌, ◌<◌, ◌++◌, length, OnOk, OnErr};
+ghost use Rattle.std.specs.Prelude.{◌≡◌, ◌<◌, ◌≤◌, ◌++◌, length, IfNone, IfSome, OnSome, OnOk, OnErr};
 ghost use Rattle.ice_values.specs.Cells.{zeros};
 ghost use Rattle.ice_values.specs.Properties.{array8, IsArray8, array8_at, array8_list, IsListed};
 ghost use Rattle.ice_values.specs.Reading.{Finds, ReadsFront};
 ghost use Rattle.ice_values.specs.Writing.{Extends};
+ghost use Rattle.ice_values.specs.declared.numbers.Endian.{Endian as AnyEndian};
 
 use crate::fronts::{cut_bytes, cut_card32, pass_bytes, skip, take_bytes, take_card32};
 use crate::lengths::BODY_LIMIT;
@@ -41,6 +42,21 @@ pub fn cut_array8(endian: Endian, bytes: &[u8]) -> Option<(&[u8], &[u8])>
     Some((text, rest))
 }
 
+/// How many bytes spell these bytes. None where there are more than 65,536.
+pub fn array8_size(bytes: &[u8]) -> Option<usize>
+    ensures none { IfNone result ((e : AnyEndian) → 65536 < length (array8 e bytes.now)) }
+    ensures is { IfSome result (λ n. (e : AnyEndian) → n ≡ length (array8 e bytes.now)) }
+    ensures least { IfSome result (λ n. 1 ≤ n) }
+    ensures bound { IfSome result (λ n. n ≤ 65536) }
+    ensures fits { OnSome result (IsArray8 bytes.now) }
+{
+    let count = bytes.len();
+    if count > BODY_LIMIT - 4 {
+        return None;
+    }
+    Some(4 + count + pad(4 + count, 8))
+}
+
 /// Bytes are spelled by their count, themselves, and padding to a multiple of 8.
 impl Spelled for Octets {
     ghost cells = { array8 };
@@ -67,11 +83,7 @@ impl Spelled for Octets {
     }
 
     fn size(&self) -> Option<usize> {
-        let count = self.len();
-        if count > BODY_LIMIT - 4 {
-            return None;
-        }
-        Some(4 + count + pad(4 + count, 8))
+        array8_size(self.as_slice())
     }
 }
 

@@ -1,6 +1,6 @@
 ghost use Rattle.std.specs.Prelude.{◌≡◌, ◌≤◌, length};
 ghost use Rattle.ice_values.specs.Reading.{nothing_at};
-ghost use Rattle.ice_values.specs.Frames.{IsFrame, Gives, body_at, ended, error_at};
+ghost use Rattle.ice_values.specs.Frames.{IsFrame, Gives, body_at, ended, error_at, is_read};
 
 use crate::numbers::{read_card16, read_card32};
 use crate::{DecodeRefusal, Endian, ErrorBody, Spelled, value_at};
@@ -23,7 +23,8 @@ pub fn end_body(rest: &[u8]) -> Result<(), DecodeRefusal>
 #[tactic(auto, unfolding(crate::specs::Frames::body_at, crate::specs::Frames::cut, crate::specs::Reading::nothing_at))]
 pub fn no_body(frame: &[u8]) -> Result<(), DecodeRefusal>
     requires { 8 ≤ length frame.now }
-    ensures { Gives result (body_at nothing_at frame.now) }
+    ensures gives { Gives result (body_at nothing_at frame.now) }
+    ensures exact { result ≡ body_at nothing_at frame.now }
 {
     let (_, body) = frame.split_at(8);
     end_body(body)
@@ -39,6 +40,19 @@ pub fn body<T: Spelled>(alloc: Global, endian: Endian, frame: &[u8]) -> Result<T
     let (value, rest) = T::take(alloc, endian, body)?;
     end_body(rest)?;
     Ok(value)
+}
+
+/// Whether a body is one value, and no more than padding behind it. This takes no memory.
+#[tactic(auto, unfolding(crate::specs::Frames::body_at, crate::specs::Frames::cut))]
+pub fn check_body<T: Spelled>(endian: Endian, frame: &[u8]) -> Result<(), DecodeRefusal>
+    requires { 8 ≤ length frame.now }
+    ensures { result ≡ is_read (body_at (T.front endian) frame.now) }
+{
+    let (_, body) = frame.split_at(8);
+    match T::pass(endian, body) {
+        Some(rest) => end_body(rest),
+        None => Err(DecodeRefusal::BadLength),
+    }
 }
 
 /// What an Error says, of ICE or of a protocol over it, in a frame whose minor opcode is 0.

@@ -15,6 +15,8 @@ mod severity;
 mod spelled;
 mod text;
 mod version;
+mod view;
+mod walk;
 mod writing;
 
 pub use array8::{
@@ -23,16 +25,18 @@ pub use array8::{
 pub use class::ErrorClass;
 pub use enumerated::{Enumerated, value_at};
 pub use errors::ErrorBody;
-pub use frames::{body, decode_error, end_body, no_body};
-pub use fronts::{skip, take_bytes, take_card16, take_card32, take_proof_data};
+pub use frames::{body, check_body, decode_error, end_body, no_body};
+pub use fronts::{pass_bytes, skip, take_bytes, take_card16, take_card32, take_proof_data};
 pub use lengths::{BODY_LIMIT, error_len, proof_len, within_limit};
 pub use numbers::{Endian, pad, read_card16, read_card32};
 pub use property::{
     Property, PropertyList, read_property, read_property_list, write_property, write_property_list,
 };
-pub use refusals::{DecodeRefusal, EncodeRefusal, ValueRefusal};
+pub use refusals::{DecodeRefusal, EncodeRefusal, Short, ValueRefusal};
 pub use severity::Severity;
-pub use spelled::{Spelled, many_size, put_many, take_many};
+pub use spelled::{Spelled, cut_front, many_size, put_many, take_many};
 pub use text::{Text16, TextList, put_text16, read_text16, write_text16};
 pub use version::{Version, VersionList, read_version, write_version};
+pub use view::PropertyView;
+pub use walk::{PropertyWalk, walk_properties};
 pub use writing::{put_bytes, put_card16, put_card32, put_error, put_proof_data, put_zeros};

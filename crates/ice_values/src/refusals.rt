@@ -15,6 +15,10 @@ pub enum ValueRefusal {
     NoMemory,
 }
 
+/// No front of the bytes spells a value.
+#[derive(Clone, Copy, Debug, PartialEq, Eq)]
+pub struct Short;
+
 /// Why bytes are no message.
 #[derive(Clone, Copy, Debug, PartialEq, Eq)]
 pub enum DecodeRefusal {

@@ -1,8 +1,8 @@
-ghost use Rattle.std.specs.Prelude.{◌≡◌, ◌≤◌, ◌<◌, ◌++◌, ◌+◌, ◌*◌, ℕ, List, length, drop, Option, IfOk, IfSome, IfNone, OnSome, OnOk, OnErr, flat_map};
+ghost use Rattle.std.specs.Prelude.{◌≡◌, ◌≤◌, ◌<◌, ◌++◌, ◌+◌, ◌*◌, ℕ, List, length, drop, Option, IfOk, IfSome, IfNone, OnSome, OnOk, OnErr, flat_map, option_map};
 ghost use Rattle.std.specs.List.{AllByRecursion};
 ghost use Rattle.ice_values.specs.Cells.{Cells, zeros};
 ghost use Rattle.ice_values.specs.Properties.{listed, IsListed, listed_at};
-ghost use Rattle.ice_values.specs.Reading.{Answers, Exact, Finds, many_at, ReadsFront, rest_of};
+ghost use Rattle.ice_values.specs.Reading.{Answers, CutsAt, Exact, Finds, many_at, ReadsFront, rest_of};
 ghost use Rattle.ice_values.specs.Writing.{Extends};
 ghost use Rattle.ice_values.specs.declared.numbers.Endian.{Endian as AnyEndian};
 
@@ -150,6 +150,16 @@ fn front_of<T: Spelled>(
 {
     let (value, rest) = T::take(alloc, endian, bytes)?;
     Ok((value, bytes.len() - rest.len()))
+}
+
+/// The spelling of the value at the front, and what follows it. None where there is none. This takes no memory.
+pub fn cut_front<T: Spelled>(endian: Endian, bytes: &[u8]) -> Option<(&[u8], &[u8])>
+    requires { Exact (T.cells endian) T.is_spelled (T.front endian) }
+    ensures { CutsAt (T.cells endian) (T.front endian) bytes.now (option_map (λ x. (x.0.now, x.1.now)) result) }
+{
+    let rest = T::pass(endian, bytes)?;
+    let (front, _) = bytes.split_at(bytes.len() - rest.len());
+    Some((front, rest))
 }
 
 /// The value that is spelled at the front, and how many bytes it took.

@@ -2,7 +2,9 @@
 //! written as hex digits, each with a bar behind it.
 
 use crate::table::{bytes_of, digits_of, expect_rows, text_of};
-use ice_values::{Array8List, Property, PropertyList};
+use ice_values::{
+    Array8List, Endian, Property, PropertyList, Spelled, walk_properties, write_property_list,
+};
 use sm_world::{Duplicate, NoMemory, Octets, PairList};
 use std::alloc::{Alloc, Global};
 use std::process::Abort;
@@ -129,8 +131,47 @@ fn many(alloc: Global, count: u8) -> Result<PropertyList, Fail> {
     Ok(list)
 }
 
+/// The answer where a walk over the spelling of a list is set, and what a copy of the table has then.
+fn walked(
+    alloc: Global,
+    endian: Endian,
+    table: &PropertyTable,
+    list: &PropertyList,
+) -> Result<String, Fail> {
+    if list.size().is_none() {
+        return Err("a list without a spelling".into());
+    }
+    let mut bytes = Octets::new(alloc);
+    write_property_list(endian, list, &mut bytes)?;
+    walk_shown(alloc, endian, table, bytes.as_slice())
+}
+
+/// The same of a list that is spelled so.
+fn walk_shown(
+    alloc: Global,
+    endian: Endian,
+    table: &PropertyTable,
+    bytes: &[u8],
+) -> Result<String, Fail> {
+    let Ok((walk, _)) = walk_properties(endian, bytes) else {
+        return Err("no list".into());
+    };
+    let mut twin = table.copy()?;
+    let answer = twin.set_view(walk);
+    let text = shown(alloc, &twin)?;
+    Ok(format!(in alloc; "{answer:?} {text}")?)
+}
+
+/// The answer where a list is set, which is that for a walk over it in either order.
 fn answer(alloc: Global, table: &mut PropertyTable, list: &PropertyList) -> Result<String, Fail> {
-    text_of(alloc, &table.set(list))
+    let lsb = walked(alloc, Endian::Lsb, table, list)?;
+    let msb = walked(alloc, Endian::Msb, table, list)?;
+    let answer = text_of(alloc, &table.set(list))?;
+    let text = format!(in alloc; "{answer} {}", shown(alloc, table)?)?;
+    if text.as_str() != lsb.as_str() || text.as_str() != msb.as_str() {
+        return Err("a walk is set otherwise".into());
+    }
+    Ok(answer)
 }
 
 /// The answers where values of so many bytes are set, one after the other, and then a name without
@@ -169,6 +210,23 @@ fn many_shown(alloc: Global, counts: &str) -> Result<String, Fail> {
 fn a_table_has_128_names_at_most(rt: HostRuntime) -> Result<(), Fail> {
     let row = "129 128 129 128 => Err(TableFull)0Ok(())128Err(TableFull)128Ok(())128";
     expect_rows(&rt, row, many_shown)
+}
+
+/// What a walk over a list leaves in an empty table.
+fn walk_set(alloc: Global, digits: &str) -> Result<String, Fail> {
+    let bytes = bytes_of(alloc, digits)?;
+    let table = PropertyTable::new(alloc)?;
+    walk_shown(alloc, Endian::Lsb, &table, bytes.as_slice())
+}
+
+/// P, Q and P again, of kind `CARD8`, and no properties.
+const WALKS: &str = "\
+0300000000000000010000005000000005000000434152443800000000000000010000000000000001000000010000000100000051000000050000004341524438000000000000000100000000000000010000000200000001000000500000000500000043415244380000000000000001000000000000000100000003000000 => Ok(()) P=03|Q=02|
+0000000000000000 => Ok(()) ";
+
+#[test]
+fn a_walk_is_set_where_it_lies(rt: HostRuntime) -> Result<(), Fail> {
+    expect_rows(&rt, WALKS, walk_set)
 }
 
 /// A value of so many bytes, and in the same list a short one under the same name.

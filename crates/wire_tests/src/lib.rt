@@ -20,6 +20,8 @@ mod texts;
 #[cfg(test)]
 mod values;
 #[cfg(test)]
+mod views;
+#[cfg(test)]
 mod written;
 #[cfg(test)]
 mod xsmp;

@@ -2,6 +2,7 @@
 //! major opcode 7.
 
 use crate::framing::cut_frames;
+use crate::views::{view_verdict, viewed};
 use crate::written::{agreed, bytes_of, digits_of, is_frame, spelled, units_of, with_units};
 use ice_values::{Array8List, DecodeRefusal, Endian, Property, PropertyList};
 use sm_world::Octets;
@@ -22,11 +23,19 @@ pub fn decoded(
     Ok(decode_xsmp(alloc, endian, frame))
 }
 
-fn verdict(alloc: Global, endian: Endian, frame: &[u8]) -> Result<String, Fail> {
+fn read_verdict(alloc: Global, endian: Endian, frame: &[u8]) -> Result<String, Fail> {
     match decoded(alloc, endian, frame)? {
         Ok(_) => Ok("ok".to_string(alloc)?),
         Err(refusal) => text_of(alloc, &refusal),
     }
+}
+
+/// The verdict of both calls, where they agree.
+fn verdict(alloc: Global, endian: Endian, frame: &[u8]) -> Result<String, Fail> {
+    agreed(
+        read_verdict(alloc, endian, frame)?,
+        view_verdict(alloc, endian, frame)?,
+    )
 }
 
 fn encoded(alloc: Global, endian: Endian, message: &XsmpMessage) -> Result<String, Fail> {
@@ -41,11 +50,12 @@ fn both(alloc: Global, message: &XsmpMessage) -> Result<String, Fail> {
     Ok(format!(in alloc; "{lsb} {msb}")?)
 }
 
-/// The message that a frame spells, in both orders.
+/// The message that a frame spells, in both orders, read and viewed.
 fn in_both(alloc: Global, endian: Endian, digits: &str) -> Result<String, Fail> {
     let frame = bytes_of(alloc, digits)?;
     let message = decoded(alloc, endian, frame.as_slice())??;
-    both(alloc, &message)
+    let seen = viewed(alloc, endian, frame.as_slice())?;
+    agreed(both(alloc, &message)?, both(alloc, &seen)?)
 }
 
 fn message_shown(alloc: Global, input: &str) -> Result<String, Fail> {

@@ -1,2 +1,3 @@
 pub mod MessageLaws
 pub mod Dispatch
+pub mod ViewLaws

@@ -1,2 +1,4 @@
 pub mod Messages
 pub mod Reading
+pub mod Refusals
+pub mod Views

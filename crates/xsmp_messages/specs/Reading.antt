@@ -1,5 +1,5 @@
 -- The message that a frame spells, as a function of its bytes.
-use Rattle.std.specs.Prelude.{ℕ, List, slice_index, Option, Result, Ok, Err, ◌==◌, if◌then◌else◌}
+use Rattle.std.specs.Prelude.{ℕ, List, slice_index, Option, Result, Ok, Err, IsOk, ◌==◌, if◌then◌else◌}
 use Rattle.ice_values.specs.Reading.{nothing_at, after_at}
 use Rattle.ice_values.specs.Properties.{array8_at, array8_list_at, property_list_at}
 use Rattle.ice_values.specs.Frames.{◌>>=◌, body_at, means_at, bool_meaning, error_at}
@@ -75,3 +75,7 @@ decode_at e bytes =
     else if slice_index bytes 1 == 17 then empty_at SaveYourselfPhase2 bytes
     else if slice_index bytes 1 == 18 then empty_at SaveComplete bytes
     else Err BadMinor
+
+-- Some message is read.
+abbrev pub IsSpelled : Endian → List ℕ → Type 0
+IsSpelled e bytes = IsOk (decode_at e bytes)

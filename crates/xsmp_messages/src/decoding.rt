@@ -8,19 +8,24 @@ ghost use Rattle.xsmp_messages.specs.Reading.{Gives, valued_at, empty_at, flagge
 ghost use Rattle.xsmp_messages.specs.declared.message.XsmpMessage.TheVariants.{RegisterClient, RegisterClientReply, InteractRequest, InteractDone, SaveYourselfDone, ConnectionClosed, SetProperties, DeleteProperties, GetPropertiesReply};
 
 use crate::XsmpMessage;
-use ice_values::{DecodeRefusal, Endian, body, decode_error, end_body, no_body, skip, value_at};
+use ice_values::{
+    DecodeRefusal, Endian, body, decode_error, end_body, no_body, pass_bytes, value_at,
+};
 use std::alloc::Global;
 
-/// A body of 8 bytes that are read by their places.
+/// A body of 8 bytes that are read by their places. This takes no memory.
 #[tactic(auto, unfolding(ice_values::specs::Frames::body_at, ice_values::specs::Frames::cut, ice_values::specs::Reading::after_at, ice_values::specs::Reading::nothing_at))]
-fn unit_body(frame: &[u8]) -> Result<(), DecodeRefusal>
+pub(crate) fn unit_body(frame: &[u8]) -> Result<(), DecodeRefusal>
     requires { 8 ≤ length frame.now }
-    ensures exact { Gives result (body_at (after_at 8 nothing_at) frame.now) }
+    ensures gives { Gives result (body_at (after_at 8 nothing_at) frame.now) }
+    ensures exact { result ≡ body_at (after_at 8 nothing_at) frame.now }
     ensures long { OnOk result (16 ≤ length frame.now) }
 {
     let (_, body) = frame.split_at(8);
-    let rest = skip(8, body)?;
-    end_body(rest)
+    match pass_bytes(8, body) {
+        Some(rest) => end_body(rest),
+        None => Err(DecodeRefusal::BadLength),
+    }
 }
 
 #[tactic(auto, unfolding(crate::specs::Reading::save_yourself_at))]

@@ -1,3 +1,4 @@
 pub mod TableLaws
 pub mod MapLaws
 pub mod TextLaws
+pub mod SizeLaws

@@ -1,3 +1,4 @@
 pub mod Tables
 pub mod Readers
 pub mod Named
+pub mod Sizes

@@ -4,8 +4,10 @@ use Rattle.std.specs.List.{list_any, IsDistinct}
 use Rattle.std.specs.Str.{bytes_eq}
 use Rattle.std.specs.Cmp.Lexicographic.{pointwise}
 use Rattle.ice_values.specs.Properties.{property}
+use Rattle.ice_values.specs.Walks.{walk_left}
 use Rattle.ice_values.specs.declared.numbers.Endian.TheVariants.{Lsb}
 use Rattle.ice_values.specs.declared.property.Property.{Property}
+use Rattle.ice_values.specs.declared.walk.PropertyWalk.{PropertyWalk}
 
 abbrev pub is_named : List ℕ → Property → Bool
 is_named name p = bytes_eq name p.name
@@ -38,6 +40,10 @@ encoded_len items = length (flat_map (property Lsb) items)
 -- more than a client may say
 abbrev pub IsTableFull : List Property → Type 0
 IsTableFull items = (128 < length items) ⊎ (16384 < encoded_len items)
+
+-- so once all properties of a walk were set
+abbrev pub WouldBeFull : List Property → PropertyWalk → Type 0
+WouldBeFull items walk = IsTableFull (set_all items (walk_left walk))
 
 abbrev pub AreNamesDistinct : List Property → Type 0
 AreNamesDistinct items = IsDistinct bytes_eq (map (λ p. p.name) items)

@@ -5,6 +5,7 @@ mod commands;
 mod hints;
 mod named;
 mod refusals;
+mod sizes;
 mod table;
 mod texts;
 

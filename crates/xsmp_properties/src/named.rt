@@ -1,17 +1,20 @@
-ghost use Rattle.std.specs.Prelude.{◌≡◌, ◌<◌, ◌≤◌, [], ◌∷◌, IfOk, OnOk, IfNone, IfSome, IsTrue, ◌↔◌, option_copied};
+ghost use Rattle.std.specs.Prelude.{◌≡◌, ◌<◌, ◌≤◌, [], ◌∷◌, length, map, IfOk, OnOk, IfNone, IfSome, IsTrue, ◌↔◌, option_copied};
 ghost use Rattle.std.specs.Cmp.Lexicographic.{pointwise};
-ghost use Rattle.xsmp_properties.specs.Tables.{set_one, set_all, without_names, find_property, encoded_len, equal_property as are_equal, IsTableFull, AreNamesDistinct};
+ghost use Rattle.ice_values.specs.Walks.{walk_left};
+ghost use Rattle.xsmp_properties.specs.Sizes.{sized, sizes_of};
+ghost use Rattle.xsmp_properties.specs.Tables.{set_one, set_all, without_names, find_property, encoded_len, equal_property as are_equal, IsTableFull, WouldBeFull, AreNamesDistinct};
 
+use crate::sizes::{TableSizes, property_size};
 use crate::texts::same_texts;
-use ice_values::{Array8, Property, PropertyList, Spelled};
+use ice_values::{Array8, Property, PropertyList, PropertyWalk, Spelled};
 use indexmap::IndexMap;
 use sm_world::{Duplicate, NoMemory};
 use std::alloc::Global;
 use std::marker::Model;
 
-const NAME_LIMIT: usize = 128;
+pub(crate) const NAME_LIMIT: usize = 128;
 
-const BYTE_LIMIT: usize = 16_384;
+pub(crate) const BYTE_LIMIT: usize = 16_384;
 
 /// Whether two properties are equal in all that they hold.
 fn equal_property(first: &Property, second: &Property) -> bool
@@ -66,6 +69,19 @@ impl NamedProperties {
     {
         for property in list {
             self.put(property.copy()?)?;
+        }
+        Ok(())
+    }
+
+    /// Sets copies of all properties of a list in turn.
+    pub fn put_walk(&mut self, walk: PropertyWalk<'_>) -> Result<(), NoMemory>
+        ensures { OnOk result (self.new ≡ set_all self.old (walk_left walk.entry)) }
+    {
+        let alloc = *self.held.allocator();
+        let endian = walk.endian();
+        let mut left = walk;
+        while let Some(view) = left.next() {
+            self.put(view.to_property(alloc, endian)?)?;
         }
         Ok(())
     }
@@ -125,6 +141,34 @@ impl NamedProperties {
         ensures { IsTrue result ↔ IsTableFull self.now }
     {
         self.held.len() > NAME_LIMIT || self.encoded_len().is_none()
+    }
+
+    /// Their names and lengths. None where there are more names than a client may say.
+    fn sizes(&self) -> Option<TableSizes<'_>>
+        ensures some { IfSome result (λ sizes. sizes_of sizes ≡ map sized self.now) }
+        ensures none { IfNone result (128 < length self.now) }
+    {
+        let mut sizes = TableSizes::new();
+        for (_, property) in self.held.iter() {
+            if !sizes.set(property.name.as_slice(), property_size(property)) {
+                return None;
+            }
+        }
+        Some(sizes)
+    }
+
+    /// Whether they would be more than a client may say once all properties of a list were set.
+    /// This takes no memory.
+    pub fn would_be_full(&self, walk: PropertyWalk<'_>) -> bool
+        ensures { IsTrue result ↔ WouldBeFull self.now walk.entry }
+    {
+        let Some(mut sizes) = self.sizes() else {
+            return true;
+        };
+        if !sizes.set_walk(walk) {
+            return true;
+        }
+        sizes.is_over()
     }
 
     /// Whether both hold equal properties in the same order.

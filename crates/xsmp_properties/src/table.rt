@@ -1,11 +1,12 @@
-ghost use Rattle.std.specs.Prelude.{◌≡◌, ◌≤◌, [], Err, IfOk, OnOk, OnErr, option_copied};
+ghost use Rattle.std.specs.Prelude.{◌≡◌, ◌≤◌, ◌↔◌, [], Err, IfOk, OnOk, OnErr, IsTrue, option_copied};
 ghost use Rattle.std.specs.Cmp.Lexicographic.{pointwise};
-ghost use Rattle.xsmp_properties.specs.Tables.{set_all, without_names, find_property, encoded_len, equal_property as are_equal, IsTableFull, AreNamesDistinct};
+ghost use Rattle.ice_values.specs.Walks.{walk_left};
+ghost use Rattle.xsmp_properties.specs.Tables.{set_all, without_names, find_property, encoded_len, equal_property as are_equal, IsTableFull, WouldBeFull, AreNamesDistinct};
 ghost use Rattle.xsmp_properties.specs.declared.refusals.SetRefusal.TheVariants.{TableFull};
 
 use crate::SetRefusal;
 use crate::named::NamedProperties;
-use ice_values::{Array8List, Property, PropertyList};
+use ice_values::{Array8List, Property, PropertyList, PropertyWalk};
 use sm_world::{Duplicate, NoMemory};
 use std::alloc::Global;
 use std::marker::Model;
@@ -53,6 +54,30 @@ impl PropertyTable {
         if named.is_full() {
             return Err(SetRefusal::TableFull);
         }
+        self.named = named;
+        Ok(())
+    }
+
+    /// Whether the table would pass a limit once all properties of a list were set. This takes no
+    /// memory.
+    pub fn would_be_full(&self, walk: PropertyWalk<'_>) -> bool
+        ensures { IsTrue result ↔ WouldBeFull self.now walk.entry }
+    {
+        self.named.would_be_full(walk)
+    }
+
+    /// Sets copies of all properties of a list where it lies, as `set` does. That the table is full
+    /// is told before any memory is taken. A refused call changes nothing.
+    pub fn set_view(&mut self, walk: PropertyWalk<'_>) -> Result<(), SetRefusal>
+        ensures ok { OnOk result (self.new ≡ set_all self.old (walk_left walk.entry)) }
+        ensures full { (result ≡ Err TableFull) ↔ WouldBeFull self.old walk.entry }
+        ensures err { OnErr result (self.new ≡ self.old) }
+    {
+        if self.named.would_be_full(walk) {
+            return Err(SetRefusal::TableFull);
+        }
+        let mut named = self.named.copy()?;
+        named.put_walk(walk)?;
         self.named = named;
         Ok(())
     }
