@@ -97,7 +97,7 @@ impl<S: Saves, D: Dies, C: Cancels> Joiner<S, D, C> {
     }
 
     /// Joins the session behind a peer that is connected, and follows it to the client's end: at most
-    /// so many receives (XSMP, chapter 8; ICE, chapter 6). The noted lines grow. Nothing more is sent
+    /// so many receives (XSMP, chapter 9; ICE, chapter 6). The noted lines grow. Nothing more is sent
     /// after an answer.
     pub fn run<P: Peer>(
         &mut self,

@@ -1,4 +1,4 @@
--- How far a client is, and how that changes by what it says and by what it is given (XSMP, chapter 8: the
+-- How far a client is, and how that changes by what it says and by what it is given (XSMP, chapter 9: the
 -- state diagrams).
 use Rattle.std.specs.Prelude.{Bool, List, None, Option, Some, cond, false, true, ℕ}
 use Rattle.ice_values.specs.declared.severity.Severity.{Severity}

@@ -100,7 +100,7 @@ impl Client {
     }
 
     /// The message that says a request, which the client has sent then. Refused where it has no
-    /// place in the client's phase, or in the save that it was asked for (XSMP, chapter 8). This
+    /// place in the client's phase, or in the save that it was asked for (XSMP, chapter 9). This
     /// takes no memory, and a refused call drops the request and changes nothing.
     pub fn ask(&mut self, request: Request) -> Result<XsmpMessage, AskRefusal>
         ensures answer { result ≡ answered request self.old }
@@ -257,7 +257,7 @@ impl Client {
         ClientAct::Properties(list)
     }
 
-    /// Takes a message from the manager, and says what it asks of the client (XSMP, chapter 8). Want
+    /// Takes a message from the manager, and says what it asks of the client (XSMP, chapter 9). Want
     /// of memory changes nothing, and the message is spent.
     pub fn take(&mut self, message: XsmpMessage) -> Result<ClientAct, NoMemory>
         ensures act { IfOk result (λ act. act ≡ act_taken message self.old) }

@@ -3,7 +3,7 @@ ghost use Rattle.client_machine.specs.Phases.{phase_said, is_registering as is_r
 
 use crate::Request;
 
-/// How far a client is (XSMP, chapter 8: Client State Diagram).
+/// How far a client is (XSMP, chapter 9: Client State Diagram).
 #[derive(Clone, Copy, Debug, PartialEq, Eq)]
 pub enum ClientPhase {
     /// It has no ID yet: it waits for the answer to its RegisterClient, or will.

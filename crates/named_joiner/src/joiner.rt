@@ -20,7 +20,7 @@ use sm_world::{NoMemory, Octets};
 use std::alloc::Global;
 use std::marker::Model;
 
-/// A client that joins a session (XSMP, chapter 8; ICE, chapter 6), and leaves what it saves and why it
+/// A client that joins a session (XSMP, chapter 9; ICE, chapter 6), and leaves what it saves and why it
 /// closes to callbacks. Whoever has it sends what it says, and brings it the pieces of its manager's
 /// stream, however they are cut.
 #[derive(Drop)]

@@ -55,13 +55,21 @@ pub fn first_meant(words: &[String], known: &[&'static str]) -> Option<&'static 
         .find_map(|word| meant_word(word.as_str(), known))
 }
 
-/// Prints which word was meant, where there is one. Where it can't be printed nothing more is tried.
+/// The status for words that aren't those of a command.
+const BAD_WORDS: u8 = 1;
+
+/// After the status for bad words, prints which word was meant, where there is one. Where it can't be
+/// printed nothing more is tried.
 pub fn try_hint<C: Console>(
     alloc: Global,
     console: &mut C,
     program: &str,
+    status: u8,
     meant: Option<&'static str>,
 ) {
+    if status != BAD_WORDS {
+        return;
+    }
     if let Some(word) = meant {
         if let Ok(line) = format!(in alloc; "{program}: did you mean {word}?\n") {
             let _ = console.print(line.as_bytes());

@@ -1,4 +1,4 @@
--- How far a client is, and how that changes by what it says and by what it is given (XSMP, chapter 8:
+-- How far a client is, and how that changes by what it says and by what it is given (XSMP, chapter 9:
 -- the state diagrams). A connection on which XSMP hasn't begun has no phase.
 use Rattle.std.specs.Prelude.{Bool, None, Option, Some, cond, false, true}
 use Rattle.sm_world.specs.declared.events.SaveStyle.{SaveStyle}

@@ -1,4 +1,4 @@
-/// How far a client is, as the manager sees it (XSMP, chapter 8: Client State Diagram). A
+/// How far a client is, as the manager sees it (XSMP, chapter 9: Client State Diagram). A
 /// connection on which XSMP hasn't begun has no phase.
 #[derive(Clone, Copy, Debug)]
 pub enum Phase {

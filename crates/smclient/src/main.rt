@@ -24,9 +24,6 @@ const TEXTS: OwnTexts = OwnTexts {
     no_memory: "smclient: no memory\n",
 };
 
-/// The status for words that aren't those of a command.
-const BAD_WORDS: u8 = 1;
-
 /// The words that it knows, of which one may be meant by one that it doesn't know.
 const KNOWN: [&str; 9] = [
     "--socket",
@@ -47,14 +44,13 @@ fn main(rt: HostRuntime) -> ExitCode {
     let status = match TEXTS.begin(words, &mut world) {
         Ok(words) => {
             let status = smclient_main(alloc, words.as_slice(), &mut world, u64::MAX);
-            if status == BAD_WORDS {
-                try_hint(
-                    alloc,
-                    &mut world,
-                    "smclient",
-                    first_meant(words.as_slice(), &KNOWN),
-                );
-            }
+            try_hint(
+                alloc,
+                &mut world,
+                "smclient",
+                status,
+                first_meant(words.as_slice(), &KNOWN),
+            );
             status
         }
         Err(status) => status,

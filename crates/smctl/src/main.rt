@@ -67,9 +67,6 @@ fn run(rt: &HostRuntime, words: &[String], console: &mut StandardConsole) -> Res
     }
 }
 
-/// The status for words that aren't those of a command.
-const BAD_WORDS: u8 = 1;
-
 /// The words that it knows, of which one may be meant by one that it doesn't know.
 const KNOWN: [&str; 12] = [
     "checkpoint",
@@ -93,14 +90,13 @@ fn main(rt: HostRuntime) -> ExitCode {
         Ok(words) => {
             let ending = run(&rt, words.as_slice(), &mut console);
             let status = conclude(rt.alloc(), &mut console, ending);
-            if status == BAD_WORDS {
-                try_hint(
-                    rt.alloc(),
-                    &mut console,
-                    "smctl",
-                    first_meant(words.as_slice(), &KNOWN),
-                );
-            }
+            try_hint(
+                rt.alloc(),
+                &mut console,
+                "smctl",
+                status,
+                first_meant(words.as_slice(), &KNOWN),
+            );
             status
         }
         Err(status) => status,

@@ -204,9 +204,6 @@ fn run_or_tell(rt: HostRuntime, words: Vec<String>, console: &mut StandardConsol
     }
 }
 
-/// The status for words that aren't those of a command.
-const BAD_WORDS: u8 = 1;
-
 /// The words that it knows, of which one may be meant by one that it doesn't know.
 const KNOWN: [&str; 16] = [
     "serve",
@@ -234,9 +231,7 @@ fn main(rt: HostRuntime) -> ExitCode {
         Ok(words) => {
             let meant = first_meant(words.as_slice(), &KNOWN);
             let status = run_or_tell(rt, words, &mut console);
-            if status == BAD_WORDS {
-                try_hint(rt.alloc(), &mut console, "smd", meant);
-            }
+            try_hint(rt.alloc(), &mut console, "smd", status, meant);
             status
         }
         Err(status) => status,

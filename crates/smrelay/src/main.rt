@@ -29,9 +29,6 @@ fn run(rt: HostRuntime, words: &[String]) -> u8 {
     status
 }
 
-/// The status for words that aren't those of a command.
-const BAD_WORDS: u8 = 1;
-
 /// The words that it knows, of which one may be meant by one that it doesn't know.
 const KNOWN: [&str; 9] = [
     "serve",
@@ -51,14 +48,13 @@ fn main(rt: HostRuntime) -> ExitCode {
     let status = match TEXTS.begin(words, &mut console) {
         Ok(words) => {
             let status = run(rt, words.as_slice());
-            if status == BAD_WORDS {
-                try_hint(
-                    rt.alloc(),
-                    &mut console,
-                    "smrelay",
-                    first_meant(words.as_slice(), &KNOWN),
-                );
-            }
+            try_hint(
+                rt.alloc(),
+                &mut console,
+                "smrelay",
+                status,
+                first_meant(words.as_slice(), &KNOWN),
+            );
             status
         }
         Err(status) => status,

@@ -19,9 +19,6 @@ const TEXTS: OwnTexts = OwnTexts {
     no_memory: "smtrace: no memory\n",
 };
 
-/// The status for words that aren't those of a command.
-const BAD_WORDS: u8 = 1;
-
 /// The words that it knows, of which one may be meant by one that it doesn't know.
 const KNOWN: [&str; 4] = ["show", "replay", "--help", "--version"];
 
@@ -32,14 +29,13 @@ fn main(rt: HostRuntime) -> ExitCode {
     let status = match TEXTS.begin(words, &mut console) {
         Ok(words) => {
             let status = smtrace_main(alloc, words.as_slice(), &mut console);
-            if status == BAD_WORDS {
-                try_hint(
-                    alloc,
-                    &mut console,
-                    "smtrace",
-                    first_meant(words.as_slice(), &KNOWN),
-                );
-            }
+            try_hint(
+                alloc,
+                &mut console,
+                "smtrace",
+                status,
+                first_meant(words.as_slice(), &KNOWN),
+            );
             status
         }
         Err(status) => status,

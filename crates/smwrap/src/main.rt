@@ -23,9 +23,6 @@ const TEXTS: OwnTexts = OwnTexts {
     no_memory: "smwrap: no memory\n",
 };
 
-/// The status for words that aren't those of a command.
-const BAD_WORDS: u8 = 1;
-
 /// The words that it knows, of which one may be meant by one that it doesn't know.
 const KNOWN: [&str; 7] = [
     "--socket",
@@ -45,14 +42,13 @@ fn main(rt: HostRuntime) -> ExitCode {
     let status = match TEXTS.begin(words, &mut files) {
         Ok(words) => {
             let status = smwrap_main(alloc, words.as_slice(), &mut peer, &mut files, u64::MAX);
-            if status == BAD_WORDS {
-                try_hint(
-                    alloc,
-                    &mut files,
-                    "smwrap",
-                    first_meant(words.as_slice(), &KNOWN),
-                );
-            }
+            try_hint(
+                alloc,
+                &mut files,
+                "smwrap",
+                status,
+                first_meant(words.as_slice(), &KNOWN),
+            );
             status
         }
         Err(status) => status,
