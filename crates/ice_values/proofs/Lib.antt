@@ -15,3 +15,4 @@ pub mod ChoiceLaws
 pub mod DecodeLaws
 pub mod CodecLaws
 pub mod LengthLaws
+pub mod WordLaws

@@ -17,6 +17,7 @@ mod text;
 mod version;
 mod view;
 mod walk;
+mod words;
 mod writing;
 
 pub use array8::{
@@ -39,4 +40,5 @@ pub use text::{Text16, TextList, put_text16, read_text16, write_text16};
 pub use version::{Version, VersionList, read_version, write_version};
 pub use view::PropertyView;
 pub use walk::{PropertyWalk, walk_properties};
+pub use words::{put_word, put_words};
 pub use writing::{put_bytes, put_card16, put_card32, put_error, put_proof_data, put_zeros};

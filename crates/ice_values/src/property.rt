@@ -1,4 +1,4 @@
-ghost use Rattle.std.specs.Prelude.{◌≡◌, ◌++◌, OnOk, OnErr};
+ghost use Rattle.std.specs.Prelude.{◌≡◌, ◌++◌, IfOk, OnOk, OnErr};
 ghost use Rattle.ice_values.specs.Cells.{zeros};
 ghost use Rattle.ice_values.specs.Properties.{property as property_cells, IsProperty, property_at, property_list, IsListed};
 ghost use Rattle.ice_values.specs.Reading.{ReadsFront};
@@ -20,6 +20,22 @@ pub struct Property {
 }
 
 pub type PropertyList = ListOf<Property>;
+
+impl Property {
+    /// A property of this name and type, both copied, with these values.
+    pub fn from_slices(
+        alloc: Global,
+        name: &[u8],
+        kind: &[u8],
+        values: Array8List,
+    ) -> Result<Property, NoMemory>
+        ensures { IfOk result (λ p. p ≡ record { name = name.now; kind = kind.now; values = values }) }
+    {
+        let name = Array8::from_slice(alloc, name)?;
+        let kind = Array8::from_slice(alloc, kind)?;
+        Ok(Property { name, kind, values })
+    }
+}
 
 impl Duplicate for Property {
     fn copy(&self) -> Result<Property, NoMemory> {

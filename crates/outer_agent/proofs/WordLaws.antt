@@ -4,35 +4,29 @@ use Rattle.std.specs.Prelude.{flat_map}
 use Rattle.std.specs.Str.{bytes_eq}
 use Rattle.std.proofs.lemmas.Bool.{le-leb, leb-true, lt-leb}
 use Rattle.std.proofs.lemmas.Grind.{flat_map-append}
-use Rattle.ice_values.specs.Cells.{pad_len}
 use Rattle.ice_values.specs.Properties.{array8, array8_list, property}
 use Rattle.ice_values.specs.declared.numbers.Endian.TheVariants.{Lsb}
 use Rattle.ice_values.specs.declared.property.Property.{Property}
-use Rattle.ice_values.proofs.LengthLaws.{length-array8, length-listed}
+use Rattle.ice_values.proofs.LengthLaws.{length-listed}
+use Rattle.ice_values.proofs.WordLaws.{property_short, spelled, spelled-cons, word_more}
 use Rattle.xsmp_messages.specs.Messages.{IsTooLong}
 use Rattle.xsmp_messages.specs.declared.message.XsmpMessage.TheVariants.{SetProperties}
 use Rattle.outer_agent.specs.Words.{AreFew, command_words, own_properties, program, restart_words, without_id}
 
-abbrev spelled : List (List ℕ) → ℕ
-spelled words = length (flat_map (array8 Lsb) words)
-
-spelled-cons : (word : List ℕ) (words : List (List ℕ)) → spelled (word ∷ words) ≡ length (array8 Lsb word) + spelled words
-spelled-cons word words = length-append (array8 Lsb word) (flat_map (array8 Lsb) words)
-
 -- ---- without the pair of the ID the words are no more
 
-fewer_by : (is_id : Bool) (name value : List ℕ) (words : List (List ℕ)) → spelled (without_id words) ≤ spelled words → spelled (if is_id then without_id words else (name ∷ value ∷ without_id words)) ≤ spelled (name ∷ value ∷ words)
-fewer_by true name value words rest = omega (arith, rest, spelled-cons name (value ∷ words), spelled-cons value words)
-fewer_by false name value words rest = omega (arith, rest, spelled-cons name (value ∷ words), spelled-cons value words, spelled-cons name (value ∷ without_id words), spelled-cons value (without_id words))
+fewer_by : (is_id : Bool) (name value : List ℕ) (words : List (List ℕ)) → spelled Lsb (without_id words) ≤ spelled Lsb words → spelled Lsb (if is_id then without_id words else (name ∷ value ∷ without_id words)) ≤ spelled Lsb (name ∷ value ∷ words)
+fewer_by true name value words rest = omega (arith, rest, spelled-cons Lsb name (value ∷ words), spelled-cons Lsb value words)
+fewer_by false name value words rest = omega (arith, rest, spelled-cons Lsb name (value ∷ words), spelled-cons Lsb value words, spelled-cons Lsb name (value ∷ without_id words), spelled-cons Lsb value (without_id words))
 
-fewer : (words : List (List ℕ)) → spelled (without_id words) ≤ spelled words
+fewer : (words : List (List ℕ)) → spelled Lsb (without_id words) ≤ spelled Lsb words
 fewer [] = omega arith
 fewer (name ∷ []) = omega arith
 fewer (name ∷ value ∷ words) = fewer_by (bytes_eq name (codes "--outer-id")) name value words (fewer words)
 
-fewer_command : (words : List (List ℕ)) → spelled (command_words words) ≤ spelled words
+fewer_command : (words : List (List ℕ)) → spelled Lsb (command_words words) ≤ spelled Lsb words
 fewer_command [] = omega arith
-fewer_command (first ∷ pairs) = omega (arith, fewer pairs, spelled-cons first pairs, spelled-cons first (without_id pairs))
+fewer_command (first ∷ pairs) = omega (arith, fewer pairs, spelled-cons Lsb first pairs, spelled-cons Lsb first (without_id pairs))
 
 pub few_left : (words : List (List ℕ)) → AreFew words → AreFew (command_words words)
 few_left words few = omega (arith, few, fewer_command words, length-listed (array8 Lsb) Lsb words, length-listed (array8 Lsb) Lsb (command_words words))
@@ -45,25 +39,12 @@ two_behind xs ys a b = append_assoc (xs ++ ys) (a ∷ []) (b ∷ [])
 
 -- ---- lengths
 
-pad_short : (x : ℕ) → pad_len x 8 ≤ 7
-pad_short x = omega arith
-
-array8_short : (bytes : List ℕ) → length (array8 Lsb bytes) ≤ length bytes + 11
-array8_short bytes = omega (arith, length-array8 Lsb bytes, pad_short (4 + length bytes))
-
-word_more : (word : List ℕ) (words : List (List ℕ)) → spelled (word ∷ words) ≤ length word + 11 + spelled words
-word_more word words = omega (arith, array8_short word, spelled-cons word words)
-
-property_short : (name kind : List ℕ) (values : List (List ℕ)) → length (property Lsb (record { name = name; kind = kind; values = values })) ≤ length name + length kind + spelled values + 30
-property_short name kind values =
-    omega (arith, length-append (array8 Lsb name ++ array8 Lsb kind) (array8_list Lsb values), length-append (array8 Lsb name) (array8 Lsb kind), array8_short name, array8_short kind, length-listed (array8 Lsb) Lsb values)
-
-restart_short : (command : List (List ℕ)) (id : List ℕ) → spelled (restart_words command id) ≤ spelled command + length id + 60
+restart_short : (command : List (List ℕ)) (id : List ℕ) → spelled Lsb (restart_words command id) ≤ spelled Lsb command + length id + 60
 restart_short command id =
     let last : List (List ℕ) = codes "--outer-id" ∷ id ∷ [] in
-    let one : spelled (codes "smnest" ∷ command) ≤ 6 + 11 + spelled command = word_more (codes "smnest") command in
-    let two : spelled last ≤ 10 + 11 + spelled (id ∷ []) = word_more (codes "--outer-id") (id ∷ []) in
-    let none : spelled [] ≡ 0 = refl in
+    let one : spelled Lsb (codes "smnest" ∷ command) ≤ 6 + 11 + spelled Lsb command = word_more Lsb (codes "smnest") command in
+    let two : spelled Lsb last ≤ 10 + 11 + spelled Lsb (id ∷ []) = word_more Lsb (codes "--outer-id") (id ∷ []) in
+    let none : spelled Lsb [] ≡ 0 = refl in
     omega (
       arith,
       ap length (flat_map-append (array8 Lsb) (codes "smnest" ∷ command) last),
@@ -71,7 +52,7 @@ restart_short command id =
       one,
       two,
       none,
-      word_more id [],
+      word_more Lsb id [],
     )
 
 abbrev restart : List (List ℕ) → List ℕ → Property
@@ -79,9 +60,9 @@ restart command id = record { name = codes "RestartCommand"; kind = codes "LISTo
 
 program_short : length (property Lsb program) ≤ 60
 program_short =
-    let one : length (property Lsb program) ≤ 7 + 6 + spelled (codes "smnest" ∷ []) + 30 = property_short (codes "Program") (codes "ARRAY8") (codes "smnest" ∷ []) in
-    let two : spelled (codes "smnest" ∷ []) ≤ 6 + 11 + spelled [] = word_more (codes "smnest") [] in
-    let none : spelled [] ≡ 0 = refl in
+    let one : length (property Lsb program) ≤ 7 + 6 + spelled Lsb (codes "smnest" ∷ []) + 30 = property_short Lsb (codes "Program") (codes "ARRAY8") (codes "smnest" ∷ []) in
+    let two : spelled Lsb (codes "smnest" ∷ []) ≤ 6 + 11 + spelled Lsb [] = word_more Lsb (codes "smnest") [] in
+    let none : spelled Lsb [] ≡ 0 = refl in
     omega (arith, one, two, none)
 
 abbrev encoded : List Property → ℕ
@@ -109,9 +90,9 @@ two_short command id few short = λ long.
     let none : encoded [] ≡ 0 = refl in
     let whole : encoded items ≡ length (property Lsb program) + (length (property Lsb (restart command id)) + 0) =
     encoded-cons program (restart command id ∷ []) ∙ ap (λ n. length (property Lsb program) + n) (encoded-cons (restart command id) [] ∙ ap (λ n. length (property Lsb (restart command id)) + n) none) in
-    let second : length (property Lsb (restart command id)) ≤ 14 + 12 + spelled (restart_words command id) + 30 = property_short (codes "RestartCommand") (codes "LISTofARRAY8") (restart_words command id) in
-    let words : spelled command ≤ 32760 = omega (arith, few, length-listed (array8 Lsb) Lsb command) in
-    absurd (over (encoded items) (length (property Lsb program)) (length (property Lsb (restart command id))) (spelled (restart_words command id)) (spelled command) (length id) whole program_short second (restart_short command id) words short (long_list items long))
+    let second : length (property Lsb (restart command id)) ≤ 14 + 12 + spelled Lsb (restart_words command id) + 30 = property_short Lsb (codes "RestartCommand") (codes "LISTofARRAY8") (restart_words command id) in
+    let words : spelled Lsb command ≤ 32760 = omega (arith, few, length-listed (array8 Lsb) Lsb command) in
+    absurd (over (encoded items) (length (property Lsb program)) (length (property Lsb (restart command id))) (spelled Lsb (restart_words command id)) (spelled Lsb command) (length id) whole program_short second (restart_short command id) words short (long_list items long))
   where
     over : (all one two three words id : ℕ) → all ≡ one + (two + 0) → one ≤ 60 → two ≤ 14 + 12 + three + 30 → three ≤ words + id + 60 → words ≤ 32760 → id ≤ 512 → 65528 < all → ⊥
     over all one two three words id is a b c d e many = omega arith

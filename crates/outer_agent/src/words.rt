@@ -2,7 +2,7 @@ ghost use Rattle.std.specs.Prelude.{◌≡◌, ◌↔◌, ◌∷◌, ◌++◌, [
 ghost use Rattle.std.specs.Str.{bytes_eq};
 ghost use Rattle.outer_agent.specs.Words.{AreFew, command_words as all_command_words, own_properties as all_own_properties, restart_words as all_restart_words, without_id};
 
-use ice_values::{Array8, Array8List, Property, PropertyList, Spelled};
+use ice_values::{Array8List, Property, PropertyList, Spelled, put_word, put_words};
 use sm_world::{Duplicate, NoMemory, Octets, OctetsList};
 use std::alloc::Global;
 
@@ -62,29 +62,12 @@ pub fn command_words(alloc: Global, words: &[Octets]) -> Result<OctetsList, NoMe
     Ok(left)
 }
 
-/// Adds a word.
-fn put(alloc: Global, words: &mut Array8List, word: &[u8]) -> Result<(), NoMemory>
-    ensures { OnOk result (words.new ≡ words.old ++ word.now ∷ []) }
-{
-    words.push(Array8::from_slice(alloc, word)?)
-}
-
-/// Adds words.
-fn put_all(alloc: Global, words: &mut Array8List, more: &[Octets]) -> Result<(), NoMemory>
-    ensures { OnOk result (words.new ≡ words.old ++ more.now) }
-{
-    for word in more {
-        put(alloc, words, word.as_slice())?;
-    }
-    Ok(())
-}
-
 /// The program as a list of one word.
 fn program_words(alloc: Global) -> Result<Array8List, NoMemory>
     ensures { IfOk result (λ words. words ≡ codes "smnest" ∷ []) }
 {
     let mut words = Array8List::new(alloc);
-    put(alloc, &mut words, b"smnest")?;
+    put_word(alloc, &mut words, b"smnest")?;
     Ok(words)
 }
 
@@ -93,23 +76,10 @@ fn restart_words(alloc: Global, command: &[Octets], id: &[u8]) -> Result<Array8L
     ensures { IfOk result (λ words. words ≡ all_restart_words command.now id.now) }
 {
     let mut words = program_words(alloc)?;
-    put_all(alloc, &mut words, command)?;
-    put(alloc, &mut words, ID_WORD)?;
-    put(alloc, &mut words, id)?;
+    put_words(alloc, &mut words, command)?;
+    put_word(alloc, &mut words, ID_WORD)?;
+    put_word(alloc, &mut words, id)?;
     Ok(words)
-}
-
-fn property(
-    alloc: Global,
-    name: &[u8],
-    kind: &[u8],
-    values: Array8List,
-) -> Result<Property, NoMemory>
-    ensures { IfOk result (λ p. p ≡ record { name = name.now; kind = kind.now; values = values }) }
-{
-    let name = Array8::from_slice(alloc, name)?;
-    let kind = Array8::from_slice(alloc, kind)?;
-    Ok(Property { name, kind, values })
 }
 
 /// What a manager of this command sets under this ID.
@@ -121,11 +91,11 @@ pub fn own_properties(
     ensures { IfOk result (λ set. set ≡ all_own_properties command.now id.now) }
 {
     let mut set = PropertyList::new(alloc);
-    set.push(property(alloc, b"Program", b"ARRAY8", program_words(alloc)?)?)?;
+    set.push(Property::from_slices(alloc, b"Program", b"ARRAY8", program_words(alloc)?)?)?;
     if id.len() > ID_LIMIT {
         return Ok(set);
     }
     let restart = restart_words(alloc, command, id)?;
-    set.push(property(alloc, b"RestartCommand", b"LISTofARRAY8", restart)?)?;
+    set.push(Property::from_slices(alloc, b"RestartCommand", b"LISTofARRAY8", restart)?)?;
     Ok(set)
 }

@@ -6,7 +6,7 @@ ghost use Rattle.smclient_app.specs.Rules.{answer_by, gives_up, own_properties, 
 use client_callbacks::Saves;
 use client_machine::{SaveAnswer, SaveAsk, Stage, Step};
 use client_words::Choices;
-use ice_values::{Array8, Array8List, Property, PropertyList};
+use ice_values::{Array8List, Property, PropertyList, put_word};
 use sm_world::{Dialog, NoMemory, SaveStyle};
 use std::alloc::Global;
 
@@ -14,11 +14,9 @@ use std::alloc::Global;
 fn property(alloc: Global, name: &[u8], kind: &[u8], value: &[u8]) -> Result<Property, NoMemory>
     ensures { IfOk result (λ p. p ≡ record { name = name.now; kind = kind.now; values = value.now ∷ [] }) }
 {
-    let name = Array8::from_slice(alloc, name)?;
-    let kind = Array8::from_slice(alloc, kind)?;
     let mut values = Array8List::new(alloc);
-    values.push(Array8::from_slice(alloc, value)?)?;
-    Ok(Property { name, kind, values })
+    put_word(alloc, &mut values, value)?;
+    Property::from_slices(alloc, name, kind, values)
 }
 
 /// Which program the client is, and how it is started again.

@@ -5,11 +5,10 @@ use Rattle.std.specs.List.{AllByRecursion}
 use Rattle.std.specs.Fmt.{decimal}
 use Rattle.std.proofs.lemmas.Fmt.{decimal_injective, length-decimal-le}
 use Rattle.std.proofs.lemmas.Grind.{flat_map-append}
-use Rattle.ice_values.specs.Cells.{pad_len}
 use Rattle.ice_values.specs.Properties.{array8, array8_list, property}
 use Rattle.ice_values.specs.declared.numbers.Endian.TheVariants.{Lsb}
 use Rattle.ice_values.specs.declared.property.Property.{Property}
-use Rattle.ice_values.proofs.LengthLaws.{length-array8, length-listed}
+use Rattle.ice_values.proofs.WordLaws.{property_short, spelled, word_more}
 use Rattle.xsmp_properties.specs.Tables.{IsTableFull, encoded_len}
 use Rattle.xsmp_properties.proofs.TableLaws.{encoded_len-cons}
 use Rattle.state_saver.specs.Plans.{CopiesHavePathsOfTheirOwn, IsPlan, IsWord, copy_path, own_properties, restart_words}
@@ -42,40 +41,24 @@ five_between xs ys a b c d e =
 
 -- ---- lengths
 
-abbrev spelled : List (List ℕ) → ℕ
-spelled words = length (flat_map (array8 Lsb) words)
-
-pad_short : (x : ℕ) → pad_len x 8 ≤ 7
-pad_short x = omega arith
-
-array8_short : (bytes : List ℕ) → length (array8 Lsb bytes) ≤ length bytes + 11
-array8_short bytes = omega (arith, length-array8 Lsb bytes, pad_short (4 + length bytes))
-
-word_more : (word : List ℕ) (words : List (List ℕ)) → spelled (word ∷ words) ≤ length word + 11 + spelled words
-word_more word words = omega (arith, array8_short word, length-append (array8 Lsb word) (flat_map (array8 Lsb) words))
-
-words_short : (words : List (List ℕ)) → AllByRecursion IsWord words → spelled words ≤ 523 * length words
+words_short : (words : List (List ℕ)) → AllByRecursion IsWord words → spelled Lsb words ≤ 523 * length words
 words_short [] all = omega arith
-words_short (word ∷ words) all = omega (arith, word_more word words, all.0.few, words_short words all.1)
+words_short (word ∷ words) all = omega (arith, word_more Lsb word words, all.0.few, words_short words all.1)
 
-first_short : (words : List (List ℕ)) → AllByRecursion IsWord words → spelled (take 1 words) ≤ 523
+first_short : (words : List (List ℕ)) → AllByRecursion IsWord words → spelled Lsb (take 1 words) ≤ 523
 first_short [] all = omega arith
-first_short (word ∷ words) all = omega (arith, word_more word [], all.0.few)
+first_short (word ∷ words) all = omega (arith, word_more Lsb word [], all.0.few)
 
 number_short : (n : ℕ) → n < 2 ^ 32 → length (decimal n) ≤ 10
 number_short n small = length-decimal-le 10 n (omega arith) (omega (arith, small)) (omega (arith, small))
 
-property_short : (name kind : List ℕ) (values : List (List ℕ)) → length (property Lsb (record { name = name; kind = kind; values = values })) ≤ length name + length kind + spelled values + 30
-property_short name kind values =
-    omega (arith, length-append (array8 Lsb name ++ array8 Lsb kind) (array8_list Lsb values), length-append (array8 Lsb name) (array8 Lsb kind), array8_short name, array8_short kind, length-listed (array8 Lsb) Lsb values)
-
-restart_short : (plan : SavePlan) (n : ℕ) (id : List ℕ) → IsPlan plan → n < 2 ^ 32 → length id ≤ 512 → spelled (restart_words plan n id) ≤ 12618
+restart_short : (plan : SavePlan) (n : ℕ) (id : List ℕ) → IsPlan plan → n < 2 ^ 32 → length id ≤ 512 → spelled Lsb (restart_words plan n id) ≤ 12618
 restart_short plan n id fits small short =
     let last : List (List ℕ) = codes "--" ∷ plan.program in
     let named : List (List ℕ) = codes "--id" ∷ id ∷ last in
-    let one : spelled (codes "--from" ∷ decimal n ∷ named) ≤ 6 + 11 + spelled (decimal n ∷ named) = word_more (codes "--from") (decimal n ∷ named) in
-    let three : spelled named ≤ 4 + 11 + spelled (id ∷ last) = word_more (codes "--id") (id ∷ last) in
-    let five : spelled last ≤ 2 + 11 + spelled plan.program = word_more (codes "--") plan.program in
+    let one : spelled Lsb (codes "--from" ∷ decimal n ∷ named) ≤ 6 + 11 + spelled Lsb (decimal n ∷ named) = word_more Lsb (codes "--from") (decimal n ∷ named) in
+    let three : spelled Lsb named ≤ 4 + 11 + spelled Lsb (id ∷ last) = word_more Lsb (codes "--id") (id ∷ last) in
+    let five : spelled Lsb last ≤ 2 + 11 + spelled Lsb plan.program = word_more Lsb (codes "--") plan.program in
     omega (
       arith,
       ap length (flat_map-append (array8 Lsb) plan.before (codes "--from" ∷ decimal n ∷ named)),
@@ -83,21 +66,21 @@ restart_short plan n id fits small short =
       words_short plan.before fits.before,
       fits.seven,
       one,
-      word_more (decimal n) named,
+      word_more Lsb (decimal n) named,
       number_short n small,
       three,
-      word_more id last,
+      word_more Lsb id last,
       short,
       five,
       words_short plan.program fits.words,
       fits.few,
     )
 
-discard_short : (plan : SavePlan) (n : ℕ) → IsPlan plan → n < 2 ^ 32 → spelled (codes "rm" ∷ copy_path plan.state n ∷ []) ≤ 547
+discard_short : (plan : SavePlan) (n : ℕ) → IsPlan plan → n < 2 ^ 32 → spelled Lsb (codes "rm" ∷ copy_path plan.state n ∷ []) ≤ 547
 discard_short plan n fits small =
-    let one : spelled (codes "rm" ∷ copy_path plan.state n ∷ []) ≤ 2 + 11 + spelled (copy_path plan.state n ∷ []) = word_more (codes "rm") (copy_path plan.state n ∷ []) in
-    let none : spelled [] ≡ 0 = refl in
-    omega (arith, one, word_more (copy_path plan.state n) [], none, length-append plan.state (46 ∷ decimal n), number_short n small, fits.state.few)
+    let one : spelled Lsb (codes "rm" ∷ copy_path plan.state n ∷ []) ≤ 2 + 11 + spelled Lsb (copy_path plan.state n ∷ []) = word_more Lsb (codes "rm") (copy_path plan.state n ∷ []) in
+    let none : spelled Lsb [] ≡ 0 = refl in
+    omega (arith, one, word_more Lsb (copy_path plan.state n) [], none, length-append plan.state (46 ∷ decimal n), number_short n small, fits.state.few)
 
 pub own_few : (plan : SavePlan) (n : ℕ) (id : List ℕ) → IsPlan plan → n < 2 ^ 32 → length id ≤ 512 → IsTableFull (own_properties plan n id) → ⊥
 own_few plan n id fits small short (inl many) = omega (arith, many)
@@ -105,13 +88,13 @@ own_few plan n id fits small short (inr full) =
     let first : Property = record { name = codes "Program"; kind = codes "ARRAY8"; values = take 1 plan.program } in
     let second : Property = record { name = codes "RestartCommand"; kind = codes "LISTofARRAY8"; values = restart_words plan n id } in
     let third : Property = record { name = codes "DiscardCommand"; kind = codes "LISTofARRAY8"; values = codes "rm" ∷ copy_path plan.state n ∷ [] } in
-    let one : length (property Lsb first) ≤ 7 + 6 + spelled (take 1 plan.program) + 30 = property_short (codes "Program") (codes "ARRAY8") (take 1 plan.program) in
-    let two : length (property Lsb second) ≤ 14 + 12 + spelled (restart_words plan n id) + 30 = property_short (codes "RestartCommand") (codes "LISTofARRAY8") (restart_words plan n id) in
-    let three : length (property Lsb third) ≤ 14 + 12 + spelled (codes "rm" ∷ copy_path plan.state n ∷ []) + 30 = property_short (codes "DiscardCommand") (codes "LISTofARRAY8") (codes "rm" ∷ copy_path plan.state n ∷ []) in
+    let one : length (property Lsb first) ≤ 7 + 6 + spelled Lsb (take 1 plan.program) + 30 = property_short Lsb (codes "Program") (codes "ARRAY8") (take 1 plan.program) in
+    let two : length (property Lsb second) ≤ 14 + 12 + spelled Lsb (restart_words plan n id) + 30 = property_short Lsb (codes "RestartCommand") (codes "LISTofARRAY8") (restart_words plan n id) in
+    let three : length (property Lsb third) ≤ 14 + 12 + spelled Lsb (codes "rm" ∷ copy_path plan.state n ∷ []) + 30 = property_short Lsb (codes "DiscardCommand") (codes "LISTofARRAY8") (codes "rm" ∷ copy_path plan.state n ∷ []) in
     let none : encoded_len [] ≡ 0 = refl in
     let all : encoded_len (first ∷ second ∷ third ∷ []) ≡ length (property Lsb first) + (length (property Lsb second) + (length (property Lsb third) + encoded_len [])) = encoded_len-cons first (second ∷ third ∷ []) ∙ ap (λ n. length (property Lsb first) + n) (encoded_len-cons second (third ∷ []) ∙ ap (λ n. length (property Lsb second) + n) (encoded_len-cons third [])) in
     let bad : 16384 < encoded_len (first ∷ second ∷ third ∷ []) = full in
-    absurd (over (encoded_len (first ∷ second ∷ third ∷ [])) (length (property Lsb first)) (length (property Lsb second)) (length (property Lsb third)) (spelled (take 1 plan.program)) (spelled (restart_words plan n id)) (spelled (codes "rm" ∷ copy_path plan.state n ∷ [])) all one two three (first_short plan.program fits.words) (restart_short plan n id fits small short) (discard_short plan n fits small) bad)
+    absurd (over (encoded_len (first ∷ second ∷ third ∷ [])) (length (property Lsb first)) (length (property Lsb second)) (length (property Lsb third)) (spelled Lsb (take 1 plan.program)) (spelled Lsb (restart_words plan n id)) (spelled Lsb (codes "rm" ∷ copy_path plan.state n ∷ [])) all one two three (first_short plan.program fits.words) (restart_short plan n id fits small short) (discard_short plan n fits small) bad)
   where
     over : (all one two three a b c : ℕ) → all ≡ one + (two + (three + 0)) → one ≤ 7 + 6 + a + 30 → two ≤ 14 + 12 + b + 30 → three ≤ 14 + 12 + c + 30 → a ≤ 523 → b ≤ 12618 → c ≤ 547 → 16384 < all → ⊥
     over all one two three a b c first second third d e f g h = omega arith

@@ -1,5 +1,5 @@
 use Rattle.std.proofs.Common.{◌≡◌, ◌++◌, take}
-use Rattle.outer_agent.proofs.words.put_all.Given as goal
+use Rattle.ice_values.proofs.words.put_words.Given as goal
 
 abbrev pub invariant-loop-word : goal.invariant-loop-word
 invariant-loop-word l = l.words ≡ l.fn.words ++ take l.word-index l.more
