@@ -1,5 +1,5 @@
 ghost use Rattle.std.specs.Prelude.{◌≡◌, ◌∷◌, ◌↔◌, [], IsTrue, map, option_copied, string_bytes, IfErr, IfOk};
-ghost use Rattle.smctl.specs.Requests.{Asks, AsksNothing, IsNoOrder, IsNoTask, IsOrderLine, SaysTask, spaced};
+ghost use Rattle.smctl_app.specs.Requests.{Asks, AsksNothing, IsNoOrder, IsNoTask, IsOrderLine, SaysTask, spaced};
 
 use crate::fault::Fault;
 use control_lines::read_order;

@@ -4,7 +4,7 @@ use Rattle.std.proofs.lemmas.Bool.{false≢true}
 use Rattle.std.proofs.lemmas.List.{take_all}
 use Rattle.std.specs.Bool.{Decides}
 use Rattle.std.specs.List.{flat_map, join_by}
-use Rattle.smctl.specs.Requests.{Names}
+use Rattle.smctl_app.specs.Requests.{Names}
 
 more_joined : {X : Type 0} (text : X → List ℕ) (space : List ℕ) (words : List X) → flat_map (λ (word : X). space ++ text word) words ≡ flat_map (λ (word : List ℕ). space ++ word) (map text words)
 more_joined text space [] = refl

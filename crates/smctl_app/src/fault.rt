@@ -1,7 +1,7 @@
 ghost use Rattle.std.specs.Prelude.{◌≡◌};
 ghost use Rattle.std.specs.IoError.{error_kind};
-ghost use Rattle.smctl.specs.Faults.{console_fault, link_fault, name_fault, order_fault, fault_status, fault_line};
-ghost use Rattle.smctl.specs.declared.fault.Fault.TheVariants.{NoMemory as OutOfMemory};
+ghost use Rattle.smctl_app.specs.Faults.{console_fault, link_fault, name_fault, order_fault, fault_status, fault_line};
+ghost use Rattle.smctl_app.specs.declared.fault.Fault.TheVariants.{NoMemory as OutOfMemory};
 
 use control_lines::OrderRefusal;
 use program_frame::{ProgramFault, try_line};

@@ -1,7 +1,7 @@
 use Rattle.std.proofs.Common.{rules, ◌-◌, length, take, drop, map, Some, string_bytes}
 use Rattle.program_frame.proofs.InputLemmas.{err_is}
-use Rattle.smctl.proofs.WordLaws.{named}
-use Rattle.smctl.proofs.request.read_request.Goals as goal
+use Rattle.smctl_app.proofs.WordLaws.{named}
+use Rattle.smctl_app.proofs.request.read_request.Goals as goal
 
 pub returns-in_err-read_task-clause-none : goal.returns-in_err-read_task-clause-none
 returns-in_err-read_task-clause-none c = rw (err_is c.from_residual.result c.in_err-read_task.field-0.0 c.from_residual.ensures.1) (record {

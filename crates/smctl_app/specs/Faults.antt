@@ -9,8 +9,8 @@ use Rattle.sm_world.specs.declared.failures.Failure.TheVariants.{Failed, NoMemor
 use Rattle.control_lines.specs.declared.orders.OrderRefusal.{OrderRefusal}
 use Rattle.control_lines.specs.declared.orders.OrderRefusal.TheVariants.{BadLine, NoMemory as OrderMemory}
 use Rattle.program_frame.specs.Printing.{line}
-use Rattle.smctl.specs.declared.fault.Fault.{Fault}
-use Rattle.smctl.specs.declared.fault.Fault.TheVariants.{BadWords, NoControl, Unordered, Cancelled, Link, Gone, Unreadable, Console, NoMemory}
+use Rattle.smctl_app.specs.declared.fault.Fault.{Fault}
+use Rattle.smctl_app.specs.declared.fault.Fault.TheVariants.{BadWords, NoControl, Unordered, Cancelled, Link, Gone, Unreadable, Console, NoMemory}
 
 abbrev pub order_fault : OrderRefusal → Fault
 order_fault BadLine = BadWords

@@ -1,7 +1,7 @@
 use Rattle.std.proofs.Common.{◌≡◌, ◌∙◌, List, ℕ, IfOk, map, string_bytes, subst, codes}
-use Rattle.smctl.specs.Requests.{spaced}
-use Rattle.smctl.proofs.WordLaws.{texts_joined}
-use Rattle.smctl.proofs.request.joined.Goals as goal
+use Rattle.smctl_app.specs.Requests.{spaced}
+use Rattle.smctl_app.proofs.WordLaws.{texts_joined}
+use Rattle.smctl_app.proofs.request.joined.Goals as goal
 
 pub returns : goal.returns
 returns c =

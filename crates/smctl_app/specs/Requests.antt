@@ -3,10 +3,10 @@ use Rattle.std.specs.Prelude.{◌≡◌, ◌≢◌, ℕ, List, [], ◌∷◌, �
 use Rattle.std.specs.List.{join_by}
 use Rattle.sm_world.specs.declared.events.Order.{Order}
 use Rattle.control_lines.specs.Orders.{SaysOrder}
-use Rattle.smctl.specs.declared.fault.Fault.{Fault}
-use Rattle.smctl.specs.declared.fault.Fault.TheVariants.{BadWords, NoControl, Unordered, Cancelled, Link, Gone, Unreadable, Console, NoMemory}
-use Rattle.smctl.specs.declared.request.Task.{Task}
-use Rattle.smctl.specs.declared.request.Task.TheVariants.{Order as Ordered, Table, Plain, Logout}
+use Rattle.smctl_app.specs.declared.fault.Fault.{Fault}
+use Rattle.smctl_app.specs.declared.fault.Fault.TheVariants.{BadWords, NoControl, Unordered, Cancelled, Link, Gone, Unreadable, Console, NoMemory}
+use Rattle.smctl_app.specs.declared.request.Task.{Task}
+use Rattle.smctl_app.specs.declared.request.Task.TheVariants.{Order as Ordered, Table, Plain, Logout}
 
 -- the words with one space between each two
 abbrev pub spaced : List (List ℕ) → List ℕ

@@ -1,5 +1,5 @@
 ghost use Rattle.std.specs.Prelude.{IfErr};
-ghost use Rattle.smctl.specs.Requests.{IsOutside, IsOfLogout};
+ghost use Rattle.smctl_app.specs.Requests.{IsOutside, IsOfLogout};
 
 use crate::client_line::{ClientLine, read_client_line, read_count};
 use crate::fault::Fault;

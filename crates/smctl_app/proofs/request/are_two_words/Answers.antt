@@ -1,8 +1,8 @@
 use Rattle.std.proofs.Common.{rules, ◌∙◌, sym, string_bytes}
 use Rattle.std.proofs.lemmas.Bool.Decides.{Decides-eqb}
 use Rattle.std.proofs.lemmas.Slice.Eq.{slice_eq-Decides}
-use Rattle.smctl.proofs.WordLaws.{are_two, not_first}
-use Rattle.smctl.proofs.request.are_two_words.Goals as goal
+use Rattle.smctl_app.proofs.WordLaws.{are_two, not_first}
+use Rattle.smctl_app.proofs.request.are_two_words.Goals as goal
 
 pub returns-then-eq : goal.returns-then-eq
 returns-then-eq c =

@@ -1,0 +1,11 @@
+//! Tests of what smctl asks of a session manager, and what it shows of the answers.
+#![tactic(auto)]
+
+#[cfg(test)]
+mod asked;
+#[cfg(test)]
+mod heard;
+#[cfg(test)]
+mod looks;
+#[cfg(test)]
+mod shown;

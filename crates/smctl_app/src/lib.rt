@@ -1,0 +1,19 @@
+//! What `smctl` asks a session manager, what it shows of the answers, and the statuses.
+#![tactic(auto)]
+
+mod asking;
+mod client_line;
+mod clients;
+mod fault;
+mod request;
+mod table;
+mod talk;
+mod waiting;
+
+pub use asking::run;
+pub use client_line::{ClientLine, read_client_line};
+pub use fault::Fault;
+pub use request::{Request, Task, read_request};
+pub use table::table_of;
+pub use talk::Talk;
+pub use waiting::{Course, Logout, read_course, waited_for};
