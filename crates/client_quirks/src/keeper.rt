@@ -1,9 +1,9 @@
 ghost use Rattle.std.specs.Prelude.{◌≡◌, ◌++◌, ◌∷◌, ◌≤◌, [], take, drop, length, true, false, not, ◌||◌, IfOk, OnOk, IsTrue};
 ghost use Rattle.std.specs.List.{concat};
 ghost use Rattle.client_quirks.specs.Sides.{IsSide, Follows};
-ghost use Rattle.client_quirks.specs.Leaving.{mark, told_behind, told_by, heard_behind, front_count, is_kept, closing, Hears, Listens};
+ghost use Rattle.client_quirks.specs.Leaving.{mark, told_behind, told_by, heard_behind, front_count, is_kept, closing, Hears, Listens, Keeps, GivesUp};
 ghost use Rattle.client_quirks.specs.Heeding.{HasNothing};
-ghost use Rattle.client_quirks.specs.declared.stage.Stage.TheVariants.{Free};
+ghost use Rattle.client_quirks.specs.declared.stage.Stage.TheVariants.{Free, Kept};
 
 use crate::heeding::{Heard, Told};
 use crate::pieces::{PieceList, StreamPiece, add_bytes, alone};
@@ -15,6 +15,9 @@ use ice_framing::WholeFrame;
 use sm_world::NoMemory;
 use std::alloc::Global;
 use std::mem;
+
+/// How many pieces of a client's stream are held back at most.
+const KEPT_LIMIT: usize = 16;
 
 /// Holds back the end of a client that has answered a logout and leaves before it is told to die.
 #[derive(Debug, Drop)]
@@ -179,7 +182,7 @@ impl Keeper {
     }
 
     /// Whether a piece of the client's stream is handed on as it came, and nothing else changes, so
-    /// that it needn't be heard. This looks at no more than the headers of its frames.
+    /// that it needn't be heard. This takes no memory.
     pub fn lets_pass(&self, piece: &[u8]) -> bool
         ensures { IsTrue result → Hears self.now piece.now (piece.now ∷ []) self.now }
     {
@@ -192,15 +195,34 @@ impl Keeper {
         }
     }
 
+    /// Gives all that is held back and one piece more, and holds back nothing any more.
+    fn give_up(&mut self, piece: StreamPiece) -> Result<PieceList, NoMemory>
+        ensures { IfOk result (λ list. GivesUp self.old piece list self.new) }
+    {
+        self.stage = Stage::Released;
+        let mut list = mem::replace(&mut self.pieces, PieceList::new(self.alloc));
+        list.push(piece)?;
+        Ok(list)
+    }
+
+    /// Holds a piece back, unless there are too many.
+    fn keep(&mut self, piece: StreamPiece) -> Result<PieceList, NoMemory>
+        requires { self.old.stage ≡ Kept }
+        ensures { IfOk result (λ list. Keeps self.old piece list self.new) }
+    {
+        if self.pieces.as_slice().len() >= KEPT_LIMIT {
+            return self.give_up(piece);
+        }
+        self.pieces.push(piece)?;
+        Ok(PieceList::new(self.alloc))
+    }
+
     /// Hears a piece of the client's stream, and gives the pieces that are handed on.
     pub fn hear(&mut self, piece: StreamPiece) -> Result<PieceList, NoMemory>
         ensures { IfOk result (λ list. Hears self.old piece list self.new) }
     {
         match self.stage {
-            Stage::Kept => {
-                self.pieces.push(piece)?;
-                Ok(PieceList::new(self.alloc))
-            }
+            Stage::Kept => self.keep(piece),
             Stage::Released => alone(self.alloc, piece),
             Stage::Free => self.listen(piece),
             Stage::Asked => self.listen(piece),
