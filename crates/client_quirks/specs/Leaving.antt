@@ -121,19 +121,28 @@ pub record Listens (old : Keeper) (piece : List ℕ) (list : List (List ℕ)) (n
   pub speech : new.came.speech ≡ (behind old piece).speech
   pub came : Follows old.came piece new.came
   pub sent : new.sent ≡ old.sent
+  pub ended : new.has_ended ≡ old.has_ended
   pub passes : Passes (is_kept (behind old piece).stage) old piece list new
+
+-- Both streams are understood as before, and the end is held back where it was.
+pub record StaysAside (old new : Keeper) : Type 0 where
+  pub came : new.came ≡ old.came
+  pub sent : new.sent ≡ old.sent
+  pub ended : new.has_ended ≡ old.has_ended
 
 -- all that comes is held back
 pub record HoldsBack (old : Keeper) (piece : List ℕ) (list : List (List ℕ)) (new : Keeper) : Type 0 where
   pub stage : new.stage ≡ Kept
   pub none : list ≡ []
   pub pieces : new.pieces ≡ old.pieces ++ piece ∷ []
+  pub stays : StaysAside old new
 
 -- all that was held back is handed on, and all that comes
 pub record GivesUp (old : Keeper) (piece : List ℕ) (list : List (List ℕ)) (new : Keeper) : Type 0 where
   pub stage : new.stage ≡ Released
   pub all : list ≡ old.pieces ++ piece ∷ []
   pub none : new.pieces ≡ []
+  pub stays : StaysAside old new
 
 -- 16 pieces are held back at most. A client that sends more counts as one that left as it closed.
 abbrev pub KeepsBy : Bool → Keeper → List ℕ → List (List ℕ) → Keeper → Type 0
@@ -148,6 +157,7 @@ pub record HandsOn (old : Keeper) (piece : List ℕ) (list : List (List ℕ)) (n
   pub stage : new.stage ≡ Released
   pub all : list ≡ piece ∷ []
   pub pieces : new.pieces ≡ old.pieces
+  pub stays : StaysAside old new
 
 abbrev pub HearsAt : Stage → Keeper → List ℕ → List (List ℕ) → Keeper → Type 0
 HearsAt Kept old piece list new = Keeps old piece list new

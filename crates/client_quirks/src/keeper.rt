@@ -118,6 +118,7 @@ impl Keeper {
         ensures pieces { result.pieces ≡ [] }
         ensures came { IsSide [] result.came }
         ensures sent { IsSide [] result.sent }
+        ensures ended { result.has_ended ≡ false }
     {
         Keeper {
             alloc,
@@ -144,6 +145,7 @@ impl Keeper {
         ensures stage { self.new.stage ≡ self.old.stage }
         ensures came { self.new.came ≡ self.old.came }
         ensures sent { self.new.sent ≡ self.old.sent }
+        ensures ended { self.new.has_ended ≡ self.old.has_ended }
     {
         let bytes = piece.as_slice();
         let (head, tail) = bytes.split_at(front.min(bytes.len()));
@@ -237,6 +239,8 @@ impl Keeper {
         ensures ended { self.new.has_ended
             ≡ (is_kept (closing self.old.stage) || self.old.has_ended) }
         ensures pieces { self.new.pieces ≡ self.old.pieces }
+        ensures came { self.new.came ≡ self.old.came }
+        ensures sent { self.new.sent ≡ self.old.sent }
     {
         self.stage = self.stage.closing();
         let is_kept = self.stage.is_kept();
@@ -274,6 +278,8 @@ impl Keeper {
         ensures none { self.new.pieces ≡ [] }
         ensures over { self.new.has_ended ≡ false }
         ensures stage { self.new.stage ≡ self.old.stage }
+        ensures came { self.new.came ≡ self.old.came }
+        ensures sent { self.new.sent ≡ self.old.sent }
     {
         let has_ended = self.has_ended;
         self.has_ended = false;
