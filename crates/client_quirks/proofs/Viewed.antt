@@ -12,9 +12,11 @@ use Rattle.ice_framing.specs.declared.cutting.WholeFrame.{WholeFrame}
 use Rattle.xsmp_messages.specs.Views.{WalksOf}
 use Rattle.frame_speech.specs.Settings.{set_in, may_turn, values_left, ShownBy}
 use Rattle.frame_speech.specs.Speech.{reading_of}
-use Rattle.frame_speech.proofs.Walked.{turns_by_walk}
+use Rattle.frame_speech.specs.Passing.{may_say}
+use Rattle.frame_speech.proofs.Walked.{turns_by_walk, says_not, nothing_read}
 use Rattle.client_quirks.specs.Heeding.{is_meant_anew, may_mean}
 use Rattle.client_quirks.specs.Meanings.{is_command, is_line, is_shorter, is_amended}
+use Rattle.frame_speech.specs.declared.reading.Reading.{Reading}
 use Rattle.frame_speech.specs.declared.speech.Speech.{Speech}
 use Rattle.frame_speech.specs.declared.values.ValueWalk.{ValueWalk}
 
@@ -39,6 +41,11 @@ means_by_walk s f walk walks =
     anew : (o : Option (List Property)) → WalksOf f.endian o (Some walk) → is_meant_anew o ≡ list_any is_amended (walk_left walk)
     anew (Some properties) is = ap (list_any is_amended) (sym is.1)
     anew None is = absurd is
+
+pub means_nothing : (s : Speech) (f : WholeFrame) → may_say s f ≡ false → may_mean s f ≡ false
+means_nothing s f is =
+    ap (λ (b : Bool). b || is_meant_anew (set_in (reading_of s f))) (says_not s f is)
+    ∙ ap (λ (r : Reading). is_meant_anew (set_in r)) (nothing_read s f is)
 
 or_false : (b : Bool) → (b || false) ≡ b
 or_false true = refl

@@ -53,6 +53,9 @@ fn may_mean(speech: Speech, endian: Endian, frame: &[u8]) -> bool
     requires { 8 ≤ length frame.now }
     ensures { result ≡ may_mean speech (record { endian = endian; bytes = frame.now }) }
 {
+    if !speech.heeds(endian, frame) {
+        return false;
+    }
     match speech.settings(endian, frame) {
         Some(walk) => sets_amended(walk),
         None => speech.may_turn(endian, frame),
