@@ -12,9 +12,9 @@ use Rattle.ice_framing.proofs.Streams.{frames_of-nil, standing_of-nil, standing_
 use Rattle.client_quirks.proofs.Joining.{concat-push}
 use Rattle.client_quirks.proofs.Grown.{Grown, grown, speech_grown, stays_lost, lost_unchanged, Owes, owes_released, owes_more, owes_unchanged, owes_changed}
 use Rattle.frame_speech.specs.Speech.{speech_behind}
-use Rattle.frame_speech.specs.Passing.{Passes, SaysNothing}
-use Rattle.frame_speech.proofs.Passed.{passed_speech}
-use Rattle.client_quirks.proofs.Unheeded.{passed_changed}
+use Rattle.frame_speech.specs.Passing.{Passes}
+use Rattle.client_quirks.proofs.Unheeded.{passed_changed, passed_speech}
+use Rattle.client_quirks.specs.Heeding.{MeansNothing}
 use Rattle.client_quirks.specs.Speech.{handed_on, are_changed}
 use Rattle.client_quirks.specs.Amending.{FollowsBy, IsOpen, HasEnded, left_open, is_within, Rewrites, Leaves}
 use Rattle.frame_speech.specs.declared.speech.Speech.{Speech}
@@ -113,7 +113,7 @@ passed came handed held piece speech follows = passed_by came handed held piece 
 
 -- ---- a piece that is passed over
 
-pub let_by : (came handed held : List (List ℕ)) (piece : List ℕ) (speech : Speech) (cutter : Standing) → FollowsBy came handed held speech (Some cutter) → Passes (SaysNothing speech) cutter piece → FollowsBy (came ++ piece ∷ []) (handed ++ piece ∷ []) held speech (Some cutter)
+pub let_by : (came handed held : List (List ℕ)) (piece : List ℕ) (speech : Speech) (cutter : Standing) → FollowsBy came handed held speech (Some cutter) → Passes (MeansNothing speech) cutter piece → FollowsBy (came ++ piece ∷ []) (handed ++ piece ∷ []) held speech (Some cutter)
 let_by came handed held piece speech cutter follows passes =
     let at = (cut (fed cutter piece)).standing in
     let frames = (cut (fed cutter piece)).frames in

@@ -5,4 +5,5 @@ pub mod Joining
 pub mod Marking
 pub mod Unheard
 pub mod Unheeded
+pub mod Viewed
 pub mod Walking

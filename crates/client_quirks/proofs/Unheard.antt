@@ -21,6 +21,7 @@ listens k piece nothing free =
       speech = speech;
       came = λ stream side. side_grown stream piece k.came k.came nothing.cuts (speech ∙ heard_speech (mark_of k.came k.stage) (frames_in k piece)) side;
       sent = refl;
+      ended = refl;
       passes = subst (λ (b : Bool). Passes b k piece (piece ∷ []) k) (sym (ap (λ (m : Mark). is_kept m.stage) nothing.behind_is ∙ free)) (refl, refl);
     }
 
@@ -30,7 +31,7 @@ hears_at k piece t is free at nothing = subst (λ (u : Stage). HearsAt u k piece
 
 pub hears_released : (k : Keeper) (piece : List ℕ) → k.stage ≡ Released → Hears k piece (piece ∷ []) k
 hears_released k piece is =
-    let hands : HearsAt Released k piece (piece ∷ []) k = record { stage = is; all = refl; pieces = refl } in
+    let hands : HearsAt Released k piece (piece ∷ []) k = record { stage = is; all = refl; pieces = refl; stays = record { came = refl; sent = refl; ended = refl } } in
     subst (λ (u : Stage). HearsAt u k piece (piece ∷ []) k) (sym is) hands
 
 pub told_by_is : (k : Keeper) (bytes : List ℕ) → GoesBy (AsksNothing k.sent.speech k.stage) k.sent.cutter bytes → told_by k bytes ≡ mark_of k.sent k.stage

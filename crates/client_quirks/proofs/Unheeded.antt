@@ -5,22 +5,50 @@ use Rattle.std.specs.List.{AllByRecursion}
 use Rattle.std.proofs.lemmas.Bool.{false≢true}
 use Rattle.ice_framing.specs.Frames.{Standing}
 use Rattle.ice_framing.specs.declared.cutting.WholeFrame.{WholeFrame}
-use Rattle.frame_speech.specs.Speech.{reading, after, says}
+use Rattle.frame_speech.specs.Settings.{set_in, may_turn}
+use Rattle.frame_speech.specs.Speech.{is_whole, reading, reading_of, after, says, speech_behind}
 use Rattle.frame_speech.specs.Passing.{IsPassed, Passes, SaysNothing, may_say}
 use Rattle.frame_speech.proofs.Passed.{passed_reading}
+use Rattle.frame_speech.proofs.Walked.{turns_not, whole_reading}
 use Rattle.client_quirks.specs.Speech.{is_changed, are_changed}
 use Rattle.client_quirks.specs.Sides.{GoesBy}
 use Rattle.client_quirks.specs.Leaving.{Mark, mark, heard, told, answered_by, closing, is_last, asked_by, over, mark_heard, mark_told, heard_behind, told_behind}
-use Rattle.client_quirks.specs.Heeding.{AnswersNothing, AsksNothing, is_answer, is_logout, is_turn}
+use Rattle.client_quirks.specs.Heeding.{is_meant_anew, MeansNothing, AnswersNothing, AsksNothing, is_answer, is_logout, is_turn}
 use Rattle.client_quirks.proofs.Grown.{neither}
 use Rattle.frame_speech.specs.declared.speech.Speech.{Speech}
 use Rattle.frame_speech.specs.declared.reading.Reading.{Reading}
+use Rattle.frame_speech.specs.declared.reading.Reading.TheVariants.{Nothing, Greets, Opens, Sets, Unread}
 use Rattle.client_quirks.specs.declared.stage.Stage.{Stage}
 use Rattle.client_quirks.specs.declared.stage.Stage.TheVariants.{Free, Asked, Answered, Kept, Released}
 
-pub passed_changed : (s : Speech) (fs : List WholeFrame) → AllByRecursion (IsPassed (SaysNothing s)) fs → are_changed s fs ≡ false
+-- where no rule applies to what is set, it isn't changed
+unchanged : (f : WholeFrame) (r : Reading) → is_meant_anew (set_in r) ≡ false → is_changed f r ≡ false
+unchanged f (Sets properties) is = rw is refl
+unchanged f Nothing is = refl
+unchanged f Greets is = refl
+unchanged f (Opens opcode) is = refl
+unchanged f Unread is = refl
+
+turn_stays : (s : Speech) (f : WholeFrame) → is_whole f ≡ true → may_turn s f ≡ false → after s (reading s f) ≡ s
+turn_stays s f whole turns = ap (after s) (whole_reading s f whole) ∙ turns_not s f turns
+
+meant_speech : (s : Speech) (f : WholeFrame) → IsPassed (MeansNothing s) f → after s (reading s f) ≡ s
+meant_speech s f passed = turn_stays s f passed.0 (neither (may_turn s f) (is_meant_anew (set_in (reading_of s f))) passed.1).0
+
+meant_unchanged : (s : Speech) (f : WholeFrame) → IsPassed (MeansNothing s) f → is_changed f (reading s f) ≡ false
+meant_unchanged s f passed =
+    ap (is_changed f) (whole_reading s f passed.0)
+    ∙ unchanged f (reading_of s f) (neither (may_turn s f) (is_meant_anew (set_in (reading_of s f))) passed.1).1
+
+pub passed_changed : (s : Speech) (fs : List WholeFrame) → AllByRecursion (IsPassed (MeansNothing s)) fs → are_changed s fs ≡ false
 passed_changed s [] all = refl
-passed_changed s (f ∷ fs) all = ap (λ (r : Reading). is_changed f r || are_changed (after s r) fs) (passed_reading s f all.0) ∙ passed_changed s fs all.1
+passed_changed s (f ∷ fs) all =
+    ap (λ (b : Bool). b || are_changed (after s (reading s f)) fs) (meant_unchanged s f all.0)
+    ∙ ap (λ (t : Speech). are_changed t fs) (meant_speech s f all.0) ∙ passed_changed s fs all.1
+
+pub passed_speech : (s : Speech) (fs : List WholeFrame) → AllByRecursion (IsPassed (MeansNothing s)) fs → speech_behind s fs ≡ s
+passed_speech s [] all = refl
+passed_speech s (f ∷ fs) all = ap (λ (t : Speech). speech_behind t fs) (meant_speech s f all.0) ∙ passed_speech s fs all.1
 
 -- ---- one party's stream
 
@@ -51,19 +79,19 @@ unanswered : (a b : Bool) (x y t : Stage) → (a || b) ≡ false → (if a then 
 unanswered a b x y t none = let both = neither a b none in rw (both.0, both.1) refl
 
 heard_same : (s : Speech) (t : Stage) (f : WholeFrame) → IsPassed (AnswersNothing s t) f → mark_heard (mark s t) f ≡ mark s t
-heard_same s Free f passed = same_mark s (after s (reading s f)) Free (heard s Free f) (speech_stays s f passed) (free_unanswered (says s 8 f.bytes) (says s 11 f.bytes))
+heard_same s Free f passed = same_mark s (after s (reading s f)) Free (heard s Free f) (turn_stays s f passed.0 passed.1) (free_unanswered (says s 8 f.bytes) (says s 11 f.bytes))
 heard_same s Asked f passed =
-    let both = neither (may_say s f) (is_answer s f.bytes) passed.1 in
-    same_mark s (after s (reading s f)) Asked (heard s Asked f) (speech_stays s f (passed.0, both.0)) (unanswered (says s 8 f.bytes) (says s 11 f.bytes) (answered_by f Asked) (closing Asked) Asked both.1)
+    let both = neither (may_turn s f) (is_answer s f.bytes) passed.1 in
+    same_mark s (after s (reading s f)) Asked (heard s Asked f) (turn_stays s f passed.0 both.0) (unanswered (says s 8 f.bytes) (says s 11 f.bytes) (answered_by f Asked) (closing Asked) Asked both.1)
 heard_same s Answered f passed =
-    let both = neither (may_say s f) (is_answer s f.bytes) passed.1 in
-    same_mark s (after s (reading s f)) Answered (heard s Answered f) (speech_stays s f (passed.0, both.0)) (unanswered (says s 8 f.bytes) (says s 11 f.bytes) (answered_by f Answered) (closing Answered) Answered both.1)
+    let both = neither (may_turn s f) (is_answer s f.bytes) passed.1 in
+    same_mark s (after s (reading s f)) Answered (heard s Answered f) (turn_stays s f passed.0 both.0) (unanswered (says s 8 f.bytes) (says s 11 f.bytes) (answered_by f Answered) (closing Answered) Answered both.1)
 heard_same s Kept f passed =
-    let both = neither (may_say s f) (is_answer s f.bytes) passed.1 in
-    same_mark s (after s (reading s f)) Kept (heard s Kept f) (speech_stays s f (passed.0, both.0)) (unanswered (says s 8 f.bytes) (says s 11 f.bytes) (answered_by f Kept) (closing Kept) Kept both.1)
+    let both = neither (may_turn s f) (is_answer s f.bytes) passed.1 in
+    same_mark s (after s (reading s f)) Kept (heard s Kept f) (turn_stays s f passed.0 both.0) (unanswered (says s 8 f.bytes) (says s 11 f.bytes) (answered_by f Kept) (closing Kept) Kept both.1)
 heard_same s Released f passed =
-    let both = neither (may_say s f) (is_answer s f.bytes) passed.1 in
-    same_mark s (after s (reading s f)) Released (heard s Released f) (speech_stays s f (passed.0, both.0)) (unanswered (says s 8 f.bytes) (says s 11 f.bytes) (answered_by f Released) (closing Released) Released both.1)
+    let both = neither (may_turn s f) (is_answer s f.bytes) passed.1 in
+    same_mark s (after s (reading s f)) Released (heard s Released f) (turn_stays s f passed.0 both.0) (unanswered (says s 8 f.bytes) (says s 11 f.bytes) (answered_by f Released) (closing Released) Released both.1)
 
 pub heard_nothing : (s : Speech) (t : Stage) (fs : List WholeFrame) → AllByRecursion (IsPassed (AnswersNothing s t)) fs → heard_behind (mark s t) fs ≡ mark s t
 heard_nothing s t [] all = refl

@@ -1,5 +1,5 @@
 -- Clients that leave too early: what the frames of both parties say of a logout, and which ends are held back.
-use Rattle.std.specs.Prelude.{◌≡◌, ℕ, ◌+◌, ◌-◌, ◌==◌, ◌||◌, Bool, true, false, if◌then◌else◌, List, [], ◌∷◌, ◌++◌, length, take, drop, flat_map, slice_index}
+use Rattle.std.specs.Prelude.{◌≡◌, ℕ, ◌+◌, ◌-◌, ◌==◌, ◌||◌, nat_le, Bool, true, false, if◌then◌else◌, List, [], ◌∷◌, ◌++◌, length, take, drop, flat_map, slice_index}
 use Rattle.std.specs.List.{concat}
 use Rattle.ice_framing.specs.declared.cutting.WholeFrame.{WholeFrame}
 use Rattle.client_quirks.specs.Sides.{new_frames, held_of, Follows}
@@ -121,22 +121,46 @@ pub record Listens (old : Keeper) (piece : List ℕ) (list : List (List ℕ)) (n
   pub speech : new.came.speech ≡ (behind old piece).speech
   pub came : Follows old.came piece new.came
   pub sent : new.sent ≡ old.sent
+  pub ended : new.has_ended ≡ old.has_ended
   pub passes : Passes (is_kept (behind old piece).stage) old piece list new
+
+-- Both streams are understood as before, and the end is held back where it was.
+pub record StaysAside (old new : Keeper) : Type 0 where
+  pub came : new.came ≡ old.came
+  pub sent : new.sent ≡ old.sent
+  pub ended : new.has_ended ≡ old.has_ended
 
 -- all that comes is held back
 pub record HoldsBack (old : Keeper) (piece : List ℕ) (list : List (List ℕ)) (new : Keeper) : Type 0 where
   pub stage : new.stage ≡ Kept
   pub none : list ≡ []
   pub pieces : new.pieces ≡ old.pieces ++ piece ∷ []
+  pub stays : StaysAside old new
+
+-- all that was held back is handed on, and all that comes
+pub record GivesUp (old : Keeper) (piece : List ℕ) (list : List (List ℕ)) (new : Keeper) : Type 0 where
+  pub stage : new.stage ≡ Released
+  pub all : list ≡ old.pieces ++ piece ∷ []
+  pub none : new.pieces ≡ []
+  pub stays : StaysAside old new
+
+-- 16 pieces are held back at most. A client that sends more counts as one that left as it closed.
+abbrev pub KeepsBy : Bool → Keeper → List ℕ → List (List ℕ) → Keeper → Type 0
+KeepsBy true old piece list new = GivesUp old piece list new
+KeepsBy false old piece list new = HoldsBack old piece list new
+
+abbrev pub Keeps : Keeper → List ℕ → List (List ℕ) → Keeper → Type 0
+Keeps old piece list new = KeepsBy (nat_le 16 (length old.pieces)) old piece list new
 
 -- all that comes is handed on
 pub record HandsOn (old : Keeper) (piece : List ℕ) (list : List (List ℕ)) (new : Keeper) : Type 0 where
   pub stage : new.stage ≡ Released
   pub all : list ≡ piece ∷ []
   pub pieces : new.pieces ≡ old.pieces
+  pub stays : StaysAside old new
 
 abbrev pub HearsAt : Stage → Keeper → List ℕ → List (List ℕ) → Keeper → Type 0
-HearsAt Kept old piece list new = HoldsBack old piece list new
+HearsAt Kept old piece list new = Keeps old piece list new
 HearsAt Released old piece list new = HandsOn old piece list new
 HearsAt Free old piece list new = Listens old piece list new
 HearsAt Asked old piece list new = Listens old piece list new

@@ -1,6 +1,7 @@
 ghost use Rattle.std.specs.Prelude.{◌≡◌, ◌≤◌, ◌++◌, ◌∷◌, [], length, take, drop, IfOk, OnOk, IsTrue};
 ghost use Rattle.client_quirks.specs.Amending.{Follows, Takes, Ends, RewritesFrames, left_open, is_within, between, held_within};
 
+use crate::heeding::Meant;
 use crate::pieces::{PieceList, StreamPiece, add_bytes, alone, joined};
 use crate::speech::{add_frames, bytes_of};
 use frame_speech::{Cutting, FrameCutter, Speech};
@@ -144,12 +145,15 @@ impl Amender {
     }
 
     /// Whether the next piece of the stream is handed on as it came, and nothing else changes, so that
-    /// it needn't be taken. This looks at no more than the headers of its frames.
+    /// it needn't be taken. This takes no memory.
     pub fn lets_pass(&self, piece: &[u8]) -> bool
         ensures { IsTrue result → Takes self.now piece.now (piece.now ∷ []) self.now }
     {
+        let meant = Meant {
+            speech: self.speech,
+        };
         match &self.cutter {
-            Some(cutter) => cutter.passes(&self.speech, piece),
+            Some(cutter) => cutter.passes(&meant, piece),
             None => true,
         }
     }

@@ -1,9 +1,9 @@
 ghost use Rattle.std.specs.Prelude.{◌≡◌, ◌++◌, ◌∷◌, ◌≤◌, [], take, drop, length, true, false, not, ◌||◌, IfOk, OnOk, IsTrue};
 ghost use Rattle.std.specs.List.{concat};
 ghost use Rattle.client_quirks.specs.Sides.{IsSide, Follows};
-ghost use Rattle.client_quirks.specs.Leaving.{mark, told_behind, told_by, heard_behind, front_count, is_kept, closing, Hears, Listens};
+ghost use Rattle.client_quirks.specs.Leaving.{mark, told_behind, told_by, heard_behind, front_count, is_kept, closing, Hears, Listens, Keeps, GivesUp};
 ghost use Rattle.client_quirks.specs.Heeding.{HasNothing};
-ghost use Rattle.client_quirks.specs.declared.stage.Stage.TheVariants.{Free};
+ghost use Rattle.client_quirks.specs.declared.stage.Stage.TheVariants.{Free, Kept};
 
 use crate::heeding::{Heard, Told};
 use crate::pieces::{PieceList, StreamPiece, add_bytes, alone};
@@ -15,6 +15,9 @@ use ice_framing::WholeFrame;
 use sm_world::NoMemory;
 use std::alloc::Global;
 use std::mem;
+
+/// How many pieces of a client's stream are held back at most.
+const KEPT_LIMIT: usize = 16;
 
 /// Holds back the end of a client that has answered a logout and leaves before it is told to die.
 #[derive(Debug, Drop)]
@@ -115,6 +118,7 @@ impl Keeper {
         ensures pieces { result.pieces ≡ [] }
         ensures came { IsSide [] result.came }
         ensures sent { IsSide [] result.sent }
+        ensures ended { result.has_ended ≡ false }
     {
         Keeper {
             alloc,
@@ -141,6 +145,7 @@ impl Keeper {
         ensures stage { self.new.stage ≡ self.old.stage }
         ensures came { self.new.came ≡ self.old.came }
         ensures sent { self.new.sent ≡ self.old.sent }
+        ensures ended { self.new.has_ended ≡ self.old.has_ended }
     {
         let bytes = piece.as_slice();
         let (head, tail) = bytes.split_at(front.min(bytes.len()));
@@ -179,7 +184,7 @@ impl Keeper {
     }
 
     /// Whether a piece of the client's stream is handed on as it came, and nothing else changes, so
-    /// that it needn't be heard. This looks at no more than the headers of its frames.
+    /// that it needn't be heard. This takes no memory.
     pub fn lets_pass(&self, piece: &[u8]) -> bool
         ensures { IsTrue result → Hears self.now piece.now (piece.now ∷ []) self.now }
     {
@@ -192,15 +197,34 @@ impl Keeper {
         }
     }
 
+    /// Gives all that is held back and one piece more, and holds back nothing any more.
+    fn give_up(&mut self, piece: StreamPiece) -> Result<PieceList, NoMemory>
+        ensures { IfOk result (λ list. GivesUp self.old piece list self.new) }
+    {
+        self.stage = Stage::Released;
+        let mut list = mem::replace(&mut self.pieces, PieceList::new(self.alloc));
+        list.push(piece)?;
+        Ok(list)
+    }
+
+    /// Holds a piece back, unless there are too many.
+    fn keep(&mut self, piece: StreamPiece) -> Result<PieceList, NoMemory>
+        requires { self.old.stage ≡ Kept }
+        ensures { IfOk result (λ list. Keeps self.old piece list self.new) }
+    {
+        if self.pieces.as_slice().len() >= KEPT_LIMIT {
+            return self.give_up(piece);
+        }
+        self.pieces.push(piece)?;
+        Ok(PieceList::new(self.alloc))
+    }
+
     /// Hears a piece of the client's stream, and gives the pieces that are handed on.
     pub fn hear(&mut self, piece: StreamPiece) -> Result<PieceList, NoMemory>
         ensures { IfOk result (λ list. Hears self.old piece list self.new) }
     {
         match self.stage {
-            Stage::Kept => {
-                self.pieces.push(piece)?;
-                Ok(PieceList::new(self.alloc))
-            }
+            Stage::Kept => self.keep(piece),
             Stage::Released => alone(self.alloc, piece),
             Stage::Free => self.listen(piece),
             Stage::Asked => self.listen(piece),
@@ -215,6 +239,8 @@ impl Keeper {
         ensures ended { self.new.has_ended
             ≡ (is_kept (closing self.old.stage) || self.old.has_ended) }
         ensures pieces { self.new.pieces ≡ self.old.pieces }
+        ensures came { self.new.came ≡ self.old.came }
+        ensures sent { self.new.sent ≡ self.old.sent }
     {
         self.stage = self.stage.closing();
         let is_kept = self.stage.is_kept();
@@ -252,6 +278,8 @@ impl Keeper {
         ensures none { self.new.pieces ≡ [] }
         ensures over { self.new.has_ended ≡ false }
         ensures stage { self.new.stage ≡ self.old.stage }
+        ensures came { self.new.came ≡ self.old.came }
+        ensures sent { self.new.sent ≡ self.old.sent }
     {
         let has_ended = self.has_ended;
         self.has_ended = false;

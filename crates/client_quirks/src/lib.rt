@@ -10,6 +10,7 @@ mod pieces;
 mod side;
 mod speech;
 mod stage;
+mod views;
 
 pub use amender::Amender;
 pub use keeper::{Keeper, KeptEnd};

@@ -7,7 +7,7 @@ use sm_world::{Duplicate, NoMemory, Octets};
 use std::alloc::Global;
 
 /// Whether a property of this name is a command that the session manager runs (XSMP, chapter 11).
-fn is_command(name: &[u8]) -> bool
+pub fn is_command(name: &[u8]) -> bool
     ensures { result ≡ is_command name.now }
 {
     name == b"RestartCommand".as_slice()
@@ -89,7 +89,7 @@ fn is_line(property: &Property) -> bool
         && property.values.as_slice().len() == 1
 }
 
-fn is_shorter(name: &[u8], value: &[u8]) -> bool
+pub fn is_shorter(name: &[u8], value: &[u8]) -> bool
     ensures { result ≡ is_shorter name.now value.now }
 {
     meant(name, value).len() != value.len()

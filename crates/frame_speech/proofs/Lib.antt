@@ -2,3 +2,4 @@ pub mod Counted
 pub mod Passed
 pub mod Speeches
 pub mod Streams
+pub mod Walked

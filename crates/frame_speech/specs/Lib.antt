@@ -1,3 +1,4 @@
 pub mod Passing
+pub mod Settings
 pub mod Speech
 pub mod Streams

@@ -6,11 +6,14 @@
 mod cutter;
 mod passing;
 mod reading;
+mod settings;
 mod speech;
 mod stream;
+mod values;
 
 pub use cutter::{Cutting, FrameCutter};
 pub use passing::Heeds;
 pub use reading::{Reading, byte_at, is_message, is_whole};
 pub use speech::Speech;
 pub use stream::CutStream;
+pub use values::ValueWalk;

@@ -1,6 +1,7 @@
 ghost use Rattle.std.specs.Prelude.{◌≡◌, ◌≤◌, false, [], length, IfSome, IsTrue};
 ghost use Rattle.ice_framing.specs.declared.cutting.WholeFrame.{WholeFrame};
-ghost use Rattle.frame_speech.specs.Passing.{from, IsFront, Passes, SaysNothing};
+ghost use Rattle.ice_values.specs.declared.numbers.Endian.{Endian as AnyEndian};
+ghost use Rattle.frame_speech.specs.Passing.{from, IsFront, Passes, SaysNothing, may_say};
 
 use crate::Speech;
 use crate::reading::byte_at;
@@ -17,17 +18,24 @@ pub trait Heeds {
         ensures { result ≡ false → ignores self.now (record { endian = endian; bytes = frame.now }) };
 }
 
+/// Whether a frame may say something of its sender.
+pub fn may_say(speech: Speech, frame: &[u8]) -> bool
+    ensures { (e : AnyEndian) → result ≡ may_say speech (record { endian = e; bytes = frame.now }) }
+{
+    match speech {
+        Speech::Silent => true,
+        Speech::Greeted => true,
+        Speech::Speaks(opcode) => byte_at(frame, 0) == opcode && byte_at(frame, 1) == 12,
+        Speech::Lost => false,
+    }
+}
+
 /// What may say something of its sender.
 impl Heeds for Speech {
     ghost ignores = { λ speech frame. SaysNothing speech frame };
 
     fn heeds(&self, _endian: Endian, frame: &[u8]) -> bool {
-        match self {
-            Speech::Silent => true,
-            Speech::Greeted => true,
-            Speech::Speaks(opcode) => byte_at(frame, 0) == *opcode && byte_at(frame, 1) == 12,
-            Speech::Lost => false,
-        }
+        may_say(*self, frame)
     }
 }
 

@@ -1,22 +1,36 @@
 -- What is known as messages are noted one after another.
-use Rattle.std.proofs.Common.{◌≡◌, ℕ, ◌+◌, ◌<◌, ◌≤◌, List, [], ◌∷◌, ◌++◌, length, take, drop, get_or, map, Option, Some, None, refl, sym, ap, ◌∙◌, append_assoc, append-nil}
-use Rattle.std.specs.Prelude.{unwrap_or, option_map, option_to_list}
+use Rattle.std.proofs.Common.{◌≡◌, ℕ, ◌+◌, ◌<◌, ◌≤◌, Bool, true, false, List, [], ◌∷◌, ◌++◌, length, take, drop, get_or, map, Option, Some, None, Result, Ok, Err, refl, sym, ap, ◌∙◌, arith, append_assoc, append-nil}
+use Rattle.std.specs.Prelude.{◌==◌, ◌&&◌, slice_index, IfOk, unwrap_or, option_map, option_to_list}
 use Rattle.std.specs.List.{AllByRecursion}
 use Rattle.std.specs.Option.{option_or, option_flatten}
 use Rattle.std.proofs.lemmas.Bool.{false≢true}
+use Rattle.std.proofs.lemmas.Bool.Decides.{nat_tests}
 use Rattle.std.proofs.lemmas.List.{at_drop_all, take_more}
+use Rattle.ice_values.specs.Frames.{◌>>=◌, body_at}
+use Rattle.ice_values.specs.Properties.{property_list_at}
+use Rattle.ice_values.specs.Walks.{Views, walk_left}
+use Rattle.ice_values.specs.declared.numbers.Endian.{Endian}
 use Rattle.ice_values.specs.declared.property.Property.{Property}
+use Rattle.ice_values.specs.declared.refusals.DecodeRefusal.{DecodeRefusal}
+use Rattle.ice_values.specs.declared.view.PropertyView.{PropertyView}
+use Rattle.ice_values.specs.declared.walk.PropertyWalk.{PropertyWalk}
+use Rattle.ice_values.proofs.OptionLaws.{none_not_some}
 use Rattle.ice_framing.specs.declared.cutting.WholeFrame.{WholeFrame}
+use Rattle.xsmp_messages.specs.Reading.{decode_at, valued_at}
+use Rattle.xsmp_messages.specs.Views.{WalksOf}
 use Rattle.xsmp_messages.specs.declared.message.XsmpMessage.{XsmpMessage}
+use Rattle.xsmp_messages.specs.declared.message.XsmpMessage.TheVariants.{SetProperties}
 use Rattle.frame_speech.proofs.Speeches.{on}
-use Rattle.frame_speech.specs.Speech.{reading, after, speech_behind}
+use Rattle.frame_speech.proofs.Walked.{sets, set_says, whole_reading}
+use Rattle.frame_speech.specs.Settings.{set_in}
+use Rattle.frame_speech.specs.Speech.{is_whole, reading, reading_of, says, after, speech_behind}
 use Rattle.frame_speech.specs.Passing.{IsPassed}
 use Rattle.frame_speech.specs.declared.speech.Speech.{Speech}
 use Rattle.frame_speech.specs.declared.speech.Speech.TheVariants.{Silent, Greeted, Speaks, Lost}
 use Rattle.frame_speech.specs.declared.reading.Reading.{Reading}
-use Rattle.frame_speech.specs.declared.reading.Reading.TheVariants.{Nothing}
+use Rattle.frame_speech.specs.declared.reading.Reading.TheVariants.{Nothing, Sets, Unread}
 use Rattle.session_watch.specs.Story.{Said, say, IsNoMessage, spoken, messages_in}
-use Rattle.session_watch.specs.Knowing.{latest, set_by, program_by, id_by, asked_by, answered_by, logout_by, work_by, known_by, noted, noted_all}
+use Rattle.session_watch.specs.Knowing.{latest, is_program, name_in, set_by, program_by, id_by, asked_by, answered_by, logout_by, work_by, known_by, noted, noted_all}
 use Rattle.session_watch.specs.declared.known.Known.{Known}
 use Rattle.session_watch.specs.declared.party.Party.{Party}
 
@@ -53,6 +67,67 @@ set_more properties i p program before next was there is goes =
     ∙ sym (or_then (set_by p) (latest set_by (take i properties)) before)
     ∙ ap (λ (o : Option (Option (List ℕ))). unwrap_or o before) (sym (latest-push set_by (take i properties) p))
     ∙ ap (λ (ps : List Property). unwrap_or (latest set_by ps) before) (ap (λ (q : Property). take i properties ++ q ∷ []) is ∙ sym (take_more properties i p there))
+
+-- the program behind one property more of a walk
+pub walked_more : (p : Property) (rest left : List Property) (program next all : Option (List ℕ)) → left ≡ p ∷ rest → unwrap_or (latest set_by left) program ≡ all → next ≡ unwrap_or (set_by p) program → unwrap_or (latest set_by rest) next ≡ all
+walked_more p rest left program next all is was goes =
+    ap (unwrap_or (latest set_by rest)) goes ∙ sym (or_then (latest set_by rest) (set_by p) program)
+    ∙ ap (λ (ps : List Property). unwrap_or (latest set_by ps) program) (sym is) ∙ was
+
+pub walked_over : (left : List Property) (program all : Option (List ℕ)) → left ≡ [] → unwrap_or (latest set_by left) program ≡ all → program ≡ all
+walked_over left program all is was = sym (ap (λ (ps : List Property). unwrap_or (latest set_by ps) program) is) ∙ was
+
+-- what a property sets that a view shows
+pub program_shown : (e : Endian) (view : PropertyView) (p : Property) (name before : Option (List ℕ)) → Views e view p → is_program view.name.now ≡ true → name ≡ name_in p.values → name ≡ unwrap_or (set_by p) before
+program_shown e view p name before views yes_ is = let here : is_program p.name ≡ true = ap is_program (sym views.name) ∙ yes_ in rw here is
+
+pub no_program_shown : (e : Endian) (view : PropertyView) (p : Property) (before : Option (List ℕ)) → Views e view p → is_program view.name.now ≡ false → before ≡ unwrap_or (set_by p) before
+no_program_shown e view p before views no_ = let here : is_program p.name ≡ false = ap is_program (sym views.name) ∙ no_ in rw here refl
+
+pub if_ok : {T E : Type 0} (r : Result T E) (P Q : T → Type 0) → ((x : T) → P x → Q x) → IfOk r P → IfOk r Q
+if_ok (Ok x) P Q f p = f x p
+if_ok (Err e) P Q f p = p
+
+-- ---- a frame that sets properties
+
+set_row : (e : Endian) (bytes : List ℕ) → slice_index bytes 1 ≡ 12 → decode_at e bytes ≡ (body_at (property_list_at e) bytes >>= λ x. Ok (SetProperties x))
+unfolding decode_at valued_at
+set_row e bytes at = rw at refl
+
+both_true : (a b : Bool) → (a && b) ≡ true → (a ≡ true) × (b ≡ true)
+both_true true b is = (refl, is)
+both_true false b is = absurd (false≢true is)
+
+is_twelve : (n : ℕ) → (n == 12) ≡ true → n ≡ 12
+is_twelve n is = grind (arith, nat_tests)
+
+spoken_by : (s : Speech) (f : WholeFrame) (l : List Property) → is_whole f ≡ true → says s 12 f.bytes ≡ true → body_at (property_list_at f.endian) f.bytes ≡ Ok l → spoken s f ≡ Some (SetProperties l)
+spoken_by Silent f l whole said_ body = absurd (false≢true said_)
+spoken_by Greeted f l whole said_ body = absurd (false≢true said_)
+spoken_by (Speaks opcode) f l whole said_ body =
+    let both = both_true (slice_index f.bytes 0 == opcode) (slice_index f.bytes 1 == 12) said_ in
+    let read : decode_at f.endian f.bytes ≡ Ok (SetProperties l) = set_row f.endian f.bytes (is_twelve (slice_index f.bytes 1) both.1) ∙ ap (λ (r : Result (List Property) DecodeRefusal). r >>= λ x. Ok (SetProperties x)) body in
+    rw (whole, both.0, read) refl
+spoken_by Lost f l whole said_ body = absurd (false≢true said_)
+
+settings_by : (s : Speech) (f : WholeFrame) (l : List Property) (b : Bool) → is_whole f ≡ b → reading s f ≡ Sets l → spoken s f ≡ Some (SetProperties l)
+settings_by s f l true whole is =
+    let says_ = set_says s f l (sym (whole_reading s f whole) ∙ is) in
+    spoken_by s f l whole says_.0 says_.1
+settings_by s f l false whole is =
+    let unread : reading s f ≡ Unread = rw whole refl in
+    absurd (none_not_some l (sym (ap set_in unread) ∙ ap set_in is))
+
+pub settings_spoken : (s : Speech) (f : WholeFrame) (walk : PropertyWalk) → WalksOf f.endian (set_in (reading s f)) (Some walk) → (after s (reading s f) ≡ s) × (spoken s f ≡ Some (SetProperties (walk_left walk)))
+settings_spoken s f walk walks =
+    let is : reading s f ≡ Sets (walk_left walk) = sets f.endian (reading s f) walk walks in
+    (ap (after s) is, settings_by s f (walk_left walk) (is_whole f) refl is)
+
+pub settings_whole : (s : Speech) (f : WholeFrame) (result : Option PropertyWalk) → is_whole f ≡ true → WalksOf f.endian (set_in (reading_of s f)) result → WalksOf f.endian (set_in (reading s f)) result
+settings_whole s f result whole walks = rw whole walks
+
+pub no_settings : (s : Speech) (f : WholeFrame) → is_whole f ≡ false → WalksOf f.endian (set_in (reading s f)) None
+no_settings s f whole = rw whole tt
 
 -- ---- all that is known
 

@@ -1,13 +1,18 @@
 ghost use Rattle.std.specs.Prelude.{◌≡◌, [], take, true, false, None, IfOk, OnOk, option_copied, option_and_then, option_map, unwrap_or};
 ghost use Rattle.std.specs.List.{list_any};
 ghost use Rattle.std.specs.Option.{option_or};
+ghost use Rattle.ice_values.specs.Walks.{Views, walk_left};
+ghost use Rattle.ice_values.specs.declared.property.Property.{Property as AnyProperty};
+ghost use Rattle.xsmp_messages.specs.declared.message.XsmpMessage.TheVariants.{SetProperties};
+ghost use Rattle.frame_speech.specs.Settings.{values_left};
 ghost use Rattle.session_watch.specs.Knowing.{latest, name_in, is_program, set_by, program_in, id_in, asks as asked_in, answers as answered_in, told_in, work_in, worked_in, logout_in, known_by, noted};
 ghost use Rattle.session_watch.specs.declared.party.Party.TheVariants.{Client, Manager};
 
 use crate::asking::{Answered, Asked, answers, asks};
 use crate::party::Party;
 use crate::stage::{Stage, work, worked};
-use ice_values::{Array8, Property};
+use frame_speech::ValueWalk;
+use ice_values::{Array8, Endian, Property, PropertyView, PropertyWalk};
 use sm_world::{NoMemory, Octets};
 use std::alloc::Global;
 use xsmp_messages::XsmpMessage;
@@ -82,6 +87,50 @@ fn program_set(
     let mut program = before;
     for property in properties {
         program = program_with(alloc, property, program)?;
+    }
+    Ok(program)
+}
+
+/// The name of a program that these values are, where they lie.
+fn name_shown(alloc: Global, walk: ValueWalk<'_>) -> Result<Option<Octets>, NoMemory>
+    ensures { IfOk result (λ name. name ≡ name_in (values_left walk.entry)) }
+{
+    let mut left = walk;
+    match left.next() {
+        Some(value) => Ok(Some(shortened(alloc, value, PROGRAM_LIMIT)?)),
+        None => Ok(None),
+    }
+}
+
+/// The program behind a property that is set, where it lies.
+fn program_shown(
+    alloc: Global,
+    endian: Endian,
+    view: &PropertyView<'_>,
+    before: Option<Octets>,
+) -> Result<Option<Octets>, NoMemory>
+    ensures { IfOk result (λ program. (p : AnyProperty) → Views endian view.now p → program ≡ unwrap_or (set_by p) before) }
+{
+    if is_program(view.name) {
+        name_shown(alloc, ValueWalk::of(endian, view))
+    } else {
+        Ok(before)
+    }
+}
+
+/// The program behind properties that are set, where they lie.
+fn program_walked(
+    alloc: Global,
+    walk: PropertyWalk<'_>,
+    before: Option<Octets>,
+) -> Result<Option<Octets>, NoMemory>
+    ensures { IfOk result (λ program. program ≡ unwrap_or (latest set_by (walk_left walk.entry)) before) }
+{
+    let endian = walk.endian();
+    let mut program = before;
+    let mut left = walk;
+    while let Some(view) = left.next() {
+        program = program_shown(alloc, endian, &view, program)?;
     }
     Ok(program)
 }
@@ -211,6 +260,24 @@ impl Known {
         self.logout = asked.and_then(|asked| logout_in(asked)).or(self.logout);
         self.work = told(message).or(self.work);
         Ok(())
+    }
+
+    /// Notes that a party sets these properties, which are read where they lie.
+    pub fn note_set(
+        &mut self,
+        alloc: Global,
+        party: Party,
+        walk: PropertyWalk<'_>,
+    ) -> Result<(), NoMemory>
+        ensures { OnOk result (self.new ≡ noted party (SetProperties (walk_left walk.entry)) self.old) }
+    {
+        match party {
+            Party::Client => {
+                self.program = program_walked(alloc, walk, self.program.take())?;
+                Ok(())
+            }
+            Party::Manager => Ok(()),
+        }
     }
 
     /// Notes a message.

@@ -2,7 +2,9 @@ ghost use Rattle.std.specs.Prelude.{◌≡◌, IfOk, OnOk, option_to_list};
 ghost use Rattle.ice_values.specs.Frames.{IsFrame};
 ghost use Rattle.std.specs.Result.{result_ok};
 ghost use Rattle.xsmp_messages.specs.Reading.{decode_at};
-ghost use Rattle.frame_speech.specs.Speech.{speech_behind};
+ghost use Rattle.xsmp_messages.specs.Views.{WalksOf};
+ghost use Rattle.frame_speech.specs.Settings.{set_in};
+ghost use Rattle.frame_speech.specs.Speech.{reading as reading_by, after as after_reading, speech_behind};
 ghost use Rattle.session_watch.specs.Story.{IsNoMessage, spoken as spoken_by, messages_in};
 ghost use Rattle.session_watch.specs.Knowing.{noted_all};
 
@@ -10,7 +12,7 @@ use crate::known::Known;
 use crate::party::Party;
 use frame_speech::{Heeds, Speech, byte_at, is_whole};
 use ice_framing::WholeFrame;
-use ice_values::{DecodeRefusal, Endian};
+use ice_values::{DecodeRefusal, Endian, PropertyWalk};
 use sm_world::NoMemory;
 use std::alloc::Global;
 use xsmp_messages::{XsmpMessage, decode_xsmp};
@@ -70,8 +72,19 @@ fn spoken(
     }
 }
 
-/// Notes the message that a frame is.
-fn note_frame(
+/// A walk over the properties that a frame sets. None where it sets none or isn't understood.
+fn settings(speech: Speech, frame: &WholeFrame) -> Option<PropertyWalk<'_>>
+    ensures { WalksOf frame.now.endian (set_in (reading_by speech frame.now)) result }
+{
+    if is_whole(frame) {
+        speech.settings(frame.endian, frame.bytes.as_slice())
+    } else {
+        None
+    }
+}
+
+/// Notes the message that a frame is, which is read into memory.
+fn note_message(
     alloc: Global,
     party: Party,
     speech: Speech,
@@ -83,6 +96,30 @@ fn note_frame(
     match spoken(alloc, speech, frame)? {
         Some(message) => known.note(alloc, party, &message),
         None => Ok(()),
+    }
+}
+
+/// Notes the message that a frame is, and says how far its sender is understood behind it.
+fn note_frame(
+    alloc: Global,
+    party: Party,
+    speech: Speech,
+    frame: &WholeFrame,
+    known: &mut Known,
+) -> Result<Speech, NoMemory>
+    ensures speech { IfOk result (λ next. next ≡ after_reading speech (reading_by speech frame.now)) }
+    ensures known { OnOk result (known.new ≡ noted_all party (option_to_list (spoken_by speech frame.now)) known.old) }
+{
+    match settings(speech, frame) {
+        Some(walk) => {
+            known.note_set(alloc, party, walk)?;
+            Ok(speech)
+        }
+        None => {
+            let reading = speech.reading(alloc, frame)?;
+            note_message(alloc, party, speech, frame, known)?;
+            Ok(speech.after(&reading))
+        }
     }
 }
 
@@ -99,9 +136,7 @@ pub fn note_frames(
 {
     let mut speech = speech;
     for frame in frames {
-        let reading = speech.reading(alloc, frame)?;
-        note_frame(alloc, party, speech, frame, known)?;
-        speech = speech.after(&reading);
+        speech = note_frame(alloc, party, speech, frame, known)?;
     }
     Ok(speech)
 }

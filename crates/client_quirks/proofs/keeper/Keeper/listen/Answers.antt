@@ -40,11 +40,13 @@ returns c =
     let new : Side = record { cutter = c.take.new.self.cutter; speech = c.in_ok-walked.walked.speech } in
     let came : Follows old.came piece new = λ stream side. side_grown stream piece old.came new rest (speech_then ∙ heard_speech m (frames_in old piece)) side in
     let sent : c.part.new.self.sent ≡ old.sent = search rules in
+    let ended : c.part.new.self.has_ended ≡ old.has_ended = search rules in
     with_both c.part.result _ _ _ c.part.ensures.front c.part.ensures.back (λ list heads tails. record {
       stage = stage;
       speech = speech;
       came = λ stream side. subst (λ (s : Side). IsSide (stream ++ piece) s) (sym c.part.ensures.came) (came stream side);
       sent = sent;
+      ended = ended;
       passes = subst (λ (b : Bool). Passes b old piece list c.part.new.self) (sym kept) (heads ∙ ap (λ (n : ℕ). take n piece) front, tails ∙ ap (λ (n : ℕ). concat old.pieces ++ drop n piece) front);
     })
 
@@ -69,5 +71,6 @@ returns-then-not-is_kept c =
       speech = speech_then;
       came = λ stream side. side_grown stream piece old.came new rest (speech_then ∙ heard_speech m (frames_in old piece)) side;
       sent = refl;
+      ended = refl;
       passes = subst (λ (b : Bool). Passes b old piece list keeper) (sym free) (is, refl);
     })
