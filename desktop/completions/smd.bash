@@ -22,7 +22,7 @@ _smd_own() {
     smctl: | smctl:--control) echo checkpoint shutdown cancel status clients drop forget --control --help --version ;;
     smctl:clients) echo --plain ;;
     smctl:shutdown) echo --wait ;;
-    smtrace:) echo show replay --help --version ;;
+    smtrace:) echo show read draw replay --help --version ;;
     smclient:*) echo --socket --authority --id --program --saves --interact --phase-two --help --version ;;
     smrelay:) echo serve rehearse --help --version ;;
     smrelay:serve) echo --socket --to --order ;;

@@ -1,0 +1,4 @@
+pub mod CommandLemmas
+pub mod PartLemmas
+pub mod TellingLemmas
+pub mod Once
