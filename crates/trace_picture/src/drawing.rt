@@ -174,7 +174,60 @@ fn put_round(alloc: Global, out: &mut Octets, round: &Round) -> Result<(), NoMem
     )
 }
 
-/// Appends the line of a lane and what stands above it.
+/// Appends what stands above a lane: its name, and the command that began it.
+fn put_lane_head(
+    alloc: Global,
+    out: &mut Octets,
+    place: u64,
+    lane: &Lane,
+    name: &[u8],
+) -> Result<(), NoMemory> {
+    let x = column(place).saturating_add(8);
+    put_label(alloc, out, "name", x, 24, name)?;
+    if lane.begun.len() == 0 {
+        return Ok(());
+    }
+    let words = command_words(alloc, lane.begun.as_slice())?;
+    put_label(alloc, out, "faint", x, 40, b"started by smd:")?;
+    put_label(
+        alloc,
+        out,
+        "faint",
+        x,
+        54,
+        front(words.as_slice(), LABEL_LENGTH),
+    )
+}
+
+/// Appends the line of a lane down to a row: where it joins, with its name, and its end.
+fn put_stem(
+    alloc: Global,
+    out: &mut Octets,
+    x: u64,
+    lane: &Lane,
+    name: &[u8],
+    last: u64,
+) -> Result<(), NoMemory> {
+    let top = height(lane.from);
+    let bottom = height(if lane.end == LaneEnd::Open {
+        last
+    } else {
+        lane.to
+    });
+    put_stroke(alloc, out, "stem", (x, top), (x, bottom))?;
+    put_dot(alloc, out, x, top)?;
+    put_label(
+        alloc,
+        out,
+        "faint",
+        x.saturating_add(8),
+        top.saturating_add(4),
+        name,
+    )?;
+    put_end(alloc, out, x, bottom, lane.end)
+}
+
+/// Appends a lane: what stands above it, and its line.
 fn put_lane(
     alloc: Global,
     out: &mut Octets,
@@ -182,54 +235,9 @@ fn put_lane(
     lane: &Lane,
     last: u64,
 ) -> Result<(), NoMemory> {
-    let x = stem(place);
     let name = lane_name(alloc, lane)?;
-    let is_open = lane.end == LaneEnd::Open;
-    let bottom = if is_open { last } else { lane.to };
-    put_label(
-        alloc,
-        out,
-        "name",
-        column(place).saturating_add(8),
-        24,
-        name.as_slice(),
-    )?;
-    if lane.begun.len() > 0 {
-        let words = command_words(alloc, lane.begun.as_slice())?;
-        put_label(
-            alloc,
-            out,
-            "faint",
-            column(place).saturating_add(8),
-            40,
-            b"started by smd:",
-        )?;
-        put_label(
-            alloc,
-            out,
-            "faint",
-            column(place).saturating_add(8),
-            54,
-            front(words.as_slice(), LABEL_LENGTH),
-        )?;
-    }
-    put_stroke(
-        alloc,
-        out,
-        "stem",
-        (x, height(lane.from)),
-        (x, height(bottom)),
-    )?;
-    put_dot(alloc, out, x, height(lane.from))?;
-    put_label(
-        alloc,
-        out,
-        "faint",
-        x.saturating_add(8),
-        height(lane.from).saturating_add(4),
-        name.as_slice(),
-    )?;
-    put_end(alloc, out, x, height(bottom), lane.end)
+    put_lane_head(alloc, out, place, lane, name.as_slice())?;
+    put_stem(alloc, out, stem(place), lane, name.as_slice(), last)
 }
 
 /// Appends a dot.
