@@ -3,6 +3,7 @@ ghost use Rattle.trace_picture.specs.Draws.{DrawsWithin};
 
 use crate::lanes::{Arrow, Lane, LaneEnd, Moment, Note, Round, Save};
 use crate::sketch::{Sketch, command_words};
+use crate::style::put_style;
 use crate::svg::{put_box, put_label, put_stroke, put_tag, put_text, put_title};
 use message_text::{put_number, put_plain};
 use sm_world::{NoMemory, Octets};
@@ -30,41 +31,6 @@ const ROW: u64 = 22;
 const NOTE_LENGTH: usize = 34;
 
 const LABEL_LENGTH: usize = 30;
-
-const STYLE: &str = "<style>
-text { font-family: sans-serif; font-size: 12px; fill: #1c2128; }
-.paper { fill: #ffffff; }
-.name { font-weight: bold; font-size: 13px; }
-.faint { fill: #57606a; font-size: 11px; }
-.stem { stroke: #8c959f; stroke-width: 1.5; }
-.says { stroke: #0a58ca; stroke-width: 1.6; }
-.told { stroke: #9a4b00; stroke-width: 1.6; }
-.says-head { fill: #0a58ca; }
-.told-head { fill: #9a4b00; }
-.dot { fill: #57606a; }
-.cross { stroke: #b3261e; stroke-width: 2; }
-.checkpoint { fill: #d7e8fb; }
-.logout { fill: #fbe3cf; }
-.checkpoint-edge { stroke: #0a58ca; stroke-width: 2; }
-.logout-edge { stroke: #9a4b00; stroke-width: 2; }
-@media (prefers-color-scheme: dark) {
-text { fill: #e6edf3; }
-.paper { fill: #0d1117; }
-.faint { fill: #9da7b3; }
-.stem { stroke: #6e7681; }
-.says { stroke: #79b8ff; }
-.told { stroke: #ffab70; }
-.says-head { fill: #79b8ff; }
-.told-head { fill: #ffab70; }
-.dot { fill: #9da7b3; }
-.cross { stroke: #ff7b72; }
-.checkpoint { fill: #12304f; }
-.logout { fill: #4a2c11; }
-.checkpoint-edge { stroke: #79b8ff; }
-.logout-edge { stroke: #ffab70; }
-}
-</style>
-";
 
 /// The first bytes of a text, of which there are no more than so many.
 fn front(text: &[u8], limit: usize) -> &[u8] {
@@ -103,7 +69,8 @@ fn lane_name(alloc: Global, lane: &Lane) -> Result<Octets, NoMemory> {
 /// Appends what the picture is, for who reads it aloud.
 fn put_description(alloc: Global, out: &mut Octets, sketch: &Sketch) -> Result<(), NoMemory> {
     out.append(
-        b"<title id=\"title\">A session of smd</title>\n<desc id=\"desc\">Time goes downwards. ",
+        b"<title id=\"title\">A session of smd</title>\n<desc id=\"desc\">Time goes downwards. \
+        An arrow to the right is a message that smd sends, and one to the left a message that comes. ",
     )?;
     put_number(alloc, out, sketch.lanes.len() as u64)?;
     out.append(b" connections, from left to right:")?;
@@ -115,7 +82,7 @@ fn put_description(alloc: Global, out: &mut Octets, sketch: &Sketch) -> Result<(
     }
     out.append(b" with ")?;
     put_number(alloc, out, sketch.arrows.len() as u64)?;
-    out.append(b" messages and ")?;
+    out.append(b" arrows and ")?;
     put_number(alloc, out, sketch.rounds.len() as u64)?;
     out.append(b" rounds of saves.</desc>\n")
 }
@@ -135,7 +102,7 @@ fn put_begin(alloc: Global, out: &mut Octets, sketch: &Sketch) -> Result<(), NoM
     )?;
     out.append(b"\">\n")?;
     put_description(alloc, out, sketch)?;
-    out.append(STYLE.as_bytes())?;
+    put_style(out)?;
     put_box(alloc, out, "paper", (0, 0), (width, height))
 }
 
@@ -168,7 +135,7 @@ fn put_round(alloc: Global, out: &mut Octets, round: &Round) -> Result<(), NoMem
         alloc,
         out,
         "faint",
-        from.saturating_add(2),
+        stem(round.first).saturating_add(8),
         y.saturating_sub(5),
         name.as_bytes(),
     )

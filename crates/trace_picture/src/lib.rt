@@ -5,6 +5,7 @@ mod drawing;
 mod lanes;
 mod marks;
 mod sketch;
+mod style;
 mod svg;
 
 pub use drawing::draw_within;

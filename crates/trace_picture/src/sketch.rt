@@ -89,21 +89,29 @@ impl Sketch {
         }
     }
 
-    /// Begins the row of an event.
-    fn begin_event(&mut self) -> Result<u64, NoMemory> {
-        self.row = self.row.saturating_add(1);
-        self.event = self.row;
-        let is_later = match self.moments.last() {
-            Some(moment) => moment.clock != self.clock,
-            None => self.clock > 0,
-        };
-        if is_later {
-            self.moments.push(Moment {
-                row: self.row,
-                clock: self.clock,
-            })?;
+    /// Begins an event. It has a row once something stands there.
+    fn begin_event(&mut self) -> Result<(), NoMemory> {
+        self.event = self.row.saturating_add(1);
+        let (row, clock) = (self.event, self.clock);
+        if let Some(last) = self.moments.last_mut() {
+            if last.row == row {
+                last.clock = clock;
+                return Ok(());
+            }
+            if last.clock == clock {
+                return Ok(());
+            }
+        } else if clock == 0 {
+            return Ok(());
         }
-        Ok(self.row)
+        self.moments.push(Moment { row, clock })?;
+        Ok(())
+    }
+
+    /// The row of the event, in which something stands now.
+    fn event_row(&mut self) -> u64 {
+        self.row = self.row.max(self.event);
+        self.event
     }
 
     /// The row of a deed behind what its lane has.
@@ -115,7 +123,7 @@ impl Sketch {
 
     /// Begins a lane.
     fn join(&mut self, alloc: Global, conn: Conn) -> Result<usize, NoMemory> {
-        let row = self.row;
+        let row = self.event_row();
         let place = self.lanes.len();
         self.lanes.push(Lane {
             conn,
@@ -331,9 +339,9 @@ impl Sketch {
         };
         match direction {
             Direction::In => {
-                let row = self.event.max(taken.saturating_add(1));
-                self.row = self.row.max(row);
-                row
+                // What smd does about it comes below.
+                self.event = self.event.max(taken.saturating_add(1));
+                self.event_row()
             }
             Direction::Out => self.deed_row(taken),
         }
@@ -413,12 +421,14 @@ impl Sketch {
                 self.take_parts(alloc, opening, *conn, Direction::In, brought)
             }
             Event::Gone(conn) => {
-                let row = self.begin_event()?;
+                self.begin_event()?;
+                let row = self.event_row();
                 self.end_lane(*conn, row, LaneEnd::Gone);
                 Ok(())
             }
             Event::Operator(order) => {
-                let row = self.begin_event()?;
+                self.begin_event()?;
+                let row = self.event_row();
                 let note = order_note(alloc, order)?;
                 self.push_note(row, note)
             }
@@ -454,7 +464,8 @@ impl Sketch {
         match said {
             TraceLine::Heard(event) => self.take_event(alloc, opening, event, &brought),
             TraceLine::End => {
-                let row = self.begin_event()?;
+                self.begin_event()?;
+                let row = self.event_row();
                 let note = Octets::from_slice(alloc, b"the end")?;
                 self.push_note(row, note)
             }
