@@ -27,15 +27,22 @@ const HEAD: u64 = 76;
 
 const ROW: u64 = 22;
 
-/// How many bytes of a text stand in the manager's lane, and above a lane.
-const NOTE_LENGTH: usize = 34;
+/// How many bytes of a text stand in the manager's lane.
+const NOTE_LENGTH: usize = 30;
 
-const LABEL_LENGTH: usize = 30;
+/// How many bytes of a program's name and of its command stand above a lane.
+const NAME_LENGTH: usize = 18;
 
-/// The first bytes of a text, of which there are no more than so many.
-fn front(text: &[u8], limit: usize) -> &[u8] {
-    let (front, _) = text.split_at(limit.min(text.len()));
-    front
+const COMMAND_LENGTH: usize = 30;
+
+/// A text that is cut behind so many bytes.
+fn shortened(alloc: Global, text: &[u8], limit: usize) -> Result<Octets, NoMemory> {
+    let (front, rest) = text.split_at(limit.min(text.len()));
+    let mut short = Octets::from_slice(alloc, front)?;
+    if !rest.is_empty() {
+        short.append(b"...")?;
+    }
+    Ok(short)
 }
 
 /// Where the column of a lane begins.
@@ -57,7 +64,8 @@ fn height(row: u64) -> u64 {
 fn lane_name(alloc: Global, lane: &Lane) -> Result<Octets, NoMemory> {
     let mut name = Octets::new(alloc);
     if let Some(program) = &lane.program {
-        put_plain(alloc, &mut name, front(program.as_slice(), LABEL_LENGTH))?;
+        let program = shortened(alloc, program.as_slice(), NAME_LENGTH)?;
+        put_plain(alloc, &mut name, program.as_slice())?;
         name.append(b" ")?;
     }
     name.append(b"(")?;
@@ -155,15 +163,9 @@ fn put_lane_head(
         return Ok(());
     }
     let words = command_words(alloc, lane.begun.as_slice())?;
+    let words = shortened(alloc, words.as_slice(), COMMAND_LENGTH)?;
     put_label(alloc, out, "faint", x, 40, b"started by smd:")?;
-    put_label(
-        alloc,
-        out,
-        "faint",
-        x,
-        54,
-        front(words.as_slice(), LABEL_LENGTH),
-    )
+    put_label(alloc, out, "faint", x, 54, words.as_slice())
 }
 
 /// Appends the line of a lane down to a row: where it joins, with its name, and its end.
@@ -282,6 +284,9 @@ fn put_arrow(alloc: Global, out: &mut Octets, arrow: &Arrow) -> Result<(), NoMem
 /// Appends a note of the manager.
 fn put_note(alloc: Global, out: &mut Octets, note: &Note) -> Result<(), NoMemory> {
     let y = height(note.row);
+    let words = shortened(alloc, note.text.as_slice(), NOTE_LENGTH)?;
+    out.append(b"<g>\n")?;
+    put_title(alloc, out, note.text.as_slice())?;
     put_dot(alloc, out, LEFT + 8, y)?;
     put_label(
         alloc,
@@ -289,8 +294,9 @@ fn put_note(alloc: Global, out: &mut Octets, note: &Note) -> Result<(), NoMemory
         "message",
         LEFT + 18,
         y.saturating_add(4),
-        front(note.text.as_slice(), NOTE_LENGTH),
-    )
+        words.as_slice(),
+    )?;
+    out.append(b"</g>\n")
 }
 
 /// Appends the time at a row.
@@ -311,7 +317,9 @@ fn put_ground(alloc: Global, out: &mut Octets, sketch: &Sketch) -> Result<(), No
         put_round(alloc, out, round)?;
     }
     for moment in sketch.moments.as_slice() {
-        put_moment(alloc, out, moment)?;
+        if moment.row <= sketch.row {
+            put_moment(alloc, out, moment)?;
+        }
     }
     Ok(())
 }

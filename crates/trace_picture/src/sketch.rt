@@ -26,6 +26,8 @@ pub struct Sketch {
     pub row: u64,
     /// The row of the last event.
     event: u64,
+    /// The first row in which something stands that smd does about it.
+    deeds: u64,
     clock: u64,
     places: BTreeMap<Conn, usize>,
     /// The fields of the commands that were started, and no lane began with so far.
@@ -83,6 +85,7 @@ impl Sketch {
             moments: Vec::new(alloc),
             row: 0,
             event: 0,
+            deeds: 0,
             clock: 0,
             places: BTreeMap::new(alloc),
             started: Vec::new(alloc),
@@ -92,6 +95,7 @@ impl Sketch {
     /// Begins an event. It has a row once something stands there.
     fn begin_event(&mut self) -> Result<(), NoMemory> {
         self.event = self.row.saturating_add(1);
+        self.deeds = self.event;
         let (row, clock) = (self.event, self.clock);
         if let Some(last) = self.moments.last_mut() {
             if last.row == row {
@@ -111,12 +115,13 @@ impl Sketch {
     /// The row of the event, in which something stands now.
     fn event_row(&mut self) -> u64 {
         self.row = self.row.max(self.event);
+        self.deeds = self.event.saturating_add(1);
         self.event
     }
 
     /// The row of a deed behind what its lane has.
     fn deed_row(&mut self, taken: u64) -> u64 {
-        let row = self.event.max(taken).saturating_add(1);
+        let row = self.deeds.max(taken.saturating_add(1));
         self.row = self.row.max(row);
         row
     }
@@ -147,12 +152,13 @@ impl Sketch {
         }
     }
 
-    /// Ends a lane.
+    /// Ends a lane, and the save that is under way there.
     fn end_lane(&mut self, conn: Conn, row: u64, end: LaneEnd) {
-        let Some(place) = self.places.get(&conn) else {
+        let Some(place) = self.places.get(&conn).copied() else {
             return;
         };
-        let Some(lane) = self.lanes.get_mut(*place) else {
+        self.end_save(place, row);
+        let Some(lane) = self.lanes.get_mut(place) else {
             return;
         };
         if lane.end == LaneEnd::Open {
@@ -327,7 +333,7 @@ impl Sketch {
             None => true,
         };
         if is_new {
-            self.event = self.row.max(self.event).saturating_add(1);
+            self.deeds = self.row.saturating_add(2);
         }
     }
 
@@ -339,7 +345,6 @@ impl Sketch {
         };
         match direction {
             Direction::In => {
-                // What smd does about it comes below.
                 self.event = self.event.max(taken.saturating_add(1));
                 self.event_row()
             }
@@ -434,7 +439,7 @@ impl Sketch {
             }
             Event::Tick(milliseconds) => {
                 self.clock = self.clock.saturating_add(*milliseconds);
-                Ok(())
+                self.begin_event()
             }
             Event::End => Ok(()),
         }
