@@ -1,3 +1,6 @@
+ghost use Rattle.std.specs.List.{AllByRecursion};
+ghost use Rattle.trace_replay.specs.Parts.{IsHeaded};
+
 use crate::lanes::{Arrow, Lane, LaneEnd, Moment, Note, Round, Save};
 use crate::marks::{SaveStep, arrow_name, is_ping, is_setup, save_step};
 use checkpoint_records::Book;
@@ -360,7 +363,9 @@ impl Sketch {
         place: usize,
         direction: Direction,
         frame: &WholeFrame,
-    ) -> Result<(), NoMemory> {
+    ) -> Result<(), NoMemory>
+        requires { IsHeaded frame.now }
+    {
         let line = frame_text(alloc, Writing::Words, frame)?;
         let message = xsmp_in(alloc, frame)?;
         if message.is_none() && !self.has_arrow(place, line.as_slice()) {
@@ -379,6 +384,23 @@ impl Sketch {
         self.push_arrow(place, row, direction, name, line)
     }
 
+    /// Takes frames.
+    fn take_frames(
+        &mut self,
+        alloc: Global,
+        opening: &Opening,
+        place: usize,
+        direction: Direction,
+        frames: &[WholeFrame],
+    ) -> Result<(), NoMemory>
+        requires { AllByRecursion IsHeaded frames.now }
+    {
+        for frame in frames {
+            self.take_frame(alloc, opening, place, direction, frame)?;
+        }
+        Ok(())
+    }
+
     /// Takes the parts that were brought.
     fn take_parts(
         &mut self,
@@ -387,11 +409,11 @@ impl Sketch {
         conn: Conn,
         direction: Direction,
         brought: &Brought,
-    ) -> Result<(), NoMemory> {
+    ) -> Result<(), NoMemory>
+        requires { AllByRecursion IsHeaded brought.now.frames }
+    {
         let place = self.place_of(alloc, conn)?;
-        for frame in brought.frames.as_slice() {
-            self.take_frame(alloc, opening, place, direction, frame)?;
-        }
+        self.take_frames(alloc, opening, place, direction, brought.frames.as_slice())?;
         if brought.ended {
             let row = self.message_row(place, direction);
             let name = Octets::from_slice(alloc, b"Oversize")?;
@@ -414,7 +436,9 @@ impl Sketch {
         opening: &Opening,
         event: &Event,
         brought: &Brought,
-    ) -> Result<(), NoMemory> {
+    ) -> Result<(), NoMemory>
+        requires { AllByRecursion IsHeaded brought.now.frames }
+    {
         match event {
             Event::Joined(conn) => {
                 self.begin_event()?;
