@@ -101,8 +101,181 @@ trace_front lines others opening said trace =
 pub record ReadTo (limit : ℕ) (text left : List ℕ) (opening : Opening) (n : ℕ) (said : List TraceLine) : Type 0 where
   pub opens : Open (lines_of text) opening
   pub front : List (List ℕ)
-  pub sized : (limit : ℕ) (text : List ℕ) (opening : Opening) (said : List TraceLine) → SaysTrace limit text opening said → AllByRecursion HasPieceSize (events_in said)
+  pub sized : size_of opening ≤ length front
+  pub lines : lines_of text ≡ front ++ lines_of left
+  pub body : List (List ℕ)
+  pub behind : behind_opening opening (lines_of text) ≡ body ++ lines_of left
+  pub say : SayLines body said
+  pub number : n ≡ length front
+  pub within : left ≡ [] → length text ≤ limit
 
+-- behind the opening
+pub begins : (limit : ℕ) (text left : List ℕ) (opening : Opening) (n : ℕ) → Open (lines_of text) opening → lines_of left ≡ behind_opening opening (lines_of text) → n ≡ size_of opening → (left ≡ [] → length text ≤ limit) → ReadTo limit text left opening n []
+begins limit text left opening n opens behind number within =
+    let size = opening_length opening (lines_of text) opens in
+    record {
+      opens = opens;
+      front = take (size_of opening) (lines_of text);
+      sized = omega (arith, size);
+      lines = opening_parts opening (lines_of text) ∙ ap (λ lines. take (size_of opening) (lines_of text) ++ lines) (sym behind);
+      body = [];
+      behind = sym behind;
+      say = tt;
+      number = number ∙ sym size;
+      within = within;
+    }
+
+-- one more line was read
+unfoldable pub goes_on : (limit : ℕ) (text left line rest : List ℕ) (opening : Opening) (n : ℕ) (said : List TraceLine) (one : TraceLine) → ReadTo limit text left opening n said → lines_of left ≡ line ∷ lines_of rest → SaysLine line one → (rest ≡ [] → length text ≤ limit) → ReadTo limit text rest opening (n + 1) (said ++ one ∷ [])
+goes_on limit text left line rest opening n said one read first says within = record {
+  opens = read.opens;
+  front = read.front ++ line ∷ [];
+  sized = omega (arith, read.sized, length-append read.front (line ∷ []));
+  lines = read.lines ∙ (ap (λ lines. read.front ++ lines) first ∙ sym (append_assoc read.front (line ∷ []) (lines_of rest)));
+  body = read.body ++ line ∷ [];
+  behind = read.behind ∙ (ap (λ lines. read.body ++ lines) first ∙ sym (append_assoc read.body (line ∷ []) (lines_of rest)));
+  say = say_one_more read.body said line one read.say says;
+  number = omega (arith, read.number, length-append read.front (line ∷ []));
+  within = within;
+}
+
+-- there is a number for the next line
+pub counts : (limit : ℕ) (text left line rest : List ℕ) (opening : Opening) (n : ℕ) (said : List TraceLine) → ReadTo limit text left opening n said → lines_of left ≡ line ∷ lines_of rest → n + 1 ≤ length text
+counts limit text left line rest opening n said read first =
+    omega (arith, read.number, ap length read.lines, ap length first, length-append read.front (lines_of left), length-lines_of text)
+
+-- the text is at its end
+pub ends : (limit : ℕ) (text left : List ℕ) (opening : Opening) (n : ℕ) (said : List TraceLine) → ReadTo limit text left opening n said → left ≡ [] → SaysTrace limit text opening said
+ends limit text left opening n said read none =
+    let all : behind_opening opening (lines_of text) ≡ read.body = read.behind ∙ (ap (λ (bytes : List ℕ). read.body ++ lines_of bytes) none ∙ append-nil read.body) in
+    record { within = read.within none; all = record { opens = read.opens; say = subst (λ (ls : List (List ℕ)). SayLines ls said) (sym all) read.say } }
+
+-- the lines that were read are a trace, and so it is known what stands behind their opening and one line more
+front_is : (limit : ℕ) (text left : List ℕ) (opening : Opening) (n : ℕ) (said : List TraceLine) → (read : ReadTo limit text left opening n said) → IsTrace read.front opening said
+front_is limit text left opening n said read =
+    let stays = open_front read.front (lines_of left) opening (subst (λ (ls : List (List ℕ)). Open ls opening) read.lines read.opens) read.sized in
+    let same : behind_opening opening read.front ≡ read.body = same_back (behind_opening opening read.front) read.body (lines_of left) (sym stays.behind ∙ (ap (behind_opening opening) (sym read.lines) ∙ read.behind)) in
+    record { opens = stays.opens; say = subst (λ (ls : List (List ℕ)). SayLines ls said) (sym same) read.say }
+
+-- a line that says nothing there
+pub says_none : (limit : ℕ) (text left line rest : List ℕ) (opening : Opening) (n : ℕ) (said : List TraceLine) → ReadTo limit text left opening n said → lines_of left ≡ line ∷ lines_of rest → ((meaning : TraceLine) → SaysLine line meaning → ⊥) → IsMalformed limit text (n + 1)
+says_none limit text left line rest opening n said read first none =
+    let good = front_is limit text left opening n said read in
+    let more : List (List ℕ) = read.front ++ line ∷ [] in
+    let all : lines_of text ≡ more ++ lines_of rest = read.lines ∙ (ap (λ lines. read.front ++ lines) first ∙ sym (append_assoc read.front (line ∷ []) (lines_of rest))) in
+    let stays = open_front more (lines_of rest) opening (subst (λ (ls : List (List ℕ)). Open ls opening) all read.opens) (omega (arith, read.sized, length-append read.front (line ∷ []))) in
+    let same : behind_opening opening more ≡ read.body ++ line ∷ [] =
+    same_back (behind_opening opening more) (read.body ++ line ∷ []) (lines_of rest)
+    (sym stays.behind ∙ (ap (behind_opening opening) (sym all) ∙ (read.behind ∙ (ap (λ lines. read.body ++ lines) first ∙ sym (append_assoc read.body (line ∷ []) (lines_of rest)))))) in
+    record {
+      good = read.front;
+      line = line;
+      others = lines_of rest;
+      lines = read.lines ∙ ap (λ lines. read.front ++ lines) first;
+      number = ap (λ k. k + 1) read.number;
+      opening = opening;
+      said = said;
+      all_good = good;
+      bad = inl (λ other others trace.
+          let is : other ≡ opening = one_opening more other opening trace.opens stays.opens in
+          let says = last_says read.body line others (subst (λ (ls : List (List ℕ)). SayLines ls others) (ap (λ o. behind_opening o more) is ∙ same) trace.say) in
+          none says.0 says.1);
+    }
+
+-- the last line of a text that is too long
+pub too_long : (limit : ℕ) (text left line rest : List ℕ) (opening : Opening) (n : ℕ) (said : List TraceLine) → ReadTo limit text left opening n said → lines_of left ≡ line ∷ lines_of rest → rest ≡ [] → limit < length text → IsMalformed limit text (n + 1)
+too_long limit text left line rest opening n said read first none long = record {
+  good = read.front;
+  line = line;
+  others = lines_of rest;
+  lines = read.lines ∙ ap (λ lines. read.front ++ lines) first;
+  number = ap (λ k. k + 1) read.number;
+  opening = opening;
+  said = said;
+  all_good = front_is limit text left opening n said read;
+  bad = inr (long, ap lines_of none);
+}
+
+-- the same where that line belongs to the opening
+pub opens_too_long : (limit : ℕ) (text left : List ℕ) (opening : Opening) (n : ℕ) → Open (lines_of text) opening → lines_of left ≡ behind_opening opening (lines_of text) → n ≡ size_of opening → left ≡ [] → limit < length text → IsMalformed limit text n
+opens_too_long limit [] left opening n opens behind number none long = absurd (omega (arith, long))
+opens_too_long limit (b ∷ bytes) left opening n opens behind number none long =
+    let lines = lines_of (b ∷ bytes) in
+    let some = some_line b bytes in
+    let last = last_of some.0 some.1.0 in
+    let parts : lines ≡ last.0 ++ last.1.0 ∷ [] = some.1.1 ∙ last.1.1 in
+    let all : lines ≡ take (size_of opening) lines = opening_parts opening lines ∙ (ap (λ ls. take (size_of opening) lines ++ ls) (sym behind ∙ ap lines_of none) ∙ append-nil (take (size_of opening) lines)) in
+    let count : length lines ≡ size_of opening = ap length all ∙ opening_length opening lines opens in
+    let silent : IsTrace lines opening [] = record { opens = opens; say = subst (λ (ls : List (List ℕ)). SayLines ls []) (ap lines_of (sym none) ∙ behind) tt } in
+    let less = trace_front last.0 (last.1.0 ∷ []) opening [] (subst (λ (ls : List (List ℕ)). IsTrace ls opening []) parts silent) in
+    record {
+      good = last.0;
+      line = last.1.0;
+      others = [];
+      lines = parts;
+      number = omega (arith, number, count, ap length parts, length-append last.0 (last.1.0 ∷ []));
+      opening = less.0;
+      said = less.1.0;
+      all_good = less.1.1;
+      bad = inr (long, refl);
+    }
+
+-- ---- one reading
+
+-- no line before the first that isn't of the grammar is another such
+none_before : (limit : ℕ) (text : List ℕ) (n k : ℕ) → (one : IsMalformed limit text n) → (other : IsMalformed limit text k) → length one.good < length other.good → ⊥
+none_before limit text n k one other short =
+    let same : one.good ++ one.line ∷ one.others ≡ other.good ++ other.line ∷ other.others = sym one.lines ∙ other.lines in
+    let more = longer one.good one.line one.others other.good (other.line ∷ other.others) same short in
+    elim one.bad [
+      | inl none ↦ let front = trace_front (one.good ++ one.line ∷ []) more.0 other.opening other.said (subst (λ (ls : List (List ℕ)). IsTrace ls other.opening other.said) more.1 other.all_good) in none front.0 front.1.0 front.1.1
+      | inr last ↦ omega (arith, ap length same, length-append one.good (one.line ∷ one.others), length-append other.good (other.line ∷ other.others), ap length last.1, short)
+    ]
+
+pub same_place : (limit : ℕ) (text : List ℕ) (n k : ℕ) → IsMalformed limit text n → IsMalformed limit text k → n ≡ k
+same_place limit text n k one other = elim (cases_lt (length one.good) (length other.good)) [
+  | inl h ↦ absurd (none_before limit text n k one other h)
+  | inr h ↦ elim (cases_lt (length other.good) (length one.good)) [
+    | inl h' ↦ absurd (none_before limit text k n other one h')
+    | inr h' ↦ omega (arith, one.number, other.number)
+  ]
+]
+
+-- a text that is a trace isn't malformed
+pub never_both : (limit : ℕ) (text : List ℕ) (n : ℕ) (opening : Opening) (said : List TraceLine) → SaysTrace limit text opening said → IsMalformed limit text n → ⊥
+never_both limit text n opening said says bad = elim bad.bad [
+  | inl none ↦
+      let parts : lines_of text ≡ (bad.good ++ bad.line ∷ []) ++ bad.others = bad.lines ∙ sym (append_assoc bad.good (bad.line ∷ []) bad.others) in
+      let front = trace_front (bad.good ++ bad.line ∷ []) bad.others opening said (subst (λ (ls : List (List ℕ)). IsTrace ls opening said) parts says.all) in
+      none front.0 front.1.0 front.1.1
+  | inr last ↦ omega (arith, last.0, says.within)
+]
+
+-- ---- the events
+
+heard_sized : (line : List ℕ) (event : Event) → Says line event → HasPieceSize event
+heard_sized line (Joined n) says = tt
+heard_sized line (Piece n bytes) (fields, begins, says) = (says.said.hex.some, says.within)
+heard_sized line (Gone n) says = tt
+heard_sized line (Operator order) says = tt
+heard_sized line (Tick milliseconds) says = tt
+heard_sized line AtEnd says = tt
+
+line_sized : (line : List ℕ) (one : TraceLine) (events : List Event) → SaysLine line one → AllByRecursion HasPieceSize events → AllByRecursion HasPieceSize (event_in one ++ events)
+line_sized line (Heard event) events says others = (heard_sized line event says, others)
+line_sized line End events says others = (tt, others)
+line_sized line (Sent n bytes) events says others = others
+line_sized line (Shut n) events says others = others
+line_sized line Started events says others = others
+line_sized line Printed events says others = others
+
+all_sized : (lines : List (List ℕ)) (said : List TraceLine) → SayLines lines said → AllByRecursion HasPieceSize (events_in said)
+all_sized [] [] say = tt
+all_sized [] (one ∷ said) say = elim say [ ]
+all_sized (line ∷ lines) [] say = elim say [ ]
+all_sized (line ∷ lines) (one ∷ said) say = line_sized line one (events_in said) say.0 (all_sized lines said say.1)
+
+pub sized : (limit : ℕ) (text : List ℕ) (opening : Opening) (said : List TraceLine) → SaysTrace limit text opening said → AllByRecursion HasPieceSize (events_in said)
 sized limit text opening said says = all_sized (behind_opening opening (lines_of text)) said says.all.say
 
 -- ---- what the code tests
