@@ -266,8 +266,8 @@ line_sized line (Heard event) events says others = (heard_sized line event says,
 line_sized line End events says others = (tt, others)
 line_sized line (Sent n bytes) events says others = others
 line_sized line (Shut n) events says others = others
-line_sized line Started events says others = others
-line_sized line Printed events says others = others
+line_sized line (Started succeeded text) events says others = others
+line_sized line (Printed text) events says others = others
 
 all_sized : (lines : List (List ℕ)) (said : List TraceLine) → SayLines lines said → AllByRecursion HasPieceSize (events_in said)
 all_sized [] [] say = tt

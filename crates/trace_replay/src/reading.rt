@@ -11,6 +11,7 @@ use crate::opening::{Opening, read_opening};
 use control_lines::{OrderRefusal, next_line};
 use sm_world::{Event, EventList, NoMemory};
 use std::alloc::Global;
+use std::collections::VecDeque;
 
 /// What a text is read as.
 #[derive(Drop)]
@@ -86,7 +87,8 @@ fn events_of(alloc: Global, lines: TraceLineList) -> Result<EventList, NoMemory>
     ensures { IfOk result (λ events. events ≡ events_in lines) }
 {
     let mut events = EventList::new(alloc);
-    for said in lines.into_vec() {
+    let mut left = VecDeque::from(lines.into_vec());
+    while let Some(said) = left.pop_front() {
         take_event(&mut events, said)?;
     }
     Ok(events)

@@ -4,8 +4,10 @@ use Rattle.trace_replay.proofs.reading.read_lines.Goals as goal
 use Rattle.trace_replay.proofs.reading.read_lines.Goals.{else-is_empty-via-then-is_empty+else-text-limit, else-is_empty-via-else-is_empty, else-is_empty-2-via-then-is_empty-2+else-text-limit-2, else-is_empty-2-via-else-is_empty-2}
 
 pub returns-then-text-limit : goal.returns-then-text-limit
-returns-then-text-limit c =
-    opens_too_long c.args.limit c.args.text.now c.behind-left.result.now c.in_ok-opening.opening c.size-number.result c.in_ok-opening.ensures c.behind-left.ensures c.size-number.ensures (empty_by c.behind-left.result.now c.if-is_empty.ensures) (omega arith)
+returns-then-text-limit c = record {
+  reads =
+      opens_too_long c.args.limit c.args.text.now c.behind-left.result.now c.in_ok-opening.opening c.size-number.result c.in_ok-opening.ensures c.behind-left.ensures c.size-number.ensures (empty_by c.behind-left.result.now c.if-is_empty.ensures) (omega arith);
+}
 
 pub loop-left-init : goal.loop-left-init
 loop-left-init c =
@@ -21,12 +23,16 @@ overflow_add-number c =
     omega (arith, few)
 
 pub returns-then-text-limit-2 : goal.returns-then-text-limit-2
-returns-then-text-limit-2 c =
-    too_long c.args.limit c.args.text.now c.loop-left.left.now c.next_line.result.0.now c.next_line.result.1.now c.in_ok-opening.opening c.loop-left.number c.loop-left.lines c.loop-left.invariant c.next_line.ensures.lines (empty_by c.next_line.result.1.now c.if-is_empty-2.ensures) (omega arith)
+returns-then-text-limit-2 c = record {
+  reads =
+      too_long c.args.limit c.args.text.now c.loop-left.left.now c.next_line.result.0.now c.next_line.result.1.now c.in_ok-opening.opening c.loop-left.number c.loop-left.lines c.loop-left.invariant c.next_line.ensures.lines (empty_by c.next_line.result.1.now c.if-is_empty-2.ensures) (omega arith);
+}
 
 pub returns-in-Err-BadLine : goal.returns-in-Err-BadLine
-returns-in-Err-BadLine c =
-    says_none c.args.limit c.args.text.now c.loop-left.left.now c.next_line.result.0.now c.next_line.result.1.now c.in_ok-opening.opening c.loop-left.number c.loop-left.lines c.loop-left.invariant c.next_line.ensures.lines (rw c.in-Err-BadLine.field-0-is at c.in-Err-BadLine.ensures.refused)
+returns-in-Err-BadLine c = record {
+  reads =
+      says_none c.args.limit c.args.text.now c.loop-left.left.now c.next_line.result.0.now c.next_line.result.1.now c.in_ok-opening.opening c.loop-left.number c.loop-left.lines c.loop-left.invariant c.next_line.ensures.lines (rw c.in-Err-BadLine.field-0-is at c.in-Err-BadLine.ensures.refused);
+}
 
 pub loop-left-preserved : goal.loop-left-preserved
 loop-left-preserved c =
@@ -37,4 +43,7 @@ loop-left-preserved c =
     ])))
 
 pub returns : goal.returns
-returns c = ends c.args.limit c.args.text.now c.loop-left.left.now c.in_ok-opening.opening c.loop-left.number c.loop-left.lines c.loop-left.invariant (empty_of c.loop-left.left.now (search rules))
+returns c = record {
+  reads =
+      ends c.args.limit c.args.text.now c.loop-left.left.now c.in_ok-opening.opening c.loop-left.number c.loop-left.lines c.loop-left.invariant (empty_of c.loop-left.left.now (search rules));
+}
