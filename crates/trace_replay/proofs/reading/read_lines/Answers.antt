@@ -1,5 +1,5 @@
 use Rattle.std.proofs.Common.{inl, inr, arith, rules}
-use Rattle.trace_replay.proofs.TraceLemmas.{ReadTo, begins, counts, empty_by, empty_of, ends, goes_on, opens_too_long, says_none, too_long, within_by}
+use Rattle.trace_replay.proofs.TraceLemmas.{begins, counts, empty_by, empty_of, ends, goes_on, opens_too_long, says_none, too_long, within_by}
 use Rattle.trace_replay.proofs.reading.read_lines.Goals as goal
 use Rattle.trace_replay.proofs.reading.read_lines.Goals.{else-is_empty-via-then-is_empty+else-text-limit, else-is_empty-via-else-is_empty, else-is_empty-2-via-then-is_empty-2+else-text-limit-2, else-is_empty-2-via-else-is_empty-2}
 

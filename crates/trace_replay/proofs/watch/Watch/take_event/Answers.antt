@@ -1,4 +1,3 @@
-use Rattle.trace_replay.proofs.WatchLemmas.{came}
 use Rattle.trace_replay.proofs.watch.Watch.take_event.Goals as goal
 
 pub returns-in-Joined-clause-brings : goal.returns-in-Joined-clause-brings

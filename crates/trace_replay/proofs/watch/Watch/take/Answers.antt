@@ -1,2 +1,0 @@
-use Rattle.trace_replay.proofs.WatchLemmas.{went}
-use Rattle.trace_replay.proofs.watch.Watch.take.Goals as goal
