@@ -1,6 +1,6 @@
 -- The lines of parts, one after the other.
-use Rattle.std.proofs.Common.{◌≡◌, ℕ, ◌+◌, List, [], ◌∷◌, ◌++◌, drop, map, Bool, true, false, Option, refl, sym, ◌∙◌, ap, subst, append_assoc}
-use Rattle.std.proofs.lemmas.List.{append-nil}
+use Rattle.std.proofs.Common.{◌≡◌, ℕ, ◌+◌, ◌≤◌, List, [], ◌∷◌, ◌++◌, length, drop, map, Bool, true, false, Option, codes, refl, sym, ◌∙◌, ap, subst, append_assoc}
+use Rattle.std.proofs.lemmas.List.{append-nil, drop_all}
 use Rattle.ice_framing.specs.Parts.{Part, Whole, TooMuch}
 use Rattle.ice_framing.specs.declared.cutting.WholeFrame.{WholeFrame}
 use Rattle.trace_replay.specs.Flows.{AreParts, IsEnd}
@@ -63,46 +63,68 @@ going_more clock n known frames i frame old now new going first line =
 
 -- ---- all frames were told
 
-pub came_frames : (clock n : ℕ) (known program : Option (List ℕ)) (brought : Brought) (old new : List ℕ) → brought.ended ≡ false → program ≡ after_parts known (map Whole brought.frames) → new ≡ old ++ came_told clock n known (map Whole brought.frames) → (parts : List Part) → AreParts brought parts → ToldCame clock n known parts program old new
-came_frames clock n known program brought old new none is lines = λ parts are.
-    let end : are.last ≡ [] = subst (λ (ended : Bool). IsEnd ended are.last) none are.end in
-    let all : parts ≡ map Whole brought.frames = are.all ∙ (ap (λ (ps : List Part). map Whole brought.frames ++ ps) end ∙ append-nil (map Whole brought.frames)) in
-    record { program = is ∙ ap (after_parts known) (sym all); lines = lines ∙ ap (λ (ps : List Part). old ++ came_told clock n known ps) (sym all) }
+pub coming_none : (clock n : ℕ) (known : Option (List ℕ)) (frames : List WholeFrame) (old : List ℕ) → Coming clock n known frames 0 known old old
+coming_none clock n known frames old = record { program_is = refl; lines = refl }
 
--- and the header behind them
-pub came_header : (clock n : ℕ) (known program : Option (List ℕ)) (brought : Brought) (old middle new text : List ℕ) → brought.ended ≡ true → program ≡ after_parts known (map Whole brought.frames) → middle ≡ old ++ came_told clock n known (map Whole brought.frames) → ((header : List ℕ) → text ≡ part_words (TooMuch header)) → new ≡ middle ++ part_told clock In n program text → (parts : List Part) → AreParts brought parts → ToldCame clock n known parts program old new
-came_header clock n known program brought old middle new text much is lines words line = λ parts are.
-    let end : IsEnd true are.last = subst (λ (ended : Bool). IsEnd ended are.last) much are.end in
-    let frames : List Part = map Whole brought.frames in
-    let header : List Part = TooMuch end.0 ∷ [] in
-    let all : parts ≡ frames ++ header = are.all ∙ ap (λ (ps : List Part). frames ++ ps) end.1 in
-    let last : part_told clock In n program text ≡ came_told clock n (after_parts known frames) header =
-    ap (λ (p : Option (List ℕ)). part_told clock In n p text) is ∙ (ap (λ (t : List ℕ). part_told clock In n (after_parts known frames) t) (words end.0) ∙ sym (append-nil (part_told clock In n (after_parts known frames) (part_words (TooMuch end.0))))) in
+pub coming_all : (clock n : ℕ) (known program : Option (List ℕ)) (frames : List WholeFrame) (i : ℕ) (old new : List ℕ) → Coming clock n known frames i program old new → length frames ≤ i → ToldCame clock n known (map Whole frames) program old new
+coming_all clock n known program frames i old new coming all =
+    let none : [] ≡ drop i frames = sym (drop_all i frames all) in
     record {
-      program = is ∙ sym (ap (after_parts known) all ∙ after_parts-append known frames header);
-      lines = line ∙ (ap (λ (front : List ℕ). front ++ part_told clock In n program text) lines
-          ∙ (append_assoc old (came_told clock n known frames) (part_told clock In n program text)
+      program = ap (λ (fs : List WholeFrame). after_parts program (map Whole fs)) none ∙ coming.program_is;
+      lines = sym (append-nil new) ∙ (ap (λ (fs : List WholeFrame). new ++ came_told clock n program (map Whole fs)) none ∙ coming.lines);
+    }
+
+pub going_all : (clock n : ℕ) (known : Option (List ℕ)) (frames : List WholeFrame) (i : ℕ) (old new : List ℕ) → Going clock n known frames i old new → length frames ≤ i → new ≡ old ++ went_told clock n known (map Whole frames)
+going_all clock n known frames i old new going all =
+    sym (append-nil new) ∙ (ap (λ (fs : List WholeFrame). new ++ went_told clock n known (map Whole fs)) (sym (drop_all i frames all)) ∙ going)
+
+-- ---- all parts were told
+
+-- no header is behind the frames
+no_header : (brought : Brought) (parts : List Part) → brought.ended ≡ false → AreParts brought parts → parts ≡ map Whole brought.frames
+no_header brought parts none are =
+    let end : are.last ≡ [] = subst (λ (ended : Bool). IsEnd ended are.last) none are.end in
+    are.all ∙ (ap (λ (ps : List Part). map Whole brought.frames ++ ps) end ∙ append-nil (map Whole brought.frames))
+
+-- or one is
+a_header : (brought : Brought) (parts : List Part) → brought.ended ≡ true → AreParts brought parts → (header : List ℕ) × (parts ≡ map Whole brought.frames ++ TooMuch header ∷ [])
+a_header brought parts much are =
+    let end : IsEnd true are.last = subst (λ (ended : Bool). IsEnd ended are.last) much are.end in
+    (end.0, are.all ∙ ap (λ (ps : List Part). map Whole brought.frames ++ ps) end.1)
+
+pub came_frames : (clock n : ℕ) (known program : Option (List ℕ)) (brought : Brought) (old new : List ℕ) → brought.ended ≡ false → ToldCame clock n known (map Whole brought.frames) program old new → (parts : List Part) → AreParts brought parts → ToldCame clock n known parts program old new
+came_frames clock n known program brought old new none told = λ parts are.
+    subst (λ (ps : List Part). ToldCame clock n known ps program old new) (sym (no_header brought parts none are)) told
+
+pub came_header : (clock n : ℕ) (known program : Option (List ℕ)) (brought : Brought) (old middle new : List ℕ) → brought.ended ≡ true → ToldCame clock n known (map Whole brought.frames) program old middle → new ≡ middle ++ part_told clock In n program (codes "Oversize") → (parts : List Part) → AreParts brought parts → ToldCame clock n known parts program old new
+came_header clock n known program brought old middle new much told line = λ parts are.
+    let found = a_header brought parts much are in
+    let frames : List Part = map Whole brought.frames in
+    let header : List Part = TooMuch found.0 ∷ [] in
+    let own : List ℕ = part_told clock In n program (codes "Oversize") in
+    let last : own ≡ came_told clock n (after_parts known frames) header =
+    sym (append-nil own) ∙ ap (λ (p : Option (List ℕ)). came_told clock n p header) told.program in
+    record {
+      program = told.program ∙ sym (ap (after_parts known) found.1 ∙ after_parts-append known frames header);
+      lines = line ∙ (ap (λ (front : List ℕ). front ++ own) told.lines
+          ∙ (append_assoc old (came_told clock n known frames) own
           ∙ (ap (λ (tail : List ℕ). old ++ (came_told clock n known frames ++ tail)) last
           ∙ (ap (λ (ls : List ℕ). old ++ ls) (sym (came_told-append clock n known frames header))
-          ∙ ap (λ (ps : List Part). old ++ came_told clock n known ps) (sym all)))));
+          ∙ ap (λ (ps : List Part). old ++ came_told clock n known ps) (sym found.1)))));
     }
 
 pub went_frames : (clock n : ℕ) (known : Option (List ℕ)) (brought : Brought) (old new : List ℕ) → brought.ended ≡ false → new ≡ old ++ went_told clock n known (map Whole brought.frames) → (parts : List Part) → AreParts brought parts → new ≡ old ++ went_told clock n known parts
 went_frames clock n known brought old new none lines = λ parts are.
-    let end : are.last ≡ [] = subst (λ (ended : Bool). IsEnd ended are.last) none are.end in
-    let all : parts ≡ map Whole brought.frames = are.all ∙ (ap (λ (ps : List Part). map Whole brought.frames ++ ps) end ∙ append-nil (map Whole brought.frames)) in
-    lines ∙ ap (λ (ps : List Part). old ++ went_told clock n known ps) (sym all)
+    lines ∙ ap (λ (ps : List Part). old ++ went_told clock n known ps) (sym (no_header brought parts none are))
 
-pub went_header : (clock n : ℕ) (known : Option (List ℕ)) (brought : Brought) (old middle new text : List ℕ) → brought.ended ≡ true → middle ≡ old ++ went_told clock n known (map Whole brought.frames) → ((header : List ℕ) → text ≡ part_words (TooMuch header)) → new ≡ middle ++ part_told clock Out n known text → (parts : List Part) → AreParts brought parts → new ≡ old ++ went_told clock n known parts
-went_header clock n known brought old middle new text much lines words line = λ parts are.
-    let end : IsEnd true are.last = subst (λ (ended : Bool). IsEnd ended are.last) much are.end in
+pub went_header : (clock n : ℕ) (known : Option (List ℕ)) (brought : Brought) (old middle new : List ℕ) → brought.ended ≡ true → middle ≡ old ++ went_told clock n known (map Whole brought.frames) → new ≡ middle ++ part_told clock Out n known (codes "Oversize") → (parts : List Part) → AreParts brought parts → new ≡ old ++ went_told clock n known parts
+went_header clock n known brought old middle new much lines line = λ parts are.
+    let found = a_header brought parts much are in
     let frames : List Part = map Whole brought.frames in
-    let header : List Part = TooMuch end.0 ∷ [] in
-    let all : parts ≡ frames ++ header = are.all ∙ ap (λ (ps : List Part). frames ++ ps) end.1 in
-    let last : part_told clock Out n known text ≡ went_told clock n known header =
-    ap (λ (t : List ℕ). part_told clock Out n known t) (words end.0) ∙ sym (append-nil (part_told clock Out n known (part_words (TooMuch end.0)))) in
-    line ∙ (ap (λ (front : List ℕ). front ++ part_told clock Out n known text) lines
-    ∙ (append_assoc old (went_told clock n known frames) (part_told clock Out n known text)
-    ∙ (ap (λ (tail : List ℕ). old ++ (went_told clock n known frames ++ tail)) last
+    let header : List Part = TooMuch found.0 ∷ [] in
+    let own : List ℕ = part_told clock Out n known (codes "Oversize") in
+    line ∙ (ap (λ (front : List ℕ). front ++ own) lines
+    ∙ (append_assoc old (went_told clock n known frames) own
+    ∙ (ap (λ (tail : List ℕ). old ++ (went_told clock n known frames ++ tail)) (sym (append-nil own))
     ∙ (ap (λ (ls : List ℕ). old ++ ls) (sym (went_told-append clock n known frames header))
-    ∙ ap (λ (ps : List Part). old ++ went_told clock n known ps) (sym all)))))
+    ∙ ap (λ (ps : List Part). old ++ went_told clock n known ps) (sym found.1)))))

@@ -1,5 +1,5 @@
 -- A trace that is told line by line.
-use Rattle.std.proofs.Common.{◌≡◌, ◌≢◌, inl, inr, ℕ, ◌+◌, ◌-◌, ◌^◌, Bool, List, [], ◌∷◌, ◌++◌, length, ◌≤◌, drop, Option, None, Result, Ok, Err, OnOk, nat_eq, false, min, codes, if◌then◌else◌, refl, sym, ◌∙◌, ap, subst, arith, eq-eqb, append_assoc}
+use Rattle.std.proofs.Common.{◌≡◌, ◌≢◌, inl, inr, ℕ, ◌+◌, ◌-◌, ◌^◌, Bool, List, [], ◌∷◌, ◌++◌, length, ◌≤◌, drop, Option, None, nat_eq, false, min, codes, if◌then◌else◌, refl, sym, ◌∙◌, ap, subst, arith, eq-eqb, append_assoc}
 use Rattle.std.specs.Ordering.{nat_cmp}
 use Rattle.std.specs.BTreeMap.{BTreeMap, get as row_in}
 use Rattle.std.proofs.lemmas.List.{append-nil, drop_all}
@@ -9,10 +9,10 @@ use Rattle.control_lines.specs.Orders.{order_text}
 use Rattle.ice_framing.specs.Frames.{cut}
 use Rattle.ice_framing.specs.Parts.{Part, parts_of, new_parts}
 use Rattle.message_text.specs.Words.{quoted}
-use Rattle.sm_world.specs.declared.events.Event.TheVariants.{Joined, Piece, Gone, Operator, Tick}
+use Rattle.sm_world.specs.declared.events.Event.TheVariants.{Joined, Piece, Gone, Operator, Tick, End as AtEnd}
 use Rattle.sm_world.specs.declared.events.Order.{Order}
 use Rattle.trace_replay.specs.Flows.{AreParts}
-use Rattle.trace_replay.specs.Shown.{replaced}
+use Rattle.trace_replay.specs.Shown.{replaced, silence}
 use Rattle.trace_replay.specs.Watches.{BringsLine, Shows}
 use Rattle.trace_replay.specs.declared.flows.Brought.{Brought}
 use Rattle.trace_replay.specs.declared.lines.TraceLine.{TraceLine}
@@ -120,7 +120,14 @@ ticks milliseconds clock brought before old is = λ scene notices brings. record
   lines = sym (append-nil old);
 }
 
+pub at_end : (notes : Notes) (brought : Brought) (old : List ℕ) → TellsLine (Heard AtEnd) brought notes notes old old
+at_end notes brought old = λ scene notices brings. record { notices = record { clock = notices.clock; programs = notices.programs }; lines = sym (append-nil old) }
+
 -- ---- all lines
+
+-- before the first line
+pub stands_first : (watch : Watch) (programs : BTreeMap ℕ (List ℕ)) → Shows silence watch → ((q : ℕ) → row_in nat_cmp programs q ≡ None) → Stands first_scene (record { watch = watch; notes = record { programs = programs; clock = 0 } })
+stands_first watch programs shows none = record { shows = shows; notices = record { clock = refl; programs = λ q. none q ∙ sym none-known } }
 
 -- a line was taken and told
 pub goes_on : (said : TraceLine) (before : Teller) (watch : Watch) (notes : Notes) (brought : Brought) (old new : List ℕ) → BringsLine said before.watch watch brought → TellsLine said brought before.notes notes old new → GoesOnWith said before (record { watch = watch; notes = notes }) old new
@@ -128,10 +135,6 @@ goes_on said before watch notes brought old new brings tells = λ scene stands.
     let line = brings scene.streams stands.shows in
     let told = tells scene stands.notices line.brings in
     record { stands = record { shows = line.shows; notices = told.notices }; lines = told.lines }
-
-pub on_ok_by : {E : Type 0} (result : Result (Unit {0}) E) (P Q : Type 0) → (P → Q) → OnOk result P → OnOk result Q
-on_ok_by (Ok x) P Q makes holds = makes holds
-on_ok_by (Err e) P Q makes holds = tt
 
 -- In the middle of the lines: the text so far and what is told of the lines that are left are the whole text.
 pub record Telling (opening : Opening) (lines : List TraceLine) (i : ℕ) (teller : Teller) (text : List ℕ) : Type 0 where

@@ -63,13 +63,20 @@ start_words false = codes "smd can't start"
 abbrev pub started_told : ℕ → Bool → List ℕ → List ℕ
 started_told clock succeeded text = line_at clock (start_words succeeded ++ command_told text)
 
+-- words, and a number behind them
+abbrev pub counted : List ℕ → ℕ → List ℕ
+counted words n = words ++ decimal n
+
 -- what the session begins with: the book, and the patience
+abbrev pub book_words : Book → List ℕ
+book_words book =
+    counted (codes "smd opens the book of epoch ") book.epoch ++ (counted (codes ": clients ") (length book.entries) ++ counted (codes ", pending commands ") (length book.pending))
+
 abbrev pub book_told : Book → List ℕ
-book_told book =
-    line_at 0 (codes "smd opens the book of epoch " ++ (decimal book.epoch ++ (codes ": clients " ++ (decimal (length book.entries) ++ (codes ", pending commands " ++ decimal (length book.pending))))))
+book_told book = line_at 0 (book_words book)
 
 abbrev pub patience_told : ℕ → List ℕ
-patience_told milliseconds = line_at 0 (codes "smd has a patience of " ++ (decimal milliseconds ++ codes " ms"))
+patience_told milliseconds = line_at 0 (counted (codes "smd has a patience of ") milliseconds ++ codes " ms")
 
 -- a line, where there is something to tell
 abbrev pub if_said : {A : Type 0} → (A → List ℕ) → Option A → List ℕ

@@ -20,17 +20,6 @@ fn opens(line: &[u8]) -> bool {
         || line.strip_prefix(b"patience ").is_some()
 }
 
-/// How many lines a text has, each of which ends with a newline.
-fn count_lines(text: &[u8]) -> u64 {
-    let mut count: u64 = 0;
-    for byte in text {
-        if *byte == b'\n' {
-            count = count.saturating_add(1);
-        }
-    }
-    count
-}
-
 impl Follower {
     /// Before the first line.
     pub fn new(alloc: Global) -> Follower {
@@ -57,7 +46,7 @@ impl Follower {
         text.append(line)?;
         text.append(b"\n")?;
         let opening = read_opening(alloc, text.as_slice())?;
-        if opening.size() == count_lines(text.as_slice()) {
+        if opening.behind(text.as_slice()).is_empty() {
             Ok(())
         } else {
             Err(OrderRefusal::BadLine)

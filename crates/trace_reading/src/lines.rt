@@ -1,7 +1,7 @@
 ghost use Rattle.std.specs.Prelude.{◌≡◌, ◌+◌, ◌%◌, ◌++◌, codes, OnOk, option_copied};
 ghost use Rattle.message_text.specs.Words.{quoted};
 ghost use Rattle.control_lines.specs.Orders.{order_text};
-ghost use Rattle.trace_reading.specs.Lines.{book_told, deed_told, line_at, opening_told, part_told, stamp, started_told, who};
+ghost use Rattle.trace_reading.specs.Lines.{book_told, book_words, counted, deed_told, if_said, line_at, opening_told, part_told, patience_told, stamp, started_told, who};
 
 use crate::commands::put_command;
 use checkpoint_records::Book;
@@ -33,7 +33,7 @@ pub fn put_who(
     conn: Conn,
     known: Option<&Octets>,
 ) -> Result<(), NoMemory>
-    ensures { OnOk result (out.new ≡ out.old ++ who conn (option_copied known)) }
+    ensures { OnOk result (out.new ≡ out.old ++ who conn (option_copied known.entry)) }
 {
     let Some(program) = known else {
         return put_number(alloc, out, conn.into());
@@ -54,7 +54,7 @@ pub fn put_part(
     known: Option<&Octets>,
     text: &[u8],
 ) -> Result<(), NoMemory>
-    ensures { OnOk result (out.new ≡ out.old ++ part_told clock direction conn (option_copied known) text.now) }
+    ensures { OnOk result (out.new ≡ out.old ++ part_told clock direction conn (option_copied known.entry) text.now) }
 {
     let verb = match direction {
         Direction::In => " says ",
@@ -67,6 +67,20 @@ pub fn put_part(
     out.append(b"\n")
 }
 
+/// Appends the line of a header that states too much.
+pub fn put_oversize(
+    alloc: Global,
+    out: &mut Octets,
+    clock: u64,
+    direction: Direction,
+    conn: Conn,
+    known: Option<&Octets>,
+) -> Result<(), NoMemory>
+    ensures { OnOk result (out.new ≡ out.old ++ part_told clock direction conn (option_copied known.entry) (codes "Oversize")) }
+{
+    put_part(alloc, out, clock, direction, conn, known, b"Oversize")
+}
+
 /// Appends the line of what happened to a connection: words before it, and words behind it.
 pub fn put_deed(
     alloc: Global,
@@ -77,7 +91,7 @@ pub fn put_deed(
     known: Option<&Octets>,
     behind: &str,
 ) -> Result<(), NoMemory>
-    ensures { OnOk result (out.new ≡ out.old ++ deed_told clock before.now conn (option_copied known) behind.now) }
+    ensures { OnOk result (out.new ≡ out.old ++ deed_told clock before.now conn (option_copied known.entry) behind.now) }
 {
     put_stamp(alloc, out, clock)?;
     out.append(before.as_bytes())?;
@@ -161,32 +175,58 @@ pub fn put_words(alloc: Global, out: &mut Octets, clock: u64, words: &str) -> Re
     out.append(b"\n")
 }
 
-/// Appends which book the session opened.
-fn put_book(alloc: Global, out: &mut Octets, book: &Book) -> Result<(), NoMemory>
-    ensures { OnOk result (out.new ≡ out.old ++ book_told book.now) }
+/// Appends words and a number.
+fn put_counted(alloc: Global, out: &mut Octets, words: &str, number: u64) -> Result<(), NoMemory>
+    ensures { OnOk result (out.new ≡ out.old ++ counted words.now number) }
 {
+    out.append(words.as_bytes())?;
+    put_number(alloc, out, number)
+}
+
+/// Appends what a book has.
+fn put_book_words(alloc: Global, out: &mut Octets, book: &Book) -> Result<(), NoMemory>
+    ensures { OnOk result (out.new ≡ out.old ++ book_words book.now) }
+{
+    let clients = book.entries.as_slice().len() as u64;
+    let commands = book.pending.as_slice().len() as u64;
+    put_counted(
+        alloc,
+        out,
+        "smd opens the book of epoch ",
+        book.epoch.into(),
+    )?;
+    put_counted(alloc, out, ": clients ", clients)?;
+    put_counted(alloc, out, ", pending commands ", commands)
+}
+
+/// Appends which book the session opened, where it opened one.
+fn put_book(alloc: Global, out: &mut Octets, opening: &Opening) -> Result<(), NoMemory>
+    ensures { OnOk result (out.new ≡ out.old ++ if_said book_told opening.now.book) }
+{
+    let Some(book) = &opening.book else {
+        return Ok(());
+    };
     put_stamp(alloc, out, 0)?;
-    out.append(b"smd opens the book of epoch ")?;
-    put_number(alloc, out, book.epoch.into())?;
-    out.append(b": clients ")?;
-    put_number(alloc, out, book.entries.as_slice().len() as u64)?;
-    out.append(b", pending commands ")?;
-    put_number(alloc, out, book.pending.as_slice().len() as u64)?;
+    put_book_words(alloc, out, book)?;
     out.append(b"\n")
+}
+
+/// Appends which patience it has, where one is said.
+fn put_patience(alloc: Global, out: &mut Octets, opening: &Opening) -> Result<(), NoMemory>
+    ensures { OnOk result (out.new ≡ out.old ++ if_said patience_told opening.now.patience) }
+{
+    let Some(patience) = opening.patience else {
+        return Ok(());
+    };
+    put_stamp(alloc, out, 0)?;
+    put_counted(alloc, out, "smd has a patience of ", patience)?;
+    out.append(b" ms\n")
 }
 
 /// Appends what a session begins with.
 pub fn put_opening(alloc: Global, out: &mut Octets, opening: &Opening) -> Result<(), NoMemory>
     ensures { OnOk result (out.new ≡ out.old ++ opening_told opening.now) }
 {
-    if let Some(book) = &opening.book {
-        put_book(alloc, out, book)?;
-    }
-    let Some(patience) = opening.patience else {
-        return Ok(());
-    };
-    put_stamp(alloc, out, 0)?;
-    out.append(b"smd has a patience of ")?;
-    put_number(alloc, out, patience)?;
-    out.append(b" ms\n")
+    put_book(alloc, out, opening)?;
+    put_patience(alloc, out, opening)
 }

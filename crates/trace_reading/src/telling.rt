@@ -1,6 +1,6 @@
-ghost use Rattle.std.specs.Prelude.{◌≡◌, ◌++◌, List, IfOk, OnOk, option_copied};
+ghost use Rattle.std.specs.Prelude.{◌≡◌, ◌++◌, List, map, IfOk, OnOk, option_copied};
 ghost use Rattle.std.specs.List.{AllByRecursion};
-ghost use Rattle.ice_framing.specs.Parts.{Part};
+ghost use Rattle.ice_framing.specs.Parts.{Part, Whole};
 ghost use Rattle.trace_replay.specs.Flows.{AreParts};
 ghost use Rattle.trace_replay.specs.Parts.{IsHeaded};
 ghost use Rattle.trace_replay.specs.declared.lines.TraceLine.{TraceLine as AnyLine};
@@ -8,15 +8,16 @@ ghost use Rattle.trace_reading.specs.Lines.{went_told};
 ghost use Rattle.trace_reading.specs.Told.{first_scene};
 ghost use Rattle.trace_reading.specs.Tellers.{GoesOnWith, Stands, TellsCame, TellsLine, ToldCame};
 
-use crate::lines::{put_deed, put_ordered, put_part, put_printed, put_started, put_words};
+use crate::lines::{
+    put_deed, put_ordered, put_oversize, put_part, put_printed, put_started, put_words,
+};
 use crate::programs::after_frame;
+use ice_framing::WholeFrame;
 use message_text::Writing;
 use sm_world::{Conn, Event, NoMemory, Octets};
 use std::alloc::Global;
 use std::collections::BTreeMap;
 use trace_replay::{Brought, Direction, TraceLine, Watch, frame_text};
-
-const TOO_MUCH: &[u8] = b"Oversize";
 
 /// What is kept of the connections' programs and of the time.
 #[derive(Debug, Drop)]
@@ -34,20 +35,20 @@ pub struct Teller {
     notes: Notes,
 }
 
-/// Appends the lines of parts that came on a connection, and says which program is known behind them.
-fn put_came(
+/// Appends the lines of frames that came on a connection, and says which program is known behind them.
+fn put_came_frames(
     alloc: Global,
     out: &mut Octets,
     clock: u64,
     conn: Conn,
     known: Option<Octets>,
-    brought: &Brought,
+    frames: &[WholeFrame],
 ) -> Result<Option<Octets>, NoMemory>
-    requires { AllByRecursion IsHeaded brought.now.frames }
-    ensures { IfOk result (λ after. (parts : List Part) → AreParts brought.now parts → ToldCame clock conn known parts after out.old out.new) }
+    requires { AllByRecursion IsHeaded frames.now }
+    ensures { IfOk result (λ after. ToldCame clock conn known (map Whole frames.now) after out.old out.new) }
 {
     let mut program = known;
-    for frame in brought.frames.as_slice() {
+    for frame in frames {
         let text = frame_text(alloc, Writing::Words, frame)?;
         put_part(
             alloc,
@@ -60,18 +61,54 @@ fn put_came(
         )?;
         program = after_frame(alloc, frame, program)?;
     }
-    if brought.ended {
+    Ok(program)
+}
+
+/// Appends the lines of parts that came on a connection, and says which program is known behind them.
+fn put_came(
+    alloc: Global,
+    out: &mut Octets,
+    clock: u64,
+    conn: Conn,
+    known: Option<Octets>,
+    brought: &Brought,
+) -> Result<Option<Octets>, NoMemory>
+    requires { AllByRecursion IsHeaded brought.now.frames }
+    ensures { IfOk result (λ after. (parts : List Part) → AreParts brought.now parts → ToldCame clock conn known parts after out.old out.new) }
+{
+    let program = put_came_frames(alloc, out, clock, conn, known, brought.frames.as_slice())?;
+    if !brought.ended {
+        return Ok(program);
+    }
+    put_oversize(alloc, out, clock, Direction::In, conn, program.as_ref())?;
+    Ok(program)
+}
+
+/// Appends the lines of frames that were sent on a connection.
+fn put_sent_frames(
+    alloc: Global,
+    out: &mut Octets,
+    clock: u64,
+    conn: Conn,
+    known: Option<&Octets>,
+    frames: &[WholeFrame],
+) -> Result<(), NoMemory>
+    requires { AllByRecursion IsHeaded frames.now }
+    ensures { OnOk result (out.new ≡ out.old ++ went_told clock conn (option_copied known.entry) (map Whole frames.now)) }
+{
+    for frame in frames {
+        let text = frame_text(alloc, Writing::Words, frame)?;
         put_part(
             alloc,
             out,
             clock,
-            Direction::In,
+            Direction::Out,
             conn,
-            program.as_ref(),
-            TOO_MUCH,
+            known,
+            text.as_slice(),
         )?;
     }
-    Ok(program)
+    Ok(())
 }
 
 /// Appends the lines of parts that were sent on a connection.
@@ -84,24 +121,13 @@ fn put_sent(
     brought: &Brought,
 ) -> Result<(), NoMemory>
     requires { AllByRecursion IsHeaded brought.now.frames }
-    ensures { OnOk result ((parts : List Part) → AreParts brought.now parts → out.new ≡ out.old ++ went_told clock conn (option_copied known) parts) }
+    ensures { OnOk result ((parts : List Part) → AreParts brought.now parts → out.new ≡ out.old ++ went_told clock conn (option_copied known.entry) parts) }
 {
-    for frame in brought.frames.as_slice() {
-        let text = frame_text(alloc, Writing::Words, frame)?;
-        put_part(
-            alloc,
-            out,
-            clock,
-            Direction::Out,
-            conn,
-            known,
-            text.as_slice(),
-        )?;
+    put_sent_frames(alloc, out, clock, conn, known, brought.frames.as_slice())?;
+    if !brought.ended {
+        return Ok(());
     }
-    if brought.ended {
-        put_part(alloc, out, clock, Direction::Out, conn, known, TOO_MUCH)?;
-    }
-    Ok(())
+    put_oversize(alloc, out, clock, Direction::Out, conn, known)
 }
 
 impl Notes {
@@ -192,12 +218,11 @@ impl Teller {
     pub fn new(alloc: Global) -> Teller
         ensures { Stands first_scene result }
     {
+        let watch = Watch::new(alloc);
+        let programs = BTreeMap::new(alloc);
         Teller {
-            watch: Watch::new(alloc),
-            notes: Notes {
-                programs: BTreeMap::new(alloc),
-                clock: 0,
-            },
+            watch,
+            notes: Notes { programs, clock: 0 },
         }
     }
 

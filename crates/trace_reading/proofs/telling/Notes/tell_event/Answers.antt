@@ -1,5 +1,6 @@
 use Rattle.std.proofs.Common.{rules}
-use Rattle.trace_reading.proofs.TellingLemmas.{came, joins, leaves, on_ok_by, orders, ticks}
+use Rattle.message_text.proofs.Joining.{on_ok_by}
+use Rattle.trace_reading.proofs.TellingLemmas.{came, joins, leaves, orders, ticks}
 use Rattle.trace_reading.proofs.telling.Notes.tell_event.Goals as goal
 
 pub returns-in-Joined : goal.returns-in-Joined
@@ -12,8 +13,8 @@ returns-in-Piece c =
 
 pub returns-in-Operator : goal.returns-in-Operator
 returns-in-Operator c =
-    rw (c.in-Operator.is) (on_ok_by c.put_ordered.result _ _ (orders c.in-Operator.order.now c.args.self.now c.args.brought.now c.args.out.now c.put_ordered.new.out) c.put_ordered.ensures)
+    rw (c.in-Operator.is) (on_ok_by c.put_ordered.result _ _ (orders c.in-Operator.order c.args.self.now c.args.brought.now c.args.out.now c.put_ordered.new.out) c.put_ordered.ensures)
 
 pub returns-in-Tick : goal.returns-in-Tick
 returns-in-Tick c =
-    rw (c.in-Tick.is) (ticks c.in-Tick.milliseconds c.saturating_add.result c.args.brought.now c.args.self.now c.args.out.now (search rules))
+    rw (c.in-Tick.is) (ticks c.in-Tick.milliseconds c.saturating_add-self.result c.args.brought.now c.args.self.now c.args.out.now (search rules))

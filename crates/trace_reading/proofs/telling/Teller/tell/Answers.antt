@@ -1,4 +1,5 @@
-use Rattle.trace_reading.proofs.TellingLemmas.{goes_on, on_ok_by}
+use Rattle.message_text.proofs.Joining.{on_ok_by}
+use Rattle.trace_reading.proofs.TellingLemmas.{goes_on}
 use Rattle.trace_reading.proofs.telling.Teller.tell.Goals as goal
 
 pub returns : goal.returns

@@ -1,5 +1,0 @@
-use Rattle.trace_reading.proofs.PartLemmas.{Coming}
-use Rattle.trace_reading.proofs.telling.put_came.Given as goal
-
-abbrev pub invariant-loop-frame : goal.invariant-loop-frame
-invariant-loop-frame l = Coming l.clock l.conn l.known l.brought.frames l.frame-index l.program l.initial.out l.out
