@@ -3,7 +3,7 @@
 _smd_words() {
   local before=$1 line=$2
   case $before in
-    --socket | --control | --store | --authority | --record | --to | --state) echo FILES ;;
+    --socket | --control | --store | --authority | --record | --to | --state | --follow) echo FILES ;;
     --order) echo lsb msb ;;
     drop) smctl clients --plain 2> /dev/null | sed -n 's/^conn=\([0-9]*\) .*/\1/p' ;;
     forget) smctl clients --plain 2> /dev/null | sed -n 's/.* id=\([^ -][^ ]*\).*/\1/p' ;;
@@ -22,7 +22,8 @@ _smd_own() {
     smctl: | smctl:--control) echo checkpoint shutdown cancel status clients drop forget --control --help --version ;;
     smctl:clients) echo --plain ;;
     smctl:shutdown) echo --wait ;;
-    smtrace:) echo show replay --help --version ;;
+    smtrace:) echo show read draw replay --help --version ;;
+    smtrace:read) echo --follow ;;
     smclient:*) echo --socket --authority --id --program --saves --interact --phase-two --help --version ;;
     smrelay:) echo serve rehearse --help --version ;;
     smrelay:serve) echo --socket --to --order ;;

@@ -6,4 +6,6 @@ mod sessions;
 #[cfg(test)]
 mod stores;
 #[cfg(test)]
+mod telling;
+#[cfg(test)]
 mod traces;

@@ -1,2 +1,4 @@
+pub mod Words
+pub mod Properties
 pub mod Fields
 pub mod Lines

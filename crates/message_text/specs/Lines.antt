@@ -1,18 +1,19 @@
 -- The line of each message: its name, and then its fields in the order of the standard.
 use Rattle.std.specs.Prelude.{◌≡◌, ◌⊎◌, ℕ, Bool, List, [], ◌++◌, codes}
-use Rattle.control_lines.specs.Fields.{hex_text}
 use Rattle.ice_messages.specs.declared.message.IceMessage.{IceMessage}
 use Rattle.ice_messages.specs.declared.message.IceMessage.TheVariants.{Error, ByteOrder, ConnectionSetup, AuthenticationRequired, AuthenticationReply, AuthenticationNextPhase, ConnectionReply, ProtocolSetup, ProtocolReply, Ping, PingReply, WantToClose, NoClose}
 use Rattle.ice_messages.specs.Messages.{minor_of}
-use Rattle.ice_values.specs.Fields.{order_number}
-use Rattle.ice_values.specs.Saves.{kind_number, style_number, dialog_number}
 use Rattle.ice_values.specs.declared.property.Property.{Property}
 use Rattle.ice_values.specs.declared.version.Version.{Version}
 use Rattle.sm_world.specs.declared.events.SaveKind.{SaveKind}
 use Rattle.sm_world.specs.declared.events.SaveStyle.{SaveStyle}
 use Rattle.xsmp_messages.specs.declared.message.XsmpMessage.{XsmpMessage}
 use Rattle.xsmp_messages.specs.declared.message.XsmpMessage.TheVariants.{Error as XsmpError, RegisterClient, RegisterClientReply, SaveYourself, SaveYourselfRequest, InteractRequest, Interact, InteractDone, SaveYourselfDone, Die, ShutdownCancelled, ConnectionClosed, SetProperties, DeleteProperties, GetProperties, GetPropertiesReply, SaveYourselfPhase2Request, SaveYourselfPhase2, SaveComplete}
-use Rattle.message_text.specs.Fields.{field, number_field, bool_field, bytes_field, version_text, list_text, property_text, error_text}
+use Rattle.message_text.specs.Fields.{field, number_field, bool_text, bytes_field, dialog_text, error_text, kind_text, list_text, order_text, property_text, style_text, version_text}
+use Rattle.message_text.specs.Properties.{property_lines}
+use Rattle.message_text.specs.Words.{bytes_text}
+use Rattle.message_text.specs.declared.words.Writing.{Writing}
+use Rattle.message_text.specs.declared.words.Writing.TheVariants.{Codes, Words}
 
 -- ---- ICE
 
@@ -36,33 +37,33 @@ abbrev pub IsSetup : IceMessage → Type 0
 IsSetup message = (minor_of message ≡ 2) ⊎ (minor_of message ≡ 7)
 
 -- who made a party's program, and which release it is
-abbrev pub makers_text : List ℕ → List ℕ → List ℕ
-makers_text vendor release = bytes_field (codes "vendor") vendor ++ bytes_field (codes "release") release
+abbrev pub makers_text : Writing → List ℕ → List ℕ → List ℕ
+makers_text writing vendor release = bytes_field writing (codes "vendor") vendor ++ bytes_field writing (codes "release") release
 
 -- these, and what the party can speak
-abbrev pub offer_text : List ℕ → List ℕ → List (List ℕ) → List Version → List ℕ
-offer_text vendor release names offered =
-    makers_text vendor release ++ (field (codes "names") (list_text hex_text names) ++ field (codes "versions") (list_text version_text offered))
+abbrev pub offer_text : Writing → List ℕ → List ℕ → List (List ℕ) → List Version → List ℕ
+offer_text writing vendor release names offered =
+    makers_text writing vendor release ++ (field (codes "names") (list_text (bytes_text writing) names) ++ field (codes "versions") (list_text version_text offered))
 
-abbrev pub ice_fields : IceMessage → List ℕ
-ice_fields (Error error) = error_text error
-ice_fields (ByteOrder order) = number_field (codes "order") (order_number order)
-ice_fields (ConnectionSetup must vendor release names offered) = bool_field (codes "must") must ++ offer_text vendor release names offered
-ice_fields (AuthenticationRequired index proof) = number_field (codes "index") index ++ bytes_field (codes "proof") proof
-ice_fields (AuthenticationReply proof) = bytes_field (codes "proof") proof
-ice_fields (AuthenticationNextPhase proof) = bytes_field (codes "proof") proof
-ice_fields (ConnectionReply index vendor release) = number_field (codes "index") index ++ makers_text vendor release
-ice_fields (ProtocolSetup opcode must protocol vendor release names offered) =
-    number_field (codes "opcode") opcode ++ (bool_field (codes "must") must ++ (bytes_field (codes "protocol") protocol ++ offer_text vendor release names offered))
-ice_fields (ProtocolReply index opcode vendor release) = number_field (codes "index") index ++ (number_field (codes "opcode") opcode ++ makers_text vendor release)
-ice_fields Ping = []
-ice_fields PingReply = []
-ice_fields WantToClose = []
-ice_fields NoClose = []
+abbrev pub ice_fields : Writing → IceMessage → List ℕ
+ice_fields writing (Error error) = error_text writing error
+ice_fields writing (ByteOrder order) = field (codes "order") (order_text writing order)
+ice_fields writing (ConnectionSetup must vendor release names offered) = field (codes "must") (bool_text writing must) ++ offer_text writing vendor release names offered
+ice_fields writing (AuthenticationRequired index proof) = number_field (codes "index") index ++ bytes_field writing (codes "proof") proof
+ice_fields writing (AuthenticationReply proof) = bytes_field writing (codes "proof") proof
+ice_fields writing (AuthenticationNextPhase proof) = bytes_field writing (codes "proof") proof
+ice_fields writing (ConnectionReply index vendor release) = number_field (codes "index") index ++ makers_text writing vendor release
+ice_fields writing (ProtocolSetup opcode must protocol vendor release names offered) =
+    number_field (codes "opcode") opcode ++ (field (codes "must") (bool_text writing must) ++ (bytes_field writing (codes "protocol") protocol ++ offer_text writing vendor release names offered))
+ice_fields writing (ProtocolReply index opcode vendor release) = number_field (codes "index") index ++ (number_field (codes "opcode") opcode ++ makers_text writing vendor release)
+ice_fields writing Ping = []
+ice_fields writing PingReply = []
+ice_fields writing WantToClose = []
+ice_fields writing NoClose = []
 
 -- all of a line, without a newline
-abbrev pub ice_text : IceMessage → List ℕ
-ice_text message = ice_name message ++ ice_fields message
+abbrev pub ice_text : Writing → IceMessage → List ℕ
+ice_text writing message = ice_name message ++ ice_fields writing message
 
 -- ---- XSMP
 
@@ -88,38 +89,39 @@ xsmp_name SaveYourselfPhase2 = codes "SaveYourselfPhase2"
 xsmp_name SaveComplete = codes "SaveComplete"
 
 -- which save is asked for
-abbrev pub save_text : SaveKind → Bool → SaveStyle → Bool → List ℕ
-save_text kind shutdown style fast =
-    number_field (codes "kind") (kind_number kind)
-    ++ (bool_field (codes "shutdown") shutdown
-    ++ (number_field (codes "style") (style_number style)
-    ++ bool_field (codes "fast") fast))
+abbrev pub save_text : Writing → SaveKind → Bool → SaveStyle → Bool → List ℕ
+save_text writing kind shutdown style fast =
+    field (codes "kind") (kind_text writing kind)
+    ++ (field (codes "shutdown") (bool_text writing shutdown)
+    ++ (field (codes "style") (style_text writing style)
+    ++ field (codes "fast") (bool_text writing fast)))
 
 -- the properties of a client
-abbrev pub properties_field : List Property → List ℕ
-properties_field properties = field (codes "properties") (list_text property_text properties)
+abbrev pub properties_field : Writing → List Property → List ℕ
+properties_field Codes properties = field (codes "properties") (list_text (property_text Codes) properties)
+properties_field Words properties = property_lines properties
 
-abbrev pub xsmp_fields : XsmpMessage → List ℕ
-xsmp_fields (XsmpError error) = error_text error
-xsmp_fields (RegisterClient previous) = bytes_field (codes "previous") previous
-xsmp_fields (RegisterClientReply id) = bytes_field (codes "id") id
-xsmp_fields (SaveYourself kind shutdown style fast) = save_text kind shutdown style fast
-xsmp_fields (SaveYourselfRequest kind shutdown style fast global) = save_text kind shutdown style fast ++ bool_field (codes "global") global
-xsmp_fields (InteractRequest dialog) = number_field (codes "dialog") (dialog_number dialog)
-xsmp_fields Interact = []
-xsmp_fields (InteractDone cancel) = bool_field (codes "cancel") cancel
-xsmp_fields (SaveYourselfDone success) = bool_field (codes "success") success
-xsmp_fields Die = []
-xsmp_fields ShutdownCancelled = []
-xsmp_fields (ConnectionClosed reasons) = field (codes "reasons") (list_text hex_text reasons)
-xsmp_fields (SetProperties properties) = properties_field properties
-xsmp_fields (DeleteProperties names) = field (codes "names") (list_text hex_text names)
-xsmp_fields GetProperties = []
-xsmp_fields (GetPropertiesReply properties) = properties_field properties
-xsmp_fields SaveYourselfPhase2Request = []
-xsmp_fields SaveYourselfPhase2 = []
-xsmp_fields SaveComplete = []
+abbrev pub xsmp_fields : Writing → XsmpMessage → List ℕ
+xsmp_fields writing (XsmpError error) = error_text writing error
+xsmp_fields writing (RegisterClient previous) = bytes_field writing (codes "previous") previous
+xsmp_fields writing (RegisterClientReply id) = bytes_field writing (codes "id") id
+xsmp_fields writing (SaveYourself kind shutdown style fast) = save_text writing kind shutdown style fast
+xsmp_fields writing (SaveYourselfRequest kind shutdown style fast global) = save_text writing kind shutdown style fast ++ field (codes "global") (bool_text writing global)
+xsmp_fields writing (InteractRequest dialog) = field (codes "dialog") (dialog_text writing dialog)
+xsmp_fields writing Interact = []
+xsmp_fields writing (InteractDone cancel) = field (codes "cancel") (bool_text writing cancel)
+xsmp_fields writing (SaveYourselfDone success) = field (codes "success") (bool_text writing success)
+xsmp_fields writing Die = []
+xsmp_fields writing ShutdownCancelled = []
+xsmp_fields writing (ConnectionClosed reasons) = field (codes "reasons") (list_text (bytes_text writing) reasons)
+xsmp_fields writing (SetProperties properties) = properties_field writing properties
+xsmp_fields writing (DeleteProperties names) = field (codes "names") (list_text (bytes_text writing) names)
+xsmp_fields writing GetProperties = []
+xsmp_fields writing (GetPropertiesReply properties) = properties_field writing properties
+xsmp_fields writing SaveYourselfPhase2Request = []
+xsmp_fields writing SaveYourselfPhase2 = []
+xsmp_fields writing SaveComplete = []
 
 -- all of a line, without a newline
-abbrev pub xsmp_text : XsmpMessage → List ℕ
-xsmp_text message = xsmp_name message ++ xsmp_fields message
+abbrev pub xsmp_text : Writing → XsmpMessage → List ℕ
+xsmp_text writing message = xsmp_name message ++ xsmp_fields writing message

@@ -10,11 +10,12 @@ use Rattle.program_frame.specs.Programs.{status_by, line_by}
 use Rattle.program_frame.proofs.InputLemmas.{rose_since}
 use Rattle.program_frame.proofs.ProgramLemmas.{Took as TookWithin, ran as ran_with, ran_unread, runs_still, concluded}
 use Rattle.smtrace_app.specs.Faults.{fault_line, fault_status, console_fault}
-use Rattle.trace_replay.specs.Shows.{IsShown}
 use Rattle.trace_replay.specs.Traces.{IsMalformed}
 use Rattle.session_replay.specs.Verdicts.{ReplaysWithin}
 use Rattle.session_replay.specs.declared.replaying.Verdict.TheVariants.{Same as IsSame, Differs as IsDifferent}
-use Rattle.smtrace_app.specs.Statuses.{AreKnown, AreReplay, AreShow, trace_of, Ending, HasEnding, Runs, Answers}
+use Rattle.smtrace_app.specs.Statuses.{AreKnown, AreReplay, AskFor, IsView, trace_of, Ending, HasEnding, Runs, Answers}
+use Rattle.smtrace_app.specs.declared.program.View.{View}
+use Rattle.smtrace_app.specs.declared.program.View.TheVariants.{Shown, Told, Drawn}
 use Rattle.smtrace_app.specs.declared.fault.Fault.TheVariants.{BadWords, Differs, Malformed, Console, NoMemory}
 use Rattle.smtrace_app.specs.declared.program.TheConstants.{TRACE_LIMIT}
 
@@ -51,9 +52,9 @@ print_refused words old mid new bytes failure are taken told uses =
     ran words old mid new bytes [] (Err (console_fault failure)) taken told
     (refused words old.faults.console new.faults.console bytes failure are (λ e. rose_since old.faults.console mid.faults.console new.faults.console taken.console (uses.cause (ap Err e))))
 
--- what is shown was printed
-pub text_printed : (words : List (List ℕ)) (old mid new : Outside) (bytes text printed : List ℕ) → AreShow words → Took old mid bytes → IsShown TRACE_LIMIT bytes text → printed ≡ text → new.told ≡ adds mid.told (Printed printed ∷ []) → Added old.told new.told (Runs words old new (Ok tt))
-text_printed words old mid new bytes text printed are taken shown is told = ran words old mid new bytes (printed ∷ []) (Ok tt) taken told (inl (are, (text, shown, ap (λ t. t ∷ []) is)))
+-- a view was printed
+pub text_printed : (view : View) (words : List (List ℕ)) (old mid new : Outside) (bytes text printed : List ℕ) → AskFor view words → Took old mid bytes → IsView view bytes text → printed ≡ text → new.told ≡ adds mid.told (Printed printed ∷ []) → Added old.told new.told (Runs words old new (Ok tt))
+text_printed view words old mid new bytes text printed are taken shown is told = ran words old mid new bytes (printed ∷ []) (Ok tt) taken told (inl (view, (are, (text, shown, ap (λ t. t ∷ []) is))))
 
 -- the trace was found the same
 pub same_printed : (words : List (List ℕ)) (old mid new : Outside) (bytes : List ℕ) → AreReplay words → Took old mid bytes → ReplaysWithin TRACE_LIMIT bytes IsSame → new.told ≡ adds mid.told (Printed (line (codes "same")) ∷ []) → Added old.told new.told (Runs words old new (Ok tt))
@@ -62,6 +63,12 @@ same_printed words old mid new bytes are taken same told = ran words old mid new
 -- or another
 pub different : (words : List (List ℕ)) (old mid : Outside) (bytes : List ℕ) (at : ℕ) → AreReplay words → Took old mid bytes → ReplaysWithin TRACE_LIMIT bytes (IsDifferent at) → Added old.told mid.told (Runs words old mid (Err (Differs at)))
 different words old mid bytes at are taken differs = ran words old mid mid bytes [] (Err (Differs at)) taken (sym (adds-none mid.told)) (are, differs, refl)
+
+-- the words ask for no view
+pub no_view : (words : List (List ℕ)) → (words ≡ codes "show" ∷ [] → ⊥) → (words ≡ codes "read" ∷ [] → ⊥) → (words ≡ codes "draw" ∷ [] → ⊥) → (view : View) → AskFor view words → ⊥
+no_view words no_show no_read no_draw Shown are = no_show are
+no_view words no_show no_read no_draw Told are = no_read are
+no_view words no_show no_read no_draw Drawn are = no_draw are
 
 -- other words
 pub bad_words : (words : List (List ℕ)) (old : Outside) → (AreKnown words → ⊥) → Added old.told old.told (Runs words old old (Err BadWords))

@@ -7,22 +7,30 @@ use Rattle.program_frame.specs.Printing.{line}
 use Rattle.program_frame.specs.Programs.{RunsAs, AnswersAs, status_by, line_by}
 use Rattle.trace_replay.specs.Shows.{IsShown}
 use Rattle.trace_replay.specs.Traces.{IsMalformed}
+use Rattle.trace_replay.specs.declared.showing.ShowAnswer.{ShowAnswer}
+use Rattle.trace_replay.specs.declared.showing.ShowAnswer.TheVariants.{Text, Malformed as NoTrace}
+use Rattle.trace_reading.specs.Reads.{IsRead}
+use Rattle.trace_picture.specs.Draws.{IsDrawn}
 use Rattle.session_replay.specs.Verdicts.{ReplaysWithin}
 use Rattle.session_replay.specs.declared.replaying.Verdict.TheVariants.{Same as IsSame, Differs as IsDifferent}
 use Rattle.smtrace_app.specs.Faults.{fault_line, fault_status}
+use Rattle.smtrace_app.specs.declared.program.View.{View}
+use Rattle.smtrace_app.specs.declared.program.View.TheVariants.{Shown, Told, Drawn}
 use Rattle.smtrace_app.specs.declared.fault.Fault.{Fault}
 use Rattle.smtrace_app.specs.declared.fault.Fault.TheVariants.{BadWords, Differs, Malformed, Console, NoMemory}
 
--- the words that ask for a trace to be shown, and those that ask for it to be replayed
-abbrev pub AreShow : List (List ℕ) → Type 0
-AreShow words = words ≡ codes "show" ∷ []
+-- the words that ask for a view of a trace, and those that ask for it to be replayed
+abbrev pub AskFor : View → List (List ℕ) → Type 0
+AskFor Shown words = words ≡ codes "show" ∷ []
+AskFor Told words = words ≡ codes "read" ∷ []
+AskFor Drawn words = words ≡ codes "draw" ∷ []
 
 abbrev pub AreReplay : List (List ℕ) → Type 0
 AreReplay words = words ≡ codes "replay" ∷ []
 
 -- the words ask for something
 abbrev pub AreKnown : List (List ℕ) → Type 0
-AreKnown words = AreShow words ⊎ AreReplay words
+AreKnown words = ((view : View) × AskFor view words) ⊎ AreReplay words
 
 -- what is read as the trace: of one that is too long, one byte more than it can have
 abbrev pub trace_of : List ℕ → List ℕ
@@ -32,9 +40,20 @@ trace_of input = front (16777217) input
 abbrev pub Ending : Type 0
 Ending = Result (Unit {0}) Fault
 
--- Status 0 of `show`: the trace was read to its end, and what is shown of it is printed.
-abbrev pub IsPrinted : List ℕ → List (List ℕ) → Type 0
-IsPrinted bytes texts = (text : List ℕ) × IsShown 16777216 bytes text × (texts ≡ text ∷ [])
+-- A view of a trace, which was read to its end: what is shown or told of it. Of a picture nothing more is said.
+abbrev pub IsView : View → List ℕ → List ℕ → Type 0
+IsView Shown bytes text = IsShown 16777216 bytes text
+IsView Told bytes text = IsRead 16777216 bytes text
+IsView Drawn bytes text = IsDrawn 16777216 bytes
+
+-- what a view of a trace answers
+abbrev pub Views : View → List ℕ → ShowAnswer → Type 0
+Views view bytes (Text text) = IsView view bytes text
+Views view bytes (NoTrace at) = IsMalformed 16777216 bytes at
+
+-- Status 0 of `show`, `read` and `draw`: this view of the trace is printed.
+abbrev pub IsPrinted : View → List ℕ → List (List ℕ) → Type 0
+IsPrinted view bytes texts = (text : List ℕ) × IsView view bytes text × (texts ≡ text ∷ [])
 
 -- Status 0 of `replay`: the trace was read to its end, its lines are those of the machine, and `same` is printed.
 abbrev pub IsFoundSame : List ℕ → List (List ℕ) → Type 0
@@ -42,7 +61,7 @@ IsFoundSame bytes texts = ReplaysWithin 16777216 bytes IsSame × (texts ≡ line
 
 -- What each ending says of the words, of the trace's bytes and of the texts that were printed before the ending's own line. The console's count stood at `before`, and now stands at `after`.
 abbrev pub HasEnding : List (List ℕ) → ℕ → ℕ → List ℕ → List (List ℕ) → Ending → Type 0
-HasEnding words before after bytes texts (Ok x) = (AreShow words × IsPrinted bytes texts) ⊎ (AreReplay words × IsFoundSame bytes texts)
+HasEnding words before after bytes texts (Ok x) = ((view : View) × AskFor view words × IsPrinted view bytes texts) ⊎ (AreReplay words × IsFoundSame bytes texts)
 HasEnding words before after bytes texts (Err BadWords) = (¬ (AreKnown words)) × (texts ≡ [])
 HasEnding words before after bytes texts (Err (Differs at)) = AreReplay words × ReplaysWithin 16777216 bytes (IsDifferent at) × (texts ≡ [])
 HasEnding words before after bytes texts (Err (Malformed at)) = AreKnown words × IsMalformed 16777216 bytes at × (texts ≡ [])

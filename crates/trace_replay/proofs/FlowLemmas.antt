@@ -1,5 +1,5 @@
 -- What the parts of a stream are as a piece comes.
-use Rattle.std.proofs.Common.{◌≡◌, ℕ, zero, suc, ◌+◌, ◌*◌, ◌<◌, ◌≤◌, ◌^◌, List, [], ◌∷◌, ◌++◌, length, take, map, None, refl, sym, ◌∙◌, ap, subst, arith, append_assoc, length-append, length-take, codes}
+use Rattle.std.proofs.Common.{◌≡◌, inl, inr, Bool, true, false, ℕ, zero, suc, ◌+◌, ◌*◌, ◌<◌, ◌≤◌, ◌^◌, List, [], ◌∷◌, ◌++◌, length, take, map, None, refl, sym, ◌∙◌, ap, subst, arith, length-append, length-take}
 use Rattle.std.specs.List.{AllByRecursion}
 use Rattle.std.proofs.lemmas.List.{append-nil, length-map, drop_all}
 use Rattle.ice_framing.specs.Frames.{Standing, Cut, beginning, fed, cut, cut_upto, wanted, units, unit_limit, has_frame, first_frame, without_first, behind, uncut, frames_of, standing_of, is_oversize, IsOversize, StandsAt}
@@ -7,10 +7,12 @@ use Rattle.ice_framing.specs.Parts.{Part, Whole, TooMuch, oversize_part, parts_a
 use Rattle.ice_framing.specs.declared.cutting.WholeFrame.{WholeFrame}
 use Rattle.ice_framing.proofs.Cuts.{cond-both, has_frame-true, length-without_first, stated_whole, oversize-fed, is_oversize-true, true-is_oversize, false-is_oversize}
 use Rattle.ice_framing.proofs.Streams.{standing_of-append, frames_of-oversize, standing_of-oversize}
-use Rattle.ice_framing.proofs.Parts.{parts_of-append, new_parts-is}
-use Rattle.trace_replay.specs.Parts.{IsHeaded, ShowsParts}
-use Rattle.trace_replay.specs.Shown.{part_text, shown_line, shown_parts, shown_piece}
-use Rattle.trace_replay.specs.declared.parts.Channel.{Channel}
+use Rattle.std.proofs.lemmas.Bool.{cases_lt}
+use Rattle.ice_framing.proofs.Parts.{parts_at-ended, parts_of-append, new_parts-is}
+use Rattle.trace_replay.specs.Flows.{IsEnd, Taken}
+use Rattle.trace_replay.specs.Parts.{IsHeaded}
+use Rattle.trace_replay.specs.declared.flows.Brought.{Brought}
+use Rattle.trace_replay.specs.declared.flows.Progress.TheVariants.{Going, Ended}
 
 -- each frame has a header
 headed_upto : (n : ℕ) (at : Standing) → AllByRecursion IsHeaded (cut_upto n at).frames
@@ -71,65 +73,66 @@ nothing_more stream piece much =
     let frames = ap length (frames_of-oversize stream piece much) in
     (still, drop_all (length (parts_of stream)) (parts_of (stream ++ piece)) (omega (arith, frames, length-oversize stream much, length-oversize (stream ++ piece) still)))
 
--- the lines of parts behind others
-pub shown_parts-append : (channel : Channel) (before : ℕ) (parts more : List Part) → shown_parts channel.direction channel.conn before (parts ++ more) ≡ shown_parts channel.direction channel.conn before parts ++ shown_parts channel.direction channel.conn (before + length parts) more
-shown_parts-append channel before [] more = ap (λ (n : ℕ). shown_parts channel.direction channel.conn n more) (omega arith)
-shown_parts-append channel before (part ∷ parts) more =
-    ap (λ (lines : List ℕ). shown_line channel.direction channel.conn (before + 1) (part_text part) ++ lines) (shown_parts-append channel (before + 1) parts more ∙ ap (λ (n : ℕ). shown_parts channel.direction channel.conn (before + 1) parts ++ shown_parts channel.direction channel.conn n more) (omega arith))
-    ∙ sym (append_assoc (shown_line channel.direction channel.conn (before + 1) (part_text part)) (shown_parts channel.direction channel.conn (before + 1) parts) (shown_parts channel.direction channel.conn (before + length (part ∷ parts)) more))
-
--- How a stream was read that goes on.
-pub record GoesOn (channel : Channel) (stream piece : List ℕ) (after : Standing) (count : ℕ) (old new : List ℕ) : Type 0 where
-  pub stands : StandsAt (standing_of (stream ++ piece)) after None
-  pub counted : count ≡ length (parts_of (stream ++ piece))
-  pub lines : new ≡ old ++ shown_piece channel.direction channel.conn stream piece
-
--- the frames of a piece were shown, and the stream goes on
-pub goes_on : (channel : Channel) (stream piece : List ℕ) (at after : Standing) (shown count : ℕ) (frames : List WholeFrame) (old new : List ℕ) → at ≡ standing_of stream → units (standing_of stream) ≤ unit_limit → shown ≡ length (parts_of stream) → frames ≡ (cut (fed at piece)).frames → StandsAt (cut (fed at piece)).standing after None → ShowsParts channel shown (map Whole frames) old new count → length (stream ++ piece) < 2 ^ 64 → GoesOn channel stream piece after count old new
-goes_on channel stream piece at after shown count frames old new is_at within is_shown are stands shows small =
+-- the frames of a piece were cut, and the stream goes on
+pub goes_on : (stream piece : List ℕ) (at after : Standing) (shown count : ℕ) (frames : List WholeFrame) → at ≡ standing_of stream → units (standing_of stream) ≤ unit_limit → (length stream < 2 ^ 64 → shown ≡ length (parts_of stream)) → frames ≡ (cut (fed at piece)).frames → StandsAt (cut (fed at piece)).standing after None → (shown + length frames < 2 ^ 64 → count ≡ shown + length frames) → Taken stream piece (Going (record { remainder = after; shown = count })) (record { before = shown; frames = frames; ended = false })
+goes_on stream piece at after shown count frames is_at within is_shown are stands counts =
     let stands_so : StandsAt (cut (fed (standing_of stream) piece)).standing after None = rw is_at at stands in
     let are_so : frames ≡ (cut (fed (standing_of stream) piece)).frames = rw is_at at are in
     let parts : new_parts stream piece ≡ map Whole frames = parts_going stream piece within stands_so.2 ∙ ap (map Whole) (sym are_so) in
     let numbers : length (parts_of (stream ++ piece)) ≡ length (parts_of stream) + length (map Whole frames) = numbers_fit stream piece within ∙ ap (λ (ps : List Part). length (parts_of stream) + length ps) parts in
-    let adds = shows (omega (arith, numbers, is_shown, parts_few (stream ++ piece))) in
+    let shorter = length-append stream piece in
     record {
-      stands = rw (standing_of-append stream piece) stands_so;
-      counted = omega (arith, adds.count, numbers, is_shown);
-      lines = adds.lines ∙ ap (λ (ps : List Part). old ++ shown_parts channel.direction channel.conn shown ps) (sym parts) ∙ ap (λ (n : ℕ). old ++ shown_parts channel.direction channel.conn n (new_parts stream piece)) is_shown;
+      read = (
+        rw (standing_of-append stream piece) stands_so,
+        (λ small.
+            let before : shown ≡ length (parts_of stream) = is_shown (omega (arith, small, shorter)) in
+            counts (omega (arith, numbers, before, length-map frames Whole, parts_few (stream ++ piece), small)) ∙ omega (arith, numbers, before, length-map frames Whole)),
+      );
+      brings = record {
+        parts = record { last = []; all = parts ∙ sym (append-nil (map Whole frames)); end = refl };
+        before = λ small some. is_shown (omega (arith, small, shorter));
+        fits = λ small. omega (arith, is_shown (omega (arith, small, shorter)), numbers, ap length parts, parts_few (stream ++ piece), small);
+      };
     }
 
--- How a stream was read that a header ended.
-pub record WasEnded (channel : Channel) (stream piece : List ℕ) (old new : List ℕ) : Type 0 where
-  pub oversize : IsOversize (standing_of (stream ++ piece))
-  pub lines : new ≡ old ++ shown_piece channel.direction channel.conn stream piece
-
--- the frames of a piece were shown, and then the header
-pub was_ended : (channel : Channel) (stream piece : List ℕ) (at : Standing) (shown count sequence : ℕ) (frames : List WholeFrame) (old middle new : List ℕ) → at ≡ standing_of stream → units (standing_of stream) ≤ unit_limit → shown ≡ length (parts_of stream) → frames ≡ (cut (fed at piece)).frames → IsOversize (cut (fed at piece)).standing → ShowsParts channel shown (map Whole frames) old middle count → (count + 1 < 2 ^ 64 → sequence ≡ count + 1) → new ≡ middle ++ shown_line channel.direction channel.conn sequence (codes "Oversize") → length (stream ++ piece) < 2 ^ 64 → WasEnded channel stream piece old new
-was_ended channel stream piece at shown count sequence frames old middle new is_at within is_shown are much shows counts line small =
+-- the frames of a piece were cut, and then came a header that states too much
+pub was_ended : (stream piece : List ℕ) (at : Standing) (shown : ℕ) (frames : List WholeFrame) → at ≡ standing_of stream → units (standing_of stream) ≤ unit_limit → (length stream < 2 ^ 64 → shown ≡ length (parts_of stream)) → frames ≡ (cut (fed at piece)).frames → IsOversize (cut (fed at piece)).standing → Taken stream piece Ended (record { before = shown; frames = frames; ended = true })
+was_ended stream piece at shown frames is_at within is_shown are much =
     let much_so : IsOversize (cut (fed (standing_of stream) piece)).standing = rw is_at at much in
     let are_so : frames ≡ (cut (fed (standing_of stream) piece)).frames = rw is_at at are in
-    let header : Part = TooMuch (take 8 (cut (fed (standing_of stream) piece)).standing.held) in
-    let parts : new_parts stream piece ≡ map Whole frames ++ header ∷ [] = parts_ended stream piece within much_so ∙ ap (λ (fs : List WholeFrame). map Whole fs ++ header ∷ []) (sym are_so) in
-    let numbers : length (parts_of (stream ++ piece)) ≡ length (parts_of stream) + length (map Whole frames ++ header ∷ []) = numbers_fit stream piece within ∙ ap (λ (ps : List Part). length (parts_of stream) + length ps) parts in
-    let all = length-append (map Whole frames) (header ∷ []) in
-    let adds = shows (omega (arith, numbers, all, is_shown, parts_few (stream ++ piece))) in
-    let next : sequence ≡ shown + length (map Whole frames) + 1 = counts (omega (arith, adds.count, numbers, all, is_shown, parts_few (stream ++ piece))) ∙ ap (λ (n : ℕ). n + 1) adds.count in
-    let last : shown_line channel.direction channel.conn sequence (codes "Oversize") ≡ shown_parts channel.direction channel.conn (shown + length (map Whole frames)) (header ∷ []) = ap (λ (n : ℕ). shown_line channel.direction channel.conn n (codes "Oversize")) next ∙ sym (append-nil (shown_line channel.direction channel.conn (shown + length (map Whole frames) + 1) (codes "Oversize"))) in
+    let header : List ℕ = take 8 (cut (fed (standing_of stream) piece)).standing.held in
+    let parts : new_parts stream piece ≡ map Whole frames ++ TooMuch header ∷ [] = parts_ended stream piece within much_so ∙ ap (λ (fs : List WholeFrame). map Whole fs ++ TooMuch header ∷ []) (sym are_so) in
     record {
-      oversize = subst (λ (to : Standing). IsOversize to) (sym (standing_of-append stream piece)) much_so;
-      lines = line ∙ ap (λ (front : List ℕ). front ++ shown_line channel.direction channel.conn sequence (codes "Oversize")) adds.lines
-          ∙ append_assoc old (shown_parts channel.direction channel.conn shown (map Whole frames)) (shown_line channel.direction channel.conn sequence (codes "Oversize"))
-          ∙ ap (λ (tail : List ℕ). old ++ (shown_parts channel.direction channel.conn shown (map Whole frames) ++ tail)) last
-          ∙ ap (λ (lines : List ℕ). old ++ lines) (sym (shown_parts-append channel shown (map Whole frames) (header ∷ [])))
-          ∙ ap (λ (ps : List Part). old ++ shown_parts channel.direction channel.conn shown ps) (sym parts)
-          ∙ ap (λ (n : ℕ). old ++ shown_parts channel.direction channel.conn n (new_parts stream piece)) is_shown;
+      read = subst (λ (to : Standing). IsOversize to) (sym (standing_of-append stream piece)) much_so;
+      brings = record {
+        parts = record { last = TooMuch header ∷ []; all = parts; end = (header, refl) };
+        before = λ small some. is_shown (omega (arith, small, length-append stream piece));
+        fits = λ small. omega (arith, is_shown (omega (arith, small, length-append stream piece)), numbers_fit stream piece within, parts_few (stream ++ piece), small);
+      };
     }
 
 -- a stream that was ended stays so
-pub stays_ended : (channel : Channel) (stream piece out : List ℕ) → IsOversize (standing_of stream) → WasEnded channel stream piece out out
-stays_ended channel stream piece out much =
+pub stays_ended : (stream piece : List ℕ) (brought : Brought) → brought.before ≡ 0 → IsOversize (standing_of stream) → brought.frames ≡ [] → brought.ended ≡ false → Taken stream piece Ended brought
+stays_ended stream piece brought first much none going =
     let no_more = nothing_more stream piece much in
     record {
-      oversize = no_more.0;
-      lines = sym (append-nil out) ∙ ap (λ (ps : List Part). out ++ shown_parts channel.direction channel.conn (length (parts_of stream)) ps) (sym no_more.1);
+      read = no_more.0;
+      brings = record {
+        parts = record {
+          last = [];
+          all = no_more.1 ∙ sym (ap (λ (fs : List WholeFrame). map Whole fs ++ []) none);
+          end = subst (λ (ended : Bool). IsEnd ended []) (sym going) refl;
+        };
+        before = λ small some. absurd (omega (arith, some, ap length no_more.1));
+        fits = λ small. omega (arith, first, ap length no_more.1);
+      };
     }
+
+-- a stream's parts stay, and those that a piece brings come behind them
+pub more_parts : (stream piece : List ℕ) → parts_of (stream ++ piece) ≡ parts_of stream ++ new_parts stream piece
+more_parts stream piece = elim (cases_lt unit_limit (units (standing_of stream))) [
+  | inl much ↦
+      let same : parts_of (stream ++ piece) ≡ parts_of stream = parts_at-ended (fed beginning stream) piece much in
+      same ∙ sym (ap (λ (ps : List Part). parts_of stream ++ ps) (nothing_more stream piece much).1 ∙ append-nil (parts_of stream))
+  | inr within ↦ parts_of-append stream piece (omega (arith, within)) ∙ ap (λ (ps : List Part). parts_of stream ++ ps) (sym (new_parts-is stream piece (omega (arith, within))))
+]

@@ -1,5 +1,5 @@
 -- A line that begins as one that was sent says nothing else; and no line is shorter than the bytes that it says.
-use Rattle.std.proofs.Common.{◌≡◌, inl, inr, ℕ, ◌+◌, ◌*◌, ◌<◌, ◌≤◌, ◌^◌, List, ◌∷◌, ◌++◌, length, Option, Some, get_or, sym, ◌∙◌, ap, subst, arith, codes, length-append}
+use Rattle.std.proofs.Common.{◌≡◌, Bool, true, false, ℕ, ◌+◌, ◌*◌, ◌<◌, ◌≤◌, ◌^◌, List, ◌∷◌, ◌++◌, length, Option, Some, get_or, sym, ◌∙◌, ap, subst, arith, codes, length-append}
 use Rattle.std.specs.Fmt.{decimal}
 use Rattle.hex.proofs.HexLemmas.{decode_of-ok}
 use Rattle.sm_world.specs.declared.events.Event.{Event}
@@ -34,18 +34,18 @@ only_sent line fields begins none End says = omega (arith, same_first _ _ (sym b
 only_sent line fields begins none (Sent n bytes) (others, begins', says) =
     let P : List ℕ → Type 0 = λ f. SaysBytes f n bytes in none n bytes (subst P (same_fields others fields (sym begins' ∙ begins)) says)
 only_sent line fields begins none (Shut n) says = omega (arith, same_first _ _ (sym begins ∙ says.0))
-only_sent line fields begins none Started (text, inl begins', is) = omega (arith, same_first _ _ (sym begins ∙ begins'))
-only_sent line fields begins none Started (text, inr begins', is) = omega (arith, same_first _ _ (sym begins ∙ begins'))
-only_sent line fields begins none Printed (text, begins') = omega (arith, same_first _ _ (sym begins ∙ begins'))
+only_sent line fields begins none (Started true text) says = omega (arith, same_first _ _ (sym begins ∙ says.0))
+only_sent line fields begins none (Started false text) says = omega (arith, same_first _ _ (sym begins ∙ says.0))
+only_sent line fields begins none (Printed text) says = omega (arith, same_first _ _ (sym begins ∙ says))
 
 -- A line that begins as none that only a trace has, and says no event, says nothing.
-pub no_line : (line : List ℕ) → ((given : Option Event) → Gives line given → ⊥) → (line ≡ codes "end" → ⊥) → ((fields : List ℕ) → line ≡ codes "sent " ++ fields → ⊥) → ((field : List ℕ) → line ≡ codes "shut " ++ field → ⊥) → ((text : List ℕ) → line ≡ codes "printed " ++ text → ⊥) → ((text : List ℕ) → BeginsCommand line text → ⊥) → (meaning : TraceLine) → SaysLine line meaning → ⊥
+pub no_line : (line : List ℕ) → ((given : Option Event) → Gives line given → ⊥) → (line ≡ codes "end" → ⊥) → ((fields : List ℕ) → line ≡ codes "sent " ++ fields → ⊥) → ((field : List ℕ) → line ≡ codes "shut " ++ field → ⊥) → ((text : List ℕ) → line ≡ codes "printed " ++ text → ⊥) → ((succeeded : Bool) (text : List ℕ) → BeginsCommand line succeeded text → ⊥) → (meaning : TraceLine) → SaysLine line meaning → ⊥
 no_line line none no_end no_sent no_shut no_printed no_command (Heard event) says = none (Some event) says
 no_line line none no_end no_sent no_shut no_printed no_command End says = no_end says
 no_line line none no_end no_sent no_shut no_printed no_command (Sent n bytes) says = no_sent says.0 says.1
 no_line line none no_end no_sent no_shut no_printed no_command (Shut n) says = no_shut (decimal n) says.0
-no_line line none no_end no_sent no_shut no_printed no_command Started says = no_command says.0 says.1
-no_line line none no_end no_sent no_shut no_printed no_command Printed says = no_printed says.0 says.1
+no_line line none no_end no_sent no_shut no_printed no_command (Started succeeded text) says = no_command succeeded text says.0
+no_line line none no_end no_sent no_shut no_printed no_command (Printed text) says = no_printed text says
 
 -- no line is shorter than the bytes that it says
 pub bytes_within : (word fields : List ℕ) (n : ℕ) (bytes : List ℕ) → SaysBytes fields n bytes → length bytes ≤ length (word ++ fields)

@@ -1,5 +1,5 @@
 -- A line of a trace says one thing at most, and so a trace has one answer.
-use Rattle.std.proofs.Common.{◌≡◌, ◌⊎◌, inl, inr, ℕ, zero, suc, ◌<◌, ◌≤◌, ◌^◌, ◌==◌, List, [], ◌∷◌, ◌++◌, length, get_or, Some, refl, sym, ◌∙◌, ap, subst, arith, codes, if◌then◌else◌}
+use Rattle.std.proofs.Common.{◌≡◌, Bool, true, false, ℕ, zero, suc, ◌<◌, ◌≤◌, ◌^◌, ◌==◌, List, [], ◌∷◌, ◌++◌, length, get_or, Some, refl, sym, ◌∙◌, ap, subst, arith, codes, if◌then◌else◌}
 use Rattle.std.specs.Fmt.{decimal}
 use Rattle.sm_world.specs.declared.events.Event.{Event}
 use Rattle.sm_world.specs.declared.events.Event.TheVariants.{Joined, Piece, Gone, Operator, Tick, End as AtEnd}
@@ -9,7 +9,7 @@ use Rattle.control_lines.specs.Lines.{lines_of}
 use Rattle.control_lines.specs.Script.{Says}
 use Rattle.control_lines.proofs.Meanings.{one_given, same_bytes}
 use Rattle.control_lines.proofs.Splitting.{before, before_is, decimal_without}
-use Rattle.trace_replay.specs.Grammar.{SaysLine, SayLines}
+use Rattle.trace_replay.specs.Grammar.{BeginsCommand, SaysLine, SayLines}
 use Rattle.trace_replay.specs.Openings.{behind_opening}
 use Rattle.trace_replay.specs.Traces.{IsTrace}
 use Rattle.trace_replay.specs.Shown.{shown}
@@ -52,8 +52,8 @@ kind_of (Heard event) = AnEvent
 kind_of End = TheEnd
 kind_of (Sent n bytes) = ASent
 kind_of (Shut n) = AShut
-kind_of Started = AStarted
-kind_of Printed = APrinted
+kind_of (Started succeeded text) = AStarted
+kind_of (Printed text) = APrinted
 
 -- The first two bytes tell the kinds apart.
 abbrev kind_by : ℕ → ℕ → Kind
@@ -77,9 +77,9 @@ kind_back line (Heard AtEnd) says = elim says [ ]
 kind_back line End says = ap kind_in says
 kind_back line (Sent n bytes) (fields, begins, says) = ap kind_in begins
 kind_back line (Shut n) says = ap kind_in says.0
-kind_back line Started (text, inl begins, is) = ap kind_in begins
-kind_back line Started (text, inr begins, is) = ap kind_in begins
-kind_back line Printed (text, begins) = ap kind_in begins
+kind_back line (Started true text) says = ap kind_in says.0
+kind_back line (Started false text) says = ap kind_in says.0
+kind_back line (Printed text) says = ap kind_in says
 
 same_kind : (line : List ℕ) (one other : TraceLine) → SaysLine line one → SaysLine line other → kind_of other ≡ kind_of one
 same_kind line one other means_one means_other = sym (kind_back line other means_other) ∙ kind_back line one means_one
@@ -89,48 +89,48 @@ is_heard (Heard event) e = (event, refl)
 is_heard End e = absurd cc
 is_heard (Sent n bytes) e = absurd cc
 is_heard (Shut n) e = absurd cc
-is_heard Started e = absurd cc
-is_heard Printed e = absurd cc
+is_heard (Started succeeded text) e = absurd cc
+is_heard (Printed text) e = absurd cc
 
 is_end : (said : TraceLine) → kind_of said ≡ TheEnd → said ≡ End
 is_end (Heard event) e = absurd cc
 is_end End e = refl
 is_end (Sent n bytes) e = absurd cc
 is_end (Shut n) e = absurd cc
-is_end Started e = absurd cc
-is_end Printed e = absurd cc
+is_end (Started succeeded text) e = absurd cc
+is_end (Printed text) e = absurd cc
 
 is_sent : (said : TraceLine) → kind_of said ≡ ASent → (n : ℕ) × (bytes : List ℕ) × (said ≡ Sent n bytes)
 is_sent (Heard event) e = absurd cc
 is_sent End e = absurd cc
 is_sent (Sent n bytes) e = (n, bytes, refl)
 is_sent (Shut n) e = absurd cc
-is_sent Started e = absurd cc
-is_sent Printed e = absurd cc
+is_sent (Started succeeded text) e = absurd cc
+is_sent (Printed text) e = absurd cc
 
 is_shut : (said : TraceLine) → kind_of said ≡ AShut → (n : ℕ) × (said ≡ Shut n)
 is_shut (Heard event) e = absurd cc
 is_shut End e = absurd cc
 is_shut (Sent n bytes) e = absurd cc
 is_shut (Shut n) e = (n, refl)
-is_shut Started e = absurd cc
-is_shut Printed e = absurd cc
+is_shut (Started succeeded text) e = absurd cc
+is_shut (Printed text) e = absurd cc
 
-is_started : (said : TraceLine) → kind_of said ≡ AStarted → said ≡ Started
+is_started : (said : TraceLine) → kind_of said ≡ AStarted → (succeeded : Bool) × ((text : List ℕ) × (said ≡ Started succeeded text))
 is_started (Heard event) e = absurd cc
 is_started End e = absurd cc
 is_started (Sent n bytes) e = absurd cc
 is_started (Shut n) e = absurd cc
-is_started Started e = refl
-is_started Printed e = absurd cc
+is_started (Started succeeded text) e = (succeeded, (text, refl))
+is_started (Printed text) e = absurd cc
 
-is_printed : (said : TraceLine) → kind_of said ≡ APrinted → said ≡ Printed
+is_printed : (said : TraceLine) → kind_of said ≡ APrinted → (text : List ℕ) × (said ≡ Printed text)
 is_printed (Heard event) e = absurd cc
 is_printed End e = absurd cc
 is_printed (Sent n bytes) e = absurd cc
 is_printed (Shut n) e = absurd cc
-is_printed Started e = absurd cc
-is_printed Printed e = refl
+is_printed (Started succeeded text) e = absurd cc
+is_printed (Printed text) e = (text, refl)
 
 -- ---- one meaning
 
@@ -149,6 +149,15 @@ same_sent line n k bytes others (fields, begins, says) (fields', begins', says')
 same_shut : (line : List ℕ) (n k : ℕ) → SaysLine line (Shut n) → SaysLine line (Shut k) → Shut n ≡ Shut k
 same_shut line n k one other = ap Shut (same_number n k one.1 other.1 (same_field (codes "shut ") (decimal n) (decimal k) (sym one.0 ∙ other.0)))
 
+first_of : (one other : List ℕ) → one ≡ other → get_or one 0 0 ≡ get_or other 0 0
+first_of one other e = ap (λ bytes. get_or bytes 0 0) e
+
+same_started : (line : List ℕ) (did did' : Bool) (text text' : List ℕ) → BeginsCommand line did text → BeginsCommand line did' text' → Started did text ≡ Started did' text'
+same_started line true true text text' one other = ap (Started true) (same_field (codes "started ") text text' (sym one ∙ other))
+same_started line false false text text' one other = ap (Started false) (same_field (codes "unstarted ") text text' (sym one ∙ other))
+same_started line true false text text' one other = absurd (omega (arith, first_of _ _ (sym one ∙ other)))
+same_started line false true text text' one other = absurd (omega (arith, first_of _ _ (sym one ∙ other)))
+
 one_line : (line : List ℕ) → MeansOne (SaysLine line)
 one_line line (Heard event) other one two =
     let h = is_heard other (same_kind line (Heard event) other one two) in
@@ -160,8 +169,12 @@ one_line line (Sent n bytes) other one two =
 one_line line (Shut n) other one two =
     let h = is_shut other (same_kind line (Shut n) other one two) in
     same_shut line n h.0 one (subst (SaysLine line) h.1 two) ∙ sym h.1
-one_line line Started other one two = sym (is_started other (same_kind line Started other one two))
-one_line line Printed other one two = sym (is_printed other (same_kind line Printed other one two))
+one_line line (Started succeeded text) other one two =
+    let h = is_started other (same_kind line (Started succeeded text) other one two) in
+    same_started line succeeded h.0 text h.1.0 one.0 (subst (SaysLine line) h.1.1 two).0 ∙ sym h.1.1
+one_line line (Printed text) other one two =
+    let h = is_printed other (same_kind line (Printed text) other one two) in
+    ap Printed (same_field (codes "printed ") text h.0 (sym one ∙ subst (SaysLine line) h.1 two)) ∙ sym h.1
 
 one_list : (lines : List (List ℕ)) → MeansOne (SayLines lines)
 one_list [] [] [] one two = refl

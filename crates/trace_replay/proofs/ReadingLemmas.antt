@@ -71,8 +71,8 @@ after_within bound line streams (Sent n bytes) says within = let loose = looser 
   went = replaced_within (bound + length line) streams.went n (streams.went n ++ bytes) loose.went (omega (arith, within.went n, length-append (streams.went n) bytes, ap length says.1, bytes_within (codes "sent ") says.0 n bytes says.2));
 }
 after_within bound line streams (Shut n) says within = looser bound (length line) streams within
-after_within bound line streams Started says within = looser bound (length line) streams within
-after_within bound line streams Printed says within = looser bound (length line) streams within
+after_within bound line streams (Started succeeded text) says within = looser bound (length line) streams within
+after_within bound line streams (Printed text) says within = looser bound (length line) streams within
 
 -- one more line
 after_one_more : (streams : Streams) (said : List TraceLine) (one : TraceLine) → after_lines streams (said ++ one ∷ []) ≡ after_line (after_lines streams said) one

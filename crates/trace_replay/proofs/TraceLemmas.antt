@@ -253,25 +253,6 @@ never_both limit text n opening said says bad = elim bad.bad [
 
 -- ---- the events
 
--- the events so far are those of the lines so far
-pub record Collecting (limit : ℕ) (text left : List ℕ) (opening : Opening) (events : List Event) (n : ℕ) : Type 0 where
-  pub said : List TraceLine
-  pub read : ReadTo limit text left opening n said
-  pub events_are : events ≡ events_in said
-
-pub collects_none : (limit : ℕ) (text left : List ℕ) (opening : Opening) (events : List Event) (n : ℕ) → ReadTo limit text left opening n [] → events ≡ [] → Collecting limit text left opening events n
-collects_none limit text left opening events n read none = record { said = []; read = read; events_are = none }
-
-pub collects_on : (limit : ℕ) (text left line rest : List ℕ) (opening : Opening) (events more : List Event) (n : ℕ) (one : TraceLine) → Collecting limit text left opening events n → lines_of left ≡ line ∷ lines_of rest → SaysLine line one → more ≡ events ++ event_in one → (rest ≡ [] → length text ≤ limit) → Collecting limit text rest opening more (n + 1)
-collects_on limit text left line rest opening events more n one collecting first says is_more within = record {
-  said = collecting.said ++ one ∷ [];
-  read = goes_on limit text left line rest opening n collecting.said one collecting.read first says within;
-  events_are = is_more ∙ (ap (λ es. es ++ event_in one) collecting.events_are ∙ sym (flat_map-append event_in collecting.said (one ∷ []) ∙ ap (λ es. events_in collecting.said ++ es) (append-nil (event_in one))));
-}
-
-pub collected : (limit : ℕ) (text left : List ℕ) (opening : Opening) (events : List Event) (n : ℕ) → Collecting limit text left opening events n → left ≡ [] → ReadsAs limit text (Whole opening events)
-collected limit text left opening events n collecting none = (collecting.said, ends limit text left opening n collecting.said collecting.read none, collecting.events_are)
-
 heard_sized : (line : List ℕ) (event : Event) → Says line event → HasPieceSize event
 heard_sized line (Joined n) says = tt
 heard_sized line (Piece n bytes) (fields, begins, says) = (says.said.hex.some, says.within)
@@ -285,8 +266,8 @@ line_sized line (Heard event) events says others = (heard_sized line event says,
 line_sized line End events says others = (tt, others)
 line_sized line (Sent n bytes) events says others = others
 line_sized line (Shut n) events says others = others
-line_sized line Started events says others = others
-line_sized line Printed events says others = others
+line_sized line (Started succeeded text) events says others = others
+line_sized line (Printed text) events says others = others
 
 all_sized : (lines : List (List ℕ)) (said : List TraceLine) → SayLines lines said → AllByRecursion HasPieceSize (events_in said)
 all_sized [] [] say = tt
@@ -294,8 +275,8 @@ all_sized [] (one ∷ said) say = elim say [ ]
 all_sized (line ∷ lines) [] say = elim say [ ]
 all_sized (line ∷ lines) (one ∷ said) say = line_sized line one (events_in said) say.0 (all_sized lines said say.1)
 
-pub sized : (limit : ℕ) (text left : List ℕ) (opening : Opening) (events : List Event) (n : ℕ) → Collecting limit text left opening events n → AllByRecursion HasPieceSize events
-sized limit text left opening events n collecting = subst (λ (es : List Event). AllByRecursion HasPieceSize es) (sym collecting.events_are) (all_sized collecting.read.body collecting.said collecting.read.say)
+pub sized : (limit : ℕ) (text : List ℕ) (opening : Opening) (said : List TraceLine) → SaysTrace limit text opening said → AllByRecursion HasPieceSize (events_in said)
+sized limit text opening said says = all_sized (behind_opening opening (lines_of text)) said says.all.say
 
 -- ---- what the code tests
 

@@ -10,15 +10,18 @@ use Rattle.ice_framing.specs.Parts.{parts_of}
 use Rattle.ice_framing.proofs.Streams.{standing_of-nil}
 use Rattle.trace_replay.specs.Flows.{IsReadTo, TakesPiece}
 use Rattle.trace_replay.specs.Shown.{replaced}
-use Rattle.trace_replay.specs.Watches.{IsRead, PutPiece, PutsPiece, FollowsLine}
+use Rattle.trace_replay.specs.Parts.{PutsParts}
+use Rattle.trace_replay.specs.Watches.{BringsLine, BringsPiece, BroughtPiece, FollowsLine, IsRead, PutsLine}
+use Rattle.trace_replay.specs.declared.flows.Brought.{Brought}
 use Rattle.trace_replay.specs.declared.flows.Flow.{Flow}
 use Rattle.trace_replay.specs.declared.flows.Progress.{Progress}
 use Rattle.trace_replay.specs.declared.flows.Progress.TheVariants.{Going}
+use Rattle.trace_replay.specs.declared.lines.TraceLine.{TraceLine}
 use Rattle.trace_replay.specs.declared.lines.TraceLine.TheVariants.{Heard, Sent}
-use Rattle.trace_replay.specs.declared.parts.Channel.{Channel}
 use Rattle.trace_replay.specs.declared.parts.Direction.TheVariants.{In, Out}
 use Rattle.trace_replay.specs.declared.watch.Table.{Table}
 use Rattle.trace_replay.specs.declared.watch.Watch.{Watch}
+use Rattle.trace_replay.proofs.PartLemmas.{put_brought}
 
 -- a row that was kept
 pub kept_read : (stream : List ℕ) (found : Option Progress) (row : Progress) → IsRead stream found → found ≡ Some row → IsReadTo stream row
@@ -32,35 +35,48 @@ no_parts = refl
 pub new_read : (stream : List ℕ) (found : Option Progress) (flow : Flow) → IsRead stream found → found ≡ None → flow.remainder ≡ beginning → flow.shown ≡ 0 → IsReadTo stream (Going flow)
 new_read stream found flow read is splitter shown =
     let empty : stream ≡ [] = rw is at read in
-    rw (empty) ((rw (standing_of-nil) (splitter, omega arith, omega arith)), shown ∙ sym no_parts)
+    rw (empty) ((rw (standing_of-nil) (splitter, omega arith, omega arith)), (λ small. shown ∙ sym no_parts))
 
--- A piece was shown, and how far its stream was read is kept.
-pub put_piece : (streams : ℕ → List ℕ) (channel : Channel) (piece : List ℕ) (before after : BTreeMap ℕ Progress) (row taken : Progress) (old new : List ℕ) → ((q : ℕ) → q ≢ channel.conn → IsRead (streams q) (row_in nat_cmp before q)) → IsReadTo (streams channel.conn) row → TakesPiece channel (streams channel.conn) piece row taken old new → ((q : ℕ) → row_in nat_cmp after q ≡ (if nat_eq q channel.conn then Some taken else row_in nat_cmp before q)) → length (streams channel.conn ++ piece) < 2 ^ 64 → PutPiece streams channel piece (record { rows = after }) old new
-put_piece streams channel piece before after row taken old new reads read takes changes small =
-    let took = takes small read in
+-- A piece was taken, and how far its stream was read is kept.
+pub put_piece : (streams : ℕ → List ℕ) (n : ℕ) (piece : List ℕ) (before after : BTreeMap ℕ Progress) (row taken : Progress) (brought : Brought) → ((q : ℕ) → q ≢ n → IsRead (streams q) (row_in nat_cmp before q)) → IsReadTo (streams n) row → TakesPiece (streams n) piece row taken brought → ((q : ℕ) → row_in nat_cmp after q ≡ (if nat_eq q n then Some taken else row_in nat_cmp before q)) → BroughtPiece streams n piece (record { rows = after }) brought
+put_piece streams n piece before after row taken brought reads read takes changes =
+    let took = takes read in
     record {
-      reads = λ q. elim (cases_eq q channel.conn) [
-        | inl here ↦ rw (changes q, eq-eqb q channel.conn here) took.read
-        | inr apart ↦ let elsewhere : nat_eq q channel.conn ≡ false = grind (arith, nat_tests) in rw (changes q, elsewhere) (reads q apart)
+      reads = λ q. elim (cases_eq q n) [
+        | inl here ↦ rw (changes q, eq-eqb q n here) took.read
+        | inr apart ↦ let elsewhere : nat_eq q n ≡ false = grind (arith, nat_tests) in rw (changes q, elsewhere) (reads q apart)
       ];
-      lines = took.lines;
+      brings = took.brings;
     }
 
-pub on_ok_by : {E : Type 0} (result : Result (Unit {0}) E) (P Q : Type 0) → (P → Q) → OnOk result P → OnOk result Q
-on_ok_by (Ok x) P Q makes holds = makes holds
-on_ok_by (Err e) P Q makes holds = tt
+-- a piece came
+pub came : (n : ℕ) (bytes : List ℕ) (before : Watch) (table : Table) (brought : Brought) → BringsPiece n bytes before.came table brought → BringsLine (Heard (Piece n bytes)) before (record { came = table; went = before.went }) brought
+came n bytes before table brought brings = λ streams shows.
+    let put = brings streams.came shows.came in record { shows = record { came = put.reads; went = shows.went }; brings = put.brings }
+
+-- a piece was sent
+pub went : (n : ℕ) (bytes : List ℕ) (before : Watch) (table : Table) (brought : Brought) → BringsPiece n bytes before.went table brought → BringsLine (Sent n bytes) before (record { came = before.came; went = table }) brought
+went n bytes before table brought brings = λ streams shows.
+    let put = brings streams.went shows.went in record { shows = record { came = shows.came; went = put.reads }; brings = put.brings }
+
+-- ---- what is shown
 
 replaced-here : (streams : ℕ → List ℕ) (n : ℕ) (stream : List ℕ) → replaced streams n stream n ≡ stream
 replaced-here streams n stream = rw (eq-eqb n n refl) refl
 
--- a piece came
-pub came : (n : ℕ) (bytes : List ℕ) (before : Watch) (table : Table) (old new : List ℕ) → PutsPiece (record { direction = In; conn = n }) bytes before.came table old new → FollowsLine (Heard (Piece n bytes)) before (record { came = table; went = before.went }) old new
-came n bytes before table old new puts = λ streams shows countable.
-    let put = puts streams.came shows.came (rw (replaced-here streams.came n (streams.came n ++ bytes)) at (countable.came n)) in
-    record { shows = record { came = put.reads; went = shows.went }; lines = put.lines }
+pub put_came : (n : ℕ) (bytes : List ℕ) (brought : Brought) (old new : List ℕ) → PutsParts (record { direction = In; conn = n }) brought old new → PutsLine (Heard (Piece n bytes)) brought old new
+put_came n bytes brought old new puts = λ streams brings countable.
+    put_brought (record { direction = In; conn = n }) (streams.came n) bytes brought old new brings (rw (replaced-here streams.came n (streams.came n ++ bytes)) at (countable.came n)) puts
 
--- a piece was sent
-pub went : (n : ℕ) (bytes : List ℕ) (before : Watch) (table : Table) (old new : List ℕ) → PutsPiece (record { direction = Out; conn = n }) bytes before.went table old new → FollowsLine (Sent n bytes) before (record { came = before.came; went = table }) old new
-went n bytes before table old new puts = λ streams shows countable.
-    let put = puts streams.went shows.went (rw (replaced-here streams.went n (streams.went n ++ bytes)) at (countable.went n)) in
-    record { shows = record { came = shows.came; went = put.reads }; lines = put.lines }
+pub put_went : (n : ℕ) (bytes : List ℕ) (brought : Brought) (old new : List ℕ) → PutsParts (record { direction = Out; conn = n }) brought old new → PutsLine (Sent n bytes) brought old new
+put_went n bytes brought old new puts = λ streams brings countable.
+    put_brought (record { direction = Out; conn = n }) (streams.went n) bytes brought old new brings (rw (replaced-here streams.went n (streams.went n ++ bytes)) at (countable.went n)) puts
+
+-- a line was taken, and what it brought was shown
+pub follows : (said : TraceLine) (before after : Watch) (brought : Brought) (old new : List ℕ) → BringsLine said before after brought → PutsLine said brought old new → FollowsLine said before after old new
+follows said before after brought old new brings puts = λ streams shows countable.
+    let line = brings streams shows in record { shows = line.shows; lines = puts streams line.brings countable }
+
+pub on_ok_by : {E : Type 0} (result : Result (Unit {0}) E) (P Q : Type 0) → (P → Q) → OnOk result P → OnOk result Q
+on_ok_by (Ok x) P Q makes holds = makes holds
+on_ok_by (Err e) P Q makes holds = tt

@@ -6,6 +6,6 @@ pub mod Frames
 pub mod Shown
 pub mod Shows
 pub mod Steps
-pub mod Parts
 pub mod Flows
+pub mod Parts
 pub mod Watches

@@ -2,7 +2,9 @@
 use Rattle.std.specs.Prelude.{◌≡◌, ℕ, ◌+◌, ◌<◌, ◌≤◌, ◌^◌, List, ◌++◌, length}
 use Rattle.ice_framing.specs.Parts.{Part}
 use Rattle.ice_framing.specs.declared.cutting.WholeFrame.{WholeFrame}
+use Rattle.trace_replay.specs.Flows.{AreParts}
 use Rattle.trace_replay.specs.Shown.{shown_parts}
+use Rattle.trace_replay.specs.declared.flows.Brought.{Brought}
 use Rattle.trace_replay.specs.declared.parts.Channel.{Channel}
 
 -- a frame has a header at least
@@ -17,3 +19,7 @@ pub record AddsParts (channel : Channel) (before : ℕ) (parts : List Part) (old
 -- the same, as far as there are numbers
 abbrev pub ShowsParts : Channel → ℕ → List Part → List ℕ → List ℕ → ℕ → Type 0
 ShowsParts channel before parts old new after = before + length parts < 2 ^ 64 → AddsParts channel before parts old new after
+
+-- The lines of all parts that were brought were added.
+abbrev pub PutsParts : Channel → Brought → List ℕ → List ℕ → Type 0
+PutsParts channel brought old new = (parts : List Part) → AreParts brought parts → brought.before + length parts < 2 ^ 64 → new ≡ old ++ shown_parts channel.direction channel.conn brought.before parts

@@ -4,6 +4,7 @@ use Rattle.std.specs.Fmt.{decimal}
 use Rattle.sm_world.specs.declared.events.Event.{Event}
 use Rattle.sm_world.specs.declared.events.Event.TheVariants.{Joined, Piece, Gone, Operator, Tick, End as AtEnd}
 use Rattle.ice_framing.specs.Parts.{Part, Whole, TooMuch, parts_of, new_parts}
+use Rattle.message_text.specs.declared.words.Writing.TheVariants.{Codes}
 use Rattle.trace_replay.specs.Frames.{frame_text}
 use Rattle.trace_replay.specs.declared.parts.Direction.{Direction}
 use Rattle.trace_replay.specs.declared.parts.Direction.TheVariants.{In, Out}
@@ -11,7 +12,7 @@ use Rattle.trace_replay.specs.declared.lines.TraceLine.{TraceLine}
 use Rattle.trace_replay.specs.declared.lines.TraceLine.TheVariants.{Heard, End, Sent, Shut, Started, Printed}
 
 abbrev pub part_text : Part → List ℕ
-part_text (Whole frame) = frame_text frame
+part_text (Whole frame) = frame_text Codes frame
 part_text (TooMuch header) = codes "Oversize"
 
 abbrev pub direction_text : Direction → List ℕ
@@ -59,8 +60,8 @@ after_line streams (Heard event) = after_event streams event
 after_line streams End = streams
 after_line streams (Sent n bytes) = record streams { went = replaced streams.went n (streams.went n ++ bytes) }
 after_line streams (Shut n) = streams
-after_line streams Started = streams
-after_line streams Printed = streams
+after_line streams (Started succeeded text) = streams
+after_line streams (Printed text) = streams
 
 abbrev pub event_shown : Streams → Event → List ℕ
 event_shown streams (Joined n) = []
@@ -76,8 +77,8 @@ line_shown streams (Heard event) = event_shown streams event
 line_shown streams End = []
 line_shown streams (Sent n bytes) = shown_piece Out n (streams.went n) bytes
 line_shown streams (Shut n) = []
-line_shown streams Started = []
-line_shown streams Printed = []
+line_shown streams (Started succeeded text) = []
+line_shown streams (Printed text) = []
 
 -- what is shown of lines that come behind these streams
 abbrev pub shown_from : Streams → List TraceLine → List ℕ

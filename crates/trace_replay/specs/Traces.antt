@@ -10,6 +10,8 @@ use Rattle.trace_replay.specs.Openings.{Open, behind_opening}
 use Rattle.trace_replay.specs.declared.lines.TraceLine.{TraceLine}
 use Rattle.trace_replay.specs.declared.lines.TraceLine.TheVariants.{Heard, End, Sent, Shut, Started, Printed}
 use Rattle.trace_replay.specs.declared.opening.Opening.{Opening}
+use Rattle.trace_replay.specs.declared.reading.LineReading.{LineReading}
+use Rattle.trace_replay.specs.declared.reading.LineReading.TheVariants.{Whole as WholeLines, Malformed as NoLines}
 use Rattle.trace_replay.specs.declared.reading.Reading.{Reading}
 use Rattle.trace_replay.specs.declared.reading.Reading.TheVariants.{Whole, Malformed}
 
@@ -40,14 +42,19 @@ pub record SaysTrace (limit : ℕ) (text : List ℕ) (opening : Opening) (said :
   pub within : length text ≤ limit
   pub all : IsTrace (lines_of text) opening said
 
+-- what the lines of a text are read as, which may have so many bytes
+abbrev pub ReadsLines : ℕ → List ℕ → LineReading → Type 0
+ReadsLines limit text (WholeLines opening said) = SaysTrace limit text opening said
+ReadsLines limit text (NoLines at) = IsMalformed limit text at
+
 -- the events among the lines, of which `end` is one
 abbrev pub event_in : TraceLine → List Event
 event_in (Heard event) = event ∷ []
 event_in End = AtEnd ∷ []
 event_in (Sent n bytes) = []
 event_in (Shut n) = []
-event_in Started = []
-event_in Printed = []
+event_in (Started succeeded text) = []
+event_in (Printed text) = []
 
 abbrev pub events_in : List TraceLine → List Event
 events_in said = flat_map event_in said

@@ -4,16 +4,16 @@ ghost use Rattle.ice_messages.specs.Reading.{decode_at as ice_at};
 ghost use Rattle.xsmp_messages.specs.Reading.{decode_at as xsmp_at};
 ghost use Rattle.message_text.specs.Lines.{ice_text, xsmp_text};
 ghost use Rattle.trace_replay.specs.Parts.{IsHeaded};
-ghost use Rattle.trace_replay.specs.Frames.{refusal_text, text_of, last_minor, header_refusal, is_whole as whole_in, frame_text as text_in};
+ghost use Rattle.trace_replay.specs.Frames.{refusal_text, text_of, last_minor, header_refusal, is_whole as whole_in, frame_text as text_in, xsmp_in as message_in};
 ghost use Rattle.ice_values.specs.declared.refusals.DecodeRefusal.TheVariants.{NoMemory as OutOfMemory};
 
 use ice_framing::WholeFrame;
 use ice_messages::{LAST_ICE_MINOR, decode_ice};
 use ice_values::{DecodeRefusal, Endian, read_card32};
-use message_text::{ice_line, xsmp_line};
+use message_text::{Writing, ice_line, xsmp_line};
 use sm_world::{NoMemory, Octets};
 use std::alloc::Global;
-use xsmp_messages::{LAST_XSMP_MINOR, decode_xsmp};
+use xsmp_messages::{LAST_XSMP_MINOR, XsmpMessage, decode_xsmp};
 
 const HEADER_LEN: usize = 8;
 
@@ -31,24 +31,34 @@ fn refused_text(alloc: Global, refusal: DecodeRefusal) -> Result<Octets, NoMemor
 }
 
 /// The line of a frame of ICE.
-fn ice_frame_text(alloc: Global, endian: Endian, frame: &[u8]) -> Result<Octets, NoMemory>
+fn ice_frame_text(
+    alloc: Global,
+    writing: Writing,
+    endian: Endian,
+    frame: &[u8],
+) -> Result<Octets, NoMemory>
     requires whole { IsFrame endian frame.now }
     requires opcode { slice_index frame.now 0 ≡ 0 }
-    ensures { IfOk result (λ text. text ≡ text_of ice_text (ice_at endian frame.now)) }
+    ensures { IfOk result (λ text. text ≡ text_of (ice_text writing) (ice_at endian frame.now)) }
 {
     match decode_ice(alloc, endian, frame) {
-        Ok(message) => ice_line(alloc, &message),
+        Ok(message) => ice_line(alloc, writing, &message),
         Err(refusal) => refused_text(alloc, refusal),
     }
 }
 
 /// The line of a frame of XSMP.
-fn xsmp_frame_text(alloc: Global, endian: Endian, frame: &[u8]) -> Result<Octets, NoMemory>
+fn xsmp_frame_text(
+    alloc: Global,
+    writing: Writing,
+    endian: Endian,
+    frame: &[u8],
+) -> Result<Octets, NoMemory>
     requires { IsFrame endian frame.now }
-    ensures { IfOk result (λ text. text ≡ text_of xsmp_text (xsmp_at endian frame.now)) }
+    ensures { IfOk result (λ text. text ≡ text_of (xsmp_text writing) (xsmp_at endian frame.now)) }
 {
     match decode_xsmp(alloc, endian, frame) {
-        Ok(message) => xsmp_line(alloc, &message),
+        Ok(message) => xsmp_line(alloc, writing, &message),
         Err(refusal) => refused_text(alloc, refusal),
     }
 }
@@ -80,17 +90,33 @@ fn refuse_header(header: &[u8]) -> DecodeRefusal
 }
 
 /// The line of the message that a frame spells, or why it spells none.
-pub fn frame_text(alloc: Global, frame: &WholeFrame) -> Result<Octets, NoMemory>
+pub fn frame_text(alloc: Global, writing: Writing, frame: &WholeFrame) -> Result<Octets, NoMemory>
     requires { IsHeaded frame.now }
-    ensures { IfOk result (λ text. text ≡ text_in frame.now) }
+    ensures { IfOk result (λ text. text ≡ text_in writing frame.now) }
 {
     let bytes = frame.bytes.as_slice();
     if !is_whole(frame.endian, bytes) {
         return refused_text(alloc, refuse_header(bytes));
     }
     if bytes[0] == 0 {
-        ice_frame_text(alloc, frame.endian, bytes)
+        ice_frame_text(alloc, writing, frame.endian, bytes)
     } else {
-        xsmp_frame_text(alloc, frame.endian, bytes)
+        xsmp_frame_text(alloc, writing, frame.endian, bytes)
+    }
+}
+
+/// The message of XSMP that a frame spells; `None` where it spells none.
+pub fn xsmp_in(alloc: Global, frame: &WholeFrame) -> Result<Option<XsmpMessage>, NoMemory>
+    requires { IsHeaded frame.now }
+    ensures { IfOk result (λ found. found ≡ message_in frame.now) }
+{
+    let bytes = frame.bytes.as_slice();
+    if !is_whole(frame.endian, bytes) || bytes[0] == 0 {
+        return Ok(None);
+    }
+    match decode_xsmp(alloc, frame.endian, bytes) {
+        Ok(message) => Ok(Some(message)),
+        Err(DecodeRefusal::NoMemory) => Err(NoMemory),
+        Err(_) => Ok(None),
     }
 }

@@ -1,10 +1,11 @@
-ghost use Rattle.std.specs.Prelude.{ℕ, List, IfOk, IfErr, IfSome, IsNone};
+ghost use Rattle.std.specs.Prelude.{◌≡◌, ℕ, Bool, List, IfOk, IfErr, IfSome, IsNone};
 ghost use Rattle.control_lines.specs.Script.{IsRefusal};
+ghost use Rattle.trace_replay.specs.Commands.{IsCommand};
 ghost use Rattle.trace_replay.specs.Grammar.{BeginsCommand, SaysLine};
 
 use crate::commands::is_command;
 use control_lines::{OrderRefusal, read_bytes, read_conn, read_script_line};
-use sm_world::{Conn, Event, Octets};
+use sm_world::{Conn, Event, ListOf, Octets};
 use std::alloc::Global;
 
 /// What a line of a trace says.
@@ -18,20 +19,37 @@ pub enum TraceLine {
     Sent(Conn, Octets),
     /// `shut N`
     Shut(Conn),
-    /// `started` or `unstarted`, and a command.
-    Started,
+    /// `started` or `unstarted`, by whether it could be, and the fields of a command.
+    Started(bool, Octets),
     /// `printed`, and any text.
-    Printed,
+    Printed(Octets),
 }
 
-/// The text behind `started` or `unstarted`.
-fn command_text(line: &[u8]) -> Option<&[u8]>
-    ensures some { IfSome result (λ text. BeginsCommand line.now text.now) }
-    ensures none { IsNone result → (text : List ℕ) → ¬ (BeginsCommand line.now text) }
+pub type TraceLineList = ListOf<TraceLine>;
+
+/// Whether a command was started, and the text behind the word that says so.
+fn command_text(line: &[u8]) -> Option<(bool, &[u8])>
+    ensures some { IfSome result (λ found. BeginsCommand line.now found.0 found.1.now) }
+    ensures none { IsNone result → (succeeded : Bool) (text : List ℕ) → ¬ (BeginsCommand line.now succeeded text) }
 {
-    match line.strip_prefix(b"started ") {
-        Some(text) => Some(text),
-        None => line.strip_prefix(b"unstarted "),
+    if let Some(text) = line.strip_prefix(b"started ") {
+        return Some((true, text));
+    }
+    match line.strip_prefix(b"unstarted ") {
+        Some(text) => Some((false, text)),
+        None => None,
+    }
+}
+
+/// The command that was started, or couldn't be, with these fields.
+fn read_started(alloc: Global, succeeded: bool, text: &[u8]) -> Result<TraceLine, OrderRefusal>
+    ensures says { IfOk result (λ said. IsCommand text.now × (said ≡ TraceLine.Started succeeded text.now)) }
+    ensures refused { IfErr result (λ refusal. refusal ≡ OrderRefusal.BadLine → ¬ (IsCommand text.now)) }
+{
+    if is_command(alloc, text)? {
+        Ok(TraceLine::Started(succeeded, Octets::from_slice(alloc, text)?))
+    } else {
+        Err(OrderRefusal::BadLine)
     }
 }
 
@@ -54,15 +72,11 @@ pub fn read_trace_line(alloc: Global, line: &[u8]) -> Result<TraceLine, OrderRef
             .map(TraceLine::Shut)
             .ok_or(OrderRefusal::BadLine);
     }
-    if let Some(_) = line.strip_prefix(b"printed ") {
-        return Ok(TraceLine::Printed);
+    if let Some(text) = line.strip_prefix(b"printed ") {
+        return Ok(TraceLine::Printed(Octets::from_slice(alloc, text)?));
     }
-    if let Some(text) = command_text(line) {
-        return if is_command(alloc, text)? {
-            Ok(TraceLine::Started)
-        } else {
-            Err(OrderRefusal::BadLine)
-        };
+    if let Some((succeeded, text)) = command_text(line) {
+        return read_started(alloc, succeeded, text);
     }
     match read_script_line(alloc, line) {
         Ok(Some(event)) => Ok(TraceLine::Heard(event)),

@@ -1,11 +1,13 @@
 ghost use Rattle.std.specs.Prelude.{◌≡◌, ◌++◌, ℕ, List, map, OnOk, IfOk};
 ghost use Rattle.std.specs.List.{AllByRecursion};
 ghost use Rattle.ice_framing.specs.Parts.{Whole};
-ghost use Rattle.trace_replay.specs.Parts.{IsHeaded, ShowsParts};
+ghost use Rattle.trace_replay.specs.Parts.{IsHeaded, PutsParts, ShowsParts};
 ghost use Rattle.trace_replay.specs.Shown.{shown_line};
 
+use crate::flows::Brought;
 use crate::frames::frame_text;
 use ice_framing::WholeFrame;
+use message_text::Writing;
 use sm_world::{Conn, NoMemory, Octets};
 use std::alloc::Global;
 
@@ -24,7 +26,7 @@ pub struct Channel {
 }
 
 /// Appends a text with its direction, its connection and its number.
-pub fn put_line(
+fn put_line(
     alloc: Global,
     out: &mut Octets,
     channel: Channel,
@@ -49,7 +51,7 @@ pub fn put_line(
 }
 
 /// Appends the lines of frames, of which so many came before, and says how many there are now.
-pub fn put_frames(
+fn put_frames(
     alloc: Global,
     out: &mut Octets,
     channel: Channel,
@@ -62,8 +64,31 @@ pub fn put_frames(
     let mut sequence = before;
     for frame in frames {
         sequence = sequence.saturating_add(1);
-        let text = frame_text(alloc, frame)?;
+        let text = frame_text(alloc, Writing::Codes, frame)?;
         put_line(alloc, out, channel, sequence, text.as_slice())?;
     }
     Ok(sequence)
+}
+
+/// Appends the lines of the parts that a piece brought.
+pub fn put_parts(
+    alloc: Global,
+    out: &mut Octets,
+    channel: Channel,
+    brought: &Brought,
+) -> Result<(), NoMemory>
+    requires { AllByRecursion IsHeaded brought.now.frames }
+    ensures { OnOk result (PutsParts channel brought.now out.old out.new) }
+{
+    let count = put_frames(
+        alloc,
+        out,
+        channel,
+        brought.before,
+        brought.frames.as_slice(),
+    )?;
+    if brought.ended {
+        return put_line(alloc, out, channel, count.saturating_add(1), b"Oversize");
+    }
+    Ok(())
 }

@@ -1,10 +1,19 @@
-ghost use Rattle.std.specs.Prelude.{IfOk};
+ghost use Rattle.std.specs.Prelude.{IfErr, IfOk, OnOk};
+ghost use Rattle.std.specs.List.{AllByRecursion};
+ghost use Rattle.control_lines.specs.Script.{IsRefusal};
+ghost use Rattle.trace_replay.specs.Grammar.{SaysLine};
+ghost use Rattle.trace_replay.specs.Parts.{IsHeaded};
 ghost use Rattle.trace_replay.specs.Shows.{Shows, ShowsWithin};
+ghost use Rattle.trace_replay.specs.Watches.{FollowsLine, PutsLine};
+ghost use Rattle.trace_replay.specs.declared.lines.TraceLine.{TraceLine as AnyLine};
 
+use crate::flows::Brought;
+use crate::lines::{TraceLine, read_trace_line};
 use crate::opening::read_opening;
+use crate::parts::{Channel, Direction, put_parts};
 use crate::watch::Watch;
 use control_lines::{OrderRefusal, next_line};
-use sm_world::{NoMemory, Octets};
+use sm_world::{Event, NoMemory, Octets};
 use std::alloc::Global;
 
 /// What showing a trace answers.
@@ -14,6 +23,74 @@ pub enum ShowAnswer {
     Text(Octets),
     /// This line, counted from 1, is the first that isn't of the grammar.
     Malformed { at: u64 },
+}
+
+/// Appends what is shown of a line that brought these parts.
+fn put_shown(
+    alloc: Global,
+    out: &mut Octets,
+    said: &TraceLine,
+    brought: &Brought,
+) -> Result<(), NoMemory>
+    requires { AllByRecursion IsHeaded brought.now.frames }
+    ensures { OnOk result (PutsLine said.now brought.now out.old out.new) }
+{
+    match said {
+        TraceLine::Heard(event) => put_heard(alloc, out, event, brought),
+        TraceLine::Sent(conn, _) => {
+            let channel = Channel {
+                direction: Direction::Out,
+                conn: *conn,
+            };
+            put_parts(alloc, out, channel, brought)
+        }
+        TraceLine::End => Ok(()),
+        TraceLine::Shut(_) => Ok(()),
+        TraceLine::Started(..) => Ok(()),
+        TraceLine::Printed(_) => Ok(()),
+    }
+}
+
+/// Appends what is shown of an event that brought these parts.
+fn put_heard(
+    alloc: Global,
+    out: &mut Octets,
+    event: &Event,
+    brought: &Brought,
+) -> Result<(), NoMemory>
+    requires { AllByRecursion IsHeaded brought.now.frames }
+    ensures { OnOk result (PutsLine (TraceLine.Heard event.now) brought.now out.old out.new) }
+{
+    match event {
+        Event::Piece(conn, _) => {
+            let channel = Channel {
+                direction: Direction::In,
+                conn: *conn,
+            };
+            put_parts(alloc, out, channel, brought)
+        }
+        Event::Joined(_) => Ok(()),
+        Event::Gone(_) => Ok(()),
+        Event::Operator(_) => Ok(()),
+        Event::Tick(_) => Ok(()),
+        Event::End => Ok(()),
+    }
+}
+
+/// Appends what is shown of a line, and goes on with it.
+fn take_line(
+    alloc: Global,
+    watch: &mut Watch,
+    out: &mut Octets,
+    line: &[u8],
+) -> Result<(), OrderRefusal>
+    ensures taken { OnOk result ((said : AnyLine) × SaysLine line.now said × FollowsLine said watch.old watch.new out.old out.new) }
+    ensures refused { IfErr result (IsRefusal (SaysLine line.now)) }
+{
+    let said = read_trace_line(alloc, line)?;
+    let brought = watch.take(alloc, &said)?;
+    put_shown(alloc, out, &said, &brought)?;
+    Ok(())
 }
 
 /// Shows a trace. Where it has more bytes than this, its last line isn't of the grammar.
@@ -34,7 +111,7 @@ pub fn show_within(alloc: Global, trace: &[u8], limit: usize) -> Result<ShowAnsw
         if rest.is_empty() && trace.len() > limit {
             return Ok(ShowAnswer::Malformed { at: number });
         }
-        match watch.take_line(alloc, &mut text, line) {
+        match take_line(alloc, &mut watch, &mut text, line) {
             Ok(()) => {}
             Err(OrderRefusal::BadLine) => return Ok(ShowAnswer::Malformed { at: number }),
             Err(OrderRefusal::NoMemory) => return Err(NoMemory),

@@ -1,15 +1,13 @@
-ghost use Rattle.std.specs.Prelude.{◌≡◌, ℕ, List, [], OnOk, IfErr};
-ghost use Rattle.control_lines.specs.Script.{IsRefusal};
-ghost use Rattle.trace_replay.specs.Grammar.{SaysLine};
-ghost use Rattle.trace_replay.specs.Shown.{Streams, silence, replaced};
-ghost use Rattle.trace_replay.specs.Watches.{Reads, PutsPiece, Shows, Follows, FollowsLine};
+ghost use Rattle.std.specs.Prelude.{ℕ, List, [], IfOk};
+ghost use Rattle.std.specs.List.{AllByRecursion};
+ghost use Rattle.trace_replay.specs.Parts.{IsHeaded};
+ghost use Rattle.trace_replay.specs.Shown.{silence, replaced};
+ghost use Rattle.trace_replay.specs.Watches.{BringsLine, BringsPiece, Reads, Shows};
 ghost use Rattle.trace_replay.specs.declared.lines.TraceLine.{TraceLine};
 
-use crate::flows::{Flow, Progress};
-use crate::lines::{TraceLine, read_trace_line};
-use crate::parts::{Channel, Direction};
-use control_lines::OrderRefusal;
-use sm_world::{Conn, Event, NoMemory, Octets};
+use crate::flows::{Brought, Flow, Progress};
+use crate::lines::TraceLine;
+use sm_world::{Conn, Event, NoMemory};
 use std::alloc::Global;
 use std::collections::BTreeMap;
 
@@ -35,27 +33,22 @@ impl Table {
         self.rows.remove(&conn);
     }
 
-    /// Shows the parts that a piece of a stream brings.
-    fn take(
-        &mut self,
-        alloc: Global,
-        out: &mut Octets,
-        channel: Channel,
-        piece: &[u8],
-    ) -> Result<(), NoMemory>
-        ensures { OnOk result (PutsPiece channel piece.now self.old self.new out.old out.new) }
+    /// Goes on with a piece of a stream.
+    fn take(&mut self, alloc: Global, conn: Conn, piece: &[u8]) -> Result<Brought, NoMemory>
+        ensures brings { IfOk result (BringsPiece conn piece.now self.old self.new) }
+        ensures headed { IfOk result (λ brought. AllByRecursion IsHeaded brought.frames) }
     {
-        let row = match self.rows.remove(&channel.conn) {
+        let row = match self.rows.remove(&conn) {
             Some(row) => row,
             None => Progress::Going(Flow::new(alloc)),
         };
-        let row = row.take(alloc, out, channel, piece)?;
-        self.rows.insert(channel.conn, row)?;
-        Ok(())
+        let (row, brought) = row.take(alloc, piece)?;
+        self.rows.insert(conn, row)?;
+        Ok(brought)
     }
 }
 
-/// How far the streams of both directions were read.
+/// How far the streams of both directions were read, of each connection.
 #[derive(Debug, Drop)]
 pub struct Watch {
     came: Table,
@@ -73,67 +66,37 @@ impl Watch {
         }
     }
 
-    /// Appends what is shown of an event.
-    fn take_event(&mut self, alloc: Global, out: &mut Octets, event: &Event) -> Result<(), NoMemory>
-        ensures { OnOk result (FollowsLine (TraceLine.Heard event.now) self.old self.new out.old out.new) }
+    /// Goes on with an event.
+    fn take_event(&mut self, alloc: Global, event: &Event) -> Result<Brought, NoMemory>
+        ensures brings { IfOk result (BringsLine (TraceLine.Heard event.now) self.old self.new) }
+        ensures headed { IfOk result (λ brought. AllByRecursion IsHeaded brought.frames) }
     {
         match event {
             Event::Joined(conn) => {
                 self.came.reset(*conn);
                 self.went.reset(*conn);
-                Ok(())
+                Ok(Brought::nothing(alloc))
             }
-            Event::Piece(conn, bytes) => {
-                let channel = Channel {
-                    direction: Direction::In,
-                    conn: *conn,
-                };
-                self.came.take(alloc, out, channel, bytes.as_slice())
-            }
-            Event::Gone(_) => Ok(()),
-            Event::Operator(_) => Ok(()),
-            Event::Tick(_) => Ok(()),
-            Event::End => Ok(()),
+            Event::Piece(conn, bytes) => self.came.take(alloc, *conn, bytes.as_slice()),
+            Event::Gone(_) => Ok(Brought::nothing(alloc)),
+            Event::Operator(_) => Ok(Brought::nothing(alloc)),
+            Event::Tick(_) => Ok(Brought::nothing(alloc)),
+            Event::End => Ok(Brought::nothing(alloc)),
         }
     }
 
-    /// Appends what is shown of what a line says.
-    fn take_said(
-        &mut self,
-        alloc: Global,
-        out: &mut Octets,
-        said: &TraceLine,
-    ) -> Result<(), NoMemory>
-        ensures { OnOk result (FollowsLine said.now self.old self.new out.old out.new) }
+    /// Goes on with what a line says: the parts that it brings.
+    pub fn take(&mut self, alloc: Global, said: &TraceLine) -> Result<Brought, NoMemory>
+        ensures brings { IfOk result (BringsLine said.now self.old self.new) }
+        ensures headed { IfOk result (λ brought. AllByRecursion IsHeaded brought.frames) }
     {
         match said {
-            TraceLine::Heard(event) => self.take_event(alloc, out, event),
-            TraceLine::Sent(conn, bytes) => {
-                let channel = Channel {
-                    direction: Direction::Out,
-                    conn: *conn,
-                };
-                self.went.take(alloc, out, channel, bytes.as_slice())
-            }
-            TraceLine::End => Ok(()),
-            TraceLine::Shut(_) => Ok(()),
-            TraceLine::Started => Ok(()),
-            TraceLine::Printed => Ok(()),
+            TraceLine::Heard(event) => self.take_event(alloc, event),
+            TraceLine::Sent(conn, bytes) => self.went.take(alloc, *conn, bytes.as_slice()),
+            TraceLine::End => Ok(Brought::nothing(alloc)),
+            TraceLine::Shut(_) => Ok(Brought::nothing(alloc)),
+            TraceLine::Started(..) => Ok(Brought::nothing(alloc)),
+            TraceLine::Printed(_) => Ok(Brought::nothing(alloc)),
         }
-    }
-
-    /// Appends what is shown of a line. A line that isn't of the grammar changes nothing.
-    pub fn take_line(
-        &mut self,
-        alloc: Global,
-        out: &mut Octets,
-        line: &[u8],
-    ) -> Result<(), OrderRefusal>
-        ensures taken { OnOk result ((said : TraceLine) × SaysLine line.now said × FollowsLine said self.old self.new out.old out.new) }
-        ensures refused { IfErr result (IsRefusal (SaysLine line.now)) }
-    {
-        let said = read_trace_line(alloc, line)?;
-        self.take_said(alloc, out, &said)?;
-        Ok(())
     }
 }

@@ -4,7 +4,7 @@ use crate::frames::decoded as ice_decoded;
 use crate::written::bytes_of;
 use crate::xsmp::decoded as xsmp_decoded;
 use ice_values::Endian;
-use message_text::{ice_line, xsmp_line};
+use message_text::{Writing, ice_line, xsmp_line};
 use std::alloc::{Alloc, Global};
 use std::process::Abort;
 use std::test::Fail;
@@ -47,17 +47,47 @@ const XSMP_ROWS: &str = "\
 0111000000000000 => SaveYourselfPhase2
 0112000000000000 => SaveComplete";
 
+const ICE_WORDS: &str = "\
+00000380010000000502000007060000 => Error class=32771 minor=5 severity=FatalToConnection sequence=1543 values=\"\"
+0001010000000000 => ByteOrder order=MSBfirst
+0002010206000000010000000000000003004d49540000000300312e300000000600434f4f4b494504004e4f504500000100020000000000 => ConnectionSetup must=yes vendor=\"MIT\" release=\"1.0\" names=[\"COOKIE\",\"NOPE\"] versions=[1.2]
+00030200020000000300000000000000221f5c0000000000 => AuthenticationRequired index=2 proof=\"\\\"\\x1f\\\\\"";
+
+const XSMP_WORDS: &str = "\
+01020000010000000300000061627f00 => RegisterClientReply id=\"ab\\x7f\"
+01030000010000000100020100000000 => SaveYourself kind=Local shutdown=no style=Any fast=yes
+01040000010000000201010001000000 => SaveYourselfRequest kind=Both shutdown=yes style=Errors fast=no global=yes
+01030000010000000000000000000000 => SaveYourself kind=Global shutdown=no style=None fast=no
+0105000000000000 => InteractRequest dialog=Error
+0105010000000000 => InteractRequest dialog=Normal
+010b0000030000000200000000000000020000006e6f00000000000000000000 => ConnectionClosed reasons=[\"no\",\"\"]
+010c0000010000000000000000000000 => SetProperties";
+
+fn ice_told(alloc: Global, digits: &str) -> Result<String, Fail> {
+    let frame = bytes_of(alloc, digits)?;
+    let message = ice_decoded(alloc, Endian::Lsb, frame.as_slice())??;
+    let line = ice_line(alloc, Writing::Words, &message)?;
+    Ok(str::from_utf8(line.as_slice())?.to_string(alloc)?)
+}
+
+fn xsmp_told(alloc: Global, digits: &str) -> Result<String, Fail> {
+    let frame = bytes_of(alloc, digits)?;
+    let message = xsmp_decoded(alloc, Endian::Lsb, frame.as_slice())??;
+    let line = xsmp_line(alloc, Writing::Words, &message)?;
+    Ok(str::from_utf8(line.as_slice())?.to_string(alloc)?)
+}
+
 fn ice_shown(alloc: Global, digits: &str) -> Result<String, Fail> {
     let frame = bytes_of(alloc, digits)?;
     let message = ice_decoded(alloc, Endian::Lsb, frame.as_slice())??;
-    let line = ice_line(alloc, &message)?;
+    let line = ice_line(alloc, Writing::Codes, &message)?;
     Ok(str::from_utf8(line.as_slice())?.to_string(alloc)?)
 }
 
 fn xsmp_shown(alloc: Global, digits: &str) -> Result<String, Fail> {
     let frame = bytes_of(alloc, digits)?;
     let message = xsmp_decoded(alloc, Endian::Lsb, frame.as_slice())??;
-    let line = xsmp_line(alloc, &message)?;
+    let line = xsmp_line(alloc, Writing::Codes, &message)?;
     Ok(str::from_utf8(line.as_slice())?.to_string(alloc)?)
 }
 
@@ -69,4 +99,14 @@ fn lines_of_ice(rt: HostRuntime) -> Result<(), Fail> {
 #[test]
 fn lines_of_xsmp(rt: HostRuntime) -> Result<(), Fail> {
     expect_rows(&rt, XSMP_ROWS, xsmp_shown)
+}
+
+#[test]
+fn lines_of_ice_for_people(rt: HostRuntime) -> Result<(), Fail> {
+    expect_rows(&rt, ICE_WORDS, ice_told)
+}
+
+#[test]
+fn lines_of_xsmp_for_people(rt: HostRuntime) -> Result<(), Fail> {
+    expect_rows(&rt, XSMP_WORDS, xsmp_told)
 }

@@ -3,4 +3,4 @@ use Rattle.std.specs.List.{flat_map}
 use Rattle.message_text.proofs.fields.put_others.Given as goal
 
 abbrev pub invariant-loop-item : goal.invariant-loop-item
-invariant-loop-item g l = l.out ≡ l.fn.out ++ flat_map (λ item. codes "," ++ g.T.Shown.text item) (take l.item-index l.items)
+invariant-loop-item g l = l.out ≡ l.fn.out ++ flat_map (λ item. codes "," ++ g.T.Shown.text l.writing item) (take l.item-index l.items)

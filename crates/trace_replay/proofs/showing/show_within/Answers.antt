@@ -33,7 +33,7 @@ returns-in-Err-BadLine c =
 
 pub loop-left-preserved : goal.loop-left-preserved
 loop-left-preserved c =
-    shows_on c.args.limit c.args.trace.now c.loop-left.left.now c.next_line.result.0.now c.next_line.result.1.now c.in_ok-opening.opening c.loop-left.watch c.take_line.new.self c.loop-left.text c.take_line.new.out c.loop-left.number c.in-Ok.ensures.taken.0 c.loop-left.invariant c.next_line.ensures.lines c.in-Ok.ensures.taken.1 c.in-Ok.ensures.taken.2
+    shows_on c.args.limit c.args.trace.now c.loop-left.left.now c.next_line.result.0.now c.next_line.result.1.now c.in_ok-opening.opening c.loop-left.watch c.take_line.new.watch c.loop-left.text c.take_line.new.out c.loop-left.number c.in-Ok.ensures.taken.0 c.loop-left.invariant c.next_line.ensures.lines c.in-Ok.ensures.taken.1 c.in-Ok.ensures.taken.2
     (within_by c.args.limit c.args.trace.now c.next_line.result.1.now (elim c.else-is_empty-2.branch [
       | else-is_empty-2-via-then-is_empty-2+else-trace-limit-2 w ↦ inr (omega arith)
       | else-is_empty-2-via-else-is_empty-2 w ↦ inl w.if-is_empty-2.ensures

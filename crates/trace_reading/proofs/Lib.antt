@@ -1,0 +1,5 @@
+pub mod CommandLemmas
+pub mod LineLemmas
+pub mod PartLemmas
+pub mod TellingLemmas
+pub mod Once

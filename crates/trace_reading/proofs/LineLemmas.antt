@@ -1,0 +1,18 @@
+-- Texts that were added one after the other.
+use Rattle.std.proofs.Common.{◌≡◌, ℕ, List, ◌++◌, length, codes, sym, ◌∙◌, ap, append_assoc}
+use Rattle.checkpoint_records.specs.declared.records.Book.{Book}
+use Rattle.message_text.proofs.Joining.{joined}
+use Rattle.trace_reading.specs.Lines.{book_words, counted, patience_told, stamp}
+
+pub three : (old one two new a b c : List ℕ) → one ≡ old ++ a → two ≡ one ++ b → new ≡ two ++ c → new ≡ old ++ (a ++ (b ++ c))
+three old one two new a b c first second third = joined old a (b ++ c) one new first (joined one b c two new second third)
+
+pub book_line : (book : Book) (old one two new : List ℕ) → one ≡ old ++ counted (codes "smd opens the book of epoch ") book.epoch → two ≡ one ++ counted (codes ": clients ") (length book.entries) → new ≡ two ++ counted (codes ", pending commands ") (length book.pending) → new ≡ old ++ book_words book
+book_line book old one two new first second third =
+    three old one two new (counted (codes "smd opens the book of epoch ") book.epoch) (counted (codes ": clients ") (length book.entries)) (counted (codes ", pending commands ") (length book.pending)) first second third
+
+pub patience_line : (n : ℕ) (old one two new : List ℕ) → one ≡ old ++ stamp 0 → two ≡ one ++ counted (codes "smd has a patience of ") n → new ≡ two ++ codes " ms\n" → new ≡ old ++ patience_told n
+patience_line n old one two new first second third =
+    let words : List ℕ = counted (codes "smd has a patience of ") n in
+    three old one two new (stamp 0) words (codes " ms\n") first second third
+    ∙ ap (λ (ls : List ℕ). old ++ (stamp 0 ++ ls)) (sym (append_assoc words (codes " ms") (codes "\n")))

@@ -1,0 +1,71 @@
+use crate::lines::put_opening;
+use crate::telling::Teller;
+use control_lines::OrderRefusal;
+use sm_world::{NoMemory, Octets};
+use std::alloc::Global;
+use trace_replay::{read_opening, read_trace_line};
+
+/// A trace that is told line by line, as it comes.
+#[derive(Drop)]
+pub struct Follower {
+    teller: Teller,
+    /// The lines of the opening so far, until another line comes.
+    opening: Option<Octets>,
+}
+
+/// Whether a line belongs to what a trace opens with.
+fn opens(line: &[u8]) -> bool {
+    line.strip_prefix(b"cookie ").is_some()
+        || line.strip_prefix(b"book ").is_some()
+        || line.strip_prefix(b"patience ").is_some()
+}
+
+impl Follower {
+    /// Before the first line.
+    pub fn new(alloc: Global) -> Follower {
+        Follower {
+            teller: Teller::new(alloc),
+            opening: Some(Octets::new(alloc)),
+        }
+    }
+
+    /// Appends what is told of the opening, which is at its end.
+    fn end_opening(&mut self, alloc: Global, out: &mut Octets) -> Result<(), NoMemory> {
+        if let Some(text) = self.opening.take() {
+            let opening = read_opening(alloc, text.as_slice())?;
+            put_opening(alloc, out, &opening)?;
+        }
+        Ok(())
+    }
+
+    /// One more line of the opening.
+    fn take_opening(&mut self, alloc: Global, line: &[u8]) -> Result<(), OrderRefusal> {
+        let Some(text) = &mut self.opening else {
+            return Err(OrderRefusal::BadLine);
+        };
+        text.append(line)?;
+        text.append(b"\n")?;
+        let opening = read_opening(alloc, text.as_slice())?;
+        if opening.behind(text.as_slice()).is_empty() {
+            Ok(())
+        } else {
+            Err(OrderRefusal::BadLine)
+        }
+    }
+
+    /// Appends what is told of the next line, without its newline.
+    pub fn take(
+        &mut self,
+        alloc: Global,
+        out: &mut Octets,
+        line: &[u8],
+    ) -> Result<(), OrderRefusal> {
+        if opens(line) {
+            return self.take_opening(alloc, line);
+        }
+        self.end_opening(alloc, out)?;
+        let said = read_trace_line(alloc, line)?;
+        self.teller.tell(alloc, out, &said)?;
+        Ok(())
+    }
+}
