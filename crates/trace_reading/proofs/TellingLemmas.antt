@@ -8,15 +8,14 @@ use Rattle.std.proofs.lemmas.Bool.Decides.{nat_tests}
 use Rattle.control_lines.specs.Orders.{order_text}
 use Rattle.ice_framing.specs.Frames.{cut}
 use Rattle.ice_framing.specs.Parts.{Part, parts_of, new_parts}
-use Rattle.message_text.specs.Words.{quoted}
-use Rattle.sm_world.specs.declared.events.Event.TheVariants.{Joined, Piece, Gone, Operator, Tick, End as AtEnd}
+use Rattle.sm_world.specs.declared.events.Event.TheVariants.{Joined, Piece, Operator, Tick}
 use Rattle.sm_world.specs.declared.events.Order.{Order}
 use Rattle.trace_replay.specs.Flows.{AreParts}
 use Rattle.trace_replay.specs.Shown.{replaced, silence}
 use Rattle.trace_replay.specs.Watches.{BringsLine, Shows}
 use Rattle.trace_replay.specs.declared.flows.Brought.{Brought}
 use Rattle.trace_replay.specs.declared.lines.TraceLine.{TraceLine}
-use Rattle.trace_replay.specs.declared.lines.TraceLine.TheVariants.{Heard, End, Sent, Shut, Started, Printed}
+use Rattle.trace_replay.specs.declared.lines.TraceLine.TheVariants.{Heard, End, Sent, Shut, Started}
 use Rattle.trace_replay.specs.declared.opening.Opening.{Opening}
 use Rattle.trace_replay.specs.declared.watch.Watch.{Watch}
 use Rattle.trace_replay.proofs.FlowLemmas.{more_parts}
@@ -88,9 +87,6 @@ joins n clock brought before after old new changes line = λ scene notices bring
 deed_at : (scene : Scene) (notes : Notes) (front : List ℕ) (n : ℕ) (back old new : List ℕ) → Notices scene notes → new ≡ old ++ deed_told notes.clock front n (row_in nat_cmp notes.programs n) back → new ≡ old ++ deed_told scene.clock front n (known_on scene n) back
 deed_at scene notes front n back old new notices line = line ∙ (ap (λ (c : ℕ). old ++ deed_told c front n (row_in nat_cmp notes.programs n) back) notices.clock ∙ ap (λ (k : Option (List ℕ)). old ++ deed_told scene.clock front n k back) (notices.programs n))
 
-pub leaves : (n : ℕ) (notes : Notes) (brought : Brought) (old new : List ℕ) → new ≡ old ++ deed_told notes.clock [] n (row_in nat_cmp notes.programs n) (codes " is gone") → TellsLine (Heard (Gone n)) brought notes notes old new
-leaves n notes brought old new line = λ scene notices brings. record { notices = record { clock = notices.clock; programs = notices.programs }; lines = deed_at scene notes [] n (codes " is gone") old new notices line }
-
 pub shuts : (n : ℕ) (notes : Notes) (brought : Brought) (old new : List ℕ) → new ≡ old ++ deed_told notes.clock (codes "smd shuts ") n (row_in nat_cmp notes.programs n) [] → TellsLine (Shut n) brought notes notes old new
 shuts n notes brought old new line = λ scene notices brings. record { notices = record { clock = notices.clock; programs = notices.programs }; lines = deed_at scene notes (codes "smd shuts ") n [] old new notices line }
 
@@ -99,9 +95,6 @@ orders order notes brought old new line = λ scene notices brings. record { noti
 
 pub ends : (notes : Notes) (brought : Brought) (old new : List ℕ) → new ≡ old ++ line_at notes.clock (codes "the end") → TellsLine End brought notes notes old new
 ends notes brought old new line = λ scene notices brings. record { notices = record { clock = notices.clock; programs = notices.programs }; lines = line ∙ ap (λ (c : ℕ). old ++ line_at c (codes "the end")) notices.clock }
-
-pub prints : (text : List ℕ) (notes : Notes) (brought : Brought) (old new : List ℕ) → new ≡ old ++ line_at notes.clock (codes "smd prints " ++ quoted text) → TellsLine (Printed text) brought notes notes old new
-prints text notes brought old new line = λ scene notices brings. record { notices = record { clock = notices.clock; programs = notices.programs }; lines = line ∙ ap (λ (c : ℕ). old ++ line_at c (codes "smd prints " ++ quoted text)) notices.clock }
 
 pub starts : (succeeded : Bool) (text : List ℕ) (notes : Notes) (brought : Brought) (old new : List ℕ) → new ≡ old ++ started_told notes.clock succeeded text → TellsLine (Started succeeded text) brought notes notes old new
 starts succeeded text notes brought old new line = λ scene notices brings. record { notices = record { clock = notices.clock; programs = notices.programs }; lines = line ∙ ap (λ (c : ℕ). old ++ started_told c succeeded text) notices.clock }
@@ -119,9 +112,6 @@ ticks milliseconds clock brought before old is = λ scene notices brings. record
   notices = record { clock = is ∙ ap (λ (c : ℕ). min (c + milliseconds) (2 ^ 64 - 1)) notices.clock; programs = notices.programs };
   lines = sym (append-nil old);
 }
-
-pub at_end : (notes : Notes) (brought : Brought) (old : List ℕ) → TellsLine (Heard AtEnd) brought notes notes old old
-at_end notes brought old = λ scene notices brings. record { notices = record { clock = notices.clock; programs = notices.programs }; lines = sym (append-nil old) }
 
 -- ---- all lines
 

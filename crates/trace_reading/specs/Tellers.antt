@@ -7,7 +7,7 @@ use Rattle.trace_replay.specs.Flows.{AreParts}
 use Rattle.trace_replay.specs.Watches.{LineBrings, Shows}
 use Rattle.trace_replay.specs.declared.flows.Brought.{Brought}
 use Rattle.trace_replay.specs.declared.lines.TraceLine.{TraceLine}
-use Rattle.trace_reading.specs.Lines.{came_told}
+use Rattle.trace_reading.specs.Lines.{came_told, went_told}
 use Rattle.trace_reading.specs.Programs.{after_parts}
 use Rattle.trace_reading.specs.Told.{Scene, clock_behind, known_on, line_told, scene_behind}
 use Rattle.trace_reading.specs.declared.telling.Teller.{Teller}
@@ -35,6 +35,14 @@ TellsLine said brought before after old new = (scene : Scene) → Notices scene 
 pub record ToldCame (clock n : ℕ) (known : Option (List ℕ)) (parts : List Part) (after : Option (List ℕ)) (old new : List ℕ) : Type 0 where
   pub program : after ≡ after_parts known parts
   pub lines : new ≡ old ++ came_told clock n known parts
+
+-- the same of all parts that were brought
+abbrev pub BroughtCame : ℕ → ℕ → Option (List ℕ) → Brought → Option (List ℕ) → List ℕ → List ℕ → Type 0
+BroughtCame clock n known brought after old new = (parts : List Part) → AreParts brought parts → ToldCame clock n known parts after old new
+
+-- All parts that were brought were told as sent.
+abbrev pub BroughtWent : ℕ → ℕ → Option (List ℕ) → Brought → List ℕ → List ℕ → Type 0
+BroughtWent clock n known brought old new = (parts : List Part) → AreParts brought parts → new ≡ old ++ went_told clock n known parts
 
 -- A piece that came was told.
 pub record CameTold (n : ℕ) (parts : List Part) (before after : Notes) (old new : List ℕ) : Type 0 where

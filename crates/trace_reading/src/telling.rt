@@ -1,12 +1,11 @@
-ghost use Rattle.std.specs.Prelude.{◌≡◌, ◌++◌, List, map, IfOk, OnOk, option_copied};
+ghost use Rattle.std.specs.Prelude.{◌≡◌, ◌++◌, map, IfOk, OnOk, option_copied};
 ghost use Rattle.std.specs.List.{AllByRecursion};
-ghost use Rattle.ice_framing.specs.Parts.{Part, Whole};
-ghost use Rattle.trace_replay.specs.Flows.{AreParts};
+ghost use Rattle.ice_framing.specs.Parts.{Whole};
 ghost use Rattle.trace_replay.specs.Parts.{IsHeaded};
 ghost use Rattle.trace_replay.specs.declared.lines.TraceLine.{TraceLine as AnyLine};
 ghost use Rattle.trace_reading.specs.Lines.{went_told};
 ghost use Rattle.trace_reading.specs.Told.{first_scene};
-ghost use Rattle.trace_reading.specs.Tellers.{GoesOnWith, Stands, TellsCame, TellsLine, ToldCame};
+ghost use Rattle.trace_reading.specs.Tellers.{BroughtCame, BroughtWent, GoesOnWith, Stands, TellsCame, TellsLine, ToldCame};
 
 use crate::lines::{
     put_deed, put_ordered, put_oversize, put_part, put_printed, put_started, put_words,
@@ -74,7 +73,7 @@ fn put_came(
     brought: &Brought,
 ) -> Result<Option<Octets>, NoMemory>
     requires { AllByRecursion IsHeaded brought.now.frames }
-    ensures { IfOk result (λ after. (parts : List Part) → AreParts brought.now parts → ToldCame clock conn known parts after out.old out.new) }
+    ensures { IfOk result (λ after. BroughtCame clock conn known brought.now after out.old out.new) }
 {
     let program = put_came_frames(alloc, out, clock, conn, known, brought.frames.as_slice())?;
     if !brought.ended {
@@ -121,7 +120,7 @@ fn put_sent(
     brought: &Brought,
 ) -> Result<(), NoMemory>
     requires { AllByRecursion IsHeaded brought.now.frames }
-    ensures { OnOk result ((parts : List Part) → AreParts brought.now parts → out.new ≡ out.old ++ went_told clock conn (option_copied known.entry) parts) }
+    ensures { OnOk result (BroughtWent clock conn (option_copied known.entry) brought.now out.old out.new) }
 {
     put_sent_frames(alloc, out, clock, conn, known, brought.frames.as_slice())?;
     if !brought.ended {

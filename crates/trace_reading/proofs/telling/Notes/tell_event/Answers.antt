@@ -1,6 +1,6 @@
 use Rattle.std.proofs.Common.{rules}
 use Rattle.message_text.proofs.Joining.{on_ok_by}
-use Rattle.trace_reading.proofs.TellingLemmas.{came, joins, leaves, orders, ticks}
+use Rattle.trace_reading.proofs.TellingLemmas.{came, joins, orders, ticks}
 use Rattle.trace_reading.proofs.telling.Notes.tell_event.Goals as goal
 
 pub returns-in-Joined : goal.returns-in-Joined
