@@ -5,3 +5,5 @@
 mod agents;
 #[cfg(test)]
 mod frames;
+#[cfg(test)]
+mod outer;
