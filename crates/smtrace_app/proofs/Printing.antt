@@ -54,7 +54,7 @@ print_refused words old mid new bytes failure are taken told uses =
 
 -- a view was printed
 pub text_printed : (view : View) (words : List (List ℕ)) (old mid new : Outside) (bytes text printed : List ℕ) → AskFor view words → Took old mid bytes → IsView view bytes text → printed ≡ text → new.told ≡ adds mid.told (Printed printed ∷ []) → Added old.told new.told (Runs words old new (Ok tt))
-text_printed view words old mid new bytes text printed are taken shown is told = ran words old mid new bytes (printed ∷ []) (Ok tt) taken told (inl (view, (are, (text, shown, ap (λ t. t ∷ []) is))))
+text_printed view words old mid new bytes text printed are taken shown is told = ran words old mid new bytes (printed ∷ []) (Ok tt) taken told (inl (view, are, (text, shown, ap (λ t. t ∷ []) is)))
 
 -- the trace was found the same
 pub same_printed : (words : List (List ℕ)) (old mid new : Outside) (bytes : List ℕ) → AreReplay words → Took old mid bytes → ReplaysWithin TRACE_LIMIT bytes IsSame → new.told ≡ adds mid.told (Printed (line (codes "same")) ∷ []) → Added old.told new.told (Runs words old new (Ok tt))
