@@ -57,9 +57,9 @@ fn followed(alloc: Global, row: &str) -> Result<String, Fail> {
     let trace = lines(alloc, row)?;
     let mut follower = Follower::new(alloc);
     let mut text = Octets::new(alloc);
-    let mut number = 0;
+    let mut number = 0u64;
     for line in trace.as_str().lines() {
-        number += 1;
+        number = number.saturating_add(1);
         match follower.take(alloc, &mut text, line.as_bytes()) {
             Ok(()) => {}
             Err(OrderRefusal::BadLine) => return Ok(format!(in alloc; "malformed at {number}")?),
