@@ -8,7 +8,7 @@ use outer_agent::{
     Agent, AgentAct, AgentFault, are_few, ends_are_said_where_due, pieces_bring_no_success,
     pieces_make_no_difference,
 };
-use sm_world::{NoMemory, Octets, OctetsList};
+use owned_lists::{NoMemory, Octets, OctetsList};
 use std::alloc::{Alloc, Global};
 use std::test::Fail;
 use test_tables::expect_rows;

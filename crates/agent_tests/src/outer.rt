@@ -1,5 +1,6 @@
 use outer_world::Outer;
-use sm_world::{EventList, Failure, MemWorld, NoMemory, NumberList, Octets, SteadyWorld};
+use owned_lists::{NoMemory, NumberList, Octets};
+use sm_world::{EventList, Failure, MemWorld, SteadyWorld};
 use std::alloc::{Alloc, Global};
 use std::test::Fail;
 use test_tables::{expect_rows, text_of};

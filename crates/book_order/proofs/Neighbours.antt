@@ -7,7 +7,7 @@ use Rattle.std.specs.Prelude.{filter, if◌then◌else◌}
 use Rattle.std.specs.List.{AllByRecursion, IsDistinct, list_any}
 use Rattle.std.specs.Str.{bytes_eq}
 use lib.Pointwise.{bytes_decides}
-use Rattle.sm_world.specs.declared.commands.Command.{Command}
+use Rattle.owned_lists.specs.declared.commands.Command.{Command}
 use Rattle.checkpoint_changes.specs.Plain.{KeepOrder, KeepsOrder, equal_command}
 use Rattle.checkpoint_changes.proofs.EqualLaws.{command_decides}
 use Rattle.checkpoint_records.specs.Books.{discards, same_command}

@@ -4,7 +4,7 @@ use Rattle.std.proofs.lemmas.List.{append-nil}
 use Rattle.std.proofs.lemmas.Grind.{flat_map-append}
 use Rattle.std.specs.Prelude.{Option, None, Some, is_some, filter_map, codes}
 use Rattle.std.specs.List.{AllByRecursion, flat_map}
-use Rattle.sm_world.specs.declared.commands.Command.{Command}
+use Rattle.owned_lists.specs.declared.commands.Command.{Command}
 use Rattle.sm_world.specs.declared.events.Order.{Order}
 use Rattle.sm_world.specs.declared.events.Order.TheVariants.{Cancel, Checkpoint, DropConn, Forget, Shutdown, Status}
 use Rattle.xsmp_properties.specs.Tables.{set_all}

@@ -3,7 +3,7 @@ use Rattle.std.proofs.Common.{◌≡◌, ℕ, ◌+◌, ◌*◌, List, [], ◌∷
 use Rattle.std.specs.Prelude.{◌==◌, flat_map, if◌then◌else◌}
 use Rattle.std.specs.Str.{bytes_eq}
 use Rattle.ice_values.proofs.CellLaws.{length-zeros}
-use Rattle.sm_world.specs.declared.commands.Command.{Command}
+use Rattle.owned_lists.specs.declared.commands.Command.{Command}
 use Rattle.checkpoint_changes.specs.Amendments.{delta_bytes}
 use Rattle.checkpoint_changes.specs.Changes.{change_cells}
 use Rattle.checkpoint_changes.specs.Plain.{IsPlain, epoch_in, equal_command, equal_entry, missing_from, pended_in, put_in, removed_in, unpended_in}

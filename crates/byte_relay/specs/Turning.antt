@@ -1,6 +1,6 @@
 -- What an Error says in the order of the numbers of its message, besides its own fields (ICE, chapter 7: Error Class Encoding).
 use Rattle.std.specs.Prelude.{ℕ, ◌+◌, Bool, List, length, drop, nat_lt, ◌==◌, ◌||◌, if◌then◌else◌}
-use Rattle.sm_world.specs.Bytes.{overwritten}
+use Rattle.owned_lists.specs.Bytes.{overwritten}
 use Rattle.ice_values.specs.Numbers.{number, number_bytes}
 use Rattle.ice_values.specs.Fields.{ErrorFields}
 use Rattle.ice_values.specs.Classes.{class_number}

@@ -6,7 +6,8 @@ ghost use Rattle.byte_relay.specs.Serving.{Does};
 use crate::fault::{RelayFault, link_fault};
 use crate::respeller::{Respeller, Taken};
 use crate::row::Row;
-use sm_world::{Conn, Links, NoMemory};
+use owned_lists::NoMemory;
+use sm_world::{Conn, Links};
 
 /// Whether a pair goes on.
 #[derive(Clone, Copy, Debug, PartialEq, Eq)]

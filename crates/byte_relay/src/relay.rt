@@ -9,7 +9,8 @@ use crate::passing::{Pair, pass, send, shut};
 use crate::respeller::Respeller;
 use crate::row::Row;
 use ice_values::{Endian, Enumerated};
-use sm_world::{Conn, Event, Links, NoMemory};
+use owned_lists::NoMemory;
+use sm_world::{Conn, Event, Links};
 use std::alloc::Global;
 
 /// How many connections may be live.

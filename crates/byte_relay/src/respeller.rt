@@ -3,7 +3,7 @@ ghost use Rattle.byte_relay.specs.Orders.{is_byte_order as is_byte_order_at};
 
 use crate::respelling::{RespellFault, respell};
 use ice_values::{Endian, read_card32};
-use sm_world::{NoMemory, Octets};
+use owned_lists::{NoMemory, Octets};
 use std::alloc::Global;
 
 /// What a frame is to the other side.

@@ -6,7 +6,7 @@ ghost use Rattle.byte_relay.specs.Respelling.{respelled, respell_fault_of, Appen
 use crate::turning::{turn_ice, turn_xsmp};
 use ice_messages::{decode_ice, encode_ice};
 use ice_values::{DecodeRefusal, EncodeRefusal, Endian};
-use sm_world::Octets;
+use owned_lists::Octets;
 use std::alloc::Global;
 use thiserror::Error;
 use xsmp_messages::{decode_xsmp, encode_xsmp};

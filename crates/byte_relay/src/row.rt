@@ -3,7 +3,8 @@ ghost use Rattle.ice_framing.specs.Frames.{IsPartial, units, unit_limit};
 
 use crate::respeller::{Respeller, Taken};
 use ice_framing::Splitter;
-use sm_world::{Conn, NoMemory};
+use owned_lists::NoMemory;
+use sm_world::Conn;
 use std::alloc::Global;
 
 /// What is kept of a live connection.

@@ -5,7 +5,7 @@ ghost use Rattle.byte_relay.specs.Turning.{leading_in_ice, leading_in_xsmp, has_
 use byteorder::{BigEndian, ByteOrder, LittleEndian};
 use ice_messages::IceMessage;
 use ice_values::{Endian, ErrorBody, ErrorClass, read_card16, read_card32};
-use sm_world::Octets;
+use owned_lists::Octets;
 use xsmp_messages::XsmpMessage;
 
 /// What leads the values of an Error, in the order of its message's numbers.

@@ -5,7 +5,7 @@ use Rattle.std.specs.List.{AllByRecursion, IsDistinct}
 use Rattle.std.specs.Str.{bytes_eq}
 use Rattle.std.proofs.lemmas.List.{append-nil}
 use lib.Pointwise.{bytes_decides}
-use Rattle.sm_world.specs.declared.commands.Command.{Command}
+use Rattle.owned_lists.specs.declared.commands.Command.{Command}
 use Rattle.ice_values.proofs.OptionLaws.{some_is, none_not_some}
 use Rattle.checkpoint_records.specs.Rules.{ids_of}
 use Rattle.checkpoint_records.specs.declared.records.Book.{Book}

@@ -6,7 +6,7 @@ use Rattle.std.specs.Str.{bytes_eq}
 use Rattle.std.specs.Cmp.Lexicographic.{pointwise}
 use Rattle.std.proofs.lemmas.Grind.{flat_map-append}
 use lib.Pointwise.{bytes_decides}
-use Rattle.sm_world.specs.declared.commands.Command.{Command}
+use Rattle.owned_lists.specs.declared.commands.Command.{Command}
 use Rattle.xsmp_properties.specs.Tables.{equal_property}
 use Rattle.checkpoint_records.specs.Rules.{IsEntry, ids_of}
 use Rattle.checkpoint_records.specs.declared.records.Entry.{Entry}

@@ -4,7 +4,7 @@ use Rattle.std.specs.Prelude.{option_map, option_and_then}
 use Rattle.std.specs.List.{AllByRecursion, IsDistinct, list_any}
 use Rattle.std.specs.Str.{bytes_eq}
 use lib.Pointwise.{bytes_decides}
-use Rattle.sm_world.specs.declared.commands.Command.{Command}
+use Rattle.owned_lists.specs.declared.commands.Command.{Command}
 use Rattle.ice_values.proofs.OptionLaws.{some_is, none_not_some}
 use Rattle.checkpoint_records.specs.Books.{discards, same_command}
 use Rattle.checkpoint_records.specs.Rules.{IsClientId, IsCommand, IsEntry, KeepsRules, ids_of}

@@ -1,7 +1,7 @@
 -- What has a spelling, by the number of its bytes.
 use Rattle.std.proofs.Common.{◌≡◌, ℕ, ◌<◌, ◌^◌, List, ◌++◌, length, get_or, subst, arith, length-append}
 use Rattle.std.specs.Prelude.{flat_map}
-use Rattle.sm_world.specs.declared.commands.Command.{Command}
+use Rattle.owned_lists.specs.declared.commands.Command.{Command}
 use Rattle.ice_values.specs.Properties.{IsArray8, array8, array8_list, property_list}
 use Rattle.ice_values.specs.declared.numbers.Endian.TheVariants.{Lsb}
 use Rattle.ice_values.proofs.CellLaws.{length-zeros}

@@ -1,7 +1,7 @@
 -- What is taken from the front of bytes.
 use Rattle.std.proofs.Common.{◌≡◌, ℕ, ◌<◌, ◌≤◌, ◌^◌, List, ◌++◌, length, Option, Some, None, refl, sym, ap, ap₂, ◌∙◌, subst, arith, length-append}
 use Rattle.std.specs.Prelude.{IfSome}
-use Rattle.sm_world.specs.declared.commands.Command.{Command}
+use Rattle.owned_lists.specs.declared.commands.Command.{Command}
 use Rattle.ice_values.specs.Cells.{zeros}
 use Rattle.ice_values.specs.Properties.{array8, IsArray8}
 use Rattle.ice_values.specs.declared.numbers.Endian.TheVariants.{Lsb}

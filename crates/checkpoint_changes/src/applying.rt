@@ -5,7 +5,7 @@ ghost use Rattle.checkpoint_changes.specs.Changes.{applied, with_entry, without,
 
 use crate::Change;
 use checkpoint_records::{Book, Entry, EntryList};
-use sm_world::{CommandList, NoMemory};
+use owned_lists::{CommandList, NoMemory};
 
 /// The place of the first entry with this ID.
 fn place_of(entries: &[Entry], id: &[u8]) -> Option<usize>

@@ -1,6 +1,6 @@
 use checkpoint_records::Entry;
 use ice_values::Array8;
-use sm_world::{Command, ListOf};
+use owned_lists::{Command, ListOf};
 
 /// One change of a book.
 #[derive(Drop)]

@@ -2,7 +2,7 @@ ghost use Rattle.std.specs.Prelude.{◌≡◌, ◌∷◌, ◌++◌, ◌≤◌, �
 ghost use Rattle.std.specs.List.{AllByRecursion, IsDistinct};
 ghost use Rattle.std.specs.Str.{bytes_eq};
 ghost use Rattle.std.specs.Cmp.Lexicographic.{pointwise};
-ghost use Rattle.sm_world.specs.declared.commands.Command.{Command as AnyCommand};
+ghost use Rattle.owned_lists.specs.declared.commands.Command.{Command as AnyCommand};
 ghost use Rattle.checkpoint_records.specs.Books.{same_command};
 ghost use Rattle.checkpoint_records.specs.Rules.{IsEntry, IsCommand, KeepsRules, ids_of};
 ghost use Rattle.checkpoint_records.specs.declared.records.Entry.{Entry as AnyEntry};
@@ -14,7 +14,7 @@ ghost use Rattle.checkpoint_changes.specs.declared.changes.Change.TheVariants.{E
 
 use crate::{Change, Delta};
 use checkpoint_records::{Book, Entry};
-use sm_world::{Command, Duplicate, NoMemory, Octets};
+use owned_lists::{Command, Duplicate, NoMemory, Octets};
 use std::alloc::Global;
 use xsmp_properties::same_texts;
 

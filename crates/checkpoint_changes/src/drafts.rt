@@ -13,7 +13,7 @@ use crate::applying::applied;
 use crate::rules::{PENDING_LIMIT, are_of_runs};
 use checkpoint_records::{Book, Entry, is_client_id};
 use ice_values::{Array8, Property};
-use sm_world::{Command, NoMemory};
+use owned_lists::{Command, NoMemory};
 use xsmp_properties::{are_words, same_texts};
 
 const LIST: &[u8] = b"LISTofARRAY8";

@@ -9,7 +9,7 @@ ghost use Rattle.checkpoint_changes.specs.Amendments.{delta_bytes};
 use crate::{Change, Delta};
 use checkpoint_records::Entry;
 use ice_values::pad;
-use sm_world::{Command, Octets};
+use owned_lists::{Command, Octets};
 
 /// How many bytes spell a text.
 fn text_length(text: &Octets) -> u64

@@ -13,7 +13,7 @@ use crate::drafts::{Draft, changed};
 use crate::rules::draft_keeps_rules;
 use crate::taking::{OPEN, take_change, take_delta};
 use checkpoint_records::{Book, BookRefusal, read_book};
-use sm_world::NoMemory;
+use owned_lists::NoMemory;
 use std::alloc::Global;
 
 /// Whether amendments end here: there is no room for one, or its gate isn't open.

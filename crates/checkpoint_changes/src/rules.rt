@@ -7,7 +7,7 @@ ghost use Rattle.checkpoint_changes.specs.Together.{AreOfRuns, FitTogether};
 
 use crate::drafts::Draft;
 use checkpoint_records::{Book, Entry, discards_of, is_client_id, is_named};
-use sm_world::{Command, NoMemory};
+use owned_lists::{Command, NoMemory};
 use std::alloc::Global;
 
 const ENTRY_LIMIT: usize = 128;

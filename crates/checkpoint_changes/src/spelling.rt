@@ -9,7 +9,7 @@ use crate::changes::{EPOCH, PEND, PUT, REMOVE, UNPEND};
 use crate::{Change, Delta};
 use checkpoint_records::{put_command, put_entry};
 use ice_values::{Endian, Spelled, put_card32};
-use sm_world::{NoMemory, Octets};
+use owned_lists::{NoMemory, Octets};
 use std::alloc::Global;
 
 fn put_head(code: u32, number: u32, out: &mut Octets) -> Result<(), NoMemory>

@@ -8,7 +8,7 @@ ghost use Rattle.checkpoint_changes.specs.Taking.{IsOfCode, framed};
 use crate::Change;
 use crate::changes::{EPOCH, PEND, PUT, REMOVE, UNPEND};
 use checkpoint_records::{take_command, take_entry, take_id, take_number};
-use sm_world::NoMemory;
+use owned_lists::NoMemory;
 use std::alloc::Global;
 
 /// The byte of an open gate.

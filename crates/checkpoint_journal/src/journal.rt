@@ -14,7 +14,8 @@ use byteorder::{ByteOrder, LittleEndian};
 use checkpoint_changes::{Delta, delta_length, spell_delta};
 use checkpoint_records::Book;
 use checkpoint_slots::{OPEN, Steady, StoreFault, put};
-use sm_world::{Disk, Failed, NoMemory, Octets};
+use owned_lists::{NoMemory, Octets};
+use sm_world::{Disk, Failed};
 use std::alloc::Global;
 use std::marker::Model;
 

@@ -1,7 +1,7 @@
 -- Pending commands, as they are read.
 use Rattle.std.proofs.Common.{◌≡◌, ℕ, ◌+◌, ◌<◌, ◌≤◌, Bool, true, false, ◌&&◌, List, [], ◌∷◌, ◌++◌, length, Some, None, refl, sym, ap, ◌∙◌, append_assoc, arith, length-append}
 use Rattle.std.specs.List.{list_any}
-use Rattle.sm_world.specs.declared.commands.Command.{Command}
+use Rattle.owned_lists.specs.declared.commands.Command.{Command}
 use Rattle.ice_values.specs.Cells.{Cells, zeros}
 use Rattle.ice_values.specs.Properties.{array8, IsArray8, array8_list, IsListed}
 use Rattle.ice_values.specs.declared.numbers.Endian.TheVariants.{Lsb}

@@ -2,7 +2,7 @@
 use Rattle.std.specs.Prelude.{◌≡◌, ℕ, ◌≤◌, ◌<◌, ◌^◌, false, List}
 use Rattle.std.specs.List.{AllByRecursion, IsDistinct, list_any}
 use Rattle.std.specs.Str.{bytes_eq}
-use Rattle.sm_world.specs.declared.commands.Command.{Command}
+use Rattle.owned_lists.specs.declared.commands.Command.{Command}
 use Rattle.checkpoint_records.specs.Books.{same_command}
 use Rattle.ice_values.specs.Properties.{IsArray8, IsListed, IsProperty}
 use Rattle.checkpoint_records.specs.Rules.{ids_of, in_turn, IsEntry, IsCommand}

@@ -1,7 +1,7 @@
 -- How a book is spelled: four numbers, then the entries, then the pending commands, all with the least significant byte first and with
 -- zeros for unused bytes and padding.
 use Rattle.std.specs.Prelude.{◌≡◌, ℕ, ◌<◌, ◌^◌, List, ◌++◌, length, flat_map}
-use Rattle.sm_world.specs.declared.commands.Command.{Command}
+use Rattle.owned_lists.specs.declared.commands.Command.{Command}
 use Rattle.ice_values.specs.Cells.{Cells, zeros}
 use Rattle.ice_values.specs.Numbers.{card32}
 use Rattle.ice_values.specs.Properties.{array8, property_list}

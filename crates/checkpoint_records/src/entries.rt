@@ -16,7 +16,7 @@ use crate::tables::table_of;
 use crate::zeroed::take_zeroed;
 use crate::{Entry, EntryList};
 use ice_values::{Array8, PropertyList};
-use sm_world::NoMemory;
+use owned_lists::NoMemory;
 use std::alloc::Global;
 
 /// The ARRAY8 of an ID at the front, and what follows it. None where there is none, or one of more

@@ -14,7 +14,7 @@ use crate::stops::Stop;
 use crate::zeroed::take_zeroed;
 use crate::{Entry, same_command};
 use ice_values::{Array8, Array8List};
-use sm_world::{Command, CommandList, NoMemory};
+use owned_lists::{Command, CommandList, NoMemory};
 use std::alloc::Global;
 use xsmp_properties::{are_words, command_of, in_pairs, is_environment, is_text};
 

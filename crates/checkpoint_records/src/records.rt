@@ -2,7 +2,7 @@ ghost use Rattle.std.specs.Prelude.{◌≡◌, IfOk};
 ghost use Rattle.checkpoint_records.specs.Books.{empty_book};
 
 use ice_values::Array8;
-use sm_world::{CommandList, Duplicate, ListOf, NoMemory};
+use owned_lists::{CommandList, Duplicate, ListOf, NoMemory};
 use std::alloc::Global;
 use xsmp_properties::PropertyTable;
 

@@ -1,7 +1,7 @@
 ghost use Rattle.std.specs.Prelude.{◌≡◌};
 ghost use Rattle.checkpoint_records.specs.declared.refusals.BookRefusal.TheVariants.{NoMemory as NoMemoryToRead};
 
-use sm_world::NoMemory;
+use owned_lists::NoMemory;
 
 /// Why bytes aren't read as a book.
 #[derive(Clone, Copy, Debug, PartialEq, Eq)]

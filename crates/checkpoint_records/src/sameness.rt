@@ -2,7 +2,7 @@ ghost use Rattle.std.specs.Prelude.{◌≡◌, ◌↔◌, IsTrue, IfOk};
 ghost use Rattle.checkpoint_records.specs.Books.{same_command as is_same, names as is_named};
 
 use crate::Book;
-use sm_world::{Command, NoMemory};
+use owned_lists::{Command, NoMemory};
 use std::alloc::Global;
 use xsmp_properties::{command_of, same_texts};
 

@@ -9,7 +9,7 @@ ghost use Rattle.checkpoint_records.specs.Spelling.{head_cells, entry_cells, boo
 use crate::head::FORMAT;
 use crate::{Book, Entry};
 use ice_values::{Endian, Spelled, put_card32};
-use sm_world::{Command, Duplicate, NoMemory, Octets, OctetsList};
+use owned_lists::{Command, Duplicate, NoMemory, Octets, OctetsList};
 use std::alloc::Global;
 
 fn put_head(epoch: u32, entries: u32, pending: u32, out: &mut Octets) -> Result<(), NoMemory>

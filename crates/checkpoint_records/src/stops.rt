@@ -1,7 +1,7 @@
 ghost use Rattle.std.specs.Prelude.{◌≡◌};
 ghost use Rattle.checkpoint_records.specs.declared.stops.Stop.TheVariants.{NoMemory as NoMemoryToGoOn};
 
-use sm_world::NoMemory;
+use owned_lists::NoMemory;
 
 /// Why reading stops before the end of a book.
 #[derive(Clone, Copy)]

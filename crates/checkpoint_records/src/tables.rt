@@ -5,7 +5,7 @@ ghost use Rattle.xsmp_properties.specs.Tables.{AreNamesDistinct};
 ghost use Rattle.checkpoint_records.specs.Rules.{IsTable};
 
 use ice_values::{Property, PropertyList};
-use sm_world::NoMemory;
+use owned_lists::NoMemory;
 use std::alloc::Global;
 use xsmp_properties::{PropertyTable, SetRefusal};
 

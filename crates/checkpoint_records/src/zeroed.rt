@@ -6,7 +6,7 @@ ghost use Rattle.ice_values.specs.declared.numbers.Endian.TheVariants.{Lsb};
 ghost use Rattle.checkpoint_records.specs.Finding.{Finds};
 
 use ice_values::{BODY_LIMIT, Endian, Spelled, ValueRefusal};
-use sm_world::{NoMemory, Octets};
+use owned_lists::{NoMemory, Octets};
 use std::alloc::Global;
 
 /// The bytes up to a limit that no field of a book passes.

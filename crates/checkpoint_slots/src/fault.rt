@@ -2,7 +2,8 @@ ghost use Rattle.std.specs.Prelude.{◌≡◌};
 ghost use Rattle.checkpoint_slots.specs.Faults.{fault_of};
 ghost use Rattle.checkpoint_slots.specs.declared.fault.StoreFault.TheVariants.{DiskFault as FaultOfDisk, NoMemory as WantOfMemory};
 
-use sm_world::{Failed, Failure, NoMemory};
+use owned_lists::NoMemory;
+use sm_world::{Failed, Failure};
 
 /// Why the store doesn't do what it is asked.
 #[derive(Clone, Copy, Debug, PartialEq, Eq)]

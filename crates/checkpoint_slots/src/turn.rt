@@ -13,7 +13,8 @@ use crate::layout::{OPEN, SLOT_BYTES};
 use crate::{Slot, StoreFault};
 use byteorder::{ByteOrder, LittleEndian};
 use checkpoint_records::{Book, spell_book};
-use sm_world::{Disk, Failed, NoMemory, Octets};
+use owned_lists::{NoMemory, Octets};
+use sm_world::{Disk, Failed};
 use std::alloc::Global;
 use std::marker::Model;
 

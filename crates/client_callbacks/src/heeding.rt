@@ -7,7 +7,8 @@ use client_engine::{Cue, Keeps, Taken, stage_again};
 use client_machine::SaveAsk;
 use client_peer::Peer;
 use ice_values::Array8List;
-use sm_world::{Failure, NoMemory};
+use owned_lists::NoMemory;
+use sm_world::Failure;
 
 impl<S: Saves, D: Dies, C: Cancels> Joiner<S, D, C> {
     ghost use Rattle.std.specs.Prelude.{◌≡◌, ◌==◌, Ok, Some};

@@ -8,7 +8,7 @@ use crate::callbacks::{Cancels, Dies, Saves};
 use client_machine::{SaveAnswer, SaveAsk};
 use ice_cookie::Cookie;
 use ice_values::{Array8, Array8List};
-use sm_world::OctetsList;
+use owned_lists::OctetsList;
 use std::marker::Model;
 
 /// What a client joins with, and the lines that it notes as it does.

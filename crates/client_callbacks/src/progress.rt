@@ -6,7 +6,7 @@ ghost use Rattle.client_callbacks.specs.Script.{start};
 use crate::ends::Ending;
 use crate::joiner::Join;
 use client_engine::Core;
-use sm_world::{Duplicate, NoMemory, OctetsList};
+use owned_lists::{Duplicate, NoMemory, OctetsList};
 use std::alloc::Global;
 
 /// How far a run is.

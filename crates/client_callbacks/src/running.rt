@@ -13,7 +13,8 @@ use crate::progress::Progress;
 use crate::saying::say;
 use client_engine::{greeting, take_piece};
 use client_peer::Peer;
-use sm_world::{Failure, NoMemory};
+use owned_lists::NoMemory;
+use sm_world::Failure;
 use std::alloc::Global;
 use std::mem;
 

@@ -5,8 +5,9 @@ ghost use Rattle.client_callbacks.specs.Doing.{Sends, failure_in};
 
 use client_engine::spell;
 use client_peer::Peer;
+use owned_lists::{NoMemory, Octets, OctetsList};
 use protocol_messages::Message;
-use sm_world::{Failure, NoMemory, Octets, OctetsList};
+use sm_world::Failure;
 use std::alloc::Global;
 
 /// Sends a message.

@@ -8,7 +8,7 @@ use Rattle.xsmp_messages.specs.Messages.{IsTooLong}
 use Rattle.xsmp_messages.specs.declared.message.XsmpMessage.{XsmpMessage}
 use Rattle.xsmp_messages.specs.declared.message.XsmpMessage.TheVariants.{Die as ToldToDie, Error, GetPropertiesReply, Interact, RegisterClient, RegisterClientReply, SaveComplete, SaveYourself, SaveYourselfPhase2, ShutdownCancelled}
 use Rattle.client_machine.specs.Laws.{stage_phase}
-use Rattle.sm_world.specs.declared.events.SaveStyle.{SaveStyle}
+use Rattle.ice_values.specs.declared.saves.SaveStyle.{SaveStyle}
 use Rattle.client_machine.specs.Phases.{ClientState, is_done, is_member, is_registered, is_registering, is_resting, phase_said}
 use Rattle.client_machine.specs.Taking.{act_taken, blamed_act, registers_again, second_act, taken, talk_act}
 use Rattle.client_machine.specs.declared.acts.ClientAct.{ClientAct}

@@ -10,8 +10,8 @@ use crate::place::Place;
 use client_machine::{AskRefusal, ClientPhase, Request, SaveAnswer, SaveAsk, Stage};
 use ice_messages::IceMessage;
 use ice_values::{Array8List, Endian, PropertyList};
+use owned_lists::NoMemory;
 use protocol_messages::Message;
-use sm_world::NoMemory;
 use std::alloc::Global;
 use xsmp_messages::XsmpMessage;
 

@@ -9,7 +9,7 @@ use ice_cookie::Cookie;
 use ice_framing::Splitter;
 use ice_setup::{AnyOpener, OpenOrder};
 use ice_values::Array8;
-use sm_world::NoMemory;
+use owned_lists::NoMemory;
 use std::alloc::Global;
 use std::mem;
 

@@ -13,7 +13,7 @@ use crate::speaking::take_speaking;
 use client_machine::SaveAsk;
 use ice_framing::Frame;
 use ice_values::{Array8, PropertyList};
-use sm_world::NoMemory;
+use owned_lists::NoMemory;
 use std::alloc::Global;
 
 /// What the manager's stream asks of a client's keeper (XSMP, chapter 7).

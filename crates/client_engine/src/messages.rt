@@ -4,8 +4,8 @@ ghost use Rattle.protocol_messages.specs.Messages.{IsTooLong};
 
 use ice_messages::IceMessage;
 use ice_values::EncodeRefusal;
+use owned_lists::{ListOf, NoMemory, Octets};
 use protocol_messages::{Message, encode};
-use sm_world::{ListOf, NoMemory, Octets};
 use std::alloc::Global;
 
 /// The client's major opcode for the messages of XSMP.

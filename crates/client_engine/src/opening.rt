@@ -13,8 +13,8 @@ use client_machine::Client;
 use ice_messages::IceMessage;
 use ice_setup::{AnyOpener, Joined, Offending, OpenMoved, error_of};
 use ice_values::{Array8, ErrorBody, ErrorClass, Severity};
+use owned_lists::{NoMemory, Octets};
 use protocol_messages::Message;
-use sm_world::{NoMemory, Octets};
 use std::alloc::Global;
 
 /// The Error for a message that has no place.

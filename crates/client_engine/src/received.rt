@@ -7,7 +7,7 @@ ghost use Rattle.client_engine.specs.Received.{is_whole as is_whole_frame, ice_r
 use ice_framing::Frame;
 use ice_messages::{IceMessage, decode_ice};
 use ice_values::{DecodeRefusal, Endian, read_card32};
-use sm_world::NoMemory;
+use owned_lists::NoMemory;
 use std::alloc::Global;
 use xsmp_messages::{XsmpMessage, decode_xsmp};
 

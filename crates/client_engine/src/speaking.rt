@@ -12,8 +12,8 @@ use crate::place::{Arrival, Place};
 use crate::received::Received;
 use client_machine::{Client, ClientAct};
 use ice_setup::Joined;
+use owned_lists::NoMemory;
 use protocol_messages::Message;
-use sm_world::NoMemory;
 use std::alloc::Global;
 use xsmp_messages::XsmpMessage;
 

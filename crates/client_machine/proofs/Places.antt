@@ -4,8 +4,8 @@ use Rattle.std.proofs.lemmas.Bool.{false≢true}
 use Rattle.ice_values.specs.Fields.{ErrorFields}
 use Rattle.ice_values.specs.declared.severity.Severity.{Severity}
 use Rattle.ice_values.specs.declared.severity.Severity.TheVariants.{CanContinue}
-use Rattle.sm_world.specs.declared.events.SaveKind.{SaveKind}
-use Rattle.sm_world.specs.declared.events.SaveStyle.{SaveStyle}
+use Rattle.ice_values.specs.declared.saves.SaveKind.{SaveKind}
+use Rattle.ice_values.specs.declared.saves.SaveStyle.{SaveStyle}
 use Rattle.xsmp_messages.specs.declared.message.XsmpMessage.TheVariants.{Die, Error, GetPropertiesReply, Interact, RegisterClient, RegisterClientReply, SaveComplete, SaveYourself, SaveYourselfPhase2, ShutdownCancelled}
 use Rattle.client_machine.specs.Asking.{may_ask}
 use Rattle.client_machine.specs.Laws.{AskedInItsPhase, LawfulStepsHaveTheirPlace, stage_phase}

@@ -1,11 +1,11 @@
 -- What a client is asked in a save, and which answers are lawful (XSMP, chapter 7: SaveYourself to
 -- SaveYourselfPhase2).
 use Rattle.std.specs.Prelude.{Bool, IsTrue, false, not, true, ◌||◌}
-use Rattle.sm_world.specs.declared.events.SaveKind.TheVariants.{Local}
-use Rattle.sm_world.specs.declared.events.SaveStyle.{SaveStyle}
-use Rattle.sm_world.specs.declared.events.SaveStyle.TheVariants.{Any, Errors, Nothing}
-use Rattle.sm_world.specs.declared.events.Dialog.{Dialog}
-use Rattle.sm_world.specs.declared.events.Dialog.TheVariants.{Error as AboutError, Normal}
+use Rattle.ice_values.specs.declared.saves.SaveKind.TheVariants.{Local}
+use Rattle.ice_values.specs.declared.saves.SaveStyle.{SaveStyle}
+use Rattle.ice_values.specs.declared.saves.SaveStyle.TheVariants.{Any, Errors, Nothing}
+use Rattle.ice_values.specs.declared.saves.Dialog.{Dialog}
+use Rattle.ice_values.specs.declared.saves.Dialog.TheVariants.{Error as AboutError, Normal}
 use Rattle.xsmp_properties.specs.Tables.{IsTableFull}
 use Rattle.client_machine.specs.declared.requests.Request.{Request}
 use Rattle.client_machine.specs.declared.requests.Request.TheVariants.{Done as AskDone, Interact as AskDialog, InteractDone as AskTalked, PhaseTwo as AskTwo}

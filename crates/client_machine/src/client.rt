@@ -8,8 +8,8 @@ ghost use Rattle.client_machine.specs.Saves.{first_ask};
 ghost use Rattle.client_machine.specs.declared.acts.ClientAct.TheVariants.{Save as ASave};
 
 use crate::{AskRefusal, ClientAct, ClientPhase, Request, SaveAsk, Stage};
-use ice_values::{Array8, ErrorBody, ErrorClass, PropertyList, Severity};
-use sm_world::{Duplicate, NoMemory, SaveKind, SaveStyle};
+use ice_values::{Array8, ErrorBody, ErrorClass, PropertyList, SaveKind, SaveStyle, Severity};
+use owned_lists::{Duplicate, NoMemory};
 use std::alloc::Global;
 use std::marker::Model;
 use xsmp_messages::XsmpMessage;

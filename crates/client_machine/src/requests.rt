@@ -2,9 +2,8 @@ ghost use Rattle.std.specs.Prelude.{◌≡◌};
 ghost use Rattle.client_machine.specs.Asking.{requested};
 
 use crate::ClientPhase;
-use ice_values::{Array8List, PropertyList};
+use ice_values::{Array8List, Dialog, PropertyList};
 use round_agreement::Wanted;
-use sm_world::Dialog;
 use xsmp_messages::XsmpMessage;
 
 /// What a client wants to send (XSMP, chapter 7).

@@ -2,8 +2,7 @@ ghost use Rattle.std.specs.Prelude.{◌≡◌};
 ghost use Rattle.client_machine.specs.Saves.{allows, at_stage, step_request};
 
 use crate::Request;
-use ice_values::PropertyList;
-use sm_world::{Dialog, SaveKind, SaveStyle};
+use ice_values::{Dialog, PropertyList, SaveKind, SaveStyle};
 
 /// Where in a save the client is asked.
 #[derive(Clone, Copy, Debug, PartialEq, Eq)]

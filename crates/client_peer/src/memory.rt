@@ -7,10 +7,8 @@ ghost use Rattle.client_peer.specs.Pieces.{is_solid, part, after_part};
 use crate::Peer;
 use crate::peer::FILE_LIMIT;
 use crate::pieces::Pieces;
-use sm_world::{
-    Calls, Console, Duplicate, Effect, Event, Failed, Failure, Faults, ListOf, NoMemory,
-    NumberList, Octets, OctetsList, PairList, Told,
-};
+use owned_lists::{Duplicate, ListOf, NoMemory, NumberList, Octets, OctetsList, PairList};
+use sm_world::{Calls, Console, Effect, Event, Failed, Failure, Faults, Told};
 use std::alloc::Global;
 
 /// A peer in memory whose calls are numbered from 1, and fail where they are told to. It tells all

@@ -3,7 +3,8 @@ ghost use Rattle.sm_world.specs.Outside.{adds, on_ok, of_ok, UsesLinks};
 ghost use Rattle.sm_world.specs.declared.effects.Effect.TheVariants.{Heard, Sent};
 ghost use Rattle.client_peer.specs.Peers.{received, Fetches};
 
-use sm_world::{Failure, Octets, Told};
+use owned_lists::Octets;
+use sm_world::{Failure, Told};
 
 /// How many bytes a file that is fetched can have at most.
 pub const FILE_LIMIT: usize = 65_536;

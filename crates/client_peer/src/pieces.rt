@@ -1,7 +1,7 @@
 ghost use Rattle.std.specs.Prelude.{◌≡◌, ◌≤◌, ◌<◌, length, take, drop, filter, IfOk};
 ghost use Rattle.client_peer.specs.Pieces.{is_solid, part, after_part};
 
-use sm_world::{NoMemory, Octets, OctetsList};
+use owned_lists::{NoMemory, Octets, OctetsList};
 use std::alloc::Global;
 use std::collections::VecDeque;
 use std::marker::Model;

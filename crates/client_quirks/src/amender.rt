@@ -6,7 +6,7 @@ use crate::pieces::{PieceList, StreamPiece, add_bytes, alone, joined};
 use crate::speech::{add_frames, bytes_of};
 use frame_speech::{Cutting, FrameCutter, Speech};
 use ice_framing::WholeFrame;
-use sm_world::{NoMemory, Octets};
+use owned_lists::{NoMemory, Octets};
 use std::alloc::Global;
 use std::mem;
 

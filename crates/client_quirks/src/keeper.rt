@@ -12,7 +12,7 @@ use crate::speech::bytes_of;
 use crate::stage::Stage;
 use frame_speech::Speech;
 use ice_framing::WholeFrame;
-use sm_world::NoMemory;
+use owned_lists::NoMemory;
 use std::alloc::Global;
 use std::mem;
 

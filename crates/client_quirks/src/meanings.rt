@@ -3,7 +3,7 @@ ghost use Rattle.std.specs.List.{list_any};
 ghost use Rattle.client_quirks.specs.Meanings.{is_command, is_text_name, is_hint_name, without_nul, narrowed, is_wide, meant, is_line, is_shorter, is_amended as is_amended_by, amended as amended_by};
 
 use ice_values::{Array8, Array8List, Property};
-use sm_world::{Duplicate, NoMemory, Octets};
+use owned_lists::{Duplicate, NoMemory, Octets};
 use std::alloc::Global;
 
 /// Whether a property of this name is a command that the session manager runs (XSMP, chapter 11).

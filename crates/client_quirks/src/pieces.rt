@@ -1,7 +1,8 @@
 ghost use Rattle.std.specs.Prelude.{◌≡◌, ◌≤◌, ◌++◌, ◌∷◌, [], length, OnOk, IfOk};
 ghost use Rattle.std.specs.List.{concat};
 
-use sm_world::{ListOf, NoMemory, Octets, PIECE_LIMIT};
+use owned_lists::{ListOf, NoMemory, Octets};
+use sm_world::PIECE_LIMIT;
 use std::alloc::Global;
 use std::marker::Model;
 

@@ -3,7 +3,7 @@ ghost use Rattle.client_quirks.specs.Sides.{new_frames, held_of, IsSide, CutsOn,
 
 use frame_speech::{Cutting, FrameCutter, Heeds, Speech};
 use ice_framing::WholeFrameList;
-use sm_world::NoMemory;
+use owned_lists::NoMemory;
 use std::alloc::Global;
 
 /// One party's stream, as it is cut and understood.

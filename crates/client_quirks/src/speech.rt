@@ -8,7 +8,7 @@ use crate::meanings::{amended, is_amended};
 use frame_speech::{Reading, Speech, byte_at};
 use ice_framing::WholeFrame;
 use ice_values::{EncodeRefusal, Property, PropertyList};
-use sm_world::{NoMemory, Octets};
+use owned_lists::{NoMemory, Octets};
 use std::alloc::Global;
 use xsmp_messages::{XsmpMessage, encode_xsmp};
 

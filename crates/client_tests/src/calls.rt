@@ -2,7 +2,8 @@
 //! 10).
 
 use client_peer::MemPeer;
-use sm_world::{Effect, NoMemory, NumberList, Octets, OctetsList, PairList};
+use owned_lists::{NoMemory, NumberList, Octets, OctetsList, PairList};
+use sm_world::Effect;
 use smclient_app::{read_cookie, smclient_main};
 use std::alloc::{Alloc, Global};
 use std::process::Abort;

@@ -12,8 +12,9 @@ use client_callbacks::{
 use client_machine::{ClientPhase, SaveAnswer, SaveAsk, Stage, Step};
 use client_peer::MemPeer;
 use ice_cookie::Cookie;
-use ice_values::{Array8List, PropertyList};
-use sm_world::{Dialog, Effect, NoMemory, NumberList, Octets, OctetsList, PairList, SaveStyle};
+use ice_values::{Array8List, Dialog, PropertyList, SaveStyle};
+use owned_lists::{NoMemory, NumberList, Octets, OctetsList, PairList};
+use sm_world::Effect;
 use std::alloc::{Alloc, Global};
 use std::process::Abort;
 use std::test::Fail;

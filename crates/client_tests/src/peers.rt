@@ -1,7 +1,8 @@
 //! What a peer in memory gives and records, by calls written down by hand.
 
 use client_peer::{FILE_LIMIT, MemPeer, Peer};
-use sm_world::{Console, Failure, NoMemory, NumberList, Octets, OctetsList, PairList};
+use owned_lists::{NoMemory, NumberList, Octets, OctetsList, PairList};
+use sm_world::{Console, Failure};
 use std::alloc::{Alloc, Global};
 use std::process::Abort;
 use std::test::Fail;

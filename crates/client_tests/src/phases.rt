@@ -4,9 +4,12 @@
 use client_machine::{
     AskRefusal, Client, ClientAct, ClientPhase, Request, Stage, Step, lawful_steps_have_their_place,
 };
-use ice_values::{Array8List, Endian, ErrorBody, ErrorClass, Property, PropertyList, Severity};
+use ice_values::{
+    Array8List, Dialog, Endian, ErrorBody, ErrorClass, Property, PropertyList, SaveKind, SaveStyle,
+    Severity,
+};
+use owned_lists::{NoMemory, Octets};
 use round_agreement::Wanted;
-use sm_world::{Dialog, NoMemory, Octets, SaveKind, SaveStyle};
 use std::alloc::{Alloc, Global};
 use std::process::Abort;
 use std::test::Fail;

@@ -9,7 +9,8 @@ use crate::sessions::{
 use crate::shown::{put_effect, put_effects, put_words};
 use checkpoint_records::{Book, Entry};
 use checkpoint_slots::Steady;
-use sm_world::{Choice, Disk, Effect, MemWorld, NoMemory, Octets};
+use owned_lists::{NoMemory, Octets};
+use sm_world::{Choice, Disk, Effect, MemWorld};
 use std::alloc::{Alloc, Global};
 use std::process::Abort;
 use std::test::Fail;

@@ -5,8 +5,9 @@
 use crate::crashes::recovered;
 use crate::sessions::{CONFIG, FIRST_SAVE, LOGIN, Session, TURNS, served, world_of};
 use crate::shown::{put_effects, put_start};
+use owned_lists::{NoMemory, Octets};
 use session_engine::{ServeFault, serve};
-use sm_world::{Choice, Effect, NoMemory, Octets};
+use sm_world::{Choice, Effect};
 use std::alloc::{Alloc, Global};
 use std::process::Abort;
 use std::test::Fail;

@@ -6,9 +6,10 @@ ghost use Rattle.sm_world.specs.Events.{HasPieceSize};
 
 use crate::words::{bytes_of, digits_of};
 use event_script::{ScriptFault, Taken, read_script};
+use owned_lists::{NoMemory, NumberList, Octets};
 use session_engine::{Config, serve};
 use session_in_memory::{REHEARSAL_COOKIE, blank_store};
-use sm_world::{EventList, MemWorld, NoMemory, NumberList, Octets};
+use sm_world::{EventList, MemWorld};
 use std::alloc::Global;
 use std::test::Fail;
 

@@ -1,6 +1,7 @@
 //! What is done in a session, as text.
 
-use sm_world::{Command, Conn, Effect, NoMemory, Octets};
+use owned_lists::{Command, NoMemory, Octets};
+use sm_world::{Conn, Effect};
 use std::alloc::Global;
 
 /// A message of XSMP by its name, and all others by none.

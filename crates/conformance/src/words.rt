@@ -1,6 +1,6 @@
 //! Bytes in words. What bytes are called stands in one table; a word that isn't there is hex digits.
 
-use sm_world::Octets;
+use owned_lists::Octets;
 use std::alloc::Global;
 use std::test::Fail;
 

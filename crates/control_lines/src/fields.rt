@@ -4,7 +4,8 @@ ghost use Rattle.control_lines.specs.Fields.{IsHex, SaysBytes, hex_text};
 
 use crate::lines::split_once;
 use hex::FromHexError;
-use sm_world::{Conn, NoMemory, Octets};
+use owned_lists::{NoMemory, Octets};
+use sm_world::Conn;
 use std::alloc::Global;
 
 /// The number that a field spells: decimal, below 2^64, without leading zeros.

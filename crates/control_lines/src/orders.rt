@@ -4,7 +4,8 @@ ghost use Rattle.control_lines.specs.Script.{IsRefusal};
 ghost use Rattle.control_lines.specs.declared.orders.OrderRefusal.TheVariants.{NoMemory as OutOfMemory};
 
 use crate::fields::read_conn;
-use sm_world::{NoMemory, Octets, Order};
+use owned_lists::{NoMemory, Octets};
+use sm_world::Order;
 use std::alloc::Global;
 
 /// Why a line has no meaning.

@@ -3,7 +3,8 @@ ghost use Rattle.control_lines.specs.Script.{Says, SaysPiece, Gives, IsRefusal};
 
 use crate::fields::{read_bytes, read_conn, read_number};
 use crate::orders::{OrderRefusal, read_order};
-use sm_world::{Conn, Event, NoMemory, Octets, PIECE_LIMIT};
+use owned_lists::{NoMemory, Octets};
+use sm_world::{Conn, Event, PIECE_LIMIT};
 use std::alloc::Global;
 
 /// The event that a script line says, without its newline; `None` for an empty line and for one

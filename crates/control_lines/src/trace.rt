@@ -7,7 +7,8 @@ ghost use Rattle.control_lines.specs.Orders.{order_text};
 ghost use Rattle.control_lines.specs.Traces.{event_text, field_text, directory_text, pair_text, command_text, started_text, effect_text};
 
 use crate::fields::put_hex;
-use sm_world::{Command, Conn, Effect, Event, NoMemory, Octets, Order};
+use owned_lists::{Command, NoMemory, Octets};
+use sm_world::{Conn, Effect, Event, Order};
 use std::alloc::Global;
 
 /// Appends a word with its space, and a number.

@@ -10,7 +10,8 @@ ghost use Rattle.checkpoint_records.specs.Rules.{KeepsRules};
 
 use checkpoint_records::{Book, BookRefusal, read_book};
 use checkpoint_slots::{Steady, StoreFault};
-use sm_world::{Choice, Disk, EventList, MemWorld, NoMemory, NumberList, Octets};
+use owned_lists::{NoMemory, NumberList, Octets};
+use sm_world::{Choice, Disk, EventList, MemWorld};
 use std::alloc::{Alloc, Global};
 use std::process::Abort;
 use std::test::Fail;

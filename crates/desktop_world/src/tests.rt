@@ -1,7 +1,6 @@
 use crate::{BadPlaces, DesktopWorld, Places, host_name, random_cookie};
-use sm_world::{
-    Command, Console, Disk, Event, Failure, Links, Octets, OctetsList, PairList, Spawner,
-};
+use owned_lists::{Command, Octets, OctetsList, PairList};
+use sm_world::{Console, Disk, Event, Failure, Links, Spawner};
 use std::alloc::Global;
 use std::io::{Read, Write};
 use std::os::unix::fs::symlink;

@@ -2,11 +2,10 @@ ghost use Rattle.std.specs.Prelude.{◌≡◌};
 ghost use Rattle.desktop_world.specs.Untold.{world_outside};
 
 use checkpoint_slots::STORE_BYTES;
+use owned_lists::{Command, NoMemory};
 use program_frame::StandardConsole;
 use program_spawner::ProgramSpawner;
-use sm_world::{
-    Command, Conn, Console, Disk, Event, Failed, Failure, Links, NoMemory, Spawner, Told,
-};
+use sm_world::{Conn, Console, Disk, Event, Failed, Failure, Links, Spawner, Told};
 use store_file::FileDisk;
 use unix_links::{LinkOptions, SocketLinks};
 

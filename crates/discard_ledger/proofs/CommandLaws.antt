@@ -1,7 +1,7 @@
 -- Commands that come in parts.
 use Rattle.std.proofs.Common.{◌≡◌, List, [], ◌∷◌, ◌++◌, not, refl, ap, sym, ◌∙◌}
 use Rattle.std.proofs.lemmas.List.Elements.{filter-append}
-use Rattle.sm_world.specs.declared.commands.Command.{Command}
+use Rattle.owned_lists.specs.declared.commands.Command.{Command}
 use Rattle.discard_ledger.specs.Discards.{is_among, with_command, with_commands, without_commands, each_once}
 
 pub with-append : (kept first second : List Command) → with_commands kept (first ++ second) ≡ with_commands (with_commands kept first) second

@@ -2,7 +2,7 @@
 -- discarded by its property DiscardCommand. While a book names that command, the state is needed.
 use Rattle.std.specs.Prelude.{Bool, not, ◌&&◌, ◌||◌, if◌then◌else◌, nat_lt, List, [], ◌∷◌, ◌++◌, length, filter, Option, codes}
 use Rattle.std.specs.List.{list_any}
-use Rattle.sm_world.specs.declared.commands.Command.{Command}
+use Rattle.owned_lists.specs.declared.commands.Command.{Command}
 use Rattle.ice_values.specs.declared.property.Property.{Property}
 use Rattle.xsmp_properties.specs.Readers.{command_of}
 use Rattle.checkpoint_records.specs.declared.records.Entry.{Entry}

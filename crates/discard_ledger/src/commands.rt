@@ -3,7 +3,7 @@ ghost use Rattle.checkpoint_records.specs.Books.{discards};
 ghost use Rattle.discard_ledger.specs.Discards.{is_among as stands_in, with_commands, without_commands, each_once as all_once};
 
 use checkpoint_records::{Entry, same_command};
-use sm_world::{Command, CommandList, Duplicate, NoMemory};
+use owned_lists::{Command, CommandList, Duplicate, NoMemory};
 use std::alloc::Global;
 use xsmp_properties::command_of;
 

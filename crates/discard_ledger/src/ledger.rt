@@ -3,7 +3,7 @@ ghost use Rattle.discard_ledger.specs.Discards.{next_pending, with_stray, is_amo
 
 use crate::commands::{copy_without, discards_of, each_once, is_among};
 use checkpoint_records::{Book, names};
-use sm_world::{Command, CommandList, NoMemory};
+use owned_lists::{Command, CommandList, NoMemory};
 use std::alloc::Global;
 use std::marker::Model;
 use std::mem;

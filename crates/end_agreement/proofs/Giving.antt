@@ -1,8 +1,8 @@
 -- Both ends still meet after the manager gave something by itself, whatever of the client was under way to it.
 use Rattle.std.proofs.Common.{◌≡◌, refl, sym, ap, ◌∙◌, subst, Bool, true, false, cond, not, ◌&&◌, ◌||◌, List, [], ◌∷◌, ◌++◌, ℕ, arith}
 use Rattle.std.specs.Prelude.{Option, Some, None, is_some}
-use Rattle.sm_world.specs.declared.events.Dialog.{Dialog}
-use Rattle.sm_world.specs.declared.events.SaveStyle.{SaveStyle}
+use Rattle.ice_values.specs.declared.saves.Dialog.{Dialog}
+use Rattle.ice_values.specs.declared.saves.SaveStyle.{SaveStyle}
 use Rattle.xsmp_messages.specs.declared.message.XsmpMessage.{XsmpMessage}
 use Rattle.xsmp_messages.specs.declared.message.XsmpMessage.TheVariants.{ConnectionClosed, DeleteProperties, Die, GetProperties, Interact, InteractDone, InteractRequest, RegisterClient, SaveComplete, SaveYourself, SaveYourselfDone, SaveYourselfPhase2, SaveYourselfPhase2Request, SaveYourselfRequest, SetProperties, ShutdownCancelled}
 use Rattle.session_model.specs.declared.phase.Phase.{Phase}

@@ -1,7 +1,7 @@
 -- Laws of one client and of what the manager knows of it: both ends meet as the client registers, and still do after each step of
 -- either end.
 use Rattle.std.specs.Prelude.{Bool, List, None, Some, [], false, true, ℕ, ◌++◌, ◌+◌, ◌≤◌, ◌∷◌, ◌≡◌, ◌≢◌}
-use Rattle.sm_world.specs.declared.events.SaveStyle.{SaveStyle}
+use Rattle.ice_values.specs.declared.saves.SaveStyle.{SaveStyle}
 use Rattle.xsmp_messages.specs.declared.message.XsmpMessage.{XsmpMessage}
 use Rattle.xsmp_messages.specs.declared.message.XsmpMessage.TheVariants.{RegisterClient, SaveYourself}
 use Rattle.session_model.specs.declared.phase.Phase.TheVariants.{Unregistered}

@@ -1,6 +1,6 @@
 -- What the manager knows of one client, where it agrees with the client, and what it may give the client.
 use Rattle.std.specs.Prelude.{Bool, None, Option, Some, false, true, ◌≡◌}
-use Rattle.sm_world.specs.declared.events.SaveStyle.{SaveStyle}
+use Rattle.ice_values.specs.declared.saves.SaveStyle.{SaveStyle}
 use Rattle.xsmp_messages.specs.declared.message.XsmpMessage.{XsmpMessage}
 use Rattle.xsmp_messages.specs.declared.message.XsmpMessage.TheVariants.{Die, Interact, SaveComplete, SaveYourself, SaveYourselfPhase2, ShutdownCancelled}
 use Rattle.session_model.specs.Phases.{is_asked, phase_given}

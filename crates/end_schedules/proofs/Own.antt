@@ -3,9 +3,9 @@ use Rattle.std.proofs.Common.{◌≡◌, refl, sym, ap, ◌∙◌, subst, ℕ, �
 use Rattle.std.specs.Prelude.{Option, Some, None, is_some}
 use Rattle.std.specs.List.{list_any}
 use Rattle.std.proofs.lemmas.Bool.Decides.{nat_tests}
-use Rattle.sm_world.specs.declared.commands.Command.{Command}
-use Rattle.sm_world.specs.declared.events.Dialog.{Dialog}
-use Rattle.sm_world.specs.declared.events.SaveStyle.{SaveStyle}
+use Rattle.owned_lists.specs.declared.commands.Command.{Command}
+use Rattle.ice_values.specs.declared.saves.Dialog.{Dialog}
+use Rattle.ice_values.specs.declared.saves.SaveStyle.{SaveStyle}
 use Rattle.ice_values.specs.Fields.{ErrorFields}
 use Rattle.xsmp_properties.specs.Tables.{set_all}
 use Rattle.checkpoint_records.specs.Rules.{client_id}

@@ -1,7 +1,7 @@
 -- What a history says of one client: what the manager knows of it, and all that it was sent since XSMP began on its connection.
 use Rattle.std.specs.Prelude.{Bool, List, Option, [], cond, false, ℕ, ◌++◌, ◌==◌, ◌∷◌}
-use Rattle.sm_world.specs.declared.events.SaveStyle.{SaveStyle}
-use Rattle.sm_world.specs.declared.events.SaveStyle.TheVariants.{Nothing}
+use Rattle.ice_values.specs.declared.saves.SaveStyle.{SaveStyle}
+use Rattle.ice_values.specs.declared.saves.SaveStyle.TheVariants.{Nothing}
 use Rattle.xsmp_messages.specs.declared.message.XsmpMessage.{XsmpMessage}
 use Rattle.xsmp_messages.specs.declared.message.XsmpMessage.TheVariants.{Error, SaveYourself}
 use Rattle.session_model.specs.declared.events.SessionEvent.TheVariants.{Ready}

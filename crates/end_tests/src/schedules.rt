@@ -3,9 +3,9 @@
 use crate::company::Company;
 use crate::dice::Dice;
 use client_machine::{ClientPhase, Request};
-use ice_values::{Array8List, PropertyList};
+use ice_values::{Array8List, Dialog, PropertyList, SaveKind, SaveStyle};
 use round_agreement::Wanted;
-use sm_world::{Conn, Dialog, Order, SaveKind, SaveStyle};
+use sm_world::{Conn, Order};
 use std::alloc::{Alloc, Global};
 use std::process::Abort;
 use std::rt::HostRuntime;

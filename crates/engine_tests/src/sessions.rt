@@ -3,8 +3,9 @@ ghost use Rattle.std.specs.List.{AllByRecursion};
 ghost use Rattle.sm_world.specs.Events.{HasPieceSize};
 
 use ice_cookie::Cookie;
+use owned_lists::{NoMemory, Octets};
 use session_engine::{Config, ServeFault, at_most_64_live, serve};
-use sm_world::{Effect, Event, EventList, NoMemory, Octets, Order, SteadyWorld};
+use sm_world::{Effect, Event, EventList, Order, SteadyWorld};
 use std::alloc::Global;
 use std::fmt::Write;
 use std::process::Abort;

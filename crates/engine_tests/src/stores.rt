@@ -4,8 +4,9 @@ ghost use Rattle.std.specs.List.{AllByRecursion};
 ghost use Rattle.sm_world.specs.Events.{HasPieceSize};
 
 use crate::sessions::{CONFIG, at_once, blank_store};
+use owned_lists::{NoMemory, NumberList, Octets};
 use session_engine::{ServeFault, Session, Stepped, serve};
-use sm_world::{Effect, Event, EventList, MemWorld, NoMemory, NumberList, Octets, PIECE_LIMIT};
+use sm_world::{Effect, Event, EventList, MemWorld, PIECE_LIMIT};
 use std::alloc::{Alloc, Global};
 use std::fmt::Write;
 use std::process::Abort;

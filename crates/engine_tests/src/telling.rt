@@ -1,7 +1,7 @@
 //! Traces that are told for people, at once and line by line as they come.
 
 use control_lines::OrderRefusal;
-use sm_world::Octets;
+use owned_lists::Octets;
 use std::alloc::{Alloc, Global};
 use std::process::Abort;
 use std::test::Fail;

@@ -1,5 +1,6 @@
+use owned_lists::{NoMemory, Octets};
 use session_replay::{Verdict, a_trace_has_one_verdict, replay};
-use sm_world::{Effect, EventList, NoMemory, Octets, SteadyWorld};
+use sm_world::{Effect, EventList, SteadyWorld};
 use smtrace_app::smtrace_main;
 use std::alloc::Global;
 use std::process::Abort;

@@ -6,7 +6,7 @@ ghost use Rattle.frame_speech.specs.Streams.{bytes_in, GoesOn};
 use crate::passing::{Heeds, are_passed};
 use ice_framing::{Remainder, WholeFrame, WholeFrameList};
 use ice_values::Endian;
-use sm_world::NoMemory;
+use owned_lists::NoMemory;
 use std::alloc::Global;
 use std::marker::Model;
 

@@ -5,7 +5,7 @@ ghost use Rattle.frame_speech.specs.Speech.{is_message, is_whole, greeting_in, o
 use ice_framing::WholeFrame;
 use ice_messages::{IceMessage, decode_ice};
 use ice_values::{DecodeRefusal, PropertyList, body, read_card32};
-use sm_world::NoMemory;
+use owned_lists::NoMemory;
 use std::alloc::Global;
 
 /// What a frame says to somebody who follows the stream of its sender.

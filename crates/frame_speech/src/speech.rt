@@ -3,7 +3,7 @@ ghost use Rattle.frame_speech.specs.Speech.{reading as reading_by, after as afte
 
 use crate::reading::{Reading, byte_at, greeting_in, is_whole, opening_in, setting_in};
 use ice_framing::WholeFrame;
-use sm_world::NoMemory;
+use owned_lists::NoMemory;
 use std::alloc::Global;
 
 /// How far one party's stream is understood.

@@ -6,7 +6,7 @@ ghost use Rattle.frame_speech.specs.Passing.{PassesBy};
 use crate::cutter::{Cutting, FrameCutter};
 use crate::passing::Heeds;
 use ice_framing::WholeFrameList;
-use sm_world::NoMemory;
+use owned_lists::NoMemory;
 use std::alloc::Global;
 
 /// How far one direction of a connection was cut into frames.

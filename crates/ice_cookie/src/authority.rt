@@ -1,4 +1,4 @@
-use sm_world::{ListOf, Octets};
+use owned_lists::{ListOf, Octets};
 
 /// What a client needs to know to show at one address that it may join.
 #[derive(Drop)]

@@ -7,7 +7,7 @@ ghost use Rattle.ice_cookie.specs.declared.authority.AuthorityEntry.{AuthorityEn
 
 use crate::{AuthorityEntry, AuthorityList, AuthorityRefusal};
 use ice_values::{Endian, ValueRefusal, take_bytes, take_card16};
-use sm_world::{NoMemory, Octets};
+use owned_lists::{NoMemory, Octets};
 use std::alloc::Global;
 
 #[tactic(auto, unfolding(crate::specs::Reading::field_at))]

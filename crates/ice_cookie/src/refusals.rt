@@ -1,7 +1,7 @@
 ghost use Rattle.std.specs.Prelude.{◌≡◌};
 ghost use Rattle.ice_cookie.specs.declared.refusals.AuthorityRefusal.TheVariants.{NoMemory as NoMemoryForAuthority};
 
-use sm_world::NoMemory;
+use owned_lists::NoMemory;
 
 /// Why entries have no bytes, or bytes no entries.
 #[derive(Clone, Copy, Debug, PartialEq, Eq)]

@@ -3,7 +3,7 @@ ghost use Rattle.ice_cookie.specs.Spelling.{field_bytes, IsField, entry_bytes, H
 
 use crate::{AuthorityEntry, AuthorityList, AuthorityRefusal};
 use ice_values::{Endian, put_bytes, put_card16};
-use sm_world::{NoMemory, Octets};
+use owned_lists::{NoMemory, Octets};
 use std::alloc::Global;
 
 /// The most bytes that a field may have.

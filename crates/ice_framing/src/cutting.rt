@@ -4,7 +4,7 @@ ghost use Rattle.ice_framing.specs.Frames.{fed, units, IsPartial, behind, cut, f
 
 use crate::{Oversize, Splitter};
 use ice_values::Endian;
-use sm_world::{ListOf, NoMemory, Octets};
+use owned_lists::{ListOf, NoMemory, Octets};
 use std::alloc::Global;
 
 /// A frame in memory of its own, and the order of its numbers.

@@ -4,7 +4,7 @@ ghost use Rattle.ice_framing.specs.Frames.{beginning, fed, wanted, has_frame, un
 use crate::splitting::{HEADER_LEN, UNIT_LIMIT, endian_of, units_of};
 use crate::{WholeFrame, WholeFrameList};
 use ice_values::Endian;
-use sm_world::{NoMemory, Octets};
+use owned_lists::{NoMemory, Octets};
 use std::alloc::Global;
 use std::marker::Model;
 

@@ -2,7 +2,7 @@ ghost use Rattle.std.specs.Prelude.{◌≡◌, ℕ, ◌+◌, ◌-◌, ◌<◌, �
 ghost use Rattle.ice_framing.specs.Frames.{Standing, beginning, fed, units_in, units, wanted, endian_in, endian, IsPartial, IsOversize, header_of, without_first, behind, cut, unit_limit, byte_limit};
 
 use ice_values::{Endian, read_card32};
-use sm_world::NoMemory;
+use owned_lists::NoMemory;
 use std::alloc::Global;
 use std::marker::Model;
 

@@ -9,7 +9,7 @@ use ice_values::{
     DecodeRefusal, Endian, Spelled, Text16, TextList, ValueRefusal, VersionList, decode_error,
     end_body, no_body, skip, take_many, take_proof_data, value_at,
 };
-use sm_world::Octets;
+use owned_lists::Octets;
 use std::alloc::Global;
 
 /// The vendor and the release.

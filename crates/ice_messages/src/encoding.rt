@@ -11,7 +11,7 @@ use ice_values::{
     EncodeRefusal, Endian, Enumerated, Spelled, Text16, TextList, VersionList, pad, put_bytes,
     put_card16, put_card32, put_error, put_many, put_proof_data, put_zeros,
 };
-use sm_world::{NoMemory, Octets};
+use owned_lists::{NoMemory, Octets};
 
 /// The minor opcode of a message.
 pub fn minor(message: &IceMessage) -> u8

@@ -1,5 +1,5 @@
 use ice_values::{Endian, ErrorBody, Text16, TextList, VersionList};
-use sm_world::Octets;
+use owned_lists::Octets;
 
 /// The last minor opcode: those from 0 to it are the messages (ICE, chapter 7: ICE Minor opcodes).
 pub const LAST_ICE_MINOR: u8 = 12;

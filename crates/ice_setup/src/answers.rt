@@ -8,7 +8,7 @@ ghost use Rattle.ice_messages.specs.declared.message.IceMessage.TheVariants.{Err
 use crate::errors::{Offending, error_of, opcode_values, text_values};
 use ice_messages::IceMessage;
 use ice_values::{ErrorClass, Severity, Text16};
-use sm_world::{NoMemory, Octets};
+use owned_lists::{NoMemory, Octets};
 use std::alloc::Global;
 
 /// The manager's major opcode for the messages of XSMP.

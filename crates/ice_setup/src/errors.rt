@@ -5,7 +5,7 @@ use ice_values::{
     Endian, ErrorBody, ErrorClass, Severity, Text16, pad, put_bytes, put_card32, put_text16,
     put_zeros,
 };
-use sm_world::{NoMemory, Octets};
+use owned_lists::{NoMemory, Octets};
 use std::alloc::Global;
 
 /// The message that an Error refuses.

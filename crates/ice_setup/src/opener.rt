@@ -8,7 +8,7 @@ use crate::others::named;
 use ice_cookie::Cookie;
 use ice_messages::IceMessage;
 use ice_values::{ErrorClass, Severity};
-use sm_world::NoMemory;
+use owned_lists::NoMemory;
 use std::alloc::Global;
 
 /// The manager's ByteOrder is awaited. The client has sent its own.

@@ -9,7 +9,7 @@ use crate::offers::{COOKIE_NAME, PROTOCOL_NAME};
 use ice_cookie::Cookie;
 use ice_messages::IceMessage;
 use ice_values::{TextList, Version, VersionList};
-use sm_world::{NoMemory, Octets};
+use owned_lists::{NoMemory, Octets};
 use std::alloc::Global;
 
 /// The client's major opcode for the messages of XSMP.

@@ -8,7 +8,7 @@ use crate::errors::{Offending, error_of};
 use crate::states::{AnySetup, Moved};
 use ice_messages::{IceMessage, minor};
 use ice_values::{ErrorBody, ErrorClass, Severity};
-use sm_world::Octets;
+use owned_lists::Octets;
 use std::alloc::Global;
 
 /// What an Error names of a message.

@@ -17,7 +17,7 @@ use crate::states::{
 };
 use ice_messages::IceMessage;
 use ice_values::{ErrorClass, Severity, Text16, Version};
-use sm_world::NoMemory;
+use owned_lists::NoMemory;
 use std::alloc::Global;
 
 impl AwaitOrder {

@@ -6,9 +6,9 @@ use Rattle.ice_values.specs.Cells.{Cells, Begins}
 use Rattle.ice_values.specs.Fields.{spelling, bool_number, order_number, severity_number}
 use Rattle.ice_values.specs.Frames.{◌>>=◌, or_bad, means_at, both_at, bool_meaning, order_meaning, severity_meaning, first_wrong}
 use Rattle.ice_values.specs.Saves.{kind_number, style_number, dialog_number, kind_meaning, style_meaning, dialog_meaning}
-use Rattle.sm_world.specs.declared.events.SaveKind.TheVariants.{Global, Local, Both}
-use Rattle.sm_world.specs.declared.events.SaveStyle.TheVariants.{Nothing, Errors, Any}
-use Rattle.sm_world.specs.declared.events.Dialog.TheVariants.{Error as ErrorDialog, Normal}
+use Rattle.ice_values.specs.declared.saves.SaveKind.TheVariants.{Global, Local, Both}
+use Rattle.ice_values.specs.declared.saves.SaveStyle.TheVariants.{Nothing, Errors, Any}
+use Rattle.ice_values.specs.declared.saves.Dialog.TheVariants.{Error as ErrorDialog, Normal}
 use Rattle.ice_values.specs.declared.numbers.Endian.{Endian}
 use Rattle.ice_values.specs.declared.numbers.Endian.TheVariants.{Lsb, Msb}
 use Rattle.ice_values.specs.declared.severity.Severity.TheVariants.{CanContinue, FatalToProtocol, FatalToConnection}

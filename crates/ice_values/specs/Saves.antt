@@ -1,11 +1,11 @@
 -- Enumerated bytes of XSMP (XSMP, chapter 10: SAVE_TYPE, INTERACT_STYLE and DIALOG_TYPE).
 use Rattle.std.specs.Prelude.{ℕ, Option, Some, None, ◌==◌, if◌then◌else◌}
-use Rattle.sm_world.specs.declared.events.SaveKind.{SaveKind}
-use Rattle.sm_world.specs.declared.events.SaveKind.TheVariants.{Global, Local, Both}
-use Rattle.sm_world.specs.declared.events.SaveStyle.{SaveStyle}
-use Rattle.sm_world.specs.declared.events.SaveStyle.TheVariants.{Nothing, Errors, Any}
-use Rattle.sm_world.specs.declared.events.Dialog.{Dialog}
-use Rattle.sm_world.specs.declared.events.Dialog.TheVariants.{Error, Normal}
+use Rattle.ice_values.specs.declared.saves.SaveKind.{SaveKind}
+use Rattle.ice_values.specs.declared.saves.SaveKind.TheVariants.{Global, Local, Both}
+use Rattle.ice_values.specs.declared.saves.SaveStyle.{SaveStyle}
+use Rattle.ice_values.specs.declared.saves.SaveStyle.TheVariants.{Nothing, Errors, Any}
+use Rattle.ice_values.specs.declared.saves.Dialog.{Dialog}
+use Rattle.ice_values.specs.declared.saves.Dialog.TheVariants.{Error, Normal}
 
 abbrev pub kind_number : SaveKind → ℕ
 kind_number Global = 0

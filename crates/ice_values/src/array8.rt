@@ -11,7 +11,7 @@ use crate::numbers::pad;
 use crate::spelled::{Spelled, read_front, write_whole};
 use crate::writing::{put_bytes, put_card32, put_zeros};
 use crate::{Endian, ValueRefusal};
-use sm_world::{ListOf, NoMemory, Octets};
+use owned_lists::{ListOf, NoMemory, Octets};
 use std::alloc::Global;
 
 /// Bytes, as many as there are memory for (XSMP, chapter 10: ARRAY8). Spelled with a CARD32 in

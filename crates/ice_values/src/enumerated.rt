@@ -3,8 +3,7 @@ ghost use Rattle.ice_values.specs.Fields.{bool_number, order_number, severity_nu
 ghost use Rattle.ice_values.specs.Frames.{means_at, bool_meaning, order_meaning, severity_meaning};
 ghost use Rattle.ice_values.specs.Saves.{kind_number, style_number, dialog_number, kind_meaning, style_meaning, dialog_meaning};
 
-use crate::{DecodeRefusal, Endian, Severity};
-use sm_world::{Dialog, SaveKind, SaveStyle};
+use crate::{DecodeRefusal, Dialog, Endian, SaveKind, SaveStyle, Severity};
 
 /// A value for which one byte stands.
 pub trait Enumerated: Copy {

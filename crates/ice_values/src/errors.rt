@@ -1,5 +1,5 @@
 use crate::Severity;
-use sm_world::Octets;
+use owned_lists::Octets;
 use std::marker::Model;
 
 /// What an Error says, of ICE or of a protocol over it (ICE, chapter 7: Error). Its values are all

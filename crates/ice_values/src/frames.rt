@@ -4,7 +4,7 @@ ghost use Rattle.ice_values.specs.Frames.{IsFrame, Gives, body_at, ended, error_
 
 use crate::numbers::{read_card16, read_card32};
 use crate::{DecodeRefusal, Endian, ErrorBody, Spelled, value_at};
-use sm_world::Octets;
+use owned_lists::Octets;
 use std::alloc::Global;
 
 /// Ends a body, of which no more than padding may be left.

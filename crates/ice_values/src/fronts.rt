@@ -3,7 +3,7 @@ ghost use Rattle.ice_values.specs.Reading.{Answers, Finds, card_at, bytes_at, sk
 
 use crate::numbers::{read_card16, read_card32};
 use crate::{Endian, ValueRefusal};
-use sm_world::Octets;
+use owned_lists::Octets;
 use std::alloc::Global;
 
 /// The CARD16 at the front, and what follows it. None where there are fewer bytes.

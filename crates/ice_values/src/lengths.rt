@@ -4,7 +4,7 @@ ghost use Rattle.ice_values.specs.Fields.{proof_data, IsProofData, error_body, I
 ghost use Rattle.ice_values.specs.declared.numbers.Endian.{Endian as AnyEndian};
 
 use crate::ErrorBody;
-use sm_world::Octets;
+use owned_lists::Octets;
 
 /// No body of a message is longer than this many bytes.
 pub const BODY_LIMIT: usize = 65536;

@@ -11,6 +11,7 @@ mod lengths;
 mod numbers;
 mod property;
 mod refusals;
+mod saves;
 mod severity;
 mod spelled;
 mod text;
@@ -34,6 +35,7 @@ pub use property::{
     Property, PropertyList, read_property, read_property_list, write_property, write_property_list,
 };
 pub use refusals::{DecodeRefusal, EncodeRefusal, Short, ValueRefusal};
+pub use saves::{Dialog, SaveKind, SaveStyle};
 pub use severity::Severity;
 pub use spelled::{Spelled, cut_front, many_size, put_many, take_many};
 pub use text::{Text16, TextList, put_text16, read_text16, write_text16};

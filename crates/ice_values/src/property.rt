@@ -7,7 +7,7 @@ ghost use Rattle.ice_values.specs.Writing.{Extends};
 use crate::lengths::within_limit;
 use crate::spelled::{Spelled, read_front, write_whole};
 use crate::{Array8, Array8List, Endian, ValueRefusal};
-use sm_world::{Duplicate, ListOf, NoMemory, Octets};
+use owned_lists::{Duplicate, ListOf, NoMemory, Octets};
 use std::alloc::Global;
 
 /// What a client says of itself under a name (XSMP, chapter 10: PROPERTY).

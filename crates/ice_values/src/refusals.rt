@@ -3,7 +3,7 @@ ghost use Rattle.ice_values.specs.declared.refusals.DecodeRefusal.TheVariants.{N
 ghost use Rattle.ice_values.specs.declared.refusals.ValueRefusal.TheVariants.{NoMemory as NoMemoryForValue};
 ghost use Rattle.ice_values.specs.declared.refusals.EncodeRefusal.TheVariants.{NoMemory as NoMemoryToEncode};
 
-use sm_world::NoMemory;
+use owned_lists::NoMemory;
 
 /// Why a value can't be read or made.
 #[derive(Clone, Copy, Debug, PartialEq, Eq)]

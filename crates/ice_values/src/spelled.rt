@@ -10,7 +10,7 @@ use crate::fronts::{cut_card32, pass_bytes, skip, take_card32};
 use crate::lengths::within_limit;
 use crate::writing::{put_card32, put_zeros};
 use crate::{Endian, ValueRefusal};
-use sm_world::{ListOf, NoMemory, Octets};
+use owned_lists::{ListOf, NoMemory, Octets};
 use std::alloc::Global;
 
 /// A value that ICE or XSMP spells: how it is read, written and measured.

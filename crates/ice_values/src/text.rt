@@ -10,7 +10,7 @@ use crate::numbers::pad;
 use crate::spelled::{Spelled, read_front, write_whole};
 use crate::writing::{put_bytes, put_card16, put_zeros};
 use crate::{Endian, ValueRefusal};
-use sm_world::{Duplicate, ListOf, NoMemory, Octets};
+use owned_lists::{Duplicate, ListOf, NoMemory, Octets};
 use std::alloc::Global;
 use std::marker::Model;
 

@@ -8,7 +8,7 @@ use crate::fronts::{cut_card16, take_card16};
 use crate::spelled::{Spelled, write_whole};
 use crate::writing::put_card16;
 use crate::{Endian, ValueRefusal};
-use sm_world::{Duplicate, ListOf, NoMemory, Octets};
+use owned_lists::{Duplicate, ListOf, NoMemory, Octets};
 use std::alloc::Global;
 
 /// The version of a protocol (ICE, chapter 7: VERSION).

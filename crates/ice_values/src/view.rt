@@ -6,7 +6,7 @@ use crate::array8::{array8_size, cut_array8};
 use crate::lengths::{BODY_LIMIT, within_limit};
 use crate::spelled::{Spelled, cut_front};
 use crate::{Array8List, Endian, Property};
-use sm_world::{NoMemory, Octets};
+use owned_lists::{NoMemory, Octets};
 use std::alloc::Global;
 
 /// A property where it lies. It doesn't know the order of numbers in which its values are spelled: the walk

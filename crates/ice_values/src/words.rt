@@ -1,7 +1,7 @@
 ghost use Rattle.std.specs.Prelude.{◌≡◌, ◌++◌, ◌∷◌, [], OnOk};
 
 use crate::{Array8, Array8List};
-use sm_world::{NoMemory, Octets};
+use owned_lists::{NoMemory, Octets};
 use std::alloc::Global;
 
 /// Adds a word.

@@ -6,7 +6,7 @@ ghost use Rattle.ice_values.specs.Writing.{Extends};
 
 use crate::{Endian, Enumerated, ErrorBody};
 use byteorder::{BigEndian, ByteOrder, LittleEndian};
-use sm_world::{NoMemory, Octets};
+use owned_lists::{NoMemory, Octets};
 
 const ZEROS: [u8; 8] = [0; 8];
 

@@ -1,7 +1,8 @@
 ghost use Rattle.std.specs.Prelude.{◌≡◌, ◌+◌, ◌<◌, ◌≤◌, [], ◌∷◌, ◌++◌, false, is_some, Some, None, OnOk, OnErr, MatchOption};
 ghost use Rattle.interact_queue.specs.Queue.{is_in, is_holder, without, holder_without, next_holder};
 
-use sm_world::{Conn, NoMemory};
+use owned_lists::NoMemory;
+use sm_world::Conn;
 use std::alloc::Global;
 use std::collections::VecDeque;
 use std::marker::Model;

@@ -1,7 +1,7 @@
 -- Moves by which nothing changes but what was done.
 use Rattle.std.proofs.Common.{◌≡◌, refl, ℕ, List, [], ◌∷◌, ◌++◌, ◌∙◌, map-id}
 use Rattle.ice_values.specs.Fields.{ErrorFields}
-use Rattle.sm_world.specs.declared.commands.Command.{Command}
+use Rattle.owned_lists.specs.declared.commands.Command.{Command}
 use Rattle.session_model.specs.declared.events.Act.TheVariants.{Blame, Finish, Print, Start}
 use Rattle.session_model.specs.declared.events.Reason.{Reason}
 use Rattle.session_model.specs.declared.events.Reason.TheVariants.{Discard as ToDiscard, End as ToEnd, Resign as ToResign, Restart as ToRestart}

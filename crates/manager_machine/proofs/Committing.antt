@@ -1,6 +1,6 @@
 -- Books that are written, and commands that are tried before one is.
 use Rattle.std.proofs.Common.{◌≡◌, refl, ◌<◌, length, arith, List, [], ◌∷◌, ◌++◌, ap, sym, ◌∙◌, map-id}
-use Rattle.sm_world.specs.declared.commands.Command.{Command}
+use Rattle.owned_lists.specs.declared.commands.Command.{Command}
 use Rattle.checkpoint_records.specs.declared.records.Book.{Book}
 use Rattle.discard_ledger.specs.Discards.{without_commands}
 use Rattle.session_model.specs.declared.events.Act.TheVariants.{Commit}

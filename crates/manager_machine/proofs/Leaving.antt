@@ -2,7 +2,7 @@
 use Rattle.std.proofs.Common.{◌≡◌, ℕ, List, [], ◌∷◌, ◌++◌, sym}
 use Rattle.std.specs.Prelude.{Option}
 use Rattle.std.proofs.lemmas.List.{append-nil}
-use Rattle.sm_world.specs.declared.commands.Command.{Command}
+use Rattle.owned_lists.specs.declared.commands.Command.{Command}
 use Rattle.round_agreement.specs.Agreement.{Agreement, without_member}
 use Rattle.interact_queue.specs.Queue.{holder_without, without}
 use Rattle.discard_ledger.specs.Discards.{discard_of}

@@ -3,7 +3,7 @@ use Rattle.std.specs.Prelude.{List, map, ◌++◌, ◌∷◌}
 use Rattle.xsmp_messages.specs.declared.message.XsmpMessage.TheVariants.{Die, SaveComplete}
 use Rattle.discard_ledger.specs.Discards.{issuable}
 use Rattle.checkpoint_records.specs.declared.records.Book.{Book}
-use Rattle.sm_world.specs.declared.commands.Command.{Command}
+use Rattle.owned_lists.specs.declared.commands.Command.{Command}
 use Rattle.session_model.specs.Moves.{Agreed, Closed, Committed, End as ForEnd, Move, gave_each, tried_each}
 use Rattle.session_model.specs.Books.{issue, with_entries}
 use Rattle.session_model.specs.Reading.{Store}

@@ -9,11 +9,12 @@ ghost use Rattle.manager_machine.specs.Agreeing.{completing, ending, planned};
 use crate::inner::Core;
 use crate::rounds::copy_conns;
 use checkpoint_records::EntryList;
+use owned_lists::{CommandList, NoMemory};
 use round_agreement::Round;
 use session_books::{last_commands, next_entries};
 use session_clients::Clients;
 use session_model::Reason;
-use sm_world::{CommandList, ConnList, NoMemory};
+use sm_world::ConnList;
 use std::alloc::Global;
 use xsmp_messages::XsmpMessage;
 

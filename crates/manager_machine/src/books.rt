@@ -9,8 +9,8 @@ ghost use Rattle.manager_machine.specs.Agreeing.{discarding};
 use crate::inner::Core;
 use checkpoint_records::{Book, EntryList, copy_book};
 use discard_ledger::Ledger;
+use owned_lists::{Command, CommandList, Duplicate, NoMemory, Octets};
 use session_model::{Act, Reason};
-use sm_world::{Command, CommandList, Duplicate, NoMemory, Octets};
 use std::mem;
 
 impl Core {

@@ -13,10 +13,11 @@ use crate::registrations::one_more;
 use crate::replies::{Again, Departure, Reply};
 use checkpoint_records::Entry;
 use ice_values::Array8;
+use owned_lists::{Command, Duplicate, ListOf, NoMemory};
 use restart_plan::respawn;
 use session_clients::{entry_of, is_dying};
 use session_model::{Act, Reason};
-use sm_world::{Command, Conn, Duplicate, ListOf, NoMemory};
+use sm_world::Conn;
 use std::alloc::Global;
 use std::collections::VecDeque;
 

@@ -11,9 +11,10 @@ ghost use Rattle.xsmp_messages.specs.declared.message.XsmpMessage.TheVariants.{D
 
 use crate::inner::Core;
 use ice_values::ErrorBody;
+use owned_lists::NoMemory;
 use session_clients::Clients;
 use session_model::{Act, Phase};
-use sm_world::{Conn, ConnList, NoMemory};
+use sm_world::{Conn, ConnList};
 use std::alloc::Global;
 use xsmp_messages::XsmpMessage;
 

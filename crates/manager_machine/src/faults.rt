@@ -1,7 +1,7 @@
 ghost use Rattle.std.specs.Prelude.{◌≡◌};
 ghost use Rattle.manager_machine.specs.declared.faults.TakeFault.TheVariants.{NoMemory as NoMemoryToTake};
 
-use sm_world::NoMemory;
+use owned_lists::NoMemory;
 
 /// Why an event isn't taken.
 #[derive(Clone, Copy, Debug, PartialEq, Eq)]

@@ -10,10 +10,11 @@ use checkpoint_records::Book;
 use discard_ledger::Ledger;
 use ice_values::Array8;
 use interact_queue::InteractQueue;
+use owned_lists::{ListOf, NoMemory};
 use session_clients::Clients;
 use session_model::{Act, Arrival, SessionEvent};
 use session_rounds::{RunningRound, WaitingRounds};
-use sm_world::{Conn, ListOf, NoMemory};
+use sm_world::Conn;
 use std::marker::Model;
 use std::mem;
 

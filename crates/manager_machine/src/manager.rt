@@ -11,9 +11,10 @@ ghost use Rattle.manager_machine.specs.Keeper.{AreFit, StandsFor};
 use crate::faults::TakeFault;
 use crate::inner::{Acts, Core};
 use checkpoint_records::Book;
+use owned_lists::NoMemory;
 use session_clients::is_bound;
 use session_model::{Marks, Phase, SessionEvent};
-use sm_world::{Conn, NoMemory};
+use sm_world::Conn;
 use std::alloc::Global;
 use std::marker::Model;
 

@@ -22,6 +22,7 @@ use checkpoint_records::{Book, same_command};
 use discard_ledger::Ledger;
 use ice_values::PropertyList;
 use interact_queue::InteractQueue;
+use owned_lists::{Command, NoMemory};
 use round_agreement::Wanted;
 use session_answers::{bad_state, full_table, lone_shutdown};
 use session_clients::{
@@ -29,7 +30,7 @@ use session_clients::{
     is_unregistered, may_interact,
 };
 use session_model::{Arrival, Phase};
-use sm_world::{Command, Conn, NoMemory};
+use sm_world::Conn;
 use std::alloc::Global;
 use xsmp_messages::XsmpMessage;
 

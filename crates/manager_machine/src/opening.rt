@@ -9,11 +9,11 @@ use checkpoint_records::{Book, Entry, copy_book};
 use discard_ledger::Ledger;
 use ice_values::Array8;
 use interact_queue::InteractQueue;
+use owned_lists::{Duplicate, NoMemory};
 use restart_plan::plan;
 use session_clients::Clients;
 use session_model::Reason;
 use session_rounds::{RunningRound, WaitingRounds};
-use sm_world::{Duplicate, NoMemory};
 use std::alloc::Global;
 
 impl Core {

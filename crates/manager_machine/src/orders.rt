@@ -15,12 +15,13 @@ use crate::inner::Core;
 use crate::replies::{Again, Forgetting, Reply};
 use crate::rounds::members_of;
 use checkpoint_records::Entry;
+use owned_lists::{Command, NoMemory, Octets};
 use round_agreement::Round;
 use session_answers::{Doing, Status, status_line};
 use session_books::{command_anyway, entries_without};
 use session_clients::entry_of;
 use session_model::Reason;
-use sm_world::{Command, Conn, ConnList, NoMemory, Octets, Order};
+use sm_world::{Conn, ConnList, Order};
 use std::alloc::Global;
 
 impl Core {

@@ -13,11 +13,12 @@ ghost use Rattle.session_clients.specs.Clients.{held_after};
 use crate::inner::Core;
 use crate::replies::Reply;
 use ice_values::Array8;
+use owned_lists::{Duplicate, NoMemory};
 use session_answers::{bad_id, client_id, no_room};
 use session_clients::{first_table, is_recorded};
 use session_model::{Act, Arrival};
 use session_rounds::is_only;
-use sm_world::{Conn, Duplicate, NoMemory};
+use sm_world::Conn;
 use xsmp_messages::XsmpMessage;
 
 /// How many IDs may be known.

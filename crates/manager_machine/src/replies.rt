@@ -5,7 +5,8 @@ ghost use Rattle.manager_machine.specs.Answers.{moves_of};
 use crate::inner::Core;
 use checkpoint_records::EntryList;
 use ice_values::{Array8, ErrorBody, PropertyList};
-use sm_world::{Command, CommandList, Conn, ConnList, ListOf, NoMemory, Octets};
+use owned_lists::{Command, CommandList, ListOf, NoMemory, Octets};
+use sm_world::{Conn, ConnList};
 use xsmp_messages::XsmpMessage;
 
 /// A client that is started again at once, as it departs.

@@ -16,10 +16,11 @@ ghost use Rattle.manager_machine.specs.Answers.{moves_of, call_off_moves};
 
 use crate::inner::Core;
 use crate::replies::Reply;
+use owned_lists::{Duplicate, NoMemory};
 use round_agreement::{Round, Wanted};
 use session_clients::is_shutdown;
 use session_rounds::Progress;
-use sm_world::{Conn, ConnList, Duplicate, NoMemory};
+use sm_world::{Conn, ConnList};
 use std::alloc::Global;
 use xsmp_messages::XsmpMessage;
 

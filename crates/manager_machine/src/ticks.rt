@@ -7,7 +7,7 @@ ghost use Rattle.manager_machine.specs.Answers.{moves_of};
 
 use crate::inner::Core;
 use crate::replies::Reply;
-use sm_world::NoMemory;
+use owned_lists::NoMemory;
 
 impl Core {
     /// The answer to the passing of so many milliseconds.

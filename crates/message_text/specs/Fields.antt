@@ -10,12 +10,12 @@ use Rattle.ice_values.specs.declared.severity.Severity.{Severity}
 use Rattle.ice_values.specs.declared.severity.Severity.TheVariants.{CanContinue, FatalToProtocol, FatalToConnection}
 use Rattle.ice_values.specs.declared.property.Property.{Property}
 use Rattle.ice_values.specs.declared.version.Version.{Version}
-use Rattle.sm_world.specs.declared.events.SaveKind.{SaveKind}
-use Rattle.sm_world.specs.declared.events.SaveKind.TheVariants.{Global, Local, Both}
-use Rattle.sm_world.specs.declared.events.SaveStyle.{SaveStyle}
-use Rattle.sm_world.specs.declared.events.SaveStyle.TheVariants.{Nothing, Errors, Any}
-use Rattle.sm_world.specs.declared.events.Dialog.{Dialog}
-use Rattle.sm_world.specs.declared.events.Dialog.TheVariants.{Error as ErrorDialog, Normal}
+use Rattle.ice_values.specs.declared.saves.SaveKind.{SaveKind}
+use Rattle.ice_values.specs.declared.saves.SaveKind.TheVariants.{Global, Local, Both}
+use Rattle.ice_values.specs.declared.saves.SaveStyle.{SaveStyle}
+use Rattle.ice_values.specs.declared.saves.SaveStyle.TheVariants.{Nothing, Errors, Any}
+use Rattle.ice_values.specs.declared.saves.Dialog.{Dialog}
+use Rattle.ice_values.specs.declared.saves.Dialog.TheVariants.{Error as ErrorDialog, Normal}
 use Rattle.message_text.specs.Words.{bytes_text, choice_text}
 use Rattle.message_text.specs.declared.words.Writing.{Writing}
 

@@ -6,8 +6,10 @@ ghost use Rattle.message_text.specs.Words.{bytes_text};
 ghost use Rattle.message_text.specs.Fields.{bool_text, dialog_text, error_text, field, kind_text, list_text, order_text, property_text, severity_text, style_text, version_text};
 
 use crate::words::{Writing, put_bytes, put_choice, put_number};
-use ice_values::{Endian, Enumerated, ErrorBody, Property, Severity, Text16, Version};
-use sm_world::{Dialog, ListOf, NoMemory, Octets, SaveKind, SaveStyle};
+use ice_values::{
+    Dialog, Endian, Enumerated, ErrorBody, Property, SaveKind, SaveStyle, Severity, Text16, Version,
+};
+use owned_lists::{ListOf, NoMemory, Octets};
 use std::alloc::Global;
 
 /// A value as it stands in a line.

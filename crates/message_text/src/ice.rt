@@ -5,7 +5,7 @@ use crate::fields::{put_error, put_field};
 use crate::words::Writing;
 use ice_messages::IceMessage;
 use ice_values::{Text16, TextList, VersionList};
-use sm_world::{NoMemory, Octets};
+use owned_lists::{NoMemory, Octets};
 use std::alloc::Global;
 
 /// The name of a message.

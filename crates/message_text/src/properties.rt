@@ -4,7 +4,7 @@ ghost use Rattle.message_text.specs.Properties.{indent, is_known as known_in, is
 
 use crate::words::{put_number, put_plain, put_quoted};
 use ice_values::{Array8, Property};
-use sm_world::{NoMemory, Octets};
+use owned_lists::{NoMemory, Octets};
 use std::alloc::Global;
 
 /// Whether the values of a property of this type are numbers of one byte.

@@ -4,7 +4,7 @@ ghost use Rattle.std.specs.Fmt.{decimal};
 ghost use Rattle.message_text.specs.Words.{bytes_text, char_text, choice_text, is_plain as plain_in, plain_text, quoted};
 
 use control_lines::put_hex;
-use sm_world::{NoMemory, Octets};
+use owned_lists::{NoMemory, Octets};
 use std::alloc::Global;
 
 /// How values are written.

@@ -4,8 +4,8 @@ ghost use Rattle.message_text.specs.Lines.{xsmp_name as name_in, xsmp_fields, xs
 use crate::fields::{put_error, put_field};
 use crate::properties::put_property_lines;
 use crate::words::Writing;
-use ice_values::PropertyList;
-use sm_world::{NoMemory, Octets, SaveKind, SaveStyle};
+use ice_values::{PropertyList, SaveKind, SaveStyle};
+use owned_lists::{NoMemory, Octets};
 use std::alloc::Global;
 use xsmp_messages::XsmpMessage;
 

@@ -1,7 +1,7 @@
 -- What a client with callbacks does about a cue.
 use Rattle.std.proofs.Common.{◌≡◌, ℕ, Bool, List, [], ◌∷◌, ◌++◌, map, Option, None, Some, Result, Ok, Err, refl, sym, ◌∙◌, ap, subst, append-nil}
 use Rattle.std.specs.Prelude.{flat_map, OnOk}
-use Rattle.sm_world.specs.declared.failures.NoMemory.{NoMemory}
+use Rattle.owned_lists.specs.declared.failures.NoMemory.{NoMemory}
 use Rattle.client_machine.specs.Phases.{is_owing}
 use Rattle.client_machine.specs.Saves.{at_stage}
 use Rattle.client_machine.specs.declared.saves.SaveAnswer.{SaveAnswer}

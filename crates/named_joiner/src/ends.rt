@@ -1,4 +1,4 @@
-use sm_world::Octets;
+use owned_lists::Octets;
 
 /// How a client came to its end.
 #[derive(Clone, Copy, Debug, PartialEq, Eq)]

@@ -5,7 +5,7 @@ use crate::progress::Progress;
 use crate::saying::say_all;
 use client_engine::{Cue, Keeps, Taken, spell, stage_again};
 use client_machine::SaveAsk;
-use sm_world::NoMemory;
+use owned_lists::NoMemory;
 
 impl Progress {
     ghost use Rattle.std.specs.Prelude.{◌≡◌, ◌++◌, flat_map, map, OnOk};

@@ -10,7 +10,7 @@ use client_engine::Core;
 use client_machine::SaveAsk;
 use ice_cookie::Cookie;
 use ice_values::Array8;
-use sm_world::{NoMemory, Octets};
+use owned_lists::{NoMemory, Octets};
 use std::alloc::Global;
 use std::mem;
 

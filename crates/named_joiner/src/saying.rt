@@ -2,8 +2,8 @@ ghost use Rattle.std.specs.Prelude.{◌≡◌, ◌++◌, flat_map, OnOk};
 ghost use Rattle.client_engine.specs.Messages.{AreShort, spelled};
 
 use client_engine::spell;
+use owned_lists::{NoMemory, Octets};
 use protocol_messages::Message;
-use sm_world::{NoMemory, Octets};
 
 /// Appends the bytes of these messages.
 pub fn say_all(said: &[Message], bytes: &mut Octets) -> Result<(), NoMemory>

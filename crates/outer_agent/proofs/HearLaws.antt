@@ -3,7 +3,7 @@ use Rattle.std.proofs.Common.{◌≡◌, ℕ, Bool, true, false, List, [], ◌�
 use Rattle.std.proofs.lemmas.Bool.{false≢true}
 use Rattle.ice_framing.specs.Frames.{Standing, cut, fed}
 use Rattle.ice_framing.specs.Parts.{Part, parts_at}
-use Rattle.sm_world.specs.declared.failures.NoMemory.{NoMemory}
+use Rattle.owned_lists.specs.declared.failures.NoMemory.{NoMemory}
 use Rattle.client_machine.specs.Asking.{after_asked}
 use Rattle.client_machine.specs.Phases.{ClientState}
 use Rattle.client_machine.specs.declared.requests.Request.TheVariants.{Done}

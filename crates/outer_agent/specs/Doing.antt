@@ -1,6 +1,6 @@
 -- What the calls of an agent do.
 use Rattle.std.specs.Prelude.{◌≡◌, Bool, List, ◌++◌, Option, None, Some}
-use Rattle.sm_world.specs.declared.failures.NoMemory.{NoMemory}
+use Rattle.owned_lists.specs.declared.failures.NoMemory.{NoMemory}
 use Rattle.outer_agent.specs.Script.{Keeper}
 use Rattle.outer_agent.specs.Standing.{Stand}
 use Rattle.outer_agent.specs.declared.acts.AgentAct.{AgentAct}

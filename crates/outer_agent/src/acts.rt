@@ -1,4 +1,4 @@
-use sm_world::{ListOf, Octets};
+use owned_lists::{ListOf, Octets};
 
 /// What a manager is to do towards its outer one, and in its own session.
 #[derive(Debug, Drop)]

@@ -15,7 +15,7 @@ use crate::progress::Progress;
 use client_engine::{greeting, spell, take_piece};
 use ice_cookie::Cookie;
 use ice_values::Array8;
-use sm_world::{NoMemory, Octets, OctetsList};
+use owned_lists::{NoMemory, Octets, OctetsList};
 use std::alloc::Global;
 use std::marker::Model;
 

@@ -5,8 +5,8 @@ use crate::words::own_properties;
 use client_engine::{Cue, Keeps, Taken};
 use client_machine::{ClientPhase, Stage};
 use ice_values::Array8List;
+use owned_lists::NoMemory;
 use protocol_messages::Message;
-use sm_world::NoMemory;
 use xsmp_messages::XsmpMessage;
 
 impl Progress {

@@ -4,7 +4,7 @@ use crate::words::command_words;
 use client_engine::Core;
 use ice_cookie::Cookie;
 use ice_values::Array8;
-use sm_world::{NoMemory, OctetsList};
+use owned_lists::{NoMemory, OctetsList};
 use std::alloc::Global;
 
 /// How far a manager is with its outer one.

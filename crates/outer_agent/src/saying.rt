@@ -5,8 +5,8 @@ ghost use Rattle.outer_agent.specs.Script.{sends};
 
 use crate::acts::{AgentAct, AgentActs};
 use client_engine::spell;
+use owned_lists::{NoMemory, Octets};
 use protocol_messages::Message;
-use sm_world::{NoMemory, Octets};
 use std::alloc::Global;
 
 /// Adds that this message is to be sent.

@@ -2,7 +2,7 @@ use crate::progress::Progress;
 use client_engine::spell;
 use client_machine::Request;
 use ice_values::Array8List;
-use sm_world::{NoMemory, Octets};
+use owned_lists::{NoMemory, Octets};
 
 impl Progress {
     ghost use Rattle.std.specs.Prelude.{◌≡◌, IfOk, OnOk};

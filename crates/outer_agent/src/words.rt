@@ -3,7 +3,7 @@ ghost use Rattle.std.specs.Str.{bytes_eq};
 ghost use Rattle.outer_agent.specs.Words.{AreFew, command_words as all_command_words, own_properties as all_own_properties, restart_words as all_restart_words, without_id};
 
 use ice_values::{Array8List, Property, PropertyList, Spelled, put_word, put_words};
-use sm_world::{Duplicate, NoMemory, Octets, OctetsList};
+use owned_lists::{Duplicate, NoMemory, Octets, OctetsList};
 use std::alloc::Global;
 
 /// The name of the word behind which the ID stands in a manager's command.

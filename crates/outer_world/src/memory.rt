@@ -5,7 +5,8 @@ ghost use Rattle.sm_world.specs.Worlds.{FailsByNumber, mem_outside, steady_file,
 ghost use Rattle.client_peer.specs.Peers.{Fetches};
 
 use crate::outer::Outer;
-use sm_world::{Failure, Links, MemWorld, Octets, SteadyWorld};
+use owned_lists::Octets;
+use sm_world::{Failure, Links, MemWorld, SteadyWorld};
 use std::alloc::Global;
 
 /// Each call is numbered as a call of the links is. A file that is fetched is empty.

@@ -2,7 +2,8 @@ ghost use Rattle.std.specs.Prelude.{◌≡◌, ◌≤◌, length, IfOk};
 ghost use Rattle.sm_world.specs.Outside.{UsesLinks};
 ghost use Rattle.client_peer.specs.Peers.{Fetches};
 
-use sm_world::{Failure, Octets, Told};
+use owned_lists::Octets;
+use sm_world::{Failure, Told};
 use std::alloc::Global;
 
 /// The connection to an outer manager, which has the number 0 in events and effects, and the file that

@@ -3,10 +3,8 @@ ghost use Rattle.sm_world.specs.Worlds.{mem_outside, steady_outside};
 ghost use Rattle.sm_world.specs.Outside.{Rose};
 
 use crate::worlds::numbers;
-use sm_world::{
-    Choice, Disk, EventList, Failed, Failure, MemWorld, NoMemory, NumberList, Octets, SteadyWorld,
-    Told,
-};
+use owned_lists::{NoMemory, NumberList, Octets};
+use sm_world::{Choice, Disk, EventList, Failed, Failure, MemWorld, SteadyWorld, Told};
 use std::alloc::{Alloc, Global};
 use std::process::Abort;
 use std::test::Fail;

@@ -2,11 +2,12 @@ ghost use Rattle.std.specs.Prelude.{◌++◌, codes, Some};
 ghost use Rattle.std.specs.Fmt.{decimal};
 ghost use Rattle.program_frame.specs.Printing.{line};
 
+use owned_lists::{NoMemory, NumberList, Octets};
 use program_frame::{
     OwnTexts, ProgramFault, StandardConsole, are_one_word, conclude, read_input, read_words,
     try_line, try_numbered,
 };
-use sm_world::{Console, Effect, EventList, MemWorld, NoMemory, NumberList, Octets, SteadyWorld};
+use sm_world::{Console, Effect, EventList, MemWorld, SteadyWorld};
 use std::alloc::Global;
 use std::io;
 use std::io::ErrorKind;

@@ -2,7 +2,8 @@ use control_lines::{
     effect_line, has_line, next_line, put_hex, read_bytes, read_conn, read_hex, read_number,
     read_order, read_script_line, split_once, started_line,
 };
-use sm_world::{Command, Effect, Event, NoMemory, Octets, OctetsList, PairList};
+use owned_lists::{Command, NoMemory, Octets, OctetsList, PairList};
+use sm_world::{Effect, Event};
 use std::alloc::{Alloc, Global};
 use std::process::Abort;
 use std::test::Fail;

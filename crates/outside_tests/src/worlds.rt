@@ -2,10 +2,8 @@ ghost use Rattle.std.specs.Prelude.{IfOk};
 ghost use Rattle.std.specs.List.{AllByRecursion};
 ghost use Rattle.sm_world.specs.Events.{HasPieceSize};
 
-use sm_world::{
-    Command, Console, Duplicate, Event, EventList, Failure, Links, MemWorld, NoMemory, NumberList,
-    Octets, OctetsList, Order, PairList, Spawner, SteadyWorld,
-};
+use owned_lists::{Command, Duplicate, NoMemory, NumberList, Octets, OctetsList, PairList};
+use sm_world::{Console, Event, EventList, Failure, Links, MemWorld, Order, Spawner, SteadyWorld};
 use std::alloc::{Alloc, Global};
 use std::process::Abort;
 use std::test::Fail;

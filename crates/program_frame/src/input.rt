@@ -2,7 +2,8 @@ ghost use Rattle.std.specs.Prelude.{◌≡◌};
 ghost use Rattle.sm_world.specs.Outside.{UsesConsole};
 ghost use Rattle.program_frame.specs.Input.{TakesFront};
 
-use sm_world::{Console, Failure, Octets};
+use owned_lists::Octets;
+use sm_world::{Console, Failure};
 use std::alloc::Global;
 
 /// How many bytes are read at once.

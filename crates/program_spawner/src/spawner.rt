@@ -1,7 +1,8 @@
 ghost use Rattle.std.specs.Prelude.{◌≡◌};
 ghost use Rattle.program_spawner.specs.Untold.{spawner_outside};
 
-use sm_world::{Command, NoMemory, Octets, Spawner, Told};
+use owned_lists::{Command, NoMemory, Octets};
+use sm_world::{Spawner, Told};
 use std::alloc::Global;
 use std::io::ErrorKind;
 use std::process::{Child, Stdio};

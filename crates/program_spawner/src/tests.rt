@@ -1,5 +1,6 @@
 use crate::ProgramSpawner;
-use sm_world::{Command, NoMemory, Octets, OctetsList, PairList, Spawner};
+use owned_lists::{Command, NoMemory, Octets, OctetsList, PairList};
+use sm_world::Spawner;
 use std::alloc::Global;
 use std::test::Fail;
 use std::time::Duration;

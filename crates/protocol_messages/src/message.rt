@@ -3,7 +3,7 @@ ghost use Rattle.protocol_messages.specs.Messages.{spelled_under, IsTooLong};
 
 use ice_messages::{IceMessage, encode_ice};
 use ice_values::{EncodeRefusal, Endian};
-use sm_world::Octets;
+use owned_lists::Octets;
 use xsmp_messages::{XsmpMessage, encode_xsmp};
 
 /// What one end of a session says to the other.

@@ -1,6 +1,6 @@
 use client_quirks::{amended, is_amended};
 use ice_values::{Array8, Array8List, Property};
-use sm_world::{NoMemory, Octets};
+use owned_lists::{NoMemory, Octets};
 use std::alloc::{Alloc, Global};
 use std::process::Abort;
 use std::test::Fail;

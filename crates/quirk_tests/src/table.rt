@@ -1,7 +1,7 @@
 //! What the rows of tables write.
 
 use client_quirks::{PieceList, StreamPiece};
-use sm_world::{NoMemory, Octets};
+use owned_lists::{NoMemory, Octets};
 use std::alloc::Global;
 use std::test::Fail;
 

@@ -1,7 +1,8 @@
 use crate::table::bytes_of;
 use event_script::{ScriptFault, Taken, read_script};
+use owned_lists::{NumberList, Octets};
 use quirk_world::{QuirkWorld, take_quirks};
-use sm_world::{Effect, Event, Links, MemWorld, NumberList, Octets};
+use sm_world::{Effect, Event, Links, MemWorld};
 use std::alloc::{Alloc, Global};
 use std::process::Abort;
 use std::test::Fail;

@@ -1,6 +1,7 @@
 use crate::news::News;
 use client_quirks::{Amender, Keeper, PieceList, StreamPiece};
-use sm_world::{Conn, NoMemory};
+use owned_lists::NoMemory;
+use sm_world::Conn;
 use std::alloc::Global;
 use std::collections::VecDeque;
 

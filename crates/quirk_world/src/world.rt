@@ -5,9 +5,8 @@ ghost use Rattle.quirk_world.specs.Untold.{around};
 use crate::follower::Follower;
 use crate::news::News;
 use client_quirks::StreamPiece;
-use sm_world::{
-    Command, Conn, Console, Disk, Event, Failed, Failure, Links, NoMemory, Octets, Spawner, Told,
-};
+use owned_lists::{Command, NoMemory, Octets};
+use sm_world::{Conn, Console, Disk, Event, Failed, Failure, Links, Spawner, Told};
 use std::alloc::Global;
 use std::collections::VecDeque;
 

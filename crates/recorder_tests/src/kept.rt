@@ -1,7 +1,8 @@
 ghost use Rattle.std.specs.Prelude.{◌≡◌, [], Some};
 
+use owned_lists::{NoMemory, Octets};
 use session_recorder::KeptLines;
-use sm_world::{Failed, NoMemory, Octets};
+use sm_world::Failed;
 use std::alloc::Global;
 
 /// Lines in memory, which take so many bytes in all and no more.

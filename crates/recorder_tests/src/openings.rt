@@ -1,6 +1,6 @@
 use ice_cookie::Cookie;
+use owned_lists::{NoMemory, Octets};
 use session_recorder::opening_of;
-use sm_world::{NoMemory, Octets};
 use std::alloc::{Alloc, Global};
 use std::process::Abort;
 use std::test::Fail;

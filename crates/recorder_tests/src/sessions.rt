@@ -4,11 +4,9 @@ ghost use Rattle.sm_world.specs.Events.{HasPieceSize};
 ghost use Rattle.sm_world.specs.Worlds.{mem_outside};
 
 use crate::kept::Room;
+use owned_lists::{Command, NoMemory, NumberList, Octets, OctetsList, PairList};
 use session_recorder::Recorder;
-use sm_world::{
-    Command, Console, Disk, Event, EventList, Failure, Links, MemWorld, NoMemory, NumberList,
-    Octets, OctetsList, PairList, Spawner,
-};
+use sm_world::{Console, Disk, Event, EventList, Failure, Links, MemWorld, Spawner};
 use std::alloc::{Alloc, Global};
 use std::process::Abort;
 use std::test::Fail;

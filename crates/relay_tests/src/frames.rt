@@ -2,7 +2,7 @@ ghost use Rattle.std.specs.Prelude.{◌≡◌, ◌≤◌};
 
 use byte_relay::{RespellFault, respell};
 use ice_values::{Endian, read_card32};
-use sm_world::Octets;
+use owned_lists::Octets;
 use std::alloc::Global;
 use std::process::Abort;
 use std::test::Fail;

@@ -4,7 +4,8 @@ ghost use Rattle.sm_world.specs.Events.{HasPieceSize};
 
 use byte_relay::{RelayFault, serve_relay};
 use ice_values::Endian;
-use sm_world::{Conn, Effect, Event, EventList, NoMemory, Octets, SteadyWorld};
+use owned_lists::{NoMemory, Octets};
+use sm_world::{Conn, Effect, Event, EventList, SteadyWorld};
 use std::alloc::Global;
 use std::fmt::Write;
 use std::process::Abort;

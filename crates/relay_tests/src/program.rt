@@ -4,7 +4,8 @@ ghost use Rattle.std.specs.List.{AllByRecursion};
 ghost use Rattle.sm_world.specs.Events.{HasPieceSize};
 
 use event_script::{Taken, read_script};
-use sm_world::{Effect, EventList, MemWorld, NoMemory, NumberList, Octets};
+use owned_lists::{NoMemory, NumberList, Octets};
+use sm_world::{Effect, EventList, MemWorld};
 use smrelay_app::{read_route, smrelay_main};
 use std::alloc::{Alloc, Global};
 use std::fmt::Write;

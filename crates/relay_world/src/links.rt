@@ -4,7 +4,8 @@ ghost use Rattle.relay_world.specs.Untold.{links_outside};
 
 use crate::doors::Doors;
 use crate::sockets::Sockets;
-use sm_world::{Conn, Event, Failure, Links, NoMemory, Told};
+use owned_lists::NoMemory;
+use sm_world::{Conn, Event, Failure, Links, Told};
 use std::io;
 use unix_links::{control_fault, path_fault, refused};
 

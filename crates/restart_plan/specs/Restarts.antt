@@ -1,7 +1,7 @@
 -- Which clients are started again. A client tells how by its property RestartCommand, and when by
 -- its property RestartStyleHint.
 use Rattle.std.specs.Prelude.{ℕ, Bool, true, false, ◌&&◌, if◌then◌else◌, nat_lt, List, Option, None, codes, filter_map}
-use Rattle.sm_world.specs.declared.commands.Command.{Command}
+use Rattle.owned_lists.specs.declared.commands.Command.{Command}
 use Rattle.ice_values.specs.declared.property.Property.{Property}
 use Rattle.xsmp_properties.specs.declared.hints.Hint.{Hint}
 use Rattle.xsmp_properties.specs.declared.hints.Hint.TheVariants.{IfRunning, Anyway, Immediately, Never}

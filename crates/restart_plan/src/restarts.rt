@@ -2,7 +2,7 @@ ghost use Rattle.std.specs.Prelude.{◌≡◌, IfOk};
 ghost use Rattle.restart_plan.specs.Restarts.{restart_of, opening_restart, opening_restarts, respawn as respawned};
 
 use checkpoint_records::{Book, Entry};
-use sm_world::{Command, CommandList, NoMemory};
+use owned_lists::{Command, CommandList, NoMemory};
 use std::alloc::Global;
 use xsmp_properties::{Hint, PropertyTable, command_of, hint_of};
 

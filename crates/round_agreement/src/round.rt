@@ -4,7 +4,8 @@ ghost use Rattle.round_agreement.specs.declared.round.Step.TheVariants.{WantsTwo
 
 use crate::Wanted;
 use crate::members::{all_done, is_nil, nobody_saves, set_second, set_step, somebody_wants_two};
-use sm_world::{Conn, ConnList, NoMemory};
+use owned_lists::NoMemory;
+use sm_world::{Conn, ConnList};
 use std::alloc::Global;
 use std::marker::Model;
 

@@ -1,4 +1,5 @@
-use sm_world::{Conn, SaveKind, SaveStyle};
+use ice_values::{SaveKind, SaveStyle};
+use sm_world::Conn;
 
 /// What a round is begun for (XSMP, chapter 7: SaveYourself).
 #[derive(Clone, Copy, Debug, PartialEq, Eq)]

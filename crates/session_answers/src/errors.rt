@@ -4,8 +4,8 @@ ghost use Rattle.session_model.specs.Errors as of;
 ghost use Rattle.xsmp_messages.specs.Messages.{minor_of};
 
 use ice_values::{Endian, ErrorBody, ErrorClass, Severity, pad, put_bytes, put_card32, put_zeros};
+use owned_lists::{NoMemory, Octets};
 use session_model::Arrival;
-use sm_world::{NoMemory, Octets};
 use std::alloc::Global;
 use xsmp_messages::{XsmpMessage, minor};
 

@@ -3,7 +3,7 @@ ghost use Rattle.checkpoint_records.specs.Rules.{client_id as id_text, hex8};
 
 use byteorder::{BigEndian, ByteOrder};
 use ice_values::Array8;
-use sm_world::{NoMemory, Octets};
+use owned_lists::{NoMemory, Octets};
 use std::alloc::Global;
 
 /// The ID of the new client with this number in the run of this epoch (XSMP, chapter 6): `smd-`,

@@ -4,8 +4,8 @@ ghost use Rattle.session_model.specs.Rules.{last_command as command_at_end};
 ghost use Rattle.session_clients.specs.Clients.{clients_in};
 
 use checkpoint_records::{Entry, EntryList};
+use owned_lists::{Command, CommandList, NoMemory};
 use session_clients::Clients;
-use sm_world::{Command, CommandList, NoMemory};
 use std::alloc::Global;
 use xsmp_properties::{Hint, command_of, hint_of};
 

@@ -7,9 +7,10 @@ ghost use Rattle.session_books.specs.Plans.{expecting, seen};
 
 use checkpoint_records::{Book, Entry, EntryList};
 use ice_values::Array8;
+use owned_lists::{Duplicate, NoMemory};
 use round_agreement::Round;
 use session_clients::{Clients, is_recorded};
-use sm_world::{Conn, Duplicate, NoMemory};
+use sm_world::Conn;
 use std::alloc::Global;
 use xsmp_properties::{Hint, PropertyTable, command_of, hint_of};
 

@@ -1,7 +1,7 @@
 -- A message that gives no ID makes no use of a first table, and no message that is given makes use of the dialogs.
 use Rattle.std.proofs.Common.{◌≡◌, ℕ, Bool, false, List, refl, sym}
 use Rattle.std.proofs.lemmas.Bool.{false≢true}
-use Rattle.sm_world.specs.declared.events.Dialog.{Dialog}
+use Rattle.ice_values.specs.declared.saves.Dialog.{Dialog}
 use Rattle.ice_values.specs.declared.property.Property.{Property}
 use Rattle.xsmp_messages.specs.declared.message.XsmpMessage.{XsmpMessage}
 use Rattle.xsmp_messages.specs.declared.message.XsmpMessage.TheVariants.{RegisterClientReply}

@@ -1,7 +1,7 @@
 -- The rows of the live connections, and how each move changes them. A row takes the very steps that the readings of a
 -- history take, by its own parts alone.
 use Rattle.std.specs.Prelude.{Bool, List, None, Option, [], cond, false, filter, map, not, true, ℕ, ◌++◌, ◌==◌, ◌∷◌}
-use Rattle.sm_world.specs.declared.events.Dialog.{Dialog}
+use Rattle.ice_values.specs.declared.saves.Dialog.{Dialog}
 use Rattle.ice_values.specs.declared.property.Property.{Property}
 use Rattle.xsmp_messages.specs.declared.message.XsmpMessage.{XsmpMessage}
 use Rattle.xsmp_messages.specs.declared.message.XsmpMessage.TheVariants.{RegisterClientReply}

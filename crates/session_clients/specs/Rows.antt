@@ -1,6 +1,6 @@
 -- What one row becomes, and how a row is found.
 use Rattle.std.specs.Prelude.{Bool, List, None, Option, Some, [], false, find, ℕ, ◌==◌}
-use Rattle.sm_world.specs.declared.events.Dialog.{Dialog}
+use Rattle.ice_values.specs.declared.saves.Dialog.{Dialog}
 use Rattle.ice_values.specs.declared.property.Property.{Property}
 use Rattle.xsmp_messages.specs.declared.message.XsmpMessage.{XsmpMessage}
 use Rattle.xsmp_messages.specs.declared.message.XsmpMessage.TheVariants.{RegisterClientReply}

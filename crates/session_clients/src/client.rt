@@ -10,9 +10,10 @@ ghost use Rattle.session_clients.specs.Rows.{client_by, client_heard, client_reg
 use crate::phases::{given, is_bound, is_saving, readied, registered, said};
 use crate::tables::set_if_fits;
 use ice_values::Array8;
+use owned_lists::{Duplicate, NoMemory};
 use round_agreement::Wanted;
 use session_model::Phase;
-use sm_world::{Conn, Duplicate, NoMemory};
+use sm_world::Conn;
 use std::alloc::Global;
 use xsmp_messages::XsmpMessage;
 use xsmp_properties::PropertyTable;

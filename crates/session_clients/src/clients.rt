@@ -25,9 +25,10 @@ use crate::summaries::{
 use crate::tables::would_be_full;
 use checkpoint_records::Book;
 use ice_values::{Array8, PropertyList};
+use owned_lists::{Command, CommandList, Duplicate, NoMemory};
 use round_agreement::Wanted;
 use session_model::Phase;
-use sm_world::{Command, CommandList, Conn, ConnList, Duplicate, NoMemory};
+use sm_world::{Conn, ConnList};
 use std::alloc::Global;
 use std::marker::Model;
 use xsmp_messages::XsmpMessage;

@@ -2,7 +2,7 @@ ghost use Rattle.std.specs.Prelude.{◌≡◌, IfOk, option_copied};
 ghost use Rattle.session_model.specs.Tables as of;
 
 use checkpoint_records::{Book, Entry};
-use sm_world::{Duplicate, NoMemory};
+use owned_lists::{Duplicate, NoMemory};
 use std::alloc::Global;
 use xsmp_properties::PropertyTable;
 

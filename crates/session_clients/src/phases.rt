@@ -2,9 +2,9 @@ ghost use Rattle.std.specs.Prelude.{◌≡◌};
 ghost use Rattle.session_model.specs.Phases as of;
 ghost use Rattle.session_model.specs.Replies.{is_late};
 
+use ice_values::{Dialog, SaveStyle};
 use round_agreement::Wanted;
 use session_model::Phase;
-use sm_world::{Dialog, SaveStyle};
 use xsmp_messages::XsmpMessage;
 
 /// Whether a client is registered and not yet told to die.

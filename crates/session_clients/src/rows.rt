@@ -9,9 +9,10 @@ ghost use Rattle.session_clients.specs.Rows.{client_by, client_heard, client_reg
 
 use crate::Client;
 use ice_values::Array8;
+use owned_lists::NoMemory;
 use round_agreement::Wanted;
 use session_model::Phase;
-use sm_world::{Conn, NoMemory};
+use sm_world::Conn;
 use xsmp_messages::XsmpMessage;
 use xsmp_properties::PropertyTable;
 

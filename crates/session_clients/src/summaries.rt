@@ -13,7 +13,8 @@ use crate::entries::is_recorded;
 use crate::phases::{is_late, is_owing};
 use crate::rows::{has_id, id_in, phase_in, quiet_in, table_in};
 use checkpoint_records::Book;
-use sm_world::{Command, CommandList, Conn, ConnList, NoMemory};
+use owned_lists::{Command, CommandList, NoMemory};
+use sm_world::{Conn, ConnList};
 use std::alloc::Global;
 use xsmp_properties::command_of;
 

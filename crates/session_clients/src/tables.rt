@@ -3,7 +3,7 @@ ghost use Rattle.xsmp_properties.specs.Tables.{set_all};
 ghost use Rattle.session_model.specs.Tables as of;
 
 use ice_values::PropertyList;
-use sm_world::NoMemory;
+use owned_lists::NoMemory;
 use xsmp_properties::{PropertyTable, SetRefusal};
 
 /// Sets copies of these properties in turn. Where not all of them fit, the table stays as it is.

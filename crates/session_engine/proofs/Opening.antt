@@ -2,7 +2,7 @@
 use Rattle.std.proofs.Common.{◌≡◌, ℕ, false, List, [], ◌∷◌, ◌++◌, None, refl, sym, ◌∙◌, append_assoc}
 use Rattle.std.proofs.lemmas.List.{append-nil}
 use Rattle.std.specs.List.{flat_map}
-use Rattle.sm_world.specs.declared.commands.Command.{Command}
+use Rattle.owned_lists.specs.declared.commands.Command.{Command}
 use Rattle.checkpoint_records.specs.declared.records.Book.{Book}
 use Rattle.session_model.specs.Books.{issue, opening_moves}
 use Rattle.session_model.specs.Moves.{Agreed, Began, Blamed, Cancelled, Cause, Closed, Committed, Discard, Finished, Gave, History, Move, Opened, Opening, Outside, Over, Printed, Tried, Unset, acts_of as acts_by, all_acts, onto, tried_each, ◌▷◌}

@@ -6,7 +6,7 @@ use Rattle.std.proofs.lemmas.Grind.{flat_map-append}
 use Rattle.sm_world.specs.Crash.{Image, LeavesStore}
 use Rattle.sm_world.specs.Effects.{Deed, deed_of, deeds}
 use Rattle.sm_world.specs.Outside.{Added, adds, on_ok}
-use Rattle.sm_world.specs.declared.commands.Command.{Command}
+use Rattle.owned_lists.specs.declared.commands.Command.{Command}
 use Rattle.sm_world.specs.declared.effects.Effect.{Effect}
 use Rattle.sm_world.specs.declared.effects.Effect.TheVariants.{Heard, Sent, Shut, Started, Wrote, Torn, Synced, SyncFailed, Published, Printed}
 use Rattle.sm_world.proofs.Adding.{adds-adds, adds-none}

@@ -1,7 +1,7 @@
 -- What a start adds to the effects, and who has the store's turn behind an act.
 use Rattle.std.specs.Prelude.{◌≡◌, Bool, List, [], ◌∷◌, Option, Result, Ok, Err}
 use Rattle.sm_world.specs.Outside.{adds}
-use Rattle.sm_world.specs.declared.commands.Command.{Command}
+use Rattle.owned_lists.specs.declared.commands.Command.{Command}
 use Rattle.sm_world.specs.declared.effects.Effect.{Effect}
 use Rattle.sm_world.specs.declared.effects.Effect.TheVariants.{Started}
 use Rattle.session_engine.specs.Store.{Stored}

@@ -1,6 +1,7 @@
 use crate::acts::Act;
+use owned_lists::NoMemory;
 use protocol_messages::Message;
-use sm_world::{Conn, NoMemory};
+use sm_world::Conn;
 use std::alloc::Global;
 use std::marker::Model;
 

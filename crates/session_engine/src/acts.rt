@@ -1,7 +1,8 @@
 use checkpoint_records::Book;
+use owned_lists::{Command, Octets};
 use protocol_messages::Message;
 use session_model::Reason;
-use sm_world::{Command, Conn, Octets};
+use sm_world::Conn;
 
 /// One thing that the manager does.
 #[derive(Drop)]

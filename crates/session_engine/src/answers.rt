@@ -14,8 +14,8 @@ use ice_setup::{
     AnySetup, AwaitOrder, Moved, Offending, error_of, opcode_values, refusal, wrong_byte_values,
 };
 use ice_values::{DecodeRefusal, Endian, ErrorBody, ErrorClass, Severity, read_card32};
+use owned_lists::{NoMemory, Octets};
 use protocol_messages::Message;
-use sm_world::{NoMemory, Octets};
 use std::alloc::Global;
 use xsmp_messages::{XsmpMessage, decode_xsmp};
 

@@ -6,7 +6,8 @@ use crate::answers::{Answer, answer_header, take_frame};
 use ice_cookie::Cookie;
 use ice_framing::Splitter;
 use ice_setup::{AnySetup, AwaitOrder};
-use sm_world::{Conn, NoMemory};
+use owned_lists::NoMemory;
+use sm_world::Conn;
 use std::alloc::Global;
 
 /// What is kept of a live connection: its number, how far its set-up has come, the number of its

@@ -2,8 +2,9 @@ ghost use Rattle.session_engine.specs.Places.{AreSeated};
 
 use crate::connection::{Answered, Connection};
 use ice_cookie::Cookie;
+use owned_lists::NoMemory;
 use slab::Slab;
-use sm_world::{Conn, NoMemory};
+use sm_world::Conn;
 use std::alloc::Global;
 use std::collections::BTreeMap;
 

@@ -15,7 +15,8 @@ use crate::engine::Engine;
 use crate::fault::Halt;
 use crate::shell::Shell;
 use crate::store::Store;
-use sm_world::{Conn, Console, Disk, Duplicate, Event, Links, NoMemory, Order, Spawner};
+use owned_lists::{Duplicate, NoMemory};
+use sm_world::{Conn, Console, Disk, Event, Links, Order, Spawner};
 use std::alloc::Global;
 
 /// Whether the run goes on after some acts.

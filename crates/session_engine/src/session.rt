@@ -24,8 +24,9 @@ use crate::serving::{Turn, take_event};
 use crate::shell::{Shell, hear};
 use crate::store::Store;
 use checkpoint_records::Book;
+use owned_lists::NoMemory;
 use session_model::Marks;
-use sm_world::{Console, Disk, Event, Links, NoMemory, Spawner};
+use sm_world::{Console, Disk, Event, Links, Spawner};
 use std::alloc::Global;
 
 /// A session that is held between events: what is in memory, and the turn of the store.

@@ -14,8 +14,9 @@ use crate::store::Store;
 use checkpoint_records::Book;
 use ice_setup::MANAGER_OPCODE;
 use ice_values::EncodeRefusal;
+use owned_lists::{Command, NoMemory, Octets};
 use protocol_messages::{Message, encode};
-use sm_world::{Command, Conn, Console, Disk, Event, Links, NoMemory, Octets, Spawner};
+use sm_world::{Conn, Console, Disk, Event, Links, Spawner};
 use std::alloc::Global;
 
 /// The next event.

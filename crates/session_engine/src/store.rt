@@ -13,7 +13,8 @@ use checkpoint_changes::{Delta, delta_of};
 use checkpoint_journal::Journal;
 use checkpoint_records::{Book, copy_book};
 use checkpoint_slots::StoreFault;
-use sm_world::{Disk, NoMemory};
+use owned_lists::NoMemory;
+use sm_world::Disk;
 use std::alloc::Global;
 use std::marker::Model;
 

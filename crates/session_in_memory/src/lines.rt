@@ -4,7 +4,8 @@ ghost use Rattle.control_lines.specs.Traces.{whole_line};
 ghost use Rattle.session_in_memory.specs.Lines.{lines_by, run_lines, text};
 
 use control_lines::{effect_line, has_line, started_line};
-use sm_world::{Effect, NoMemory, Octets};
+use owned_lists::{NoMemory, Octets};
+use sm_world::Effect;
 use std::alloc::Global;
 
 /// The line of an effect in the trace of a run, where it has one. A command is shown as started.

@@ -2,7 +2,7 @@ ghost use Rattle.std.specs.Prelude.{IfOk};
 ghost use Rattle.session_in_memory.specs.Stores.{IsBlank};
 
 use ice_cookie::Cookie;
-use sm_world::{NoMemory, Octets};
+use owned_lists::{NoMemory, Octets};
 use std::alloc::Global;
 
 /// The cookie of each rehearsal, so that a script can show it.

@@ -3,7 +3,7 @@ use Rattle.std.proofs.Common.{◌≡◌, refl, ℕ, Bool, true, false, cond, ◌
 use Rattle.std.specs.Prelude.{take, ◌≢◌}
 use Rattle.std.specs.List.{AllByRecursion}
 use Rattle.sm_world.specs.Effects.{Deed, deeds, heard}
-use Rattle.sm_world.specs.declared.commands.Command.{Command}
+use Rattle.owned_lists.specs.declared.commands.Command.{Command}
 use Rattle.sm_world.specs.declared.events.Event.{Event}
 use Rattle.sm_world.specs.declared.events.Event.TheVariants.{Gone as HasGone, Operator}
 use Rattle.ice_values.specs.declared.refusals.DecodeRefusal.{DecodeRefusal}

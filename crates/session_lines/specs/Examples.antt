@@ -1,7 +1,7 @@
 -- Worked fronts of lines, of which the definitions compute what is noted. In all of them the messages of XSMP have major opcode 1.
 use Rattle.std.specs.Prelude.{[], false, true, ℕ, ◌∷◌, ◌≡◌}
-use Rattle.sm_world.specs.declared.commands.Command.{Command}
-use Rattle.sm_world.specs.declared.events.Dialog.TheVariants.{Normal}
+use Rattle.owned_lists.specs.declared.commands.Command.{Command}
+use Rattle.ice_values.specs.declared.saves.Dialog.TheVariants.{Normal}
 use Rattle.sm_world.specs.declared.events.Event.TheVariants.{Gone as HasGone, Joined}
 use Rattle.ice_values.specs.Fields.{ErrorFields}
 use Rattle.ice_values.specs.declared.numbers.Endian.TheVariants.{Lsb}

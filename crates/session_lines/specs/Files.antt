@@ -3,7 +3,7 @@ use Rattle.std.specs.Prelude.{List, Ok, Result, [], false, take, true, ℕ, ◌+
 use Rattle.std.specs.List.{Contains}
 use Rattle.sm_world.specs.Crash.{Image}
 use Rattle.sm_world.specs.Effects.{Deed, deeds, heard}
-use Rattle.sm_world.specs.declared.commands.Command.{Command}
+use Rattle.owned_lists.specs.declared.commands.Command.{Command}
 use Rattle.sm_world.specs.declared.effects.Effect.{Effect}
 use Rattle.sm_world.specs.declared.events.Event.{Event}
 use Rattle.session_engine.specs.declared.config.Config.{Config}

@@ -4,7 +4,7 @@
 use Rattle.std.specs.Prelude.{List, false, true, ℕ, ◌+◌, ◌++◌, ◌||◌, ◌∷◌, ◌≡◌, ◌⊎◌, Some, [], ◌≢◌}
 use Rattle.std.specs.List.{AllByRecursion, Contains, IsDistinct}
 use Rattle.std.specs.Str.{bytes_eq}
-use Rattle.sm_world.specs.declared.commands.Command.{Command}
+use Rattle.owned_lists.specs.declared.commands.Command.{Command}
 use Rattle.sm_world.specs.declared.events.Event.{Event}
 use Rattle.session_engine.specs.declared.config.Config.{Config}
 use Rattle.ice_values.specs.declared.property.Property.{Property}

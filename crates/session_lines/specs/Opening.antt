@@ -1,6 +1,6 @@
 -- How a line begins: which clients of the opened book are started again.
 use Rattle.std.specs.Prelude.{List, [], map, ◌++◌, ◌≡◌}
-use Rattle.sm_world.specs.declared.commands.Command.{Command}
+use Rattle.owned_lists.specs.declared.commands.Command.{Command}
 use Rattle.sm_world.specs.declared.events.Event.{Event}
 use Rattle.session_engine.specs.declared.config.Config.{Config}
 use Rattle.checkpoint_records.specs.declared.records.Book.{Book}

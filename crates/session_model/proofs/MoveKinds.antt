@@ -2,7 +2,7 @@
 use Rattle.std.proofs.Common.{refl, Bool, true, false, cond, not, ◌≡◌, ◌||◌, List, [], ◌∷◌, ◌++◌, ℕ, map, filter}
 use Rattle.std.specs.Prelude.{Option, Some, None, is_some, codes, filter_map, flat_map}
 use Rattle.std.specs.List.{AllByRecursion}
-use Rattle.sm_world.specs.declared.commands.Command.{Command}
+use Rattle.owned_lists.specs.declared.commands.Command.{Command}
 use Rattle.sm_world.specs.declared.events.Order.{Order}
 use Rattle.sm_world.specs.declared.events.Order.TheVariants.{Cancel, DropConn, Forget}
 use Rattle.checkpoint_records.specs.declared.records.Book.{Book}

@@ -5,7 +5,7 @@ use Rattle.std.specs.List.{AllByRecursion, IsDistinct, cons_option}
 use Rattle.std.specs.Str.{bytes_eq}
 use Rattle.std.specs.Cmp.Lexicographic.{same_text}
 use Rattle.std.proofs.lemmas.Bool.Decides.{nat_tests}
-use Rattle.sm_world.specs.declared.commands.Command.{Command}
+use Rattle.owned_lists.specs.declared.commands.Command.{Command}
 use Rattle.ice_values.specs.declared.property.Property.{Property}
 use Rattle.xsmp_messages.specs.declared.message.XsmpMessage.{XsmpMessage}
 use Rattle.xsmp_messages.specs.declared.message.XsmpMessage.TheVariants.{RegisterClientReply, SetProperties, DeleteProperties, InteractRequest, InteractDone}
@@ -19,7 +19,7 @@ use Rattle.session_model.specs.declared.phase.Phase.{Phase}
 use Rattle.session_model.specs.declared.phase.Phase.TheVariants.{Unregistered}
 use Rattle.session_model.specs.declared.events.SessionEvent.{SessionEvent}
 use Rattle.session_model.specs.declared.events.SessionEvent.TheVariants.{Joined, Ready, Said, Left, Operator, Tick}
-use Rattle.sm_world.specs.declared.events.Dialog.{Dialog}
+use Rattle.ice_values.specs.declared.saves.Dialog.{Dialog}
 use Rattle.session_model.specs.Phases.{may_interact, phase_said, phase_given, ready_phase}
 use Rattle.session_model.specs.Tables.{is_same, stopped, stopped_said, strays_with, table_said, has_id, is_of, is_recorded}
 use Rattle.session_model.specs.Moves.{Move, Outside, Gave, Unset, Closed, Began, Over, Agreed, Cancelled, Committed, History, ◌▷◌}

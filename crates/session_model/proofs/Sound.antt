@@ -10,8 +10,8 @@ use Rattle.xsmp_messages.specs.declared.message.XsmpMessage.TheVariants.{Registe
 use Rattle.interact_queue.specs.Queue.{is_in, without}
 use Rattle.session_model.specs.declared.phase.Phase.{Phase}
 use Rattle.session_model.specs.declared.phase.Phase.TheVariants.{Unregistered}
-use Rattle.sm_world.specs.declared.events.SaveKind.{SaveKind}
-use Rattle.sm_world.specs.declared.events.SaveStyle.{SaveStyle}
+use Rattle.ice_values.specs.declared.saves.SaveKind.{SaveKind}
+use Rattle.ice_values.specs.declared.saves.SaveStyle.{SaveStyle}
 use Rattle.session_model.specs.declared.waits.Wait.{Wait}
 use Rattle.session_model.specs.declared.events.SessionEvent.{SessionEvent}
 use Rattle.session_model.specs.declared.events.SessionEvent.TheVariants.{Joined, Ready, Said, Left, Operator, Tick}

@@ -1,6 +1,6 @@
 -- The book that is written when a round is agreed or a client is forgotten, and the commands that go with books.
 use Rattle.std.specs.Prelude.{Bool, List, None, Option, Some, [], cond, false, filter, filter_map, is_some, not, true, ℕ, ◌&&◌, ◌++◌, ◌+◌, ◌||◌, ◌∷◌}
-use Rattle.sm_world.specs.declared.commands.Command.{Command}
+use Rattle.owned_lists.specs.declared.commands.Command.{Command}
 use Rattle.ice_values.specs.declared.property.Property.{Property}
 use Rattle.xsmp_properties.specs.Readers.{command_of, hint_of}
 use Rattle.xsmp_properties.specs.declared.hints.Hint.{Hint}

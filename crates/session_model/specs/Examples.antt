@@ -1,10 +1,10 @@
 -- Worked sessions, which the definitions compute. Each begins with the empty book.
 use Rattle.std.specs.Prelude.{List, [], codes, drop, false, flat_map, length, map, replicate, suc, take, true, zero, ℕ, ◌++◌, ◌+◌, ◌∷◌, ◌≡◌}
-use Rattle.sm_world.specs.declared.commands.Command.{Command}
+use Rattle.owned_lists.specs.declared.commands.Command.{Command}
 use Rattle.sm_world.specs.declared.events.Order.TheVariants.{Cancel, Checkpoint, DropConn, Forget, Shutdown, Status}
-use Rattle.sm_world.specs.declared.events.SaveKind.TheVariants.{Both, Local}
-use Rattle.sm_world.specs.declared.events.SaveStyle.TheVariants.{Any, Errors, Nothing}
-use Rattle.sm_world.specs.declared.events.Dialog.TheVariants.{Normal}
+use Rattle.ice_values.specs.declared.saves.SaveKind.TheVariants.{Both, Local}
+use Rattle.ice_values.specs.declared.saves.SaveStyle.TheVariants.{Any, Errors, Nothing}
+use Rattle.ice_values.specs.declared.saves.Dialog.TheVariants.{Normal}
 use Rattle.ice_values.specs.declared.numbers.Endian.TheVariants.{Lsb}
 use Rattle.ice_values.specs.declared.property.Property.{Property}
 use Rattle.ice_values.specs.declared.severity.Severity.TheVariants.{CanContinue}

@@ -1,10 +1,10 @@
 -- How far a client is, and how that changes by what it says and by what it is given (XSMP, chapter 9:
 -- the state diagrams). A connection on which XSMP hasn't begun has no phase.
 use Rattle.std.specs.Prelude.{Bool, None, Option, Some, cond, false, true}
-use Rattle.sm_world.specs.declared.events.SaveStyle.{SaveStyle}
-use Rattle.sm_world.specs.declared.events.SaveStyle.TheVariants.{Any, Errors, Nothing}
-use Rattle.sm_world.specs.declared.events.Dialog.{Dialog}
-use Rattle.sm_world.specs.declared.events.Dialog.TheVariants.{Error as AboutError, Normal}
+use Rattle.ice_values.specs.declared.saves.SaveStyle.{SaveStyle}
+use Rattle.ice_values.specs.declared.saves.SaveStyle.TheVariants.{Any, Errors, Nothing}
+use Rattle.ice_values.specs.declared.saves.Dialog.{Dialog}
+use Rattle.ice_values.specs.declared.saves.Dialog.TheVariants.{Error as AboutError, Normal}
 use Rattle.xsmp_messages.specs.declared.message.XsmpMessage.{XsmpMessage}
 use Rattle.xsmp_messages.specs.declared.message.XsmpMessage.TheVariants.{Die, Interact, InteractDone, InteractRequest, RegisterClientReply, SaveComplete, SaveYourself, SaveYourselfDone, SaveYourselfPhase2, SaveYourselfPhase2Request, ShutdownCancelled}
 use Rattle.round_agreement.specs.declared.wanted.Wanted.{Wanted}

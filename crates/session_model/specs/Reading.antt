@@ -1,7 +1,7 @@
 -- All that answers and rules look at, by whose it is.
 use Rattle.std.specs.Prelude.{Bool, List, None, Option, Some, false, find, ℕ}
 use Rattle.std.specs.Str.{bytes_eq}
-use Rattle.sm_world.specs.declared.commands.Command.{Command}
+use Rattle.owned_lists.specs.declared.commands.Command.{Command}
 use Rattle.ice_values.specs.declared.property.Property.{Property}
 use Rattle.checkpoint_records.specs.declared.records.Book.{Book}
 use Rattle.round_agreement.specs.declared.wanted.Wanted.{Wanted}

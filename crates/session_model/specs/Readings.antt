@@ -4,8 +4,8 @@ use Rattle.std.specs.Prelude.{Bool, List, None, Option, Some, [], cond, drop, fa
 use Rattle.std.specs.List.{list_any}
 use Rattle.std.specs.Str.{bytes_eq}
 use Rattle.sm_world.specs.Calls.{one_more}
-use Rattle.sm_world.specs.declared.commands.Command.{Command}
-use Rattle.sm_world.specs.declared.events.Dialog.{Dialog}
+use Rattle.owned_lists.specs.declared.commands.Command.{Command}
+use Rattle.ice_values.specs.declared.saves.Dialog.{Dialog}
 use Rattle.ice_values.specs.declared.property.Property.{Property}
 use Rattle.checkpoint_records.specs.declared.records.Book.{Book}
 use Rattle.xsmp_messages.specs.declared.message.XsmpMessage.{XsmpMessage}

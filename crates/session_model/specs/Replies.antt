@@ -1,6 +1,6 @@
 -- The direct answer to what comes from outside, before anything settles. All moves of an answer are told from one reading.
 use Rattle.std.specs.Prelude.{Bool, List, None, Option, Some, [], codes, cond, decimal, false, filter, filter_map, flat_map, is_none, is_some, length, nat_le, nat_lt, not, true, ℕ, ◌&&◌, ◌++◌, ◌+◌, ◌||◌, ◌∷◌}
-use Rattle.sm_world.specs.declared.commands.Command.{Command}
+use Rattle.owned_lists.specs.declared.commands.Command.{Command}
 use Rattle.sm_world.specs.declared.events.Order.{Order}
 use Rattle.sm_world.specs.declared.events.Order.TheVariants.{Cancel, Checkpoint, DropConn, Forget, Shutdown, Status}
 use Rattle.xsmp_properties.specs.Tables.{set_all}

@@ -1,7 +1,7 @@
 -- The rules by which the session goes on after each answer, and what an event brings in all.
 use Rattle.std.specs.Prelude.{Bool, List, None, Option, Some, [], codes, cond, false, filter, filter_map, is_none, is_some, length, map, not, suc, true, zero, ℕ, ◌&&◌, ◌*◌, ◌++◌, ◌+◌, ◌∷◌, ◌≡◌, ◌≤◌}
 use Rattle.std.specs.List.{list_any}
-use Rattle.sm_world.specs.declared.commands.Command.{Command}
+use Rattle.owned_lists.specs.declared.commands.Command.{Command}
 use Rattle.ice_values.specs.declared.numbers.Endian.{Endian}
 use Rattle.checkpoint_records.specs.declared.records.Entry.{Entry}
 use Rattle.checkpoint_records.specs.declared.records.Book.{Book}

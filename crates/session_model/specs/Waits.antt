@@ -3,10 +3,10 @@ use Rattle.std.specs.Prelude.{Bool, List, None, Option, Some, [], cond, false, f
 use Rattle.std.specs.List.{list_any}
 use Rattle.sm_world.specs.declared.events.Order.{Order}
 use Rattle.sm_world.specs.declared.events.Order.TheVariants.{Checkpoint, Shutdown}
-use Rattle.sm_world.specs.declared.events.SaveKind.{SaveKind}
-use Rattle.sm_world.specs.declared.events.SaveKind.TheVariants.{Both, Local}
-use Rattle.sm_world.specs.declared.events.SaveStyle.{SaveStyle}
-use Rattle.sm_world.specs.declared.events.SaveStyle.TheVariants.{Any, Nothing}
+use Rattle.ice_values.specs.declared.saves.SaveKind.{SaveKind}
+use Rattle.ice_values.specs.declared.saves.SaveKind.TheVariants.{Both, Local}
+use Rattle.ice_values.specs.declared.saves.SaveStyle.{SaveStyle}
+use Rattle.ice_values.specs.declared.saves.SaveStyle.TheVariants.{Any, Nothing}
 use Rattle.xsmp_messages.specs.declared.message.XsmpMessage.{XsmpMessage}
 use Rattle.xsmp_messages.specs.declared.message.XsmpMessage.TheVariants.{SaveYourselfRequest}
 use Rattle.round_agreement.specs.declared.wanted.Wanted.{Wanted}

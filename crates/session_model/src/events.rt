@@ -1,6 +1,7 @@
 use checkpoint_records::Book;
 use ice_values::ErrorBody;
-use sm_world::{Command, Conn, Octets, Order};
+use owned_lists::{Command, Octets};
+use sm_world::{Conn, Order};
 use xsmp_messages::XsmpMessage;
 
 /// What the session hears.

@@ -2,7 +2,7 @@
 use Rattle.std.proofs.Common.{◌≡◌, refl, ℕ, Bool, true, false, cond, ◌||◌, List, [], ◌∷◌, ◌++◌, eqb, sym, ap, subst, ◌∙◌, arith}
 use Rattle.std.specs.Prelude.{Option, None}
 use Rattle.std.specs.List.{AllByRecursion}
-use Rattle.sm_world.specs.declared.commands.Command.{Command}
+use Rattle.owned_lists.specs.declared.commands.Command.{Command}
 use Rattle.ice_values.specs.declared.property.Property.{Property}
 use Rattle.xsmp_messages.specs.declared.message.XsmpMessage.{XsmpMessage}
 use Rattle.xsmp_messages.specs.declared.message.XsmpMessage.TheVariants.{GetPropertiesReply, RegisterClientReply, ShutdownCancelled}

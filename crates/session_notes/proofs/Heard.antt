@@ -2,10 +2,10 @@
 use Rattle.std.proofs.Common.{◌≡◌, refl, ℕ, Bool, true, false, cond, not, ◌&&◌, ◌||◌, List, [], ◌∷◌, ◌++◌, ◌+◌, ◌<◌, filter, eqb, sym, ap, subst, ◌∙◌, arith}
 use Rattle.std.specs.Prelude.{Option, Some, None, is_some, is_none, codes, nat_le}
 use Rattle.std.proofs.lemmas.Bool.Decides.{nat_tests}
-use Rattle.sm_world.specs.declared.commands.Command.{Command}
+use Rattle.owned_lists.specs.declared.commands.Command.{Command}
 use Rattle.sm_world.specs.declared.events.Order.{Order}
 use Rattle.sm_world.specs.declared.events.Order.TheVariants.{Cancel, Forget}
-use Rattle.sm_world.specs.declared.events.Dialog.{Dialog}
+use Rattle.ice_values.specs.declared.saves.Dialog.{Dialog}
 use Rattle.ice_values.specs.Fields.{ErrorFields}
 use Rattle.ice_values.specs.declared.property.Property.{Property}
 use Rattle.xsmp_properties.specs.Tables.{set_all, without_names}

@@ -1,7 +1,7 @@
 -- What the steps of a phase mean for who watches from outside.
 use Rattle.std.proofs.Common.{◌≡◌, refl, Bool, true, false, cond, ◌||◌, arith}
 use Rattle.std.specs.Prelude.{Option, Some, None}
-use Rattle.sm_world.specs.declared.events.Dialog.{Dialog}
+use Rattle.ice_values.specs.declared.saves.Dialog.{Dialog}
 use Rattle.xsmp_messages.specs.declared.message.XsmpMessage.{XsmpMessage}
 use Rattle.xsmp_messages.specs.declared.message.XsmpMessage.TheVariants.{RegisterClientReply, SaveYourself, InteractRequest, Interact, InteractDone, SaveYourselfDone, Die, ShutdownCancelled, SaveYourselfPhase2Request, SaveYourselfPhase2, SaveComplete}
 use Rattle.session_model.specs.declared.phase.Phase.{Phase}

@@ -1,9 +1,9 @@
 -- Worked sessions, of which the definitions compute what is noted. Each begins with the empty book.
 use Rattle.std.specs.Prelude.{List, None, Some, [], codes, false, take, true, ◌++◌, ◌∷◌, ◌≡◌, ℕ}
 use Rattle.sm_world.specs.declared.events.Order.TheVariants.{Checkpoint, Forget, Shutdown}
-use Rattle.sm_world.specs.declared.events.SaveKind.TheVariants.{Both}
-use Rattle.sm_world.specs.declared.events.SaveStyle.TheVariants.{Errors}
-use Rattle.sm_world.specs.declared.events.Dialog.TheVariants.{Normal}
+use Rattle.ice_values.specs.declared.saves.SaveKind.TheVariants.{Both}
+use Rattle.ice_values.specs.declared.saves.SaveStyle.TheVariants.{Errors}
+use Rattle.ice_values.specs.declared.saves.Dialog.TheVariants.{Normal}
 use Rattle.ice_values.specs.declared.property.Property.{Property}
 use Rattle.checkpoint_records.specs.Books.{empty_book}
 use Rattle.xsmp_messages.specs.declared.message.XsmpMessage.TheVariants.{InteractDone, InteractRequest, SaveYourself, SaveYourselfDone, SaveYourselfPhase2Request, SaveYourselfRequest, SetProperties}

@@ -1,7 +1,7 @@
 -- What notes say of what is kept: the book that stands, what clients say of themselves, and which states nobody needs. A run
 -- begins with the book that was opened.
 use Rattle.std.specs.Prelude.{Bool, List, None, Option, Some, [], cond, false, not, true, ℕ, ◌&&◌, ◌<◌, ◌==◌, ◌^◌, ◌||◌, ◌∷◌, ◌≡◌}
-use Rattle.sm_world.specs.declared.commands.Command.{Command}
+use Rattle.owned_lists.specs.declared.commands.Command.{Command}
 use Rattle.ice_values.specs.declared.property.Property.{Property}
 use Rattle.xsmp_properties.specs.Tables.{set_all, without_names}
 use Rattle.xsmp_messages.specs.declared.message.XsmpMessage.TheVariants.{DeleteProperties, RegisterClient, RegisterClientReply, SaveYourself, SaveYourselfDone, SetProperties, ShutdownCancelled}

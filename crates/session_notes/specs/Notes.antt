@@ -1,7 +1,7 @@
 -- What somebody sees and notes who watches a session from outside: what comes, and what the manager does about it. He
 -- knows neither phases nor rounds.
 use Rattle.std.specs.Prelude.{List, [], cond, map, reverse, ℕ, ◌++◌, ◌==◌, ◌∷◌}
-use Rattle.sm_world.specs.declared.commands.Command.{Command}
+use Rattle.owned_lists.specs.declared.commands.Command.{Command}
 use Rattle.sm_world.specs.declared.events.Order.{Order}
 use Rattle.checkpoint_records.specs.declared.records.Book.{Book}
 use Rattle.xsmp_messages.specs.declared.message.XsmpMessage.{XsmpMessage}

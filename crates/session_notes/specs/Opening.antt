@@ -1,6 +1,6 @@
 -- How a run begins, as it is seen: which clients of the opened book are started again.
 use Rattle.std.specs.Prelude.{List, [], map, ◌++◌, ◌≡◌}
-use Rattle.sm_world.specs.declared.commands.Command.{Command}
+use Rattle.owned_lists.specs.declared.commands.Command.{Command}
 use Rattle.checkpoint_records.specs.declared.records.Book.{Book}
 use Rattle.restart_plan.specs.Restarts.{opening_restarts}
 use Rattle.session_model.specs.declared.events.Act.TheVariants.{Start}

@@ -6,7 +6,7 @@ ghost use Rattle.session_recorder.specs.Openings.{book_line, cookie_line, patien
 use checkpoint_records::spell_book;
 use control_lines::put_hex;
 use ice_cookie::Cookie;
-use sm_world::{NoMemory, Octets};
+use owned_lists::{NoMemory, Octets};
 use std::alloc::Global;
 use store_report::{Finding, look_into};
 

@@ -7,7 +7,7 @@ ghost use Rattle.session_recorder.specs.declared.progress.Progress.TheVariants.{
 
 use crate::kept_lines::KeptLines;
 use crate::progress::Progress;
-use sm_world::{NoMemory, Octets};
+use owned_lists::{NoMemory, Octets};
 
 /// The lines of a record, and how far it has come.
 #[derive(Drop)]

@@ -5,7 +5,8 @@ ghost use Rattle.session_recorder.specs.Recorded.{IsNew, Keeps, KeepsTold};
 use crate::kept_lines::KeptLines;
 use crate::progress::Progress;
 use crate::record::Record;
-use sm_world::{Octets, Told};
+use owned_lists::Octets;
+use sm_world::Told;
 use std::alloc::Global;
 use std::marker::Model;
 

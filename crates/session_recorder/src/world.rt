@@ -6,10 +6,8 @@ ghost use Rattle.session_recorder.specs.Recorded.{IsLineOf};
 use crate::kept_lines::KeptLines;
 use crate::recorder::Recorder;
 use control_lines::{effect_line, started_line};
-use sm_world::{
-    Command, Conn, Console, Disk, Duplicate, Effect, Event, Failed, Failure, Links, NoMemory,
-    Octets, Spawner, Told,
-};
+use owned_lists::{Command, Duplicate, NoMemory, Octets};
+use sm_world::{Conn, Console, Disk, Effect, Event, Failed, Failure, Links, Spawner, Told};
 use std::alloc::Global;
 
 /// The whole line of an effect that has one.

@@ -5,8 +5,9 @@ ghost use Rattle.session_in_memory.specs.Lines.{run_lines};
 ghost use Rattle.session_replay.specs.Comparing.{AreLinesOf, GoesOn, IsLineOf, PartAtOnce, PartWith};
 
 use control_lines::next_line;
+use owned_lists::NoMemory;
 use session_in_memory::trace_line;
-use sm_world::{Effect, NoMemory};
+use sm_world::Effect;
 use std::alloc::Global;
 
 /// Whether a line of a trace is this one of the machine's.

@@ -10,9 +10,10 @@ ghost use Rattle.trace_replay.specs.Openings.{Open};
 use crate::comparing::{count_lines, parting};
 use crate::rerun::rerun;
 use checkpoint_records::Book;
+use owned_lists::NoMemory;
 use session_engine::Config;
 use session_in_memory::REHEARSAL_COOKIE;
-use sm_world::{EventList, NoMemory};
+use sm_world::EventList;
 use std::alloc::Global;
 use trace_replay::{Opening, Reading, read_trace};
 

@@ -11,9 +11,10 @@ ghost use Rattle.session_replay.specs.Running.{HasRun, HoldsBook, IsAlike};
 
 use checkpoint_journal::Journal;
 use checkpoint_records::Book;
+use owned_lists::{NoMemory, Octets};
 use session_engine::{Config, ServeFault, serve};
 use session_in_memory::blank_store;
-use sm_world::{EventList, NoMemory, Octets, SteadyWorld};
+use sm_world::{EventList, SteadyWorld};
 use std::alloc::Global;
 
 /// The journal of a world in memory. This world fails for want of memory alone.

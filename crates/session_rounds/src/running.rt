@@ -9,10 +9,11 @@ ghost use Rattle.session_state.specs.Session.{in_round, round_said};
 ghost use Rattle.session_rounds.specs.Rounds.{is_member_at, may_begin_second, none_ran, progress_of as progress_in, progress_with, running_after};
 
 use crate::marks::{agreed, begun, ended};
+use owned_lists::NoMemory;
 use round_agreement::{Round, Wanted};
 use session_clients::{is_first_saving, is_saving};
 use session_model::{Marks, Phase};
-use sm_world::{Conn, ConnList, NoMemory};
+use sm_world::{Conn, ConnList};
 use std::alloc::Global;
 use std::marker::Model;
 use xsmp_messages::XsmpMessage;

@@ -8,10 +8,11 @@ use crate::waits::{
     checkpoint_wait, disown, first_save, global_wait, is_only, is_operator, is_sender, lone_wait,
     shutdown_wait,
 };
+use owned_lists::NoMemory;
 use round_agreement::Wanted;
 use session_clients::is_bound;
 use session_model::{Phase, Wait};
-use sm_world::{Conn, NoMemory, Order};
+use sm_world::{Conn, Order};
 use std::alloc::Global;
 use std::marker::Model;
 use xsmp_messages::XsmpMessage;

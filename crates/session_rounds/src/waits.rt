@@ -1,9 +1,10 @@
 ghost use Rattle.std.specs.Prelude.{◌≡◌};
 ghost use Rattle.session_model.specs.Waits as of;
 
+use ice_values::{SaveKind, SaveStyle};
 use round_agreement::Wanted;
 use session_model::{Owner, Wait};
-use sm_world::{Conn, SaveKind, SaveStyle};
+use sm_world::Conn;
 
 /// The round of a client that has just registered anew.
 pub(crate) fn first_save(conn: Conn) -> Wait

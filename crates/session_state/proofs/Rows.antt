@@ -2,7 +2,7 @@
 use Rattle.std.proofs.Common.{◌≡◌, refl, ℕ, Bool, true, false, cond, not, ◌||◌, List, [], ◌∷◌, ◌++◌, map, find, sym, ap, subst, ◌∙◌, arith}
 use Rattle.std.specs.Prelude.{Option, Some, None, is_some, option_map, ◌==◌}
 use Rattle.std.proofs.lemmas.Bool.Decides.{nat_tests}
-use Rattle.sm_world.specs.declared.events.Dialog.{Dialog}
+use Rattle.ice_values.specs.declared.saves.Dialog.{Dialog}
 use Rattle.ice_values.specs.declared.property.Property.{Property}
 use Rattle.xsmp_messages.specs.declared.message.XsmpMessage.{XsmpMessage}
 use Rattle.xsmp_messages.specs.declared.message.XsmpMessage.TheVariants.{DeleteProperties, Error, InteractDone, InteractRequest, RegisterClientReply, SaveYourselfDone, SetProperties, ShutdownCancelled}

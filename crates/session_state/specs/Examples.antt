@@ -1,7 +1,7 @@
 -- Worked sessions, and what is held after each. Each begins with the empty book.
 use Rattle.std.specs.Prelude.{List, None, Option, Some, [], codes, false, true, ℕ, ◌++◌, ◌∷◌, ◌≡◌}
 use Rattle.sm_world.specs.declared.events.Order.TheVariants.{Checkpoint, Shutdown}
-use Rattle.sm_world.specs.declared.events.Dialog.TheVariants.{Normal}
+use Rattle.ice_values.specs.declared.saves.Dialog.TheVariants.{Normal}
 use Rattle.ice_values.specs.declared.property.Property.{Property}
 use Rattle.checkpoint_records.specs.Books.{empty_book}
 use Rattle.xsmp_messages.specs.declared.message.XsmpMessage.TheVariants.{InteractDone, InteractRequest, SaveYourselfDone, SaveYourselfPhase2Request, SetProperties}

@@ -1,8 +1,8 @@
 -- What the manager holds of a session, and how each move changes it: by the steps that the readings of a history take.
 use Rattle.std.specs.Prelude.{Bool, List, None, Option, Some, [], cond, false, is_some, map, ℕ, ◌&&◌, ◌++◌, ◌+◌, ◌==◌, ◌∷◌}
 use Rattle.std.specs.Str.{bytes_eq}
-use Rattle.sm_world.specs.declared.commands.Command.{Command}
-use Rattle.sm_world.specs.declared.events.Dialog.{Dialog}
+use Rattle.owned_lists.specs.declared.commands.Command.{Command}
+use Rattle.ice_values.specs.declared.saves.Dialog.{Dialog}
 use Rattle.checkpoint_records.specs.declared.records.Book.{Book}
 use Rattle.checkpoint_records.specs.Rules.{ids_of}
 use Rattle.xsmp_messages.specs.declared.message.XsmpMessage.{XsmpMessage}

@@ -1,11 +1,11 @@
 //! Errors, IDs and lines written down by hand.
 
 use ice_values::ErrorBody;
+use owned_lists::{NoMemory, Octets};
 use session_answers::{
     Doing, Status, bad_id, bad_state, client_id, full_table, lone_shutdown, no_room, status_line,
 };
 use session_model::Arrival;
-use sm_world::{NoMemory, Octets};
 use std::alloc::{Alloc, Global};
 use std::process::Abort;
 use std::test::Fail;

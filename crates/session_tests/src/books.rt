@@ -4,11 +4,12 @@ ghost use Rattle.session_clients.specs.Clients.{is_reply as is_reply_message};
 
 use crate::written::{LIST, entry, property, table};
 use checkpoint_records::{Book, Entry};
-use ice_values::{Array8, PropertyList};
+use ice_values::{Array8, PropertyList, SaveKind, SaveStyle};
+use owned_lists::{Command, NoMemory, Octets};
 use round_agreement::{Round, Wanted};
 use session_books::{command_anyway, entries_without, last_commands, next_entries};
 use session_clients::Clients;
-use sm_world::{Command, Conn, ConnList, NoMemory, Octets, SaveKind, SaveStyle};
+use sm_world::{Conn, ConnList};
 use std::alloc::{Alloc, Global};
 use std::process::Abort;
 use std::test::Fail;

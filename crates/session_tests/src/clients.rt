@@ -4,7 +4,8 @@ ghost use Rattle.session_clients.specs.Clients.{is_reply as is_reply_message};
 
 use crate::written::{entry, removal, words};
 use checkpoint_records::Book;
-use ice_values::PropertyList;
+use ice_values::{Dialog, PropertyList, SaveKind, SaveStyle};
+use owned_lists::{NoMemory, Octets};
 use round_agreement::Wanted;
 use session_clients::{
     Clients, entry_of, first_table, given, is_bound, is_dying, is_first_saving, is_interacting,
@@ -12,7 +13,7 @@ use session_clients::{
     readied, said,
 };
 use session_model::Phase;
-use sm_world::{Conn, Dialog, NoMemory, Octets, SaveKind, SaveStyle};
+use sm_world::Conn;
 use std::alloc::{Alloc, Global};
 use std::process::Abort;
 use std::test::Fail;

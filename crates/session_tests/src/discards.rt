@@ -3,7 +3,7 @@
 use crate::written::{entry, removal, words};
 use checkpoint_records::Book;
 use discard_ledger::Ledger;
-use sm_world::{Command, CommandList, NoMemory, Octets, PairList};
+use owned_lists::{Command, CommandList, NoMemory, Octets, PairList};
 use std::alloc::{Alloc, Global};
 use std::process::Abort;
 use std::test::Fail;

@@ -5,9 +5,10 @@ ghost use Rattle.xsmp_messages.specs.Messages.{Spells};
 
 use crate::written::{LIST, property, words};
 use checkpoint_records::Book;
-use ice_values::{Array8List, EncodeRefusal, Endian, Property, PropertyList};
+use ice_values::{Array8List, Dialog, EncodeRefusal, Endian, Property, PropertyList};
 use manager_machine::{Act, Manager, Reason, SessionEvent};
-use sm_world::{Conn, Dialog, NoMemory, Octets, Order};
+use owned_lists::{NoMemory, Octets};
+use sm_world::{Conn, Order};
 use std::alloc::{Alloc, Global};
 use std::process::Abort;
 use std::test::Fail;

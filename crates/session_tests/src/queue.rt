@@ -2,7 +2,7 @@
 ghost use Rattle.std.specs.Prelude.{◌≡◌, ◌<◌, [], ◌∷◌, Some, None, IfOk};
 
 use interact_queue::InteractQueue;
-use sm_world::NoMemory;
+use owned_lists::NoMemory;
 use std::alloc::Global;
 use std::test::Fail;
 

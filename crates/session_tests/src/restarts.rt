@@ -3,8 +3,8 @@
 use crate::written::{LIST, entry, property};
 use checkpoint_records::{Book, Entry};
 use ice_values::PropertyList;
+use owned_lists::{Command, CommandList, NoMemory};
 use restart_plan::{plan, respawn};
-use sm_world::{Command, CommandList, NoMemory};
 use std::alloc::{Alloc, Global};
 use std::process::Abort;
 use std::test::Fail;

@@ -3,8 +3,10 @@ ghost use Rattle.std.specs.Prelude.{◌≡◌, [], ◌∷◌, true, false, IfOk}
 ghost use Rattle.round_agreement.specs.Agreement.{all_saving};
 ghost use Rattle.round_agreement.specs.declared.round.Step.TheVariants.{WantsTwo, SavingTwo, Done};
 
+use ice_values::{SaveKind, SaveStyle};
+use owned_lists::NoMemory;
 use round_agreement::{Round, Wanted};
-use sm_world::{Conn, ConnList, NoMemory, SaveKind, SaveStyle};
+use sm_world::{Conn, ConnList};
 use std::alloc::{Alloc, Global};
 use std::process::Abort;
 use std::test::Fail;

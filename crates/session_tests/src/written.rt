@@ -2,7 +2,7 @@
 
 use checkpoint_records::Entry;
 use ice_values::{Array8List, Property, PropertyList};
-use sm_world::{NoMemory, Octets};
+use owned_lists::{NoMemory, Octets};
 use std::alloc::Global;
 use xsmp_properties::{PropertyTable, SetRefusal};
 

@@ -1,7 +1,7 @@
 ghost use Rattle.std.specs.Prelude.{◌≡◌};
 ghost use Rattle.session_watch.specs.Knowing.{asks as asked_in, answers as answered_in};
 
-use sm_world::{SaveKind, SaveStyle};
+use ice_values::{SaveKind, SaveStyle};
 use xsmp_messages::XsmpMessage;
 
 /// What the manager asks a client, or tells it.

@@ -13,7 +13,7 @@ use crate::party::Party;
 use crate::stage::{Stage, work, worked};
 use frame_speech::ValueWalk;
 use ice_values::{Array8, Endian, Property, PropertyView, PropertyWalk};
-use sm_world::{NoMemory, Octets};
+use owned_lists::{NoMemory, Octets};
 use std::alloc::Global;
 use xsmp_messages::XsmpMessage;
 

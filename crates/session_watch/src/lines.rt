@@ -6,7 +6,9 @@ ghost use Rattle.session_watch.specs.Lines.{asks_who_is_there, yes_text, stage_t
 use crate::asking::{Answered, Asked};
 use crate::stage::Stage;
 use crate::watch::ClientWatch;
-use sm_world::{Conn, NoMemory, Octets, SaveKind, SaveStyle};
+use ice_values::{SaveKind, SaveStyle};
+use owned_lists::{NoMemory, Octets};
+use sm_world::Conn;
 use std::alloc::Global;
 
 /// Whether a line, without its newline, asks who is there.

@@ -13,7 +13,7 @@ use crate::party::Party;
 use frame_speech::{Heeds, Speech, byte_at, is_whole};
 use ice_framing::WholeFrame;
 use ice_values::{DecodeRefusal, Endian, PropertyWalk};
-use sm_world::NoMemory;
+use owned_lists::NoMemory;
 use std::alloc::Global;
 use xsmp_messages::{XsmpMessage, decode_xsmp};
 

@@ -9,7 +9,7 @@ use crate::party::Party;
 use crate::spoken::{Messages, note_frames};
 use crate::stage::Stage;
 use frame_speech::{CutStream, Speech};
-use sm_world::{NoMemory, Octets};
+use owned_lists::{NoMemory, Octets};
 use std::alloc::Global;
 
 /// What is known of a client by the frames that pass on its connection.

@@ -3,7 +3,7 @@ use Rattle.std.proofs.Common.{◌≡◌, ℕ, ◌+◌, ◌-◌, ◌≤◌, Some,
 use Rattle.std.proofs.lemmas.List.{length-drop, length-take-le, get_or-take, get_or-drop}
 use Rattle.sm_world.proofs.Cells.{cell_of-more, place, wrote_inside, wrote_outside}
 use Rattle.sm_world.proofs.Overwriting.{length-overwritten, inside_overwritten, outside_overwritten}
-use Rattle.sm_world.specs.Bytes.{overwritten}
+use Rattle.owned_lists.specs.Bytes.{overwritten}
 use Rattle.sm_world.specs.Crash.{Cell, MayBeRead, cell_after, cell_of, readable}
 use Rattle.sm_world.specs.Tape.{IsHeld, KeepsBytes}
 use Rattle.sm_world.specs.declared.effects.Effect.{Effect}

@@ -1,7 +1,7 @@
 -- A list with new bytes at a place: the new ones within, the old ones outside.
 use Rattle.std.proofs.Common.{◌≡◌, ℕ, ◌+◌, ◌-◌, ◌<◌, ◌≤◌, ◌⊎◌, true, false, List, ◌++◌, length, take, drop, slice_index, refl, ap, ◌∙◌, arith, inl, inr}
 use Rattle.std.proofs.lemmas.List.{length-append, length-drop, length-take-le, get_or-take, get_or-drop, get_or_append_left, get_or-append_right}
-use Rattle.sm_world.specs.Bytes.{overwritten}
+use Rattle.owned_lists.specs.Bytes.{overwritten}
 use Rattle.sm_world.specs.Crash.{covers}
 
 inside_is : (at n i : ℕ) → covers at n i ≡ true → (at ≤ i) × (i < at + n)

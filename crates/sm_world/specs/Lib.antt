@@ -1,4 +1,3 @@
-pub mod Bytes
 pub mod Events
 pub mod Effects
 pub mod Outside

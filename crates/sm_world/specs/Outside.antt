@@ -4,7 +4,7 @@ use Rattle.sm_world.specs.Events.{next_of}
 use Rattle.sm_world.specs.declared.effects.Effect.{Effect}
 use Rattle.sm_world.specs.declared.events.Event.{Event}
 use Rattle.sm_world.specs.declared.failures.Failure.{Failure}
-use Rattle.sm_world.specs.declared.failures.NoMemory.{NoMemory}
+use Rattle.owned_lists.specs.declared.failures.NoMemory.{NoMemory}
 use Rattle.sm_world.specs.declared.failures.Failure.TheVariants.{Failed}
 use Rattle.sm_world.specs.declared.failures.Faults.{Faults}
 

@@ -1,7 +1,7 @@
 ghost use Rattle.std.specs.Prelude.{◌≡◌, ◌↔◌, ℕ, IsTrue, Contains};
 ghost use Rattle.sm_world.specs.Calls.{counted};
 
-use crate::NumberList;
+use owned_lists::NumberList;
 use std::marker::Model;
 
 /// The calls of a world by their numbers, of which some fail.

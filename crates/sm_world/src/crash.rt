@@ -2,7 +2,8 @@ ghost use Rattle.std.specs.Prelude.{◌≡◌, ◌||◌, ℕ, IfOk};
 ghost use Rattle.sm_world.specs.Crash.{Cell, covers, settled, written, torn, synced, cell_after, cell_from};
 ghost use Rattle.sm_world.specs.Choices.{Held, IsCrashFile, IsTracked, chosen_byte, held_after, held_from};
 
-use crate::{Effect, NoMemory, Octets};
+use crate::Effect;
+use owned_lists::{NoMemory, Octets};
 use std::alloc::Global;
 
 /// What a crash leaves of a file where no sync has been.

@@ -1,4 +1,5 @@
-use crate::{Command, Conn, Event, Octets};
+use crate::{Conn, Event};
+use owned_lists::{Command, Octets};
 
 /// What has happened at the outside, one call at a time.
 #[derive(Debug, Drop)]

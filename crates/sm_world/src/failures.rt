@@ -1,11 +1,8 @@
 ghost use Rattle.std.specs.Prelude.{◌≡◌};
 ghost use Rattle.sm_world.specs.declared.failures.Failure.TheVariants.{Failed as Refused, NoMemory as OutOfMemory};
 
-use std::alloc::{AllocError, AllocFailed};
-
-/// Memory was wanting.
-#[derive(Clone, Copy, Debug, PartialEq, Eq)]
-pub struct NoMemory;
+use owned_lists::NoMemory;
+use std::alloc::AllocFailed;
 
 /// A device refused.
 #[derive(Clone, Copy, Debug, PartialEq, Eq)]
@@ -28,18 +25,6 @@ pub struct Faults {
     pub links: u64,
     pub spawner: u64,
     pub console: u64,
-}
-
-impl From<AllocError> for NoMemory {
-    fn from(_error: AllocError) -> NoMemory {
-        NoMemory
-    }
-}
-
-impl<T: Drop> From<AllocFailed<T>> for NoMemory {
-    fn from(_error: AllocFailed<T>) -> NoMemory {
-        NoMemory
-    }
 }
 
 impl From<Failed> for Failure {

@@ -9,9 +9,10 @@ ghost use Rattle.sm_world.specs.Calls.{counted, one_more};
 use crate::calls::Calls;
 use crate::tape::Tape;
 use crate::{
-    Choice, Command, Conn, Console, Disk, Duplicate, Effect, Event, EventList, Failed, Failure,
-    Faults, Links, NoMemory, NumberList, Octets, Spawner, Told,
+    Choice, Conn, Console, Disk, Effect, Event, EventList, Failed, Failure, Faults, Links, Spawner,
+    Told,
 };
+use owned_lists::{Command, Duplicate, NoMemory, NumberList, Octets};
 use std::alloc::Global;
 
 /// A world in memory whose calls are numbered from 1, and fail where they are told to. It tells
@@ -291,7 +292,7 @@ impl Console for MemWorld {
 
 impl Disk for MemWorld {
     ghost use Rattle.std.specs.Prelude.{is_err};
-    ghost use Rattle.sm_world.specs.Bytes.{overwritten};
+    ghost use Rattle.owned_lists.specs.Bytes.{overwritten};
     ghost use Rattle.sm_world.specs.Disk.{has_failed, IsFailedWrite, IsFailedSync, MayRead, KeepsToldSize, UsesDisk};
     ghost use Rattle.sm_world.specs.Outside.{Added, adds, on_ok};
     ghost use Rattle.sm_world.specs.Worlds.{mem_outside, mem_file, FailsByNumber, FailsUnrecorded, RecordsFailure, torn_effects, mem_sized};

@@ -3,7 +3,8 @@ ghost use Rattle.sm_world.specs.Events.{HasPieceSize};
 ghost use Rattle.sm_world.specs.Outside.{Outside, adds, on_ok, of_ok, UsesLinks, UsesSpawner, UsesConsole, TakesNext, Reads};
 ghost use Rattle.sm_world.specs.declared.effects.Effect.TheVariants.{Heard, Sent, Shut, Started, Printed};
 
-use crate::{Command, Conn, Event, Failure, NoMemory};
+use crate::{Conn, Event, Failure};
+use owned_lists::{Command, NoMemory};
 
 /// What a world tells of itself to contracts: the effects so far, how often each device failed,
 /// and what is still to come. The traits over it each change their own part.

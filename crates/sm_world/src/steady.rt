@@ -8,9 +8,9 @@ ghost use Rattle.sm_world.specs.Outside.{Rose};
 
 use crate::tape::Tape;
 use crate::{
-    Choice, Command, Conn, Console, Disk, Duplicate, Effect, Event, EventList, Failed, Failure,
-    Links, NoMemory, Octets, Spawner, Told,
+    Choice, Conn, Console, Disk, Effect, Event, EventList, Failed, Failure, Links, Spawner, Told,
 };
+use owned_lists::{Command, Duplicate, NoMemory, Octets};
 use std::alloc::Global;
 
 /// A world in memory none of whose calls fails but for want of memory. It tells all that it does.
@@ -188,7 +188,7 @@ impl Console for SteadyWorld {
 }
 
 impl Disk for SteadyWorld {
-    ghost use Rattle.sm_world.specs.Bytes.{overwritten};
+    ghost use Rattle.owned_lists.specs.Bytes.{overwritten};
     ghost use Rattle.sm_world.specs.Disk.{has_failed, IsFailedWrite, IsFailedSync, MayRead, KeepsToldSize, UsesDisk};
     ghost use Rattle.sm_world.specs.Outside.{Added, adds, on_ok};
     ghost use Rattle.sm_world.specs.Worlds.{steady_outside, steady_file, steady_unrecorded, steady_sized};

@@ -2,14 +2,15 @@ ghost use Rattle.std.specs.Prelude.{◌≡◌, ◌≤◌, ◌+◌, [], ◌∷◌
 ghost use Rattle.std.specs.List.{AllByRecursion};
 ghost use Rattle.sm_world.specs.Crash.{Image, MayBeRead};
 ghost use Rattle.sm_world.specs.Choices.{IsCrashFile};
-ghost use Rattle.sm_world.specs.Bytes.{overwritten};
+ghost use Rattle.owned_lists.specs.Bytes.{overwritten};
 ghost use Rattle.sm_world.specs.Events.{HasPieceSize, next_of};
 ghost use Rattle.sm_world.specs.Outside.{Fills};
 ghost use Rattle.sm_world.specs.Tape.{KeepsBytes};
 ghost use Rattle.sm_world.specs.declared.effects.Effect.TheVariants.{Heard, Wrote};
 
 use crate::crash::crash_file;
-use crate::{Choice, Duplicate, Effect, Event, EventList, NoMemory, Octets};
+use crate::{Choice, Effect, Event, EventList};
+use owned_lists::{Duplicate, NoMemory, Octets};
 use std::alloc::Global;
 use std::collections::VecDeque;
 use std::marker::Model;

@@ -5,9 +5,9 @@ use Rattle.ice_values.specs.Properties.{array8, array8_list, property}
 use Rattle.ice_values.specs.declared.numbers.Endian.TheVariants.{Lsb}
 use Rattle.ice_values.specs.declared.property.Property.{Property}
 use Rattle.ice_values.proofs.LengthLaws.{length-array8, length-listed}
-use Rattle.sm_world.specs.declared.events.Dialog.TheVariants.{Normal}
-use Rattle.sm_world.specs.declared.events.SaveStyle.{SaveStyle}
-use Rattle.sm_world.specs.declared.events.SaveStyle.TheVariants.{Any, Errors, Nothing}
+use Rattle.ice_values.specs.declared.saves.Dialog.TheVariants.{Normal}
+use Rattle.ice_values.specs.declared.saves.SaveStyle.{SaveStyle}
+use Rattle.ice_values.specs.declared.saves.SaveStyle.TheVariants.{Any, Errors, Nothing}
 use Rattle.xsmp_properties.specs.Tables.{IsTableFull, encoded_len}
 use Rattle.xsmp_properties.proofs.TableLaws.{encoded_len-cons}
 use Rattle.client_machine.specs.Saves.{IsLawful, allows, first_step as lawful_first, is_lawful_step, may_cancel}

@@ -1,9 +1,9 @@
 -- How `smclient` answers in a save, as its words say.
 use Rattle.std.specs.Prelude.{◌≡◌, ◌⊎◌, ℕ, ℤ, pos, ◌&&◌, not, Bool, true, false, List, [], ◌∷◌, codes, if◌then◌else◌}
 use Rattle.ice_values.specs.declared.property.Property.{Property}
-use Rattle.sm_world.specs.declared.events.Dialog.TheVariants.{Normal}
-use Rattle.sm_world.specs.declared.events.SaveStyle.{SaveStyle}
-use Rattle.sm_world.specs.declared.events.SaveStyle.TheVariants.{Any, Errors, Nothing}
+use Rattle.ice_values.specs.declared.saves.Dialog.TheVariants.{Normal}
+use Rattle.ice_values.specs.declared.saves.SaveStyle.{SaveStyle}
+use Rattle.ice_values.specs.declared.saves.SaveStyle.TheVariants.{Any, Errors, Nothing}
 use Rattle.client_machine.specs.declared.saves.SaveAnswer.{SaveAnswer}
 use Rattle.client_machine.specs.declared.saves.SaveAsk.{SaveAsk}
 use Rattle.client_machine.specs.declared.saves.Stage.{Stage}

@@ -5,7 +5,8 @@ ghost use Rattle.sm_world.specs.declared.failures.Failure.TheVariants.{Failed as
 ghost use Rattle.program_frame.specs.Printing.{line as with_newline};
 ghost use Rattle.smclient_app.specs.Lines.{PrintsFirst};
 
-use sm_world::{Console, Duplicate, Failure, NoMemory, Octets};
+use owned_lists::{Duplicate, NoMemory, Octets};
+use sm_world::{Console, Failure};
 
 /// A line with its newline.
 fn whole_line(line: &Octets) -> Result<Octets, NoMemory>

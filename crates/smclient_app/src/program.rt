@@ -12,8 +12,9 @@ use client_peer::Peer;
 use client_words::{Choices, WordsRefusal, read_choices};
 use ice_cookie::Cookie;
 use ice_values::Array8;
+use owned_lists::{NoMemory, OctetsList};
 use program_frame::conclude;
-use sm_world::{Console, Failure, NoMemory, OctetsList};
+use sm_world::{Console, Failure};
 use std::alloc::Global;
 
 /// The fault of a peer that failed.

@@ -6,8 +6,8 @@ ghost use Rattle.smclient_app.specs.Rules.{answer_by, gives_up, own_properties, 
 use client_callbacks::Saves;
 use client_machine::{SaveAnswer, SaveAsk, Stage, Step};
 use client_words::Choices;
-use ice_values::{Array8List, Property, PropertyList, put_word};
-use sm_world::{Dialog, NoMemory, SaveStyle};
+use ice_values::{Array8List, Dialog, Property, PropertyList, SaveStyle, put_word};
+use owned_lists::NoMemory;
 use std::alloc::Global;
 
 /// A property with this one value.

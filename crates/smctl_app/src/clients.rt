@@ -6,7 +6,8 @@ use crate::fault::Fault;
 use crate::table::table_of;
 use crate::talk::Talk;
 use crate::waiting::{Course, Logout, read_course, waited_for};
-use sm_world::{Console, ListOf};
+use owned_lists::ListOf;
+use sm_world::Console;
 use std::alloc::Global;
 
 /// A line that the manager answers, without its newline.

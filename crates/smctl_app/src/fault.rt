@@ -4,8 +4,9 @@ ghost use Rattle.smctl_app.specs.Faults.{console_fault, link_fault, name_fault, 
 ghost use Rattle.smctl_app.specs.declared.fault.Fault.TheVariants.{NoMemory as OutOfMemory};
 
 use control_lines::OrderRefusal;
+use owned_lists::NoMemory;
 use program_frame::{ProgramFault, try_line};
-use sm_world::{Console, Failure, NoMemory};
+use sm_world::{Console, Failure};
 use std::alloc::{AllocError, Global};
 use std::env::VarError;
 use std::io;

@@ -3,8 +3,8 @@ ghost use Rattle.smctl_app.specs.Requests.{Asks, AsksNothing, IsNoOrder, IsNoTas
 
 use crate::fault::Fault;
 use control_lines::read_order;
+use owned_lists::{NoMemory, Octets};
 use program_frame::are_one_word;
-use sm_world::{NoMemory, Octets};
 use std::alloc::Global;
 
 /// What is to be done.

@@ -5,12 +5,13 @@ ghost use Rattle.std.specs.Prelude.{◌≤◌, length};
 ghost use Rattle.session_recorder.specs.Recorded.{IsNew};
 
 use desktop_world::{BadPlaces, DesktopWorld, Places, host_name, random_cookie};
+use owned_lists::{NoMemory, Octets};
 use program_frame::{OwnTexts, StandardConsole, read_words};
 use program_texts::{SMD, first_meant, try_hint};
 use quirk_world::{QuirkWorld, take_quirks};
 use record_file::{RecordFile, take_record};
 use session_recorder::{Recorder, opening_of};
-use sm_world::{Console, Disk, Links, NoMemory, Octets, Spawner};
+use sm_world::{Console, Disk, Links, Spawner};
 use smd_app::{Identity, Paths, read_paths, smd_main};
 use std::io;
 use std::io::ErrorKind;

@@ -5,7 +5,8 @@ ghost use Rattle.sm_world.specs.declared.events.Event.TheVariants.{Piece};
 ghost use Rattle.smd_app.specs.Exercises.{each, login_events, sends, wants_two, first_answer, second_answer, round_events, ending_events, exercise_events};
 
 use crate::words::Exercise;
-use sm_world::{Conn, Event, EventList, NoMemory, Octets, Order};
+use owned_lists::{NoMemory, Octets};
+use sm_world::{Conn, Event, EventList, Order};
 use std::alloc::Global;
 
 /// How many clients there are.

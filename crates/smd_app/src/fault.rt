@@ -3,9 +3,10 @@ ghost use Rattle.smd_app.specs.FaultLines.{console_fault, disk_fault, link_fault
 ghost use Rattle.smd_app.specs.declared.fault.Fault.TheVariants.{NoMemory as OutOfMemory};
 
 use crate::script::ScriptFault;
+use owned_lists::NoMemory;
 use program_frame::{ProgramFault, try_line, try_numbered};
 use session_engine::ServeFault;
-use sm_world::{Console, Failure, NoMemory};
+use sm_world::{Console, Failure};
 use std::alloc::Global;
 
 /// Why a run of the program didn't end well. Each has its status and, but for the console's

@@ -1,5 +1,5 @@
 use ice_cookie::Cookie;
-use sm_world::Octets;
+use owned_lists::Octets;
 
 /// Who a session manager is: the cookie that its clients must show, and the name of its host, of at
 /// most 255 bytes. A rehearsal has a cookie of its own, and no host.

@@ -3,9 +3,10 @@ ghost use Rattle.std.specs.List.{AllByRecursion};
 ghost use Rattle.sm_world.specs.Events.{HasPieceSize};
 ghost use Rattle.smd_app.specs.Rehearsals.{Rehearses};
 
+use owned_lists::{NoMemory, Octets};
 use session_engine::{Config, ServeFault, serve};
 use session_in_memory::{REHEARSAL_COOKIE, blank_store};
-use sm_world::{EventList, NoMemory, Octets, SteadyWorld};
+use sm_world::{EventList, SteadyWorld};
 use std::alloc::Global;
 
 /// A run on a world in memory.

@@ -8,8 +8,9 @@ use crate::fault::Fault;
 use crate::identity::Identity;
 use crate::words::Paths;
 use ice_cookie::{AuthorityEntry, AuthorityList, AuthorityRefusal, authority_bytes};
+use owned_lists::{NoMemory, Octets};
 use session_engine::{Config, serve};
-use sm_world::{Console, Disk, Links, NoMemory, Octets, Spawner};
+use sm_world::{Console, Disk, Links, Spawner};
 use std::alloc::Global;
 
 /// Appends the address of a session, as its clients know it.

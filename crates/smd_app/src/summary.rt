@@ -4,7 +4,8 @@ ghost use Rattle.checkpoint_slots.specs.Turns.{opened_by, opened_in};
 ghost use Rattle.session_engine.specs.Doing.{item_of, items};
 ghost use Rattle.smd_app.specs.Summaries.{came_in, sent_in, summary};
 
-use sm_world::{Effect, NoMemory};
+use owned_lists::NoMemory;
+use sm_world::Effect;
 use std::alloc::Global;
 
 /// What opens the gate of a slot.

@@ -3,8 +3,9 @@ ghost use Rattle.session_engine.specs.Doing.{item_of, items};
 ghost use Rattle.session_in_memory.specs.Lines.{text};
 ghost use Rattle.smd_app.specs.Trace.{patience_text};
 
+use owned_lists::{NoMemory, Octets};
 use session_in_memory::trace_line;
-use sm_world::{Effect, NoMemory, Octets};
+use sm_world::Effect;
 use std::alloc::Global;
 
 /// Appends the line of an effect, where it has one. A command is shown as started.

@@ -4,8 +4,8 @@ ghost use Rattle.std.specs.Fmt.{decimal};
 ghost use Rattle.smd_app.specs.Words.{Places, IsPath, IsPatience, HasPath, HavePaths, GivePatience, AreServe, AreRehearse, AreExercise, pairs_of, value_in};
 
 use control_lines::read_number;
+use owned_lists::NoMemory;
 use program_frame::are_one_word;
-use sm_world::NoMemory;
 use std::alloc::Global;
 
 /// The most bytes that a path may have.

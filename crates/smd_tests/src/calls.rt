@@ -5,7 +5,8 @@ ghost use Rattle.std.specs.Prelude.{◌≤◌, length, IfOk};
 
 use crate::worlds::{printed, world_of};
 use ice_cookie::Cookie;
-use sm_world::{MemWorld, NoMemory, Octets};
+use owned_lists::{NoMemory, Octets};
+use sm_world::MemWorld;
 use smd_app::{Identity, smd_main};
 use std::alloc::Global;
 use std::test::Fail;

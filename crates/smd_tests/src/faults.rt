@@ -1,8 +1,9 @@
 //! The text of each fault's line, written down by hand, and its status.
 
 use crate::worlds::printed;
+use owned_lists::Octets;
 use program_frame::conclude;
-use sm_world::{EventList, Octets, SteadyWorld};
+use sm_world::{EventList, SteadyWorld};
 use smd_app::Fault;
 use std::alloc::Global;
 use std::test::Fail;

@@ -5,8 +5,9 @@ ghost use Rattle.std.specs.List.{AllByRecursion};
 ghost use Rattle.sm_world.specs.Events.{HasPieceSize};
 
 use event_script::{ScriptFault, Taken, read_script};
+use owned_lists::{NoMemory, NumberList, Octets};
 use session_in_memory::blank_store;
-use sm_world::{Effect, EventList, MemWorld, NoMemory, NumberList, Octets};
+use sm_world::{Effect, EventList, MemWorld};
 use std::alloc::Global;
 use std::test::Fail;
 

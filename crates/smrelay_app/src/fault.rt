@@ -4,8 +4,9 @@ ghost use Rattle.smrelay_app.specs.declared.fault.Fault.TheVariants.{NoMemory as
 
 use byte_relay::RelayFault;
 use event_script::ScriptFault;
+use owned_lists::NoMemory;
 use program_frame::{ProgramFault, try_line, try_numbered};
-use sm_world::{Console, Failure, NoMemory};
+use sm_world::{Console, Failure};
 use std::alloc::Global;
 
 /// Why a run of the program didn't end well. Each has its status and, but for the console's

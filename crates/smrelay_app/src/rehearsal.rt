@@ -6,7 +6,8 @@ ghost use Rattle.smrelay_app.specs.Rehearsals.{Rehearses};
 
 use byte_relay::{RelayFault, serve_relay};
 use ice_values::Endian;
-use sm_world::{EventList, NoMemory, Octets, SteadyWorld};
+use owned_lists::{NoMemory, Octets};
+use sm_world::{EventList, SteadyWorld};
 use std::alloc::Global;
 
 /// A run on a world in memory.

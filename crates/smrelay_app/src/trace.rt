@@ -2,7 +2,8 @@ ghost use Rattle.std.specs.Prelude.{◌≡◌, ◌∷◌, [], ◌++◌, IfOk, On
 ghost use Rattle.control_lines.specs.Traces.{effects_text};
 
 use control_lines::{effect_line, has_line};
-use sm_world::{Effect, NoMemory, Octets};
+use owned_lists::{NoMemory, Octets};
+use sm_world::Effect;
 use std::alloc::Global;
 
 /// Appends the line of an effect, where it has one.

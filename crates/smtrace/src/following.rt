@@ -1,8 +1,9 @@
 //! A record that is told while smd writes it.
 
 use control_lines::{OrderRefusal, split_once};
+use owned_lists::{NoMemory, Octets};
 use program_frame::{StandardConsole, try_line, try_numbered};
-use sm_world::{Console, NoMemory, Octets};
+use sm_world::Console;
 use std::fs::{File, OpenOptions};
 use std::io::{ErrorKind, Read};
 use std::time::Duration;

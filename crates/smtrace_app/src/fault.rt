@@ -2,8 +2,9 @@ ghost use Rattle.std.specs.Prelude.{◌≡◌};
 ghost use Rattle.smtrace_app.specs.Faults.{console_fault, fault_status, fault_line};
 ghost use Rattle.smtrace_app.specs.declared.fault.Fault.TheVariants.{NoMemory as OutOfMemory};
 
+use owned_lists::NoMemory;
 use program_frame::{ProgramFault, try_line, try_numbered};
-use sm_world::{Console, Failure, NoMemory};
+use sm_world::{Console, Failure};
 use std::alloc::Global;
 
 /// Why a run of the program didn't end well. Each has its status and, but for the console's

@@ -3,9 +3,10 @@ ghost use Rattle.sm_world.specs.Outside.{Added, NotFallen};
 ghost use Rattle.smtrace_app.specs.Statuses.{AreReplay, AskFor, Runs, Answers, Views};
 
 use crate::fault::Fault;
+use owned_lists::NoMemory;
 use program_frame::{are_one_word, conclude, read_input};
 use session_replay::{Verdict, replay_within};
-use sm_world::{Console, NoMemory};
+use sm_world::Console;
 use std::alloc::Global;
 use trace_picture::draw_within;
 use trace_reading::read_within;

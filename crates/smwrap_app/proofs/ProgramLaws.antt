@@ -10,7 +10,7 @@ use Rattle.sm_world.specs.declared.effects.Effect.{Effect}
 use Rattle.sm_world.specs.declared.effects.Effect.TheVariants.{Published, Started}
 use Rattle.sm_world.specs.declared.failures.Failure.{Failure}
 use Rattle.sm_world.specs.declared.failures.Failure.TheVariants.{Failed, NoMemory as DeviceMemory}
-use Rattle.sm_world.specs.declared.failures.NoMemory.{NoMemory as WantsMemory}
+use Rattle.owned_lists.specs.declared.failures.NoMemory.{NoMemory as WantsMemory}
 use Rattle.sm_world.proofs.Adding.{adds-adds, adds-none, fallen_never}
 use Rattle.program_frame.specs.Printing.{Tries}
 use Rattle.program_frame.specs.Programs.{line_by, status_by}

@@ -4,7 +4,7 @@ use Rattle.std.specs.List.{list_all}
 use Rattle.std.proofs.lemmas.Bool.Decides.{nat_tests}
 use Rattle.std.proofs.lemmas.List.{drop-drop, drop-map, length-map, take_rest}
 use Rattle.std.proofs.lemmas.List.Folds.{list_all-map}
-use Rattle.sm_world.specs.declared.failures.NoMemory.{NoMemory}
+use Rattle.owned_lists.specs.declared.failures.NoMemory.{NoMemory}
 use Rattle.smwrap_app.specs.Words.{AreBad, AreChosen, AreChosenAt, Chosen, HasId, HasNumber, HasTexts, chosen_of, is_program, is_text}
 use Rattle.smwrap_app.specs.declared.words.Choices.{Choices}
 

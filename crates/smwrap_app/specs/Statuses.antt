@@ -1,7 +1,7 @@
 -- What `smwrap` does to its two worlds, the peer and the files, and what each of its statuses says.
 use Rattle.std.specs.Prelude.{◌≡◌, ◌≢◌, ◌⊎◌, ℕ, Bool, false, List, [], ◌∷◌, ◌++◌, map, codes, Option, Some, Err}
 use Rattle.sm_world.specs.Outside.{Added, Outside, Rose, adds}
-use Rattle.sm_world.specs.declared.commands.Command.{Command}
+use Rattle.owned_lists.specs.declared.commands.Command.{Command}
 use Rattle.sm_world.specs.declared.effects.Effect.{Effect}
 use Rattle.sm_world.specs.declared.effects.Effect.TheVariants.{Published, Started}
 use Rattle.client_machine.specs.declared.saves.SaveAnswer.{SaveAnswer}

@@ -13,7 +13,8 @@ use crate::fault::{Fault, ended, peer_fault};
 use client_peer::Peer;
 use ice_values::Array8List;
 use named_joiner::{HearFault, NamedDies, NamedJoiner, NamedReply, NamedSaves};
-use sm_world::{Failure, NoMemory};
+use owned_lists::NoMemory;
+use sm_world::Failure;
 use std::alloc::Global;
 
 /// A client that gives no reasons as it closes.

@@ -12,8 +12,9 @@ use client_peer::Peer;
 use ice_cookie::Cookie;
 use ice_values::Array8;
 use named_joiner::BareJoiner;
+use owned_lists::NoMemory;
 use program_frame::conclude;
-use sm_world::{Console, NoMemory, Spawner};
+use sm_world::{Console, Spawner};
 use state_saver::{Files, SavePlan, Saver};
 use std::alloc::Global;
 

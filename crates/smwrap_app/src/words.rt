@@ -3,7 +3,7 @@ ghost use Rattle.std.specs.List.{list_all};
 ghost use Rattle.smwrap_app.specs.Words.{AreBad, AreChosen, AreChosenAt, Chosen, HasId, HasNumber, HasText, HasTexts, chosen_of, is_program as is_program_spec, is_text as is_text_spec};
 
 use control_lines::read_number;
-use sm_world::NoMemory;
+use owned_lists::NoMemory;
 use std::alloc::Global;
 use word_pairs::{is_word, value_from};
 

@@ -5,7 +5,7 @@ use Rattle.sm_world.specs.Disk.{UsesDisk}
 use Rattle.sm_world.specs.Outside.{Outside, Rose, adds, on_ok}
 use Rattle.sm_world.specs.declared.effects.Effect.TheVariants.{Published}
 use Rattle.sm_world.specs.declared.failures.Failure.{Failure}
-use Rattle.sm_world.specs.declared.failures.NoMemory.{NoMemory}
+use Rattle.owned_lists.specs.declared.failures.NoMemory.{NoMemory}
 use Rattle.xsmp_properties.specs.Tables.{IsTableFull}
 use Rattle.client_machine.specs.Saves.{IsLawful, is_lawful_step}
 use Rattle.client_machine.specs.declared.saves.SaveAnswer.{SaveAnswer}

@@ -4,7 +4,8 @@ ghost use Rattle.sm_world.specs.Outside.{adds, on_ok};
 ghost use Rattle.sm_world.specs.declared.effects.Effect.TheVariants.{Published};
 ghost use Rattle.state_saver.specs.Files.{Holds};
 
-use sm_world::{Failure, Octets, Told};
+use owned_lists::Octets;
+use sm_world::{Failure, Told};
 
 /// How many bytes a file that is fetched can have at most.
 pub const FILE_LIMIT: usize = 65_536;

@@ -4,10 +4,8 @@ ghost use Rattle.sm_world.specs.Calls.{counted, one_more};
 ghost use Rattle.state_saver.specs.Files.{after_one, file_at, file_now};
 
 use crate::files::{FILE_LIMIT, Files};
-use sm_world::{
-    Calls, Command, Console, Duplicate, Effect, Failed, Failure, Faults, ListOf, NoMemory,
-    NumberList, Octets, PairList, Spawner, Told,
-};
+use owned_lists::{Command, Duplicate, ListOf, NoMemory, NumberList, Octets, PairList};
+use sm_world::{Calls, Console, Effect, Failed, Failure, Faults, Spawner, Told};
 use std::alloc::Global;
 
 /// Files in memory, beside which programs are started, whose calls are numbered from 1 and fail where

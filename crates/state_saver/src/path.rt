@@ -1,6 +1,6 @@
 ghost use Rattle.std.specs.Prelude.{◌≡◌, IfOk};
 
-use sm_world::NoMemory;
+use owned_lists::NoMemory;
 use std::alloc::Global;
 use std::marker::Model;
 

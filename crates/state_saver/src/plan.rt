@@ -1,5 +1,5 @@
 use crate::path::Path;
-use sm_world::OctetsList;
+use owned_lists::OctetsList;
 
 /// What is saved, and how the program is started again.
 #[derive(Debug, Drop)]

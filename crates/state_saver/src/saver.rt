@@ -12,7 +12,8 @@ use crate::words::own_set;
 use client_machine::{SaveAnswer, Stage, Step};
 use ice_values::PropertyList;
 use named_joiner::{NamedAsk, NamedSaves};
-use sm_world::{Failure, NoMemory};
+use owned_lists::NoMemory;
+use sm_world::Failure;
 use std::alloc::Global;
 
 /// How many bytes an ID can have in a command.

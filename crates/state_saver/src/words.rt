@@ -4,7 +4,7 @@ ghost use Rattle.state_saver.specs.Plans.{copy_path, own_properties, restart_wor
 
 use crate::plan::SavePlan;
 use ice_values::{Array8List, Property, PropertyList, put_word, put_words};
-use sm_world::{NoMemory, Octets};
+use owned_lists::{NoMemory, Octets};
 use std::alloc::Global;
 
 /// Adds a number as a word.

@@ -4,7 +4,8 @@ ghost use Rattle.store_report.specs.Lines.{status_of};
 
 use checkpoint_records::Book;
 use checkpoint_slots::{Steady, StoreFault};
-use sm_world::{EventList, NoMemory, Octets, SteadyWorld};
+use owned_lists::{NoMemory, Octets};
+use sm_world::{EventList, SteadyWorld};
 use std::alloc::Global;
 
 /// What the bytes of a store's file stand for.

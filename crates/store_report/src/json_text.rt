@@ -12,7 +12,7 @@ use crate::shown::is_utf8;
 use checkpoint_records::{Book, Entry};
 use ice_values::Property;
 use json::{Pretty, Token};
-use sm_world::{Command, ListOf, NoMemory, Octets};
+use owned_lists::{Command, ListOf, NoMemory, Octets};
 use std::alloc::Global;
 use xsmp_properties::{command_of, hint_of};
 

@@ -7,8 +7,8 @@ ghost use Rattle.store_report.specs.Lines.{book_lines, command_line, counts_line
 use crate::Finding;
 use crate::shown::put_words;
 use checkpoint_records::{Book, Entry};
+use owned_lists::{Command, NoMemory, Octets};
 use restart_plan::plan;
-use sm_world::{Command, NoMemory, Octets};
 use std::alloc::Global;
 use std::slice;
 use xsmp_properties::{Hint, PropertyTable, command_of, hint_of};

@@ -3,7 +3,7 @@ ghost use Rattle.std.specs.List.{flat_map};
 ghost use Rattle.std.specs.Str.{is_utf8};
 ghost use Rattle.store_report.specs.Shown.{are_bare, byte_text, is_bare, is_plain, is_whole, word_text, words_text};
 
-use sm_world::{NoMemory, Octets};
+use owned_lists::{NoMemory, Octets};
 use std::alloc::Global;
 
 pub(crate) fn is_utf8(bytes: &[u8]) -> bool

@@ -2,7 +2,7 @@
 
 use crate::{Finding, look_into, read_check, report_json, report_lines};
 use checkpoint_records::{Book, read_book};
-use sm_world::Octets;
+use owned_lists::Octets;
 use std::alloc::{Alloc, Global};
 use std::process::Abort;
 use std::test::Fail;

@@ -2,7 +2,7 @@
 
 use crate::table::{bytes_of, expect_rows, text_of};
 use checkpoint_records::{Book, Entry, read_book, spell_book};
-use sm_world::Command;
+use owned_lists::Command;
 use std::alloc::{Alloc, Global};
 use std::process::Abort;
 use std::test::Fail;

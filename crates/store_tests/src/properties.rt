@@ -5,7 +5,7 @@ use crate::table::{bytes_of, digits_of, expect_rows, text_of};
 use ice_values::{
     Array8List, Endian, Property, PropertyList, Spelled, walk_properties, write_property_list,
 };
-use sm_world::{Duplicate, NoMemory, Octets, PairList};
+use owned_lists::{Duplicate, NoMemory, Octets, PairList};
 use std::alloc::{Alloc, Global};
 use std::process::Abort;
 use std::test::Fail;

@@ -3,7 +3,7 @@
 use crate::table::{expect_rows, text_of};
 use checkpoint_records::{Book, Entry, copy_book, names, same_command};
 use ice_values::{Array8List, Property, PropertyList};
-use sm_world::{Command, NoMemory, Octets, OctetsList, PairList};
+use owned_lists::{Command, NoMemory, Octets, OctetsList, PairList};
 use std::alloc::{Alloc, Global};
 use std::process::Abort;
 use std::test::Fail;

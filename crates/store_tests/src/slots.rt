@@ -7,7 +7,8 @@ ghost use Rattle.checkpoint_records.specs.Rules.{KeepsRules};
 use crate::table::{bytes_of, expect_rows, text_of};
 use checkpoint_records::{Book, BookRefusal, read_book};
 use checkpoint_slots::{Steady, StoreFault};
-use sm_world::{Choice, Disk, EventList, MemWorld, NoMemory, NumberList, Octets};
+use owned_lists::{NoMemory, NumberList, Octets};
+use sm_world::{Choice, Disk, EventList, MemWorld};
 use std::alloc::Global;
 use std::test::Fail;
 

@@ -1,6 +1,7 @@
 use checkpoint_slots::STORE_BYTES;
+use owned_lists::{NoMemory, Octets};
 use program_frame::StandardConsole;
-use sm_world::{Console, Failure, NoMemory, Octets};
+use sm_world::{Console, Failure};
 use std::fs::{File, OpenOptions, TryLockError};
 use std::io::ErrorKind;
 use std::os::unix::fs::FileExt;

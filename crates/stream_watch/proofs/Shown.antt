@@ -6,7 +6,7 @@ use Rattle.std.proofs.lemmas.Iterator.Adapters.{position_from-zero}
 use Rattle.stream_watch.specs.Visiting.{Line, Shows, ShowAll, sent_more, after_sent, is_stranger, strangers, is_strange, is_overdue, has_stayed, lingers, has_stayed_on, lingers_by, first_number, is_full, place_of_first}
 use Rattle.stream_watch.specs.declared.visitor.Visitor.{Visitor}
 use Rattle.stream_watch.specs.declared.visitors.Place.TheVariants.{Free, Of, Later}
-use Rattle.sm_world.specs.declared.failures.NoMemory.{NoMemory}
+use Rattle.owned_lists.specs.declared.failures.NoMemory.{NoMemory}
 
 pub as_many : (rows : List Visitor) (ls : List Line) → ShowAll rows ls → length rows ≡ length ls
 as_many [] [] shows = refl

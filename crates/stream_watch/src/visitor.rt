@@ -2,7 +2,8 @@ ghost use Rattle.std.specs.Prelude.{◌≡◌, [], None, OnOk};
 ghost use Rattle.stream_watch.specs.Visiting.{Line, Shows, sent_more, told_by, is_strange, has_stayed, has_stayed_on};
 
 use crate::watch::Watch;
-use sm_world::{Conn, NoMemory};
+use owned_lists::NoMemory;
+use sm_world::Conn;
 use std::alloc::Global;
 
 /// How many milliseconds somebody may stay who isn't let in.

@@ -3,7 +3,8 @@ ghost use Rattle.stream_watch.specs.Visiting.{Line, ShowAll, after_sent, without
 ghost use Rattle.stream_watch.specs.declared.visitor.Visitor.{Visitor as AnyVisitor};
 
 use crate::visitor::Visitor;
-use sm_world::{Conn, NoMemory};
+use owned_lists::NoMemory;
+use sm_world::Conn;
 use std::alloc::Global;
 
 /// How many may be at the door at once who aren't let in.

@@ -5,7 +5,7 @@ ghost use Rattle.stream_watch.specs.Watching.{Follows, is_connection_reply as le
 use frame_speech::{CutStream, Heeds, byte_at};
 use ice_framing::WholeFrame;
 use ice_values::Endian;
-use sm_world::NoMemory;
+use owned_lists::NoMemory;
 use std::alloc::Global;
 
 fn is_connection_reply(frame: &WholeFrame) -> bool

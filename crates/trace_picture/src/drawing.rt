@@ -6,7 +6,7 @@ use crate::sketch::{Sketch, command_words};
 use crate::style::put_style;
 use crate::svg::{put_box, put_label, put_stroke, put_tag, put_text, put_title};
 use message_text::{put_number, put_plain};
-use sm_world::{NoMemory, Octets};
+use owned_lists::{NoMemory, Octets};
 use std::alloc::Global;
 use trace_reading::put_stamp;
 use trace_replay::{Direction, LineReading, Opening, ShowAnswer, TraceLine, Watch, read_lines};

@@ -1,4 +1,5 @@
-use sm_world::{Conn, ListOf, Octets};
+use owned_lists::{ListOf, Octets};
+use sm_world::Conn;
 use trace_replay::Direction;
 
 /// How a connection ended.

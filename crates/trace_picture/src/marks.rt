@@ -1,4 +1,5 @@
-use sm_world::{Dialog, NoMemory, Octets};
+use ice_values::Dialog;
+use owned_lists::{NoMemory, Octets};
 use std::alloc::Global;
 use xsmp_messages::XsmpMessage;
 

@@ -1,4 +1,4 @@
-use sm_world::{NoMemory, Octets};
+use owned_lists::{NoMemory, Octets};
 
 /// How the picture looks, on a light ground and on a dark one.
 const STYLE: &str = "<style>

@@ -1,5 +1,5 @@
 use message_text::{put_number, put_plain};
-use sm_world::{NoMemory, Octets};
+use owned_lists::{NoMemory, Octets};
 use std::alloc::Global;
 
 /// Appends a byte of a text as XML has it. A byte that isn't printable ASCII is `\xNN`.

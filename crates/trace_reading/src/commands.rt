@@ -3,7 +3,7 @@ ghost use Rattle.trace_reading.specs.Commands.{command_told, field_told};
 
 use control_lines::read_hex;
 use message_text::{put_plain, put_quoted};
-use sm_world::{NoMemory, Octets};
+use owned_lists::{NoMemory, Octets};
 use std::alloc::Global;
 use trace_replay::first_field;
 

@@ -1,7 +1,7 @@
 use crate::lines::put_opening;
 use crate::telling::Teller;
 use control_lines::OrderRefusal;
-use sm_world::{NoMemory, Octets};
+use owned_lists::{NoMemory, Octets};
 use std::alloc::Global;
 use trace_replay::{read_opening, read_trace_line};
 

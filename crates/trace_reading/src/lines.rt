@@ -6,7 +6,8 @@ ghost use Rattle.trace_reading.specs.Lines.{book_told, book_words, counted, deed
 use crate::commands::put_command;
 use checkpoint_records::Book;
 use message_text::{put_number, put_plain, put_quoted};
-use sm_world::{Conn, NoMemory, Octets, Order};
+use owned_lists::{NoMemory, Octets};
+use sm_world::{Conn, Order};
 use std::alloc::Global;
 use trace_replay::{Direction, Opening};
 

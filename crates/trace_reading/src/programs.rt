@@ -5,7 +5,7 @@ ghost use Rattle.trace_reading.specs.Programs.{after_frame, after_message, after
 
 use ice_framing::WholeFrame;
 use ice_values::{Array8, Property};
-use sm_world::{NoMemory, Octets};
+use owned_lists::{NoMemory, Octets};
 use std::alloc::Global;
 use trace_replay::xsmp_in;
 use xsmp_messages::XsmpMessage;

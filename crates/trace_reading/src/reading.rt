@@ -4,7 +4,7 @@ ghost use Rattle.trace_reading.specs.Told.{told};
 
 use crate::lines::put_opening;
 use crate::telling::Teller;
-use sm_world::{NoMemory, Octets};
+use owned_lists::{NoMemory, Octets};
 use std::alloc::Global;
 use trace_replay::{LineReading, Opening, ShowAnswer, TraceLine, read_lines};
 

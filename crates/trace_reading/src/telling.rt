@@ -13,7 +13,8 @@ use crate::lines::{
 use crate::programs::after_frame;
 use ice_framing::WholeFrame;
 use message_text::Writing;
-use sm_world::{Conn, Event, NoMemory, Octets};
+use owned_lists::{NoMemory, Octets};
+use sm_world::{Conn, Event};
 use std::alloc::Global;
 use std::collections::BTreeMap;
 use trace_replay::{Brought, Direction, TraceLine, Watch, frame_text};

@@ -4,7 +4,7 @@ ghost use Rattle.trace_replay.specs.Commands.{fields_of, IsLowerHex, IsField, Go
 ghost use Rattle.trace_replay.specs.Steps.{LeadsTo};
 
 use control_lines::{put_hex, read_hex, split_once};
-use sm_world::{NoMemory, Octets};
+use owned_lists::{NoMemory, Octets};
 use std::alloc::Global;
 
 /// What may stand next among the fields of a command.

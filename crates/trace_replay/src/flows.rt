@@ -1,5 +1,5 @@
 use ice_framing::{Remainder, WholeFrameList};
-use sm_world::{NoMemory, Octets};
+use owned_lists::{NoMemory, Octets};
 use std::alloc::Global;
 
 /// How far a stream was read that can go on.

@@ -11,7 +11,7 @@ use ice_framing::WholeFrame;
 use ice_messages::{LAST_ICE_MINOR, decode_ice};
 use ice_values::{DecodeRefusal, Endian, read_card32};
 use message_text::{Writing, ice_line, xsmp_line};
-use sm_world::{NoMemory, Octets};
+use owned_lists::{NoMemory, Octets};
 use std::alloc::Global;
 use xsmp_messages::{LAST_XSMP_MINOR, XsmpMessage, decode_xsmp};
 

@@ -5,7 +5,8 @@ ghost use Rattle.trace_replay.specs.Grammar.{BeginsCommand, SaysLine};
 
 use crate::commands::is_command;
 use control_lines::{OrderRefusal, read_bytes, read_conn, read_script_line};
-use sm_world::{Conn, Event, ListOf, Octets};
+use owned_lists::{ListOf, Octets};
+use sm_world::{Conn, Event};
 use std::alloc::Global;
 
 /// What a line of a trace says.

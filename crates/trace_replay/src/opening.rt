@@ -7,7 +7,7 @@ ghost use Rattle.trace_replay.specs.Openings.{BeginWith, FirstIs, Open, SaysBook
 use checkpoint_records::{Book, BookRefusal, read_book};
 use control_lines::{next_line, read_hex, read_number};
 use ice_cookie::Cookie;
-use sm_world::NoMemory;
+use owned_lists::NoMemory;
 use std::alloc::Global;
 
 /// What a trace says in front of its session. What it doesn't say is as in a rehearsal.

@@ -8,7 +8,8 @@ use crate::flows::Brought;
 use crate::frames::frame_text;
 use ice_framing::WholeFrame;
 use message_text::Writing;
-use sm_world::{Conn, NoMemory, Octets};
+use owned_lists::{NoMemory, Octets};
+use sm_world::Conn;
 use std::alloc::Global;
 
 /// The direction of a message, as the session manager sees it.

@@ -9,7 +9,8 @@ ghost use Rattle.trace_replay.specs.declared.lines.TraceLine.{TraceLine as AnyLi
 use crate::lines::{TraceLine, TraceLineList, read_trace_line};
 use crate::opening::{Opening, read_opening};
 use control_lines::{OrderRefusal, next_line};
-use sm_world::{Event, EventList, NoMemory};
+use owned_lists::NoMemory;
+use sm_world::{Event, EventList};
 use std::alloc::Global;
 use std::collections::VecDeque;
 

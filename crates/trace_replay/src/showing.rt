@@ -13,7 +13,8 @@ use crate::opening::read_opening;
 use crate::parts::{Channel, Direction, put_parts};
 use crate::watch::Watch;
 use control_lines::{OrderRefusal, next_line};
-use sm_world::{Event, NoMemory, Octets};
+use owned_lists::{NoMemory, Octets};
+use sm_world::Event;
 use std::alloc::Global;
 
 /// What showing a trace answers.

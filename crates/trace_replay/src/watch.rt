@@ -7,7 +7,8 @@ ghost use Rattle.trace_replay.specs.declared.lines.TraceLine.{TraceLine};
 
 use crate::flows::{Brought, Flow, Progress};
 use crate::lines::TraceLine;
-use sm_world::{Conn, Event, NoMemory};
+use owned_lists::NoMemory;
+use sm_world::{Conn, Event};
 use std::alloc::Global;
 use std::collections::BTreeMap;
 

@@ -1,5 +1,5 @@
 use control_lines::read_number;
-use sm_world::NoMemory;
+use owned_lists::NoMemory;
 
 /// What can be chosen of the links.
 #[derive(Clone, Copy, Debug, PartialEq, Eq)]

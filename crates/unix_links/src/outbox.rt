@@ -1,6 +1,6 @@
 use bytes::BytesMut;
 use mio::net::UnixStream;
-use sm_world::NoMemory;
+use owned_lists::NoMemory;
 use std::alloc::Global;
 use std::io;
 use std::io::{ErrorKind, Write};

@@ -5,8 +5,9 @@ ghost use Rattle.unix_peer.specs.Untold.{peer_outside};
 
 use crate::reading::{read_file, read_some};
 use client_peer::{FILE_LIMIT, Peer};
+use owned_lists::Octets;
 use program_frame::StandardConsole;
-use sm_world::{Console, Failure, Octets, Told};
+use sm_world::{Console, Failure, Told};
 use std::io::{ErrorKind, Write};
 use std::os::unix::net::UnixStream;
 

@@ -1,5 +1,5 @@
+use owned_lists::Octets;
 use session_watch::{ClientWatch, put_client, put_count};
-use sm_world::Octets;
 use std::alloc::{Alloc, Global};
 use std::process::Abort;
 use std::test::Fail;

@@ -2,7 +2,7 @@
 
 use crate::written::{bytes_of, digits_of};
 use ice_cookie::{AuthorityEntry, AuthorityList, authority_bytes, read_authority};
-use sm_world::{NoMemory, Octets};
+use owned_lists::{NoMemory, Octets};
 use std::alloc::{Alloc, Global};
 use std::process::Abort;
 use std::test::Fail;

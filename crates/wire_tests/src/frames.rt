@@ -4,7 +4,7 @@ use crate::written::{bytes_of, digits_of, is_frame};
 use ice_cookie::Cookie;
 use ice_messages::{IceMessage, decode_ice, encode_ice, minor};
 use ice_values::{DecodeRefusal, Endian, Enumerated};
-use sm_world::Octets;
+use owned_lists::Octets;
 use std::alloc::Global;
 use std::test::Fail;
 

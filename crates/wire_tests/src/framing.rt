@@ -4,7 +4,7 @@ ghost use Rattle.ice_framing.specs.Frames.{IsPartial, units, unit_limit};
 use crate::written::{bytes_of, digits_of};
 use ice_framing::{FRAME_LIMIT, Remainder, Splitter, WholeFrameList, cut_pieces};
 use ice_values::Endian;
-use sm_world::{NoMemory, Octets, OctetsList};
+use owned_lists::{NoMemory, Octets, OctetsList};
 use std::alloc::{Alloc, Global};
 use std::process::Abort;
 use std::test::Fail;

@@ -5,7 +5,7 @@ use crate::framing::cut_frames;
 use crate::written::{agreed, bytes_of, digits_of, spelled, units_of, with_units};
 use ice_messages::{IceMessage, encode_ice};
 use ice_values::{Endian, Text16};
-use sm_world::Octets;
+use owned_lists::Octets;
 use std::alloc::{Alloc, Global};
 use std::process::Abort;
 use std::test::Fail;

@@ -9,7 +9,7 @@ use ice_setup::{
     wrong_byte_values,
 };
 use ice_values::{Endian, ErrorBody, ErrorClass, Severity, Text16};
-use sm_world::Octets;
+use owned_lists::Octets;
 use std::alloc::{Alloc, Global};
 use std::process::Abort;
 use std::test::Fail;

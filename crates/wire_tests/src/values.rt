@@ -3,11 +3,12 @@
 
 use crate::written::{bytes_of, digits_of, other, spelled};
 use ice_values::{
-    Array8, Enumerated, ErrorClass, Spelled, Text16, ValueRefusal, read_array8, read_array8_list,
-    read_property, read_property_list, read_text16, read_version, value_at, write_array8,
-    write_array8_list, write_property, write_property_list, write_text16, write_version,
+    Array8, Dialog, Enumerated, ErrorClass, SaveKind, SaveStyle, Spelled, Text16, ValueRefusal,
+    read_array8, read_array8_list, read_property, read_property_list, read_text16, read_version,
+    value_at, write_array8, write_array8_list, write_property, write_property_list, write_text16,
+    write_version,
 };
-use sm_world::{Dialog, NoMemory, Octets, SaveKind, SaveStyle};
+use owned_lists::{NoMemory, Octets};
 use std::alloc::{Alloc, Global};
 use std::fmt::Debug;
 use std::process::Abort;

@@ -4,7 +4,7 @@ ghost use Rattle.std.specs.Prelude.{◌<◌, IfOk, IsTrue};
 ghost use Rattle.ice_values.specs.Frames.{IsFrame};
 
 use ice_values::{Endian, put_card32, read_card32};
-use sm_world::{NoMemory, Octets};
+use owned_lists::{NoMemory, Octets};
 use std::alloc::Global;
 use std::test::Fail;
 

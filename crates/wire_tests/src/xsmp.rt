@@ -5,7 +5,7 @@ use crate::framing::cut_frames;
 use crate::views::{view_verdict, viewed};
 use crate::written::{agreed, bytes_of, digits_of, is_frame, spelled, units_of, with_units};
 use ice_values::{Array8List, DecodeRefusal, Endian, Property, PropertyList};
-use sm_world::Octets;
+use owned_lists::Octets;
 use std::alloc::{Alloc, Global};
 use std::process::Abort;
 use std::test::Fail;

@@ -5,12 +5,10 @@ ghost use Rattle.std.specs.List.{AllByRecursion};
 ghost use Rattle.state_saver.specs.Plans.{IsPlan, IsWord};
 
 use client_machine::{SaveAsk, Stage, Step};
-use ice_values::Array8;
+use ice_values::{Array8, SaveKind, SaveStyle};
 use named_joiner::NamedAsk;
-use sm_world::{
-    Command, Console, Failure, NoMemory, NumberList, Octets, OctetsList, PairList, SaveKind,
-    SaveStyle, Spawner,
-};
+use owned_lists::{Command, NoMemory, NumberList, Octets, OctetsList, PairList};
+use sm_world::{Console, Failure, Spawner};
 use state_saver::{
     FILE_LIMIT, Files, MemFiles, Path, SavePlan, Saver, copies_have_paths_of_their_own,
 };

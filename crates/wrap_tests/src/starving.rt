@@ -3,7 +3,8 @@
 ghost use Rattle.std.specs.Prelude.{None};
 
 use crate::wrapping::{peer, status_of};
-use sm_world::{Command, Console, Failure, NoMemory, Octets, Spawner, Told};
+use owned_lists::{Command, NoMemory, Octets};
+use sm_world::{Console, Failure, Spawner, Told};
 use state_saver::Files;
 use std::test::Fail;
 

@@ -6,7 +6,8 @@ use crate::frames::{
     ORDER, REGISTERED, REGISTERS, SAVE, SETS, SETS_FOUR, SETS_TWO, UNKNOWN,
 };
 use client_peer::MemPeer;
-use sm_world::{Console, Effect, NoMemory, NumberList, Octets, OctetsList, PairList, Spawner};
+use owned_lists::{NoMemory, NumberList, Octets, OctetsList, PairList};
+use sm_world::{Console, Effect, Spawner};
 use smwrap_app::{a_client_tells_what_it_answers, copies_are_apart, smwrap_main};
 use state_saver::{Files, MemFiles};
 use std::alloc::Global;

@@ -1,5 +1,5 @@
+use owned_lists::Command;
 use program_spawner::prepared;
-use sm_world::Command;
 use std::io;
 use std::process::{Child, Stdio};
 

@@ -1,7 +1,8 @@
 //! Real files and programs, in the folder for temporary files.
 
 use crate::WrappedFiles;
-use sm_world::{Command, Console, Failure, Octets, OctetsList, PairList, Spawner};
+use owned_lists::{Command, Octets, OctetsList, PairList};
+use sm_world::{Console, Failure, Spawner};
 use state_saver::{FILE_LIMIT, Files};
 use std::os::unix::fs::PermissionsExt;
 use std::test::Fail;

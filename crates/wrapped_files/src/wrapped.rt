@@ -5,9 +5,10 @@ ghost use Rattle.wrapped_files.specs.Untold.{wrapped_outside};
 
 use crate::files::read_whole;
 use crate::starting::start;
+use owned_lists::{Command, NoMemory, Octets};
 use program_frame::StandardConsole;
 use program_spawner::text;
-use sm_world::{Command, Console, Failure, NoMemory, Octets, Spawner, Told};
+use sm_world::{Console, Failure, Spawner, Told};
 use state_saver::Files;
 use std::io;
 use std::io::ErrorKind;

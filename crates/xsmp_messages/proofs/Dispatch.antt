@@ -13,9 +13,9 @@ use Rattle.ice_values.specs.declared.numbers.Endian.{Endian}
 use Rattle.ice_values.specs.declared.numbers.Endian.TheVariants.{Lsb, Msb}
 use Rattle.ice_values.specs.declared.severity.Severity.TheVariants.{CanContinue}
 use Rattle.ice_values.specs.declared.refusals.DecodeRefusal.TheVariants.{BadMinor}
-use Rattle.sm_world.specs.declared.events.SaveKind.TheVariants.{Global}
-use Rattle.sm_world.specs.declared.events.SaveStyle.TheVariants.{Nothing}
-use Rattle.sm_world.specs.declared.events.Dialog.TheVariants.{Normal}
+use Rattle.ice_values.specs.declared.saves.SaveKind.TheVariants.{Global}
+use Rattle.ice_values.specs.declared.saves.SaveStyle.TheVariants.{Nothing}
+use Rattle.ice_values.specs.declared.saves.Dialog.TheVariants.{Normal}
 use Rattle.ice_values.proofs.CellLaws.{IsBytes, length-known}
 use Rattle.ice_values.proofs.NumberLaws.{length-number_bytes}
 use Rattle.ice_values.proofs.FieldLaws.{nothing_exact}

@@ -8,8 +8,8 @@ use Rattle.ice_values.specs.Saves.{kind_number, kind_meaning, style_number, styl
 use Rattle.ice_values.specs.declared.numbers.Endian.{Endian}
 use Rattle.ice_values.specs.declared.numbers.Endian.TheVariants.{Lsb, Msb}
 use Rattle.ice_values.specs.declared.refusals.DecodeRefusal.{DecodeRefusal}
-use Rattle.sm_world.specs.declared.events.SaveKind.{SaveKind}
-use Rattle.sm_world.specs.declared.events.SaveStyle.{SaveStyle}
+use Rattle.ice_values.specs.declared.saves.SaveKind.{SaveKind}
+use Rattle.ice_values.specs.declared.saves.SaveStyle.{SaveStyle}
 use Rattle.ice_values.proofs.FieldLaws.{after, nothing_exact}
 use Rattle.ice_values.proofs.HeaderLaws.{Header, own_first, first_own}
 use Rattle.ice_values.proofs.BodyLaws.{Whole, whole, bind_length}

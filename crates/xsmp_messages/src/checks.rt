@@ -8,10 +8,9 @@ ghost use Rattle.xsmp_messages.specs.Reading.{save_yourself_at, save_yourself_re
 
 use crate::decoding::unit_body;
 use ice_values::{
-    Array8, Array8List, DecodeRefusal, Endian, PropertyList, Severity, check_body, no_body,
-    value_at,
+    Array8, Array8List, DecodeRefusal, Dialog, Endian, PropertyList, SaveKind, SaveStyle, Severity,
+    check_body, no_body, value_at,
 };
-use sm_world::{Dialog, SaveKind, SaveStyle};
 
 #[tactic(auto, unfolding(ice_values::specs::Frames::error_at, crate::specs::Reading::xsmp_error_at))]
 fn check_error(frame: &[u8]) -> Result<(), DecodeRefusal>

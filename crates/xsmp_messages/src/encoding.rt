@@ -9,7 +9,7 @@ use ice_values::{
     EncodeRefusal, Endian, Enumerated, Spelled, pad, put_bytes, put_card16, put_card32, put_error,
     put_zeros,
 };
-use sm_world::{NoMemory, Octets};
+use owned_lists::{NoMemory, Octets};
 
 /// The minor opcode of a message (XSMP, chapter 10: Messages).
 pub fn minor(message: &XsmpMessage) -> u8

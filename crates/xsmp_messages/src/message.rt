@@ -1,5 +1,4 @@
-use ice_values::{Array8, Array8List, ErrorBody, PropertyList};
-use sm_world::{Dialog, SaveKind, SaveStyle};
+use ice_values::{Array8, Array8List, Dialog, ErrorBody, PropertyList, SaveKind, SaveStyle};
 
 /// The last minor opcode: those from 0 to it are the messages (XSMP, chapter 10: Messages).
 pub const LAST_XSMP_MINOR: u8 = 18;

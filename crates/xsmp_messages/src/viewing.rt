@@ -8,7 +8,7 @@ use crate::checks::check_minor;
 use crate::refusals::without_memory;
 use crate::{ViewRefusal, XsmpMessage, XsmpView, decode_xsmp};
 use ice_values::{Endian, PropertyWalk, walk_properties};
-use sm_world::NoMemory;
+use owned_lists::NoMemory;
 use std::alloc::Global;
 
 /// The message that a frame spells, where it lies, in the order of the party that sent it. Its

@@ -4,7 +4,7 @@ ghost use Rattle.xsmp_properties.specs.Readers.{directory_in, directory_of as di
 use crate::PropertyTable;
 use crate::texts::{are_words, is_text, is_variable, values_of};
 use ice_values::Array8;
-use sm_world::{Command, Duplicate, NoMemory, Octets, OctetsList, PairList};
+use owned_lists::{Command, Duplicate, NoMemory, Octets, OctetsList, PairList};
 use std::alloc::Global;
 
 const LIST: &[u8] = b"LISTofARRAY8";

@@ -8,7 +8,7 @@ use crate::sizes::{TableSizes, property_size};
 use crate::texts::same_texts;
 use ice_values::{Array8, Property, PropertyList, PropertyWalk, Spelled};
 use indexmap::IndexMap;
-use sm_world::{Duplicate, NoMemory};
+use owned_lists::{Duplicate, NoMemory};
 use std::alloc::Global;
 use std::marker::Model;
 

@@ -1,7 +1,7 @@
 ghost use Rattle.std.specs.Prelude.{◌≡◌};
 ghost use Rattle.xsmp_properties.specs.declared.refusals.SetRefusal.TheVariants.{NoMemory as NoMemoryToSet};
 
-use sm_world::NoMemory;
+use owned_lists::NoMemory;
 
 /// Why properties aren't set.
 #[derive(Clone, Copy, Debug, PartialEq, Eq)]

@@ -7,7 +7,7 @@ ghost use Rattle.xsmp_properties.specs.declared.refusals.SetRefusal.TheVariants.
 use crate::SetRefusal;
 use crate::named::NamedProperties;
 use ice_values::{Array8List, Property, PropertyList, PropertyWalk};
-use sm_world::{Duplicate, NoMemory};
+use owned_lists::{Duplicate, NoMemory};
 use std::alloc::Global;
 use std::marker::Model;
 

@@ -1,6 +1,6 @@
 use Rattle.std.proofs.Common.{◌≡◌, ◌-◌, ◌<◌, ◌∙◌, ◌∷◌, [], false, true, refl, List, length, take, drop, sym, subst, arith}
 use Rattle.std.specs.List.{IsDistinct}
-use Rattle.sm_world.specs.declared.commands.Command.{Command}
+use Rattle.owned_lists.specs.declared.commands.Command.{Command}
 use Rattle.checkpoint_records.specs.Books.{same_command}
 use Rattle.checkpoint_records.proofs.DistinctLaws.{distinct_cons, distinct_nil, distinct_tail, first_and_rest}
 use Rattle.checkpoint_changes.proofs.rules.are_distinct.Goals as goal

@@ -1,5 +1,5 @@
 use Rattle.std.proofs.Common.{◌++◌, ◌∷◌, [], List, refl, subst, arith, length-append}
-use Rattle.sm_world.specs.declared.commands.Command.{Command}
+use Rattle.owned_lists.specs.declared.commands.Command.{Command}
 use Rattle.ice_values.specs.declared.numbers.Endian.TheVariants.{Lsb}
 use Rattle.checkpoint_records.specs.Parts.{ArePending}
 use Rattle.checkpoint_records.specs.Rules.{command_cells}

@@ -1,6 +1,6 @@
 use Rattle.std.proofs.Common.{rules, ◌≡◌, ◌∙◌, not}
 use Rattle.std.proofs.lemmas.Fn.{filter_same}
-use Rattle.sm_world.specs.declared.commands.Command.{Command}
+use Rattle.owned_lists.specs.declared.commands.Command.{Command}
 use Rattle.discard_ledger.specs.Discards.{is_among, without_commands}
 use Rattle.discard_ledger.proofs.ledger.Ledger.note.Goals as goal
 

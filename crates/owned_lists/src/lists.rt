@@ -1,6 +1,6 @@
 ghost use Rattle.std.specs.Prelude.{◌≡◌, List, [], ◌∷◌, ◌++◌, IfOk, OnOk, OnErr};
 
-use crate::{Command, Conn, Event, NoMemory, Octets};
+use crate::{Command, NoMemory, Octets};
 use std::alloc::Global;
 use std::marker::Model;
 
@@ -22,10 +22,6 @@ pub type OctetsList = ListOf<Octets>;
 pub type PairList = ListOf<(Octets, Octets)>;
 
 pub type CommandList = ListOf<Command>;
-
-pub type ConnList = ListOf<Conn>;
-
-pub type EventList = ListOf<Event>;
 
 pub type NumberList = ListOf<u64>;
 
@@ -86,8 +82,8 @@ impl<T: Duplicate + Drop> Duplicate for ListOf<T> {
     }
 }
 
-impl Duplicate for Conn {
-    fn copy(&self) -> Result<Conn, NoMemory> {
+impl Duplicate for u32 {
+    fn copy(&self) -> Result<u32, NoMemory> {
         Ok(*self)
     }
 }

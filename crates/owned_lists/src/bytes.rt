@@ -1,5 +1,5 @@
 ghost use Rattle.std.specs.Prelude.{◌≡◌, ◌≤◌, ◌+◌, List, ℕ, [], ◌++◌, length, take, IfOk, OnOk, OnErr};
-ghost use Rattle.sm_world.specs.Bytes.{overwritten};
+ghost use Rattle.owned_lists.specs.Bytes.{overwritten};
 
 use crate::{Duplicate, NoMemory};
 use std::alloc::Global;
