@@ -14,24 +14,32 @@ ghost use Rattle.byte_relay.specs.Respelling.{respelled, IsUnspelled, ReadsTurne
 /// Does nothing: its contract is a law of `respell`. What was respelled is read in its own order as what
 /// the frame said, and it is as long as the frame.
 pub fn what_was_respelled_is_decoded()
-    ensures read { (e : AnyEndian) (to : AnyEndian) (frame : List ℕ) (bytes : List ℕ) → IsFrame e frame → IsBytes frame → respelled e to frame ≡ Some bytes → ReadsTurned e to frame bytes }
-    ensures length { (e : AnyEndian) (to : AnyEndian) (frame : List ℕ) (bytes : List ℕ) → IsFrame e frame → IsBytes frame → respelled e to frame ≡ Some bytes → length bytes ≡ length frame }
+    ensures read { (e : AnyEndian) (to : AnyEndian) (frame : List ℕ) (bytes : List ℕ) →
+        IsFrame e frame → IsBytes frame → respelled e to frame ≡ Some bytes →
+        ReadsTurned e to frame bytes }
+    ensures length { (e : AnyEndian) (to : AnyEndian) (frame : List ℕ) (bytes : List ℕ) →
+        IsFrame e frame → IsBytes frame → respelled e to frame ≡ Some bytes →
+        length bytes ≡ length frame }
 {}
 
 /// Does nothing: its contract is a law of `respell`. There is nothing to append exactly where the frame
 /// spells no message.
 pub fn unspelled_frames_are_refused()
-    ensures { (e : AnyEndian) (to : AnyEndian) (frame : List ℕ) → IsFrame e frame → IsBytes frame → (respelled e to frame ≡ None) ↔ IsUnspelled e frame }
+    ensures { (e : AnyEndian) (to : AnyEndian) (frame : List ℕ) → IsFrame e frame → IsBytes frame →
+        (respelled e to frame ≡ None) ↔ IsUnspelled e frame }
 {}
 
 /// Does nothing: its contract is a law of `serve_relay`. What is passed on of some later frames of a
 /// stream is the front of these frames as they are in the other order: one for each, in their order.
 pub fn messages_are_passed_on_in_their_order()
-    ensures { (to : AnyEndian) (frames : List WholeFrame) → IsPrefix (map Some (passed to false (map Whole frames)).messages) (map (λ frame. respelled frame.endian to frame.bytes) frames) }
+    ensures { (to : AnyEndian) (frames : List WholeFrame) →
+        IsPrefix (map Some (passed to false (map Whole frames)).messages)
+        (map (λ frame. respelled frame.endian to frame.bytes) frames) }
 {}
 
 /// Does nothing: its contract is a law of `serve_relay`. What is taken for a ByteOrder is exactly what
 /// spells one.
 pub fn byte_orders_are_told_by_their_bytes()
-    ensures { (e : AnyEndian) (frame : List ℕ) → IsFrame e frame → IsBytes frame → IsTrue (is_byte_order e frame) ↔ ((order : AnyEndian) × Spells e (ByteOrder order) frame) }
+    ensures { (e : AnyEndian) (frame : List ℕ) → IsFrame e frame → IsBytes frame →
+        IsTrue (is_byte_order e frame) ↔ ((order : AnyEndian) × Spells e (ByteOrder order) frame) }
 {}

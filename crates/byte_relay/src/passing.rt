@@ -43,7 +43,8 @@ fn hand_on<W: Links>(
     taken: Taken,
     bytes: &[u8],
 ) -> Result<Pair, RelayFault>
-    ensures done { Does (W.outside world.old) (W.outside world.new) (done_about other taken bytes.now) result }
+    ensures done { Does (W.outside world.old) (W.outside world.new)
+        (done_about other taken bytes.now) result }
     ensures pair { IfOk result (λ pair. is_broken pair ≡ is_breaking taken) }
 {
     match taken {
@@ -64,8 +65,10 @@ pub fn pass<W: Links>(
     other: Conn,
     piece: &[u8],
 ) -> Result<Pair, RelayFault>
-    ensures done { Does (W.outside world.old) (W.outside world.new) (map (Sent other) (passed_on respeller.old.to row.old piece.now).messages) result }
-    ensures pair { IfOk result (λ pair. is_broken pair ≡ (passed_on respeller.old.to row.old piece.now).broken) }
+    ensures done { Does (W.outside world.old) (W.outside world.new)
+        (map (Sent other) (passed_on respeller.old.to row.old piece.now).messages) result }
+    ensures pair { IfOk result (λ pair. is_broken pair
+        ≡ (passed_on respeller.old.to row.old piece.now).broken) }
     ensures grows { IfOk result (λ pair. is_broken pair ≡ false → Grows row.old piece.now row.new) }
     ensures conn { row.new.conn ≡ row.old.conn }
     ensures to { respeller.new.to ≡ respeller.old.to }

@@ -43,7 +43,8 @@ fn greeting(order: Endian) -> [u8; 8]
 
 /// Tells both of a pair the order in which all numbers are written.
 fn greet<W: Links>(world: &mut W, order: Endian, low: Conn, high: Conn) -> Result<(), RelayFault>
-    ensures { Does (W.outside world.old) (W.outside world.new) (Sent low (greeting_in order) ∷ Sent high (greeting_in order) ∷ []) result }
+    ensures { Does (W.outside world.old) (W.outside world.new)
+        (Sent low (greeting_in order) ∷ Sent high (greeting_in order) ∷ []) result }
 {
     let bytes = greeting(order);
     match send(world, low, &bytes) {
@@ -83,7 +84,8 @@ impl Relay {
 
     /// The connection of a number, where it is live.
     fn live(&self, number: u64) -> Option<Conn>
-        ensures live { (lines : List Line) → ShowAll self.now.rows.items lines → is_some result ≡ is_live_in number lines }
+        ensures live { (lines : List Line) → ShowAll self.now.rows.items lines →
+            is_some result ≡ is_live_in number lines }
         ensures conn { IfSome result (λ conn. conn ≡ number) }
     {
         match place_of(&self.rows, number) {
@@ -93,14 +95,16 @@ impl Relay {
     }
 
     fn is_live(&self, conn: Conn) -> bool
-        ensures { (lines : List Line) → ShowAll self.now.rows.items lines → result ≡ is_live_in conn lines }
+        ensures { (lines : List Line) → ShowAll self.now.rows.items lines →
+            result ≡ is_live_in conn lines }
     {
         self.live(u64::from(conn)).is_some()
     }
 
     /// Makes a connection live.
     fn join(&mut self, conn: Conn) -> Result<(), NoMemory>
-        ensures shows { OnOk result ((lines : List Line) → ShowAll self.old.rows.items lines → ShowAll self.new.rows.items (lines ++ record { number = conn; stream = [] } ∷ [])) }
+        ensures shows { OnOk result ((lines : List Line) → ShowAll self.old.rows.items lines →
+            ShowAll self.new.rows.items (lines ++ record { number = conn; stream = [] } ∷ [])) }
         ensures order { self.new.respeller.to ≡ self.old.respeller.to }
     {
         let row = Row::new(self.alloc, conn)?;
@@ -120,14 +124,17 @@ impl Relay {
 
     /// Whether a new connection is refused.
     fn is_refused(&self, conn: Conn) -> bool
-        ensures { (lines : List Line) → ShowAll self.now.rows.items lines → result ≡ is_refused_in conn lines }
+        ensures { (lines : List Line) → ShowAll self.now.rows.items lines →
+            result ≡ is_refused_in conn lines }
     {
         conn == 0 || self.rows.len() >= LIVE_LIMIT
     }
 
     /// Does what a new connection brings.
     fn take_join<W: Links>(&mut self, world: &mut W, conn: Conn) -> Result<(), RelayFault>
-        ensures steps { StepsTo self.old.respeller.to (Joined conn) self.old.rows.items self.new.rows.items (W.outside world.old) (W.outside world.new) result }
+        ensures steps { StepsTo self.old.respeller.to
+            (Joined conn) self.old.rows.items self.new.rows.items (W.outside world.old)
+            (W.outside world.new) result }
         ensures order { self.new.respeller.to ≡ self.old.respeller.to }
     {
         if self.is_live(conn) {
@@ -178,7 +185,9 @@ impl Relay {
         conn: Conn,
         piece: &[u8],
     ) -> Result<(), RelayFault>
-        ensures steps { StepsTo self.old.respeller.to (Piece conn piece.now) self.old.rows.items self.new.rows.items (W.outside world.old) (W.outside world.new) result }
+        ensures steps { StepsTo self.old.respeller.to
+            (Piece conn piece.now) self.old.rows.items self.new.rows.items (W.outside world.old)
+            (W.outside world.new) result }
         ensures order { self.new.respeller.to ≡ self.old.respeller.to }
     {
         let Some(place) = place_of(&self.rows, u64::from(conn)) else {
@@ -203,7 +212,9 @@ impl Relay {
 
     /// Does what the end of a connection brings.
     fn take_end<W: Links>(&mut self, world: &mut W, conn: Conn) -> Result<(), RelayFault>
-        ensures steps { StepsTo self.old.respeller.to (Gone conn) self.old.rows.items self.new.rows.items (W.outside world.old) (W.outside world.new) result }
+        ensures steps { StepsTo self.old.respeller.to
+            (Gone conn) self.old.rows.items self.new.rows.items (W.outside world.old)
+            (W.outside world.new) result }
         ensures order { self.new.respeller.to ≡ self.old.respeller.to }
     {
         if !self.is_live(conn) {
@@ -219,7 +230,8 @@ impl Relay {
 
     /// Does all that an event brings.
     pub fn take<W: Links>(&mut self, world: &mut W, event: &Event) -> Result<(), RelayFault>
-        ensures steps { StepsTo self.old.respeller.to event.now self.old.rows.items self.new.rows.items (W.outside world.old) (W.outside world.new) result }
+        ensures steps { StepsTo self.old.respeller.to event.now self.old.rows.items
+            self.new.rows.items (W.outside world.old) (W.outside world.new) result }
         ensures order { self.new.respeller.to ≡ self.old.respeller.to }
     {
         match event {

@@ -72,7 +72,9 @@ impl Respeller {
         requires header { 8 ≤ length frame.now }
         requires later { first ≡ false → IsFrame endian frame.now }
         requires within { length frame.now ≤ byte_limit }
-        ensures taken { IfOk result (λ taken. brings self.old.to first (Whole (record { endian = endian; bytes = frame.now })) ≡ brought taken self.new.bytes) }
+        ensures taken { IfOk result (λ taken.
+            brings self.old.to first (Whole (record { endian = endian; bytes = frame.now }))
+            ≡ brought taken self.new.bytes) }
         ensures to { self.new.to ≡ self.old.to }
     {
         let order = is_byte_order(endian, frame);

@@ -44,7 +44,8 @@ fn respell_ice(
     requires opcode { slice_index frame.now 0 ≡ 0 }
     ensures ok { OnOk result (Appends endian to frame.now out.old out.new) }
     ensures err { OnErr result (out.new ≡ out.old) }
-    ensures unspelled { IsErrOf result RespellFault.Unspelled → respelled endian to frame.now ≡ None }
+    ensures unspelled { IsErrOf result RespellFault.Unspelled →
+        respelled endian to frame.now ≡ None }
 {
     let mut message = match decode_ice(alloc, endian, frame) {
         Ok(message) => message,
@@ -70,7 +71,8 @@ fn respell_xsmp(
     requires opcode { slice_index frame.now 0 ≢ 0 }
     ensures ok { OnOk result (Appends endian to frame.now out.old out.new) }
     ensures err { OnErr result (out.new ≡ out.old) }
-    ensures unspelled { IsErrOf result RespellFault.Unspelled → respelled endian to frame.now ≡ None }
+    ensures unspelled { IsErrOf result RespellFault.Unspelled →
+        respelled endian to frame.now ≡ None }
 {
     let mut message = match decode_xsmp(alloc, endian, frame) {
         Ok(message) => message,
@@ -104,7 +106,8 @@ pub fn respell(
     ensures ok { OnOk result (Appends endian to frame.now out.old out.new) }
     ensures err { OnErr result (out.new ≡ out.old) }
     // It is Unspelled only where the definition gives nothing, and then it isn't Ok.
-    ensures unspelled { IsErrOf result RespellFault.Unspelled → respelled endian to frame.now ≡ None }
+    ensures unspelled { IsErrOf result RespellFault.Unspelled →
+        respelled endian to frame.now ≡ None }
 {
     if frame[0] == 0 {
         respell_ice(alloc, endian, frame, to, out)

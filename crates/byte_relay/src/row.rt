@@ -57,7 +57,8 @@ impl Row {
 
     /// Takes the rest of a piece up to the end of the first part. `None` where it completes none.
     pub fn cut(&mut self, respeller: &mut Respeller, left: &[u8]) -> Result<Option<Cut>, NoMemory>
-        ensures cuts { IfOk result (λ cut. Cuts respeller.old.to self.old left.now cut respeller.new.bytes self.new) }
+        ensures cuts { IfOk result (λ cut.
+            Cuts respeller.old.to self.old left.now cut respeller.new.bytes self.new) }
         ensures some { IfOk result (λ cut. IfSome cut (λ part. 1 ≤ part.count)) }
         ensures within { IfOk result (λ cut. IfSome cut (λ part. part.count ≤ length left.now)) }
         ensures conn { self.new.conn ≡ self.old.conn }

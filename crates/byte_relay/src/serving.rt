@@ -12,11 +12,13 @@ use std::alloc::Global;
 
 /// The next event.
 fn hear<W: Links>(world: &mut W) -> Result<Event, RelayFault>
-    ensures effects { (W.outside world.new).told ≡ adds (W.outside world.old).told (of_ok Heard result) }
+    ensures effects { (W.outside world.new).told ≡ adds (W.outside world.old).told
+        (of_ok Heard result) }
     ensures coming { TakesNext (W.outside world.old).coming (W.outside world.new).coming result }
     ensures input { (W.outside world.new).input ≡ (W.outside world.old).input }
     ensures counts { NotFallen (W.outside world.old).faults (W.outside world.new).faults }
-    ensures cause { IfErr result (HasCause (W.outside world.old).faults (W.outside world.new).faults) }
+    ensures cause { IfErr result
+        (HasCause (W.outside world.old).faults (W.outside world.new).faults) }
     ensures of_links { IfErr result IsOfLinks }
 {
     match world.next() {
@@ -46,11 +48,13 @@ pub fn serve_relay<W: Links>(
     turns: u64,
 ) -> Result<(), RelayFault>
     // What it adds to the effects is the front of the run over the events that it was brought.
-    ensures relays { Added (W.outside world.old).told (W.outside world.new).told (Relays to turns (W.outside world.old).coming result) }
+    ensures relays { Added (W.outside world.old).told (W.outside world.new).told
+        (Relays to turns (W.outside world.old).coming result) }
     // The input is left alone.
     ensures input { (W.outside world.new).input ≡ (W.outside world.old).input }
     ensures counts { NotFallen (W.outside world.old).faults (W.outside world.new).faults }
-    ensures cause { IfErr result (HasCause (W.outside world.old).faults (W.outside world.new).faults) }
+    ensures cause { IfErr result
+        (HasCause (W.outside world.old).faults (W.outside world.new).faults) }
 {
     let mut relay = Relay::new(alloc, to);
     for _ in 0..turns {

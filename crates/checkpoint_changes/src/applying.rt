@@ -9,7 +9,11 @@ use owned_lists::{CommandList, NoMemory};
 
 /// The place of the first entry with this ID.
 fn place_of(entries: &[Entry], id: &[u8]) -> Option<usize>
-    ensures { MatchOption result (AllWithin (λ entry. bytes_eq entry.id id.now ≡ false) entries.now 0 (length entries.now)) (λ place. (place < length entries.now) × HoldsAt (λ entry. bytes_eq entry.id id.now ≡ true) entries.now place × AllWithin (λ entry. bytes_eq entry.id id.now ≡ false) entries.now 0 place) }
+    ensures { MatchOption result (AllWithin (λ entry.
+        bytes_eq entry.id id.now ≡ false) entries.now 0 (length entries.now)) (λ place.
+        (place < length entries.now) × HoldsAt (λ entry.
+        bytes_eq entry.id id.now ≡ true) entries.now place
+        × AllWithin (λ entry. bytes_eq entry.id id.now ≡ false) entries.now 0 place) }
 {
     entries.iter().position(|entry| entry.id.as_slice() == id)
 }

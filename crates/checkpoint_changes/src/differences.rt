@@ -59,8 +59,10 @@ fn change_epoch(old: u32, new: u32, delta: &mut Delta) -> Result<(), NoMemory>
 
 /// The next of these entries and those behind it, if it has this ID.
 fn next_with<'a>(id: &[u8], entries: &'a [Entry]) -> Option<(&'a Entry, &'a [Entry])>
-    ensures some { IfSome result (λ x. (entries.now ≡ x.0.now ∷ x.1.now) × (bytes_eq id.now x.0.now.id ≡ true)) }
-    ensures none { IfNone result ((entry : AnyEntry) (others : List AnyEntry) → entries.now ≡ entry ∷ others → bytes_eq id.now entry.id ≡ false) }
+    ensures some { IfSome result (λ x. (entries.now ≡ x.0.now ∷ x.1.now)
+        × (bytes_eq id.now x.0.now.id ≡ true)) }
+    ensures none { IfNone result ((entry : AnyEntry) (others : List AnyEntry) →
+        entries.now ≡ entry ∷ others → bytes_eq id.now entry.id ≡ false) }
 {
     let (entry, others) = entries.split_first()?;
     if id == entry.id.as_slice() {
@@ -72,7 +74,9 @@ fn next_with<'a>(id: &[u8], entries: &'a [Entry]) -> Option<(&'a Entry, &'a [Ent
 
 /// Puts an entry in the place of the one with its ID, unless they are equal.
 fn change_entry(old: &Entry, new: &Entry, delta: &mut Delta) -> Result<(), NoMemory>
-    ensures { OnOk result (delta.new ≡ delta.old ++ (if are_equal_entries old.now new.now then [] else (Put new.now ∷ []))) }
+    ensures { OnOk result
+        (delta.new ≡ delta.old ++ (if are_equal_entries old.now new.now then [] else
+        (Put new.now ∷ []))) }
 {
     if equal_entry(old, new) {
         return Ok(());
@@ -96,7 +100,8 @@ fn change_entries(old: &[Entry], new: &[Entry], delta: &mut Delta) -> Result<(),
     requires new_ids { IsDistinct bytes_eq (ids_of new.now) }
     requires old_fit { AllByRecursion (IsEntry 4294967295) old.now }
     requires new_fit { AllByRecursion (IsEntry 4294967295) new.now }
-    ensures { OnOk result ((added : List AnyChange) × (delta.new ≡ delta.old ++ added) × TurnsEntries old.now new.now added) }
+    ensures { OnOk result ((added : List AnyChange) × (delta.new ≡ delta.old ++ added)
+        × TurnsEntries old.now new.now added) }
 {
     let mut left = new;
     for entry in old {
@@ -113,8 +118,10 @@ fn change_entries(old: &[Entry], new: &[Entry], delta: &mut Delta) -> Result<(),
 
 /// Those behind the next of these commands, if it is equal to this one.
 fn behind_equal<'a>(command: &Command, commands: &'a [Command]) -> Option<&'a [Command]>
-    ensures some { IfSome result (λ others. (next : AnyCommand) × (commands.now ≡ next ∷ others.now) × (are_equal_commands command.now next ≡ true)) }
-    ensures none { IfNone result ((next : AnyCommand) (others : List AnyCommand) → commands.now ≡ next ∷ others → are_equal_commands command.now next ≡ false) }
+    ensures some { IfSome result (λ others. (next : AnyCommand) × (commands.now ≡ next ∷ others.now)
+        × (are_equal_commands command.now next ≡ true)) }
+    ensures none { IfNone result ((next : AnyCommand) (others : List AnyCommand) →
+        commands.now ≡ next ∷ others → are_equal_commands command.now next ≡ false) }
 {
     let (next, others) = commands.split_first()?;
     if equal_command(command, next) {
@@ -141,7 +148,8 @@ fn change_pending(old: &[Command], new: &[Command], delta: &mut Delta) -> Result
     requires fit { AllByRecursion IsCommand new.now }
     requires old_differ { IsDistinct same_command old.now }
     requires new_differ { IsDistinct same_command new.now }
-    ensures { OnOk result ((added : List AnyChange) × (delta.new ≡ delta.old ++ added) × TurnsPending old.now new.now added) }
+    ensures { OnOk result ((added : List AnyChange) × (delta.new ≡ delta.old ++ added)
+        × TurnsPending old.now new.now added) }
 {
     let mut left = new;
     let mut kept = 0_u32;
@@ -165,7 +173,8 @@ pub fn delta_of(alloc: Global, old: &Book, new: &Book) -> Result<Delta, NoMemory
     requires new_rules { KeepsRules new.now }
     ensures applies { IfOk result (λ delta. apply old.now delta ≡ Some new.now) }
     ensures changes { IfOk result (λ delta. AllByRecursion IsChange delta) }
-    ensures plain { IfOk result (λ delta. KeepOrder old.now new.now → IsPlain old.now new.now delta) }
+    ensures plain { IfOk result (λ delta. KeepOrder old.now new.now →
+        IsPlain old.now new.now delta) }
 {
     let mut delta = Delta::new(alloc);
     change_epoch(old.epoch, new.epoch, &mut delta)?;

@@ -142,8 +142,10 @@ fn is_fit_for(draft: &Draft, change: &Change) -> bool
 /// The draft after a change. None where it takes out what isn't there.
 pub(crate) fn changed(draft: Draft, change: Change) -> Result<Option<Draft>, NoMemory>
     requires { IsTrue draft.fits → FitTogether draft.book }
-    ensures book { IfOk result (λ next. option_map (λ draft. draft.book) next ≡ applied_to draft.book change) }
-    ensures fits { IfOk result (λ next. IfSome next (λ draft. IsTrue draft.fits → FitTogether draft.book)) }
+    ensures book { IfOk result (λ next. option_map (λ draft. draft.book) next
+        ≡ applied_to draft.book change) }
+    ensures fits { IfOk result (λ next.
+        IfSome next (λ draft. IsTrue draft.fits → FitTogether draft.book)) }
 {
     let fits = is_fit_for(&draft, &change);
     match applied(draft.book, change)? {

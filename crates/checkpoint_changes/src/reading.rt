@@ -26,8 +26,10 @@ fn is_at_end(bytes: &[u8]) -> bool
 /// The draft after all the changes that these bytes are.
 fn apply_all(alloc: Global, draft: Draft, bytes: &[u8]) -> Result<Option<Draft>, NoMemory>
     requires { IsTrue draft.fits → FitTogether draft.book }
-    ensures book { IfOk result (λ found. AppliesAll draft.book bytes.now (option_map (λ draft. draft.book) found)) }
-    ensures fits { IfOk result (λ found. IfSome found (λ draft. IsTrue draft.fits → FitTogether draft.book)) }
+    ensures book { IfOk result (λ found.
+        AppliesAll draft.book bytes.now (option_map (λ draft. draft.book) found)) }
+    ensures fits { IfOk result (λ found.
+        IfSome found (λ draft. IsTrue draft.fits → FitTogether draft.book)) }
 {
     let mut draft = draft;
     let mut left = bytes;
@@ -53,7 +55,8 @@ fn take_amendment(
 ) -> Result<Option<(Book, &[u8])>, NoMemory>
     requires rules { KeepsRules book }
     requires epoch { book.epoch < 2 ^ 32 }
-    ensures { IfOk result (λ found. TakesAmendment book bytes.now (option_map (λ x. (x.0, x.1.now)) found)) }
+    ensures { IfOk result (λ found.
+        TakesAmendment book bytes.now (option_map (λ x. (x.0, x.1.now)) found)) }
 {
     let Some((changes, rest)) = take_delta(bytes) else {
         return Ok(None);
@@ -78,7 +81,8 @@ fn read_on(alloc: Global, first: Book, bytes: &[u8]) -> Result<(Book, u32), Book
     requires epoch { first.epoch < 2 ^ 32 }
     requires few { length bytes.now < 2 ^ 32 }
     ensures book { IfOk result (λ x. ReadsOn change_cells IsChange first bytes.now x.0 x.1) }
-    ensures damaged { IfErr result (λ refusal. HasCause (StopsAt change_cells IsChange first bytes.now) refusal) }
+    ensures damaged { IfErr result (λ refusal.
+        HasCause (StopsAt change_cells IsChange first bytes.now) refusal) }
 {
     let mut book = first;
     let mut left = bytes;
@@ -108,7 +112,8 @@ pub fn read_slot(alloc: Global, bytes: &[u8], n: u32) -> Result<(Book, Option<u3
     requires size { length bytes.now ≤ 8388592 }
     ensures book { IfOk result (λ x. SlotReads bytes.now n (Ok x)) }
     ensures damaged { IfErr result (λ refusal. IsSlotRefused bytes.now n refusal) }
-    ensures exact { (answer : Result (AnyBook × Option ℕ) ℕ) → SlotReads bytes.now n answer → Gives result answer }
+    ensures exact { (answer : Result (AnyBook × Option ℕ) ℕ) → SlotReads bytes.now n answer →
+        Gives result answer }
 {
     let (front, behind) = bytes.split_at(n as usize);
     let first = match read_book(alloc, front) {

@@ -43,7 +43,8 @@ fn are_distinct(commands: &[Command]) -> bool
 
 /// Whether none of the commands is one that entries name.
 fn are_none_named(discards: &[Command], commands: &[Command]) -> bool
-    ensures { IsTrue result ↔ AllByRecursion (λ command. list_any (same_command command) discards.now ≡ false) commands.now }
+    ensures { IsTrue result ↔ AllByRecursion (λ command.
+        list_any (same_command command) discards.now ≡ false) commands.now }
 {
     commands.iter().all(|command| !is_named(discards, command))
 }

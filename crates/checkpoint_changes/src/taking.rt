@@ -15,7 +15,9 @@ use std::alloc::Global;
 pub(crate) const OPEN: u8 = 0xa5;
 
 fn take_remove(alloc: Global, bytes: &[u8]) -> Result<Option<(Change, &[u8])>, NoMemory>
-    ensures { IfOk result (λ found. Finds (λ change. zeros (part_cells change)) (IsOfCode 2) bytes.now (option_map (λ x. (x.0, x.1.now)) found)) }
+    ensures { IfOk result (λ found.
+        Finds (λ change. zeros (part_cells change)) (IsOfCode 2) bytes.now
+        (option_map (λ x. (x.0, x.1.now)) found)) }
 {
     match take_id(alloc, bytes)? {
         Some((id, rest)) => Ok(Some((Change::Remove(id), rest))),
@@ -24,7 +26,9 @@ fn take_remove(alloc: Global, bytes: &[u8]) -> Result<Option<(Change, &[u8])>, N
 }
 
 fn take_put(alloc: Global, bytes: &[u8]) -> Result<Option<(Change, &[u8])>, NoMemory>
-    ensures { IfOk result (λ found. Finds (λ change. zeros (part_cells change)) (IsOfCode 3) bytes.now (option_map (λ x. (x.0, x.1.now)) found)) }
+    ensures { IfOk result (λ found.
+        Finds (λ change. zeros (part_cells change)) (IsOfCode 3) bytes.now
+        (option_map (λ x. (x.0, x.1.now)) found)) }
 {
     match take_entry(alloc, u32::MAX, bytes)? {
         Some((entry, rest)) => Ok(Some((Change::Put(entry), rest))),
@@ -33,7 +37,9 @@ fn take_put(alloc: Global, bytes: &[u8]) -> Result<Option<(Change, &[u8])>, NoMe
 }
 
 fn take_pend(alloc: Global, bytes: &[u8]) -> Result<Option<(Change, &[u8])>, NoMemory>
-    ensures { IfOk result (λ found. Finds (λ change. zeros (part_cells change)) (IsOfCode 5) bytes.now (option_map (λ x. (x.0, x.1.now)) found)) }
+    ensures { IfOk result (λ found.
+        Finds (λ change. zeros (part_cells change)) (IsOfCode 5) bytes.now
+        (option_map (λ x. (x.0, x.1.now)) found)) }
 {
     match take_command(alloc, bytes)? {
         Some((command, rest)) => Ok(Some((Change::Pend(command), rest))),
@@ -44,7 +50,9 @@ fn take_pend(alloc: Global, bytes: &[u8]) -> Result<Option<(Change, &[u8])>, NoM
 /// The change of this code that has no number.
 fn take_part(alloc: Global, code: u32, bytes: &[u8]) -> Result<Option<(Change, &[u8])>, NoMemory>
     requires numbered { (code ≡ 1 → ⊥) × (code ≡ 4 → ⊥) }
-    ensures { IfOk result (λ found. Finds (λ change. zeros (part_cells change)) (IsOfCode code) bytes.now (option_map (λ x. (x.0, x.1.now)) found)) }
+    ensures { IfOk result (λ found.
+        Finds (λ change. zeros (part_cells change)) (IsOfCode code) bytes.now
+        (option_map (λ x. (x.0, x.1.now)) found)) }
 {
     if code == REMOVE {
         return take_remove(alloc, bytes);
@@ -65,7 +73,10 @@ fn take_behind(
     number: u32,
     bytes: &[u8],
 ) -> Result<Option<(Change, &[u8])>, NoMemory>
-    ensures { IfOk result (λ found. Finds (λ change. zeros (part_cells change)) (λ change. IsOfCode code change × (number_of change ≡ number)) bytes.now (option_map (λ x. (x.0, x.1.now)) found)) }
+    ensures { IfOk result (λ found.
+        Finds (λ change. zeros (part_cells change)) (λ change.
+        IsOfCode code change × (number_of change ≡ number)) bytes.now
+        (option_map (λ x. (x.0, x.1.now)) found)) }
 {
     if code == EPOCH {
         return Ok(Some((Change::Epoch(number), bytes)));
@@ -81,7 +92,9 @@ fn take_behind(
 
 /// The change at the front of the bytes, and what follows it.
 pub(crate) fn take_change(alloc: Global, bytes: &[u8]) -> Result<Option<(Change, &[u8])>, NoMemory>
-    ensures { IfOk result (λ found. Finds (λ change. zeros (change_cells change)) IsChange bytes.now (option_map (λ x. (x.0, x.1.now)) found)) }
+    ensures { IfOk result (λ found.
+        Finds (λ change. zeros (change_cells change)) IsChange bytes.now
+        (option_map (λ x. (x.0, x.1.now)) found)) }
 {
     let Some((code, rest)) = take_number(bytes) else {
         return Ok(None);
@@ -94,7 +107,8 @@ pub(crate) fn take_change(alloc: Global, bytes: &[u8]) -> Result<Option<(Change,
 
 /// The bytes of the delta of the amendment at the front, and what follows it.
 pub(crate) fn take_delta(bytes: &[u8]) -> Option<(&[u8], &[u8])>
-    ensures { Finds framed (λ delta. length delta < 2 ^ 32) bytes.now (option_map (λ x. (x.0.now, x.1.now)) result) }
+    ensures { Finds framed (λ delta. length delta < 2 ^ 32) bytes.now
+        (option_map (λ x. (x.0.now, x.1.now)) result) }
 {
     let (gate, rest) = take_number(bytes)?;
     if gate != OPEN as u32 {

@@ -59,7 +59,8 @@ fn behind_gate(alloc: Global, delta: &Delta) -> Result<Octets, NoMemory>
 fn put_behind<D: Disk>(disk: &mut D, gate: u64, tail: &[u8]) -> Result<(), Failed>
     requires size { (D.outside disk.old).size ≡ store_size }
     requires room { gate + 1 + length tail.now ≤ store_size }
-    ensures effects { Added (D.outside disk.old).told (D.outside disk.new).told (PutsAll ((gate + 1, tail.now) ∷ (gate, 165 ∷ []) ∷ []) result) }
+    ensures effects { Added (D.outside disk.old).told (D.outside disk.new).told
+        (PutsAll ((gate + 1, tail.now) ∷ (gate, 165 ∷ []) ∷ []) result) }
     ensures size { (D.outside disk.new).size ≡ (D.outside disk.old).size }
     ensures uses { UsesDisk (D.outside disk.old) (D.outside disk.new) (is_err result) }
 {
@@ -73,7 +74,8 @@ fn put_behind<D: Disk>(disk: &mut D, gate: u64, tail: &[u8]) -> Result<(), Faile
 fn put_book<D: Disk>(steady: Steady, disk: &mut D, body: &Octets) -> Result<Steady, StoreFault>
     requires size { (D.outside disk.old).size ≡ store_size }
     requires room { length body.now ≤ 8388608 }
-    ensures effects { Added (D.outside disk.old).told (D.outside disk.new).told (Compacted steady body.now result) }
+    ensures effects { Added (D.outside disk.old).told (D.outside disk.new).told
+        (Compacted steady body.now result) }
     ensures size { (D.outside disk.new).size ≡ (D.outside disk.old).size }
     ensures uses { UsesDisk (D.outside disk.old) (D.outside disk.new) (is_err result) }
     ensures cause { IfErr result (λ fault. fault ≡ FaultOfDisk) }
@@ -96,9 +98,11 @@ impl Journal {
         ensures told { (D.outside disk.new).told ≡ (D.outside disk.old).told }
         ensures size { IfOk result (λ recovered. (D.outside disk.new).size ≡ store_size) }
         ensures kept { KeepsToldSize (D.outside disk.old) (D.outside disk.new) }
-        ensures recovers { (file : List ℕ) → IsSettled (D.outside disk.old) file → IfOk result (λ recovered. SteadyFile recovered.0 recovered.1 file) }
+        ensures recovers { (file : List ℕ) → IsSettled (D.outside disk.old) file →
+            IfOk result (λ recovered. SteadyFile recovered.0 recovered.1 file) }
         ensures rules { IfOk result (λ recovered. KeepsRules recovered.1) }
-        ensures cause { IfErr result (IsRecoveryFault (D.outside disk.old) (D.outside disk.new).size) }
+        ensures cause { IfErr result
+            (IsRecoveryFault (D.outside disk.old) (D.outside disk.new).size) }
         ensures uses { UsesDisk (D.outside disk.old) (D.outside disk.new) (is_disk_fault result) }
     {
         match Steady::recover_from(alloc, disk) {
@@ -127,7 +131,8 @@ impl Journal {
     ) -> Result<Journal, (Option<Journal>, StoreFault)>
         requires size { (D.outside disk.old).size ≡ store_size }
         requires fits { HasRoomFor self (size_of delta.now) }
-        ensures effects { Added (D.outside disk.old).told (D.outside disk.new).told (Appends self delta.now result) }
+        ensures effects { Added (D.outside disk.old).told (D.outside disk.new).told
+            (Appends self delta.now result) }
         ensures worn { next_generation self ≡ 2 ^ 64 → result ≡ Err (Some self, IsWorn) }
         ensures numbered { HadNumber self result }
         ensures size { (D.outside disk.new).size ≡ (D.outside disk.old).size }
@@ -163,7 +168,8 @@ impl Journal {
     ) -> Result<Journal, (Option<Journal>, StoreFault)>
         requires size { (D.outside disk.old).size ≡ store_size }
         requires rules { KeepsRules book.now }
-        ensures effects { Added (D.outside disk.old).told (D.outside disk.new).told (Compacts self book.now result) }
+        ensures effects { Added (D.outside disk.old).told (D.outside disk.new).told
+            (Compacts self book.now result) }
         ensures worn { next_generation self ≡ 2 ^ 64 → result ≡ Err (Some self, IsWorn) }
         ensures numbered { HadNumber self result }
         ensures size { (D.outside disk.new).size ≡ (D.outside disk.old).size }

@@ -22,13 +22,19 @@ use std::alloc::Global;
 /// The ARRAY8 of an ID at the front, and what follows it. None where there is none, or one of more
 /// than 65,536 bytes.
 pub fn take_id(alloc: Global, bytes: &[u8]) -> Result<Option<(Array8, &[u8])>, NoMemory>
-    ensures { IfOk result (λ found. Finds (λ id. zeros (array8 Lsb id)) (λ id. IsArray8 id × (length (array8 Lsb id) ≤ 65536)) bytes.now (option_map (λ x. (x.0, x.1.now)) found)) }
+    ensures { IfOk result (λ found.
+        Finds (λ id. zeros (array8 Lsb id)) (λ id.
+        IsArray8 id × (length (array8 Lsb id) ≤ 65536)) bytes.now
+        (option_map (λ x. (x.0, x.1.now)) found)) }
 {
     take_zeroed(alloc, bytes)
 }
 
 fn take_properties(alloc: Global, bytes: &[u8]) -> Result<Option<(PropertyList, &[u8])>, NoMemory>
-    ensures { IfOk result (λ found. Finds (λ items. zeros (property_list Lsb items)) (λ items. IsListed IsProperty items × (length (property_list Lsb items) ≤ 65536)) bytes.now (option_map (λ x. (x.0, x.1.now)) found)) }
+    ensures { IfOk result (λ found.
+        Finds (λ items. zeros (property_list Lsb items)) (λ items.
+        IsListed IsProperty items × (length (property_list Lsb items) ≤ 65536)) bytes.now
+        (option_map (λ x. (x.0, x.1.now)) found)) }
 {
     take_zeroed(alloc, bytes)
 }
@@ -40,7 +46,9 @@ pub fn take_entry(
     epoch: u32,
     bytes: &[u8],
 ) -> Result<Option<(Entry, &[u8])>, NoMemory>
-    ensures { IfOk result (λ found. Finds (λ entry. zeros (entry_cells entry)) (IsEntry epoch) bytes.now (option_map (λ x. (x.0, x.1.now)) found)) }
+    ensures { IfOk result (λ found.
+        Finds (λ entry. zeros (entry_cells entry)) (IsEntry epoch) bytes.now
+        (option_map (λ x. (x.0, x.1.now)) found)) }
 {
     let (id, rest) = match take_id(alloc, bytes)? {
         Some(found) => found,
@@ -73,8 +81,11 @@ fn take_next<'a>(
     bytes: &'a [u8],
 ) -> Result<(Entry, &'a [u8]), Stop>
     requires { AreEntries epoch before.now }
-    ensures next { IfOk result (λ x. AreEntries epoch (before.now ++ x.0 ∷ []) × (bytes.now ≡ zeros (entry_cells x.0) ++ x.1.now)) }
-    ensures stop { IfErr result (λ stop. IsStop bytes.now (λ left. (left ≡ length bytes.now) × IsStuck entry_cells (AreEntries epoch) before.now bytes.now) stop) }
+    ensures next { IfOk result (λ x. AreEntries epoch (before.now ++ x.0 ∷ [])
+        × (bytes.now ≡ zeros (entry_cells x.0) ++ x.1.now)) }
+    ensures stop { IfErr result (λ stop.
+        IsStop bytes.now (λ left. (left ≡ length bytes.now)
+        × IsStuck entry_cells (AreEntries epoch) before.now bytes.now) stop) }
 {
     let left = bytes.len();
     match take_entry(alloc, epoch, bytes)? {
@@ -95,8 +106,10 @@ pub(crate) fn take_entries(
     count: u32,
     bytes: &[u8],
 ) -> Result<(EntryList, &[u8]), Stop>
-    ensures all { IfOk result (λ x. AreInFront entry_cells (AreEntries epoch) bytes.now x.0 x.1.now × (length x.0 ≡ count)) }
-    ensures early { IfErr result (λ stop. IsStop bytes.now (EndsEarly entry_cells (AreEntries epoch) bytes.now count) stop) }
+    ensures all { IfOk result (λ x. AreInFront entry_cells (AreEntries epoch) bytes.now x.0 x.1.now
+        × (length x.0 ≡ count)) }
+    ensures early { IfErr result (λ stop.
+        IsStop bytes.now (EndsEarly entry_cells (AreEntries epoch) bytes.now count) stop) }
 {
     let mut entries = EntryList::new(alloc);
     let mut rest = bytes;

@@ -28,7 +28,8 @@ pub(crate) struct Head {
 
 /// The CARD32 at the front, and what follows it.
 pub fn take_number(bytes: &[u8]) -> Option<(u32, &[u8])>
-    ensures { Finds (number_bytes Lsb 4) (λ n. n < 2 ^ 32) bytes.now (option_map (λ x. (x.0, x.1.now)) result) }
+    ensures { Finds (number_bytes Lsb 4) (λ n. n < 2 ^ 32) bytes.now
+        (option_map (λ x. (x.0, x.1.now)) result) }
 {
     if bytes.len() < 4 {
         return None;
@@ -39,7 +40,8 @@ pub fn take_number(bytes: &[u8]) -> Option<(u32, &[u8])>
 
 /// The head at the front, and what follows it.
 pub(crate) fn take_head(bytes: &[u8]) -> Option<(Head, &[u8])>
-    ensures { Finds (λ head. zeros (head_cells head.epoch head.entries head.pending)) IsHead bytes.now (option_map (λ x. (x.0, x.1.now)) result) }
+    ensures { Finds (λ head. zeros (head_cells head.epoch head.entries head.pending)) IsHead
+        bytes.now (option_map (λ x. (x.0, x.1.now)) result) }
 {
     let (format, rest) = take_number(bytes)?;
     let (epoch, rest) = take_number(rest)?;

@@ -25,8 +25,10 @@ fn take_hex8(text: &[u8]) -> Option<(u32, &[u8])>
 /// The epoch of an ID, which is `smd-`, the epoch and a number in eight lower-case hex digits each,
 /// with a dash between them.
 fn epoch_of(id: &[u8]) -> Option<u32>
-    ensures some { IfSome result (λ epoch. (number : ℕ) × (number < 2 ^ 32) × (id.now ≡ client_id epoch number)) }
-    ensures only { (epoch number : ℕ) → epoch < 2 ^ 32 → number < 2 ^ 32 → id.now ≡ client_id epoch number → result ≡ Some epoch }
+    ensures some { IfSome result (λ epoch. (number : ℕ) × (number < 2 ^ 32)
+        × (id.now ≡ client_id epoch number)) }
+    ensures only { (epoch number : ℕ) → epoch < 2 ^ 32 → number < 2 ^ 32 →
+        id.now ≡ client_id epoch number → result ≡ Some epoch }
 {
     let text = id.strip_prefix(b"smd-")?;
     let (epoch, text) = take_hex8(text)?;

@@ -21,13 +21,19 @@ use xsmp_properties::{are_words, command_of, in_pairs, is_environment, is_text};
 const BYTE_LIMIT: usize = 16_384;
 
 fn take_text(alloc: Global, bytes: &[u8]) -> Result<Option<(Array8, &[u8])>, NoMemory>
-    ensures { IfOk result (λ found. Finds (λ text. zeros (array8 Lsb text)) (λ text. IsArray8 text × (length (array8 Lsb text) ≤ 65536)) bytes.now (option_map (λ x. (x.0, x.1.now)) found)) }
+    ensures { IfOk result (λ found.
+        Finds (λ text. zeros (array8 Lsb text)) (λ text.
+        IsArray8 text × (length (array8 Lsb text) ≤ 65536)) bytes.now
+        (option_map (λ x. (x.0, x.1.now)) found)) }
 {
     take_zeroed(alloc, bytes)
 }
 
 fn take_list(alloc: Global, bytes: &[u8]) -> Result<Option<(Array8List, &[u8])>, NoMemory>
-    ensures { IfOk result (λ found. Finds (λ list. zeros (array8_list Lsb list)) (λ list. IsListed IsArray8 list × (length (array8_list Lsb list) ≤ 65536)) bytes.now (option_map (λ x. (x.0, x.1.now)) found)) }
+    ensures { IfOk result (λ found.
+        Finds (λ list. zeros (array8_list Lsb list)) (λ list.
+        IsListed IsArray8 list × (length (array8_list Lsb list) ≤ 65536)) bytes.now
+        (option_map (λ x. (x.0, x.1.now)) found)) }
 {
     take_zeroed(alloc, bytes)
 }
@@ -43,7 +49,9 @@ struct CommandFields {
 
 /// The fields at the front of the bytes, and what follows them.
 fn take_fields(alloc: Global, bytes: &[u8]) -> Result<Option<(CommandFields, &[u8])>, NoMemory>
-    ensures { IfOk result (λ found. Finds (λ fields. zeros (fields_cells fields)) HaveFieldSpelling bytes.now (option_map (λ x. (x.0, x.1.now)) found)) }
+    ensures { IfOk result (λ found.
+        Finds (λ fields. zeros (fields_cells fields)) HaveFieldSpelling bytes.now
+        (option_map (λ x. (x.0, x.1.now)) found)) }
 {
     let (words, rest) = match take_list(alloc, bytes)? {
         Some(found) => found,
@@ -77,7 +85,9 @@ fn are_of_command(fields: &CommandFields) -> bool
 /// The command at the front of the bytes, and what follows it. None where there is none as a table
 /// gives one, or one of more than 16,384 bytes.
 pub fn take_command(alloc: Global, bytes: &[u8]) -> Result<Option<(Command, &[u8])>, NoMemory>
-    ensures { IfOk result (λ found. Finds (λ command. zeros (command_cells Lsb command)) IsCommand bytes.now (option_map (λ x. (x.0, x.1.now)) found)) }
+    ensures { IfOk result (λ found.
+        Finds (λ command. zeros (command_cells Lsb command)) IsCommand bytes.now
+        (option_map (λ x. (x.0, x.1.now)) found)) }
 {
     let (fields, rest) = match take_fields(alloc, bytes)? {
         Some(found) => found,
@@ -133,8 +143,11 @@ fn take_next<'a>(
     bytes: &'a [u8],
 ) -> Result<(Command, &'a [u8]), Stop>
     requires { ArePending discards.now before.now }
-    ensures next { IfOk result (λ x. ArePending discards.now (before.now ++ x.0 ∷ []) × (bytes.now ≡ zeros (command_cells Lsb x.0) ++ x.1.now)) }
-    ensures stop { IfErr result (λ stop. IsStop bytes.now (λ left. (left ≡ length bytes.now) × IsStuck (command_cells Lsb) (ArePending discards.now) before.now bytes.now) stop) }
+    ensures next { IfOk result (λ x. ArePending discards.now (before.now ++ x.0 ∷ [])
+        × (bytes.now ≡ zeros (command_cells Lsb x.0) ++ x.1.now)) }
+    ensures stop { IfErr result (λ stop.
+        IsStop bytes.now (λ left. (left ≡ length bytes.now)
+        × IsStuck (command_cells Lsb) (ArePending discards.now) before.now bytes.now) stop) }
 {
     let left = bytes.len();
     match take_command(alloc, bytes)? {
@@ -157,8 +170,12 @@ fn take_beside<'a>(
     count: u32,
     bytes: &'a [u8],
 ) -> Result<(CommandList, &'a [u8]), Stop>
-    ensures all { IfOk result (λ x. AreInFront (command_cells Lsb) (ArePending discards.now) bytes.now x.0 x.1.now × (length x.0 ≡ count)) }
-    ensures early { IfErr result (λ stop. IsStop bytes.now (EndsEarly (command_cells Lsb) (ArePending discards.now) bytes.now count) stop) }
+    ensures all { IfOk result (λ x.
+        AreInFront (command_cells Lsb) (ArePending discards.now) bytes.now x.0 x.1.now
+        × (length x.0 ≡ count)) }
+    ensures early { IfErr result (λ stop.
+        IsStop bytes.now (EndsEarly (command_cells Lsb) (ArePending discards.now) bytes.now count)
+        stop) }
 {
     let mut pending = CommandList::new(alloc);
     let mut rest = bytes;
@@ -181,8 +198,12 @@ pub(crate) fn take_pending<'a>(
     count: u32,
     bytes: &'a [u8],
 ) -> Result<(CommandList, &'a [u8]), Stop>
-    ensures all { IfOk result (λ x. AreInFront (command_cells Lsb) (ArePending (discards entries.now)) bytes.now x.0 x.1.now × (length x.0 ≡ count)) }
-    ensures early { IfErr result (λ stop. IsStop bytes.now (EndsEarly (command_cells Lsb) (ArePending (discards entries.now)) bytes.now count) stop) }
+    ensures all { IfOk result (λ x.
+        AreInFront (command_cells Lsb) (ArePending (discards entries.now)) bytes.now x.0 x.1.now
+        × (length x.0 ≡ count)) }
+    ensures early { IfErr result (λ stop.
+        IsStop bytes.now (EndsEarly (command_cells Lsb)
+        (ArePending (discards entries.now)) bytes.now count) stop) }
 {
     let discards = discards_of(alloc, entries)?;
     take_beside(alloc, discards.as_slice(), count, bytes)

@@ -14,7 +14,8 @@ use std::alloc::Global;
 /// The book that bytes spell, or how many bytes are left at the place of the damage.
 fn read_parts(alloc: Global, bytes: &[u8]) -> Result<Book, Stop>
     ensures book { IfOk result (λ book. Spells bytes.now book) }
-    ensures stop { IfErr result (λ stop. IsStop bytes.now (λ left. IsDamaged bytes.now (length bytes.now - left)) stop) }
+    ensures stop { IfErr result (λ stop.
+        IsStop bytes.now (λ left. IsDamaged bytes.now (length bytes.now - left)) stop) }
 {
     let left = bytes.len();
     let (head, rest) = match take_head(bytes) {

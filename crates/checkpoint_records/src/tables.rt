@@ -39,7 +39,8 @@ pub(crate) fn table_of(
     alloc: Global,
     properties: &PropertyList,
 ) -> Result<Option<PropertyTable>, NoMemory>
-    ensures some { IfOk result (λ found. IfSome found (λ table. (table ≡ properties.now) × IsTable properties.now)) }
+    ensures some { IfOk result (λ found.
+        IfSome found (λ table. (table ≡ properties.now) × IsTable properties.now)) }
     ensures none { IfOk result (λ found. IfNone found (¬ (IsTable properties.now))) }
 {
     let items = properties.as_slice();

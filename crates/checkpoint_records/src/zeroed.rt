@@ -26,7 +26,9 @@ pub(crate) fn take_zeroed<T: Spelled>(
     bytes: &[u8],
 ) -> Result<Option<(T, &[u8])>, NoMemory>
     requires { Exact (T.cells Lsb) T.is_spelled (T.front Lsb) }
-    ensures { IfOk result (λ found. Finds (λ x. zeros (T.cells Lsb x)) (λ x. T.is_spelled x × (length (T.cells Lsb x) ≤ 65536)) bytes.now (option_map (λ x. (x.0, x.1.now)) found)) }
+    ensures { IfOk result (λ found.
+        Finds (λ x. zeros (T.cells Lsb x)) (λ x. T.is_spelled x × (length (T.cells Lsb x) ≤ 65536))
+        bytes.now (option_map (λ x. (x.0, x.1.now)) found)) }
 {
     let value = match T::take(alloc, Endian::Lsb, window(bytes)) {
         Ok((value, _)) => value,

@@ -24,7 +24,8 @@ const BOOK_BYTES: u32 = 8_388_584;
 /// Fills the buffer with the bytes at this place.
 fn read<D: Disk>(disk: &mut D, at: u64, into: &mut [u8]) -> Result<(), Failure>
     requires { at + length into.old ≤ (D.outside disk.old).size }
-    ensures bytes { Tells (D.outside disk.old) (λ file done. into.new ≡ take (length into.old) (drop at file)) result }
+    ensures bytes { Tells (D.outside disk.old) (λ file done.
+        into.new ≡ take (length into.old) (drop at file)) result }
     ensures world { Looks (D.outside disk.old) (D.outside disk.new) (has_failed result) }
 {
     disk.read_at(at, into)
@@ -33,7 +34,8 @@ fn read<D: Disk>(disk: &mut D, at: u64, into: &mut [u8]) -> Result<(), Failure>
 /// Whether the byte at this place is that of an open gate.
 fn is_open_at<D: Disk>(disk: &mut D, at: u64) -> Result<bool, Failure>
     requires { at + 1 ≤ (D.outside disk.old).size }
-    ensures open { Tells (D.outside disk.old) (λ file opened. opened ≡ opens (slice_index file at)) result }
+    ensures open { Tells (D.outside disk.old) (λ file opened.
+        opened ≡ opens (slice_index file at)) result }
     ensures world { Looks (D.outside disk.old) (D.outside disk.new) (has_failed result) }
 {
     let mut byte = [0; 1];
@@ -46,7 +48,8 @@ fn is_open_at<D: Disk>(disk: &mut D, at: u64) -> Result<bool, Failure>
 /// The generation of a slot.
 fn generation<D: Disk>(disk: &mut D, slot: Slot) -> Result<u64, Failure>
     requires { (D.outside disk.old).size ≡ store_size }
-    ensures number { Tells (D.outside disk.old) (λ file number. number ≡ generation_of (slot_of file slot)) result }
+    ensures number { Tells (D.outside disk.old) (λ file number.
+        number ≡ generation_of (slot_of file slot)) result }
     ensures world { Looks (D.outside disk.old) (D.outside disk.new) (has_failed result) }
 {
     let mut bytes = [0; 8];
@@ -59,7 +62,8 @@ fn generation<D: Disk>(disk: &mut D, slot: Slot) -> Result<u64, Failure>
 /// How many bytes the book of a slot has, as its head says.
 fn book_length<D: Disk>(disk: &mut D, slot: Slot) -> Result<u32, Failure>
     requires { (D.outside disk.old).size ≡ store_size }
-    ensures number { Tells (D.outside disk.old) (λ file number. number ≡ length_of (slot_of file slot)) result }
+    ensures number { Tells (D.outside disk.old) (λ file number.
+        number ≡ length_of (slot_of file slot)) result }
     ensures world { Looks (D.outside disk.old) (D.outside disk.new) (has_failed result) }
 {
     let mut bytes = [0; 4];
@@ -73,7 +77,8 @@ fn book_length<D: Disk>(disk: &mut D, slot: Slot) -> Result<u32, Failure>
 fn current<D: Disk>(disk: &mut D, slot: Slot) -> Result<Current, Failure>
     requires { (D.outside disk.old).size ≡ store_size }
     ensures slot { IfOk result (λ current. current.slot ≡ slot) }
-    ensures number { Tells (D.outside disk.old) (λ file current. current.generation ≡ generation_of (slot_of file slot)) result }
+    ensures number { Tells (D.outside disk.old) (λ file current.
+        current.generation ≡ generation_of (slot_of file slot)) result }
     ensures world { Looks (D.outside disk.old) (D.outside disk.new) (has_failed result) }
 {
     match generation(disk, slot) {
@@ -89,7 +94,9 @@ fn current<D: Disk>(disk: &mut D, slot: Slot) -> Result<Current, Failure>
 /// The slot with the greater generation, where both gates are open.
 fn newer<D: Disk>(disk: &mut D) -> Result<Current, StoreFault>
     requires { (D.outside disk.old).size ≡ store_size }
-    ensures found { Finds (D.outside disk.old) (λ file current. AreOpen file → HasCurrent (Some current) file) (λ file at. AreOpen file → chosen file ≡ Err at) result }
+    ensures found { Finds (D.outside disk.old) (λ file current.
+        AreOpen file → HasCurrent (Some current) file) (λ file at.
+        AreOpen file → chosen file ≡ Err at) result }
     ensures world { Looks (D.outside disk.old) (D.outside disk.new) (is_disk_fault result) }
 {
     let first = current(disk, Slot::First)?;
@@ -106,7 +113,8 @@ fn newer<D: Disk>(disk: &mut D) -> Result<Current, StoreFault>
 /// The slot that is current, by the gates; None where no gate is open.
 fn choose<D: Disk>(disk: &mut D) -> Result<Option<Current>, StoreFault>
     requires { (D.outside disk.old).size ≡ store_size }
-    ensures found { Finds (D.outside disk.old) (λ file current. HasCurrent current file) (λ file at. chosen file ≡ Err at) result }
+    ensures found { Finds (D.outside disk.old) (λ file current. HasCurrent current file) (λ file at.
+        chosen file ≡ Err at) result }
     ensures world { Looks (D.outside disk.old) (D.outside disk.new) (is_disk_fault result) }
 {
     let first = is_open_at(disk, Slot::First.gate())?;
@@ -128,7 +136,8 @@ fn read_bytes<D: Disk>(
 ) -> Result<Vec<u8>, StoreFault>
     requires { at + count ≤ (D.outside disk.old).size }
     ensures size { IfOk result (λ bytes. length bytes.items ≡ count) }
-    ensures found { Finds (D.outside disk.old) (λ file bytes. bytes.items ≡ take count (drop at file)) (λ file at. Never) result }
+    ensures found { Finds (D.outside disk.old) (λ file bytes.
+        bytes.items ≡ take count (drop at file)) (λ file at. Never) result }
     ensures world { Looks (D.outside disk.old) (D.outside disk.new) (is_disk_fault result) }
 {
     let Ok(mut bytes) = vec![in alloc; 0; count as usize] else {
@@ -177,7 +186,9 @@ fn read_chosen<D: Disk>(
     slot: Slot,
 ) -> Result<(Book, Option<u64>), StoreFault>
     requires { (D.outside disk.old).size ≡ store_size }
-    ensures found { Finds (D.outside disk.old) (λ file found. HasBook slot found.1 found.0 (slot_of file slot)) (λ file at. SlotStands (start_of slot) (slot_of file slot) (Err at)) result }
+    ensures found { Finds (D.outside disk.old) (λ file found.
+        HasBook slot found.1 found.0 (slot_of file slot)) (λ file at.
+        SlotStands (start_of slot) (slot_of file slot) (Err at)) result }
     ensures rules { IfOk result (λ found. KeepsRules found.0) }
     ensures world { Looks (D.outside disk.old) (D.outside disk.new) (is_disk_fault result) }
 {
@@ -204,9 +215,11 @@ impl Steady {
         ensures told { (D.outside disk.new).told ≡ (D.outside disk.old).told }
         ensures size { IfOk result (λ recovered. (D.outside disk.new).size ≡ store_size) }
         ensures kept { KeepsToldSize (D.outside disk.old) (D.outside disk.new) }
-        ensures recovers { (file : List ℕ) → IsSettled (D.outside disk.old) file → IfOk result (λ recovered. SteadyFile recovered.0 recovered.1 file) }
+        ensures recovers { (file : List ℕ) → IsSettled (D.outside disk.old) file →
+            IfOk result (λ recovered. SteadyFile recovered.0 recovered.1 file) }
         ensures rules { IfOk result (λ recovered. KeepsRules recovered.1) }
-        ensures cause { IfErr result (IsRecoveryFault (D.outside disk.old) (D.outside disk.new).size) }
+        ensures cause { IfErr result
+            (IsRecoveryFault (D.outside disk.old) (D.outside disk.new).size) }
         ensures uses { UsesDisk (D.outside disk.old) (D.outside disk.new) (is_disk_fault result) }
     {
         let size = disk.size()?;

@@ -102,7 +102,8 @@ fn next_current(current: Option<Current>, filled: u64) -> Current
 /// Writes these bytes and waits until they are on the disk, by one write and one sync.
 pub fn put<D: Disk>(disk: &mut D, at: u64, bytes: &[u8]) -> Result<(), Failed>
     requires { at + length bytes.now ≤ (D.outside disk.old).size }
-    ensures effects { Added (D.outside disk.old).told (D.outside disk.new).told (Puts at bytes.now result) }
+    ensures effects { Added (D.outside disk.old).told (D.outside disk.new).told
+        (Puts at bytes.now result) }
     ensures size { (D.outside disk.new).size ≡ (D.outside disk.old).size }
     ensures uses { UsesDisk (D.outside disk.old) (D.outside disk.new) (is_err result) }
 {
@@ -195,10 +196,12 @@ impl Steady {
     /// store whose generations are used up is Worn, which is tested first.
     pub fn spell(self, alloc: Global, book: &Book) -> Result<(Steady, Octets), (Steady, StoreFault)>
         requires { KeepsRules book.now }
-        ensures body { IfOk result (λ spelled. (spelled.0 ≡ self) × (spelled.1 ≡ slot_bytes (next_generation self) book.now)) }
+        ensures body { IfOk result (λ spelled. (spelled.0 ≡ self)
+            × (spelled.1 ≡ slot_bytes (next_generation self) book.now)) }
         ensures room { IfOk result (λ spelled. length spelled.1 ≤ 8388608) }
         ensures fits { IfOk result (λ spelled. next_generation self < 2 ^ 64) }
-        ensures cause { IfErr result (λ refused. (refused.0 ≡ self) × IsSpellFault (next_generation self) refused.1) }
+        ensures cause { IfErr result (λ refused. (refused.0 ≡ self)
+            × IsSpellFault (next_generation self) refused.1) }
         ensures worn { next_generation self ≡ 2 ^ 64 → result ≡ Err (self, IsWorn) }
     {
         let generation = match self.current {
@@ -218,7 +221,8 @@ impl Steady {
     /// be recovered anew.
     pub fn close<D: Disk>(self, disk: &mut D) -> Result<Closed, StoreFault>
         requires { (D.outside disk.old).size ≡ store_size }
-        ensures effects { Added (D.outside disk.old).told (D.outside disk.new).told (Closes self result) }
+        ensures effects { Added (D.outside disk.old).told (D.outside disk.new).told
+            (Closes self result) }
         ensures same { IfOk result (λ closed. closed ≡ self) }
         ensures size { (D.outside disk.new).size ≡ (D.outside disk.old).size }
         ensures uses { UsesDisk (D.outside disk.old) (D.outside disk.new) (is_err result) }
@@ -238,9 +242,11 @@ impl Closed {
     pub fn fill<D: Disk>(self, disk: &mut D, body: &Octets) -> Result<Filled, StoreFault>
         requires size { (D.outside disk.old).size ≡ store_size }
         requires room { length body.now ≤ 8388608 }
-        ensures effects { Added (D.outside disk.old).told (D.outside disk.new).told (Fills self body.now result) }
+        ensures effects { Added (D.outside disk.old).told (D.outside disk.new).told
+            (Fills self body.now result) }
         ensures same { IfOk result (λ filled. filled.0 ≡ self) }
-        ensures next { next_generation self < 2 ^ 64 → IfOk result (λ filled. filled.1 ≡ following self (length body.now)) }
+        ensures next { next_generation self < 2 ^ 64 →
+            IfOk result (λ filled. filled.1 ≡ following self (length body.now)) }
         ensures size { (D.outside disk.new).size ≡ (D.outside disk.old).size }
         ensures uses { UsesDisk (D.outside disk.old) (D.outside disk.new) (is_err result) }
         ensures cause { IfErr result (λ fault. fault ≡ FaultOfDisk) }
@@ -261,7 +267,8 @@ impl Filled {
     /// is the current one. After a fault the store must be recovered anew.
     pub fn lift<D: Disk>(self, disk: &mut D) -> Result<Steady, StoreFault>
         requires { (D.outside disk.old).size ≡ store_size }
-        ensures effects { Added (D.outside disk.old).told (D.outside disk.new).told (Lifts self result) }
+        ensures effects { Added (D.outside disk.old).told (D.outside disk.new).told
+            (Lifts self result) }
         ensures next { IfOk result (λ steady. steady ≡ Some self.1) }
         ensures size { (D.outside disk.new).size ≡ (D.outside disk.old).size }
         ensures uses { UsesDisk (D.outside disk.old) (D.outside disk.new) (is_err result) }

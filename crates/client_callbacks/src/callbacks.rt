@@ -25,7 +25,10 @@ pub trait Saves {
 }
 
 impl<F: FnMut(SaveAsk) -> SaveAnswer> Saves for F {
-    ghost lawful = { λ f. F.IsAlwaysCallable f × ((g : F) (ask : SaveAsk) (answer : SaveAnswer) (h : F) → F.step g ask answer h → IsLawful ask answer) };
+    ghost lawful = { λ f.
+        F.IsAlwaysCallable f
+        × ((g : F) (ask : SaveAsk) (answer : SaveAnswer) (h : F) → F.step g ask answer h →
+        IsLawful ask answer) };
 
     ghost answers = { λ f ask answer g. F.step f ask answer g };
 
@@ -50,7 +53,9 @@ pub trait Dies {
 }
 
 impl<F: FnMut() -> Array8List> Dies for F {
-    ghost lawful = { λ f. F.IsAlwaysCallable f × ((g : F) (reasons : List (List ℕ)) (h : F) → F.step g reasons h → AreFew reasons) };
+    ghost lawful = { λ f.
+        F.IsAlwaysCallable f
+        × ((g : F) (reasons : List (List ℕ)) (h : F) → F.step g reasons h → AreFew reasons) };
 
     ghost gives = { λ f reasons g. F.step f reasons g };
 

@@ -27,8 +27,12 @@ impl<S: Saves, D: Dies, C: Cancels> Joiner<S, D, C> {
         ask: SaveAsk,
     ) -> Result<(), Failure>
         requires { MayAnswer ask progress.old.core.talk.place }
-        ensures takes { Takes S.answers D.gives C.hears (desk (P.outside peer.old) progress.old.lines self.old) (desk (P.outside peer.new) progress.new.lines self.new) (answered (keeper_of progress.old) ask) (keeper_of progress.new) (failure_in result) }
-        ensures again { result ≡ Ok tt → (stage : Stage) → stage_again_spec ask.stage ≡ Some stage → MayAnswer (at_stage stage ask) progress.new.core.talk.place }
+        ensures takes { Takes S.answers D.gives C.hears
+            (desk (P.outside peer.old) progress.old.lines self.old)
+            (desk (P.outside peer.new) progress.new.lines self.new)
+            (answered (keeper_of progress.old) ask) (keeper_of progress.new) (failure_in result) }
+        ensures again { result ≡ Ok tt → (stage : Stage) → stage_again_spec ask.stage ≡ Some stage →
+            MayAnswer (at_stage stage ask) progress.new.core.talk.place }
         ensures splitter { progress.new.core.splitter ≡ progress.old.core.splitter }
     {
         let answer = self.ask(ask);
@@ -47,7 +51,10 @@ impl<S: Saves, D: Dies, C: Cancels> Joiner<S, D, C> {
         ask: SaveAsk,
     ) -> Result<(), Failure>
         requires { MayAnswer ask progress.old.core.talk.place }
-        ensures takes { Takes S.answers D.gives C.hears (desk (P.outside peer.old) progress.old.lines self.old) (desk (P.outside peer.new) progress.new.lines self.new) (saved (keeper_of progress.old) ask) (keeper_of progress.new) (failure_in result) }
+        ensures takes { Takes S.answers D.gives C.hears
+            (desk (P.outside peer.old) progress.old.lines self.old)
+            (desk (P.outside peer.new) progress.new.lines self.new)
+            (saved (keeper_of progress.old) ask) (keeper_of progress.new) (failure_in result) }
         ensures splitter { progress.new.core.splitter ≡ progress.old.core.splitter }
     {
         match self.answer_save(peer, progress, ask) {
@@ -62,7 +69,11 @@ impl<S: Saves, D: Dies, C: Cancels> Joiner<S, D, C> {
 
     /// Takes note that a save was cancelled, and answers it where the client owes that.
     fn cancel<P: Peer>(&mut self, peer: &mut P, progress: &mut Progress) -> Result<(), Failure>
-        ensures takes { Takes S.answers D.gives C.hears (desk (P.outside peer.old) progress.old.lines self.old) (desk (P.outside peer.new) progress.new.lines self.new) (λ (none : Unit {0}). cancelled (keeper_of progress.old) (owes (keeper_of progress.old))) (keeper_of progress.new) (failure_in result) }
+        ensures takes { Takes S.answers D.gives C.hears
+            (desk (P.outside peer.old) progress.old.lines self.old)
+            (desk (P.outside peer.new) progress.new.lines self.new) (λ (none : Unit {0}).
+            cancelled (keeper_of progress.old) (owes (keeper_of progress.old)))
+            (keeper_of progress.new) (failure_in result) }
         ensures splitter { progress.new.core.splitter ≡ progress.old.core.splitter }
     {
         match note(progress.alloc, &mut progress.lines, b"cancelled") {
@@ -79,7 +90,10 @@ impl<S: Saves, D: Dies, C: Cancels> Joiner<S, D, C> {
 
     /// Closes as the client is told to die.
     fn die<P: Peer>(&mut self, peer: &mut P, progress: &mut Progress) -> Result<(), Failure>
-        ensures takes { Takes S.answers D.gives C.hears (desk (P.outside peer.old) progress.old.lines self.old) (desk (P.outside peer.new) progress.new.lines self.new) (died (keeper_of progress.old)) (keeper_of progress.new) (failure_in result) }
+        ensures takes { Takes S.answers D.gives C.hears
+            (desk (P.outside peer.old) progress.old.lines self.old)
+            (desk (P.outside peer.new) progress.new.lines self.new) (died (keeper_of progress.old))
+            (keeper_of progress.new) (failure_in result) }
         ensures splitter { progress.new.core.splitter ≡ progress.old.core.splitter }
     {
         match note(progress.alloc, &mut progress.lines, b"died") {
@@ -93,7 +107,11 @@ impl<S: Saves, D: Dies, C: Cancels> Joiner<S, D, C> {
 
     /// One more save is complete.
     fn complete<P: Peer>(&mut self, peer: &mut P, progress: &mut Progress) -> Result<(), Failure>
-        ensures takes { Takes S.answers D.gives C.hears (desk (P.outside peer.old) progress.old.lines self.old) (desk (P.outside peer.new) progress.new.lines self.new) (λ (none : Unit {0}). completed (keeper_of progress.old) (progress.old.saves == 1)) (keeper_of progress.new) (failure_in result) }
+        ensures takes { Takes S.answers D.gives C.hears
+            (desk (P.outside peer.old) progress.old.lines self.old)
+            (desk (P.outside peer.new) progress.new.lines self.new) (λ (none : Unit {0}).
+            completed (keeper_of progress.old) (progress.old.saves == 1)) (keeper_of progress.new)
+            (failure_in result) }
         ensures splitter { progress.new.core.splitter ≡ progress.old.core.splitter }
     {
         match note(progress.alloc, &mut progress.lines, b"saved") {
@@ -117,7 +135,10 @@ impl<S: Saves, D: Dies, C: Cancels> Joiner<S, D, C> {
         cue: Cue,
     ) -> Result<(), Failure>
         requires { HasPlace cue progress.old.core.talk.place }
-        ensures takes { Takes S.answers D.gives C.hears (desk (P.outside peer.old) progress.old.lines self.old) (desk (P.outside peer.new) progress.new.lines self.new) (λ r. cued (keeper_of progress.old) r cue) (keeper_of progress.new) (failure_in result) }
+        ensures takes { Takes S.answers D.gives C.hears
+            (desk (P.outside peer.old) progress.old.lines self.old)
+            (desk (P.outside peer.new) progress.new.lines self.new) (λ r.
+            cued (keeper_of progress.old) r cue) (keeper_of progress.new) (failure_in result) }
         ensures splitter { progress.new.core.splitter ≡ progress.old.core.splitter }
     {
         match cue {

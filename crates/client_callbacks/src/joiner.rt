@@ -73,7 +73,8 @@ impl<S: Saves, D: Dies, C: Cancels> Joiner<S, D, C> {
 
     /// Asks how the client saves.
     pub(crate) fn ask(&mut self, ask: SaveAsk) -> SaveAnswer
-        ensures follows { Follows S.answers D.gives C.hears (AsksSave ask result ∷ []) self.old self.new }
+        ensures follows { Follows S.answers D.gives C.hears
+            (AsksSave ask result ∷ []) self.old self.new }
         ensures lawful { IsLawful ask result }
     {
         self.save.answer(ask)
@@ -81,7 +82,8 @@ impl<S: Saves, D: Dies, C: Cancels> Joiner<S, D, C> {
 
     /// Asks why the client closes.
     pub(crate) fn ask_reasons(&mut self) -> Array8List
-        ensures follows { Follows S.answers D.gives C.hears (AsksReasons result ∷ []) self.old self.new }
+        ensures follows { Follows S.answers D.gives C.hears
+            (AsksReasons result ∷ []) self.old self.new }
         ensures few { AreFew result }
     {
         self.die.reasons()
@@ -89,7 +91,8 @@ impl<S: Saves, D: Dies, C: Cancels> Joiner<S, D, C> {
 
     /// Tells that a save was cancelled.
     pub(crate) fn tell_cancelled(&mut self)
-        ensures follows { Follows S.answers D.gives C.hears (TellsCancelled ∷ []) self.old self.new }
+        ensures follows { Follows S.answers D.gives C.hears
+            (TellsCancelled ∷ []) self.old self.new }
     {
         self.cancelled.hear()
     }

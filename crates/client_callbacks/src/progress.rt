@@ -26,7 +26,8 @@ impl Progress {
     /// Before anything is said.
     pub fn begin(alloc: Global, join: &Join) -> Result<Progress, NoMemory>
         requires { length join.now.previous ≤ 512 }
-        ensures keeper { IfOk result (λ progress. keeper_of progress ≡ (start join.now.cookie join.now.previous join.now.saves).keeper) }
+        ensures keeper { IfOk result (λ progress. keeper_of progress
+            ≡ (start join.now.cookie join.now.previous join.now.saves).keeper) }
         ensures splitter { IfOk result (λ progress. progress.core.splitter ≡ beginning) }
         ensures lines { IfOk result (λ progress. progress.lines ≡ []) }
     {

@@ -31,8 +31,10 @@ fn room(alloc: Global) -> Result<Vec<u8>, NoMemory>
 /// Begins with ByteOrder.
 fn begin<P: Peer>(alloc: Global, peer: &mut P, join: &Join) -> Result<Progress, Failure>
     requires { length join.now.previous ≤ 512 }
-    ensures sends { Sends (P.outside peer.old) (P.outside peer.new) (Ice (ByteOrder Lsb) ∷ []) (failure_in result) }
-    ensures keeper { IfOk result (λ progress. keeper_of progress ≡ (start join.now.cookie join.now.previous join.now.saves).keeper) }
+    ensures sends { Sends (P.outside peer.old) (P.outside peer.new) (Ice (ByteOrder Lsb) ∷ [])
+        (failure_in result) }
+    ensures keeper { IfOk result (λ progress. keeper_of progress
+        ≡ (start join.now.cookie join.now.previous join.now.saves).keeper) }
     ensures splitter { IfOk result (λ progress. progress.core.splitter ≡ beginning) }
 {
     let progress = match Progress::begin(alloc, join) {
@@ -60,7 +62,11 @@ impl<S: Saves, D: Dies, C: Cancels> Joiner<S, D, C> {
         room: &mut [u8],
     ) -> Result<(), Failure>
         requires { length room.old ≡ 4096 }
-        ensures takes { (run : Run Keeper) → IsRun run progress.old → progress.old.ending ≡ None → TakesTurn S.answers D.gives C.hears (desk (P.outside peer.old) progress.old.lines self.old) (desk (P.outside peer.new) progress.new.lines self.new) run progress.new (failure_in result) }
+        ensures takes { (run : Run Keeper) → IsRun run progress.old → progress.old.ending ≡ None →
+            TakesTurn S.answers D.gives C.hears (desk
+            (P.outside peer.old) progress.old.lines self.old)
+            (desk (P.outside peer.new) progress.new.lines self.new) run progress.new
+            (failure_in result) }
         ensures room { length room.new ≡ 4096 }
     {
         let count = match peer.receive(room) {
@@ -83,7 +89,10 @@ impl<S: Saves, D: Dies, C: Cancels> Joiner<S, D, C> {
         turns: u64,
     ) -> Result<ClientEnd, JoinFault>
         requires { length room.old ≡ 4096 }
-        ensures { (run : Run Keeper) → IsRun run progress.old → progress.old.ending ≡ None → FollowsRun S.answers D.gives C.hears run turns (desk (P.outside peer.old) progress.old.lines self.old) (desk (P.outside peer.new) progress.new.lines self.new) result }
+        ensures { (run : Run Keeper) → IsRun run progress.old → progress.old.ending ≡ None →
+            FollowsRun S.answers D.gives C.hears run turns
+            (desk (P.outside peer.old) progress.old.lines self.old)
+            (desk (P.outside peer.new) progress.new.lines self.new) result }
     {
         for _ in 0..turns {
             match self.take_turn(peer, progress, room) {
@@ -109,7 +118,9 @@ impl<S: Saves, D: Dies, C: Cancels> Joiner<S, D, C> {
     ) -> Result<ClientEnd, JoinFault>
         requires saves { 1 ≤ join.old.saves }
         requires previous { length join.old.previous ≤ 512 }
-        ensures joins { Joins S.answers D.gives C.hears join.old.cookie join.old.previous join.old.saves turns (desk (P.outside peer.old) join.old.lines self.old) (desk (P.outside peer.new) join.new.lines self.new) result }
+        ensures joins { Joins S.answers D.gives C.hears join.old.cookie join.old.previous
+            join.old.saves turns (desk (P.outside peer.old) join.old.lines self.old)
+            (desk (P.outside peer.new) join.new.lines self.new) result }
         ensures kept { join.new ≡ record join.old { lines = join.new.lines } }
     {
         let mut room = match room(alloc) {

@@ -13,7 +13,8 @@ use std::alloc::Global;
 /// Sends a message.
 pub fn say<P: Peer>(alloc: Global, peer: &mut P, message: &Message) -> Result<(), Failure>
     requires { ¬ (IsTooLong message.now) }
-    ensures { Sends (P.outside peer.old) (P.outside peer.new) (message.now ∷ []) (failure_in result) }
+    ensures { Sends (P.outside peer.old) (P.outside peer.new) (message.now ∷ [])
+        (failure_in result) }
 {
     let mut bytes = Octets::new(alloc);
     match spell(message, &mut bytes) {

@@ -71,7 +71,8 @@ impl Core {
 
     /// The ID that the manager gave it; none before that, nor once it takes nothing more.
     pub fn id(&self) -> Option<&[u8]>
-        ensures { MatchOption result (id_at self.now.talk.place ≡ None) (λ id. id_at self.now.talk.place ≡ Some id.now) }
+        ensures { MatchOption result (id_at self.now.talk.place ≡ None) (λ id.
+            id_at self.now.talk.place ≡ Some id.now) }
     {
         match &self.talk.place {
             Place::Opening(_, _) => None,
@@ -114,7 +115,8 @@ impl Core {
         ensures said { IfOk result (λ said. said ≡ answer_messages answer) }
         ensures short { IfOk result AreShort }
         ensures talk { OnOk result (self.new.talk ≡ changed (after_answer answer) self.old.talk) }
-        ensures again { OnOk result ((stage : Stage) → stage_again_spec ask.stage ≡ Some stage → MayAnswer (at_stage stage ask) self.new.talk.place) }
+        ensures again { OnOk result ((stage : Stage) → stage_again_spec ask.stage ≡ Some stage →
+            MayAnswer (at_stage stage ask) self.new.talk.place) }
         ensures splitter { self.new.splitter ≡ self.old.splitter }
     {
         let SaveAnswer {
@@ -131,9 +133,12 @@ impl Core {
 
     /// Answers a save that was cancelled, where the client owes that.
     pub fn owed(&mut self, alloc: Global) -> Result<MessageList, NoMemory>
-        ensures said { IfOk result (λ said. said ≡ owed_messages (is_owing (phase_at self.old.talk.place))) }
+        ensures said { IfOk result (λ said.
+            said ≡ owed_messages (is_owing (phase_at self.old.talk.place))) }
         ensures short { IfOk result AreShort }
-        ensures talk { OnOk result (self.new.talk ≡ changed (after_owed (is_owing (phase_at self.old.talk.place))) self.old.talk) }
+        ensures talk { OnOk result
+            (self.new.talk ≡ changed (after_owed (is_owing (phase_at self.old.talk.place)))
+            self.old.talk) }
         ensures splitter { self.new.splitter ≡ self.old.splitter }
     {
         if self.phase() != ClientPhase::Owing {

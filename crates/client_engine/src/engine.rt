@@ -66,9 +66,11 @@ impl Core {
     pub fn cut(&mut self, alloc: Global, left: &[u8]) -> Result<Option<Taken>, NoMemory>
         ensures cuts { IfOk result (λ taken. Cuts self.old left.now taken self.new) }
         ensures said { IfOk result (λ taken. IfSome taken (λ part. AreShort part.said)) }
-        ensures asked { IfOk result (λ taken. IfSome taken (λ part. HasPlace part.cue self.new.talk.place)) }
+        ensures asked { IfOk result (λ taken.
+            IfSome taken (λ part. HasPlace part.cue self.new.talk.place)) }
         ensures some { IfOk result (λ taken. IfSome taken (λ part. 1 ≤ part.count)) }
-        ensures within { IfOk result (λ taken. IfSome taken (λ part. part.count ≤ length left.now)) }
+        ensures within { IfOk result (λ taken.
+            IfSome taken (λ part. part.count ≤ length left.now)) }
         ensures stopped { OnErr result (is_listening self.new.talk.place ≡ false) }
     {
         if !self.talk.place.is_listening() {

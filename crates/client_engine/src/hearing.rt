@@ -97,7 +97,9 @@ pub(crate) fn take_oversize(alloc: Global, talk: Talk) -> Heard
 pub(crate) fn take_frame(alloc: Global, talk: Talk, frame: Frame<'_>) -> Result<Heard, NoMemory>
     requires header { 8 ≤ length frame.bytes.now }
     requires short { HasShortId talk.place }
-    ensures heard { IfOk result (λ heard. heard ≡ part_heard talk (Whole (record { endian = frame.entry.endian; bytes = frame.entry.bytes.now }))) }
+    ensures heard { IfOk result (λ heard.
+        heard ≡ part_heard talk
+        (Whole (record { endian = frame.entry.endian; bytes = frame.entry.bytes.now }))) }
     ensures said { IfOk result (λ heard. AreShort heard.said) }
     ensures short { IfOk result (λ heard. HasShortId heard.next.place) }
     ensures asked { IfOk result (λ heard. HasPlace heard.cue heard.next.place) }

@@ -46,20 +46,28 @@ pub trait Keeps<W, N> {
 
     /// Takes the rest of a piece up to the end of its first part, as `Core::cut` does.
     fn cut(notes: &mut N, left: &[u8]) -> Result<Option<Taken>, Self::Fault>
-        ensures cuts { IfOk result (λ taken. Cuts (Self.core notes.old) left.now taken (Self.core notes.new)) }
+        ensures cuts { IfOk result (λ taken.
+            Cuts (Self.core notes.old) left.now taken (Self.core notes.new)) }
         ensures said { IfOk result (λ taken. IfSome taken (λ part. AreShort part.said)) }
-        ensures asked { IfOk result (λ taken. IfSome taken (λ part. HasPlace part.cue (Self.core notes.new).talk.place)) }
+        ensures asked { IfOk result (λ taken.
+            IfSome taken (λ part. HasPlace part.cue (Self.core notes.new).talk.place)) }
         ensures some { IfOk result (λ taken. IfSome taken (λ part. 1 ≤ part.count)) }
-        ensures within { IfOk result (λ taken. IfSome taken (λ part. part.count ≤ length left.now)) }
-        ensures keeper { Self.keeper notes.new ≡ Self.stand_at (Self.core notes.new).talk (Self.keeper notes.old) }
-        ensures desk { (self : Self) (to : W) → Self.desk self to notes.new ≡ Self.desk self to notes.old }
-        ensures never { IfErr result (λ fault. (d : Self.Desk) (line : List Self.Entry) → Self.carries d d line (Some fault)) };
+        ensures within { IfOk result (λ taken.
+            IfSome taken (λ part. part.count ≤ length left.now)) }
+        ensures keeper { Self.keeper notes.new ≡ Self.stand_at (Self.core notes.new).talk
+            (Self.keeper notes.old) }
+        ensures desk { (self : Self) (to : W) → Self.desk self to notes.new
+            ≡ Self.desk self to notes.old }
+        ensures never { IfErr result (λ fault. (d : Self.Desk) (line : List Self.Entry) →
+            Self.carries d d line (Some fault)) };
 
     /// Says what the client says by itself about a part of the stream, and does what its cue asks.
     fn serve(&mut self, to: &mut W, notes: &mut N, taken: Taken) -> Result<(), Self::Fault>
         requires short { AreShort taken.said }
         requires asked { HasPlace taken.cue (Self.core notes.old).talk.place }
-        ensures takes { Takes Self.carries (Self.desk self.old to.old notes.old) (Self.desk self.new to.new notes.new) (heeding Self.says Self.cued taken.said (Self.keeper notes.old) taken.cue) (Self.keeper notes.new) (fault_in result) }
+        ensures takes { Takes Self.carries (Self.desk self.old to.old notes.old)
+            (Self.desk self.new to.new notes.new) (heeding Self.says Self.cued taken.said
+            (Self.keeper notes.old) taken.cue) (Self.keeper notes.new) (fault_in result) }
         ensures splitter { (Self.core notes.new).splitter ≡ (Self.core notes.old).splitter };
 
     ghost talk_is: { (notes : N) → talk_of (keeper notes) ≡ (core notes).talk };
@@ -76,7 +84,11 @@ pub fn take_piece<W, N, K: Keeps<W, N>>(
 ) -> Result<(), K::Fault>
     requires composes { Composes K.carries }
     requires stops { StaysStopped K.unasked K.talk_of (reacting K.stand_at K.says K.cued) }
-    ensures { (run : Run K.Keeper) → IsRun K.talk_of run (K.keeper notes.old) (K.core notes.old).splitter → TakesPiece K.carries K.unasked K.talk_of (reacting K.stand_at K.says K.cued) (K.desk keeper.old to.old notes.old) (K.desk keeper.new to.new notes.new) run piece.now (K.keeper notes.new) (K.core notes.new).splitter (fault_in result) }
+    ensures { (run : Run K.Keeper) → IsRun K.talk_of run (K.keeper notes.old)
+        (K.core notes.old).splitter → TakesPiece K.carries K.unasked K.talk_of
+        (reacting K.stand_at K.says K.cued) (K.desk keeper.old to.old notes.old)
+        (K.desk keeper.new to.new notes.new) run piece.now (K.keeper notes.new)
+        (K.core notes.new).splitter (fault_in result) }
 {
     let mut left = piece;
     while !left.is_empty() {

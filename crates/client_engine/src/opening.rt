@@ -66,7 +66,8 @@ fn open_at(
 ) -> Result<Heard, NoMemory>
     requires short { length previous ≤ 512 }
     requires said { CanBeSaid answer }
-    ensures heard { IfOk result (λ heard. heard ≡ opening_at arrival previous opener (answer_of answer)) }
+    ensures heard { IfOk result (λ heard.
+        heard ≡ opening_at arrival previous opener (answer_of answer)) }
     ensures said { IfOk result (λ heard. AreShort heard.said) }
     ensures short { IfOk result (λ heard. HasShortId heard.next.place) }
     ensures asked { IfOk result (λ heard. HasPlace heard.cue heard.next.place) }
@@ -87,7 +88,8 @@ fn open_at(
 /// The client says its last answer, if there is one, and takes nothing more.
 fn stop(alloc: Global, arrival: Arrival, answer: Option<IceMessage>) -> Result<Heard, NoMemory>
     requires { CanBeSaid answer }
-    ensures heard { IfOk result (λ heard. heard ≡ saying (answer_of answer) arrival.counts Place.Stopped) }
+    ensures heard { IfOk result (λ heard.
+        heard ≡ saying (answer_of answer) arrival.counts Place.Stopped) }
     ensures said { IfOk result (λ heard. AreShort heard.said) }
     ensures short { IfOk result (λ heard. HasShortId heard.next.place) }
     ensures asked { IfOk result (λ heard. HasPlace heard.cue heard.next.place) }
@@ -125,7 +127,9 @@ fn open_by(
     message: IceMessage,
 ) -> Result<Heard, NoMemory>
     requires { length previous ≤ 512 }
-    ensures heard { IfOk result (λ heard. heard ≡ unless_fatal arrival (fatal_class_spec message) (opening_moved arrival previous (opened opener message arrival.offending.sequence))) }
+    ensures heard { IfOk result (λ heard.
+        heard ≡ unless_fatal arrival (fatal_class_spec message)
+        (opening_moved arrival previous (opened opener message arrival.offending.sequence))) }
     ensures said { IfOk result (λ heard. AreShort heard.said) }
     ensures short { IfOk result (λ heard. HasShortId heard.next.place) }
     ensures asked { IfOk result (λ heard. HasPlace heard.cue heard.next.place) }
@@ -194,7 +198,10 @@ pub(crate) fn take_ice(
     client: Client,
     message: IceMessage,
 ) -> Result<Heard, NoMemory>
-    ensures heard { IfOk result (λ heard. heard ≡ unless_fatal arrival (fatal_class_spec message) (joined_moved arrival joined client (opened (AnyOpener.Joined joined) message arrival.offending.sequence))) }
+    ensures heard { IfOk result (λ heard.
+        heard ≡ unless_fatal arrival (fatal_class_spec message)
+        (joined_moved arrival joined client
+        (opened (AnyOpener.Joined joined) message arrival.offending.sequence))) }
     ensures said { IfOk result (λ heard. AreShort heard.said) }
     ensures short { IfOk result (λ heard. HasShortId heard.next.place) }
     ensures asked { IfOk result (λ heard. HasPlace heard.cue heard.next.place) }

@@ -84,7 +84,9 @@ fn is_opcode(opcode: Option<u8>, major: u8) -> bool
 /// What a frame is to a client that knows this of the manager's opcode for XSMP.
 pub fn receive(alloc: Global, opcode: Option<u8>, frame: Frame<'_>) -> Result<Received, NoMemory>
     requires { 8 ≤ length frame.bytes.now }
-    ensures { IfOk result (λ received. received ≡ received_of opcode (record { endian = frame.entry.endian; bytes = frame.entry.bytes.now })) }
+    ensures { IfOk result (λ received.
+        received ≡ received_of opcode
+        (record { endian = frame.entry.endian; bytes = frame.entry.bytes.now })) }
 {
     if !is_whole(frame.endian, frame.bytes) {
         return Ok(Received::Unspelled);

@@ -63,7 +63,8 @@ fn take_xsmp(
     mut client: Client,
     message: XsmpMessage,
 ) -> Result<Heard, NoMemory>
-    ensures heard { IfOk result (λ heard. heard ≡ acted arrival joined (taken message client) (act_taken message client)) }
+    ensures heard { IfOk result (λ heard.
+        heard ≡ acted arrival joined (taken message client) (act_taken message client)) }
     ensures said { IfOk result (λ heard. AreShort heard.said) }
     ensures short { IfOk result (λ heard. HasShortId heard.next.place) }
     ensures asked { IfOk result (λ heard. HasPlace heard.cue heard.next.place) }

@@ -40,7 +40,8 @@ impl Client {
     /// A client that registers with the ID that it had in an earlier session, or with nothing, and
     /// the RegisterClient that it is to send.
     pub fn register(alloc: Global, previous: Array8) -> Result<(Client, XsmpMessage), NoMemory>
-        ensures client { IfOk result (λ r. r.0 ≡ record { phase = ClientPhase.Registering; id = previous; asked = first_ask }) }
+        ensures client { IfOk result (λ r.
+            r.0 ≡ record { phase = ClientPhase.Registering; id = previous; asked = first_ask }) }
         ensures message { IfOk result (λ r. r.1 ≡ RegisterClient previous) }
     {
         let message = XsmpMessage::RegisterClient {
@@ -168,8 +169,10 @@ impl Client {
     /// A SaveYourself.
     fn take_save(&mut self, ask: SaveAsk) -> ClientAct
         requires { ask.stage ≡ First }
-        ensures act { result ≡ act_taken (SaveYourself ask.kind ask.shutdown ask.style ask.fast) self.old }
-        ensures client { self.new ≡ taken (SaveYourself ask.kind ask.shutdown ask.style ask.fast) self.old }
+        ensures act { result ≡ act_taken (SaveYourself ask.kind ask.shutdown ask.style ask.fast)
+            self.old }
+        ensures client { self.new ≡ taken (SaveYourself ask.kind ask.shutdown ask.style ask.fast)
+            self.old }
     {
         if !self.phase.is_resting() {
             return ClientAct::Unexpected;

@@ -48,11 +48,13 @@ impl MemPeer {
         failing: NumberList,
     ) -> Result<MemPeer, NoMemory>
         ensures told { IfOk result (λ peer. (peer_outside peer).told ≡ Some []) }
-        ensures faults { IfOk result (λ peer. (peer_outside peer).faults ≡ record { disk = 0; links = 0; spawner = 0; console = 0 }) }
+        ensures faults { IfOk result (λ peer. (peer_outside peer).faults
+            ≡ record { disk = 0; links = 0; spawner = 0; console = 0 }) }
         ensures files { IfOk result (λ peer. (peer_outside peer).files ≡ Some files) }
         ensures pieces { IfOk result (λ peer. peer_pieces peer ≡ filter is_solid pieces) }
         ensures last { IfOk result (λ peer. (peer_calls peer).last ≡ 0) }
-        ensures failing { IfOk result (λ peer. (number : ℕ) → Contains (peer_calls peer).failing number ↔ Contains failing number) }
+        ensures failing { IfOk result (λ peer. (number : ℕ) →
+            Contains (peer_calls peer).failing number ↔ Contains failing number) }
     {
         Ok(MemPeer {
             alloc,
@@ -88,7 +90,12 @@ impl MemPeer {
     fn call_links(&mut self) -> Result<(), Failed>
         ensures fails { IsErr result ↔ Contains self.new.calls.failing self.new.calls.last }
         ensures ok { OnOk result (self.new ≡ record self.old { calls = counted self.old.calls }) }
-        ensures err { OnErr result (self.new ≡ record self.old { calls = counted self.old.calls; faults = record self.old.faults { links = one_more self.old.faults.links } }) }
+        ensures err { OnErr result
+            (self.new ≡ record self.old {
+              calls = counted self.old.calls;
+              faults = record self.old.faults
+                  { links = one_more self.old.faults.links };
+            }) }
         ensures rose { OnErr result (Rose self.old.faults.links self.new.faults.links) }
         ensures counts { self.old.faults.links ≤ self.new.faults.links }
     {
@@ -123,9 +130,15 @@ impl MemPeer {
     /// Counts a fetch, and refuses it where its number fails or no file can be fetched.
     #[tactic(auto, using(sm_world::proofs::Counting::rises))]
     fn call_fetch(&mut self, path: &[u8]) -> Result<(), Failed>
-        ensures fails { IsErr result ↔ Contains self.new.calls.failing self.new.calls.last ⊎ (fits (file_at path.now self.old.files) ≡ false) }
+        ensures fails { IsErr result ↔ Contains self.new.calls.failing self.new.calls.last
+            ⊎ (fits (file_at path.now self.old.files) ≡ false) }
         ensures ok { OnOk result (self.new ≡ record self.old { calls = counted self.old.calls }) }
-        ensures err { OnErr result (self.new ≡ record self.old { calls = counted self.old.calls; faults = record self.old.faults { links = one_more self.old.faults.links } }) }
+        ensures err { OnErr result
+            (self.new ≡ record self.old {
+              calls = counted self.old.calls;
+              faults = record self.old.faults
+                  { links = one_more self.old.faults.links };
+            }) }
         ensures rose { OnErr result (Rose self.old.faults.links self.new.faults.links) }
         ensures counts { self.old.faults.links ≤ self.new.faults.links }
     {
@@ -141,7 +154,12 @@ impl MemPeer {
     fn call_console(&mut self) -> Result<(), Failed>
         ensures fails { IsErr result ↔ Contains self.new.calls.failing self.new.calls.last }
         ensures ok { OnOk result (self.new ≡ record self.old { calls = counted self.old.calls }) }
-        ensures err { OnErr result (self.new ≡ record self.old { calls = counted self.old.calls; faults = record self.old.faults { console = one_more self.old.faults.console } }) }
+        ensures err { OnErr result
+            (self.new ≡ record self.old {
+              calls = counted self.old.calls;
+              faults = record self.old.faults
+                  { console = one_more self.old.faults.console };
+            }) }
         ensures rose { OnErr result (Rose self.old.faults.console self.new.faults.console) }
         ensures counts { self.old.faults.console ≤ self.new.faults.console }
     {
@@ -183,7 +201,8 @@ impl Peer for MemPeer {
         ensures coming { (peer_outside self.new).coming ≡ (peer_outside self.old).coming }
         ensures uses { UsesLinks (peer_outside self.old) (peer_outside self.new) result }
         ensures pieces { peer_pieces self.new ≡ peer_pieces self.old }
-        ensures numbered { FailsByNumber (λ faults. faults.links) self.old self.new (has_failed result) }
+        ensures numbered { FailsByNumber (λ faults.
+            faults.links) self.old self.new (has_failed result) }
     {
         self.call_links()?;
         Ok(())
@@ -194,13 +213,18 @@ impl Peer for MemPeer {
         requires few { length into.old ≤ 65536 }
         ensures within { IfOk result (λ n. n ≤ length into.old) }
         ensures rest { IfOk result (λ n. drop n into.new ≡ drop n into.old) }
-        ensures effects { (peer_outside self.new).told ≡ adds (peer_outside self.old).told (of_ok (λ n. Heard (received (take n into.new))) result) }
+        ensures effects { (peer_outside self.new).told
+            ≡ adds (peer_outside self.old).told (of_ok (λ n.
+            Heard (received (take n into.new))) result) }
         ensures coming { (peer_outside self.new).coming ≡ (peer_outside self.old).coming }
         ensures uses { UsesLinks (peer_outside self.old) (peer_outside self.new) result }
-        ensures part { IfOk result (λ n. take n into.new ≡ part (length into.old) (peer_pieces self.old)) }
-        ensures pieces { OnOk result (peer_pieces self.new ≡ after_part (length into.old) (peer_pieces self.old)) }
+        ensures part { IfOk result (λ n. take n into.new
+            ≡ part (length into.old) (peer_pieces self.old)) }
+        ensures pieces { OnOk result (peer_pieces self.new
+            ≡ after_part (length into.old) (peer_pieces self.old)) }
         ensures kept { OnErr result (peer_pieces self.new ≡ peer_pieces self.old) }
-        ensures numbered { FailsByNumber (λ faults. faults.links) self.old self.new (has_failed result) }
+        ensures numbered { FailsByNumber (λ faults.
+            faults.links) self.old self.new (has_failed result) }
     {
         self.call_links()?;
         let bytes = self.pieces.upcoming(self.alloc, into.len())?;
@@ -209,11 +233,13 @@ impl Peer for MemPeer {
     }
 
     fn deliver(&mut self, bytes: &[u8]) -> Result<(), Failure>
-        ensures effects { (peer_outside self.new).told ≡ adds (peer_outside self.old).told (on_ok result (Sent 0 bytes.now ∷ [])) }
+        ensures effects { (peer_outside self.new).told
+            ≡ adds (peer_outside self.old).told (on_ok result (Sent 0 bytes.now ∷ [])) }
         ensures coming { (peer_outside self.new).coming ≡ (peer_outside self.old).coming }
         ensures uses { UsesLinks (peer_outside self.old) (peer_outside self.new) result }
         ensures pieces { peer_pieces self.new ≡ peer_pieces self.old }
-        ensures numbered { FailsByNumber (λ faults. faults.links) self.old self.new (has_failed result) }
+        ensures numbered { FailsByNumber (λ faults.
+            faults.links) self.old self.new (has_failed result) }
     {
         self.call_links()?;
         let bytes = self.octets(bytes)?;
@@ -244,21 +270,25 @@ impl Console for MemPeer {
     fn read(&mut self, into: &mut [u8]) -> Result<usize, Failure>
         ensures within { IfOk result (λ n. n ≤ length into.old) }
         ensures effects { (peer_outside self.new).told ≡ (peer_outside self.old).told }
-        ensures input { Reads (peer_outside self.old).input (peer_outside self.new).input into.old into.new result }
+        ensures input { Reads (peer_outside self.old).input
+            (peer_outside self.new).input into.old into.new result }
         ensures uses { UsesConsole (peer_outside self.old) (peer_outside self.new) result }
         ensures pieces { peer_pieces self.new ≡ peer_pieces self.old }
-        ensures numbered { FailsByNumber (λ faults. faults.console) self.old self.new (has_failed result) }
+        ensures numbered { FailsByNumber (λ faults.
+            faults.console) self.old self.new (has_failed result) }
     {
         self.call_console()?;
         Ok(0)
     }
 
     fn print(&mut self, bytes: &[u8]) -> Result<(), Failure>
-        ensures effects { (peer_outside self.new).told ≡ adds (peer_outside self.old).told (on_ok result (Printed bytes.now ∷ [])) }
+        ensures effects { (peer_outside self.new).told
+            ≡ adds (peer_outside self.old).told (on_ok result (Printed bytes.now ∷ [])) }
         ensures input { (peer_outside self.new).input ≡ (peer_outside self.old).input }
         ensures uses { UsesConsole (peer_outside self.old) (peer_outside self.new) result }
         ensures pieces { peer_pieces self.new ≡ peer_pieces self.old }
-        ensures numbered { FailsByNumber (λ faults. faults.console) self.old self.new (has_failed result) }
+        ensures numbered { FailsByNumber (λ faults.
+            faults.console) self.old self.new (has_failed result) }
     {
         self.call_console()?;
         let bytes = self.octets(bytes)?;

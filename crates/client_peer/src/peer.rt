@@ -25,13 +25,16 @@ pub trait Peer: Told {
         requires few { length into.old ≤ 65536 }
         ensures within { IfOk result (λ n. n ≤ length into.old) }
         ensures rest { IfOk result (λ n. drop n into.new ≡ drop n into.old) }
-        ensures effects { (Self.outside self.new).told ≡ adds (Self.outside self.old).told (of_ok (λ n. Heard (received (take n into.new))) result) }
+        ensures effects { (Self.outside self.new).told
+            ≡ adds (Self.outside self.old).told (of_ok (λ n.
+            Heard (received (take n into.new))) result) }
         ensures coming { (Self.outside self.new).coming ≡ (Self.outside self.old).coming }
         ensures uses { UsesLinks (Self.outside self.old) (Self.outside self.new) result };
 
     /// Sends all of these bytes to the manager.
     fn deliver(&mut self, bytes: &[u8]) -> Result<(), Failure>
-        ensures effects { (Self.outside self.new).told ≡ adds (Self.outside self.old).told (on_ok result (Sent 0 bytes.now ∷ [])) }
+        ensures effects { (Self.outside self.new).told
+            ≡ adds (Self.outside self.old).told (on_ok result (Sent 0 bytes.now ∷ [])) }
         ensures coming { (Self.outside self.new).coming ≡ (Self.outside self.old).coming }
         ensures uses { UsesLinks (Self.outside self.old) (Self.outside self.new) result };
 

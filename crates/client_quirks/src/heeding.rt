@@ -65,7 +65,8 @@ fn may_mean(speech: Speech, endian: Endian, frame: &[u8]) -> bool
 /// Whether a frame may change what is known of a logout, or how its sender is understood.
 fn may_answer(heard: Heard, endian: Endian, frame: &[u8]) -> bool
     requires { 8 ≤ length frame.now }
-    ensures { result ≡ may_answer heard.speech heard.stage (record { endian = endian; bytes = frame.now }) }
+    ensures { result ≡ may_answer heard.speech heard.stage
+        (record { endian = endian; bytes = frame.now }) }
 {
     let speech = heard.speech;
     let turns = speech.may_turn(endian, frame);

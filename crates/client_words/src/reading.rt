@@ -24,8 +24,10 @@ pub enum WordsRefusal {
 /// What `clap` finds in the words.
 fn find_matches<'a>(alloc: Global, words: &'a [String]) -> Result<ArgMatches<'a>, WordsRefusal>
     ensures read { IfOk result (λ m. fault_of client_app (map string_bytes words.entry.now) ≡ []) }
-    ensures rows { IfOk result (λ m. rows_of (found_of m) ≡ matches_of client_app (map string_bytes words.entry.now)) }
-    ensures bad { IsErrOf result AreRefused → fault_of client_app (map string_bytes words.entry.now) ≢ [] }
+    ensures rows { IfOk result (λ m. rows_of (found_of m)
+        ≡ matches_of client_app (map string_bytes words.entry.now)) }
+    ensures bad { IsErrOf result AreRefused → fault_of client_app
+        (map string_bytes words.entry.now) ≢ [] }
 {
     let command = match client_command(alloc) {
         Ok(command) => command,
@@ -57,7 +59,8 @@ fn text<'a>(matches: &ArgMatches<'a>, name: &str) -> Option<&'a str>
 
 /// The value of an option, and this one where it is left out.
 fn text_or<'a>(matches: &ArgMatches<'a>, name: &str, other: &'a str) -> &'a str
-    ensures { result.now ≡ unwrap_or (first_of name.now (rows_of (found_of matches.now))) other.entry.now }
+    ensures { result.now ≡ unwrap_or (first_of name.now (rows_of (found_of matches.now)))
+        other.entry.now }
 {
     match text(matches, name) {
         Some(text) => text,

@@ -10,7 +10,9 @@ use std::alloc::Global;
 
 /// The number that a field spells: decimal, below 2^64, without leading zeros.
 pub fn read_number(alloc: Global, field: &[u8]) -> Result<Option<u64>, NoMemory>
-    ensures { IfOk result (λ number. MatchOption number ((n : ℕ) → n < 2 ^ 64 → field.now ≢ decimal n) (λ n. field.now ≡ decimal n)) }
+    ensures { IfOk result (λ number.
+        MatchOption number ((n : ℕ) → n < 2 ^ 64 → field.now ≢ decimal n) (λ n.
+        field.now ≡ decimal n)) }
 {
     let Ok(text) = str::from_utf8(field) else {
         return Ok(None);
@@ -28,7 +30,9 @@ pub fn read_number(alloc: Global, field: &[u8]) -> Result<Option<u64>, NoMemory>
 
 /// The number of a connection that a field spells: decimal, below 2^32, without leading zeros.
 pub fn read_conn(alloc: Global, field: &[u8]) -> Result<Option<Conn>, NoMemory>
-    ensures { IfOk result (λ number. MatchOption number ((n : ℕ) → n < 2 ^ 32 → field.now ≢ decimal n) (λ n. field.now ≡ decimal n)) }
+    ensures { IfOk result (λ number.
+        MatchOption number ((n : ℕ) → n < 2 ^ 32 → field.now ≢ decimal n) (λ n.
+        field.now ≡ decimal n)) }
 {
     let Some(number) = read_number(alloc, field)? else {
         return Ok(None);
@@ -41,7 +45,9 @@ pub fn read_conn(alloc: Global, field: &[u8]) -> Result<Option<Conn>, NoMemory>
 
 /// The bytes that a field spells in hex of either case, of which there is at least one.
 pub fn read_hex(alloc: Global, field: &[u8]) -> Result<Option<Octets>, NoMemory>
-    ensures { IfOk result (λ bytes. MatchOption bytes ((bytes : List ℕ) → ¬ (IsHex field.now bytes)) (λ bytes. IsHex field.now bytes)) }
+    ensures { IfOk result (λ bytes.
+        MatchOption bytes ((bytes : List ℕ) → ¬ (IsHex field.now bytes)) (λ bytes.
+        IsHex field.now bytes)) }
 {
     match hex::decode(alloc, field) {
         Ok(bytes) => {
@@ -57,7 +63,9 @@ pub fn read_hex(alloc: Global, field: &[u8]) -> Result<Option<Octets>, NoMemory>
 
 /// The number of a connection, a space, and its bytes in hex.
 pub fn read_bytes(alloc: Global, fields: &[u8]) -> Result<Option<(Conn, Octets)>, NoMemory>
-    ensures { IfOk result (λ found. MatchOption found ((n : ℕ) (bytes : List ℕ) → ¬ (SaysBytes fields.now n bytes)) (λ found. SaysBytes fields.now found.0 found.1)) }
+    ensures { IfOk result (λ found.
+        MatchOption found ((n : ℕ) (bytes : List ℕ) → ¬ (SaysBytes fields.now n bytes)) (λ found.
+        SaysBytes fields.now found.0 found.1)) }
 {
     let Some((number, text)) = split_once(fields, b' ') else {
         return Ok(None);

@@ -4,7 +4,8 @@ ghost use Rattle.control_lines.specs.Parts.{IsWithout, SplitsOnce};
 
 /// What stands before the first such byte, and what stands after it; `None` where there is none.
 pub fn split_once(bytes: &[u8], byte: u8) -> Option<(&[u8], &[u8])>
-    ensures { MatchOption result (IsWithout byte bytes.now) (λ parts. SplitsOnce byte bytes.now parts.0.now parts.1.now) }
+    ensures { MatchOption result (IsWithout byte bytes.now) (λ parts.
+        SplitsOnce byte bytes.now parts.0.now parts.1.now) }
 {
     for (i, b) in bytes.iter().enumerate() {
         if *b == byte {

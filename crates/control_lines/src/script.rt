@@ -22,7 +22,9 @@ pub fn read_script_line(alloc: Global, line: &[u8]) -> Result<Option<Event>, Ord
 
 /// The number of a connection and the bytes of a piece, of which there are at most 65,536.
 fn read_piece(alloc: Global, fields: &[u8]) -> Result<Option<(Conn, Octets)>, NoMemory>
-    ensures { IfOk result (λ found. MatchOption found ((n : ℕ) (bytes : List ℕ) → ¬ (SaysPiece fields.now n bytes)) (λ found. SaysPiece fields.now found.0 found.1)) }
+    ensures { IfOk result (λ found.
+        MatchOption found ((n : ℕ) (bytes : List ℕ) → ¬ (SaysPiece fields.now n bytes)) (λ found.
+        SaysPiece fields.now found.0 found.1)) }
 {
     let Some((conn, bytes)) = read_bytes(alloc, fields)? else {
         return Ok(None);

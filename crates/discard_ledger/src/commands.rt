@@ -33,7 +33,8 @@ fn add_commands(
     commands: &[Command],
     gone: &[Command],
 ) -> Result<(), NoMemory>
-    ensures { OnOk result (list.new ≡ with_commands list.old (without_commands gone.now commands.now)) }
+    ensures { OnOk result
+        (list.new ≡ with_commands list.old (without_commands gone.now commands.now)) }
 {
     for command in commands {
         if !is_among(command, gone) && !is_among(command, list.as_slice()) {
@@ -51,7 +52,8 @@ pub(crate) fn each_once(
     third: &[Command],
     gone: &[Command],
 ) -> Result<CommandList, NoMemory>
-    ensures { IfOk result (λ list. list ≡ all_once (without_commands gone.now (first.now ++ second.now ++ third.now))) }
+    ensures { IfOk result (λ list.
+        list ≡ all_once (without_commands gone.now (first.now ++ second.now ++ third.now))) }
 {
     let mut list = CommandList::new(alloc);
     add_commands(&mut list, first, gone)?;

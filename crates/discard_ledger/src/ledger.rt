@@ -43,7 +43,8 @@ impl Ledger {
     /// the book names it, or the same command is pending or a stray already, or there are 128
     /// strays. A refused call changes nothing.
     pub fn stray(&mut self, command: Command, book: &Book) -> Result<(), NoMemory>
-        ensures strays { OnOk result (self.new.strays ≡ with_stray book.now self.old.pending self.old.strays command) }
+        ensures strays { OnOk result (self.new.strays
+            ≡ with_stray book.now self.old.pending self.old.strays command) }
         ensures pending { self.new.pending ≡ self.old.pending }
         ensures err { OnErr result (self.new ≡ self.old) }
     {
@@ -61,7 +62,8 @@ impl Ledger {
     /// of the old book's entries, then the strays, each once, and without what the new book names.
     /// There are no strays then. A refused call changes nothing.
     pub fn retire(&mut self, old: &Book, new: &Book) -> Result<(), NoMemory>
-        ensures pending { OnOk result (self.new.pending ≡ next_pending self.old.pending old.now.entries self.old.strays new.now.entries) }
+        ensures pending { OnOk result (self.new.pending
+            ≡ next_pending self.old.pending old.now.entries self.old.strays new.now.entries) }
         ensures strays { OnOk result (self.new.strays ≡ []) }
         ensures err { OnErr result (self.new ≡ self.old) }
     {
@@ -99,13 +101,15 @@ impl Ledger {
 
     /// Whether the same command is pending or a stray.
     fn keeps(&self, command: &Command) -> bool
-        ensures { result ≡ (stands_in command.now self.now.pending || stands_in command.now self.now.strays) }
+        ensures { result
+            ≡ (stands_in command.now self.now.pending || stands_in command.now self.now.strays) }
     {
         is_among(command, self.pending.as_slice()) || is_among(command, &self.strays)
     }
 
     fn next_pending(&self, old: &Book, new: &Book) -> Result<CommandList, NoMemory>
-        ensures { IfOk result (λ commands. commands ≡ next_pending self.now.pending old.now.entries self.now.strays new.now.entries) }
+        ensures { IfOk result (λ commands. commands
+            ≡ next_pending self.now.pending old.now.entries self.now.strays new.now.entries) }
     {
         let alloc = *self.strays.allocator();
         let discards = discards_of(alloc, old.entries.as_slice())?;

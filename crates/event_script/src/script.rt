@@ -47,7 +47,8 @@ fn take_line(
     line: &[u8],
     taken: Taken,
 ) -> Result<(), OrderRefusal>
-    ensures taken { OnOk result ((said : List Event) × SayAll (line.now ∷ []) said × AllByRecursion (IsTaken taken) said × (events.new ≡ events.old ++ said)) }
+    ensures taken { OnOk result ((said : List Event) × SayAll (line.now ∷ []) said
+        × AllByRecursion (IsTaken taken) said × (events.new ≡ events.old ++ said)) }
     ensures refused { IfErr result (IsRefusal (GivesTaken taken line.now)) }
 {
     match read_script_line(alloc, line)? {

@@ -27,7 +27,8 @@ impl Model for FrameCutter {
 
     ghost view = { λ cutter. cutter.rest };
 
-    ghost invariant = { λ cutter. (cutter.order ≡ cutter.rest.order) × (cutter.held ≡ length cutter.rest.held) };
+    ghost invariant = { λ cutter. (cutter.order ≡ cutter.rest.order)
+        × (cutter.held ≡ length cutter.rest.held) };
 }
 
 /// What a piece brought.

@@ -15,7 +15,8 @@ pub trait Heeds {
     /// Whether a frame may be one of those.
     fn heeds(&self, endian: Endian, frame: &[u8]) -> bool
         requires { 8 ≤ length frame.now }
-        ensures { result ≡ false → ignores self.now (record { endian = endian; bytes = frame.now }) };
+        ensures { result ≡ false → ignores self.now
+            (record { endian = endian; bytes = frame.now }) };
 }
 
 /// Whether a frame may say something of its sender.

@@ -12,7 +12,8 @@ use ice_values::{Endian, PropertyWalk, walk_properties};
 /// A walk over the list of properties that a body is. None where it is none.
 fn walk_body(endian: Endian, frame: &[u8]) -> Option<PropertyWalk<'_>>
     requires { 8 ≤ length frame.now }
-    ensures { WalksOf endian (set_in (setting_by (body_at (property_list_at endian) frame.now))) result }
+    ensures { WalksOf endian (set_in (setting_by (body_at (property_list_at endian) frame.now)))
+        result }
 {
     let (_, body) = frame.split_at(8);
     match walk_properties(endian, body) {
@@ -32,7 +33,8 @@ impl Speech {
     /// or isn't understood. This takes no memory.
     pub fn settings(self, endian: Endian, frame: &[u8]) -> Option<PropertyWalk<'_>>
         requires { 8 ≤ length frame.now }
-        ensures { WalksOf endian (set_in (reading_of self (record { endian = endian; bytes = frame.now }))) result }
+        ensures { WalksOf endian
+            (set_in (reading_of self (record { endian = endian; bytes = frame.now }))) result }
     {
         if self.says(12, frame) {
             walk_body(endian, frame)

@@ -28,7 +28,8 @@ impl CutStream {
 
     /// The frames that these bytes make whole. After NoMemory nothing more is cut.
     pub fn take(&mut self, alloc: Global, bytes: &[u8]) -> Result<WholeFrameList, NoMemory>
-        ensures { IfOk result (λ frames. (stream : List ℕ) → IsAt stream self.old → Cuts stream bytes.now frames self.new) }
+        ensures { IfOk result (λ frames. (stream : List ℕ) → IsAt stream self.old →
+            Cuts stream bytes.now frames self.new) }
     {
         match self.rest.take() {
             Some(cutter) => {
@@ -54,7 +55,8 @@ impl CutStream {
 
     /// Whether a header stated too much, behind which nothing is cut.
     pub fn has_ended(&self) -> bool
-        ensures { (stream : List ℕ) → IsAt stream self.now → result ≡ is_oversize (standing_of stream) }
+        ensures { (stream : List ℕ) → IsAt stream self.now →
+            result ≡ is_oversize (standing_of stream) }
     {
         self.rest.is_none()
     }

@@ -41,7 +41,8 @@ fn take_entry(alloc: Global, bytes: &[u8]) -> Result<(AuthorityEntry, &[u8]), Va
 
 /// The entry at the front, and what follows it. None where the bytes begin with no whole entry.
 fn take_whole(alloc: Global, bytes: &[u8]) -> Result<Option<(AuthorityEntry, &[u8])>, NoMemory>
-    ensures some { IfOk result (λ found. IfSome found (λ x. HasSpelling x.0 × (bytes.now ≡ entry_bytes x.0 ++ x.1.now))) }
+    ensures some { IfOk result (λ found.
+        IfSome found (λ x. HasSpelling x.0 × (bytes.now ≡ entry_bytes x.0 ++ x.1.now))) }
     ensures none { IfOk result (λ found. IfNone found (HasNoFront bytes.now)) }
 {
     match take_entry(alloc, bytes) {
@@ -57,7 +58,8 @@ fn take_whole(alloc: Global, bytes: &[u8]) -> Result<Option<(AuthorityEntry, &[u
 pub fn read_authority(alloc: Global, bytes: &[u8]) -> Result<AuthorityList, AuthorityRefusal>
     ensures entries { IfOk result (λ entries. Spells bytes.now entries) }
     ensures short { IfErr result (λ refusal. IsRefused bytes.now refusal) }
-    ensures exact { (answer : Result (List AnyEntry) ℕ) → StandFor bytes.now answer → Gives result answer }
+    ensures exact { (answer : Result (List AnyEntry) ℕ) → StandFor bytes.now answer →
+        Gives result answer }
 {
     let mut entries = AuthorityList::new(alloc);
     let mut rest = bytes;

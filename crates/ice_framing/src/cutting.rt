@@ -50,8 +50,10 @@ pub fn cut_piece(
 ) -> Result<Option<Oversize>, NoMemory>
     requires no_frame { IsPartial splitter.old }
     requires not_oversize { units splitter.old ≤ unit_limit }
-    ensures frames { OnOk result (frames.new ≡ frames.old ++ (cut (fed splitter.old piece.now)).frames) }
-    ensures stands { IfOk result (λ oversize. StandsAt (cut (fed splitter.old piece.now)).standing splitter.new oversize) }
+    ensures frames { OnOk result
+        (frames.new ≡ frames.old ++ (cut (fed splitter.old piece.now)).frames) }
+    ensures stands { IfOk result (λ oversize.
+        StandsAt (cut (fed splitter.old piece.now)).standing splitter.new oversize) }
 {
     let mut rest = piece;
     while !rest.is_empty() {
@@ -77,7 +79,9 @@ pub fn cut_pieces(
     ensures frames { OnOk result (frames.new ≡ frames.old ++ frames_of (concat pieces.now)) }
     ensures end { IfOk result (λ oversize. EndsIn (standing_of (concat pieces.now)) oversize) }
     // What is meant by them: one behind the other they are the stream, each as long as it states.
-    ensures made { OnOk result (IsMadeOf (concat pieces.now) (frames_of (concat pieces.now)) (standing_of (concat pieces.now))) }
+    ensures made { OnOk result
+        (IsMadeOf (concat pieces.now) (frames_of (concat pieces.now))
+        (standing_of (concat pieces.now))) }
 {
     let mut splitter = Splitter::new(alloc)?;
     for piece in pieces {

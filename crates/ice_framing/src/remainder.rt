@@ -55,7 +55,8 @@ fn take_frames(
 ) -> Result<Front, NoMemory>
     ensures cut { IfOk result (λ front. behind frames.new (uncut (record { order = front.order; held = drop front.taken bytes.now }))
         ≡ behind frames.old (cut (record { order = order; held = bytes.now }))) }
-    ensures none { IfOk result (λ front. has_frame (record { order = front.order; held = drop front.taken bytes.now }) ≡ false) }
+    ensures none { IfOk result (λ front.
+        has_frame (record { order = front.order; held = drop front.taken bytes.now }) ≡ false) }
     ensures within { IfOk result (λ front. front.taken ≤ length bytes.now) }
 {
     let mut order = order;
@@ -93,7 +94,8 @@ impl Remainder {
         piece: &[u8],
         frames: &mut WholeFrameList,
     ) -> Result<Option<Remainder>, NoMemory>
-        ensures frames { OnOk result (frames.new ≡ frames.old ++ (cut (fed self piece.now)).frames) }
+        ensures frames { OnOk result
+            (frames.new ≡ frames.old ++ (cut (fed self piece.now)).frames) }
         ensures stands { IfOk result (λ after. MatchOption after (IsOversize (cut (fed self piece.now)).standing)
             (λ rest. StandsAt (cut (fed self piece.now)).standing rest None)) }
     {

@@ -50,7 +50,8 @@ impl Model for Splitter {
 
     ghost view = { λ splitter. record { order = splitter.order; held = splitter.held.items } };
 
-    ghost invariant = { λ splitter. IsHeld splitter.order splitter.held.items (vec_capacity splitter.held) };
+    ghost invariant = { λ splitter.
+        IsHeld splitter.order splitter.held.items (vec_capacity splitter.held) };
 }
 
 /// The order of the next frame: the one that is known, or what byte 2 of a stream's first frame says.
@@ -143,16 +144,20 @@ impl Splitter {
         // The bytes that were taken are held behind those that were.
         ensures taken { IfOk result (λ n. self.new ≡ fed self.old (take n piece.now)) }
         // Bytes are left only behind a whole frame.
-        ensures all { IfOk result (λ n. (n ≤ length piece.now) × (IsPartial self.new → n ≡ length piece.now)) }
+        ensures all { IfOk result (λ n. (n ≤ length piece.now)
+            × (IsPartial self.new → n ≡ length piece.now)) }
         ensures some { IfOk result (λ n. 0 < length piece.now → 0 < n) }
         // No more than the next frame is held.
         ensures no_more { length self.new.held ≤ wanted self.new }
         // What is held and what is left of the piece have the frames of what was held and the piece.
-        ensures frames { IfOk result (λ n. cut (fed self.new (drop n piece.now)) ≡ cut (fed self.old piece.now)) }
+        ensures frames { IfOk result (λ n. cut (fed self.new (drop n piece.now))
+            ≡ cut (fed self.old piece.now)) }
 
         // It succeeds exactly where the header states no more than it may, as far as it has come.
-        ensures within { OnOk result ((units self.new ≤ unit_limit) × (units (fed self.old piece.now) ≤ unit_limit)) }
-        ensures oversize { IfErr result (λ error. IsOversize (fed self.old piece.now) × (error.units ≡ units (fed self.old piece.now))) }
+        ensures within { OnOk result ((units self.new ≤ unit_limit)
+            × (units (fed self.old piece.now) ≤ unit_limit)) }
+        ensures oversize { IfErr result (λ error. IsOversize (fed self.old piece.now)
+            × (error.units ≡ units (fed self.old piece.now))) }
         // That header is then held.
         ensures header { OnErr result (self.new ≡ header_of (fed self.old piece.now)) }
     {
@@ -168,8 +173,10 @@ impl Splitter {
     /// Lends the frame that is held, if a whole one is.
     pub fn next_frame(&self) -> Option<Frame<'_>>
         ensures none { IfNone result (IsPartial self.now) }
-        ensures some { OnSome result ((length self.now.held ≡ wanted self.now) × (length self.now.held ≤ byte_limit)) }
-        ensures frame { IfSome result (λ frame. (frame.endian ≡ endian self.now) × (frame.bytes.now ≡ self.now.held)) }
+        ensures some { OnSome result ((length self.now.held ≡ wanted self.now)
+            × (length self.now.held ≤ byte_limit)) }
+        ensures frame { IfSome result (λ frame. (frame.endian ≡ endian self.now)
+            × (frame.bytes.now ≡ self.now.held)) }
         // It is the first of the frames of whatever stream goes on from here.
         ensures first { IfSome result (λ frame. (more : List ℕ) → cut (fed self.now more)
             ≡ behind (record { endian = frame.endian; bytes = frame.bytes.now } ∷ []) (cut (fed (without_first self.now) more))) }
@@ -202,7 +209,8 @@ impl Splitter {
     /// The header of the frame that comes next, as soon as it is whole.
     pub fn header(&self) -> Option<[u8; 8]>
         ensures none { IfNone result (length self.now.held < 8) }
-        ensures some { IfSome result (λ header. (8 ≤ length self.now.held) × (header ≡ take 8 self.now.held)) }
+        ensures some { IfSome result (λ header. (8 ≤ length self.now.held)
+            × (header ≡ take 8 self.now.held)) }
     {
         self.held.as_slice().first_chunk().copied()
     }

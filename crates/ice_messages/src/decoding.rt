@@ -123,7 +123,9 @@ fn protocol_body(
     frame: &[u8],
 ) -> Result<(Text16, (Makers, Lists)), DecodeRefusal>
     requires { 8 ≤ length frame.now }
-    ensures { Gives result (body_at (after_at 8 (protocol_at endian (slice_index frame.now 9) (slice_index frame.now 8))) frame.now) }
+    ensures { Gives result
+        (body_at (after_at 8
+        (protocol_at endian (slice_index frame.now 9) (slice_index frame.now 8))) frame.now) }
 {
     let (_, body) = frame.split_at(8);
     let rest = skip(8, body)?;
@@ -239,11 +241,13 @@ pub fn decode_ice(alloc: Global, endian: Endian, frame: &[u8]) -> Result<IceMess
     // What is spelled so is decoded, unless memory is wanting.
     ensures only { (message : _) → Spells endian message frame.now → Gives result (Ok message) }
     // What encoding writes is decoded again.
-    ensures again { (message : _) → IsMessage message → frame.now ≡ canon endian message → Gives result (Ok message) }
+    ensures again { (message : _) → IsMessage message → frame.now ≡ canon endian message →
+        Gives result (Ok message) }
     // Each refusal has its cause.
     ensures refused { IfErr result (λ refusal. Refused endian frame.now refusal) }
     // The form of a message is what some choice of the enumerated bytes spells.
-    ensures form { (message : _) → HasForm endian message frame.now ↔ HasChoice endian message frame.now }
+    ensures form { (message : _) → HasForm endian message frame.now
+        ↔ HasChoice endian message frame.now }
     // The same as a function of the bytes.
     ensures exact { Gives result (decode_at endian frame.now) }
 {

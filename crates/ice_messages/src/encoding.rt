@@ -76,7 +76,8 @@ fn put_makers(
     out: &mut Octets,
 ) -> Result<(), NoMemory>
     requires { IsText16 vendor.now × IsText16 release.now }
-    ensures ok { OnOk result (out.new ≡ out.old ++ zeros (text16 endian vendor.now ++ text16 endian release.now)) }
+    ensures ok { OnOk result
+        (out.new ≡ out.old ++ zeros (text16 endian vendor.now ++ text16 endian release.now)) }
     ensures kept { Extends out.old out.new }
 {
     vendor.put(endian, out)?;
@@ -94,7 +95,10 @@ fn put_offer(
     out: &mut Octets,
 ) -> Result<(), NoMemory>
     requires { IsText16 vendor.now × IsText16 release.now × IsOffer names.now versions.now }
-    ensures ok { OnOk result (out.new ≡ out.old ++ zeros (text16 endian vendor.now ++ text16 endian release.now ++ texts endian names.now ++ version_cells endian versions.now)) }
+    ensures ok { OnOk result
+        (out.new ≡ out.old ++ zeros
+        (text16 endian vendor.now ++ text16 endian release.now ++ texts endian names.now
+        ++ version_cells endian versions.now)) }
     ensures kept { Extends out.old out.new }
 {
     vendor.put(endian, out)?;
@@ -114,8 +118,12 @@ fn put_protocol(
     versions: &VersionList,
     out: &mut Octets,
 ) -> Result<(), NoMemory>
-    requires { IsText16 protocol.now × IsText16 vendor.now × IsText16 release.now × IsOffer names.now versions.now }
-    ensures ok { OnOk result (out.new ≡ out.old ++ zeros (text16 endian protocol.now ++ text16 endian vendor.now ++ text16 endian release.now ++ texts endian names.now ++ version_cells endian versions.now)) }
+    requires { IsText16 protocol.now × IsText16 vendor.now × IsText16 release.now
+        × IsOffer names.now versions.now }
+    ensures ok { OnOk result
+        (out.new ≡ out.old ++ zeros
+        (text16 endian protocol.now ++ text16 endian vendor.now ++ text16 endian release.now
+        ++ texts endian names.now ++ version_cells endian versions.now)) }
     ensures kept { Extends out.old out.new }
 {
     protocol.put(endian, out)?;
@@ -128,7 +136,9 @@ fn put_protocol(
 /// Adds the first 8 bytes of a ProtocolSetup's body, which begin with the counts of its lists.
 fn put_counts(names: &TextList, versions: &VersionList, out: &mut Octets) -> Result<(), NoMemory>
     requires { IsOffer names.now versions.now }
-    ensures ok { OnOk result (out.new ≡ out.old ++ (length versions.now ∷ length names.now ∷ 0 ∷ 0 ∷ 0 ∷ 0 ∷ 0 ∷ 0 ∷ [])) }
+    ensures ok { OnOk result
+        (out.new ≡ out.old ++ (length versions.now ∷ length names.now ∷ 0 ∷ 0 ∷ 0 ∷ 0 ∷ 0 ∷ 0
+        ∷ [])) }
     ensures kept { Extends out.old out.new }
 {
     let names = names.as_slice().len() as u8;
@@ -199,7 +209,8 @@ fn put_message(
     requires body { count ≡ length (layout byte endian message.now).1 }
     requires bound { count ≤ 65536 }
     ensures ok { OnOk result (out.new ≡ out.old ++ canon endian message.now) }
-    ensures frame { OnOk result (IsFrame endian (canon endian message.now) × (slice_index (canon endian message.now) 0 ≡ 0)) }
+    ensures frame { OnOk result (IsFrame endian (canon endian message.now)
+        × (slice_index (canon endian message.now) 0 ≡ 0)) }
     ensures kept { Extends out.old out.new }
 {
     let padding = pad(count, 8);
@@ -225,7 +236,8 @@ pub fn encode_ice(
     // What is encoded has a spelling, so it is decoded again.
     ensures fits { OnOk result (IsMessage message.now) }
     // What is appended is a frame of major opcode 0.
-    ensures frame { OnOk result (IsFrame endian (canon endian message.now) × (slice_index (canon endian message.now) 0 ≡ 0)) }
+    ensures frame { OnOk result (IsFrame endian (canon endian message.now)
+        × (slice_index (canon endian message.now) 0 ≡ 0)) }
 {
     let count = match body_size(message) {
         Some(count) => count,

@@ -10,8 +10,10 @@ use ice_values::{
 };
 
 fn makers_size(vendor: &Text16, release: &Text16) -> Option<usize>
-    ensures none { IfNone result ((e : AnyEndian) → 65536 < length (text16 e vendor.now ++ text16 e release.now)) }
-    ensures is { IfSome result (λ n. (e : AnyEndian) → n ≡ length (text16 e vendor.now ++ text16 e release.now)) }
+    ensures none { IfNone result ((e : AnyEndian) →
+        65536 < length (text16 e vendor.now ++ text16 e release.now)) }
+    ensures is { IfSome result (λ n. (e : AnyEndian) →
+        n ≡ length (text16 e vendor.now ++ text16 e release.now)) }
     ensures bound { IfSome result (λ n. n ≤ 65536) }
     ensures fits { OnSome result (IsText16 vendor.now × IsText16 release.now) }
 {
@@ -20,8 +22,11 @@ fn makers_size(vendor: &Text16, release: &Text16) -> Option<usize>
 
 /// None also where a list has more than 255 items.
 fn lists_size(names: &TextList, versions: &VersionList) -> Option<usize>
-    ensures none { IfNone result ((e : AnyEndian) → ((255 < length names.now) ⊎ (255 < length versions.now)) ⊎ (65536 < length (texts e names.now ++ version_cells e versions.now))) }
-    ensures is { IfSome result (λ n. (e : AnyEndian) → n ≡ length (texts e names.now ++ version_cells e versions.now)) }
+    ensures none { IfNone result ((e : AnyEndian) →
+        ((255 < length names.now) ⊎ (255 < length versions.now))
+        ⊎ (65536 < length (texts e names.now ++ version_cells e versions.now))) }
+    ensures is { IfSome result (λ n. (e : AnyEndian) →
+        n ≡ length (texts e names.now ++ version_cells e versions.now)) }
     ensures bound { IfSome result (λ n. n ≤ 65536) }
     ensures fits { OnSome result (IsOffer names.now versions.now) }
 {
@@ -40,10 +45,16 @@ fn offer_size(
     names: &TextList,
     versions: &VersionList,
 ) -> Option<usize>
-    ensures none { IfNone result ((e : AnyEndian) → ((255 < length names.now) ⊎ (255 < length versions.now)) ⊎ (65536 < length (text16 e vendor.now ++ text16 e release.now ++ texts e names.now ++ version_cells e versions.now))) }
-    ensures is { IfSome result (λ n. (e : AnyEndian) → n ≡ length (text16 e vendor.now ++ text16 e release.now ++ texts e names.now ++ version_cells e versions.now)) }
+    ensures none { IfNone result ((e : AnyEndian) →
+        ((255 < length names.now) ⊎ (255 < length versions.now))
+        ⊎ (65536 < length (text16 e vendor.now ++ text16 e release.now ++ texts e names.now
+        ++ version_cells e versions.now))) }
+    ensures is { IfSome result (λ n. (e : AnyEndian) →
+        n ≡ length (text16 e vendor.now ++ text16 e release.now ++ texts e names.now
+        ++ version_cells e versions.now)) }
     ensures bound { IfSome result (λ n. n ≤ 65536) }
-    ensures fits { OnSome result (IsText16 vendor.now × IsText16 release.now × IsOffer names.now versions.now) }
+    ensures fits { OnSome result (IsText16 vendor.now × IsText16 release.now
+        × IsOffer names.now versions.now) }
 {
     let makers = makers_size(vendor, release)?;
     let lists = lists_size(names, versions)?;

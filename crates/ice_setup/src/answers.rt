@@ -86,7 +86,9 @@ pub fn bare_error(
 
 /// A ProtocolSetup is refused, since its opcode is taken.
 pub fn opcode_error(alloc: Global, opcode: u8, offending: Offending) -> Result<IceMessage, NoMemory>
-    ensures answer { IfOk result (λ error. error ≡ AnError (blame Severity.FatalToProtocol ErrorClass.MajorOpcodeDuplicate offending (opcode_values_spec opcode))) }
+    ensures answer { IfOk result (λ error.
+        error ≡ AnError (blame Severity.FatalToProtocol ErrorClass.MajorOpcodeDuplicate offending
+        (opcode_values_spec opcode))) }
     ensures said { IfOk result (λ error. ¬ (IsTooLong Lsb error)) }
 {
     let values = opcode_values(alloc, opcode)?;
@@ -105,8 +107,11 @@ pub fn protocol_error(
     protocol: &Text16,
     offending: Offending,
 ) -> Result<IceMessage, NoMemory>
-    ensures answer { IfOk result (λ error. error ≡ AnError (blame Severity.FatalToProtocol class offending (text_values_spec protocol.now))) }
-    ensures said { length (text_values_spec protocol.now) ≤ 65528 → IfOk result (λ error. ¬ (IsTooLong Lsb error)) }
+    ensures answer { IfOk result (λ error.
+        error ≡ AnError (blame Severity.FatalToProtocol class offending
+        (text_values_spec protocol.now))) }
+    ensures said { length (text_values_spec protocol.now) ≤ 65528 →
+        IfOk result (λ error. ¬ (IsTooLong Lsb error)) }
 {
     let values = text_values(alloc, protocol)?;
     Ok(IceMessage::Error(error_of(Severity::FatalToProtocol, class, offending, values)))

@@ -70,7 +70,13 @@ pub struct Offer {
 }
 
 pub fn read_offer(must: bool, names: &[Text16], versions: &[Version]) -> Offer
-    ensures { result ≡ record { must = must; version = first_version_spec versions.now; name = first_cookie_name_spec names.now } }
+    ensures { result
+        ≡ record {
+          must = must;
+          version = first_version_spec
+              versions.now;
+          name = first_cookie_name_spec names.now;
+        } }
 {
     Offer {
         must,

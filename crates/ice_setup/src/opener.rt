@@ -118,7 +118,9 @@ impl OpenOrder {
 
     /// The manager's ByteOrder came.
     fn take_order(self, alloc: Global) -> Result<OpenMoved, NoMemory>
-        ensures answer { IfOk result (λ m. m ≡ OpenMoved.Goes (AnyOpener.OpenSetup (record { cookie = self.cookie })) (Some connection_setup_spec)) }
+        ensures answer { IfOk result (λ m.
+            m ≡ OpenMoved.Goes (AnyOpener.OpenSetup (record { cookie = self.cookie }))
+            (Some connection_setup_spec)) }
         ensures said { IfOk result CanBeSaid }
     {
         let setup = connection_setup(alloc)?;
@@ -134,7 +136,8 @@ impl OpenOrder {
         message: IceMessage,
         sequence: u32,
     ) -> Result<OpenMoved, (OpenOrder, NoMemory)>
-        ensures exact { MatchResult result (λ m. m ≡ opened (AnyOpener.OpenOrder self) message sequence) (λ e. e.0 ≡ self) }
+        ensures exact { MatchResult result (λ m. m
+            ≡ opened (AnyOpener.OpenOrder self) message sequence) (λ e. e.0 ≡ self) }
         ensures said { IfOk result CanBeSaid }
     {
         let offending = named(&message, sequence);
@@ -179,7 +182,8 @@ impl OpenSetup {
         message: IceMessage,
         sequence: u32,
     ) -> Result<OpenMoved, (OpenSetup, NoMemory)>
-        ensures exact { MatchResult result (λ m. m ≡ opened (AnyOpener.OpenSetup self) message sequence) (λ e. e.0 ≡ self) }
+        ensures exact { MatchResult result (λ m. m
+            ≡ opened (AnyOpener.OpenSetup self) message sequence) (λ e. e.0 ≡ self) }
         ensures said { IfOk result CanBeSaid }
     {
         let offending = named(&message, sequence);
@@ -222,7 +226,8 @@ impl OpenProtocol {
         message: IceMessage,
         sequence: u32,
     ) -> Result<OpenMoved, (OpenProtocol, NoMemory)>
-        ensures exact { MatchResult result (λ m. m ≡ opened (AnyOpener.OpenProtocol self) message sequence) (λ e. e.0 ≡ self) }
+        ensures exact { MatchResult result (λ m. m
+            ≡ opened (AnyOpener.OpenProtocol self) message sequence) (λ e. e.0 ≡ self) }
         ensures said { IfOk result CanBeSaid }
     {
         let offending = named(&message, sequence);
@@ -258,7 +263,8 @@ impl Joined {
         message: IceMessage,
         sequence: u32,
     ) -> Result<OpenMoved, (Joined, NoMemory)>
-        ensures exact { MatchResult result (λ m. m ≡ opened (AnyOpener.Joined self) message sequence) (λ e. e.0 ≡ self) }
+        ensures exact { MatchResult result (λ m. m
+            ≡ opened (AnyOpener.Joined self) message sequence) (λ e. e.0 ≡ self) }
         ensures said { IfOk result CanBeSaid }
     {
         let offending = named(&message, sequence);
@@ -274,7 +280,8 @@ impl AnyOpener {
         message: IceMessage,
         sequence: u32,
     ) -> Result<OpenMoved, (AnyOpener, NoMemory)>
-        ensures exact { MatchResult result (λ m. m ≡ opened self message sequence) (λ e. e.0 ≡ self) }
+        ensures exact { MatchResult result (λ m. m ≡ opened self message sequence) (λ e.
+            e.0 ≡ self) }
         ensures said { IfOk result CanBeSaid }
     {
         match self {

@@ -29,7 +29,8 @@ impl AwaitOrder {
         message: IceMessage,
         sequence: u32,
     ) -> Result<Moved, (AwaitOrder, NoMemory)>
-        ensures exact { MatchResult result (λ m. m ≡ moved (AnySetup.AwaitOrder self) message sequence) (λ e. e.0 ≡ self) }
+        ensures exact { MatchResult result (λ m. m
+            ≡ moved (AnySetup.AwaitOrder self) message sequence) (λ e. e.0 ≡ self) }
         ensures said { (e : AnyEndian) → HasFittingBody e message → IfOk result CanBeSaid }
     {
         let offending = named(&message, sequence);
@@ -55,7 +56,8 @@ impl AwaitSetup {
         versions: &[Version],
         offending: Offending,
     ) -> Moved
-        ensures { result ≡ connection_offer self (first_version_spec versions.now) (first_cookie_name_spec names.now) offending }
+        ensures { result ≡ connection_offer self (first_version_spec versions.now)
+            (first_cookie_name_spec names.now) offending }
     {
         let fatal = Severity::FatalToConnection;
         let Some(version) = first_version(versions) else {
@@ -85,7 +87,8 @@ impl AwaitSetup {
         message: IceMessage,
         sequence: u32,
     ) -> Result<Moved, (AwaitSetup, NoMemory)>
-        ensures exact { MatchResult result (λ m. m ≡ moved (AnySetup.AwaitSetup self) message sequence) (λ e. e.0 ≡ self) }
+        ensures exact { MatchResult result (λ m. m
+            ≡ moved (AnySetup.AwaitSetup self) message sequence) (λ e. e.0 ≡ self) }
         ensures said { (e : AnyEndian) → HasFittingBody e message → IfOk result CanBeSaid }
     {
         let offending = named(&message, sequence);
@@ -107,7 +110,8 @@ impl AwaitCookie {
         proof: &[u8],
         offending: Offending,
     ) -> Result<Moved, (AwaitCookie, NoMemory)>
-        ensures { MatchResult result (λ m. m ≡ cookie_cell self (AReply proof.now) offending) (λ e. e.0 ≡ self) }
+        ensures { MatchResult result (λ m. m ≡ cookie_cell self (AReply proof.now) offending) (λ e.
+            e.0 ≡ self) }
     {
         if !self.cookie.matches(proof) {
             return match rejection(alloc, offending) {
@@ -135,7 +139,8 @@ impl AwaitCookie {
         message: IceMessage,
         sequence: u32,
     ) -> Result<Moved, (AwaitCookie, NoMemory)>
-        ensures exact { MatchResult result (λ m. m ≡ moved (AnySetup.AwaitCookie self) message sequence) (λ e. e.0 ≡ self) }
+        ensures exact { MatchResult result (λ m. m
+            ≡ moved (AnySetup.AwaitCookie self) message sequence) (λ e. e.0 ≡ self) }
         ensures said { (e : AnyEndian) → HasFittingBody e message → IfOk result CanBeSaid }
     {
         let offending = named(&message, sequence);
@@ -156,7 +161,9 @@ impl AwaitProtocol {
         offer: Offer,
         offending: Offending,
     ) -> Result<Moved, (AwaitProtocol, NoMemory)>
-        ensures exact { MatchResult result (λ m. m ≡ protocol_offer self opcode offer.must offer.version offer.name offending) (λ e. e.0 ≡ self) }
+        ensures exact { MatchResult result (λ m. m
+            ≡ protocol_offer self opcode offer.must offer.version offer.name offending) (λ e.
+            e.0 ≡ self) }
         ensures said { IfOk result CanBeSaid }
     {
         let severity = Severity::FatalToProtocol;
@@ -201,7 +208,9 @@ impl AwaitProtocol {
         offer: Offer,
         offending: Offending,
     ) -> Result<Moved, (AwaitProtocol, NoMemory)>
-        ensures exact { MatchResult result (λ m. m ≡ protocol_setup self opcode protocol.now offer.must offer.version offer.name offending) (λ e. e.0 ≡ self) }
+        ensures exact { MatchResult result (λ m. m
+            ≡ protocol_setup self opcode protocol.now offer.must offer.version offer.name offending)
+            (λ e. e.0 ≡ self) }
         ensures said { length (text_values protocol.now) ≤ 65528 → IfOk result CanBeSaid }
     {
         if opcode == 0 {
@@ -228,7 +237,8 @@ impl AwaitProtocol {
         message: IceMessage,
         sequence: u32,
     ) -> Result<Moved, (AwaitProtocol, NoMemory)>
-        ensures exact { MatchResult result (λ m. m ≡ moved (AnySetup.AwaitProtocol self) message sequence) (λ e. e.0 ≡ self) }
+        ensures exact { MatchResult result (λ m. m
+            ≡ moved (AnySetup.AwaitProtocol self) message sequence) (λ e. e.0 ≡ self) }
         ensures said { (e : AnyEndian) → HasFittingBody e message → IfOk result CanBeSaid }
     {
         let offending = named(&message, sequence);
@@ -256,7 +266,8 @@ impl AwaitProtocolCookie {
         proof: &[u8],
         offending: Offending,
     ) -> Result<Moved, (AwaitProtocolCookie, NoMemory)>
-        ensures { MatchResult result (λ m. m ≡ protocol_cookie_cell self (AReply proof.now) offending) (λ e. e.0 ≡ self) }
+        ensures { MatchResult result (λ m.
+            m ≡ protocol_cookie_cell self (AReply proof.now) offending) (λ e. e.0 ≡ self) }
     {
         if !self.cookie.matches(proof) {
             return match rejection(alloc, offending) {
@@ -285,7 +296,8 @@ impl AwaitProtocolCookie {
         message: IceMessage,
         sequence: u32,
     ) -> Result<Moved, (AwaitProtocolCookie, NoMemory)>
-        ensures exact { MatchResult result (λ m. m ≡ moved (AnySetup.AwaitProtocolCookie self) message sequence) (λ e. e.0 ≡ self) }
+        ensures exact { MatchResult result (λ m. m
+            ≡ moved (AnySetup.AwaitProtocolCookie self) message sequence) (λ e. e.0 ≡ self) }
         ensures said { (e : AnyEndian) → HasFittingBody e message → IfOk result CanBeSaid }
     {
         let offending = named(&message, sequence);
@@ -309,7 +321,8 @@ impl Ready {
         protocol: &Text16,
         offending: Offending,
     ) -> Result<Moved, (Ready, NoMemory)>
-        ensures exact { MatchResult result (λ m. m ≡ ready_setup self opcode protocol.now offending) (λ e. e.0 ≡ self) }
+        ensures exact { MatchResult result (λ m. m ≡ ready_setup self opcode protocol.now offending)
+            (λ e. e.0 ≡ self) }
         ensures said { length (text_values protocol.now) ≤ 65528 → IfOk result CanBeSaid }
     {
         if opcode == 0 || opcode == self.opcode {
@@ -336,7 +349,8 @@ impl Ready {
         message: IceMessage,
         sequence: u32,
     ) -> Result<Moved, (Ready, NoMemory)>
-        ensures exact { MatchResult result (λ m. m ≡ moved (AnySetup.Ready self) message sequence) (λ e. e.0 ≡ self) }
+        ensures exact { MatchResult result (λ m. m ≡ moved (AnySetup.Ready self) message sequence)
+            (λ e. e.0 ≡ self) }
         ensures said { (e : AnyEndian) → HasFittingBody e message → IfOk result CanBeSaid }
     {
         let offending = named(&message, sequence);
@@ -359,7 +373,8 @@ impl AnySetup {
         message: IceMessage,
         sequence: u32,
     ) -> Result<Moved, (AnySetup, NoMemory)>
-        ensures exact { MatchResult result (λ m. m ≡ moved self message sequence) (λ e. e.0 ≡ self) }
+        ensures exact { MatchResult result (λ m. m ≡ moved self message sequence) (λ e.
+            e.0 ≡ self) }
         ensures said { (e : AnyEndian) → HasFittingBody e message → IfOk result CanBeSaid }
     {
         match self {

@@ -21,7 +21,15 @@ impl Model for ErrorBody {
 
     ghost Value = { ErrorFields };
 
-    ghost view = { λ error. record { class = error.class; minor = error.minor; severity = error.severity; sequence = error.sequence; values = error.values } };
+    ghost view = { λ error.
+        record {
+          class = error.class;
+          minor = error.minor;
+          severity = error.severity;
+          sequence = error.sequence;
+          values = error.values;
+        } };
 
-    ghost invariant = { λ error. (error.class < 2 ^ 16) × (error.sequence < 2 ^ 32) × (length error.values % 8 ≡ 0) };
+    ghost invariant = { λ error. (error.class < 2 ^ 16) × (error.sequence < 2 ^ 32)
+        × (length error.values % 8 ≡ 0) };
 }

@@ -29,7 +29,8 @@ impl Property {
         kind: &[u8],
         values: Array8List,
     ) -> Result<Property, NoMemory>
-        ensures { IfOk result (λ p. p ≡ record { name = name.now; kind = kind.now; values = values }) }
+        ensures { IfOk result (λ p.
+            p ≡ record { name = name.now; kind = kind.now; values = values }) }
     {
         let name = Array8::from_slice(alloc, name)?;
         let kind = Array8::from_slice(alloc, kind)?;

@@ -88,8 +88,10 @@ pub fn put_many<T: Spelled>(endian: Endian, items: &[T], out: &mut Octets) -> Re
 
 /// How many bytes spell values, one after the other. None where there are more than 65,536.
 pub fn many_size<T: Spelled>(items: &[T]) -> Option<usize>
-    ensures none { IfNone result ((e : AnyEndian) → 65536 < length (flat_map (T.cells e) items.now)) }
-    ensures is { IfSome result (λ n. (e : AnyEndian) → n ≡ length (flat_map (T.cells e) items.now)) }
+    ensures none { IfNone result ((e : AnyEndian) →
+        65536 < length (flat_map (T.cells e) items.now)) }
+    ensures is { IfSome result (λ n. (e : AnyEndian) →
+        n ≡ length (flat_map (T.cells e) items.now)) }
     ensures count { IfSome result (λ n. length items.now ≤ n) }
     ensures bound { IfSome result (λ n. n ≤ 65536) }
     ensures fits { OnSome result (AllByRecursion T.is_spelled items.now) }
@@ -155,7 +157,8 @@ fn front_of<T: Spelled>(
 /// The spelling of the value at the front, and what follows it. None where there is none. This takes no memory.
 pub fn cut_front<T: Spelled>(endian: Endian, bytes: &[u8]) -> Option<(&[u8], &[u8])>
     requires { Exact (T.cells endian) T.is_spelled (T.front endian) }
-    ensures { CutsAt (T.cells endian) (T.front endian) bytes.now (option_map (λ x. (x.0.now, x.1.now)) result) }
+    ensures { CutsAt (T.cells endian) (T.front endian) bytes.now
+        (option_map (λ x. (x.0.now, x.1.now)) result) }
 {
     let rest = T::pass(endian, bytes)?;
     let (front, _) = bytes.split_at(bytes.len() - rest.len());

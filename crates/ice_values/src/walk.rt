@@ -48,7 +48,8 @@ impl<'a> Iterator for PropertyWalk<'a> {
 /// A walk over the list at the front, and what follows the list. None where there is none.
 #[tactic(auto, unfolding(crate::specs::Properties::listed_at))]
 fn cut_walk(endian: Endian, bytes: &[u8]) -> Option<(PropertyWalk<'_>, &[u8])>
-    ensures exact { Finds (λ x. (walk_left x.0, x.1.now)) result (property_list_at endian bytes.now) }
+    ensures exact { Finds (λ x. (walk_left x.0, x.1.now)) result
+        (property_list_at endian bytes.now) }
     ensures order { IfSome result (λ x. x.0.endian ≡ endian) }
 {
     let (count, rest) = cut_card32(endian, bytes)?;
@@ -65,7 +66,8 @@ fn cut_walk(endian: Endian, bytes: &[u8]) -> Option<(PropertyWalk<'_>, &[u8])>
 /// A walk over the LISTofPROPERTY that is spelled at the front, and how many bytes the list took. This takes no
 /// memory.
 pub fn walk_properties(endian: Endian, bytes: &[u8]) -> Result<(PropertyWalk<'_>, usize), Short>
-    ensures front { ReadsFront (property_list endian) (IsListed IsProperty) bytes.now (walked result) }
+    ensures front { ReadsFront (property_list endian) (IsListed IsProperty) bytes.now
+        (walked result) }
     ensures exact { WalkedAt endian bytes.now result }
 {
     match cut_walk(endian, bytes) {

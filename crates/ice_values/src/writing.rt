@@ -72,7 +72,8 @@ fn put_error_parts(
     values: &[u8],
     out: &mut Octets,
 ) -> Result<(), NoMemory>
-    ensures ok { OnOk result (out.new ≡ out.old ++ (head ++ number_bytes endian 4 sequence ++ values.now)) }
+    ensures ok { OnOk result
+        (out.new ≡ out.old ++ (head ++ number_bytes endian 4 sequence ++ values.now)) }
     ensures kept { Extends out.old out.new }
 {
     put_bytes(&head, out)?;

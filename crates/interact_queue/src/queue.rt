@@ -23,7 +23,13 @@ impl Model for InteractQueue {
 
     ghost Value = { Queue };
 
-    ghost view = { λ q. record { waiting = q.waiting.items; holder = q.holder; spare = deque_capacity q.waiting - deque_len q.waiting } };
+    ghost view = { λ q.
+        record {
+          waiting = q.waiting.items;
+          holder = q.holder;
+          spare = deque_capacity
+              q.waiting - deque_len q.waiting;
+        } };
 }
 
 impl InteractQueue {
@@ -71,8 +77,10 @@ impl InteractQueue {
     /// or nobody waits, and then nothing changes. This takes no memory.
     pub fn grant(&mut self) -> Option<Conn>
         ensures next { result ≡ next_holder (is_some self.old.holder) self.old.waiting }
-        ensures waiting { MatchOption result (self.new.waiting ≡ self.old.waiting) (λ conn. self.old.waiting ≡ conn ∷ self.new.waiting) }
-        ensures holder { MatchOption result (self.new.holder ≡ self.old.holder) (λ conn. self.new.holder ≡ Some conn) }
+        ensures waiting { MatchOption result (self.new.waiting ≡ self.old.waiting) (λ conn.
+            self.old.waiting ≡ conn ∷ self.new.waiting) }
+        ensures holder { MatchOption result (self.new.holder ≡ self.old.holder) (λ conn.
+            self.new.holder ≡ Some conn) }
         ensures spare { self.old.spare ≤ self.new.spare }
     {
         if self.holder.is_some() {

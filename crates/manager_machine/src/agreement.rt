@@ -52,7 +52,8 @@ impl Core {
     /// The members of the running round agreed: the next book is written, the clients are told, and
     /// what nobody needs any more is discarded.
     pub(crate) fn agreement(&mut self) -> Result<(), NoMemory>
-        ensures { OnOk result ((round : Agreement) → self.old.round ≡ Some round → self.new ≡ moved_all (agreement_moves (reading_in self.old) round) self.old) }
+        ensures { OnOk result ((round : Agreement) → self.old.round ≡ Some round →
+            self.new ≡ moved_all (agreement_moves (reading_in self.old) round) self.old) }
     {
         let plan = match self.running.round() {
             Some(round) => self.plan_agreement(round)?,
@@ -64,7 +65,8 @@ impl Core {
 
     /// What an agreement of this round brings.
     fn plan_agreement(&self, round: &Round) -> Result<Plan, NoMemory>
-        ensures { IfOk result (λ plan. planned (reading_in self.now).store plan ≡ agreement_moves (reading_in self.now) round.now) }
+        ensures { IfOk result (λ plan. planned (reading_in self.now).store plan
+            ≡ agreement_moves (reading_in self.now) round.now) }
     {
         let alloc = *self.acts.allocator();
         let entries = next_entries(alloc, &self.clients, round, &self.book, &self.expected)?;
@@ -79,7 +81,8 @@ impl Core {
 
     /// Does what an agreement brings.
     fn carry_out(&mut self, plan: Plan) -> Result<(), NoMemory>
-        ensures { OnOk result (self.new ≡ moved_all (planned (reading_in self.old).store plan) self.old) }
+        ensures { OnOk result
+            (self.new ≡ moved_all (planned (reading_in self.old).store plan) self.old) }
     {
         self.commit_entries(plan.entries)?;
         self.agree()?;
@@ -111,7 +114,8 @@ impl Core {
 
 /// How the session ends with these entries.
 fn plan_ending(alloc: Global, clients: &Clients, entries: &EntryList) -> Result<Ending, NoMemory>
-    ensures { IfOk result (λ end. (book : ABook) → book.entries ≡ entries.now → ending end ≡ ended (clients_in clients.now) book) }
+    ensures { IfOk result (λ end. (book : ABook) → book.entries ≡ entries.now →
+        ending end ≡ ended (clients_in clients.now) book) }
 {
     Ok(Ending {
         registered: copy_conns(alloc, clients.registered())?,
@@ -127,7 +131,9 @@ fn plan_completion(
     round: &Round,
     entries: &EntryList,
 ) -> Result<Completion, NoMemory>
-    ensures { IfOk result (λ completion. (book : ABook) → book.entries ≡ entries.now → completing completion ≡ completed round.now.wanted.shutdown (clients_in clients.now) round.now book) }
+    ensures { IfOk result (λ completion. (book : ABook) → book.entries ≡ entries.now →
+        completing completion ≡ completed round.now.wanted.shutdown
+        (clients_in clients.now) round.now book) }
 {
     if round.wanted().shutdown {
         Ok(Completion::End(plan_ending(alloc, clients, entries)?))

@@ -28,7 +28,8 @@ impl Core {
         reason: Reason,
         commands: &CommandList,
     ) -> Result<(), NoMemory>
-        ensures { OnOk result (self.new ≡ moved_all (tried_each (cause_for reason) commands.now) self.old) }
+        ensures { OnOk result
+            (self.new ≡ moved_all (tried_each (cause_for reason) commands.now) self.old) }
     {
         for command in commands.as_slice() {
             self.start(reason, command.copy()?)?;
@@ -39,7 +40,8 @@ impl Core {
     /// The book of these entries, for which the pending commands of the ledger are made anew. A
     /// refused call loses the strays.
     fn next_book(&mut self, entries: EntryList) -> Result<Book, NoMemory>
-        ensures book { IfOk result (λ book. book ≡ with_entries (reading_in self.old).store entries) }
+        ensures book { IfOk result (λ book.
+            book ≡ with_entries (reading_in self.old).store entries) }
         ensures rest { OnOk result (self.new ≡ record self.old { strays = [] }) }
     {
         let alloc = *self.acts.allocator();
@@ -57,7 +59,9 @@ impl Core {
 
     /// A copy of the book without these pending commands.
     fn book_without(&self, commands: &CommandList) -> Result<Book, NoMemory>
-        ensures { IfOk result (λ book. book ≡ record self.now.book { pending = without_commands commands.now self.now.book.pending }) }
+        ensures { IfOk result (λ book.
+            book ≡ record self.now.book
+            { pending = without_commands commands.now self.now.book.pending }) }
     {
         Ok(Book {
             entries: self.book.entries.copy()?,
@@ -81,7 +85,9 @@ impl Core {
     /// Writes the book with these entries, whose pending commands are those of now and those that
     /// nobody needs from now on.
     pub(crate) fn commit_entries(&mut self, entries: EntryList) -> Result<(), NoMemory>
-        ensures { OnOk result (self.new ≡ moved (HasCommitted (with_entries (reading_in self.old).store entries)) self.old) }
+        ensures { OnOk result
+            (self.new ≡ moved (HasCommitted (with_entries (reading_in self.old).store entries))
+            self.old) }
     {
         let book = self.next_book(entries)?;
         self.commit(book)?;
@@ -91,7 +97,8 @@ impl Core {
     /// Tries these commands, which are pending; and then, where there was one, writes the book
     /// without them.
     pub(crate) fn issue(&mut self, commands: &CommandList) -> Result<(), NoMemory>
-        ensures { OnOk result (self.new ≡ moved_all (issue_moves self.old.book commands.now) self.old) }
+        ensures { OnOk result
+            (self.new ≡ moved_all (issue_moves self.old.book commands.now) self.old) }
     {
         if commands.as_slice().is_empty() {
             return Ok(());
@@ -104,7 +111,8 @@ impl Core {
 
     /// Tries the pending commands, but for those that stand.
     pub(crate) fn discard(&mut self, standing: &CommandList) -> Result<(), NoMemory>
-        ensures { OnOk result (self.new ≡ moved_all (discarding standing.now self.old.book) self.old) }
+        ensures { OnOk result
+            (self.new ≡ moved_all (discarding standing.now self.old.book) self.old) }
     {
         let commands = self.ledger.issuable(standing)?;
         self.issue(&commands)?;

@@ -27,7 +27,8 @@ const LIVE_LIMIT: usize = 64;
 impl Core {
     /// The answer to a connection that was opened.
     fn reply_to_joining(&self, conn: Conn) -> Reply
-        ensures { (s : Session) → moves_of s result ≡ of.reply (reading_in self.now) (HasJoined conn) }
+        ensures { (s : Session) → moves_of s result
+            ≡ of.reply (reading_in self.now) (HasJoined conn) }
     {
         if self.is_ending || self.clients.live_count() >= LIVE_LIMIT {
             return Reply::Shut(conn, None);
@@ -37,7 +38,9 @@ impl Core {
 
     /// A connection was opened.
     pub(crate) fn answer_joining(&mut self, conn: Conn) -> Result<(), NoMemory>
-        ensures { OnOk result (self.new ≡ moved_all (Outside (HasJoined conn) ∷ of.reply (reading_in self.old) (HasJoined conn)) self.old) }
+        ensures { OnOk result
+            (self.new ≡ moved_all
+            (Outside (HasJoined conn) ∷ of.reply (reading_in self.old) (HasJoined conn)) self.old) }
     {
         let reply = self.reply_to_joining(conn);
         self.join(conn)?;
@@ -63,14 +66,17 @@ impl Core {
 
     /// The answer to a connection that is gone.
     fn reply_to_leaving(&self, conn: Conn) -> Result<Reply, NoMemory>
-        ensures { IfOk result (λ reply. (s : Session) → moves_of s reply ≡ of.reply (reading_in self.now) (HasLeft conn)) }
+        ensures { IfOk result (λ reply. (s : Session) →
+            moves_of s reply ≡ of.reply (reading_in self.now) (HasLeft conn)) }
     {
         Ok(Reply::StartAgain(self.again(conn)?))
     }
 
     /// A connection is gone.
     pub(crate) fn answer_leaving(&mut self, conn: Conn) -> Result<(), NoMemory>
-        ensures { OnOk result (self.new ≡ moved_all (Outside (HasLeft conn) ∷ of.reply (reading_in self.old) (HasLeft conn)) self.old) }
+        ensures { OnOk result
+            (self.new ≡ moved_all
+            (Outside (HasLeft conn) ∷ of.reply (reading_in self.old) (HasLeft conn)) self.old) }
     {
         let reply = self.reply_to_leaving(conn)?;
         self.leave(conn)?;
@@ -112,7 +118,8 @@ impl Core {
 
     /// What is to be done as each of these connections is shut, which none of them changes for another.
     pub(crate) fn departures(&self, conns: &[Conn]) -> Result<ListOf<Departure>, NoMemory>
-        ensures { IfOk result (λ departures. departures_moves departures ≡ flat_map (depart (reading_in self.now)) conns.now) }
+        ensures { IfOk result (λ departures. departures_moves departures
+            ≡ flat_map (depart (reading_in self.now)) conns.now) }
     {
         let mut departures = ListOf::new(*self.acts.allocator());
         for conn in conns {
@@ -158,7 +165,8 @@ impl Core {
 
     /// The client of an ID, where it is started again as it departs.
     fn again_under(&self, id: &Array8) -> Result<Option<Again>, NoMemory>
-        ensures { IfOk result (λ again. again_moves again ≡ id_respawn (reading_in self.now) (Some id.now)) }
+        ensures { IfOk result (λ again. again_moves again
+            ≡ id_respawn (reading_in self.now) (Some id.now)) }
     {
         match entry_of(&self.book, id.as_slice()) {
             Some(entry) => {
@@ -197,7 +205,8 @@ fn again_of(
     entry: &Entry,
     count: u32,
 ) -> Result<Option<Again>, NoMemory>
-    ensures { IfOk result (λ again. again_moves again ≡ respawn_moves id.now (respawn_of entry.now count)) }
+    ensures { IfOk result (λ again. again_moves again
+        ≡ respawn_moves id.now (respawn_of entry.now count)) }
 {
     match respawn(alloc, entry, count)? {
         Some(command) => Ok(Some(Again {
@@ -232,7 +241,8 @@ fn count_more(counts: &mut Counts, id: Array8) -> Result<(), NoMemory>
 
 /// Raises the first count of an ID. False where there is none.
 fn raise(counts: &mut [(Array8, u32)], id: &Array8) -> Result<bool, NoMemory>
-    ensures { IfOk result (λ found. cond found counts.new (counts.new ++ (id.now, 1) ∷ []) ≡ one_more_of id.now counts.old) }
+    ensures { IfOk result (λ found. cond found counts.new (counts.new ++ (id.now, 1) ∷ [])
+        ≡ one_more_of id.now counts.old) }
 {
     for (other, count) in counts {
         if id.as_slice() == other.as_slice() {

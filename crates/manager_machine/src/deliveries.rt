@@ -98,7 +98,8 @@ impl Core {
 
     /// An Error is sent, and XSMP ends on the connection.
     pub(crate) fn turn_away(&mut self, conn: Conn, error: ErrorBody) -> Result<(), NoMemory>
-        ensures { OnOk result (self.new ≡ moved_all (Blamed conn error ∷ Unset conn ∷ []) self.old) }
+        ensures { OnOk result
+            (self.new ≡ moved_all (Blamed conn error ∷ Unset conn ∷ []) self.old) }
     {
         self.blame(conn, error)?;
         self.unset(conn)?;
@@ -109,7 +110,9 @@ impl Core {
     /// nobody has the token; else nothing is done.
     pub(crate) fn hold(&mut self) -> Result<bool, NoMemory>
         requires { InOrder self.old }
-        ensures { IfOk result (λ given. MatchNext (next_holder (is_some self.old.turns.holder) self.old.turns.waiting) given self.old self.new) }
+        ensures { IfOk result (λ given.
+            MatchNext (next_holder (is_some self.old.turns.holder) self.old.turns.waiting) given
+            self.old self.new) }
     {
         let Some(conn) = self.queue.grant() else {
             return Ok(false);
@@ -121,7 +124,9 @@ impl Core {
     /// Sends SaveYourselfPhase2 to each member that wants the second phase, where that can begin.
     pub(crate) fn begin_second(&mut self) -> Result<(), NoMemory>
         requires { InOrder self.old }
-        ensures { OnOk result ((round : Agreement) → self.old.round ≡ Some round → two_ready round.members ≡ true → self.new ≡ moved_all (gave_each SecondSaid (wanting_two round.members)) self.old) }
+        ensures { OnOk result ((round : Agreement) → self.old.round ≡ Some round →
+            two_ready round.members ≡ true → self.new
+            ≡ moved_all (gave_each SecondSaid (wanting_two round.members)) self.old) }
     {
         let wanting = self.wanting_second()?;
         if !self.running.start_second() {
@@ -133,7 +138,9 @@ impl Core {
 
     /// The members of the running round whose phase says that they want the second phase.
     fn wanting_second(&self) -> Result<ConnList, NoMemory>
-        ensures { IfOk result (λ conns. (round : Agreement) → self.now.round ≡ Some round → conns ≡ filter (λ c. wants_it (phase_in c self.now.clients.rows)) (conns_of round.members)) }
+        ensures { IfOk result (λ conns. (round : Agreement) → self.now.round ≡ Some round →
+            conns ≡ filter (λ c. wants_it (phase_in c self.now.clients.rows))
+            (conns_of round.members)) }
     {
         let alloc = *self.acts.allocator();
         match self.running.round() {
@@ -183,7 +190,8 @@ fn wants_second(phase: Option<Phase>) -> bool
 
 /// Those of these connections whose clients wait for the second phase, in their order.
 fn wanting_among(alloc: Global, clients: &Clients, conns: &[Conn]) -> Result<ConnList, NoMemory>
-    ensures { IfOk result (λ wanting. wanting ≡ filter (λ c. wants_it (phase_in c clients.now.rows)) conns.now) }
+    ensures { IfOk result (λ wanting.
+        wanting ≡ filter (λ c. wants_it (phase_in c clients.now.rows)) conns.now) }
 {
     let mut wanting = ConnList::new(alloc);
     for conn in conns {

@@ -110,7 +110,9 @@ impl Core {
     /// Hears an event, and answers it. What settles then is another call's.
     fn answer(&mut self, event: SessionEvent) -> Result<(), NoMemory>
         requires { InOrder self.old }
-        ensures { OnOk result (self.new ≡ moved_all (Outside event ∷ answer_to (reading_in self.old) event) self.old) }
+        ensures { OnOk result
+            (self.new ≡ moved_all (Outside event ∷ answer_to (reading_in self.old) event)
+            self.old) }
     {
         match event {
             SessionEvent::Joined(conn) => self.answer_joining(conn),

@@ -44,8 +44,10 @@ impl Manager {
     pub fn begin(alloc: Global, book: Book, patience: u64) -> Result<(Manager, Acts), NoMemory>
         requires rules { KeepsRules book }
         requires epoch { book.epoch < 4294967295 }
-        ensures stands { IfOk result (λ begun. StandsFor begun.0 (opened (waits_for patience book))) }
-        ensures acts { IfOk result (λ begun. begun.1 ≡ all_acts (opened (waits_for patience book))) }
+        ensures stands { IfOk result (λ begun.
+            StandsFor begun.0 (opened (waits_for patience book))) }
+        ensures acts { IfOk result (λ begun. begun.1
+            ≡ all_acts (opened (waits_for patience book))) }
         ensures fit { IfOk result (λ begun. AreFit begun.1) }
     {
         let mut core = Core::open(alloc, book, patience)?;
@@ -64,8 +66,10 @@ impl Manager {
     /// `Stopped` exactly after want of memory in an earlier one.
     pub fn take(&mut self, event: SessionEvent) -> Result<Acts, TakeFault>
         requires { Takes event (reading_in self.old.session) }
-        ensures stands { OnOk result ((h : History) → StandsFor self.old h → StandsFor self.new (taken event h)) }
-        ensures acts { IfOk result (λ acts. (h : History) → StandsFor self.old h → all_acts (taken event h) ≡ all_acts h ++ acts) }
+        ensures stands { OnOk result ((h : History) → StandsFor self.old h →
+            StandsFor self.new (taken event h)) }
+        ensures acts { IfOk result (λ acts. (h : History) → StandsFor self.old h →
+            all_acts (taken event h) ≡ all_acts h ++ acts) }
         ensures fit { IfOk result (λ acts. (h : History) → StandsFor self.old h → AreFit acts) }
         ensures refused { (result ≡ Err TakeFault.Stopped) ↔ (self.old.stopped ≡ true) }
         ensures stopped { self.new.stopped ≡ is_err result }

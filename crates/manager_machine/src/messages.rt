@@ -37,7 +37,9 @@ use xsmp_messages::XsmpMessage;
 impl Core {
     /// The answer to a message, with its number among those of its sender, and its frame.
     fn reply_to_message(&self, arrival: &Arrival) -> Result<Reply, NoMemory>
-        ensures { IfOk result (λ reply. (s : Session) → moves_of s reply ≡ of.reply (reading_in self.now) (HasSaid arrival.now.conn arrival.now.message arrival.now.sequence arrival.now.frame)) }
+        ensures { IfOk result (λ reply. (s : Session) →
+            moves_of s reply ≡ of.reply (reading_in self.now)
+            (HasSaid arrival.now.conn arrival.now.message arrival.now.sequence arrival.now.frame)) }
     {
         match &arrival.message {
             XsmpMessage::ConnectionClosed { .. } => Ok(Reply::Shut(
@@ -52,7 +54,9 @@ impl Core {
     /// The answer to a message that doesn't end anything. A client that was told to die is heard
     /// no more.
     fn reply_to_client(&self, arrival: &Arrival) -> Result<Reply, NoMemory>
-        ensures { IfOk result (λ reply. (s : Session) → moves_of s reply ≡ of.unless_dying (reading_in self.now) arrival.now (phase_in arrival.now.conn self.now.clients.rows)) }
+        ensures { IfOk result (λ reply. (s : Session) →
+            moves_of s reply ≡ of.unless_dying (reading_in self.now) arrival.now
+            (phase_in arrival.now.conn self.now.clients.rows)) }
     {
         if is_dying(self.clients.phase(arrival.conn)) {
             return Ok(Reply::Quiet);
@@ -62,7 +66,9 @@ impl Core {
 
     /// The answer to a message of a client that wasn't told to die.
     fn reply_by_phase(&self, arrival: &Arrival) -> Result<Reply, NoMemory>
-        ensures { IfOk result (λ reply. (s : Session) → moves_of s reply ≡ of.answered (reading_in self.now) arrival.now arrival.now.message (phase_in arrival.now.conn self.now.clients.rows)) }
+        ensures { IfOk result (λ reply. (s : Session) →
+            moves_of s reply ≡ of.answered (reading_in self.now) arrival.now arrival.now.message
+            (phase_in arrival.now.conn self.now.clients.rows)) }
     {
         if !self.belongs(arrival) {
             let alloc = *self.acts.allocator();
@@ -74,7 +80,8 @@ impl Core {
 
     /// Whether a message has its place, by the phase of its sender.
     fn belongs(&self, arrival: &Arrival) -> bool
-        ensures { result ≡ belongs (wanted self.now.round) arrival.now.message (phase_in arrival.now.conn self.now.clients.rows) }
+        ensures { result ≡ belongs (wanted self.now.round) arrival.now.message
+            (phase_in arrival.now.conn self.now.clients.rows) }
     {
         has_place(
             self.running.wanted(),
@@ -85,7 +92,9 @@ impl Core {
 
     /// The answer to a message that has its place.
     fn reply_in_place(&self, arrival: &Arrival) -> Result<Reply, NoMemory>
-        ensures { IfOk result (λ reply. (s : Session) → moves_of s reply ≡ placed (reading_in self.now) arrival.now arrival.now.message (phase_in arrival.now.conn self.now.clients.rows)) }
+        ensures { IfOk result (λ reply. (s : Session) →
+            moves_of s reply ≡ placed (reading_in self.now) arrival.now arrival.now.message
+            (phase_in arrival.now.conn self.now.clients.rows)) }
     {
         match &arrival.message {
             XsmpMessage::RegisterClient { previous } => {
@@ -117,7 +126,10 @@ impl Core {
         arrival: &Arrival,
         properties: &PropertyList,
     ) -> Result<Reply, NoMemory>
-        ensures { IfOk result (λ reply. (s : Session) → moves_of s reply ≡ cond (is_full (set_all (table_in arrival.now.conn self.now.clients.rows) properties.now)) (Blamed arrival.now.conn (errors.full_table arrival.now) ∷ []) []) }
+        ensures { IfOk result (λ reply. (s : Session) →
+            moves_of s reply ≡ cond
+            (is_full (set_all (table_in arrival.now.conn self.now.clients.rows) properties.now))
+            (Blamed arrival.now.conn (errors.full_table arrival.now) ∷ []) []) }
     {
         if self.clients.would_be_full(arrival.conn, properties)? {
             let error = full_table(*self.acts.allocator(), arrival)?;
@@ -138,7 +150,9 @@ impl Core {
 
     /// The answer to a client that asks for a save, which can't be a shutdown of itself alone.
     fn reply_to_save_request(&self, arrival: &Arrival, is_lone: bool) -> Result<Reply, NoMemory>
-        ensures { IfOk result (λ reply. (s : Session) → moves_of s reply ≡ cond is_lone (Blamed arrival.now.conn (errors.lone_shutdown arrival.now) ∷ []) []) }
+        ensures { IfOk result (λ reply. (s : Session) →
+            moves_of s reply ≡ cond is_lone (Blamed arrival.now.conn
+            (errors.lone_shutdown arrival.now) ∷ []) []) }
     {
         if is_lone {
             let error = lone_shutdown(*self.acts.allocator(), arrival)?;
@@ -149,7 +163,10 @@ impl Core {
 
     /// The answer to a client whose user wants the shutdown cancelled.
     fn reply_to_cancelling(&self, arrival: &Arrival) -> Result<Reply, NoMemory>
-        ensures { IfOk result (λ reply. (s : Session) → moves_of s reply ≡ cond (owes (phase_in arrival.now.conn self.now.clients.rows)) [] (of.want_cancel (reading_in self.now) arrival.now (is_a_shutdown (wanted self.now.round)))) }
+        ensures { IfOk result (λ reply. (s : Session) →
+            moves_of s reply ≡ cond (owes (phase_in arrival.now.conn self.now.clients.rows)) []
+            (of.want_cancel (reading_in self.now) arrival.now
+            (is_a_shutdown (wanted self.now.round)))) }
     {
         if is_owing(self.clients.phase(arrival.conn)) {
             return Ok(Reply::Quiet);
@@ -164,7 +181,12 @@ impl Core {
     /// A client said this.
     pub(crate) fn answer_message(&mut self, arrival: &Arrival) -> Result<(), NoMemory>
         requires { InOrder self.old }
-        ensures { OnOk result (self.new ≡ moved_all (Outside (HasSaid arrival.now.conn arrival.now.message arrival.now.sequence arrival.now.frame) ∷ of.reply (reading_in self.old) (HasSaid arrival.now.conn arrival.now.message arrival.now.sequence arrival.now.frame)) self.old) }
+        ensures { OnOk result
+            (self.new ≡ moved_all
+            (Outside (HasSaid arrival.now.conn arrival.now.message arrival.now.sequence
+            arrival.now.frame) ∷ of.reply (reading_in self.old)
+            (HasSaid arrival.now.conn arrival.now.message arrival.now.sequence arrival.now.frame))
+            self.old) }
     {
         let reply = self.reply_to_message(arrival)?;
         self.hear(arrival.conn, &arrival.message)?;
@@ -175,7 +197,8 @@ impl Core {
     /// A client said this.
     fn hear(&mut self, conn: Conn, message: &XsmpMessage) -> Result<(), NoMemory>
         requires { InOrder self.old }
-        ensures { OnOk result ((sequence : ℕ) (frame : List ℕ) → self.new ≡ moved (Outside (HasSaid conn message.now sequence frame)) self.old) }
+        ensures { OnOk result ((sequence : ℕ) (frame : List ℕ) →
+            self.new ≡ moved (Outside (HasSaid conn message.now sequence frame)) self.old) }
     {
         let phase = self.clients.phase(conn);
         let wanted = self.running.wanted();
@@ -229,7 +252,11 @@ fn hear_queue(
 ) -> Result<(), NoMemory>
     requires not_waiting { is_saving phase ≡ true → is_in conn queue.old.waiting ≡ false }
     requires not_holding { is_saving phase ≡ true → is_holder conn queue.old.holder ≡ false }
-    ensures { OnOk result ((phases : ℕ → Option APhase) → phases conn ≡ phase → record { waiting = queue.new.waiting; holder = queue.new.holder } ≡ turns_said conn message.now phases (λ dialog. may_interact wanted dialog) (record { waiting = queue.old.waiting; holder = queue.old.holder })) }
+    ensures { OnOk result ((phases : ℕ → Option APhase) → phases conn ≡ phase →
+        record { waiting = queue.new.waiting; holder = queue.new.holder }
+        ≡ turns_said conn message.now phases (λ dialog.
+        may_interact wanted dialog)
+        (record { waiting = queue.old.waiting; holder = queue.old.holder })) }
 {
     match message {
         XsmpMessage::InteractRequest { dialog }
@@ -262,7 +289,8 @@ pub(crate) fn add_stray(
     command: Option<Command>,
 ) -> Result<(), NoMemory>
     requires { ledger.old.pending ≡ book.now.pending }
-    ensures strays { OnOk result (ledger.new.strays ≡ strays_with book.now command ledger.old.strays) }
+    ensures strays { OnOk result (ledger.new.strays
+        ≡ strays_with book.now command ledger.old.strays) }
     ensures pending { ledger.new.pending ≡ ledger.old.pending }
 {
     match command {

@@ -27,7 +27,9 @@ use std::alloc::Global;
 impl Core {
     /// The answer to an order of the operator.
     fn reply_to_order(&self, order: &Order) -> Result<Reply, NoMemory>
-        ensures { IfOk result (λ reply. (s : Session) → (reading_in s).store ≡ (reading_in self.now).store → moves_of s reply ≡ of.reply (reading_in self.now) (HasOrdered order.now)) }
+        ensures { IfOk result (λ reply. (s : Session) →
+            (reading_in s).store ≡ (reading_in self.now).store →
+            moves_of s reply ≡ of.reply (reading_in self.now) (HasOrdered order.now)) }
     {
         match order {
             Order::Checkpoint => self.reply_to_request(),
@@ -41,7 +43,8 @@ impl Core {
 
     /// The answer to the operator's checkpoint or shutdown.
     fn reply_to_request(&self) -> Result<Reply, NoMemory>
-        ensures { IfOk result (λ reply. (s : Session) → moves_of s reply ≡ of.may_wait (reading_in self.now)) }
+        ensures { IfOk result (λ reply. (s : Session) →
+            moves_of s reply ≡ of.may_wait (reading_in self.now)) }
     {
         let alloc = *self.acts.allocator();
         if self.waits.is_busy(self.is_ending) {
@@ -52,7 +55,8 @@ impl Core {
 
     /// The answer to the operator's cancellation.
     fn reply_to_cancel(&self) -> Result<Reply, NoMemory>
-        ensures { IfOk result (λ reply. (s : Session) → moves_of s reply ≡ of.ordered (reading_in self.now) ToCancel) }
+        ensures { IfOk result (λ reply. (s : Session) →
+            moves_of s reply ≡ of.ordered (reading_in self.now) ToCancel) }
     {
         let alloc = *self.acts.allocator();
         match self.running.round() {
@@ -63,7 +67,8 @@ impl Core {
 
     /// The answer where the operator has a connection shut.
     fn reply_to_drop(&self, conn: Conn) -> Result<Reply, NoMemory>
-        ensures { IfOk result (λ reply. (s : Session) → moves_of s reply ≡ of.ordered (reading_in self.now) (ToDrop conn)) }
+        ensures { IfOk result (λ reply. (s : Session) →
+            moves_of s reply ≡ of.ordered (reading_in self.now) (ToDrop conn)) }
     {
         if self.clients.is_live(conn) {
             return Ok(Reply::PrintAndShut(conn, self.again(conn)?));
@@ -73,7 +78,8 @@ impl Core {
 
     /// The answer where the operator asks how the session is.
     fn reply_to_status(&self) -> Result<Reply, NoMemory>
-        ensures { IfOk result (λ reply. (s : Session) → moves_of s reply ≡ Printed (of.status_text (reading_in self.now)) ∷ []) }
+        ensures { IfOk result (λ reply. (s : Session) →
+            moves_of s reply ≡ Printed (of.status_text (reading_in self.now)) ∷ []) }
     {
         let status = Status {
             connections: self.clients.live_count() as u64,
@@ -101,7 +107,9 @@ impl Core {
 
     /// The answer where the operator has a client forgotten.
     fn reply_to_forget(&self, id: &Octets) -> Result<Reply, NoMemory>
-        ensures { IfOk result (λ reply. (s : Session) → (reading_in s).store ≡ (reading_in self.now).store → moves_of s reply ≡ of.forget (reading_in self.now) id.now) }
+        ensures { IfOk result (λ reply. (s : Session) →
+            (reading_in s).store ≡ (reading_in self.now).store →
+            moves_of s reply ≡ of.forget (reading_in self.now) id.now) }
     {
         if self.is_ending || self.running.round().is_some() {
             return line(*self.acts.allocator(), b"busy");
@@ -114,7 +122,9 @@ impl Core {
 
     /// The answer where the operator has the client of an entry forgotten.
     fn reply_to_entry(&self, id: &Octets, entry: &Entry) -> Result<Reply, NoMemory>
-        ensures { IfOk result (λ reply. (s : Session) → (reading_in s).store ≡ (reading_in self.now).store → moves_of s reply ≡ of.forget_one (reading_in self.now) id.now (Some entry.now)) }
+        ensures { IfOk result (λ reply. (s : Session) →
+            (reading_in s).store ≡ (reading_in self.now).store →
+            moves_of s reply ≡ of.forget_one (reading_in self.now) id.now (Some entry.now)) }
     {
         if self.clients.client_of(id.as_slice()).is_some() {
             return line(*self.acts.allocator(), b"live");
@@ -124,9 +134,12 @@ impl Core {
 
     /// What goes with the client of an entry that is forgotten.
     fn forgetting(&self, id: &Octets, entry: &Entry) -> Result<Forgetting, NoMemory>
-        ensures entries { IfOk result (λ plan. plan.entries ≡ filter (λ other. not (is_of id.now other)) self.now.book.entries) }
-        ensures resign { IfOk result (λ plan. plan.resign ≡ command_at_all (codes "ResignCommand") entry.now) }
-        ensures standing { IfOk result (λ plan. plan.standing ≡ standing_of (clients_in self.now.clients)) }
+        ensures entries { IfOk result (λ plan. plan.entries
+            ≡ filter (λ other. not (is_of id.now other)) self.now.book.entries) }
+        ensures resign { IfOk result (λ plan. plan.resign
+            ≡ command_at_all (codes "ResignCommand") entry.now) }
+        ensures standing { IfOk result (λ plan. plan.standing
+            ≡ standing_of (clients_in self.now.clients)) }
     {
         let alloc = *self.acts.allocator();
         let entries = entries_without(alloc, &self.book, id.as_slice())?;
@@ -141,7 +154,10 @@ impl Core {
 
     /// The operator asked for this.
     pub(crate) fn answer_order(&mut self, order: &Order) -> Result<(), NoMemory>
-        ensures { OnOk result (self.new ≡ moved_all (Outside (HasOrdered order.now) ∷ of.reply (reading_in self.old) (HasOrdered order.now)) self.old) }
+        ensures { OnOk result
+            (self.new ≡ moved_all
+            (Outside (HasOrdered order.now) ∷ of.reply (reading_in self.old) (HasOrdered order.now))
+            self.old) }
     {
         let reply = self.reply_to_order(order)?;
         self.order(order)?;
@@ -159,7 +175,8 @@ impl Core {
 
     /// The line `ok` is printed, and the running round is called off.
     pub(crate) fn print_and_call_off(&mut self, conns: &ConnList) -> Result<(), NoMemory>
-        ensures { OnOk result (self.new ≡ moved_all (Printed (codes "ok") ∷ call_off_moves conns.now) self.old) }
+        ensures { OnOk result
+            (self.new ≡ moved_all (Printed (codes "ok") ∷ call_off_moves conns.now) self.old) }
     {
         self.print_ok()?;
         self.call_off_for(conns)?;
@@ -172,7 +189,8 @@ impl Core {
         conn: Conn,
         again: Option<Again>,
     ) -> Result<(), NoMemory>
-        ensures { OnOk result (self.new ≡ moved_all (Printed (codes "ok") ∷ shut_moves conn again) self.old) }
+        ensures { OnOk result
+            (self.new ≡ moved_all (Printed (codes "ok") ∷ shut_moves conn again) self.old) }
     {
         self.print_ok()?;
         self.shut(conn, again)?;
@@ -190,7 +208,9 @@ impl Core {
 
     /// The line `ok` is printed, and a client is forgotten.
     pub(crate) fn forget(&mut self, plan: Forgetting) -> Result<(), NoMemory>
-        ensures { OnOk result (self.new ≡ moved_all (forget_moves plan (with_entries (reading_in self.old).store plan.entries)) self.old) }
+        ensures { OnOk result
+            (self.new ≡ moved_all
+            (forget_moves plan (with_entries (reading_in self.old).store plan.entries)) self.old) }
     {
         self.print_ok()?;
         self.commit_entries(plan.entries)?;
@@ -219,7 +239,10 @@ fn line(alloc: Global, text: &[u8]) -> Result<Reply, NoMemory>
 
 /// The answer to the operator's cancellation while a round runs.
 fn cancelling(alloc: Global, round: &Round) -> Result<Reply, NoMemory>
-    ensures { IfOk result (λ reply. (s : Session) → moves_of s reply ≡ cond round.now.wanted.shutdown (Printed (codes "ok") ∷ of.called_off (Some round.now)) (Printed (codes "no shutdown") ∷ [])) }
+    ensures { IfOk result (λ reply. (s : Session) →
+        moves_of s reply ≡ cond round.now.wanted.shutdown
+        (Printed (codes "ok") ∷ of.called_off (Some round.now))
+        (Printed (codes "no shutdown") ∷ [])) }
 {
     if round.wanted().shutdown {
         return Ok(Reply::PrintAndCallOff(members_of(alloc, round)?));

@@ -31,7 +31,8 @@ impl Core {
         arrival: &Arrival,
         previous: &Array8,
     ) -> Result<Reply, NoMemory>
-        ensures { IfOk result (λ reply. (s : Session) → moves_of s reply ≡ of.register (reading_in self.now) arrival.now previous.now) }
+        ensures { IfOk result (λ reply. (s : Session) →
+            moves_of s reply ≡ of.register (reading_in self.now) arrival.now previous.now) }
     {
         if previous.as_slice().is_empty() {
             self.reply_to_newcomer(arrival)
@@ -42,7 +43,8 @@ impl Core {
 
     /// The answer to a client that is new.
     fn reply_to_newcomer(&self, arrival: &Arrival) -> Result<Reply, NoMemory>
-        ensures { IfOk result (λ reply. (s : Session) → moves_of s reply ≡ of.enter (reading_in self.now) arrival.now) }
+        ensures { IfOk result (λ reply. (s : Session) →
+            moves_of s reply ≡ of.enter (reading_in self.now) arrival.now) }
     {
         let alloc = *self.acts.allocator();
         if self.has_no_room() {
@@ -63,7 +65,8 @@ impl Core {
 
     /// The answer to a client that comes back.
     fn reply_to_returner(&self, arrival: &Arrival, id: &Array8) -> Result<Reply, NoMemory>
-        ensures { IfOk result (λ reply. (s : Session) → moves_of s reply ≡ of.rejoin (reading_in self.now) arrival.now id.now) }
+        ensures { IfOk result (λ reply. (s : Session) →
+            moves_of s reply ≡ of.rejoin (reading_in self.now) arrival.now id.now) }
     {
         if self.may_rejoin(id) {
             return Ok(Reply::Register(arrival.conn, id.copy()?));
@@ -91,7 +94,11 @@ impl Core {
 
     /// A connection has this ID from now on, and begins with what the book has under it.
     fn give_id(&mut self, conn: Conn, id: &Array8) -> Result<(), NoMemory>
-        ensures { OnOk result (self.new ≡ record self.old { clients = held_after (Gave conn (ReplySaid id.now)) (λ other. first_table self.old.book id.now) (λ dialog. false) self.old.clients }) }
+        ensures { OnOk result
+            (self.new ≡ record self.old {
+              clients = held_after (Gave conn (ReplySaid id.now))
+                  (λ other. first_table self.old.book id.now) (λ dialog. false) self.old.clients;
+            }) }
     {
         let table = first_table(*self.acts.allocator(), &self.book, id.as_slice())?;
         self.clients.register(conn, id.copy()?, table)?;

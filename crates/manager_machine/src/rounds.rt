@@ -59,7 +59,8 @@ impl Core {
     /// The rounds go on. False where they can't.
     fn go_on(&mut self) -> Result<bool, NoMemory>
         requires { InOrder self.old }
-        ensures { IfOk result (λ went. WentOn (round_rule (reading_in self.old) self.old.round) went self.old self.new) }
+        ensures { IfOk result (λ went.
+            WentOn (round_rule (reading_in self.old) self.old.round) went self.old self.new) }
     {
         match self.progress() {
             Progress::Idle => self.begin_next(),
@@ -83,7 +84,9 @@ impl Core {
     /// False where none begins.
     fn begin_next(&mut self) -> Result<bool, NoMemory>
         requires { are_distinct self.old.clients.registered ≡ true }
-        ensures { IfOk result (λ went. WentOn (idle_rule (may_begin (reading_in self.old)) (reading_in self.old)) went self.old self.new) }
+        ensures { IfOk result (λ went.
+            WentOn (idle_rule (may_begin (reading_in self.old)) (reading_in self.old)) went self.old
+            self.new) }
     {
         let Some(wanted) = self.next_wanted() else {
             return Ok(false);
@@ -112,7 +115,9 @@ impl Core {
     /// A round begins for this, and its members are asked to save.
     fn begin_wanted(&mut self, wanted: Wanted) -> Result<(), NoMemory>
         requires { are_distinct self.old.clients.registered ≡ true }
-        ensures { OnOk result (self.new ≡ moved_all (begin_moves (members wanted.only self.old.clients.registered) wanted) self.old) }
+        ensures { OnOk result
+            (self.new ≡ moved_all
+            (begin_moves (members wanted.only self.old.clients.registered) wanted) self.old) }
     {
         let alloc = *self.acts.allocator();
         let conns = members_for(alloc, wanted.only, self.clients.registered())?;
@@ -161,7 +166,8 @@ impl Core {
 
     /// The running round is called off, where there is one.
     pub(crate) fn calling_off(&self) -> Result<Reply, NoMemory>
-        ensures { IfOk result (λ reply. (s : Session) → moves_of s reply ≡ of.called_off self.now.round) }
+        ensures { IfOk result (λ reply. (s : Session) →
+            moves_of s reply ≡ of.called_off self.now.round) }
     {
         match self.running.round() {
             Some(round) => Ok(Reply::CallOff(members_of(*self.acts.allocator(), round)?)),

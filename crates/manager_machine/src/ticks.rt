@@ -12,7 +12,8 @@ use owned_lists::NoMemory;
 impl Core {
     /// The answer to the passing of so many milliseconds.
     fn reply_to_tick(&self, milliseconds: u64) -> Result<Reply, NoMemory>
-        ensures { IfOk result (λ reply. (s : Session) → moves_of s reply ≡ of.reply (reading_in self.now) (HasTicked milliseconds)) }
+        ensures { IfOk result (λ reply. (s : Session) →
+            moves_of s reply ≡ of.reply (reading_in self.now) (HasTicked milliseconds)) }
     {
         let late = self.clients.overdue(self.patience, milliseconds)?;
         Ok(Reply::ShutEach(self.departures(late.as_slice())?))
@@ -20,7 +21,10 @@ impl Core {
 
     /// So many milliseconds have passed.
     pub(crate) fn answer_tick(&mut self, milliseconds: u64) -> Result<(), NoMemory>
-        ensures { OnOk result (self.new ≡ moved_all (Outside (HasTicked milliseconds) ∷ of.reply (reading_in self.old) (HasTicked milliseconds)) self.old) }
+        ensures { OnOk result
+            (self.new ≡ moved_all
+            (Outside (HasTicked milliseconds) ∷ of.reply (reading_in self.old)
+            (HasTicked milliseconds)) self.old) }
     {
         let reply = self.reply_to_tick(milliseconds)?;
         self.tick(milliseconds);

@@ -150,7 +150,8 @@ fn put_others<T: Shown>(
     out: &mut Octets,
     items: &[T],
 ) -> Result<(), NoMemory>
-    ensures { OnOk result (out.new ≡ out.old ++ flat_map (λ item. codes "," ++ T.text writing item) items.now) }
+    ensures { OnOk result (out.new ≡ out.old ++ flat_map (λ item.
+        codes "," ++ T.text writing item) items.now) }
 {
     for item in items {
         out.append(b",")?;

@@ -53,7 +53,8 @@ fn put_offer(
     names: &TextList,
     versions: &VersionList,
 ) -> Result<(), NoMemory>
-    ensures { OnOk result (out.new ≡ out.old ++ offer_text writing vendor.now release.now names.now versions.now) }
+    ensures { OnOk result
+        (out.new ≡ out.old ++ offer_text writing vendor.now release.now names.now versions.now) }
 {
     put_makers(alloc, writing, out, vendor, release)?;
     put_field(alloc, writing, out, "names", names)?;

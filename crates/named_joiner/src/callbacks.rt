@@ -39,7 +39,9 @@ pub trait NamedSaves {
 }
 
 impl<F: FnMut(NamedAsk) -> Option<SaveAnswer>> NamedSaves for ByCall<F> {
-    ghost lawful = { λ c. F.IsAlwaysCallable c.call × ((g : F) (ask : NamedAsk) (answer : Option SaveAnswer) (h : F) → F.step g ask answer h → IfSome answer (IsLawful ask.ask)) };
+    ghost lawful = { λ c. F.IsAlwaysCallable c.call
+        × ((g : F) (ask : NamedAsk) (answer : Option SaveAnswer) (h : F) → F.step g ask answer h →
+        IfSome answer (IsLawful ask.ask)) };
 
     ghost answers = { λ c ask answer d. F.step c.call ask answer d.call };
 
@@ -65,7 +67,9 @@ pub trait NamedDies {
 }
 
 impl<F: FnMut() -> Option<Array8List>> NamedDies for ByCall<F> {
-    ghost lawful = { λ c. F.IsAlwaysCallable c.call × ((g : F) (reasons : Option (List (List ℕ))) (h : F) → F.step g reasons h → IfSome reasons AreFew) };
+    ghost lawful = { λ c. F.IsAlwaysCallable c.call
+        × ((g : F) (reasons : Option (List (List ℕ))) (h : F) → F.step g reasons h →
+        IfSome reasons AreFew) };
 
     ghost gives = { λ c reasons d. F.step c.call reasons d.call };
 

@@ -16,8 +16,12 @@ impl Progress {
 
     /// Answers a save that was cancelled, where the client owes that.
     fn cancel(&mut self) -> Result<(), NoMemory>
-        ensures bytes { OnOk result (self.new.bytes ≡ self.old.bytes ++ flat_map spelled (owed_messages (is_owing (phase_at self.old.core.talk.place)))) }
-        ensures talk { OnOk result (self.new.core.talk ≡ changed (after_owed (is_owing (phase_at self.old.core.talk.place))) self.old.core.talk) }
+        ensures bytes { OnOk result (self.new.bytes
+            ≡ self.old.bytes ++ flat_map spelled (owed_messages
+            (is_owing (phase_at self.old.core.talk.place)))) }
+        ensures talk { OnOk result (self.new.core.talk
+            ≡ changed (after_owed (is_owing (phase_at self.old.core.talk.place)))
+            self.old.core.talk) }
         ensures ending { self.new.ending ≡ self.old.ending }
         ensures splitter { self.new.core.splitter ≡ self.old.core.splitter }
     {
@@ -39,8 +43,11 @@ impl<S: NamedSaves, D: NamedDies> Callers<S, D> {
     /// Asks how the client saves, and says the answer.
     fn answer_save(&mut self, progress: &mut Progress, ask: SaveAsk) -> Result<(), NoMemory>
         requires { MayAnswer ask progress.old.core.talk.place }
-        ensures answers { Answers S.answers D.gives result (desk progress.old.bytes self.old) (desk progress.new.bytes self.new) (keeper_of progress.old) ask (keeper_of progress.new) }
-        ensures again { result ≡ Ok tt → (stage : Stage) → stage_again_spec ask.stage ≡ Some stage → MayAnswer (at_stage stage ask) progress.new.core.talk.place }
+        ensures answers { Answers S.answers D.gives result (desk progress.old.bytes self.old)
+            (desk progress.new.bytes self.new) (keeper_of progress.old) ask
+            (keeper_of progress.new) }
+        ensures again { result ≡ Ok tt → (stage : Stage) → stage_again_spec ask.stage ≡ Some stage →
+            MayAnswer (at_stage stage ask) progress.new.core.talk.place }
         ensures splitter { progress.new.core.splitter ≡ progress.old.core.splitter }
     {
         let named = match progress.named(ask) {
@@ -61,7 +68,9 @@ impl<S: NamedSaves, D: NamedDies> Callers<S, D> {
     /// Answers a save. A client that has talked to the user is asked once more.
     fn save(&mut self, progress: &mut Progress, ask: SaveAsk) -> Result<(), NoMemory>
         requires { MayAnswer ask progress.old.core.talk.place }
-        ensures takes { Tries S.answers D.gives result (desk progress.old.bytes self.old) (desk progress.new.bytes self.new) (saved (keeper_of progress.old) ask) (keeper_of progress.new) }
+        ensures takes { Tries S.answers D.gives result (desk progress.old.bytes self.old)
+            (desk progress.new.bytes self.new) (saved (keeper_of progress.old) ask)
+            (keeper_of progress.new) }
         ensures splitter { progress.new.core.splitter ≡ progress.old.core.splitter }
     {
         match self.answer_save(progress, ask) {
@@ -76,7 +85,9 @@ impl<S: NamedSaves, D: NamedDies> Callers<S, D> {
 
     /// Closes as the client is told to die.
     fn die(&mut self, progress: &mut Progress) -> Result<(), NoMemory>
-        ensures takes { Tries S.answers D.gives result (desk progress.old.bytes self.old) (desk progress.new.bytes self.new) (died (keeper_of progress.old)) (keeper_of progress.new) }
+        ensures takes { Tries S.answers D.gives result (desk progress.old.bytes self.old)
+            (desk progress.new.bytes self.new) (died (keeper_of progress.old))
+            (keeper_of progress.new) }
         ensures splitter { progress.new.core.splitter ≡ progress.old.core.splitter }
     {
         let reasons = match self.ask_reasons() {
@@ -91,7 +102,9 @@ impl<S: NamedSaves, D: NamedDies> Callers<S, D> {
     /// Does what a cue asks.
     fn heed(&mut self, progress: &mut Progress, cue: Cue) -> Result<(), NoMemory>
         requires { HasPlace cue progress.old.core.talk.place }
-        ensures takes { Tries S.answers D.gives result (desk progress.old.bytes self.old) (desk progress.new.bytes self.new) (λ r. cued (keeper_of progress.old) r cue) (keeper_of progress.new) }
+        ensures takes { Tries S.answers D.gives result (desk progress.old.bytes self.old)
+            (desk progress.new.bytes self.new) (λ r.
+            cued (keeper_of progress.old) r cue) (keeper_of progress.new) }
         ensures splitter { progress.new.core.splitter ≡ progress.old.core.splitter }
     {
         match cue {

@@ -77,7 +77,8 @@ impl<S: NamedSaves, D: NamedDies> NamedJoiner<S, D> {
     /// received.
     pub fn hear(&mut self, piece: &[u8]) -> Result<NamedReply, HearFault>
         // For whatever the run has brought so far, it brings what the script says of this piece.
-        ensures hears { (run : Run Keeper) → IsRun run self.old.stand → Hears S.answers D.gives result self.old self.new run piece.now }
+        ensures hears { (run : Run Keeper) → IsRun run self.old.stand →
+            Hears S.answers D.gives result self.old self.new run piece.now }
         ensures stopped { IsErrOf result WasStopped ↔ (is_over self.old.stand.ending ≡ true) }
         ensures spent { is_over self.new.stand.ending ≡ gave_end result }
         ensures idle { IsErrOf result WasStopped → self.new ≡ self.old }
@@ -148,7 +149,12 @@ impl<S: NamedSaves + Drop, D: NamedDies + Drop> NamedJoiner<S, D> {
         requires previous { length previous ≤ 512 }
         requires save { S.lawful save }
         requires die { D.lawful die }
-        ensures joiner { IfOk result (λ begun. begun.0 ≡ record { stand = start_stand cookie previous; callbacks = record { save = save; die = die } }) }
+        ensures joiner { IfOk result (λ begun. begun.0
+            ≡ record {
+              stand = start_stand cookie previous;
+              callbacks = record
+                  { save = save; die = die };
+            }) }
         ensures first { IfOk result (λ begun. begun.1 ≡ spelled (Ice (ByteOrder Lsb))) }
     {
         let (bare, bytes) = BareJoiner::new(alloc, cookie, previous)?;

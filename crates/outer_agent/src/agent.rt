@@ -73,7 +73,8 @@ impl Agent {
     /// Takes a piece of the outer manager's stream, and gives what is to be done about it, in order.
     pub fn hear(&mut self, piece: &[u8]) -> Result<AgentActs, AgentFault>
         // For whatever the run has brought so far, these are the acts that the script has for this piece.
-        ensures hears { IfOk result (λ acts. (run : Run Keeper) → IsRun run self.old → Gives acts (piece_heard run piece.now) self.new) }
+        ensures hears { IfOk result (λ acts. (run : Run Keeper) → IsRun run self.old →
+            Gives acts (piece_heard run piece.now) self.new) }
         ensures stopped { IsErrOf result WasStopped ↔ (self.old.starved ≡ true) }
         ensures spent { self.new.starved ≡ gave_none result }
         ensures idle { IsErrOf result WasStopped → self.new ≡ self.old }
@@ -94,7 +95,8 @@ impl Agent {
     /// Tells the outer manager how a save of the session ended, and gives what is to be sent: nothing
     /// where the outer manager waits for no end.
     pub fn ended(&mut self, success: bool) -> Result<Octets, AgentFault>
-        ensures ended { IfOk result (λ bytes. (run : Run Keeper) → IsRun run self.old → Gives bytes (told run success) self.new) }
+        ensures ended { IfOk result (λ bytes. (run : Run Keeper) → IsRun run self.old →
+            Gives bytes (told run success) self.new) }
         ensures stopped { IsErrOf result WasStopped ↔ (self.old.starved ≡ true) }
         ensures spent { self.new.starved ≡ gave_none result }
         ensures idle { IsErrOf result WasStopped → self.new ≡ self.old }
@@ -114,7 +116,8 @@ impl Agent {
     /// Closes as the session has come to its end, and gives what is to be sent: nothing where the client
     /// has no ID, or is dead.
     pub fn close(&mut self) -> Result<Octets, AgentFault>
-        ensures closed { IfOk result (λ bytes. (run : Run Keeper) → IsRun run self.old → Gives bytes (closed run) self.new) }
+        ensures closed { IfOk result (λ bytes. (run : Run Keeper) → IsRun run self.old →
+            Gives bytes (closed run) self.new) }
         ensures stopped { IsErrOf result WasStopped ↔ (self.old.starved ≡ true) }
         ensures spent { self.new.starved ≡ gave_none result }
         ensures idle { IsErrOf result WasStopped → self.new ≡ self.old }

@@ -39,8 +39,12 @@ impl Progress {
 
     /// Answers a save that was cancelled, where the client owes that.
     fn cancel(&mut self, acts: &mut AgentActs) -> Result<(), NoMemory>
-        ensures acts { OnOk result (acts.new ≡ acts.old ++ (cancelled (keeper_of self.old) (is_owing (phase_at self.old.core.talk.place))).line) }
-        ensures keeper { OnOk result (keeper_of self.new ≡ (cancelled (keeper_of self.old) (is_owing (phase_at self.old.core.talk.place))).next) }
+        ensures acts { OnOk result
+            (acts.new ≡ acts.old ++ (cancelled (keeper_of self.old)
+            (is_owing (phase_at self.old.core.talk.place))).line) }
+        ensures keeper { OnOk result (keeper_of self.new
+            ≡ (cancelled (keeper_of self.old)
+            (is_owing (phase_at self.old.core.talk.place))).next) }
         ensures splitter { self.new.core.splitter ≡ self.old.core.splitter }
     {
         if self.core.phase() != ClientPhase::Owing {

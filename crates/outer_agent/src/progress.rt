@@ -31,7 +31,8 @@ impl Progress {
     ) -> Result<Progress, NoMemory>
         requires previous { length previous ≤ 512 }
         requires few { AreFew words.now }
-        ensures { IfOk result (λ progress. stand_of progress false ≡ start_stand cookie previous words.now) }
+        ensures { IfOk result (λ progress. stand_of progress false
+            ≡ start_stand cookie previous words.now) }
     {
         let words = command_words(alloc, words.as_slice())?;
         Ok(Progress {

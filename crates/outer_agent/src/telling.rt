@@ -12,7 +12,8 @@ impl Progress {
     /// Says how a save ended, where the outer manager waits for that.
     pub fn tell(&mut self, success: bool) -> Result<Octets, NoMemory>
         ensures bytes { IfOk result (λ bytes. bytes ≡ (telling (keeper_of self.old) success).line) }
-        ensures keeper { OnOk result (keeper_of self.new ≡ (telling (keeper_of self.old) success).next) }
+        ensures keeper { OnOk result (keeper_of self.new
+            ≡ (telling (keeper_of self.old) success).next) }
         ensures splitter { self.new.core.splitter ≡ self.old.core.splitter }
     {
         let mut bytes = Octets::new(self.alloc);

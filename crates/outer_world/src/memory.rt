@@ -15,7 +15,8 @@ impl Outer for MemWorld {
         ensures effects { (mem_outside self.new).told ≡ (mem_outside self.old).told }
         ensures coming { (mem_outside self.new).coming ≡ (mem_outside self.old).coming }
         ensures uses { UsesLinks (mem_outside self.old) (mem_outside self.new) result }
-        ensures numbered { FailsByNumber (λ faults. faults.links) self.old self.new (has_failed result) }
+        ensures numbered { FailsByNumber (λ faults.
+            faults.links) self.old self.new (has_failed result) }
     {
         self.listen(path, path)
     }
@@ -27,7 +28,8 @@ impl Outer for MemWorld {
         ensures coming { (mem_outside self.new).coming ≡ (mem_outside self.old).coming }
         ensures uses { UsesLinks (mem_outside self.old) (mem_outside self.new) result }
         ensures empty { IfOk result (λ bytes. bytes ≡ []) }
-        ensures numbered { FailsByNumber (λ faults. faults.links) self.old self.new (has_failed result) }
+        ensures numbered { FailsByNumber (λ faults.
+            faults.links) self.old self.new (has_failed result) }
     {
         match self.listen(path, path) {
             Ok(()) => Ok(Octets::new(alloc)),

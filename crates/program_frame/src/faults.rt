@@ -20,14 +20,16 @@ pub trait ProgramFault: Copy {
 
     /// Prints the line, where there is one, once. A refusal changes nothing more.
     fn report<W: Console>(self, alloc: Global, world: &mut W)
-        ensures tried { Added (W.outside world.old).told (W.outside world.new).told (Tries (line_of self)) }
+        ensures tried { Added (W.outside world.old).told (W.outside world.new).told
+            (Tries (line_of self)) }
         ensures prints { OnlyPrints (W.outside world.old) (W.outside world.new) }
         ensures silent { line_of self ≡ None → W.outside world.new ≡ W.outside world.old };
 }
 
 /// Prints a line. A refusal changes nothing more.
 pub fn try_line<W: Console>(world: &mut W, line: &[u8])
-    ensures tried { Added (W.outside world.old).told (W.outside world.new).told (Tries (Some line.now)) }
+    ensures tried { Added (W.outside world.old).told (W.outside world.new).told
+        (Tries (Some line.now)) }
     ensures prints { OnlyPrints (W.outside world.old) (W.outside world.new) }
 {
     let _ = world.print(line);
@@ -35,7 +37,8 @@ pub fn try_line<W: Console>(world: &mut W, line: &[u8])
 
 /// Prints a line that ends with a number. A refusal, also for want of memory, changes nothing more.
 pub fn try_numbered<W: Console>(alloc: Global, world: &mut W, words: &str, number: u64)
-    ensures tried { Added (W.outside world.old).told (W.outside world.new).told (Tries (Some (line (words.now ++ decimal number)))) }
+    ensures tried { Added (W.outside world.old).told (W.outside world.new).told
+        (Tries (Some (line (words.now ++ decimal number)))) }
     ensures prints { OnlyPrints (W.outside world.old) (W.outside world.new) }
 {
     if let Ok(line) = format!(in alloc; "{words}{number}\n") {
@@ -50,7 +53,8 @@ pub fn conclude<F: ProgramFault, W: Console>(
     ending: Result<(), F>,
 ) -> u8
     ensures status { result ≡ status_by F.status_of ending }
-    ensures tried { Added (W.outside world.old).told (W.outside world.new).told (Tries (line_by F.line_of ending)) }
+    ensures tried { Added (W.outside world.old).told (W.outside world.new).told
+        (Tries (line_by F.line_of ending)) }
     ensures prints { OnlyPrints (W.outside world.old) (W.outside world.new) }
     ensures silent { line_by F.line_of ending ≡ None → W.outside world.new ≡ W.outside world.old }
 {

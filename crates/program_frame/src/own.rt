@@ -20,9 +20,12 @@ pub struct OwnTexts {
 impl OwnTexts {
     /// The text for these words, where they are one of the two.
     pub fn answer(&self, words: &[String]) -> Option<&'static str>
-        ensures help { map string_bytes words.now ≡ codes "--help" ∷ [] → result ≡ Some self.now.help }
-        ensures version { map string_bytes words.now ≡ codes "--version" ∷ [] → result ≡ Some self.now.version }
-        ensures none { ¬ (map string_bytes words.now ≡ codes "--help" ∷ []) → ¬ (map string_bytes words.now ≡ codes "--version" ∷ []) → result ≡ None }
+        ensures help { map string_bytes words.now ≡ codes "--help" ∷ [] →
+            result ≡ Some self.now.help }
+        ensures version { map string_bytes words.now ≡ codes "--version" ∷ [] →
+            result ≡ Some self.now.version }
+        ensures none { ¬ (map string_bytes words.now ≡ codes "--help" ∷ []) →
+            ¬ (map string_bytes words.now ≡ codes "--version" ∷ []) → result ≡ None }
     {
         if are_one_word(words, "--help") {
             Some(self.help)
@@ -42,7 +45,8 @@ impl OwnTexts {
     ) -> Result<Vec<String>, u8>
         ensures handed { IfOk result (λ handed. words ≡ Ok handed) }
         ensures kept { OnOk result (W.outside console.new ≡ W.outside console.old) }
-        ensures status { IfErr result (IsOwnStatus (W.outside console.old) (W.outside console.new)) }
+        ensures status { IfErr result
+            (IsOwnStatus (W.outside console.old) (W.outside console.new)) }
     {
         let Ok(words) = words else {
             // Nothing else keeps the words from being read.

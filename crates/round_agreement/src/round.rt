@@ -46,7 +46,8 @@ impl Model for Round {
 
     ghost Value = { Agreement };
 
-    ghost view = { λ r. record { members = r.members.items; began_empty = r.began_empty; wanted = r.wanted } };
+    ghost view = { λ r.
+        record { members = r.members.items; began_empty = r.began_empty; wanted = r.wanted } };
 
     ghost invariant = { λ r. r.conns.items ≡ conns_of r.members.items };
 }

@@ -62,7 +62,8 @@ fn bad_value(
     at: u32,
     limit: u32,
 ) -> Result<ErrorBody, NoMemory>
-    ensures { IfOk result (λ error. error ≡ of.bad_value severity arrival.now at (take limit (drop at arrival.now.frame))) }
+    ensures { IfOk result (λ error.
+        error ≡ of.bad_value severity arrival.now at (take limit (drop at arrival.now.frame))) }
 {
     let values = values_at(alloc, at, part(arrival.frame.as_slice(), at, limit))?;
     let class = ErrorClass::BadValue;

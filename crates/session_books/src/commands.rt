@@ -46,7 +46,8 @@ pub fn last_commands(
     clients: &Clients,
     entries: &EntryList,
 ) -> Result<CommandList, NoMemory>
-    ensures { IfOk result (λ commands. commands ≡ filter_map (command_at_end (clients_in clients.now)) entries.now) }
+    ensures { IfOk result (λ commands.
+        commands ≡ filter_map (command_at_end (clients_in clients.now)) entries.now) }
 {
     let mut commands = CommandList::new(alloc);
     for entry in entries.as_slice() {

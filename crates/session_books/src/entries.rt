@@ -61,7 +61,8 @@ fn entry_left(
     shutdown: bool,
     entry: &Entry,
 ) -> Result<Option<Entry>, NoMemory>
-    ensures { IfOk result (λ next. next ≡ cond (stays (expecting expected.now) shutdown entry.now) (Some entry.now) None) }
+    ensures { IfOk result (λ next.
+        next ≡ cond (stays (expecting expected.now) shutdown entry.now) (Some entry.now) None) }
 {
     if is_kept(expected, shutdown, entry) {
         Ok(Some(entry.copy()?))
@@ -78,7 +79,8 @@ fn entry_of_client(
     conn: Conn,
     entry: &Entry,
 ) -> Result<Option<Entry>, NoMemory>
-    ensures { IfOk result (λ next. next ≡ entry_saved entry.now (snapshot (seen clients.now empty_book []) round.now conn)) }
+    ensures { IfOk result (λ next.
+        next ≡ entry_saved entry.now (snapshot (seen clients.now empty_book []) round.now conn)) }
 {
     if !round.members().contains(&conn) {
         return Ok(Some(entry.copy()?));
@@ -97,7 +99,8 @@ fn next_entry(
     expected: &[Array8],
     entry: &Entry,
 ) -> Result<Option<Entry>, NoMemory>
-    ensures { IfOk result (λ next. next ≡ entry_after (seen clients.now empty_book expected.now) round.now entry.now) }
+    ensures { IfOk result (λ next.
+        next ≡ entry_after (seen clients.now empty_book expected.now) round.now entry.now) }
 {
     match clients.client_of(entry.id.as_slice()) {
         Some(conn) => entry_of_client(alloc, clients, round, conn, entry),
@@ -136,7 +139,8 @@ pub fn next_entries(
     book: &Book,
     expected: &[Array8],
 ) -> Result<EntryList, NoMemory>
-    ensures { IfOk result (λ entries. entries ≡ entries_after (seen clients.now book.now expected.now) round.now) }
+    ensures { IfOk result (λ entries.
+        entries ≡ entries_after (seen clients.now book.now expected.now) round.now) }
 {
     let mut entries = old_entries(alloc, clients, round, book, expected)?;
     add_new(alloc, clients, round, book, &mut entries)?;
@@ -151,7 +155,9 @@ fn old_entries(
     book: &Book,
     expected: &[Array8],
 ) -> Result<EntryList, NoMemory>
-    ensures { IfOk result (λ entries. entries ≡ filter_map (entry_after (seen clients.now empty_book expected.now) round.now) book.now.entries) }
+    ensures { IfOk result (λ entries.
+        entries ≡ filter_map (entry_after (seen clients.now empty_book expected.now) round.now)
+        book.now.entries) }
 {
     let mut entries = EntryList::new(alloc);
     for entry in book.entries.as_slice() {
@@ -170,7 +176,9 @@ fn add_new(
     book: &Book,
     entries: &mut EntryList,
 ) -> Result<(), NoMemory>
-    ensures { OnOk result (entries.new ≡ entries.old ++ filter_map (entry_new (seen clients.now book.now [])) (conns_of round.now.members)) }
+    ensures { OnOk result
+        (entries.new ≡ entries.old ++ filter_map (entry_new (seen clients.now book.now []))
+        (conns_of round.now.members)) }
 {
     for conn in round.members() {
         if let Some(entry) = new_entry(alloc, clients, book, *conn)? {
@@ -182,7 +190,8 @@ fn add_new(
 
 /// The entries of a book without the one of this ID.
 pub fn entries_without(alloc: Global, book: &Book, id: &[u8]) -> Result<EntryList, NoMemory>
-    ensures { IfOk result (λ entries. entries ≡ filter (λ entry. not (is_of id.now entry)) book.now.entries) }
+    ensures { IfOk result (λ entries.
+        entries ≡ filter (λ entry. not (is_of id.now entry)) book.now.entries) }
 {
     let mut entries = EntryList::new(alloc);
     for entry in book.entries.as_slice() {

@@ -117,7 +117,8 @@ impl Client {
         message: &XsmpMessage,
         wanted: Option<Wanted>,
     ) -> Result<(), NoMemory>
-        ensures { OnOk result (self.new ≡ client_heard conn message.now (may_interact wanted) self.old) }
+        ensures { OnOk result
+            (self.new ≡ client_heard conn message.now (may_interact wanted) self.old) }
     {
         if conn == self.conn {
             self.take_snapshot(message)?;
@@ -130,7 +131,11 @@ impl Client {
 
     /// Keeps a copy of the table where the client says that its save was a success.
     fn take_snapshot(&mut self, message: &XsmpMessage) -> Result<(), NoMemory>
-        ensures { OnOk result (self.new ≡ record self.old { saved = of.saved_said self.old.conn message.now (λ c. self.old.phase) (λ c. self.old.table) self.old.saved }) }
+        ensures { OnOk result
+            (self.new ≡ record self.old {
+              saved = of.saved_said self.old.conn message.now (λ c.
+                  self.old.phase) (λ c. self.old.table) self.old.saved;
+            }) }
     {
         match message {
             XsmpMessage::SaveYourselfDone { success: true } if is_saving(self.phase) => {
@@ -143,7 +148,11 @@ impl Client {
 
     /// Sets or deletes properties where the client asks for that and may.
     fn change_table(&mut self, message: &XsmpMessage) -> Result<(), NoMemory>
-        ensures { OnOk result (self.new ≡ record self.old { table = table_said self.old.conn message.now (λ c. self.old.phase) self.old.table }) }
+        ensures { OnOk result
+            (self.new ≡ record self.old {
+              table = table_said self.old.conn message.now (λ c.
+                  self.old.phase) self.old.table;
+            }) }
     {
         match message {
             XsmpMessage::SetProperties { properties } if is_bound(self.phase) => {

@@ -48,7 +48,8 @@ impl Model for Clients {
 
     ghost Value = { Held };
 
-    ghost view = { λ clients. record { rows = clients.rows.items; registered = clients.registered.items } };
+    ghost view = { λ clients.
+        record { rows = clients.rows.items; registered = clients.registered.items } };
 }
 
 impl Clients {
@@ -138,7 +139,8 @@ impl Clients {
     /// How many IDs are known: those that the book has entries for, and those of registered
     /// connections that it hasn't.
     pub fn known_ids(&self, book: &Book) -> usize
-        ensures { (r : Reading) → r.clients ≡ clients_in self.now → r.store.book ≡ book.now → result ≡ known_ids r }
+        ensures { (r : Reading) → r.clients ≡ clients_in self.now → r.store.book ≡ book.now →
+            result ≡ known_ids r }
     {
         book.entries.as_slice().len() + count_new_ids(&self.rows, &self.registered, book)
     }
@@ -160,7 +162,9 @@ impl Clients {
     /// The registered connections that are overdue once these milliseconds have passed, in the order
     /// in which they registered. This takes no memory where there is none.
     pub fn overdue(&self, patience: u64, milliseconds: u64) -> Result<ConnList, NoMemory>
-        ensures { IfOk result (λ conns. (r : Reading) → r.clients ≡ clients_in self.now → r.run.patience ≡ patience → conns ≡ filter (is_overdue r milliseconds) r.clients.registered) }
+        ensures { IfOk result (λ conns. (r : Reading) → r.clients ≡ clients_in self.now →
+            r.run.patience ≡ patience → conns ≡ filter
+            (is_overdue r milliseconds) r.clients.registered) }
     {
         let alloc = *self.rows.allocator();
         late_among(alloc, &self.rows, &self.registered, patience, milliseconds)
@@ -168,14 +172,16 @@ impl Clients {
 
     /// The live connections that aren't registered, in the order in which they joined.
     pub fn unregistered(&self) -> Result<ConnList, NoMemory>
-        ensures { IfOk result (λ conns. conns ≡ filter (λ c. not (is_in c self.now.registered)) (conns_in self.now.rows)) }
+        ensures { IfOk result (λ conns.
+            conns ≡ filter (λ c. not (is_in c self.now.registered)) (conns_in self.now.rows)) }
     {
         conns_beside(*self.rows.allocator(), &self.rows, &self.registered)
     }
 
     /// Whether a client couldn't set these properties, since its table would be too full.
     pub fn would_be_full(&self, conn: Conn, list: &PropertyList) -> Result<bool, NoMemory>
-        ensures { IfOk result (λ full. full ≡ is_full (set_all (table_in conn self.now.rows) list.now)) }
+        ensures { IfOk result (λ full.
+            full ≡ is_full (set_all (table_in conn self.now.rows) list.now)) }
     {
         let table = match table_in(&self.rows, conn) {
             Some(table) => table.copy()?,
@@ -225,7 +231,8 @@ impl Clients {
 
     /// A connection was given an ID by a RegisterClientReply, and begins with this table.
     pub fn register(&mut self, conn: Conn, id: Array8, table: PropertyTable) -> Result<(), NoMemory>
-        ensures { OnOk result (self.new ≡ held_after (Gave conn (RegisterClientReply id)) (λ other. table) (λ dialog. false) self.old) }
+        ensures { OnOk result (self.new ≡ held_after (Gave conn (RegisterClientReply id)) (λ other.
+            table) (λ dialog. false) self.old) }
     {
         register_each(&mut self.rows, conn, &id, &table)?;
         self.registered.push(conn)?;
@@ -248,7 +255,9 @@ impl Clients {
         message: &XsmpMessage,
         wanted: Option<Wanted>,
     ) -> Result<(), NoMemory>
-        ensures { OnOk result ((first : List ℕ → List Property) (sequence : ℕ) (frame : List ℕ) → self.new ≡ held_after (Outside (Said conn message.now sequence frame)) first (may_interact wanted) self.old) }
+        ensures { OnOk result ((first : List ℕ → List Property) (sequence : ℕ) (frame : List ℕ) →
+            self.new ≡ held_after (Outside (Said conn message.now sequence frame)) first
+            (may_interact wanted) self.old) }
     {
         hear_each(&mut self.rows, conn, message, wanted)
     }

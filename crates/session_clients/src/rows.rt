@@ -131,7 +131,8 @@ pub(crate) fn hear_each(
     message: &XsmpMessage,
     wanted: Option<Wanted>,
 ) -> Result<(), NoMemory>
-    ensures { OnOk result (rows.new ≡ map (client_heard conn message.now (may_interact wanted)) rows.old) }
+    ensures { OnOk result
+        (rows.new ≡ map (client_heard conn message.now (may_interact wanted)) rows.old) }
 {
     for row in rows {
         row.hear(conn, message, wanted)?;

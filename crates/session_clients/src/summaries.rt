@@ -45,7 +45,8 @@ pub(crate) fn discards_in(
     rows: &[Client],
     conns: &[Conn],
 ) -> Result<CommandList, NoMemory>
-    ensures { IfOk result (λ commands. commands ≡ filter_map (λ c. discard_of (table_in c rows.now)) conns.now) }
+    ensures { IfOk result (λ commands.
+        commands ≡ filter_map (λ c. discard_of (table_in c rows.now)) conns.now) }
 {
     let mut commands = CommandList::new(alloc);
     for conn in conns {
@@ -68,7 +69,8 @@ pub(crate) fn conns_beside(
     rows: &[Client],
     conns: &[Conn],
 ) -> Result<ConnList, NoMemory>
-    ensures { IfOk result (λ others. others ≡ filter (λ c. not (is_in c conns.now)) (conns_in rows.now)) }
+    ensures { IfOk result (λ others.
+        others ≡ filter (λ c. not (is_in c conns.now)) (conns_in rows.now)) }
 {
     let mut others = ConnList::new(alloc);
     for row in rows {
@@ -87,7 +89,9 @@ pub(crate) fn late_among(
     patience: u64,
     milliseconds: u64,
 ) -> Result<ConnList, NoMemory>
-    ensures { IfOk result (λ late. late ≡ filter (λ c. is_late patience milliseconds (phase_in c rows.now) (quiet_in c rows.now)) conns.now) }
+    ensures { IfOk result (λ late.
+        late ≡ filter (λ c. is_late patience milliseconds (phase_in c rows.now)
+        (quiet_in c rows.now)) conns.now) }
 {
     let mut late = ConnList::new(alloc);
     for conn in conns {
@@ -112,7 +116,9 @@ pub(crate) fn is_any_owing(rows: &[Client], conns: &[Conn]) -> bool
 
 /// How many of these connections have an ID which the book has no entry for.
 pub(crate) fn count_new_ids(rows: &[Client], conns: &[Conn], book: &Book) -> usize
-    ensures count { result ≡ length (filter (λ id. not (is_recorded id book.now)) (filter_map (λ c. id_in c rows.now) conns.now)) }
+    ensures count { result
+        ≡ length (filter (λ id. not (is_recorded id book.now))
+        (filter_map (λ c. id_in c rows.now) conns.now)) }
     ensures within { result ≤ length conns.now }
 {
     let mut count = 0;

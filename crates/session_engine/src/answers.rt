@@ -55,7 +55,8 @@ impl Outcome {
     /// The connection goes on from here, after it was there; where XSMP is spoken and wasn't
     /// before, it has begun.
     fn goes(before: &AnySetup, setup: AnySetup, message: Option<Message>) -> Outcome
-        ensures outcome { result ≡ going (speaks_xsmp setup && not (speaks_xsmp before.now)) setup message }
+        ensures outcome { result ≡ going (speaks_xsmp setup && not (speaks_xsmp before.now)) setup
+            message }
         ensures said { CanBeSaid message → CanBeSaid (said_in result.answer) }
         ensures spelled { IsSpelled result.answer }
     {
@@ -111,7 +112,8 @@ fn take_message(
     message: IceMessage,
 ) -> Result<Outcome, NoMemory>
     ensures outcome { IfOk result (λ outcome. outcome ≡ message_outcome setup message sequence) }
-    ensures said { (e : AnyEndian) → HasFittingBody e message → IfOk result (λ outcome. CanBeSaid (said_in outcome.answer)) }
+    ensures said { (e : AnyEndian) → HasFittingBody e message →
+        IfOk result (λ outcome. CanBeSaid (said_in outcome.answer)) }
     ensures spelled { IfOk result (λ outcome. IsSpelled outcome.answer) }
 {
     match setup.take(alloc, message, sequence) {
@@ -179,7 +181,8 @@ fn take_ice(
     requires whole { IsFrame endian frame.now }
     requires within { length frame.now ≤ byte_limit }
     requires opcode { slice_index frame.now 0 ≡ 0 }
-    ensures outcome { IfOk result (λ outcome. outcome ≡ read_outcome setup sequence frame.now (decode_at endian frame.now)) }
+    ensures outcome { IfOk result (λ outcome. outcome
+        ≡ read_outcome setup sequence frame.now (decode_at endian frame.now)) }
     ensures said { IfOk result (λ outcome. CanBeSaid (said_in outcome.answer)) }
     ensures spelled { IfOk result (λ outcome. IsSpelled outcome.answer) }
 {
@@ -232,7 +235,8 @@ fn take_xsmp(
 ) -> Result<Outcome, NoMemory>
     requires whole { IsFrame endian frame.now }
     requires within { length frame.now ≤ byte_limit }
-    ensures outcome { IfOk result (λ outcome. outcome ≡ xsmp_outcome setup sequence frame.now (xsmp_at endian frame.now)) }
+    ensures outcome { IfOk result (λ outcome. outcome
+        ≡ xsmp_outcome setup sequence frame.now (xsmp_at endian frame.now)) }
     ensures said { IfOk result (λ outcome. CanBeSaid (said_in outcome.answer)) }
     ensures spelled { IfOk result (λ outcome. IsSpelled outcome.answer) }
 {
@@ -266,7 +270,8 @@ fn take_later(
 ) -> Result<Outcome, NoMemory>
     requires whole { IsFrame endian frame.now }
     requires within { length frame.now ≤ byte_limit }
-    ensures outcome { IfOk result (λ outcome. outcome ≡ later_outcome setup sequence endian frame.now) }
+    ensures outcome { IfOk result (λ outcome. outcome
+        ≡ later_outcome setup sequence endian frame.now) }
     ensures said { IfOk result (λ outcome. CanBeSaid (said_in outcome.answer)) }
     ensures spelled { IfOk result (λ outcome. IsSpelled outcome.answer) }
 {
@@ -294,7 +299,9 @@ pub fn take_frame(
     requires header { 8 ≤ length frame.bytes.now }
     requires whole { is_ordered setup ≡ true → IsFrame frame.endian frame.bytes.now }
     requires within { length frame.bytes.now ≤ byte_limit }
-    ensures outcome { IfOk result (λ outcome. outcome ≡ frame_outcome setup sequence (record { endian = frame.entry.endian; bytes = frame.entry.bytes.now })) }
+    ensures outcome { IfOk result (λ outcome. outcome
+        ≡ frame_outcome setup sequence
+        (record { endian = frame.entry.endian; bytes = frame.entry.bytes.now })) }
     ensures said { IfOk result (λ outcome. CanBeSaid (said_in outcome.answer)) }
     ensures spelled { IfOk result (λ outcome. IsSpelled outcome.answer) }
 {

@@ -57,10 +57,13 @@ impl Connection {
     /// Takes the rest of a piece up to the end of the first part. `None` where it completes none.
     pub fn cut(&mut self, alloc: Global, left: &[u8]) -> Result<Option<Answered>, NoMemory>
         ensures cuts { IfOk result (λ answered. Cuts self.old left.now answered self.new) }
-        ensures said { IfOk result (λ answered. IfSome answered (λ part. CanBeSaid (said_in part.answer))) }
-        ensures spelled { IfOk result (λ answered. IfSome answered (λ part. IsSpelled part.answer)) }
+        ensures said { IfOk result (λ answered.
+            IfSome answered (λ part. CanBeSaid (said_in part.answer))) }
+        ensures spelled { IfOk result (λ answered.
+            IfSome answered (λ part. IsSpelled part.answer)) }
         ensures some { IfOk result (λ answered. IfSome answered (λ part. 1 ≤ part.count)) }
-        ensures within { IfOk result (λ answered. IfSome answered (λ part. part.count ≤ length left.now)) }
+        ensures within { IfOk result (λ answered.
+            IfSome answered (λ part. part.count ≤ length left.now)) }
         ensures conn { self.new.conn ≡ self.old.conn }
     {
         let sequence = self.sequence.wrapping_add(1);

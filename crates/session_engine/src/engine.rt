@@ -141,7 +141,8 @@ impl Engine {
     /// it is sent the manager's order.
     pub fn join(&mut self, alloc: Global, conn: Conn) -> Result<(), NoMemory>
         requires { IsShown all_cut self.old }
-        ensures { (m : Machine) → Shows all_cut self.old m → OnOk result (Gives (step m (Joined conn)) self.new) }
+        ensures { (m : Machine) → Shows all_cut self.old m →
+            OnOk result (Gives (step m (Joined conn)) self.new) }
     {
         self.acts.clear();
         if self.live.is_live(conn) {
@@ -161,7 +162,8 @@ impl Engine {
         requires said { CanBeSaid message }
         requires stands { IsStanding self.old.manager }
         requires takes { TakesEvent (LeftIt conn) (reading_in self.old.manager.session) }
-        ensures { OnOk result (Departs conn (says conn message ++ Shut conn ∷ []) self.old self.new) }
+        ensures { OnOk result
+            (Departs conn (says conn message ++ Shut conn ∷ []) self.old self.new) }
     {
         self.live.leave(conn);
         self.acts.close(conn, message)?;
@@ -208,7 +210,8 @@ impl Engine {
     /// bytes that was. `None` where it completes no part.
     pub fn cut(&mut self, alloc: Global, conn: Conn, left: &[u8]) -> Result<Option<usize>, NoMemory>
         requires { IsShown (to_cut conn left.now) self.old }
-        ensures takes { (m : Machine) → Shows (to_cut conn left.now) self.old m → IfOk result (λ count. Takes m conn left.now count self.new) }
+        ensures takes { (m : Machine) → Shows (to_cut conn left.now) self.old m →
+            IfOk result (λ count. Takes m conn left.now count self.new) }
         ensures some { IfOk result (λ count. IfSome count (λ n. 1 ≤ n)) }
         ensures within { IfOk result (λ count. IfSome count (λ n. n ≤ length left.now)) }
     {
@@ -225,7 +228,8 @@ impl Engine {
     /// Hears that a connection is gone.
     pub fn leave(&mut self, gone: Conn) -> Result<(), NoMemory>
         requires { IsShown all_cut self.old }
-        ensures { (m : Machine) → Shows all_cut self.old m → OnOk result (Gives (step m (Gone gone)) self.new) }
+        ensures { (m : Machine) → Shows all_cut self.old m →
+            OnOk result (Gives (step m (Gone gone)) self.new) }
     {
         self.acts.clear();
         if !self.live.is_live(gone) {
@@ -238,7 +242,8 @@ impl Engine {
     /// Hears an order of the operator.
     pub fn order(&mut self, order: Order) -> Result<(), NoMemory>
         requires { IsShown all_cut self.old }
-        ensures { (m : Machine) → Shows all_cut self.old m → OnOk result (Gives (step m (Operator order)) self.new) }
+        ensures { (m : Machine) → Shows all_cut self.old m →
+            OnOk result (Gives (step m (Operator order)) self.new) }
     {
         self.acts.clear();
         self.tell(SessionEvent::Operator(order))
@@ -247,7 +252,8 @@ impl Engine {
     /// Hears that so many milliseconds have passed.
     pub fn tick(&mut self, milliseconds: u64) -> Result<(), NoMemory>
         requires { IsShown all_cut self.old }
-        ensures { (m : Machine) → Shows all_cut self.old m → OnOk result (Gives (step m (Tick milliseconds)) self.new) }
+        ensures { (m : Machine) → Shows all_cut self.old m →
+            OnOk result (Gives (step m (Tick milliseconds)) self.new) }
     {
         self.acts.clear();
         self.tell(SessionEvent::Tick(milliseconds))

@@ -9,7 +9,8 @@ use crate::config::Config;
 /// Does nothing: its contract is a law of the session machine. Whatever came, at most 64
 /// connections are live.
 pub fn at_most_64_live(config: Config)
-    ensures { (book : AnyBook) (events : List AnyEvent) → length (after_all (start config book) events).connections ≤ live_limit }
+    ensures { (book : AnyBook) (events : List AnyEvent) →
+        length (after_all (start config book) events).connections ≤ live_limit }
 {}
 
 /// Does nothing: its contract is a law of crashes. A file that has a checkpoint behind a front of the

@@ -44,7 +44,8 @@ impl Connections {
     /// Makes a connection live that isn't, of a session with this cookie.
     pub fn join(&mut self, alloc: Global, cookie: Cookie, conn: Conn) -> Result<(), NoMemory>
         requires { kept_at self.old conn ≡ None }
-        ensures { OnOk result ((kept : Connection) × IsNew cookie kept × ChangesAt self.old self.new conn (Some kept)) }
+        ensures { OnOk result ((kept : Connection) × IsNew cookie kept
+            × ChangesAt self.old self.new conn (Some kept)) }
     {
         let place = self.seats.insert(Connection::new(alloc, cookie, conn)?)?;
         if self.places.insert(conn, place).is_err() {
@@ -62,12 +63,17 @@ impl Connections {
         conn: Conn,
         left: &[u8],
     ) -> Result<Option<Answered>, NoMemory>
-        ensures cut { IfOk result (λ answered. CutsAt (kept_at self.old conn) left.now answered (kept_at self.new conn)) }
-        ensures said { IfOk result (λ answered. IfSome answered (λ part. CanBeSaid (said_in part.answer))) }
-        ensures spelled { IfOk result (λ answered. IfSome answered (λ part. IsSpelled part.answer)) }
+        ensures cut { IfOk result (λ answered.
+            CutsAt (kept_at self.old conn) left.now answered (kept_at self.new conn)) }
+        ensures said { IfOk result (λ answered.
+            IfSome answered (λ part. CanBeSaid (said_in part.answer))) }
+        ensures spelled { IfOk result (λ answered.
+            IfSome answered (λ part. IsSpelled part.answer)) }
         ensures some { IfOk result (λ answered. IfSome answered (λ part. 1 ≤ part.count)) }
-        ensures within { IfOk result (λ answered. IfSome answered (λ part. part.count ≤ length left.now)) }
-        ensures others { OnOk result ((q : ℕ) → q ≢ conn → kept_at self.new q ≡ kept_at self.old q) }
+        ensures within { IfOk result (λ answered.
+            IfSome answered (λ part. part.count ≤ length left.now)) }
+        ensures others { OnOk result ((q : ℕ) → q ≢ conn →
+            kept_at self.new q ≡ kept_at self.old q) }
     {
         let Some(place) = self.places.get(&conn) else {
             return Ok(None);

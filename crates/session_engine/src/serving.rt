@@ -73,7 +73,8 @@ fn carry_out<W: Disk + Links + Spawner + Console>(
 ) -> Result<(Store, Turn), Halt>
     requires size { (W.outside world.old).size ≡ store_size }
     requires can { AllByRecursion CanBeDone acts.now }
-    ensures done { Added (W.outside world.old).told (W.outside world.new).told (Performs store acts.now (stored result)) }
+    ensures done { Added (W.outside world.old).told (W.outside world.new).told
+        (Performs store acts.now (stored result)) }
     ensures turn { IfOk result (λ done. is_end done.1 ≡ has_finish acts.now) }
     ensures alone { HearsNone (W.outside world.old) (W.outside world.new) result }
 {
@@ -95,8 +96,11 @@ fn take_piece<W: Disk + Links + Spawner + Console>(
 ) -> Result<(Store, Turn), Halt>
     requires size { (W.outside world.old).size ≡ store_size }
     requires shown { IsShown all_cut engine.old }
-    ensures carried { (m : Machine) → Shows all_cut engine.old m → Carried (W.outside world.old).told (W.outside world.new).told store engine.new (step m (Piece conn bytes.now)) (stored result) }
-    ensures turn { (m : Machine) → Shows all_cut engine.old m → IfOk result (λ done. is_end done.1 ≡ has_finish (acts_of (step m (Piece conn bytes.now)))) }
+    ensures carried { (m : Machine) → Shows all_cut engine.old m →
+        Carried (W.outside world.old).told (W.outside world.new).told store engine.new
+        (step m (Piece conn bytes.now)) (stored result) }
+    ensures turn { (m : Machine) → Shows all_cut engine.old m →
+        IfOk result (λ done. is_end done.1 ≡ has_finish (acts_of (step m (Piece conn bytes.now)))) }
     ensures alone { HearsNone (W.outside world.old) (W.outside world.new) result }
 {
     let mut left = bytes;
@@ -132,8 +136,11 @@ fn take_join<W: Disk + Links + Spawner + Console>(
 ) -> Result<(Store, Turn), Halt>
     requires size { (W.outside world.old).size ≡ store_size }
     requires shown { IsShown all_cut engine.old }
-    ensures carried { (m : Machine) → Shows all_cut engine.old m → Carried (W.outside world.old).told (W.outside world.new).told store engine.new (step m (Joined conn)) (stored result) }
-    ensures turn { (m : Machine) → Shows all_cut engine.old m → IfOk result (λ done. is_end done.1 ≡ has_finish (acts_of (step m (Joined conn)))) }
+    ensures carried { (m : Machine) → Shows all_cut engine.old m →
+        Carried (W.outside world.old).told (W.outside world.new).told store engine.new
+        (step m (Joined conn)) (stored result) }
+    ensures turn { (m : Machine) → Shows all_cut engine.old m →
+        IfOk result (λ done. is_end done.1 ≡ has_finish (acts_of (step m (Joined conn)))) }
     ensures alone { HearsNone (W.outside world.old) (W.outside world.new) result }
 {
     match engine.join(alloc, conn) {
@@ -152,8 +159,11 @@ fn take_end<W: Disk + Links + Spawner + Console>(
 ) -> Result<(Store, Turn), Halt>
     requires size { (W.outside world.old).size ≡ store_size }
     requires shown { IsShown all_cut engine.old }
-    ensures carried { (m : Machine) → Shows all_cut engine.old m → Carried (W.outside world.old).told (W.outside world.new).told store engine.new (step m (Gone conn)) (stored result) }
-    ensures turn { (m : Machine) → Shows all_cut engine.old m → IfOk result (λ done. is_end done.1 ≡ has_finish (acts_of (step m (Gone conn)))) }
+    ensures carried { (m : Machine) → Shows all_cut engine.old m →
+        Carried (W.outside world.old).told (W.outside world.new).told store engine.new
+        (step m (Gone conn)) (stored result) }
+    ensures turn { (m : Machine) → Shows all_cut engine.old m →
+        IfOk result (λ done. is_end done.1 ≡ has_finish (acts_of (step m (Gone conn)))) }
     ensures alone { HearsNone (W.outside world.old) (W.outside world.new) result }
 {
     match engine.leave(conn) {
@@ -171,8 +181,11 @@ fn hear_order<W: Disk + Links + Spawner + Console>(
 ) -> Result<(Store, Turn), Halt>
     requires size { (W.outside world.old).size ≡ store_size }
     requires shown { IsShown all_cut engine.old }
-    ensures carried { (m : Machine) → Shows all_cut engine.old m → Carried (W.outside world.old).told (W.outside world.new).told store engine.new (step m (Operator order)) (stored result) }
-    ensures turn { (m : Machine) → Shows all_cut engine.old m → IfOk result (λ done. is_end done.1 ≡ has_finish (acts_of (step m (Operator order)))) }
+    ensures carried { (m : Machine) → Shows all_cut engine.old m →
+        Carried (W.outside world.old).told (W.outside world.new).told store engine.new
+        (step m (Operator order)) (stored result) }
+    ensures turn { (m : Machine) → Shows all_cut engine.old m →
+        IfOk result (λ done. is_end done.1 ≡ has_finish (acts_of (step m (Operator order)))) }
     ensures alone { HearsNone (W.outside world.old) (W.outside world.new) result }
 {
     match engine.order(order) {
@@ -191,8 +204,11 @@ fn take_order<W: Disk + Links + Spawner + Console>(
 ) -> Result<(Store, Turn), Halt>
     requires size { (W.outside world.old).size ≡ store_size }
     requires shown { IsShown all_cut engine.old }
-    ensures carried { (m : Machine) → Shows all_cut engine.old m → Carried (W.outside world.old).told (W.outside world.new).told store engine.new (step m (Operator order.now)) (stored result) }
-    ensures turn { (m : Machine) → Shows all_cut engine.old m → IfOk result (λ done. is_end done.1 ≡ has_finish (acts_of (step m (Operator order.now)))) }
+    ensures carried { (m : Machine) → Shows all_cut engine.old m →
+        Carried (W.outside world.old).told (W.outside world.new).told store engine.new
+        (step m (Operator order.now)) (stored result) }
+    ensures turn { (m : Machine) → Shows all_cut engine.old m →
+        IfOk result (λ done. is_end done.1 ≡ has_finish (acts_of (step m (Operator order.now)))) }
     ensures alone { HearsNone (W.outside world.old) (W.outside world.new) result }
 {
     match order.copy() {
@@ -211,8 +227,11 @@ fn take_tick<W: Disk + Links + Spawner + Console>(
 ) -> Result<(Store, Turn), Halt>
     requires size { (W.outside world.old).size ≡ store_size }
     requires shown { IsShown all_cut engine.old }
-    ensures carried { (m : Machine) → Shows all_cut engine.old m → Carried (W.outside world.old).told (W.outside world.new).told store engine.new (step m (Tick milliseconds)) (stored result) }
-    ensures turn { (m : Machine) → Shows all_cut engine.old m → IfOk result (λ done. is_end done.1 ≡ has_finish (acts_of (step m (Tick milliseconds)))) }
+    ensures carried { (m : Machine) → Shows all_cut engine.old m →
+        Carried (W.outside world.old).told (W.outside world.new).told store engine.new
+        (step m (Tick milliseconds)) (stored result) }
+    ensures turn { (m : Machine) → Shows all_cut engine.old m →
+        IfOk result (λ done. is_end done.1 ≡ has_finish (acts_of (step m (Tick milliseconds)))) }
     ensures alone { HearsNone (W.outside world.old) (W.outside world.new) result }
 {
     match engine.tick(milliseconds) {
@@ -232,8 +251,11 @@ pub fn take_event<W: Disk + Links + Spawner + Console>(
 ) -> Result<(Store, Turn), Halt>
     requires size { (W.outside world.old).size ≡ store_size }
     requires shown { IsShown all_cut engine.old }
-    ensures carried { (m : Machine) → Shows all_cut engine.old m → Carried (W.outside world.old).told (W.outside world.new).told store engine.new (step m event.now) (stored result) }
-    ensures turn { (m : Machine) → Shows all_cut engine.old m → IfOk result (λ done. is_end done.1 ≡ has_finish (acts_of (step m event.now))) }
+    ensures carried { (m : Machine) → Shows all_cut engine.old m →
+        Carried (W.outside world.old).told (W.outside world.new).told store engine.new
+        (step m event.now) (stored result) }
+    ensures turn { (m : Machine) → Shows all_cut engine.old m →
+        IfOk result (λ done. is_end done.1 ≡ has_finish (acts_of (step m event.now))) }
     ensures alone { HearsNone (W.outside world.old) (W.outside world.new) result }
 {
     match event {

@@ -63,7 +63,8 @@ impl Session {
         // So it can be stepped on.
         ensures shown { IfOk result (λ session. IsShown all_cut session.engine) }
         ensures counts { NotFallen (W.outside world.old).faults (W.outside world.new).faults }
-        ensures cause { IfErr result (HasCause (W.outside world.old).faults (W.outside world.new).faults) }
+        ensures cause { IfErr result
+            (HasCause (W.outside world.old).faults (W.outside world.new).faults) }
     {
         let (store, book) = match Store::recover_from(alloc, world) {
             Ok(recovered) => recovered,
@@ -87,7 +88,11 @@ impl Session {
     ) -> Result<Stepped, ServeFault>
         requires size { (W.outside world.old).size ≡ store_size }
         requires shown { IsShown all_cut self.engine }
-        ensures steps { (config : Config) (opening : AnyBook) (current : Option Current) (effects : List Effect) → StandsFor config opening current self effects → Added (W.outside world.old).told (W.outside world.new).told (λ added. (heard added ≡ []) × StepsTo config opening current result (effects ++ Heard event ∷ added)) }
+        ensures steps { (config : Config) (opening : AnyBook) (current : Option Current)
+            (effects : List Effect) → StandsFor config opening current self effects →
+            Added (W.outside world.old).told (W.outside world.new).told (λ added.
+            (heard added ≡ []) × StepsTo config opening current result
+            (effects ++ Heard event ∷ added)) }
         ensures coming { (W.outside world.new).coming ≡ (W.outside world.old).coming }
         ensures input { (W.outside world.new).input ≡ (W.outside world.old).input }
         ensures first { (W.outside world.new).first ≡ (W.outside world.old).first }
@@ -95,7 +100,8 @@ impl Session {
         // A session that goes on can be stepped on.
         ensures shown { IfOk result ShowsOn }
         ensures counts { NotFallen (W.outside world.old).faults (W.outside world.new).faults }
-        ensures cause { IfErr result (HasCause (W.outside world.old).faults (W.outside world.new).faults) }
+        ensures cause { IfErr result
+            (HasCause (W.outside world.old).faults (W.outside world.new).faults) }
     {
         let Session {
             mut engine,
@@ -141,7 +147,8 @@ fn open<W: Disk + Links + Spawner + Console>(
     requires size { (W.outside world.old).size ≡ store_size }
     requires rules { KeepsRules book }
     requires below { book.epoch < 4294967295 }
-    ensures done { Added (W.outside world.old).told (W.outside world.new).told (Performs store (opening_acts book) (kept result)) }
+    ensures done { Added (W.outside world.old).told (W.outside world.new).told
+        (Performs store (opening_acts book) (kept result)) }
     ensures shows { IfOk result (λ session. Shows all_cut session.engine (begun config book)) }
     ensures alone { HearsNone (W.outside world.old) (W.outside world.new) result }
 {
@@ -172,14 +179,19 @@ pub fn serve<W: Disk + Links + Spawner + Console>(
     // What it adds to the effects is a run of the session machine over the events that it was brought.
     ensures serves { Serving config turns (W.outside world.old) (W.outside world.new) result }
     // The same for a store of which no byte was in doubt: at every point of the run each file that a crash could leave has a whole checkpoint.
-    ensures headline { (file : List ℕ) (book : AnyBook) → IsSettled (W.outside world.old) file → Recovers file (Ok book) → Added (W.outside world.old).told (W.outside world.new).told (KeepsItsWord config book file result) }
+    ensures headline { (file : List ℕ) (book : AnyBook) → IsSettled (W.outside world.old) file →
+        Recovers file (Ok book) → Added (W.outside world.old).told (W.outside world.new).told
+        (KeepsItsWord config book file result) }
     // Where the disk didn't fail the same world can be served again, with the headline.
-    ensures ready { (file : List ℕ) → IsSettled (W.outside world.old) file → result ≢ Err ServeFault.DiskFault → Added (W.outside world.old).told (W.outside world.new).told (IsReady file (W.outside world.new)) }
+    ensures ready { (file : List ℕ) → IsSettled (W.outside world.old) file →
+        result ≢ Err ServeFault.DiskFault → Added (W.outside world.old).told
+        (W.outside world.new).told (IsReady file (W.outside world.new)) }
     // The input is left alone.
     ensures input { (W.outside world.new).input ≡ (W.outside world.old).input }
     ensures first { (W.outside world.new).first ≡ (W.outside world.old).first }
     ensures counts { NotFallen (W.outside world.old).faults (W.outside world.new).faults }
-    ensures cause { IfErr result (HasCause (W.outside world.old).faults (W.outside world.new).faults) }
+    ensures cause { IfErr result
+        (HasCause (W.outside world.old).faults (W.outside world.new).faults) }
 {
     let mut session = match Session::start(alloc, world, config) {
         Ok(session) => session,

@@ -21,7 +21,8 @@ use std::alloc::Global;
 
 /// The next event.
 pub fn hear<W: Links>(world: &mut W) -> Result<Event, Halt>
-    ensures effects { (W.outside world.new).told ≡ adds (W.outside world.old).told (of_ok Heard result) }
+    ensures effects { (W.outside world.new).told ≡ adds (W.outside world.old).told
+        (of_ok Heard result) }
     ensures coming { TakesNext (W.outside world.old).coming (W.outside world.new).coming result }
     ensures size { IfOk result HasPieceSize }
     ensures store { (W.outside world.new).size ≡ (W.outside world.old).size }
@@ -86,7 +87,8 @@ impl Shell {
 
     fn send<W: Links>(&mut self, world: &mut W, to: Conn, message: &Message) -> Result<(), Halt>
         requires { ¬ (IsTooLong message.now) }
-        ensures effects { (W.outside world.new).told ≡ adds (W.outside world.old).told (on_ok result (Sent to (spelled message.now) ∷ [])) }
+        ensures effects { (W.outside world.new).told
+            ≡ adds (W.outside world.old).told (on_ok result (Sent to (spelled message.now) ∷ [])) }
         ensures able { IfErr result (λ halt. IsRefused halt (Says to message.now ∷ [])) }
         ensures alone { HearsNone (W.outside world.old) (W.outside world.new) result }
     {
@@ -100,7 +102,8 @@ impl Shell {
     }
 
     fn shut<W: Links>(&mut self, world: &mut W, to: Conn) -> Result<(), Halt>
-        ensures effects { (W.outside world.new).told ≡ adds (W.outside world.old).told (on_ok result (Shut to ∷ [])) }
+        ensures effects { (W.outside world.new).told
+            ≡ adds (W.outside world.old).told (on_ok result (Shut to ∷ [])) }
         ensures able { IfErr result (λ halt. IsRefused halt (Shuts to ∷ [])) }
         ensures alone { HearsNone (W.outside world.old) (W.outside world.new) result }
     {
@@ -109,7 +112,8 @@ impl Shell {
 
     /// Starts a command. One that can't be started counts as tried.
     fn start<W: Spawner>(&mut self, world: &mut W, command: &Command) -> Result<(), Halt>
-        ensures effects { Launches (W.outside world.old).told (W.outside world.new).told command.now result }
+        ensures effects { Launches (W.outside world.old).told
+            (W.outside world.new).told command.now result }
         ensures able { IfErr result (λ halt. halt ≡ WantsMemory) }
         ensures alone { HearsNone (W.outside world.old) (W.outside world.new) result }
     {
@@ -121,7 +125,8 @@ impl Shell {
 
     /// Prints a line.
     fn print<W: Console>(&mut self, world: &mut W, text: &[u8]) -> Result<(), Halt>
-        ensures effects { (W.outside world.new).told ≡ adds (W.outside world.old).told (on_ok result (Printed (text.now ++ 10 ∷ []) ∷ [])) }
+        ensures effects { (W.outside world.new).told
+            ≡ adds (W.outside world.old).told (on_ok result (Printed (text.now ++ 10 ∷ []) ∷ [])) }
         ensures able { IfErr result (λ halt. IsRefused halt (Prints text.now ∷ [])) }
         ensures alone { HearsNone (W.outside world.old) (W.outside world.new) result }
     {
@@ -135,7 +140,8 @@ impl Shell {
     fn commit<W: Disk>(&mut self, world: &mut W, store: Store, book: &Book) -> Result<Store, Halt>
         requires size { (W.outside world.old).size ≡ store_size }
         requires rules { KeepsRules book.now }
-        ensures done { Added (W.outside world.old).told (W.outside world.new).told (Performs store (Commits book.now ∷ []) result) }
+        ensures done { Added (W.outside world.old).told (W.outside world.new).told
+            (Performs store (Commits book.now ∷ []) result) }
         ensures alone { HearsNone (W.outside world.old) (W.outside world.new) result }
     {
         match store.commit(self.alloc, world, book) {
@@ -153,7 +159,8 @@ impl Shell {
     ) -> Result<Store, Halt>
         requires size { (W.outside world.old).size ≡ store_size }
         requires can { CanBeDone act.now }
-        ensures done { Added (W.outside world.old).told (W.outside world.new).told (Performs store (act.now ∷ []) result) }
+        ensures done { Added (W.outside world.old).told (W.outside world.new).told
+            (Performs store (act.now ∷ []) result) }
         ensures alone { HearsNone (W.outside world.old) (W.outside world.new) result }
     {
         match act {
@@ -175,7 +182,8 @@ impl Shell {
     ) -> Result<Store, Halt>
         requires size { (W.outside world.old).size ≡ store_size }
         requires can { AllByRecursion CanBeDone acts.now }
-        ensures done { Added (W.outside world.old).told (W.outside world.new).told (Performs store acts.now result) }
+        ensures done { Added (W.outside world.old).told (W.outside world.new).told
+            (Performs store acts.now result) }
         ensures alone { HearsNone (W.outside world.old) (W.outside world.new) result }
     {
         let mut store = store;

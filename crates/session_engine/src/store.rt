@@ -47,7 +47,9 @@ fn write<D: Disk>(
 ) -> Result<Journal, StoreFault>
     requires size { (D.outside disk.old).size ≡ store_size }
     requires rules { KeepsRules book.now }
-    ensures effects { (old : AnyBook) → Makes old delta.now book.now → Added (D.outside disk.old).told (D.outside disk.new).told (Writes journal old book.now result) }
+    ensures effects { (old : AnyBook) → Makes old delta.now book.now →
+        Added (D.outside disk.old).told (D.outside disk.new).told
+        (Writes journal old book.now result) }
     ensures size { (D.outside disk.new).size ≡ (D.outside disk.old).size }
     ensures uses { UsesDisk (D.outside disk.old) (D.outside disk.new) (is_disk_fault result) }
     ensures cause { IfErr result IsOfCommit }
@@ -72,10 +74,12 @@ impl Store {
         ensures told { (D.outside disk.new).told ≡ (D.outside disk.old).told }
         ensures size { IfOk result (λ recovered. (D.outside disk.new).size ≡ store_size) }
         ensures kept { KeepsToldSize (D.outside disk.old) (D.outside disk.new) }
-        ensures recovers { (file : List ℕ) → IsSettled (D.outside disk.old) file → IfOk result (λ recovered. SteadyFile recovered.0.journal recovered.1 file) }
+        ensures recovers { (file : List ℕ) → IsSettled (D.outside disk.old) file →
+            IfOk result (λ recovered. SteadyFile recovered.0.journal recovered.1 file) }
         ensures same { IfOk result (λ recovered. recovered.0.book ≡ recovered.1) }
         ensures rules { IfOk result (λ recovered. KeepsRules recovered.1) }
-        ensures cause { IfErr result (IsRecoveryFault (D.outside disk.old) (D.outside disk.new).size) }
+        ensures cause { IfErr result
+            (IsRecoveryFault (D.outside disk.old) (D.outside disk.new).size) }
         ensures uses { UsesDisk (D.outside disk.old) (D.outside disk.new) (is_disk_fault result) }
     {
         let (journal, book) = match Journal::recover_from(alloc, disk) {
@@ -104,7 +108,8 @@ impl Store {
     ) -> Result<Store, StoreFault>
         requires size { (D.outside disk.old).size ≡ store_size }
         requires rules { KeepsRules book.now }
-        ensures effects { Added (D.outside disk.old).told (D.outside disk.new).told (Writes self.journal self.book book.now (journal_of result)) }
+        ensures effects { Added (D.outside disk.old).told (D.outside disk.new).told
+            (Writes self.journal self.book book.now (journal_of result)) }
         ensures book { IfOk result (λ store. store.book ≡ book.now) }
         ensures rules { KeepsRules self.book }
         ensures size { (D.outside disk.new).size ≡ (D.outside disk.old).size }

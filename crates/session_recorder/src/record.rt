@@ -32,7 +32,10 @@ impl<R: KeptLines> Record<R> {
     /// Keeps a line, if memory was had for it.
     fn keep(&mut self, line: Result<Octets, NoMemory>)
         requires { self.old.progress ≡ Recording }
-        ensures { (told : Option (List Effect)) (effect : Effect) → IfOk line (IsLineOf effect) → KeepsTold self.old.opening self.old.progress told (R.kept self.old.lines) → KeepsTold self.new.opening self.new.progress (adds told (effect ∷ [])) (R.kept self.new.lines) }
+        ensures { (told : Option (List Effect)) (effect : Effect) → IfOk line (IsLineOf effect) →
+            KeepsTold self.old.opening self.old.progress told (R.kept self.old.lines) →
+            KeepsTold self.new.opening self.new.progress (adds told (effect ∷ []))
+            (R.kept self.new.lines) }
     {
         match line {
             Ok(line) => {
@@ -46,7 +49,10 @@ impl<R: KeptLines> Record<R> {
 
     /// Notes an effect that is no printed text, by its line.
     pub fn note(&mut self, line: Result<Octets, NoMemory>)
-        ensures { (told : Option (List Effect)) (effect : Effect) → is_printed effect ≡ false → IfOk line (IsLineOf effect) → KeepsTold self.old.opening self.old.progress told (R.kept self.old.lines) → KeepsTold self.new.opening self.new.progress (adds told (effect ∷ [])) (R.kept self.new.lines) }
+        ensures { (told : Option (List Effect)) (effect : Effect) → is_printed effect ≡ false →
+            IfOk line (IsLineOf effect) → KeepsTold self.old.opening self.old.progress told
+            (R.kept self.old.lines) → KeepsTold self.new.opening self.new.progress
+            (adds told (effect ∷ [])) (R.kept self.new.lines) }
     {
         match self.progress {
             Progress::Waiting => {}
@@ -57,7 +63,10 @@ impl<R: KeptLines> Record<R> {
 
     /// Notes a printed text, by its line. The first announces the session, and isn't kept.
     pub fn note_printed(&mut self, line: Result<Octets, NoMemory>)
-        ensures { (told : Option (List Effect)) (text : List ℕ) → IfOk line (IsLineOf (Printed text)) → KeepsTold self.old.opening self.old.progress told (R.kept self.old.lines) → KeepsTold self.new.opening self.new.progress (adds told (Printed text ∷ [])) (R.kept self.new.lines) }
+        ensures { (told : Option (List Effect)) (text : List ℕ) →
+            IfOk line (IsLineOf (Printed text)) → KeepsTold self.old.opening self.old.progress told
+            (R.kept self.old.lines) → KeepsTold self.new.opening self.new.progress
+            (adds told (Printed text ∷ [])) (R.kept self.new.lines) }
     {
         match self.progress {
             Progress::Waiting => self.progress = Progress::Recording,

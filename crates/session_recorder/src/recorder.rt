@@ -27,15 +27,24 @@ impl<W: Told, R: KeptLines> Model for Recorder<W, R> {
 
     ghost Value = { Watched W R };
 
-    ghost view = { λ r. record { world = r.world; lines = r.record.lines; opening = r.record.opening; progress = r.record.progress } };
+    ghost view = { λ r.
+        record {
+          world = r.world;
+          lines = r.record.lines;
+          opening = r.record.opening;
+          progress = r.record.progress;
+        } };
 
-    ghost invariant = { λ r. KeepsTold r.record.opening r.record.progress (W.outside r.world).told (R.kept r.record.lines) };
+    ghost invariant = { λ r.
+        KeepsTold r.record.opening r.record.progress (W.outside r.world).told
+        (R.kept r.record.lines) };
 }
 
 /// Keeps what a record opens with. The user is told where that can't be kept.
 fn keep_opening<R: KeptLines>(lines: &mut R, opening: &[u8]) -> Progress
     requires { IsNew (R.kept lines.old) }
-    ensures { (told : Option (List Effect)) → IsNew told → KeepsTold opening.now result told (R.kept lines.new) }
+    ensures { (told : Option (List Effect)) → IsNew told →
+        KeepsTold opening.now result told (R.kept lines.new) }
 {
     match lines.keep(opening) {
         Ok(()) => Progress::Waiting,
@@ -71,7 +80,9 @@ impl<W: Told, R: KeptLines> Recorder<W, R> {
     pub fn parts(self) -> (W, R)
         ensures world { result.0 ≡ self.world }
         ensures lines { result.1 ≡ self.lines }
-        ensures keeps { (effects : List Effect) (kept : List ℕ) → (W.outside result.0).told ≡ Some effects → R.kept result.1 ≡ Some kept → Keeps self.opening self.progress effects kept }
+        ensures keeps { (effects : List Effect) (kept : List ℕ) →
+            (W.outside result.0).told ≡ Some effects → R.kept result.1 ≡ Some kept →
+            Keeps self.opening self.progress effects kept }
     {
         let Recorder {
             alloc: _,

@@ -28,7 +28,9 @@ fn is_line_of(made: &[u8], line: &[u8]) -> bool
 
 /// What stands behind the first line of a text, where that is this one of the machine's.
 fn behind_line<'a>(made: &[u8], text: &'a [u8]) -> Option<&'a [u8]>
-    ensures { MatchOption result ((others : List (List ℕ)) → PartAtOnce (made.now ∷ others) (lines_of text.now)) (λ rest. (line : List ℕ) × (lines_of text.now ≡ line ∷ lines_of rest.now) × IsLineOf made.now line) }
+    ensures { MatchOption result ((others : List (List ℕ)) →
+        PartAtOnce (made.now ∷ others) (lines_of text.now)) (λ rest.
+        (line : List ℕ) × (lines_of text.now ≡ line ∷ lines_of rest.now) × IsLineOf made.now line) }
 {
     if text.is_empty() {
         return None;
@@ -48,7 +50,10 @@ fn behind_effect<'a>(
     effect: &Effect,
     text: &'a [u8],
 ) -> Result<Option<&'a [u8]>, NoMemory>
-    ensures { IfOk result (λ found. MatchOption found ((others : List (List ℕ)) → PartAtOnce (run_lines (item_of effect.now) ++ others) (lines_of text.now)) (λ rest. GoesOn (run_lines (item_of effect.now)) (lines_of text.now) (lines_of rest.now))) }
+    ensures { IfOk result (λ found.
+        MatchOption found ((others : List (List ℕ)) →
+        PartAtOnce (run_lines (item_of effect.now) ++ others) (lines_of text.now)) (λ rest.
+        GoesOn (run_lines (item_of effect.now)) (lines_of text.now) (lines_of rest.now))) }
 {
     match trace_line(alloc, effect)? {
         Some(made) => Ok(behind_line(made.as_slice(), text)),
@@ -73,7 +78,9 @@ pub fn count_lines(text: &[u8]) -> u64
 /// How many lines of a text are left where it and the lines of these effects part; None where they
 /// don't.
 pub fn parting(alloc: Global, effects: &[Effect], text: &[u8]) -> Result<Option<u64>, NoMemory>
-    ensures { IfOk result (λ found. MatchOption found (AreLinesOf (run_lines (items effects.now)) (lines_of text.now)) (PartWith (run_lines (items effects.now)) (lines_of text.now))) }
+    ensures { IfOk result (λ found.
+        MatchOption found (AreLinesOf (run_lines (items effects.now)) (lines_of text.now))
+        (PartWith (run_lines (items effects.now)) (lines_of text.now))) }
 {
     let mut left = text;
     for effect in effects {

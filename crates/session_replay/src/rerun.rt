@@ -21,7 +21,9 @@ use std::alloc::Global;
 fn journal_of(alloc: Global, world: &mut SteadyWorld) -> Result<Journal, NoMemory>
     requires fresh { (file : List ℕ) × IsFresh (steady_outside world.old) file }
     ensures same { IsAlike (steady_outside world.old) (steady_outside world.new) }
-    ensures stands { IfOk result (λ journal. (found : AnyBook) × ((file : List ℕ) → IsSettled (steady_outside world.old) file → SteadyFile journal found file)) }
+    ensures stands { IfOk result (λ journal. (found : AnyBook)
+        × ((file : List ℕ) → IsSettled (steady_outside world.old) file →
+        SteadyFile journal found file)) }
 {
     match Journal::recover_from(alloc, world) {
         Ok(recovered) => {

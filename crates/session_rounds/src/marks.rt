@@ -15,7 +15,8 @@ fn is_global(wanted: Option<Wanted>) -> bool
 
 /// A round begins, for this.
 pub(crate) fn begun(marks: Marks, wanted: Wanted) -> Marks
-    ensures { (conns : List ℕ) (purpose : Option AWanted) → result ≡ marks_after (HasBegun conns wanted) purpose marks }
+    ensures { (conns : List ℕ) (purpose : Option AWanted) →
+        result ≡ marks_after (HasBegun conns wanted) purpose marks }
 {
     if wanted.only.is_some() {
         return marks;

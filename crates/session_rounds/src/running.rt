@@ -97,7 +97,8 @@ impl RunningRound {
     /// A round begins with these members.
     pub fn begin(&mut self, alloc: Global, conns: ConnList, wanted: Wanted) -> Result<(), NoMemory>
         requires { are_distinct conns ≡ true }
-        ensures { OnOk result ((phases : ℕ → Option APhase) → self.new ≡ running_after (HasBegun conns wanted) phases self.old) }
+        ensures { OnOk result ((phases : ℕ → Option APhase) →
+            self.new ≡ running_after (HasBegun conns wanted) phases self.old) }
     {
         let round = Round::begin(alloc, conns, wanted)?;
         self.round = Some(round);
@@ -107,8 +108,10 @@ impl RunningRound {
 
     /// The round ends without an agreement: it was left by all its members, or is called off.
     pub fn end(&mut self)
-        ensures over { (phases : ℕ → Option APhase) → self.new ≡ running_after IsOver phases self.old }
-        ensures cancelled { (phases : ℕ → Option APhase) → self.new ≡ running_after IsCancelled phases self.old }
+        ensures over { (phases : ℕ → Option APhase) →
+            self.new ≡ running_after IsOver phases self.old }
+        ensures cancelled { (phases : ℕ → Option APhase) →
+            self.new ≡ running_after IsCancelled phases self.old }
     {
         self.marks = ended(self.marks, wanted_in(&self.round));
         self.round = None;
@@ -124,16 +127,20 @@ impl RunningRound {
 
     /// A connection is no member any more.
     pub fn leave(&mut self, conn: Conn)
-        ensures { (phases : ℕ → Option APhase) → self.new ≡ running_after (Outside (HasLeft conn)) phases self.old }
+        ensures { (phases : ℕ → Option APhase) → self.new
+            ≡ running_after (Outside (HasLeft conn)) phases self.old }
     {
         leave_round(&mut self.round, conn);
     }
 
     /// A member says something of its save, and was in this phase before.
     pub fn hear(&mut self, conn: Conn, message: &XsmpMessage, phase: Option<Phase>)
-        requires saving { is_saving phase ≡ true → is_member_at (λ d r. is_at saves d r.members) conn self.old.round ≡ true }
-        requires saving_first { is_first_saving phase ≡ true → is_member_at (λ d r. is_at saves_first d r.members) conn self.old.round ≡ true }
-        ensures round { (phases : ℕ → Option APhase) → phases conn ≡ phase → self.new.round ≡ round_said conn message.now phases self.old.round }
+        requires saving { is_saving phase ≡ true →
+            is_member_at (λ d r. is_at saves d r.members) conn self.old.round ≡ true }
+        requires saving_first { is_first_saving phase ≡ true →
+            is_member_at (λ d r. is_at saves_first d r.members) conn self.old.round ≡ true }
+        ensures round { (phases : ℕ → Option APhase) → phases conn ≡ phase →
+            self.new.round ≡ round_said conn message.now phases self.old.round }
         ensures marks { self.new.marks ≡ self.old.marks }
     {
         hear_round(&mut self.round, conn, message, phase);
@@ -143,7 +150,8 @@ impl RunningRound {
     /// and then nothing is done.
     pub fn start_second(&mut self) -> bool
         ensures ready { result ≡ may_begin_second self.old.round }
-        ensures round { self.new.round ≡ cond result (in_round with_second self.old.round) self.old.round }
+        ensures round { self.new.round ≡ cond result
+            (in_round with_second self.old.round) self.old.round }
         ensures marks { self.new.marks ≡ self.old.marks }
     {
         start_second(&mut self.round)
@@ -186,9 +194,12 @@ fn leave_round(round: &mut Option<Round>, conn: Conn)
 
 /// A member says something of its save, and was in this phase before.
 fn hear_round(round: &mut Option<Round>, conn: Conn, message: &XsmpMessage, phase: Option<Phase>)
-    requires saving { is_saving phase ≡ true → is_member_at (λ d r. is_at saves d r.members) conn round.old ≡ true }
-    requires saving_first { is_first_saving phase ≡ true → is_member_at (λ d r. is_at saves_first d r.members) conn round.old ≡ true }
-    ensures { (phases : ℕ → Option APhase) → phases conn ≡ phase → round.new ≡ round_said conn message.now phases round.old }
+    requires saving { is_saving phase ≡ true → is_member_at (λ d r.
+        is_at saves d r.members) conn round.old ≡ true }
+    requires saving_first { is_first_saving phase ≡ true →
+        is_member_at (λ d r. is_at saves_first d r.members) conn round.old ≡ true }
+    ensures { (phases : ℕ → Option APhase) → phases conn ≡ phase →
+        round.new ≡ round_said conn message.now phases round.old }
 {
     let Some(round) = round else {
         return;

@@ -68,7 +68,8 @@ impl WaitingRounds {
 
     /// A round of the operator waits, unless the operator has to.
     fn add_operator(&mut self, wait: Wait, is_ending: bool) -> Result<(), NoMemory>
-        ensures { OnOk result (self.new ≡ cond (of.is_busy is_ending self.old) self.old (self.old ++ wait ∷ [])) }
+        ensures { OnOk result
+            (self.new ≡ cond (of.is_busy is_ending self.old) self.old (self.old ++ wait ∷ [])) }
     {
         if !self.is_busy(is_ending) {
             self.waits.push(wait)?;
@@ -89,7 +90,8 @@ impl WaitingRounds {
 
     /// The round of a client that has just registered waits, where it is new.
     pub fn add_newcomer(&mut self, conn: Conn, is_new: bool) -> Result<(), NoMemory>
-        ensures { OnOk result (self.new ≡ cond is_new (self.old ++ of.first_save conn ∷ []) self.old) }
+        ensures { OnOk result
+            (self.new ≡ cond is_new (self.old ++ of.first_save conn ∷ []) self.old) }
     {
         if is_new {
             self.waits.push(first_save(conn))?;
@@ -114,7 +116,8 @@ impl WaitingRounds {
         message: &XsmpMessage,
         phase: Option<Phase>,
     ) -> Result<(), NoMemory>
-        ensures { OnOk result ((phases : ℕ → Option APhase) → phases conn ≡ phase → self.new ≡ of.waits_said conn message.now phases self.old) }
+        ensures { OnOk result ((phases : ℕ → Option APhase) → phases conn ≡ phase →
+            self.new ≡ of.waits_said conn message.now phases self.old) }
     {
         match message {
             XsmpMessage::SaveYourselfRequest {
@@ -181,14 +184,16 @@ fn disown_each(waits: &mut [Wait], conn: Conn)
 }
 
 fn drop_lone(waits: &mut Vec<Wait>, conn: Conn)
-    ensures { waits.new.items ≡ filter (λ wait. not (of.is_only conn wait.wanted.only)) waits.old.items }
+    ensures { waits.new.items ≡ filter (λ wait. not (of.is_only conn wait.wanted.only))
+        waits.old.items }
 {
     waits.retain(|wait| !is_only(conn, wait.wanted.only));
 }
 
 /// Puts a sender's request in the place of the one of its that waits. False where there is none.
 fn replace(waits: &mut [Wait], conn: Conn, request: Wait) -> bool
-    ensures { cond result waits.new (waits.new ++ request ∷ []) ≡ of.with_request conn request waits.old }
+    ensures { cond result waits.new (waits.new ++ request ∷ [])
+        ≡ of.with_request conn request waits.old }
 {
     for wait in waits {
         if is_sender(conn, wait.owner) {

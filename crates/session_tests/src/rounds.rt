@@ -36,7 +36,9 @@ fn three(alloc: Global) -> Result<Round, NoMemory>
 
 /// The first is done, the second wants to save in the second phase, and the third's save failed.
 fn half_done(alloc: Global) -> Result<Round, NoMemory>
-    ensures { IfOk result (λ round. round.members ≡ (record { conn = 1; step = Done true }) ∷ (record { conn = 2; step = WantsTwo }) ∷ (record { conn = 3; step = Done false }) ∷ []) }
+    ensures { IfOk result (λ round.
+        round.members ≡ (record { conn = 1; step = Done true })
+        ∷ (record { conn = 2; step = WantsTwo }) ∷ (record { conn = 3; step = Done false }) ∷ []) }
 {
     let mut round = three(alloc)?;
     round.done(1, true);
@@ -47,7 +49,9 @@ fn half_done(alloc: Global) -> Result<Round, NoMemory>
 
 /// The second phase of that round, after the third left.
 fn second_phase(alloc: Global) -> Result<Round, NoMemory>
-    ensures { IfOk result (λ round. round.members ≡ (record { conn = 1; step = Done true }) ∷ (record { conn = 2; step = SavingTwo }) ∷ []) }
+    ensures { IfOk result (λ round.
+        round.members ≡ (record { conn = 1; step = Done true })
+        ∷ (record { conn = 2; step = SavingTwo }) ∷ []) }
 {
     let mut round = half_done(alloc)?;
     round.leave(3);

@@ -109,7 +109,8 @@ fn program_shown(
     view: &PropertyView<'_>,
     before: Option<Octets>,
 ) -> Result<Option<Octets>, NoMemory>
-    ensures { IfOk result (λ program. (p : AnyProperty) → Views endian view.now p → program ≡ unwrap_or (set_by p) before) }
+    ensures { IfOk result (λ program. (p : AnyProperty) → Views endian view.now p →
+        program ≡ unwrap_or (set_by p) before) }
 {
     if is_program(view.name) {
         name_shown(alloc, ValueWalk::of(endian, view))
@@ -124,7 +125,8 @@ fn program_walked(
     walk: PropertyWalk<'_>,
     before: Option<Octets>,
 ) -> Result<Option<Octets>, NoMemory>
-    ensures { IfOk result (λ program. program ≡ unwrap_or (latest set_by (walk_left walk.entry)) before) }
+    ensures { IfOk result (λ program.
+        program ≡ unwrap_or (latest set_by (walk_left walk.entry)) before) }
 {
     let endian = walk.endian();
     let mut program = before;
@@ -269,7 +271,8 @@ impl Known {
         party: Party,
         walk: PropertyWalk<'_>,
     ) -> Result<(), NoMemory>
-        ensures { OnOk result (self.new ≡ noted party (SetProperties (walk_left walk.entry)) self.old) }
+        ensures { OnOk result
+            (self.new ≡ noted party (SetProperties (walk_left walk.entry)) self.old) }
     {
         match party {
             Party::Client => {

@@ -241,7 +241,8 @@ fn put_names(
     id: Option<&Octets>,
     program: Option<&Octets>,
 ) -> Result<(), NoMemory>
-    ensures { OnOk result (out.new ≡ out.old ++ names_text (option_copied id.entry) (option_copied program.entry)) }
+    ensures { OnOk result
+        (out.new ≡ out.old ++ names_text (option_copied id.entry) (option_copied program.entry)) }
 {
     out.append(b" id=")?;
     put_text(alloc, out, id)?;

@@ -39,7 +39,8 @@ impl Heeds for Messages {
 /// The message that a frame spells, if it spells one.
 fn read(alloc: Global, frame: &WholeFrame) -> Result<Option<XsmpMessage>, NoMemory>
     requires { IsFrame frame.now.endian frame.now.bytes }
-    ensures { IfOk result (λ message. message ≡ result_ok (decode_at frame.now.endian frame.now.bytes)) }
+    ensures { IfOk result (λ message.
+        message ≡ result_ok (decode_at frame.now.endian frame.now.bytes)) }
 {
     match decode_xsmp(alloc, frame.endian, frame.bytes.as_slice()) {
         Ok(message) => Ok(Some(message)),
@@ -91,7 +92,8 @@ fn note_message(
     frame: &WholeFrame,
     known: &mut Known,
 ) -> Result<(), NoMemory>
-    ensures { OnOk result (known.new ≡ noted_all party (option_to_list (spoken_by speech frame.now)) known.old) }
+    ensures { OnOk result
+        (known.new ≡ noted_all party (option_to_list (spoken_by speech frame.now)) known.old) }
 {
     match spoken(alloc, speech, frame)? {
         Some(message) => known.note(alloc, party, &message),
@@ -107,8 +109,10 @@ fn note_frame(
     frame: &WholeFrame,
     known: &mut Known,
 ) -> Result<Speech, NoMemory>
-    ensures speech { IfOk result (λ next. next ≡ after_reading speech (reading_by speech frame.now)) }
-    ensures known { OnOk result (known.new ≡ noted_all party (option_to_list (spoken_by speech frame.now)) known.old) }
+    ensures speech { IfOk result (λ next.
+        next ≡ after_reading speech (reading_by speech frame.now)) }
+    ensures known { OnOk result
+        (known.new ≡ noted_all party (option_to_list (spoken_by speech frame.now)) known.old) }
 {
     match settings(speech, frame) {
         Some(walk) => {
@@ -132,7 +136,8 @@ pub fn note_frames(
     known: &mut Known,
 ) -> Result<Speech, NoMemory>
     ensures speech { IfOk result (λ after. after ≡ speech_behind speech frames.now) }
-    ensures known { OnOk result (known.new ≡ noted_all party (messages_in speech frames.now) known.old) }
+    ensures known { OnOk result
+        (known.new ≡ noted_all party (messages_in speech frames.now) known.old) }
 {
     let mut speech = speech;
     for frame in frames {

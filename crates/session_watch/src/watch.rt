@@ -97,41 +97,48 @@ impl ClientWatch {
 
     /// What the client says that its program is.
     pub fn program(&self) -> Option<&Octets>
-        ensures { (start : ℕ) (story : List Passage) → Follows start story self.now → option_copied result ≡ program_of story }
+        ensures { (start : ℕ) (story : List Passage) → Follows start story self.now →
+            option_copied result ≡ program_of story }
     {
         self.known.program.as_ref()
     }
 
     /// The ID that the manager gave it.
     pub fn id(&self) -> Option<&Octets>
-        ensures { (start : ℕ) (story : List Passage) → Follows start story self.now → option_copied result ≡ id_of story }
+        ensures { (start : ℕ) (story : List Passage) → Follows start story self.now →
+            option_copied result ≡ id_of story }
     {
         self.known.id.as_ref()
     }
 
     /// What it was asked last.
     pub fn asked(&self) -> Option<Asked>
-        ensures { (start : ℕ) (story : List Passage) → Follows start story self.now → result ≡ asked_of story }
+        ensures { (start : ℕ) (story : List Passage) → Follows start story self.now →
+            result ≡ asked_of story }
     {
         self.known.asked
     }
 
     /// What it has answered since.
     pub fn answered(&self) -> Option<Answered>
-        ensures { (start : ℕ) (story : List Passage) → Follows start story self.now → result ≡ answered_of story }
+        ensures { (start : ℕ) (story : List Passage) → Follows start story self.now →
+            result ≡ answered_of story }
     {
         self.known.answered
     }
 
     /// Whether a logout runs for it.
     pub fn is_logout(&self) -> bool
-        ensures { (start : ℕ) (story : List Passage) → Follows start story self.now → result ≡ is_logout story }
+        ensures { (start : ℕ) (story : List Passage) → Follows start story self.now →
+            result ≡ is_logout story }
     {
         self.known.logout.unwrap_or(false)
     }
 
     fn is_unreadable(&self) -> bool
-        ensures { (start : ℕ) (story : List Passage) → Follows start story self.now → result ≡ (is_unreadable (stream_of Client story) || is_unreadable (stream_of Manager story)) }
+        ensures { (start : ℕ) (story : List Passage) → Follows start story self.now →
+            result ≡ (is_unreadable (stream_of Client story) || is_unreadable
+            (stream_of Manager story)) }
     {
         let came = self.came.has_ended() || is_lost(self.said);
         let sent = self.sent.has_ended() || is_lost(self.told);
@@ -140,7 +147,8 @@ impl ClientWatch {
 
     /// How far it is.
     pub fn stage(&self) -> Stage
-        ensures { (start : ℕ) (story : List Passage) → Follows start story self.now → result ≡ stage_of story }
+        ensures { (start : ℕ) (story : List Passage) → Follows start story self.now →
+            result ≡ stage_of story }
     {
         if self.is_unreadable() {
             Stage::Unreadable
@@ -151,7 +159,8 @@ impl ClientWatch {
 
     /// For how many milliseconds nothing was heard of it.
     pub fn silent(&self, now: u64) -> u64
-        ensures { (start : ℕ) (story : List Passage) → Follows start story self.now → result ≡ now - silent_since start story }
+        ensures { (start : ℕ) (story : List Passage) → Follows start story self.now →
+            result ≡ now - silent_since start story }
     {
         now.saturating_sub(self.since)
     }

@@ -57,7 +57,8 @@ impl Track {
 
     /// It was written, as one of `count`.
     fn wrote(self, count: usize, byte: u8, fill: u8) -> Track
-        ensures { (cell : Cell) (held : Held) → IsTracked fill cell held self → IsTracked fill (written count byte cell) (record held { now = byte }) result }
+        ensures { (cell : Cell) (held : Held) → IsTracked fill cell held self →
+            IsTracked fill (written count byte cell) (record held { now = byte }) result }
     {
         let fills = is_any(count >= 2, self.fills, fill == byte);
         Track {
@@ -70,7 +71,8 @@ impl Track {
 
     /// It was in the range of a failed write of `count` bytes.
     fn torn(self, count: u64) -> Track
-        ensures { (fill : ℕ) (cell : Cell) (held : Held) → IsTracked fill cell held self → IsTracked fill (torn count cell) held result }
+        ensures { (fill : ℕ) (cell : Cell) (held : Held) → IsTracked fill cell held self →
+            IsTracked fill (torn count cell) held result }
     {
         let fills = is_any(count >= 2, self.fills, false);
         Track {
@@ -82,7 +84,8 @@ impl Track {
 
     /// It was brought to the disk.
     fn synced(self, fill: u8) -> Track
-        ensures { (cell : Cell) (held : Held) → IsTracked fill cell held self → IsTracked fill (synced cell) (record held { synced = held.now }) result }
+        ensures { (cell : Cell) (held : Held) → IsTracked fill cell held self →
+            IsTracked fill (synced cell) (record held { synced = held.now }) result }
     {
         let fills = is_any(self.any, fill == self.now, false);
         Track {
@@ -94,7 +97,9 @@ impl Track {
 
     /// The byte at `place`, one effect later.
     fn after(self, effect: &Effect, place: u64, fill: u8) -> Track
-        ensures { (cell : Cell) (held : Held) → IsTracked fill cell held self → IsTracked fill (cell_after effect.now place cell) (held_after effect.now place held) result }
+        ensures { (cell : Cell) (held : Held) → IsTracked fill cell held self →
+            IsTracked fill (cell_after effect.now place cell)
+            (held_after effect.now place held) result }
     {
         match effect {
             Effect::Wrote(at, bytes) => {
@@ -117,7 +122,9 @@ impl Track {
 
     /// The byte at `place` through all of these effects.
     fn through(self, effects: &[Effect], place: u64, fill: u8) -> Track
-        ensures { (cell : Cell) (held : Held) → IsTracked fill cell held self → IsTracked fill (cell_from cell effects.now place) (held_from held effects.now place) result }
+        ensures { (cell : Cell) (held : Held) → IsTracked fill cell held self →
+            IsTracked fill (cell_from cell effects.now place)
+            (held_from held effects.now place) result }
     {
         let mut track = self;
         for effect in effects {
@@ -130,7 +137,8 @@ impl Track {
 impl Choice {
     /// The byte that a crash leaves, in a file that began with `first`.
     fn pick(self, first: u8, effects: &[Effect], place: u64) -> u8
-        ensures { result ≡ chosen_byte self (cell_from (settled first) effects.now place) (held_from (record { now = first; synced = first }) effects.now place) }
+        ensures { result ≡ chosen_byte self (cell_from (settled first) effects.now place)
+            (held_from (record { now = first; synced = first }) effects.now place) }
     {
         match self {
             Choice::AsWritten => Track::new(first, 0).through(effects, place, 0).now,

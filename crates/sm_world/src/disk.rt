@@ -32,21 +32,27 @@ pub trait Disk: Told {
     /// known; a failed write of one byte wrote nothing.
     fn write_at(&mut self, at: u64, bytes: &[u8]) -> Result<(), Failed>
         requires { at + length bytes.now ≤ (Self.outside self.old).size }
-        ensures ok { OnOk result ((Self.outside self.new).told ≡ adds (Self.outside self.old).told (Wrote at bytes.now ∷ [])) }
-        ensures err { OnErr result (Added (Self.outside self.old).told (Self.outside self.new).told (IsFailedWrite at (length bytes.now))) }
+        ensures ok { OnOk result ((Self.outside self.new).told
+            ≡ adds (Self.outside self.old).told (Wrote at bytes.now ∷ [])) }
+        ensures err { OnErr result
+            (Added (Self.outside self.old).told (Self.outside self.new).told
+            (IsFailedWrite at (length bytes.now))) }
         ensures size { (Self.outside self.new).size ≡ (Self.outside self.old).size }
         ensures uses { UsesDisk (Self.outside self.old) (Self.outside self.new) (is_err result) };
 
     /// Waits until all that was written is on the disk.
     fn sync(&mut self) -> Result<(), Failed>
-        ensures ok { OnOk result ((Self.outside self.new).told ≡ adds (Self.outside self.old).told (Synced ∷ [])) }
-        ensures err { OnErr result (Added (Self.outside self.old).told (Self.outside self.new).told IsFailedSync) }
+        ensures ok { OnOk result ((Self.outside self.new).told
+            ≡ adds (Self.outside self.old).told (Synced ∷ [])) }
+        ensures err { OnErr result
+            (Added (Self.outside self.old).told (Self.outside self.new).told IsFailedSync) }
         ensures size { (Self.outside self.new).size ≡ (Self.outside self.old).size }
         ensures uses { UsesDisk (Self.outside self.old) (Self.outside self.new) (is_err result) };
 
     /// Replaces a small file by these bytes.
     fn publish(&mut self, path: &str, bytes: &[u8]) -> Result<(), Failure>
-        ensures effects { (Self.outside self.new).told ≡ adds (Self.outside self.old).told (on_ok result (Published path.now bytes.now ∷ [])) }
+        ensures effects { (Self.outside self.new).told
+            ≡ adds (Self.outside self.old).told (on_ok result (Published path.now bytes.now ∷ [])) }
         ensures size { (Self.outside self.new).size ≡ (Self.outside self.old).size }
         ensures uses { UsesDisk (Self.outside self.old) (Self.outside self.new) (has_failed result) };
 

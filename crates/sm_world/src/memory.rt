@@ -44,12 +44,14 @@ impl MemWorld {
         ensures told { IfOk result (λ world. (mem_outside world).told ≡ Some []) }
         ensures coming { IfOk result (λ world. (mem_outside world).coming ≡ Some events) }
         ensures input { IfOk result (λ world. (mem_outside world).input ≡ Some input) }
-        ensures faults { IfOk result (λ world. (mem_outside world).faults ≡ record { disk = 0; links = 0; spawner = 0; console = 0 }) }
+        ensures faults { IfOk result (λ world. (mem_outside world).faults
+            ≡ record { disk = 0; links = 0; spawner = 0; console = 0 }) }
         ensures file { IfOk result (λ world. mem_file world ≡ file) }
         ensures first { IfOk result (λ world. (mem_outside world).first ≡ Some file) }
         ensures unrecorded { IfOk result (λ world. mem_unrecorded world ≡ 0) }
         ensures last { IfOk result (λ world. (mem_calls world).last ≡ 0) }
-        ensures failing { IfOk result (λ world. (number : ℕ) → Contains (mem_calls world).failing number ↔ Contains failing number) }
+        ensures failing { IfOk result (λ world. (number : ℕ) →
+            Contains (mem_calls world).failing number ↔ Contains failing number) }
     {
         Ok(MemWorld {
             tape: Tape::new(alloc, events, input, file)?,
@@ -82,7 +84,8 @@ impl MemWorld {
     /// one after that write.
     pub fn crash_file(&self, first: usize, choice: Choice) -> Result<Octets, NoMemory>
         requires { first ≤ length self.now.tape.effects }
-        ensures file { IfOk result (IsCrashFile self.now.tape.first (take first self.now.tape.effects) choice) }
+        ensures file { IfOk result
+            (IsCrashFile self.now.tape.first (take first self.now.tape.effects) choice) }
         ensures image { IfOk result (Image self.now.tape.first (take first self.now.tape.effects)) }
     {
         self.tape.crash_file(first, choice)
@@ -101,7 +104,12 @@ impl MemWorld {
     fn call_disk(&mut self) -> Result<(), Failed>
         ensures fails { IsErr result ↔ Contains self.new.calls.failing self.new.calls.last }
         ensures ok { OnOk result (self.new ≡ record self.old { calls = counted self.old.calls }) }
-        ensures err { OnErr result (self.new ≡ record self.old { calls = counted self.old.calls; faults = record self.old.faults { disk = one_more self.old.faults.disk } }) }
+        ensures err { OnErr result
+            (self.new ≡ record self.old {
+              calls = counted self.old.calls;
+              faults = record self.old.faults
+                  { disk = one_more self.old.faults.disk };
+            }) }
         ensures rose { OnErr result (Rose self.old.faults.disk self.new.faults.disk) }
         ensures counts { self.old.faults.disk ≤ self.new.faults.disk }
         ensures tape { self.new.tape ≡ self.old.tape }
@@ -139,7 +147,11 @@ impl MemWorld {
     fn miss(&mut self) -> Failed
         ensures rose { Rose self.old.faults.disk self.new.faults.disk }
         ensures counts { self.old.faults.disk ≤ self.new.faults.disk }
-        ensures missed { self.new ≡ record self.old { unrecorded = one_more self.old.unrecorded; faults = record self.old.faults { disk = one_more self.old.faults.disk } } }
+        ensures missed { self.new ≡ record self.old {
+          unrecorded = one_more self.old.unrecorded;
+          faults = record self.old.faults
+              { disk = one_more self.old.faults.disk };
+        } }
     {
         self.unrecorded = self.unrecorded.saturating_add(1);
         self.faults.disk = self.faults.disk.saturating_add(1);
@@ -151,7 +163,12 @@ impl MemWorld {
     fn call_links(&mut self) -> Result<(), Failed>
         ensures fails { IsErr result ↔ Contains self.new.calls.failing self.new.calls.last }
         ensures ok { OnOk result (self.new ≡ record self.old { calls = counted self.old.calls }) }
-        ensures err { OnErr result (self.new ≡ record self.old { calls = counted self.old.calls; faults = record self.old.faults { links = one_more self.old.faults.links } }) }
+        ensures err { OnErr result
+            (self.new ≡ record self.old {
+              calls = counted self.old.calls;
+              faults = record self.old.faults
+                  { links = one_more self.old.faults.links };
+            }) }
         ensures rose { OnErr result (Rose self.old.faults.links self.new.faults.links) }
         ensures counts { self.old.faults.links ≤ self.new.faults.links }
     {
@@ -167,7 +184,12 @@ impl MemWorld {
     fn call_console(&mut self) -> Result<(), Failed>
         ensures fails { IsErr result ↔ Contains self.new.calls.failing self.new.calls.last }
         ensures ok { OnOk result (self.new ≡ record self.old { calls = counted self.old.calls }) }
-        ensures err { OnErr result (self.new ≡ record self.old { calls = counted self.old.calls; faults = record self.old.faults { console = one_more self.old.faults.console } }) }
+        ensures err { OnErr result
+            (self.new ≡ record self.old {
+              calls = counted self.old.calls;
+              faults = record self.old.faults
+                  { console = one_more self.old.faults.console };
+            }) }
         ensures rose { OnErr result (Rose self.old.faults.console self.new.faults.console) }
         ensures counts { self.old.faults.console ≤ self.new.faults.console }
     {
@@ -195,28 +217,34 @@ impl Links for MemWorld {
         ensures effects { (mem_outside self.new).told ≡ (mem_outside self.old).told }
         ensures coming { (mem_outside self.new).coming ≡ (mem_outside self.old).coming }
         ensures uses { UsesLinks (mem_outside self.old) (mem_outside self.new) result }
-        ensures numbered { FailsByNumber (λ faults. faults.links) self.old self.new (has_failed result) }
+        ensures numbered { FailsByNumber (λ faults.
+            faults.links) self.old self.new (has_failed result) }
     {
         self.call_links()?;
         Ok(())
     }
 
     fn next(&mut self) -> Result<Event, Failure>
-        ensures effects { (mem_outside self.new).told ≡ adds (mem_outside self.old).told (of_ok Heard result) }
-        ensures coming { TakesNext (mem_outside self.old).coming (mem_outside self.new).coming result }
+        ensures effects { (mem_outside self.new).told
+            ≡ adds (mem_outside self.old).told (of_ok Heard result) }
+        ensures coming { TakesNext (mem_outside self.old).coming
+            (mem_outside self.new).coming result }
         ensures size { IfOk result HasPieceSize }
         ensures uses { UsesLinks (mem_outside self.old) (mem_outside self.new) result }
-        ensures numbered { FailsByNumber (λ faults. faults.links) self.old self.new (has_failed result) }
+        ensures numbered { FailsByNumber (λ faults.
+            faults.links) self.old self.new (has_failed result) }
     {
         self.call_links()?;
         Ok(self.tape.hear()?)
     }
 
     fn send(&mut self, to: Conn, bytes: &[u8]) -> Result<(), Failure>
-        ensures effects { (mem_outside self.new).told ≡ adds (mem_outside self.old).told (on_ok result (Sent to bytes.now ∷ [])) }
+        ensures effects { (mem_outside self.new).told
+            ≡ adds (mem_outside self.old).told (on_ok result (Sent to bytes.now ∷ [])) }
         ensures coming { (mem_outside self.new).coming ≡ (mem_outside self.old).coming }
         ensures uses { UsesLinks (mem_outside self.old) (mem_outside self.new) result }
-        ensures numbered { FailsByNumber (λ faults. faults.links) self.old self.new (has_failed result) }
+        ensures numbered { FailsByNumber (λ faults.
+            faults.links) self.old self.new (has_failed result) }
     {
         self.call_links()?;
         let bytes = self.tape.octets(bytes)?;
@@ -225,10 +253,12 @@ impl Links for MemWorld {
     }
 
     fn shut(&mut self, to: Conn) -> Result<(), Failure>
-        ensures effects { (mem_outside self.new).told ≡ adds (mem_outside self.old).told (on_ok result (Shut to ∷ [])) }
+        ensures effects { (mem_outside self.new).told
+            ≡ adds (mem_outside self.old).told (on_ok result (Shut to ∷ [])) }
         ensures coming { (mem_outside self.new).coming ≡ (mem_outside self.old).coming }
         ensures uses { UsesLinks (mem_outside self.old) (mem_outside self.new) result }
-        ensures numbered { FailsByNumber (λ faults. faults.links) self.old self.new (has_failed result) }
+        ensures numbered { FailsByNumber (λ faults.
+            faults.links) self.old self.new (has_failed result) }
     {
         self.call_links()?;
         self.tape.note(Effect::Shut(to))?;
@@ -242,9 +272,11 @@ impl Spawner for MemWorld {
     ghost use Rattle.sm_world.specs.declared.effects.Effect.TheVariants.{Started};
 
     fn start(&mut self, command: &Command) -> Result<bool, NoMemory>
-        ensures effects { (mem_outside self.new).told ≡ adds (mem_outside self.old).told (of_ok (Started command.now) result) }
+        ensures effects { (mem_outside self.new).told
+            ≡ adds (mem_outside self.old).told (of_ok (Started command.now) result) }
         ensures uses { UsesSpawner (mem_outside self.old) (mem_outside self.new) result }
-        ensures numbered { IfOk result (λ started. FailsByNumber (λ faults. faults.spawner) self.old self.new (not started)) }
+        ensures numbered { IfOk result (λ started.
+            FailsByNumber (λ faults. faults.spawner) self.old self.new (not started)) }
         ensures counts { mem_calls self.new ≡ counted (mem_calls self.old) }
         ensures refused { OnErr result (mem_outside self.new ≡ mem_outside self.old) }
         ensures unrecorded { mem_unrecorded self.new ≡ mem_unrecorded self.old }
@@ -269,19 +301,23 @@ impl Console for MemWorld {
     fn read(&mut self, into: &mut [u8]) -> Result<usize, Failure>
         ensures within { IfOk result (λ n. n ≤ length into.old) }
         ensures effects { (mem_outside self.new).told ≡ (mem_outside self.old).told }
-        ensures input { Reads (mem_outside self.old).input (mem_outside self.new).input into.old into.new result }
+        ensures input { Reads (mem_outside self.old).input
+            (mem_outside self.new).input into.old into.new result }
         ensures uses { UsesConsole (mem_outside self.old) (mem_outside self.new) result }
-        ensures numbered { FailsByNumber (λ faults. faults.console) self.old self.new (has_failed result) }
+        ensures numbered { FailsByNumber (λ faults.
+            faults.console) self.old self.new (has_failed result) }
     {
         self.call_console()?;
         Ok(self.tape.read(into))
     }
 
     fn print(&mut self, bytes: &[u8]) -> Result<(), Failure>
-        ensures effects { (mem_outside self.new).told ≡ adds (mem_outside self.old).told (on_ok result (Printed bytes.now ∷ [])) }
+        ensures effects { (mem_outside self.new).told
+            ≡ adds (mem_outside self.old).told (on_ok result (Printed bytes.now ∷ [])) }
         ensures input { (mem_outside self.new).input ≡ (mem_outside self.old).input }
         ensures uses { UsesConsole (mem_outside self.old) (mem_outside self.new) result }
-        ensures numbered { FailsByNumber (λ faults. faults.console) self.old self.new (has_failed result) }
+        ensures numbered { FailsByNumber (λ faults.
+            faults.console) self.old self.new (has_failed result) }
     {
         self.call_console()?;
         let bytes = self.tape.octets(bytes)?;
@@ -304,7 +340,8 @@ impl Disk for MemWorld {
         ensures effects { (mem_outside self.new).told ≡ (mem_outside self.old).told }
         ensures size { KeepsToldSize (mem_outside self.old) (mem_outside self.new) }
         ensures uses { UsesDisk (mem_outside self.old) (mem_outside self.new) (has_failed result) }
-        ensures numbered { FailsByNumber (λ faults. faults.disk) self.old self.new (has_failed result) }
+        ensures numbered { FailsByNumber (λ faults.
+            faults.disk) self.old self.new (has_failed result) }
     {
         self.call_disk()?;
         Ok(())
@@ -315,7 +352,8 @@ impl Disk for MemWorld {
         ensures size { KeepsToldSize (mem_outside self.old) (mem_outside self.new) }
         ensures answer { IfOk result (λ n. n ≡ (mem_outside self.new).size) }
         ensures uses { UsesDisk (mem_outside self.old) (mem_outside self.new) (has_failed result) }
-        ensures numbered { FailsByNumber (λ faults. faults.disk) self.old self.new (has_failed result) }
+        ensures numbered { FailsByNumber (λ faults.
+            faults.disk) self.old self.new (has_failed result) }
     {
         self.call_disk()?;
         Ok(self.tape.size())
@@ -326,9 +364,11 @@ impl Disk for MemWorld {
         ensures effects { (mem_outside self.new).told ≡ (mem_outside self.old).told }
         ensures size { (mem_outside self.new).size ≡ (mem_outside self.old).size }
         ensures bytes { OnOk result (MayRead (mem_outside self.old) at into.new) }
-        ensures held { OnOk result (into.new ≡ take (length into.old) (drop at (mem_file self.old))) }
+        ensures held { OnOk result
+            (into.new ≡ take (length into.old) (drop at (mem_file self.old))) }
         ensures uses { UsesDisk (mem_outside self.old) (mem_outside self.new) (has_failed result) }
-        ensures numbered { FailsByNumber (λ faults. faults.disk) self.old self.new (has_failed result) }
+        ensures numbered { FailsByNumber (λ faults.
+            faults.disk) self.old self.new (has_failed result) }
     {
         self.call_disk()?;
         self.tape.read_at(at, into);
@@ -337,11 +377,16 @@ impl Disk for MemWorld {
 
     fn write_at(&mut self, at: u64, bytes: &[u8]) -> Result<(), Failed>
         requires { at + length bytes.now ≤ (mem_outside self.old).size }
-        ensures ok { OnOk result ((mem_outside self.new).told ≡ adds (mem_outside self.old).told (Wrote at bytes.now ∷ [])) }
-        ensures err { OnErr result (Added (mem_outside self.old).told (mem_outside self.new).told (IsFailedWrite at (length bytes.now))) }
+        ensures ok { OnOk result ((mem_outside self.new).told
+            ≡ adds (mem_outside self.old).told (Wrote at bytes.now ∷ [])) }
+        ensures err { OnErr result
+            (Added (mem_outside self.old).told (mem_outside self.new).told
+            (IsFailedWrite at (length bytes.now))) }
         ensures size { (mem_outside self.new).size ≡ (mem_outside self.old).size }
-        ensures file { OnOk result (mem_file self.new ≡ overwritten (mem_file self.old) at bytes.now) }
-        ensures recorded { OnErr result (RecordsFailure (torn_effects at (length bytes.now)) self.old self.new) }
+        ensures file { OnOk result (mem_file self.new
+            ≡ overwritten (mem_file self.old) at bytes.now) }
+        ensures recorded { OnErr result
+            (RecordsFailure (torn_effects at (length bytes.now)) self.old self.new) }
         ensures uses { UsesDisk (mem_outside self.old) (mem_outside self.new) (is_err result) }
         ensures numbered { FailsUnrecorded self.old self.new (is_err result) }
     {
@@ -355,8 +400,10 @@ impl Disk for MemWorld {
     }
 
     fn sync(&mut self) -> Result<(), Failed>
-        ensures ok { OnOk result ((mem_outside self.new).told ≡ adds (mem_outside self.old).told (Synced ∷ [])) }
-        ensures err { OnErr result (Added (mem_outside self.old).told (mem_outside self.new).told IsFailedSync) }
+        ensures ok { OnOk result ((mem_outside self.new).told
+            ≡ adds (mem_outside self.old).told (Synced ∷ [])) }
+        ensures err { OnErr result
+            (Added (mem_outside self.old).told (mem_outside self.new).told IsFailedSync) }
         ensures size { (mem_outside self.new).size ≡ (mem_outside self.old).size }
         ensures file { mem_file self.new ≡ mem_file self.old }
         ensures recorded { OnErr result (RecordsFailure (SyncFailed ∷ []) self.old self.new) }
@@ -373,10 +420,12 @@ impl Disk for MemWorld {
     }
 
     fn publish(&mut self, path: &str, bytes: &[u8]) -> Result<(), Failure>
-        ensures effects { (mem_outside self.new).told ≡ adds (mem_outside self.old).told (on_ok result (Published path.now bytes.now ∷ [])) }
+        ensures effects { (mem_outside self.new).told
+            ≡ adds (mem_outside self.old).told (on_ok result (Published path.now bytes.now ∷ [])) }
         ensures size { (mem_outside self.new).size ≡ (mem_outside self.old).size }
         ensures uses { UsesDisk (mem_outside self.old) (mem_outside self.new) (has_failed result) }
-        ensures numbered { FailsByNumber (λ faults. faults.disk) self.old self.new (has_failed result) }
+        ensures numbered { FailsByNumber (λ faults.
+            faults.disk) self.old self.new (has_failed result) }
     {
         self.call_disk()?;
         let path = self.tape.octets(path.as_bytes())?;

@@ -64,7 +64,8 @@ impl SteadyWorld {
     /// one after that write.
     pub fn crash_file(&self, first: usize, choice: Choice) -> Result<Octets, NoMemory>
         requires { first ≤ length self.now.tape.effects }
-        ensures file { IfOk result (IsCrashFile self.now.tape.first (take first self.now.tape.effects) choice) }
+        ensures file { IfOk result
+            (IsCrashFile self.now.tape.first (take first self.now.tape.effects) choice) }
         ensures image { IfOk result (Image self.now.tape.first (take first self.now.tape.effects)) }
     {
         self.tape.crash_file(first, choice)
@@ -111,8 +112,10 @@ impl Links for SteadyWorld {
     }
 
     fn next(&mut self) -> Result<Event, Failure>
-        ensures effects { (steady_outside self.new).told ≡ adds (steady_outside self.old).told (of_ok Heard result) }
-        ensures coming { TakesNext (steady_outside self.old).coming (steady_outside self.new).coming result }
+        ensures effects { (steady_outside self.new).told
+            ≡ adds (steady_outside self.old).told (of_ok Heard result) }
+        ensures coming { TakesNext (steady_outside self.old).coming
+            (steady_outside self.new).coming result }
         ensures size { IfOk result HasPieceSize }
         ensures uses { UsesLinks (steady_outside self.old) (steady_outside self.new) result }
         ensures file { steady_file self.new ≡ steady_file self.old }
@@ -121,7 +124,8 @@ impl Links for SteadyWorld {
     }
 
     fn send(&mut self, to: Conn, bytes: &[u8]) -> Result<(), Failure>
-        ensures effects { (steady_outside self.new).told ≡ adds (steady_outside self.old).told (on_ok result (Sent to bytes.now ∷ [])) }
+        ensures effects { (steady_outside self.new).told
+            ≡ adds (steady_outside self.old).told (on_ok result (Sent to bytes.now ∷ [])) }
         ensures coming { (steady_outside self.new).coming ≡ (steady_outside self.old).coming }
         ensures uses { UsesLinks (steady_outside self.old) (steady_outside self.new) result }
         ensures file { steady_file self.new ≡ steady_file self.old }
@@ -132,7 +136,8 @@ impl Links for SteadyWorld {
     }
 
     fn shut(&mut self, to: Conn) -> Result<(), Failure>
-        ensures effects { (steady_outside self.new).told ≡ adds (steady_outside self.old).told (on_ok result (Shut to ∷ [])) }
+        ensures effects { (steady_outside self.new).told
+            ≡ adds (steady_outside self.old).told (on_ok result (Shut to ∷ [])) }
         ensures coming { (steady_outside self.new).coming ≡ (steady_outside self.old).coming }
         ensures uses { UsesLinks (steady_outside self.old) (steady_outside self.new) result }
         ensures file { steady_file self.new ≡ steady_file self.old }
@@ -148,7 +153,8 @@ impl Spawner for SteadyWorld {
     ghost use Rattle.sm_world.specs.declared.effects.Effect.TheVariants.{Started};
 
     fn start(&mut self, command: &Command) -> Result<bool, NoMemory>
-        ensures effects { (steady_outside self.new).told ≡ adds (steady_outside self.old).told (of_ok (Started command.now) result) }
+        ensures effects { (steady_outside self.new).told
+            ≡ adds (steady_outside self.old).told (of_ok (Started command.now) result) }
         ensures uses { UsesSpawner (steady_outside self.old) (steady_outside self.new) result }
         ensures starts { IfOk result (λ started. started ≡ true) }
         ensures file { steady_file self.new ≡ steady_file self.old }
@@ -168,7 +174,8 @@ impl Console for SteadyWorld {
     fn read(&mut self, into: &mut [u8]) -> Result<usize, Failure>
         ensures within { IfOk result (λ n. n ≤ length into.old) }
         ensures effects { (steady_outside self.new).told ≡ (steady_outside self.old).told }
-        ensures input { Reads (steady_outside self.old).input (steady_outside self.new).input into.old into.new result }
+        ensures input { Reads (steady_outside self.old).input
+            (steady_outside self.new).input into.old into.new result }
         ensures uses { UsesConsole (steady_outside self.old) (steady_outside self.new) result }
         ensures file { steady_file self.new ≡ steady_file self.old }
     {
@@ -176,7 +183,8 @@ impl Console for SteadyWorld {
     }
 
     fn print(&mut self, bytes: &[u8]) -> Result<(), Failure>
-        ensures effects { (steady_outside self.new).told ≡ adds (steady_outside self.old).told (on_ok result (Printed bytes.now ∷ [])) }
+        ensures effects { (steady_outside self.new).told
+            ≡ adds (steady_outside self.old).told (on_ok result (Printed bytes.now ∷ [])) }
         ensures input { (steady_outside self.new).input ≡ (steady_outside self.old).input }
         ensures uses { UsesConsole (steady_outside self.old) (steady_outside self.new) result }
         ensures file { steady_file self.new ≡ steady_file self.old }
@@ -222,7 +230,8 @@ impl Disk for SteadyWorld {
         ensures effects { (steady_outside self.new).told ≡ (steady_outside self.old).told }
         ensures size { (steady_outside self.new).size ≡ (steady_outside self.old).size }
         ensures bytes { OnOk result (MayRead (steady_outside self.old) at into.new) }
-        ensures held { OnOk result (into.new ≡ take (length into.old) (drop at (steady_file self.old))) }
+        ensures held { OnOk result
+            (into.new ≡ take (length into.old) (drop at (steady_file self.old))) }
         ensures uses { UsesDisk (steady_outside self.old) (steady_outside self.new) (has_failed result) }
         ensures file { steady_file self.new ≡ steady_file self.old }
         ensures unrecorded { steady_unrecorded self.new ≡ steady_unrecorded self.old }
@@ -233,13 +242,18 @@ impl Disk for SteadyWorld {
 
     fn write_at(&mut self, at: u64, bytes: &[u8]) -> Result<(), Failed>
         requires { at + length bytes.now ≤ (steady_outside self.old).size }
-        ensures ok { OnOk result ((steady_outside self.new).told ≡ adds (steady_outside self.old).told (Wrote at bytes.now ∷ [])) }
-        ensures err { OnErr result (Added (steady_outside self.old).told (steady_outside self.new).told (IsFailedWrite at (length bytes.now))) }
+        ensures ok { OnOk result ((steady_outside self.new).told
+            ≡ adds (steady_outside self.old).told (Wrote at bytes.now ∷ [])) }
+        ensures err { OnErr result
+            (Added (steady_outside self.old).told (steady_outside self.new).told
+            (IsFailedWrite at (length bytes.now))) }
         ensures size { (steady_outside self.new).size ≡ (steady_outside self.old).size }
         ensures uses { UsesDisk (steady_outside self.old) (steady_outside self.new) (is_err result) }
-        ensures file { OnOk result (steady_file self.new ≡ overwritten (steady_file self.old) at bytes.now) }
+        ensures file { OnOk result (steady_file self.new
+            ≡ overwritten (steady_file self.old) at bytes.now) }
         ensures kept { OnErr result (steady_file self.new ≡ steady_file self.old) }
-        ensures unrecorded { steady_unrecorded self.new ≡ counted_if (is_err result) (steady_unrecorded self.old) }
+        ensures unrecorded { steady_unrecorded self.new
+            ≡ counted_if (is_err result) (steady_unrecorded self.old) }
     {
         match self.tape.write_at(at, bytes) {
             Ok(()) => Ok(()),
@@ -248,12 +262,15 @@ impl Disk for SteadyWorld {
     }
 
     fn sync(&mut self) -> Result<(), Failed>
-        ensures ok { OnOk result ((steady_outside self.new).told ≡ adds (steady_outside self.old).told (Synced ∷ [])) }
-        ensures err { OnErr result (Added (steady_outside self.old).told (steady_outside self.new).told IsFailedSync) }
+        ensures ok { OnOk result ((steady_outside self.new).told
+            ≡ adds (steady_outside self.old).told (Synced ∷ [])) }
+        ensures err { OnErr result
+            (Added (steady_outside self.old).told (steady_outside self.new).told IsFailedSync) }
         ensures size { (steady_outside self.new).size ≡ (steady_outside self.old).size }
         ensures uses { UsesDisk (steady_outside self.old) (steady_outside self.new) (is_err result) }
         ensures file { steady_file self.new ≡ steady_file self.old }
-        ensures unrecorded { steady_unrecorded self.new ≡ counted_if (is_err result) (steady_unrecorded self.old) }
+        ensures unrecorded { steady_unrecorded self.new
+            ≡ counted_if (is_err result) (steady_unrecorded self.old) }
     {
         match self.tape.note(Effect::Synced) {
             Ok(()) => Ok(()),
@@ -262,7 +279,9 @@ impl Disk for SteadyWorld {
     }
 
     fn publish(&mut self, path: &str, bytes: &[u8]) -> Result<(), Failure>
-        ensures effects { (steady_outside self.new).told ≡ adds (steady_outside self.old).told (on_ok result (Published path.now bytes.now ∷ [])) }
+        ensures effects { (steady_outside self.new).told
+            ≡ adds (steady_outside self.old).told (on_ok result
+            (Published path.now bytes.now ∷ [])) }
         ensures size { (steady_outside self.new).size ≡ (steady_outside self.old).size }
         ensures uses { UsesDisk (steady_outside self.old) (steady_outside self.new) (has_failed result) }
         ensures file { steady_file self.new ≡ steady_file self.old }

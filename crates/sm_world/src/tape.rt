@@ -38,9 +38,18 @@ impl Model for Tape {
 
     ghost Value = { Recorded };
 
-    ghost view = { λ t. record { effects = t.effects.items; coming = t.coming.items; input = drop t.taken t.input; first = t.first; file = t.file } };
+    ghost view = { λ t.
+        record {
+          effects = t.effects.items;
+          coming = t.coming.items;
+          input = drop t.taken
+              t.input;
+          first = t.first;
+          file = t.file;
+        } };
 
-    ghost invariant = { λ t. (t.taken ≤ length t.input) × AllByRecursion HasPieceSize t.coming.items × IsHeld t.first t.effects.items t.file };
+    ghost invariant = { λ t. (t.taken ≤ length t.input) × AllByRecursion HasPieceSize t.coming.items
+        × IsHeld t.first t.effects.items t.file };
 }
 
 impl Tape {
@@ -52,7 +61,14 @@ impl Tape {
         file: Octets,
     ) -> Result<Tape, NoMemory>
         requires { AllByRecursion HasPieceSize events }
-        ensures { IfOk result (λ tape. tape ≡ record { effects = []; coming = events; input = input; first = file; file = file }) }
+        ensures { IfOk result (λ tape.
+            tape ≡ record {
+              effects = [];
+              coming = events;
+              input = input;
+              first = file;
+              file = file;
+            }) }
     {
         let first = file.copy()?;
         Ok(Tape {
@@ -106,7 +122,12 @@ impl Tape {
     pub fn hear(&mut self) -> Result<Event, NoMemory>
         ensures event { IfOk result (λ event. event ≡ next_of self.old.coming) }
         ensures size { IfOk result HasPieceSize }
-        ensures ok { IfOk result (λ event. self.new ≡ record self.old { effects = self.old.effects ++ Heard event ∷ []; coming = drop 1 self.old.coming }) }
+        ensures ok { IfOk result (λ event. self.new
+            ≡ record self.old {
+              effects = self.old.effects ++ Heard event
+                  ∷ [];
+              coming = drop 1 self.old.coming;
+            }) }
         ensures err { OnErr result (self.new ≡ self.old) }
     {
         let heard = self.upcoming()?;
@@ -118,7 +139,8 @@ impl Tape {
     #[tactic(auto, using(crate::proofs::Holding::held_noted))]
     pub fn note(&mut self, effect: Effect) -> Result<(), NoMemory>
         requires { KeepsBytes effect }
-        ensures ok { OnOk result (self.new ≡ record self.old { effects = self.old.effects ++ effect ∷ [] }) }
+        ensures ok { OnOk result
+            (self.new ≡ record self.old { effects = self.old.effects ++ effect ∷ [] }) }
         ensures err { OnErr result (self.new ≡ self.old) }
     {
         self.effects.push(effect)?;
@@ -153,7 +175,12 @@ impl Tape {
     #[tactic(auto, using(crate::proofs::Holding::held_written))]
     pub fn write_at(&mut self, at: u64, bytes: &[u8]) -> Result<(), NoMemory>
         requires { at + length bytes.now ≤ length self.old.first }
-        ensures ok { OnOk result (self.new ≡ record self.old { effects = self.old.effects ++ Wrote at bytes.now ∷ []; file = overwritten self.old.file at bytes.now }) }
+        ensures ok { OnOk result
+            (self.new ≡ record self.old {
+              effects = self.old.effects ++ Wrote at bytes.now
+                  ∷ [];
+              file = overwritten self.old.file at bytes.now;
+            }) }
         ensures err { OnErr result (self.new ≡ self.old) }
     {
         let written = self.octets(bytes)?;
@@ -165,7 +192,8 @@ impl Tape {
     /// The file that a crash after the first effects leaves by a choice.
     pub fn crash_file(&self, first: usize, choice: Choice) -> Result<Octets, NoMemory>
         requires { first ≤ length self.now.effects }
-        ensures file { IfOk result (IsCrashFile self.now.first (take first self.now.effects) choice) }
+        ensures file { IfOk result
+            (IsCrashFile self.now.first (take first self.now.effects) choice) }
         ensures image { IfOk result (Image self.now.first (take first self.now.effects)) }
     {
         let effects = &self.effects.as_slice()[..first];

@@ -24,7 +24,9 @@ fn follow<P: Peer, S: Saves + Drop, D: Dies + Drop, C: Cancels + Drop>(
     requires cancelled { C.lawful others.1 }
     requires saves { 1 ≤ join.old.saves }
     requires previous { length join.old.previous ≤ 512 }
-    ensures ran { Ran S.answers D.gives C.hears (P.outside peer.old) (P.outside peer.new) join.old join.new.lines turns (record { save = save; die = others.0; cancelled = others.1 }) result answer.new }
+    ensures ran { Ran S.answers D.gives C.hears (P.outside peer.old)
+        (P.outside peer.new) join.old join.new.lines turns
+        (record { save = save; die = others.0; cancelled = others.1 }) result answer.new }
     ensures kept { join.new ≡ record join.old { lines = join.new.lines } }
 {
     let (die, cancelled) = others;
@@ -47,7 +49,8 @@ pub fn join_session<P: Peer>(
     requires saves { 1 ≤ join.old.saves }
     requires previous { length join.old.previous ≤ 512 }
     requires program { length choices.now.program.now ≤ 512 }
-    ensures joins { JoinsBy choices.now (P.outside peer.old) (P.outside peer.new) join.old join.new.lines turns result }
+    ensures joins { JoinsBy choices.now (P.outside peer.old)
+        (P.outside peer.new) join.old join.new.lines turns result }
     ensures kept { join.new ≡ record join.old { lines = join.new.lines } }
 {
     let saver = Saver {

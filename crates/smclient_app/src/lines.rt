@@ -19,7 +19,8 @@ fn whole_line(line: &Octets) -> Result<Octets, NoMemory>
 
 /// Prints a line.
 fn print_line<W: Console>(world: &mut W, line: &Octets) -> Result<(), Failure>
-    ensures effects { (W.outside world.new).told ≡ adds (W.outside world.old).told (on_ok result (Printed (with_newline line.now) ∷ [])) }
+    ensures effects { (W.outside world.new).told ≡ adds (W.outside world.old).told
+        (on_ok result (Printed (with_newline line.now) ∷ [])) }
     ensures uses { UsesConsole (W.outside world.old) (W.outside world.new) result }
 {
     let text = whole_line(line)?;
@@ -28,9 +29,11 @@ fn print_line<W: Console>(world: &mut W, line: &Octets) -> Result<(), Failure>
 
 /// Prints each of these lines, as far as the console takes them.
 pub fn print_lines<W: Console>(world: &mut W, lines: &[Octets]) -> Result<(), Failure>
-    ensures prints { Added (W.outside world.old).told (W.outside world.new).told (PrintsFirst lines.now result) }
+    ensures prints { Added (W.outside world.old).told (W.outside world.new).told
+        (PrintsFirst lines.now result) }
     ensures counts { NotFallen (W.outside world.old).faults (W.outside world.new).faults }
-    ensures cause { IsErrOf result HasFailed → Rose (W.outside world.old).faults.console (W.outside world.new).faults.console }
+    ensures cause { IsErrOf result HasFailed → Rose (W.outside world.old).faults.console
+        (W.outside world.new).faults.console }
 {
     for line in lines {
         match print_line(world, line) {

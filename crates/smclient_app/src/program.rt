@@ -33,7 +33,9 @@ fn fetch_cookie<P: Peer>(
     peer: &mut P,
     choices: &Choices<'_>,
 ) -> Result<Cookie, Fault>
-    ensures found { IfOk result (λ cookie. FileIs (P.outside peer.old).files choices.now.authority.now (λ bytes. HasCookie choices.now.socket.now bytes cookie)) }
+    ensures found { IfOk result (λ cookie.
+        FileIs (P.outside peer.old).files choices.now.authority.now (λ bytes.
+        HasCookie choices.now.socket.now bytes cookie)) }
     ensures early { IfErr result (IsEarly choices.now (P.outside peer.old) (P.outside peer.new)) }
     ensures told { (P.outside peer.new).told ≡ (P.outside peer.old).told }
     ensures counts { NotFallen (P.outside peer.old).faults (P.outside peer.new).faults }
@@ -51,7 +53,13 @@ fn fetch_cookie<P: Peer>(
 
 /// What a client joins with that has noted nothing yet.
 fn first_join(alloc: Global, choices: &Choices<'_>, cookie: Cookie) -> Result<Join, NoMemory>
-    ensures { IfOk result (λ join. join ≡ record { cookie = cookie; previous = choices.now.id.now; saves = choices.now.saves; lines = [] }) }
+    ensures { IfOk result (λ join.
+        join ≡ record {
+          cookie = cookie;
+          previous = choices.now.id.now;
+          saves = choices.now.saves;
+          lines = [];
+        }) }
 {
     Ok(Join {
         cookie,
@@ -92,7 +100,8 @@ fn join<P: Peer + Console>(
     requires id { length choices.now.id.now ≤ 512 }
     requires program { length choices.now.program.now ≤ 512 }
     requires saves { 1 ≤ choices.now.saves }
-    ensures runs { Added (P.outside world.old).told (P.outside world.new).told (RunsBy choices.now (P.outside world.old) (P.outside world.new) turns result) }
+    ensures runs { Added (P.outside world.old).told (P.outside world.new).told
+        (RunsBy choices.now (P.outside world.old) (P.outside world.new) turns result) }
     ensures counts { NotFallen (P.outside world.old).faults (P.outside world.new).faults }
 {
     let mut join = match connect(alloc, world, choices) {
@@ -111,7 +120,9 @@ fn run_words<P: Peer + Console>(
     world: &mut P,
     turns: u64,
 ) -> Result<(), Fault>
-    ensures runs { Added (P.outside world.old).told (P.outside world.new).told (Runs (map string_bytes words.now) (P.outside world.old) (P.outside world.new) turns result) }
+    ensures runs { Added (P.outside world.old).told (P.outside world.new).told
+        (Runs (map string_bytes words.now) (P.outside world.old)
+        (P.outside world.new) turns result) }
     ensures counts { NotFallen (P.outside world.old).faults (P.outside world.new).faults }
 {
     let choices = match read_choices(alloc, words) {
@@ -133,7 +144,9 @@ pub fn smclient_main<P: Peer + Console>(
 ) -> u8
     // What each status says of the words, the authority file and the manager's stream, and all that is
     // sent and printed at it.
-    ensures answers { Added (P.outside world.old).told (P.outside world.new).told (Answers (map string_bytes words.now) (P.outside world.old) (P.outside world.new) turns result) }
+    ensures answers { Added (P.outside world.old).told (P.outside world.new).told
+        (Answers (map string_bytes words.now) (P.outside world.old)
+        (P.outside world.new) turns result) }
     ensures counts { NotFallen (P.outside world.old).faults (P.outside world.new).faults }
 {
     let ending = run_words(alloc, words, world, turns);

@@ -12,7 +12,8 @@ use std::alloc::Global;
 
 /// A property with this one value.
 fn property(alloc: Global, name: &[u8], kind: &[u8], value: &[u8]) -> Result<Property, NoMemory>
-    ensures { IfOk result (λ p. p ≡ record { name = name.now; kind = kind.now; values = value.now ∷ [] }) }
+    ensures { IfOk result (λ p.
+        p ≡ record { name = name.now; kind = kind.now; values = value.now ∷ [] }) }
 {
     let mut values = Array8List::new(alloc);
     put_word(alloc, &mut values, value)?;
@@ -90,7 +91,9 @@ impl Saver<'_, '_> {
         ensures lawful { IsLawful ask result }
         ensures choices { self.new.choices ≡ self.old.choices }
         ensures talked { self.new.talked ≡ self.old.talked }
-        ensures says { ((result ≡ answer_by self.old.choices.now self.old.talked ask) × (self.new.missing ≡ self.old.missing)) ⊎ ((result ≡ gives_up) × (self.new.missing ≡ pos 1)) }
+        ensures says { ((result ≡ answer_by self.old.choices.now self.old.talked ask)
+            × (self.new.missing ≡ self.old.missing))
+            ⊎ ((result ≡ gives_up) × (self.new.missing ≡ pos 1)) }
     {
         match set(self.alloc, self.choices, ask.stage, self.talked) {
             Ok(set) => SaveAnswer {
@@ -114,7 +117,8 @@ impl Saves for Saver<'_, '_> {
 
     ghost lawful = { λ s. length s.choices.now.program.now ≤ 512 };
 
-    ghost answers = { λ s ask answer t. (t.choices ≡ s.choices) × Remembers s.choices.now s.talked s.missing ask answer t.talked t.missing };
+    ghost answers = { λ s ask answer t. (t.choices ≡ s.choices)
+        × Remembers s.choices.now s.talked s.missing ask answer t.talked t.missing };
 
     fn answer(&mut self, ask: SaveAsk) -> SaveAnswer {
         let answer = self.say(ask);

@@ -76,7 +76,8 @@ fn read_task(alloc: Global, words: &[String]) -> Result<Task, Fault>
 
 /// Reads the words: `--control C` or nothing, and what is asked for.
 pub fn read_request(alloc: Global, words: &[String]) -> Result<Request<'_>, Fault>
-    ensures asks { IfOk result (λ request. Asks (map string_bytes words.now) (option_copied request.control) request.task) }
+    ensures asks { IfOk result (λ request.
+        Asks (map string_bytes words.now) (option_copied request.control) request.task) }
     ensures none { IfErr result (AsksNothing (map string_bytes words.now)) }
 {
     if words.len() >= 2 && words[0].as_str() == "--control" {

@@ -43,7 +43,8 @@ impl Talk {
 
     /// The next line that the manager answers, with its newline. One without a newline was cut off.
     pub fn hear(&mut self) -> io::Result<Vec<u8>>
-        ensures whole { IfOk result (λ line. slice_get line.items (length line.items - 1) ≡ Some 10) }
+        ensures whole { IfOk result (λ line. slice_get line.items (length line.items - 1)
+            ≡ Some 10) }
         ensures one { IfOk result (λ line. StopsAt line.items 10) }
     {
         let mut line = Vec::new(self.alloc);

@@ -151,7 +151,8 @@ fn push_round(
 
 fn push_rounds(alloc: Global, events: &mut EventList, exercise: Exercise) -> Result<(), NoMemory>
     requires { exercise.rounds ≤ 1000 }
-    ensures { OnOk result (events.new ≡ events.old ++ each (round_events exercise.pattern) exercise.rounds) }
+    ensures { OnOk result
+        (events.new ≡ events.old ++ each (round_events exercise.pattern) exercise.rounds) }
 {
     for count in 0..exercise.rounds {
         push_round(alloc, events, exercise.pattern, count + 1)?;
@@ -171,7 +172,8 @@ fn push_ending(alloc: Global, events: &mut EventList) -> Result<(), NoMemory>
 /// The events of an exercise.
 pub fn exercise_script(alloc: Global, exercise: Exercise) -> Result<EventList, NoMemory>
     requires { exercise.rounds ≤ 1000 }
-    ensures events { IfOk result (λ events. events ≡ exercise_events exercise.pattern exercise.rounds) }
+    ensures events { IfOk result (λ events. events
+        ≡ exercise_events exercise.pattern exercise.rounds) }
     ensures sized { IfOk result (AllByRecursion HasPieceSize) }
 {
     let mut events = EventList::new(alloc);

@@ -24,7 +24,9 @@ fn rehearse<W: Console>(
     patience: u64,
     turns: u64,
 ) -> Result<(), Fault>
-    ensures runs { (identity : Identity) → Added (W.outside world.old).told (W.outside world.new).told (RunsTask (IsRehearsal patience) identity turns (W.outside world.old) (W.outside world.new) result) }
+    ensures runs { (identity : Identity) → Added (W.outside world.old).told
+        (W.outside world.new).told (RunsTask (IsRehearsal patience) identity turns
+        (W.outside world.old) (W.outside world.new) result) }
     ensures counts { NotFallen (W.outside world.old).faults (W.outside world.new).faults }
 {
     let script = read_input(alloc, world, SCRIPT_LIMIT + 1)?;
@@ -47,7 +49,9 @@ fn run_exercise<W: Console>(
     turns: u64,
 ) -> Result<(), Fault>
     requires { exercise.rounds ≤ 1000 }
-    ensures runs { Added (W.outside world.old).told (W.outside world.new).told (RunsExercise (W.outside world.old).faults.console (W.outside world.new).faults.console (exercise_events exercise.pattern exercise.rounds) turns result) }
+    ensures runs { Added (W.outside world.old).told (W.outside world.new).told
+        (RunsExercise (W.outside world.old).faults.console (W.outside world.new).faults.console
+        (exercise_events exercise.pattern exercise.rounds) turns result) }
     ensures counts { NotFallen (W.outside world.old).faults (W.outside world.new).faults }
 {
     let events = exercise_script(alloc, exercise)?;
@@ -69,7 +73,9 @@ fn run_words<W: Disk + Links + Spawner + Console>(
     turns: u64,
 ) -> Result<(), Fault>
     requires { length identity.now.host ≤ 255 }
-    ensures runs { Added (W.outside world.old).told (W.outside world.new).told (Runs (map string_bytes words.now) identity.now turns (W.outside world.old) (W.outside world.new) result) }
+    ensures runs { Added (W.outside world.old).told (W.outside world.new).told
+        (Runs (map string_bytes words.now) identity.now turns (W.outside world.old)
+        (W.outside world.new) result) }
     ensures counts { NotFallen (W.outside world.old).faults (W.outside world.new).faults }
 {
     if let Some(patience) = read_rehearse(alloc, words)? {
@@ -105,7 +111,9 @@ pub fn smd_main<W: Disk + Links + Spawner + Console>(
 ) -> u8
     requires { length identity.host ≤ 255 }
     // What each status says of the words, of what they ask for, and of all that was done and printed at it.
-    ensures answers { Added (W.outside world.old).told (W.outside world.new).told (Answers (map string_bytes words.now) identity (W.outside world.old) (W.outside world.new) turns result) }
+    ensures answers { Added (W.outside world.old).told (W.outside world.new).told
+        (Answers (map string_bytes words.now) identity (W.outside world.old)
+        (W.outside world.new) turns result) }
     ensures counts { NotFallen (W.outside world.old).faults (W.outside world.new).faults }
 {
     let ending = run_words(alloc, words, world, &identity, turns);

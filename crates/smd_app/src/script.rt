@@ -23,7 +23,8 @@ pub enum ScriptFault {
 
 /// Adds the event that a line says to those before it, and nothing for a line that is skipped.
 fn take_line(alloc: Global, events: &mut EventList, line: &[u8]) -> Result<(), OrderRefusal>
-    ensures taken { OnOk result ((said : List Event) × SayAll (line.now ∷ []) said × (events.new ≡ events.old ++ said)) }
+    ensures taken { OnOk result ((said : List Event) × SayAll (line.now ∷ []) said
+        × (events.new ≡ events.old ++ said)) }
     ensures refused { IfErr result (IsRefusal (Gives line.now)) }
 {
     match read_script_line(alloc, line)? {

@@ -38,7 +38,8 @@ fn entry_for(
     socket: &str,
     protocol: &[u8],
 ) -> Result<AuthorityEntry, NoMemory>
-    ensures entry { IfOk result (λ entry. entry ≡ session_entry identity.now socket.now protocol.now) }
+    ensures entry { IfOk result (λ entry.
+        entry ≡ session_entry identity.now socket.now protocol.now) }
     ensures size { IfOk result (λ entry. length entry.proof ≡ 16) }
 {
     let mut network = Octets::new(alloc);
@@ -88,7 +89,15 @@ fn hand_out<W: Disk>(
 ) -> Result<(), Fault>
     requires host { length identity.now.host ≤ 255 }
     requires socket { length paths.now.socket.now ≤ 4096 }
-    ensures ok { OnOk result ((W.outside world.new).told ≡ adds (W.outside world.old).told (handing_out identity.now (record { socket = paths.now.socket.now; control = paths.now.control.now; store = paths.now.store.now; authority = paths.now.authority.now; patience = paths.now.patience }))) }
+    ensures ok { OnOk result ((W.outside world.new).told
+        ≡ adds (W.outside world.old).told (handing_out identity.now
+        (record {
+          socket = paths.now.socket.now;
+          control = paths.now.control.now;
+          store = paths.now.store.now;
+          authority = paths.now.authority.now;
+          patience = paths.now.patience;
+        }))) }
     ensures err { OnErr result ((W.outside world.new).told ≡ (W.outside world.old).told) }
     ensures cause { IfErr result (IsOfDisk (W.outside world.old) (W.outside world.new)) }
     ensures kept { SetsUp (W.outside world.old) (W.outside world.new) }
@@ -113,7 +122,15 @@ fn announce<W: Links + Console>(
     identity: &Identity,
     paths: &Paths<'_>,
 ) -> Result<(), Fault>
-    ensures ok { OnOk result ((W.outside world.new).told ≡ adds (W.outside world.old).told (announcing identity.now (record { socket = paths.now.socket.now; control = paths.now.control.now; store = paths.now.store.now; authority = paths.now.authority.now; patience = paths.now.patience }))) }
+    ensures ok { OnOk result ((W.outside world.new).told
+        ≡ adds (W.outside world.old).told (announcing identity.now
+        (record {
+          socket = paths.now.socket.now;
+          control = paths.now.control.now;
+          store = paths.now.store.now;
+          authority = paths.now.authority.now;
+          patience = paths.now.patience;
+        }))) }
     ensures err { OnErr result ((W.outside world.new).told ≡ (W.outside world.old).told) }
     ensures cause { IfErr result (IsOfEdge (W.outside world.old) (W.outside world.new)) }
     ensures kept { SetsUp (W.outside world.old) (W.outside world.new) }
@@ -141,7 +158,15 @@ pub fn serve_session<W: Disk + Links + Spawner + Console>(
 ) -> Result<(), Fault>
     requires host { length identity.now.host ≤ 255 }
     requires socket { length paths.now.socket.now ≤ 4096 }
-    ensures runs { Added (W.outside world.old).told (W.outside world.new).told (RunsSession identity.now (record { socket = paths.now.socket.now; control = paths.now.control.now; store = paths.now.store.now; authority = paths.now.authority.now; patience = paths.now.patience }) turns (W.outside world.old) (W.outside world.new) result) }
+    ensures runs { Added (W.outside world.old).told (W.outside world.new).told
+        (RunsSession identity.now
+        (record {
+          socket = paths.now.socket.now;
+          control = paths.now.control.now;
+          store = paths.now.store.now;
+          authority = paths.now.authority.now;
+          patience = paths.now.patience;
+        }) turns (W.outside world.old) (W.outside world.new) result) }
     ensures counts { NotFallen (W.outside world.old).faults (W.outside world.new).faults }
 {
     if let Err(fault) = hand_out(alloc, world, identity, paths) {

@@ -39,9 +39,12 @@ fn opens_gate(bytes: &[u8]) -> usize
 impl Tally {
     /// Counts one effect more.
     fn with(self, effect: &Effect) -> Result<Tally, NoMemory>
-        ensures events { IfOk result (λ tally. tally.events ≡ self.events + came_in (item_of effect.now)) }
-        ensures bytes { IfOk result (λ tally. tally.bytes ≡ self.bytes + sent_in (item_of effect.now)) }
-        ensures commits { IfOk result (λ tally. tally.commits ≡ self.commits + opened_by effect.now) }
+        ensures events { IfOk result (λ tally. tally.events
+            ≡ self.events + came_in (item_of effect.now)) }
+        ensures bytes { IfOk result (λ tally. tally.bytes
+            ≡ self.bytes + sent_in (item_of effect.now)) }
+        ensures commits { IfOk result (λ tally. tally.commits
+            ≡ self.commits + opened_by effect.now) }
     {
         let Tally {
             events,
@@ -101,7 +104,9 @@ fn line_of(alloc: Global, events: u64, bytes: u64, commits: u64) -> Result<Strin
 
 /// The line that sums up a run with these effects.
 pub fn summary_line(alloc: Global, effects: &[Effect]) -> Result<String, NoMemory>
-    ensures { IfOk result (λ text. string_bytes text ≡ summary (came_in (items effects.now)) (sent_in (items effects.now)) (opened_in effects.now)) }
+    ensures { IfOk result (λ text. string_bytes text
+        ≡ summary (came_in (items effects.now)) (sent_in (items effects.now))
+        (opened_in effects.now)) }
 {
     let tally = tally_of(effects)?;
     line_of(alloc, tally.events, tally.bytes, tally.commits)

@@ -57,7 +57,8 @@ fn is_word(words: &[String], at: usize, word: &str) -> bool
 
 /// The value of the first of some pairs of words that has this name.
 fn value_of<'a>(pairs: &'a [String], name: &str) -> Option<&'a str>
-    ensures { MatchOption result (value_in (pairs_of (map string_bytes pairs.now)) name.now ≡ None) (λ value. value_in (pairs_of (map string_bytes pairs.now)) name.now ≡ Some value.now) }
+    ensures { MatchOption result (value_in (pairs_of (map string_bytes pairs.now)) name.now ≡ None)
+        (λ value. value_in (pairs_of (map string_bytes pairs.now)) name.now ≡ Some value.now) }
 {
     let mut left = pairs;
     while let Some((first, others)) = left.split_first() {
@@ -78,7 +79,9 @@ fn is_path(path: &str) -> bool
 
 /// The path that the pairs have with this name.
 fn path_of<'a>(pairs: &'a [String], name: &str) -> Option<&'a str>
-    ensures { MatchOption result ((value : List ℕ) → ¬ (HasPath (pairs_of (map string_bytes pairs.now)) name.now value)) (λ value. HasPath (pairs_of (map string_bytes pairs.now)) name.now value.now) }
+    ensures { MatchOption result ((value : List ℕ) →
+        ¬ (HasPath (pairs_of (map string_bytes pairs.now)) name.now value)) (λ value.
+        HasPath (pairs_of (map string_bytes pairs.now)) name.now value.now) }
 {
     match value_of(pairs, name) {
         Some(value) => { if is_path(value) { Some(value) } else { None } }
@@ -88,7 +91,9 @@ fn path_of<'a>(pairs: &'a [String], name: &str) -> Option<&'a str>
 
 /// The patience that a word states.
 fn read_patience(alloc: Global, word: &str) -> Result<Option<u64>, NoMemory>
-    ensures { IfOk result (λ found. MatchOption found ((patience : ℕ) → IsPatience patience → word.now ≢ decimal patience) (λ patience. IsPatience patience × (word.now ≡ decimal patience))) }
+    ensures { IfOk result (λ found.
+        MatchOption found ((patience : ℕ) → IsPatience patience → word.now ≢ decimal patience)
+        (λ patience. IsPatience patience × (word.now ≡ decimal patience))) }
 {
     match read_number(alloc, word.as_bytes())? {
         Some(number) => {
@@ -104,7 +109,9 @@ fn read_patience(alloc: Global, word: &str) -> Result<Option<u64>, NoMemory>
 
 /// The patience that the pairs of words behind `serve` give.
 fn patience_of(alloc: Global, pairs: &[String]) -> Result<Option<u64>, NoMemory>
-    ensures { IfOk result (λ found. MatchOption found ((patience : ℕ) → ¬ (GivePatience (map string_bytes pairs.now) patience)) (λ patience. GivePatience (map string_bytes pairs.now) patience)) }
+    ensures { IfOk result (λ found.
+        MatchOption found ((patience : ℕ) → ¬ (GivePatience (map string_bytes pairs.now) patience))
+        (λ patience. GivePatience (map string_bytes pairs.now) patience)) }
 {
     if pairs.len() == 8 {
         return Ok(Some(0));
@@ -120,7 +127,17 @@ fn patience_of(alloc: Global, pairs: &[String]) -> Result<Option<u64>, NoMemory>
 
 /// What the words of a session name, with this patience.
 fn paths_of(pairs: &[String], patience: u64) -> Option<Paths<'_>>
-    ensures { MatchOption result ((places : Places) → ¬ (HavePaths (pairs_of (map string_bytes pairs.now)) places)) (λ paths. HavePaths (pairs_of (map string_bytes pairs.now)) (record { socket = paths.socket.now; control = paths.control.now; store = paths.store.now; authority = paths.authority.now; patience = paths.patience }) × (paths.patience ≡ patience)) }
+    ensures { MatchOption result ((places : Places) →
+        ¬ (HavePaths (pairs_of (map string_bytes pairs.now)) places)) (λ paths.
+        HavePaths (pairs_of (map string_bytes pairs.now))
+        (record {
+          socket = paths.socket.now;
+          control = paths.control.now;
+          store = paths.store.now;
+          authority = paths.authority.now;
+          patience = paths.patience;
+        })
+        × (paths.patience ≡ patience)) }
 {
     let socket = path_of(pairs, "--socket")?;
     let control = path_of(pairs, "--control")?;
@@ -138,7 +155,16 @@ fn paths_of(pairs: &[String], patience: u64) -> Option<Paths<'_>>
 /// What the words of a session name, where they are `serve` and four or five pairs in any order: one
 /// with the name of each path, and one with that of the patience, where there is one.
 pub fn read_paths(alloc: Global, words: &[String]) -> Result<Option<Paths<'_>>, NoMemory>
-    ensures { IfOk result (λ found. MatchOption found ((places : Places) → ¬ (AreServe (map string_bytes words.now) places)) (λ paths. AreServe (map string_bytes words.now) (record { socket = paths.socket.now; control = paths.control.now; store = paths.store.now; authority = paths.authority.now; patience = paths.patience }))) }
+    ensures { IfOk result (λ found.
+        MatchOption found ((places : Places) → ¬ (AreServe (map string_bytes words.now) places))
+        (λ paths. AreServe (map string_bytes words.now)
+        (record {
+          socket = paths.socket.now;
+          control = paths.control.now;
+          store = paths.store.now;
+          authority = paths.authority.now;
+          patience = paths.patience;
+        }))) }
 {
     let Some((first, pairs)) = words.split_first() else {
         return Ok(None);
@@ -154,7 +180,9 @@ pub fn read_paths(alloc: Global, words: &[String]) -> Result<Option<Paths<'_>>, 
 
 /// The patience of a rehearsal, where the words are `rehearse` and, where there is one, its patience.
 pub fn read_rehearse(alloc: Global, words: &[String]) -> Result<Option<u64>, NoMemory>
-    ensures { IfOk result (λ found. MatchOption found ((patience : ℕ) → ¬ (AreRehearse (map string_bytes words.now) patience)) (λ patience. AreRehearse (map string_bytes words.now) patience)) }
+    ensures { IfOk result (λ found.
+        MatchOption found ((patience : ℕ) → ¬ (AreRehearse (map string_bytes words.now) patience))
+        (λ patience. AreRehearse (map string_bytes words.now) patience)) }
 {
     if are_one_word(words, "rehearse") {
         return Ok(Some(0));
@@ -168,7 +196,10 @@ pub fn read_rehearse(alloc: Global, words: &[String]) -> Result<Option<u64>, NoM
 /// A word that is a number.
 fn number_at(alloc: Global, words: &[String], at: usize) -> Result<Option<u64>, NoMemory>
     requires { at < length words.now }
-    ensures { IfOk result (λ number. MatchOption number ((n : ℕ) → n < 2 ^ 64 → get_or (map string_bytes words.now) at [] ≢ decimal n) (λ n. get_or (map string_bytes words.now) at [] ≡ decimal n)) }
+    ensures { IfOk result (λ number.
+        MatchOption number ((n : ℕ) → n < 2 ^ 64 →
+        get_or (map string_bytes words.now) at [] ≢ decimal n) (λ n.
+        get_or (map string_bytes words.now) at [] ≡ decimal n)) }
 {
     read_number(alloc, word_at(words, at).as_bytes())
 }
@@ -176,7 +207,10 @@ fn number_at(alloc: Global, words: &[String], at: usize) -> Result<Option<u64>, 
 /// The exercise that the words ask for, where they are `exercise` and two numbers without leading
 /// zeros, of which the second is from 1 to 1,000.
 pub fn read_exercise(alloc: Global, words: &[String]) -> Result<Option<Exercise>, NoMemory>
-    ensures { IfOk result (λ found. MatchOption found ((pattern rounds : ℕ) → ¬ (AreExercise (map string_bytes words.now) pattern rounds)) (λ exercise. AreExercise (map string_bytes words.now) exercise.pattern exercise.rounds)) }
+    ensures { IfOk result (λ found.
+        MatchOption found ((pattern rounds : ℕ) →
+        ¬ (AreExercise (map string_bytes words.now) pattern rounds)) (λ exercise.
+        AreExercise (map string_bytes words.now) exercise.pattern exercise.rounds)) }
 {
     if words.len() != 3 || !is_word(words, 0, "exercise") {
         return Ok(None);

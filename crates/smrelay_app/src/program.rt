@@ -16,7 +16,8 @@ use std::alloc::Global;
 
 /// Relays the events of a script on a world in memory and prints the trace.
 fn rehearse<W: Console>(alloc: Global, world: &mut W, to: Endian, turns: u64) -> Result<(), Fault>
-    ensures runs { Added (W.outside world.old).told (W.outside world.new).told (RunsTask (Rehearse to) turns (W.outside world.old) (W.outside world.new) result) }
+    ensures runs { Added (W.outside world.old).told (W.outside world.new).told
+        (RunsTask (Rehearse to) turns (W.outside world.old) (W.outside world.new) result) }
     ensures counts { NotFallen (W.outside world.old).faults (W.outside world.new).faults }
 {
     let script = read_input(alloc, world, SCRIPT_LIMIT + 1)?;
@@ -38,7 +39,9 @@ fn run_words<W: Links + Console>(
     world: &mut W,
     turns: u64,
 ) -> Result<(), Fault>
-    ensures runs { Added (W.outside world.old).told (W.outside world.new).told (Runs (map string_bytes words.now) turns (W.outside world.old) (W.outside world.new) result) }
+    ensures runs { Added (W.outside world.old).told (W.outside world.new).told
+        (Runs (map string_bytes words.now) turns (W.outside world.old)
+        (W.outside world.new) result) }
     ensures counts { NotFallen (W.outside world.old).faults (W.outside world.new).faults }
 {
     if let Some(to) = read_rehearsal(words) {
@@ -67,7 +70,9 @@ pub fn smrelay_main<W: Links + Console>(
     turns: u64,
 ) -> u8
     // What each status says of the words, of what they ask for, and of all that was done and printed at it.
-    ensures answers { Added (W.outside world.old).told (W.outside world.new).told (Answers (map string_bytes words.now) (W.outside world.old) (W.outside world.new) turns result) }
+    ensures answers { Added (W.outside world.old).told (W.outside world.new).told
+        (Answers (map string_bytes words.now) (W.outside world.old)
+        (W.outside world.new) turns result) }
     ensures counts { NotFallen (W.outside world.old).faults (W.outside world.new).faults }
 {
     let ending = run_words(alloc, words, world, turns);

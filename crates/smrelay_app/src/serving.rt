@@ -14,7 +14,8 @@ pub fn serve_route<W: Links>(
     route: &Route<'_>,
     turns: u64,
 ) -> Result<(), Fault>
-    ensures runs { Added (W.outside world.old).told (W.outside world.new).told (RunsRelay route.now.order turns (W.outside world.old) (W.outside world.new) result) }
+    ensures runs { Added (W.outside world.old).told (W.outside world.new).told
+        (RunsRelay route.now.order turns (W.outside world.old) (W.outside world.new) result) }
     ensures counts { NotFallen (W.outside world.old).faults (W.outside world.new).faults }
 {
     if let Err(failure) = world.listen(route.socket, route.to) {

@@ -17,7 +17,8 @@ pub struct Route<'a> {
 
 /// The order that a word names.
 fn order_of(word: &str) -> Option<Endian>
-    ensures { MatchOption result ((order : AnyEndian) → word.now ≢ order_word order) (λ order. word.now ≡ order_word order) }
+    ensures { MatchOption result ((order : AnyEndian) → word.now ≢ order_word order) (λ order.
+        word.now ≡ order_word order) }
 {
     if word == "lsb" {
         Some(Endian::Lsb)
@@ -30,7 +31,9 @@ fn order_of(word: &str) -> Option<Endian>
 
 /// The order of a rehearsal, where the words are `rehearse` and that order.
 pub fn read_rehearsal(words: &[String]) -> Option<Endian>
-    ensures { MatchOption result ((order : AnyEndian) → map string_bytes words.now ≢ codes "rehearse" ∷ order_word order ∷ []) (λ order. map string_bytes words.now ≡ codes "rehearse" ∷ order_word order ∷ []) }
+    ensures { MatchOption result ((order : AnyEndian) →
+        map string_bytes words.now ≢ codes "rehearse" ∷ order_word order ∷ []) (λ order.
+        map string_bytes words.now ≡ codes "rehearse" ∷ order_word order ∷ []) }
 {
     if words.len() != 2 || !is_word(words, 0, "rehearse") {
         return None;
@@ -41,7 +44,10 @@ pub fn read_rehearsal(words: &[String]) -> Option<Endian>
 /// The route of a relay, where the words are `serve` and three pairs: one with each of the names, in
 /// any order.
 pub fn read_route(words: &[String]) -> Option<Route<'_>>
-    ensures { MatchOption result ((order : AnyEndian) (places : Places) → ¬ (AreServe (map string_bytes words.now) order places)) (λ route. AreServe (map string_bytes words.now) route.order (record { socket = route.socket.now; to = route.to.now })) }
+    ensures { MatchOption result ((order : AnyEndian) (places : Places) →
+        ¬ (AreServe (map string_bytes words.now) order places)) (λ route.
+        AreServe (map string_bytes words.now) route.order
+        (record { socket = route.socket.now; to = route.to.now })) }
 {
     if words.len() != 7 || !is_word(words, 0, "serve") {
         return None;

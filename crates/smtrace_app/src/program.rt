@@ -39,7 +39,9 @@ fn view_within(alloc: Global, view: View, trace: &[u8]) -> Result<ShowAnswer, No
 
 /// Prints a view of the console's input.
 fn view_input<C: Console>(alloc: Global, view: View, console: &mut C) -> Result<(), Fault>
-    ensures runs { (words : List (List ℕ)) → AskFor view words → Added (C.outside console.old).told (C.outside console.new).told (Runs words (C.outside console.old) (C.outside console.new) result) }
+    ensures runs { (words : List (List ℕ)) → AskFor view words →
+        Added (C.outside console.old).told (C.outside console.new).told
+        (Runs words (C.outside console.old) (C.outside console.new) result) }
     ensures counts { NotFallen (C.outside console.old).faults (C.outside console.new).faults }
 {
     let trace = read_input(alloc, console, TRACE_LIMIT + 1)?;
@@ -54,7 +56,9 @@ fn view_input<C: Console>(alloc: Global, view: View, console: &mut C) -> Result<
 
 /// Replays the console's input, and prints `same` where its lines are those of the machine.
 fn replay_input<C: Console>(alloc: Global, console: &mut C) -> Result<(), Fault>
-    ensures runs { (words : List (List ℕ)) → AreReplay words → Added (C.outside console.old).told (C.outside console.new).told (Runs words (C.outside console.old) (C.outside console.new) result) }
+    ensures runs { (words : List (List ℕ)) → AreReplay words →
+        Added (C.outside console.old).told (C.outside console.new).told
+        (Runs words (C.outside console.old) (C.outside console.new) result) }
     ensures counts { NotFallen (C.outside console.old).faults (C.outside console.new).faults }
 {
     let trace = read_input(alloc, console, TRACE_LIMIT + 1)?;
@@ -71,7 +75,8 @@ fn replay_input<C: Console>(alloc: Global, console: &mut C) -> Result<(), Fault>
 
 /// Runs what the words ask for.
 fn run_words<C: Console>(alloc: Global, words: &[String], console: &mut C) -> Result<(), Fault>
-    ensures runs { Added (C.outside console.old).told (C.outside console.new).told (Runs (map string_bytes words.now) (C.outside console.old) (C.outside console.new) result) }
+    ensures runs { Added (C.outside console.old).told (C.outside console.new).told
+        (Runs (map string_bytes words.now) (C.outside console.old) (C.outside console.new) result) }
     ensures counts { NotFallen (C.outside console.old).faults (C.outside console.new).faults }
 {
     if are_one_word(words, "show") {
@@ -98,7 +103,9 @@ fn run_words<C: Console>(alloc: Global, words: &[String], console: &mut C) -> Re
 /// the console, and 10 for want of memory.
 pub fn smtrace_main<C: Console>(alloc: Global, words: &[String], console: &mut C) -> u8
     // What each status says of the trace, and all that is printed at it.
-    ensures answers { Added (C.outside console.old).told (C.outside console.new).told (Answers (map string_bytes words.now) (C.outside console.old) (C.outside console.new) result) }
+    ensures answers { Added (C.outside console.old).told (C.outside console.new).told
+        (Answers (map string_bytes words.now) (C.outside console.old)
+        (C.outside console.new) result) }
     ensures counts { NotFallen (C.outside console.old).faults (C.outside console.new).faults }
 {
     let ending = run_words(alloc, words, console);

@@ -22,7 +22,8 @@ pub trait Files: Told {
 
     /// Replaces a file by these bytes.
     fn publish(&mut self, path: &str, bytes: &[u8]) -> Result<(), Failure>
-        ensures effects { (Self.outside self.new).told ≡ adds (Self.outside self.old).told (on_ok result (Published path.now bytes.now ∷ [])) }
+        ensures effects { (Self.outside self.new).told
+            ≡ adds (Self.outside self.old).told (on_ok result (Published path.now bytes.now ∷ [])) }
         ensures size { (Self.outside self.new).size ≡ (Self.outside self.old).size }
         ensures uses { UsesDisk (Self.outside self.old) (Self.outside self.new) (has_failed result) };
 }

@@ -51,10 +51,12 @@ impl MemFiles {
     /// calls with the numbers in `failing` fail.
     pub fn new(alloc: Global, files: PairList, failing: NumberList) -> Result<MemFiles, NoMemory>
         ensures told { IfOk result (λ world. (mem_outside world).told ≡ Some []) }
-        ensures faults { IfOk result (λ world. (mem_outside world).faults ≡ record { disk = 0; links = 0; spawner = 0; console = 0 }) }
+        ensures faults { IfOk result (λ world. (mem_outside world).faults
+            ≡ record { disk = 0; links = 0; spawner = 0; console = 0 }) }
         ensures files { IfOk result (λ world. (mem_outside world).files ≡ Some files) }
         ensures last { IfOk result (λ world. (mem_calls world).last ≡ 0) }
-        ensures failing { IfOk result (λ world. (number : ℕ) → Contains (mem_calls world).failing number ↔ Contains failing number) }
+        ensures failing { IfOk result (λ world. (number : ℕ) →
+            Contains (mem_calls world).failing number ↔ Contains failing number) }
     {
         Ok(MemFiles {
             alloc,
@@ -108,7 +110,8 @@ impl MemFiles {
     /// A copy of the file at this path, which must be one that can be fetched.
     fn copy_file(&self, path: &[u8]) -> Result<Octets, NoMemory>
         requires { fits (file_now path.now self.now.files self.now.effects) ≡ true }
-        ensures { IfOk result (λ bytes. file_now path.now self.now.files self.now.effects ≡ Some bytes) }
+        ensures { IfOk result (λ bytes. file_now path.now self.now.files self.now.effects
+            ≡ Some bytes) }
     {
         match self.standing(path) {
             Some(bytes) => bytes.copy(),
@@ -119,7 +122,8 @@ impl MemFiles {
     /// Counts a fault of the disk.
     #[tactic(auto, using(sm_world::proofs::Counting::rises))]
     fn miss(&mut self) -> Failed
-        ensures counted { self.new ≡ record self.old { faults = record self.old.faults { disk = one_more self.old.faults.disk } } }
+        ensures counted { self.new ≡ record self.old
+            { faults = record self.old.faults { disk = one_more self.old.faults.disk } } }
         ensures rose { Rose self.old.faults.disk self.new.faults.disk }
         ensures counts { self.old.faults.disk ≤ self.new.faults.disk }
     {
@@ -131,7 +135,12 @@ impl MemFiles {
     fn call_disk(&mut self) -> Result<(), Failed>
         ensures fails { IsErr result ↔ Contains self.new.calls.failing self.new.calls.last }
         ensures ok { OnOk result (self.new ≡ record self.old { calls = counted self.old.calls }) }
-        ensures err { OnErr result (self.new ≡ record self.old { calls = counted self.old.calls; faults = record self.old.faults { disk = one_more self.old.faults.disk } }) }
+        ensures err { OnErr result
+            (self.new ≡ record self.old {
+              calls = counted self.old.calls;
+              faults = record self.old.faults
+                  { disk = one_more self.old.faults.disk };
+            }) }
         ensures rose { OnErr result (Rose self.old.faults.disk self.new.faults.disk) }
         ensures counts { self.old.faults.disk ≤ self.new.faults.disk }
     {
@@ -143,9 +152,15 @@ impl MemFiles {
 
     /// Counts a fetch, and refuses it where its number fails or no file can be fetched.
     fn call_fetch(&mut self, path: &[u8]) -> Result<(), Failed>
-        ensures fails { IsErr result ↔ Contains self.new.calls.failing self.new.calls.last ⊎ (fits (file_now path.now self.old.files self.old.effects) ≡ false) }
+        ensures fails { IsErr result ↔ Contains self.new.calls.failing self.new.calls.last
+            ⊎ (fits (file_now path.now self.old.files self.old.effects) ≡ false) }
         ensures ok { OnOk result (self.new ≡ record self.old { calls = counted self.old.calls }) }
-        ensures err { OnErr result (self.new ≡ record self.old { calls = counted self.old.calls; faults = record self.old.faults { disk = one_more self.old.faults.disk } }) }
+        ensures err { OnErr result
+            (self.new ≡ record self.old {
+              calls = counted self.old.calls;
+              faults = record self.old.faults
+                  { disk = one_more self.old.faults.disk };
+            }) }
         ensures rose { OnErr result (Rose self.old.faults.disk self.new.faults.disk) }
         ensures counts { self.old.faults.disk ≤ self.new.faults.disk }
     {
@@ -160,7 +175,12 @@ impl MemFiles {
     fn call_console(&mut self) -> Result<(), Failed>
         ensures fails { IsErr result ↔ Contains self.new.calls.failing self.new.calls.last }
         ensures ok { OnOk result (self.new ≡ record self.old { calls = counted self.old.calls }) }
-        ensures err { OnErr result (self.new ≡ record self.old { calls = counted self.old.calls; faults = record self.old.faults { console = one_more self.old.faults.console } }) }
+        ensures err { OnErr result
+            (self.new ≡ record self.old {
+              calls = counted self.old.calls;
+              faults = record self.old.faults
+                  { console = one_more self.old.faults.console };
+            }) }
         ensures rose { OnErr result (Rose self.old.faults.console self.new.faults.console) }
         ensures counts { self.old.faults.console ≤ self.new.faults.console }
     {
@@ -198,10 +218,12 @@ impl Files for MemFiles {
     }
 
     fn publish(&mut self, path: &str, bytes: &[u8]) -> Result<(), Failure>
-        ensures effects { (mem_outside self.new).told ≡ adds (mem_outside self.old).told (on_ok result (Published path.now bytes.now ∷ [])) }
+        ensures effects { (mem_outside self.new).told
+            ≡ adds (mem_outside self.old).told (on_ok result (Published path.now bytes.now ∷ [])) }
         ensures size { (mem_outside self.new).size ≡ (mem_outside self.old).size }
         ensures uses { UsesDisk (mem_outside self.old) (mem_outside self.new) (has_failed result) }
-        ensures numbered { FailsByNumber (λ faults. faults.disk) self.old self.new (has_failed result) }
+        ensures numbered { FailsByNumber (λ faults.
+            faults.disk) self.old self.new (has_failed result) }
     {
         self.call_disk()?;
         let path = self.octets(path.as_bytes())?;
@@ -218,9 +240,11 @@ impl Spawner for MemFiles {
     ghost use Rattle.state_saver.specs.Memory.{mem_outside, mem_calls, FailsByNumber};
 
     fn start(&mut self, command: &Command) -> Result<bool, NoMemory>
-        ensures effects { (mem_outside self.new).told ≡ adds (mem_outside self.old).told (of_ok (Started command.now) result) }
+        ensures effects { (mem_outside self.new).told
+            ≡ adds (mem_outside self.old).told (of_ok (Started command.now) result) }
         ensures uses { UsesSpawner (mem_outside self.old) (mem_outside self.new) result }
-        ensures numbered { IfOk result (λ started. FailsByNumber (λ faults. faults.spawner) self.old self.new (not started)) }
+        ensures numbered { IfOk result (λ started.
+            FailsByNumber (λ faults. faults.spawner) self.old self.new (not started)) }
         ensures counts { mem_calls self.new ≡ counted (mem_calls self.old) }
     {
         let fails = self.calls.count();
@@ -242,19 +266,23 @@ impl Console for MemFiles {
     fn read(&mut self, into: &mut [u8]) -> Result<usize, Failure>
         ensures within { IfOk result (λ n. n ≤ length into.old) }
         ensures effects { (mem_outside self.new).told ≡ (mem_outside self.old).told }
-        ensures input { Reads (mem_outside self.old).input (mem_outside self.new).input into.old into.new result }
+        ensures input { Reads (mem_outside self.old).input
+            (mem_outside self.new).input into.old into.new result }
         ensures uses { UsesConsole (mem_outside self.old) (mem_outside self.new) result }
-        ensures numbered { FailsByNumber (λ faults. faults.console) self.old self.new (has_failed result) }
+        ensures numbered { FailsByNumber (λ faults.
+            faults.console) self.old self.new (has_failed result) }
     {
         self.call_console()?;
         Ok(0)
     }
 
     fn print(&mut self, bytes: &[u8]) -> Result<(), Failure>
-        ensures effects { (mem_outside self.new).told ≡ adds (mem_outside self.old).told (on_ok result (Printed bytes.now ∷ [])) }
+        ensures effects { (mem_outside self.new).told
+            ≡ adds (mem_outside self.old).told (on_ok result (Printed bytes.now ∷ [])) }
         ensures input { (mem_outside self.new).input ≡ (mem_outside self.old).input }
         ensures uses { UsesConsole (mem_outside self.old) (mem_outside self.new) result }
-        ensures numbered { FailsByNumber (λ faults. faults.console) self.old self.new (has_failed result) }
+        ensures numbered { FailsByNumber (λ faults.
+            faults.console) self.old self.new (has_failed result) }
     {
         self.call_console()?;
         let bytes = self.octets(bytes)?;

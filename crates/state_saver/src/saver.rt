@@ -90,7 +90,8 @@ impl<'a, F: Files> Saver<'a, F> {
 
     /// Publishes at this path what the state's file holds.
     fn copy_to(&mut self, path: &str) -> Result<(), Failure>
-        ensures copies { CopiesTo self.old.plan.state path.now (F.outside self.old.files.now) (F.outside self.new.files.now) result }
+        ensures copies { CopiesTo self.old.plan.state path.now (F.outside self.old.files.now)
+            (F.outside self.new.files.now) result }
         ensures uses { UsesDisk (F.outside self.old.files.now) (F.outside self.new.files.now) (has_failed result) }
         ensures number { self.new.number ≡ self.old.number }
         ensures plan { self.new.plan ≡ self.old.plan }
@@ -107,7 +108,9 @@ impl<'a, F: Files> Saver<'a, F> {
     fn save_next(&mut self, id: &[u8]) -> Result<SaveAnswer, NoMemory>
         requires room { self.old.number < 2 ^ 32 - 1 }
         requires short { length id.now ≤ 512 }
-        ensures tried { Tried result self.old.plan id.now (shelf self.old.number (F.outside self.old.files.now)) (shelf self.new.number (F.outside self.new.files.now)) }
+        ensures tried { Tried result self.old.plan id.now
+            (shelf self.old.number (F.outside self.old.files.now))
+            (shelf self.new.number (F.outside self.new.files.now)) }
         ensures few { IfOk result (λ answer. ¬ (IsTableFull answer.set)) }
         ensures plan { self.new.plan ≡ self.old.plan }
         ensures files { self.new.files.ghost_name ≡ self.old.files.ghost_name }
@@ -133,7 +136,9 @@ impl<'a, F: Files> Saver<'a, F> {
 
     /// Saves where the client isn't talking to the user.
     fn save_state(&mut self, id: &[u8]) -> Result<SaveAnswer, NoMemory>
-        ensures tried { Tried result self.old.plan id.now (shelf self.old.number (F.outside self.old.files.now)) (shelf self.new.number (F.outside self.new.files.now)) }
+        ensures tried { Tried result self.old.plan id.now
+            (shelf self.old.number (F.outside self.old.files.now))
+            (shelf self.new.number (F.outside self.new.files.now)) }
         ensures few { IfOk result (λ answer. ¬ (IsTableFull answer.set)) }
         ensures plan { self.new.plan ≡ self.old.plan }
         ensures files { self.new.files.ghost_name ≡ self.old.files.ghost_name }
@@ -146,7 +151,9 @@ impl<'a, F: Files> Saver<'a, F> {
 
     /// How the client goes on in a save. Want of memory publishes nothing; it may use up a number.
     pub fn save(&mut self, ask: NamedAsk) -> Result<SaveAnswer, NoMemory>
-        ensures answers { Answers result self.old.plan ask (shelf self.old.number (F.outside self.old.files.now)) (shelf self.new.number (F.outside self.new.files.now)) }
+        ensures answers { Answers result self.old.plan ask
+            (shelf self.old.number (F.outside self.old.files.now))
+            (shelf self.new.number (F.outside self.new.files.now)) }
         ensures lawful { IfOk result (IsLawful ask.ask) }
         ensures plan { self.new.plan ≡ self.old.plan }
         ensures files { self.new.files.ghost_name ≡ self.old.files.ghost_name }
@@ -166,7 +173,9 @@ impl<F: Files> NamedSaves for Saver<'_, F> {
 
     ghost lawful = { λ s. Unit {0} };
 
-    ghost answers = { λ s ask answer t. (t.files.ghost_name ≡ s.files.ghost_name) × (t.plan ≡ s.plan) × AnswersSo answer s.plan ask (shelf s.number (F.outside s.files.now)) (shelf t.number (F.outside t.files.now)) };
+    ghost answers = { λ s ask answer t. (t.files.ghost_name ≡ s.files.ghost_name)
+        × (t.plan ≡ s.plan) × AnswersSo answer s.plan ask (shelf s.number (F.outside s.files.now))
+        (shelf t.number (F.outside t.files.now)) };
 
     fn answer(&mut self, ask: NamedAsk) -> Option<SaveAnswer> {
         match self.save(ask) {

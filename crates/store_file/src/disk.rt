@@ -167,8 +167,11 @@ impl Disk for FileDisk {
     }
 
     fn write_at(&mut self, at: u64, bytes: &[u8]) -> Result<(), Failed>
-        ensures ok { OnOk result ((disk_outside self.new).told ≡ adds (disk_outside self.old).told (Wrote at bytes.now ∷ [])) }
-        ensures err { OnErr result (Added (disk_outside self.old).told (disk_outside self.new).told (IsFailedWrite at (length bytes.now))) }
+        ensures ok { OnOk result ((disk_outside self.new).told
+            ≡ adds (disk_outside self.old).told (Wrote at bytes.now ∷ [])) }
+        ensures err { OnErr result
+            (Added (disk_outside self.old).told (disk_outside self.new).told
+            (IsFailedWrite at (length bytes.now))) }
         ensures size { (disk_outside self.new).size ≡ (disk_outside self.old).size }
         ensures uses { UsesDisk (disk_outside self.old) (disk_outside self.new) (is_err result) }
         ensures same { SameStore self.old self.new }
@@ -184,8 +187,10 @@ impl Disk for FileDisk {
     }
 
     fn sync(&mut self) -> Result<(), Failed>
-        ensures ok { OnOk result ((disk_outside self.new).told ≡ adds (disk_outside self.old).told (Synced ∷ [])) }
-        ensures err { OnErr result (Added (disk_outside self.old).told (disk_outside self.new).told IsFailedSync) }
+        ensures ok { OnOk result ((disk_outside self.new).told
+            ≡ adds (disk_outside self.old).told (Synced ∷ [])) }
+        ensures err { OnErr result
+            (Added (disk_outside self.old).told (disk_outside self.new).told IsFailedSync) }
         ensures size { (disk_outside self.new).size ≡ (disk_outside self.old).size }
         ensures uses { UsesDisk (disk_outside self.old) (disk_outside self.new) (is_err result) }
         ensures loses { OnErr result (self.new.is_lost ≡ true) }

@@ -79,7 +79,8 @@ fn put_command(
     table: &PropertyTable,
     property: &[u8],
 ) -> Result<(), NoMemory>
-    ensures { OnOk result (out.new ≡ out.old ++ command_line name.now (command_in property.now table.now)) }
+    ensures { OnOk result
+        (out.new ≡ out.old ++ command_line name.now (command_in property.now table.now)) }
 {
     match command_of(alloc, table, property)? {
         Some(command) => put_line(alloc, out, name, command.words.as_slice()),
@@ -107,7 +108,8 @@ fn put_entries(alloc: Global, out: &mut Octets, entries: &[Entry]) -> Result<(),
 }
 
 fn put_pending(alloc: Global, out: &mut Octets, pending: &[Command]) -> Result<(), NoMemory>
-    ensures { OnOk result (out.new ≡ out.old ++ flat_map (λ command. named_line (codes "pending") command.words) pending.now) }
+    ensures { OnOk result (out.new ≡ out.old ++ flat_map (λ command.
+        named_line (codes "pending") command.words) pending.now) }
 {
     for command in pending {
         put_line(alloc, out, b"pending", command.words.as_slice())?;

@@ -30,7 +30,9 @@ fn store_of(words: &[String]) -> &str
 /// What the words ask of a store, where they are `store-check`, `--store` and its path, and behind
 /// them `--json` or nothing.
 pub fn read_check(words: &[String]) -> Option<Check<'_>>
-    ensures { MatchOption result ((store : List ℕ) (json : Bool) → map string_bytes words.now ≢ check_words store json) (λ check. map string_bytes words.now ≡ check_words check.store.now check.is_json) }
+    ensures { MatchOption result ((store : List ℕ) (json : Bool) →
+        map string_bytes words.now ≢ check_words store json) (λ check.
+        map string_bytes words.now ≡ check_words check.store.now check.is_json) }
 {
     if words.len() != 3 && words.len() != 4 {
         return None;

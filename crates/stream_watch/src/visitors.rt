@@ -87,7 +87,8 @@ impl Visitors {
 
     /// The manager sends these bytes on a connection.
     pub fn follow(&mut self, conn: Conn, now: u64, bytes: &[u8]) -> Result<(), NoMemory>
-        ensures { OnOk result ((lines : List Line) → ShowAll self.old.rows.items lines → ShowAll self.new.rows.items (after_sent conn now bytes.now lines)) }
+        ensures { OnOk result ((lines : List Line) → ShowAll self.old.rows.items lines →
+            ShowAll self.new.rows.items (after_sent conn now bytes.now lines)) }
     {
         match place_of(&self.rows, conn) {
             Some(place) => self.rows[place].follow(now, bytes),
@@ -97,7 +98,8 @@ impl Visitors {
 
     /// A connection is closed.
     pub fn leave(&mut self, conn: Conn)
-        ensures { (lines : List Line) → ShowAll self.old.rows.items lines → ShowAll self.new.rows.items (without conn lines) }
+        ensures { (lines : List Line) → ShowAll self.old.rows.items lines →
+            ShowAll self.new.rows.items (without conn lines) }
     {
         self.rows.retain(|row| row.conn != conn);
     }
@@ -110,7 +112,8 @@ impl Visitors {
 
     /// Where somebody finds a place for whom a stranger has to make way, if there is one.
     pub fn place_of_first(&self, now: u64) -> Place
-        ensures { (lines : List Line) → ShowAll self.now.rows.items lines → result ≡ place_of_first now (strangers lines) }
+        ensures { (lines : List Line) → ShowAll self.now.rows.items lines →
+            result ≡ place_of_first now (strangers lines) }
     {
         match first_stranger(&self.rows) {
             Some(row) if now.saturating_sub(row.since) < GRACE => Place::Later,
@@ -121,7 +124,8 @@ impl Visitors {
 
     /// Where one more finds a place.
     pub fn place_for_one_more(&self, now: u64) -> Place
-        ensures { (lines : List Line) → ShowAll self.now.rows.items lines → result ≡ place_for_one_more now lines }
+        ensures { (lines : List Line) → ShowAll self.now.rows.items lines →
+            result ≡ place_for_one_more now lines }
     {
         if self.is_full() {
             self.place_of_first(now)
@@ -132,7 +136,8 @@ impl Visitors {
 
     /// The first who wasn't let in for ten seconds.
     pub fn overdue(&self, now: u64) -> Option<Conn>
-        ensures { (lines : List Line) → ShowAll self.now.rows.items lines → result ≡ overdue_in now lines }
+        ensures { (lines : List Line) → ShowAll self.now.rows.items lines →
+            result ≡ overdue_in now lines }
     {
         match first_overdue(&self.rows, now) {
             Some(row) => Some(row.conn),
@@ -142,7 +147,8 @@ impl Visitors {
 
     /// The first whose client was told to die so many milliseconds ago, or before.
     pub fn lingering(&self, now: u64, wait: u64) -> Option<Conn>
-        ensures { (lines : List Line) → ShowAll self.now.rows.items lines → result ≡ lingering_in now wait lines }
+        ensures { (lines : List Line) → ShowAll self.now.rows.items lines →
+            result ≡ lingering_in now wait lines }
     {
         match first_lingering(&self.rows, now, wait) {
             Some(row) => Some(row.conn),

@@ -71,7 +71,8 @@ impl Watch {
 
     /// Follows these bytes, which the manager sends. After NoMemory nothing more is followed.
     pub fn follow(&mut self, bytes: &[u8]) -> Result<(), NoMemory>
-        ensures { OnOk result ((sent : List ℕ) → Follows sent self.old → Follows (sent ++ bytes.now) self.new) }
+        ensures { OnOk result ((sent : List ℕ) → Follows sent self.old →
+            Follows (sent ++ bytes.now) self.new) }
     {
         if self.sent.passes(&Turns, bytes) {
             return Ok(());

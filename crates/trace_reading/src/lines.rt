@@ -55,7 +55,8 @@ pub fn put_part(
     known: Option<&Octets>,
     text: &[u8],
 ) -> Result<(), NoMemory>
-    ensures { OnOk result (out.new ≡ out.old ++ part_told clock direction conn (option_copied known.entry) text.now) }
+    ensures { OnOk result
+        (out.new ≡ out.old ++ part_told clock direction conn (option_copied known.entry) text.now) }
 {
     let verb = match direction {
         Direction::In => " says ",
@@ -77,7 +78,9 @@ pub fn put_oversize(
     conn: Conn,
     known: Option<&Octets>,
 ) -> Result<(), NoMemory>
-    ensures { OnOk result (out.new ≡ out.old ++ part_told clock direction conn (option_copied known.entry) (codes "Oversize")) }
+    ensures { OnOk result
+        (out.new ≡ out.old ++ part_told clock direction conn (option_copied known.entry)
+        (codes "Oversize")) }
 {
     put_part(alloc, out, clock, direction, conn, known, b"Oversize")
 }
@@ -92,7 +95,9 @@ pub fn put_deed(
     known: Option<&Octets>,
     behind: &str,
 ) -> Result<(), NoMemory>
-    ensures { OnOk result (out.new ≡ out.old ++ deed_told clock before.now conn (option_copied known.entry) behind.now) }
+    ensures { OnOk result
+        (out.new ≡ out.old ++ deed_told clock before.now conn
+        (option_copied known.entry) behind.now) }
 {
     put_stamp(alloc, out, clock)?;
     out.append(before.as_bytes())?;
@@ -128,7 +133,8 @@ pub fn put_ordered(
     clock: u64,
     order: &Order,
 ) -> Result<(), NoMemory>
-    ensures { OnOk result (out.new ≡ out.old ++ line_at clock (codes "the operator says " ++ order_text order.now)) }
+    ensures { OnOk result
+        (out.new ≡ out.old ++ line_at clock (codes "the operator says " ++ order_text order.now)) }
 {
     put_stamp(alloc, out, clock)?;
     out.append(b"the operator says ")?;
@@ -159,7 +165,8 @@ pub fn put_started(
 
 /// Appends the line of a text that was printed.
 pub fn put_printed(alloc: Global, out: &mut Octets, clock: u64, text: &[u8]) -> Result<(), NoMemory>
-    ensures { OnOk result (out.new ≡ out.old ++ line_at clock (codes "smd prints " ++ quoted text.now)) }
+    ensures { OnOk result
+        (out.new ≡ out.old ++ line_at clock (codes "smd prints " ++ quoted text.now)) }
 {
     put_stamp(alloc, out, clock)?;
     out.append(b"smd prints ")?;

@@ -45,7 +45,8 @@ fn put_came_frames(
     frames: &[WholeFrame],
 ) -> Result<Option<Octets>, NoMemory>
     requires { AllByRecursion IsHeaded frames.now }
-    ensures { IfOk result (λ after. ToldCame clock conn known (map Whole frames.now) after out.old out.new) }
+    ensures { IfOk result (λ after.
+        ToldCame clock conn known (map Whole frames.now) after out.old out.new) }
 {
     let mut program = known;
     for frame in frames {
@@ -74,7 +75,8 @@ fn put_came(
     brought: &Brought,
 ) -> Result<Option<Octets>, NoMemory>
     requires { AllByRecursion IsHeaded brought.now.frames }
-    ensures { IfOk result (λ after. BroughtCame clock conn known brought.now after out.old out.new) }
+    ensures { IfOk result (λ after.
+        BroughtCame clock conn known brought.now after out.old out.new) }
 {
     let program = put_came_frames(alloc, out, clock, conn, known, brought.frames.as_slice())?;
     if !brought.ended {
@@ -94,7 +96,9 @@ fn put_sent_frames(
     frames: &[WholeFrame],
 ) -> Result<(), NoMemory>
     requires { AllByRecursion IsHeaded frames.now }
-    ensures { OnOk result (out.new ≡ out.old ++ went_told clock conn (option_copied known.entry) (map Whole frames.now)) }
+    ensures { OnOk result
+        (out.new ≡ out.old ++ went_told clock conn (option_copied known.entry)
+        (map Whole frames.now)) }
 {
     for frame in frames {
         let text = frame_text(alloc, Writing::Words, frame)?;
@@ -121,7 +125,8 @@ fn put_sent(
     brought: &Brought,
 ) -> Result<(), NoMemory>
     requires { AllByRecursion IsHeaded brought.now.frames }
-    ensures { OnOk result (BroughtWent clock conn (option_copied known.entry) brought.now out.old out.new) }
+    ensures { OnOk result
+        (BroughtWent clock conn (option_copied known.entry) brought.now out.old out.new) }
 {
     put_sent_frames(alloc, out, clock, conn, known, brought.frames.as_slice())?;
     if !brought.ended {
@@ -162,7 +167,8 @@ impl Notes {
         brought: &Brought,
     ) -> Result<(), NoMemory>
         requires { AllByRecursion IsHeaded brought.now.frames }
-        ensures { OnOk result (TellsLine (TraceLine.Heard event.now) brought.now self.old self.new out.old out.new) }
+        ensures { OnOk result
+            (TellsLine (TraceLine.Heard event.now) brought.now self.old self.new out.old out.new) }
     {
         match event {
             Event::Joined(conn) => {

@@ -93,7 +93,8 @@ impl Place {
 
 /// The first field of a text, and what stands behind the space after it.
 pub fn first_field(text: &[u8]) -> (&[u8], Option<&[u8]>)
-    ensures fields { MatchOption result.1 (fields_of text.now ≡ result.0.now ∷ []) (λ rest. fields_of text.now ≡ result.0.now ∷ fields_of rest.now) }
+    ensures fields { MatchOption result.1 (fields_of text.now ≡ result.0.now ∷ []) (λ rest.
+        fields_of text.now ≡ result.0.now ∷ fields_of rest.now) }
     ensures begins { (fields : List (List ℕ)) × (fields_of text.now ≡ result.0.now ∷ fields) }
     ensures shorter { IfSome result.1 (λ rest. length rest.now < length text.now) }
 {

@@ -64,7 +64,8 @@ impl Flow {
 
     /// Goes on with a piece.
     fn take(self, alloc: Global, piece: &[u8]) -> Result<(Progress, Brought), NoMemory>
-        ensures takes { IfOk result (λ took. (stream : List ℕ) → TakesPiece stream piece.now (Progress.Going self) took.0 took.1) }
+        ensures takes { IfOk result (λ took. (stream : List ℕ) →
+            TakesPiece stream piece.now (Progress.Going self) took.0 took.1) }
         ensures headed { IfOk result (λ took. AllByRecursion IsHeaded took.1.frames) }
     {
         let Flow { remainder, shown } = self;
@@ -106,7 +107,8 @@ impl Progress {
 
     /// Goes on with a piece.
     pub fn take(self, alloc: Global, piece: &[u8]) -> Result<(Progress, Brought), NoMemory>
-        ensures takes { IfOk result (λ took. (stream : List ℕ) → TakesPiece stream piece.now self took.0 took.1) }
+        ensures takes { IfOk result (λ took. (stream : List ℕ) →
+            TakesPiece stream piece.now self took.0 took.1) }
         ensures headed { IfOk result (λ took. AllByRecursion IsHeaded took.1.frames) }
     {
         match self {

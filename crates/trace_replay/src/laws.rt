@@ -18,6 +18,10 @@ pub fn a_trace_has_one_answer()
 /// more than itself is that of a refusal with its cause, under major opcode 0 as ICE refuses it and
 /// under any other as XSMP does.
 pub fn a_cut_header_is_refused()
-    ensures ice { (e : AnyEndian) (bytes : List ℕ) → IsBytes bytes → length bytes < 8 + 8 * number e 4 (drop 4 bytes) → slice_index bytes 0 ≡ 0 → IceRefused e bytes (header_refusal bytes) }
-    ensures xsmp { (e : AnyEndian) (bytes : List ℕ) → IsBytes bytes → length bytes < 8 + 8 * number e 4 (drop 4 bytes) → slice_index bytes 0 ≢ 0 → XsmpRefused e bytes (header_refusal bytes) }
+    ensures ice { (e : AnyEndian) (bytes : List ℕ) → IsBytes bytes →
+        length bytes < 8 + 8 * number e 4 (drop 4 bytes) → slice_index bytes 0 ≡ 0 →
+        IceRefused e bytes (header_refusal bytes) }
+    ensures xsmp { (e : AnyEndian) (bytes : List ℕ) → IsBytes bytes →
+        length bytes < 8 + 8 * number e 4 (drop 4 bytes) → slice_index bytes 0 ≢ 0 →
+        XsmpRefused e bytes (header_refusal bytes) }
 {}

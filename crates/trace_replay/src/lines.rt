@@ -31,7 +31,8 @@ pub type TraceLineList = ListOf<TraceLine>;
 /// Whether a command was started, and the text behind the word that says so.
 fn command_text(line: &[u8]) -> Option<(bool, &[u8])>
     ensures some { IfSome result (λ found. BeginsCommand line.now found.0 found.1.now) }
-    ensures none { IsNone result → (succeeded : Bool) (text : List ℕ) → ¬ (BeginsCommand line.now succeeded text) }
+    ensures none { IsNone result → (succeeded : Bool) (text : List ℕ) →
+        ¬ (BeginsCommand line.now succeeded text) }
 {
     if let Some(text) = line.strip_prefix(b"started ") {
         return Some((true, text));
@@ -44,8 +45,10 @@ fn command_text(line: &[u8]) -> Option<(bool, &[u8])>
 
 /// The command that was started, or couldn't be, with these fields.
 fn read_started(alloc: Global, succeeded: bool, text: &[u8]) -> Result<TraceLine, OrderRefusal>
-    ensures says { IfOk result (λ said. IsCommand text.now × (said ≡ TraceLine.Started succeeded text.now)) }
-    ensures refused { IfErr result (λ refusal. refusal ≡ OrderRefusal.BadLine → ¬ (IsCommand text.now)) }
+    ensures says { IfOk result (λ said. IsCommand text.now
+        × (said ≡ TraceLine.Started succeeded text.now)) }
+    ensures refused { IfErr result (λ refusal. refusal ≡ OrderRefusal.BadLine →
+        ¬ (IsCommand text.now)) }
 {
     if is_command(alloc, text)? {
         Ok(TraceLine::Started(succeeded, Octets::from_slice(alloc, text)?))

@@ -23,7 +23,8 @@ pub struct Opening {
 
 /// What stands behind a word in the first line of a text, where that line begins with it.
 fn first_field<'a>(text: &'a [u8], word: &[u8]) -> Option<&'a [u8]>
-    ensures { MatchOption result ((field : List ℕ) → ¬ (FirstIs (lines_of text.now) word.now field)) (λ field. FirstIs (lines_of text.now) word.now field.now) }
+    ensures { MatchOption result ((field : List ℕ) → ¬ (FirstIs (lines_of text.now) word.now field))
+        (λ field. FirstIs (lines_of text.now) word.now field.now) }
 {
     if text.is_empty() {
         return None;
@@ -45,7 +46,8 @@ fn behind<'a, T>(text: &'a [u8], said: &Option<T>) -> &'a [u8]
 
 /// The cookie that has these bytes, if they are 16.
 fn cookie_of(bytes: &[u8]) -> Option<Cookie>
-    ensures { MatchOption result (length bytes.now ≢ 16) (λ cookie. (cookie.0 ≡ bytes.now) × (length cookie.0 ≡ 16)) }
+    ensures { MatchOption result (length bytes.now ≢ 16) (λ cookie.
+        (cookie.0 ≡ bytes.now) × (length cookie.0 ≡ 16)) }
 {
     if bytes.len() != 16 {
         return None;
@@ -70,7 +72,9 @@ fn read_cookie(alloc: Global, text: &[u8]) -> Result<Option<Cookie>, NoMemory>
 
 /// The book that these bytes spell, if a session can open it.
 fn book_of(alloc: Global, bytes: &[u8]) -> Result<Option<Book>, NoMemory>
-    ensures { IfOk result (λ found. MatchOption found ((book : AnyBook) → Spells bytes.now book → ¬ (book.epoch < 4294967295)) (λ book. Spells bytes.now book × (book.epoch < 4294967295))) }
+    ensures { IfOk result (λ found.
+        MatchOption found ((book : AnyBook) → Spells bytes.now book → ¬ (book.epoch < 4294967295))
+        (λ book. Spells bytes.now book × (book.epoch < 4294967295))) }
 {
     match read_book(alloc, bytes) {
         Ok(book) => {

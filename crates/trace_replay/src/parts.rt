@@ -34,7 +34,8 @@ fn put_line(
     sequence: u64,
     text: &[u8],
 ) -> Result<(), NoMemory>
-    ensures { OnOk result (out.new ≡ out.old ++ shown_line channel.direction channel.conn sequence text.now) }
+    ensures { OnOk result
+        (out.new ≡ out.old ++ shown_line channel.direction channel.conn sequence text.now) }
 {
     let direction = match channel.direction {
         Direction::In => "in ",

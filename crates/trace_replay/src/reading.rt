@@ -34,7 +34,8 @@ pub enum LineReading {
 
 /// Adds what a line says to what those before it say.
 fn take_line(alloc: Global, lines: &mut TraceLineList, line: &[u8]) -> Result<(), OrderRefusal>
-    ensures taken { OnOk result ((said : AnyLine) × SaysLine line.now said × (lines.new ≡ lines.old ++ said ∷ [])) }
+    ensures taken { OnOk result ((said : AnyLine) × SaysLine line.now said
+        × (lines.new ≡ lines.old ++ said ∷ [])) }
     ensures refused { IfErr result (IsRefusal (SaysLine line.now)) }
 {
     let said = read_trace_line(alloc, line)?;

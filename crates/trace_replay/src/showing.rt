@@ -85,7 +85,8 @@ fn take_line(
     out: &mut Octets,
     line: &[u8],
 ) -> Result<(), OrderRefusal>
-    ensures taken { OnOk result ((said : AnyLine) × SaysLine line.now said × FollowsLine said watch.old watch.new out.old out.new) }
+    ensures taken { OnOk result ((said : AnyLine) × SaysLine line.now said
+        × FollowsLine said watch.old watch.new out.old out.new) }
     ensures refused { IfErr result (IsRefusal (SaysLine line.now)) }
 {
     let said = read_trace_line(alloc, line)?;

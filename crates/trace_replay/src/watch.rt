@@ -29,7 +29,8 @@ impl Table {
 
     /// Begins a stream anew.
     fn reset(&mut self, conn: Conn)
-        ensures { (streams : ℕ → List ℕ) → Reads streams self.old → Reads (replaced streams conn []) self.new }
+        ensures { (streams : ℕ → List ℕ) → Reads streams self.old →
+            Reads (replaced streams conn []) self.new }
     {
         self.rows.remove(&conn);
     }

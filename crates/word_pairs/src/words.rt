@@ -23,7 +23,9 @@ pub fn is_word(words: &[String], at: usize, word: &str) -> bool
 
 /// The value of the first pair with this name, of the pairs that begin at this word.
 pub fn value_from<'a>(words: &'a [String], from: usize, name: &str) -> Option<&'a str>
-    ensures { MatchOption result (value_in (pairs_of (drop from (map string_bytes words.now))) name.now ≡ None) (λ value. value_in (pairs_of (drop from (map string_bytes words.now))) name.now ≡ Some value.now) }
+    ensures { MatchOption result
+        (value_in (pairs_of (drop from (map string_bytes words.now))) name.now ≡ None) (λ value.
+        value_in (pairs_of (drop from (map string_bytes words.now))) name.now ≡ Some value.now) }
 {
     let mut at = from;
     while at < words.len() && words.len() - at >= 2 {
@@ -37,7 +39,9 @@ pub fn value_from<'a>(words: &'a [String], from: usize, name: &str) -> Option<&'
 
 /// The value of the first pair with this name, of the pairs behind the first word.
 pub fn value_of<'a>(words: &'a [String], name: &str) -> Option<&'a str>
-    ensures { MatchOption result (value_in (pairs_of (drop 1 (map string_bytes words.now))) name.now ≡ None) (λ value. value_in (pairs_of (drop 1 (map string_bytes words.now))) name.now ≡ Some value.now) }
+    ensures { MatchOption result (value_in (pairs_of (drop 1 (map string_bytes words.now))) name.now
+        ≡ None) (λ value. value_in (pairs_of (drop 1 (map string_bytes words.now))) name.now
+        ≡ Some value.now) }
 {
     value_from(words, 1, name)
 }
@@ -51,7 +55,9 @@ fn is_path(path: &str) -> bool
 
 /// The path that the pairs behind the first word have with this name.
 pub fn path_of<'a>(words: &'a [String], name: &str) -> Option<&'a str>
-    ensures { MatchOption result ((value : List ℕ) → ¬ (HasPath (pairs_of (drop 1 (map string_bytes words.now))) name.now value)) (λ value. HasPath (pairs_of (drop 1 (map string_bytes words.now))) name.now value.now) }
+    ensures { MatchOption result ((value : List ℕ) →
+        ¬ (HasPath (pairs_of (drop 1 (map string_bytes words.now))) name.now value)) (λ value.
+        HasPath (pairs_of (drop 1 (map string_bytes words.now))) name.now value.now) }
 {
     match value_of(words, name) {
         Some(value) => { if is_path(value) { Some(value) } else { None } }

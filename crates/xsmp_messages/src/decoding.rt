@@ -137,15 +137,19 @@ pub fn decode_xsmp(
 ) -> Result<XsmpMessage, DecodeRefusal>
     requires { IsFrame endian frame.now }
     // What is decoded is spelled so, under the frame's major opcode.
-    ensures found { IfOk result (λ message. Spells endian (slice_index frame.now 0) message frame.now) }
+    ensures found { IfOk result (λ message.
+        Spells endian (slice_index frame.now 0) message frame.now) }
     // What is spelled so is decoded, unless memory is wanting.
-    ensures only { (opcode : ℕ) (message : _) → Spells endian opcode message frame.now → Gives result (Ok message) }
+    ensures only { (opcode : ℕ) (message : _) → Spells endian opcode message frame.now →
+        Gives result (Ok message) }
     // What encoding writes is decoded again.
-    ensures again { (opcode : ℕ) (message : _) → IsMessage message → frame.now ≡ canon endian opcode message → Gives result (Ok message) }
+    ensures again { (opcode : ℕ) (message : _) → IsMessage message →
+        frame.now ≡ canon endian opcode message → Gives result (Ok message) }
     // Each refusal has its cause.
     ensures refused { IfErr result (λ refusal. Refused endian frame.now refusal) }
     // The form of a message is what some choice of the enumerated bytes spells.
-    ensures form { (opcode : ℕ) (message : _) → HasForm endian opcode message frame.now ↔ HasChoice endian opcode message frame.now }
+    ensures form { (opcode : ℕ) (message : _) → HasForm endian opcode message frame.now
+        ↔ HasChoice endian opcode message frame.now }
     // The same as a function of the bytes.
     ensures exact { Gives result (decode_at endian frame.now) }
 {

@@ -13,21 +13,29 @@ use crate::LAST_XSMP_MINOR;
 /// Does nothing: its contract is a law of `decode_xsmp`. Decoding a frame gives a message exactly where
 /// the frame spells it under its major opcode. Each refusal has its cause, and none of them is want of memory.
 pub fn decoding_is_exact()
-    ensures message { (e : AnyEndian) (bytes : List ℕ) (message : AnyMessage) → IsXsmpFrame e bytes → (decode_at e bytes ≡ Ok message) ↔ Spells e (slice_index bytes 0) message bytes }
-    ensures refusal { (e : AnyEndian) (bytes : List ℕ) (refusal : DecodeRefusal) → IsXsmpFrame e bytes → decode_at e bytes ≡ Err refusal → Refused e bytes refusal }
-    ensures memory { (e : AnyEndian) (bytes : List ℕ) → IsXsmpFrame e bytes → decode_at e bytes ≢ Err DecodeRefusal.NoMemory }
+    ensures message { (e : AnyEndian) (bytes : List ℕ) (message : AnyMessage) →
+        IsXsmpFrame e bytes → (decode_at e bytes ≡ Ok message)
+        ↔ Spells e (slice_index bytes 0) message bytes }
+    ensures refusal { (e : AnyEndian) (bytes : List ℕ) (refusal : DecodeRefusal) →
+        IsXsmpFrame e bytes → decode_at e bytes ≡ Err refusal → Refused e bytes refusal }
+    ensures memory { (e : AnyEndian) (bytes : List ℕ) → IsXsmpFrame e bytes →
+        decode_at e bytes ≢ Err DecodeRefusal.NoMemory }
 {}
 
 /// Does nothing: its contract is a law of `encode_xsmp` and `decode_xsmp`. What encodes a message is
 /// decoded as this message.
 pub fn an_encoded_message_is_decoded()
-    ensures { (e : AnyEndian) (opcode : ℕ) (message : AnyMessage) → IsMessage message → decode_at e (canon e opcode message) ≡ Ok message }
+    ensures { (e : AnyEndian) (opcode : ℕ) (message : AnyMessage) → IsMessage message →
+        decode_at e (canon e opcode message) ≡ Ok message }
 {}
 
 /// Does nothing: its contract is a law of refusals. Bytes that have fewer units than they state, as
 /// a header alone, spell no message. Which refusal answers them is told by the minor opcode, and
 /// the messages have those from 0 to the last.
 pub fn cut_bytes_are_refused()
-    ensures minors { (n : ℕ) → (n ≤ LAST_XSMP_MINOR) ↔ ((message : AnyMessage) × (minor_of message ≡ n)) }
-    ensures refused { (e : AnyEndian) (bytes : List ℕ) → IsBytes bytes → length bytes < 8 + 8 * number e 4 (drop 4 bytes) → Refused e bytes (cut_refusal LAST_XSMP_MINOR bytes) }
+    ensures minors { (n : ℕ) → (n ≤ LAST_XSMP_MINOR)
+        ↔ ((message : AnyMessage) × (minor_of message ≡ n)) }
+    ensures refused { (e : AnyEndian) (bytes : List ℕ) → IsBytes bytes →
+        length bytes < 8 + 8 * number e 4 (drop 4 bytes) →
+        Refused e bytes (cut_refusal LAST_XSMP_MINOR bytes) }
 {}

@@ -18,7 +18,8 @@ pub fn view_xsmp(endian: Endian, frame: &[u8]) -> Result<XsmpView<'_>, ViewRefus
     // It is a view of this frame.
     ensures of { IfOk result (λ view. (view.endian ≡ endian) × (view.frame.now ≡ frame.now)) }
     // Where a message is spelled there is a view.
-    ensures only { (opcode : ℕ) (message : _) → Spells endian opcode message frame.now → IsOk result }
+    ensures only { (opcode : ℕ) (message : _) → Spells endian opcode message frame.now →
+        IsOk result }
     // Each refusal has its cause.
     ensures refused { IfErr result (λ refusal. Refused endian frame.now (as_decoding refusal)) }
     // There is one exactly where `decode_xsmp` gives a message, unless memory is wanting.
