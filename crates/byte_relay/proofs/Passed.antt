@@ -157,6 +157,3 @@ stands_there row left none = sym (ap (λ (at : Standing). (cut at).standing) (no
 
 pub stands_held : (row after : Row) (left : List ℕ) → HoldsAll row left after → after.splitter ≡ (cut (fed row.splitter left)).standing
 stands_held row after left holds = sym (settled after.splitter after.partial after.within) ∙ ap (λ (at : Standing). (cut at).standing) holds.splitter
-
-pub from_place : (n : ℕ) (xs : List ℕ) → take (length xs - n) (drop n xs) ≡ drop n xs
-from_place n xs = take_all (length xs - n) (drop n xs) (omega (arith, length-drop n xs))

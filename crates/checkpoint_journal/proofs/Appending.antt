@@ -22,20 +22,16 @@ use Rattle.checkpoint_slots.proofs.Puts.{put-front}
 use Rattle.checkpoint_slots.proofs.Turning.{done-byte}
 use Rattle.checkpoint_journal.specs.Journal.{behind, size_of}
 use Rattle.checkpoint_journal.proofs.Growing.{behind-size}
-use Rattle.checkpoint_journal.proofs.Ranges.{behind-file, gate-file}
+use Rattle.checkpoint_journal.proofs.Ranges.{behind-file, gate-file, slot-fits}
 
 -- a steady file with all of an amendment but its open gate
 pub record AppendedFile (current : Current) (end : ℕ) (book : Book) (delta : List Change) (file : List ℕ) : Type 0 where
   pub steady : SteadyFile (Some current) book file
   pub stands : take (length (behind delta)) (drop (end + 1) file) ≡ behind delta
 
-slot-within : (slot : Slot) → start_of slot + 8388608 ≤ 16777280
-slot-within First = omega arith
-slot-within Second = omega arith
-
 module _ (current : Current) (end : ℕ) (ends : current.end ≡ Some end) (delta : List Change) (room : end + 8 + size_of delta < start_of current.slot + 8388608) (first : List ℕ) (effects : List Effect) (book : Book) where
   fits-file : end + 1 + length (behind delta) ≤ 16777280
-  fits-file = omega (arith, room, behind-size delta, slot-within current.slot)
+  fits-file = omega (arith, room, behind-size delta, slot-fits current.slot)
 
   -- Behind the gate
 

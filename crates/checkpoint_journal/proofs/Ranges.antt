@@ -40,7 +40,7 @@ other-apart : (slot : Slot) (at n : ℕ) → IsWithin slot at n → IsApart at n
 other-apart First at n is = let b = is.before in inl (omega (arith, b))
 other-apart Second at n is = let a = is.after in inr (omega (arith, a))
 
-slot-fits : (slot : Slot) → start_of slot + 8388608 ≤ 16777280
+pub slot-fits : (slot : Slot) → start_of slot + 8388608 ≤ 16777280
 slot-fits First = omega arith
 slot-fits Second = omega arith
 

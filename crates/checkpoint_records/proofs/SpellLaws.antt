@@ -21,7 +21,7 @@ use Rattle.checkpoint_records.proofs.IdLaws.{length-hex8}
 
 -- IDs
 
-length-id : (epoch : ℕ) (id : List ℕ) → IsClientId epoch id → length id ≡ 21
+pub length-id : (epoch : ℕ) (id : List ℕ) → IsClientId epoch id → length id ≡ 21
 length-id epoch id i =
     let a = length-append (codes "smd-" ++ hex8 i.epoch ++ codes "-") (hex8 i.number) in
     let b = length-append (codes "smd-" ++ hex8 i.epoch) (codes "-") in

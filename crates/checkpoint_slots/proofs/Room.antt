@@ -10,7 +10,7 @@ use Rattle.ice_values.specs.Properties.{array8, array8_list, property, property_
 use Rattle.ice_values.specs.declared.numbers.Endian.TheVariants.{Lsb}
 use Rattle.ice_values.specs.declared.property.Property.{Property}
 use Rattle.checkpoint_records.proofs.IdLaws.{length-hex8}
-use Rattle.checkpoint_records.proofs.SpellLaws.{not_full}
+use Rattle.checkpoint_records.proofs.SpellLaws.{length-id, not_full}
 use Rattle.checkpoint_records.specs.Rules.{IsClientId, IsCommand, IsEntry, KeepsRules, command_cells, hex8, in_turn}
 use Rattle.checkpoint_records.specs.Spelling.{book_bytes, entry_cells, head_cells, parts_cells}
 use Rattle.checkpoint_records.specs.declared.records.Book.{Book}
@@ -50,17 +50,10 @@ units-command command =
 
 -- Sizes
 
-id-length : (epoch : ℕ) (id : List ℕ) → IsClientId epoch id → length id ≡ 21
-id-length epoch id i =
-    let a = length-append (codes "smd-" ++ hex8 i.epoch ++ codes "-") (hex8 i.number) in
-    let b = length-append (codes "smd-" ++ hex8 i.epoch) (codes "-") in
-    let d = length-append (codes "smd-") (hex8 i.epoch) in
-    ap length i.is ∙ omega (arith, a, b, d, length-hex8 i.epoch, length-hex8 i.number)
-
 entry-size : (epoch : ℕ) (entry : Entry) → IsEntry epoch entry → length (entry_cells entry) ≤ 16424
 entry-size epoch entry is =
     let table = not_full entry.table is.table.limits in
-    omega (arith, length-append (array8 Lsb entry.id) (property_list Lsb entry.table), length-array8 Lsb entry.id, id-length epoch entry.id is.id, length-listed (property Lsb) Lsb entry.table, table.1)
+    omega (arith, length-append (array8 Lsb entry.id) (property_list Lsb entry.table), length-array8 Lsb entry.id, length-id epoch entry.id is.id, length-listed (property Lsb) Lsb entry.table, table.1)
 
 all-size : {A : Type 0} (P : A → Type 0) (cells : A → Cells) (most : ℕ) → ((x : A) → P x → length (cells x) ≤ most) → (items : List A) → AllByRecursion P items → length (flat_map cells items) ≤ most * length items
 all-size P cells most each [] all = omega arith

@@ -12,6 +12,7 @@ use Rattle.client_machine.specs.declared.saves.SaveAnswer.{SaveAnswer}
 use Rattle.client_machine.specs.declared.saves.SaveAsk.{SaveAsk}
 use Rattle.client_engine.specs.Messages.{AreShort, spelled}
 use Rattle.protocol_messages.specs.Messages.{IsTooLong}
+use Rattle.client_callbacks.proofs.Quiet.{no_front}
 use Rattle.client_callbacks.specs.Doing.{Callbacks, CarriesOut, Desk, desk, Does, Follows, IsCaused, IsUnsent, Sends, effect_of, effects_in, failure_in, line_of, lines_in, sent}
 use Rattle.client_callbacks.specs.Script.{Entry, Hears, Says, AsksSave, AsksReasons, TellsCancelled, Notes}
 use Rattle.protocol_messages.specs.declared.message.Message.{Message}
@@ -50,10 +51,6 @@ sends_more a b c xs ys failure one two = record {
   where
     all_done : one.done ≡ xs
     all_done = sym (append-nil one.done) ∙ (ap (λ (ms : List Message). one.done ++ ms) (sym (one.none_left refl)) ∙ one.parts)
-
-no_front : {A : Type 0} (xs ys : List A) → xs ++ ys ≡ [] → xs ≡ []
-no_front [] ys none = refl
-no_front (x ∷ xs) ys none = absurd cc
 
 -- some of these, and none of those
 pub sends_cut : (a b : Outside) (xs ys : List Message) (failure : Failure) → Sends a b xs (Some failure) → Sends a b (xs ++ ys) (Some failure)
@@ -111,11 +108,6 @@ said_failed old mid new all i message failure inside is one two =
 
 pub said_all : (old new : Outside) (all : List Message) (i : ℕ) → length all ≤ i → Sends old new (take i all) None → Sends old new all None
 said_all old new all i over sends = subst (λ (ms : List Message). Sends old new ms None) (take_all i all over) sends
-
-pub short_at : (all : List Message) (i : ℕ) (message : Message) → i < length all → message ≡ slice_index_or all i message → AreShort all → ¬ (IsTooLong message)
-short_at [] i message inside is short = absurd (omega (arith, inside))
-short_at (m ∷ all) zero message inside is short = rw is short.0
-short_at (m ∷ all) (suc i) message inside is short = short_at all i message (omega (arith, inside)) is short.1
 
 -- ---- callbacks
 

@@ -21,7 +21,7 @@ use Rattle.client_callbacks.specs.Script.{Entry, Says, Keeper, answer_line, answ
 pub heard-append : (xs ys : List Entry) → heard_in (xs ++ ys) ≡ heard_in xs ++ heard_in ys
 heard-append xs ys = flat_map-append heard_of xs ys
 
-no_front : {A : Type 0} (xs ys : List A) → xs ++ ys ≡ [] → xs ≡ []
+pub no_front : {A : Type 0} (xs ys : List A) → xs ++ ys ≡ [] → xs ≡ []
 no_front [] ys none = refl
 no_front (x ∷ xs) ys none = absurd cc
 

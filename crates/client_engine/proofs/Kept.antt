@@ -18,10 +18,6 @@ use Rattle.protocol_messages.specs.declared.message.Message.{Message}
 use Rattle.client_engine.specs.declared.place.Talk.{Talk}
 use Rattle.client_engine.proofs.Driven.{Middle, begins, deaf_parts, ends, further, held_stands, holds, nothing_left}
 
--- the part of a slice from a place on
-pub from_place : (n : ℕ) (xs : List ℕ) → take (length xs - n) (drop n xs) ≡ drop n xs
-from_place n xs = take_all (length xs - n) (drop n xs) (omega (arith, length-drop n xs))
-
 pub none_left : (bytes : List ℕ) → length bytes ≡ 0 → bytes ≡ []
 none_left [] none = refl
 none_left (b ∷ bytes) none = absurd (omega arith)

@@ -1,5 +1,5 @@
 -- What a client says is not too long.
-use Rattle.std.proofs.Common.{ℕ, ◌*◌, ◌≤◌, inl, inr, List, [], ◌∷◌, ◌++◌, length, arith, length-append}
+use Rattle.std.proofs.Common.{◌≡◌, ℕ, zero, suc, ◌*◌, ◌<◌, ◌≤◌, inl, inr, List, [], ◌∷◌, ◌++◌, length, slice_index_or, arith, length-append}
 use Rattle.std.specs.Prelude.{flat_map}
 use Rattle.std.specs.List.{AllByRecursion}
 use Rattle.ice_values.specs.Properties.{array8, property}
@@ -58,3 +58,8 @@ short-step (Talked cancel) = λ long. omega (arith, long)
 pub short_more : (messages : List Message) (message : Message) → AreShort messages → ¬ (IsTooLong message) → AreShort (messages ++ message ∷ [])
 short_more [] message short one = (one, tt)
 short_more (m ∷ messages) message short one = (short.0, short_more messages message short.1 one)
+
+pub short_at : (all : List Message) (i : ℕ) (message : Message) → i < length all → message ≡ slice_index_or all i message → AreShort all → ¬ (IsTooLong message)
+short_at [] i message inside is short = absurd (omega (arith, inside))
+short_at (m ∷ all) zero message inside is short = rw is short.0
+short_at (m ∷ all) (suc i) message inside is short = short_at all i message (omega (arith, inside)) is short.1

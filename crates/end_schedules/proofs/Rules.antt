@@ -24,10 +24,11 @@ use Rattle.session_model.specs.Rules.{agreed_rule, agreement_with, begin, begin_
 use Rattle.session_model.proofs.Asked.{in-filter, phases-tell}
 use Rattle.session_model.proofs.Level.{Good}
 use Rattle.session_model.proofs.Lists.{Once}
-use Rattle.session_model.proofs.Ruled.{and-left, and-right, any-in, closing, conns-rows, denied, nobody-level, round_now, rows_now, others, differ}
+use Rattle.session_model.proofs.Ruled.{and-left, and-right, any-in, closing, conns-rows, denied, differ, nobody-level, others, round_now, rows_now, wanted-alone}
 use Rattle.session_model.proofs.Sound.{is_wanted_alone}
 use Rattle.session_model.specs.Waits.{is_only}
 use Rattle.end_agreement.specs.Sides.{is_at_work, may_begin_two, may_complete, may_die, may_give, may_save}
+use Rattle.session_model.proofs.Whole.{once-for}
 use Rattle.end_schedules.proofs.Steady.{AllNeed, Needs, NeedsGiven, Steady}
 
 -- What the manager does by itself: it gives something where it may.
@@ -255,15 +256,6 @@ one-alone c d e = grind (arith, nat_tests)
 members-registered : (o : Option ℕ) (h : History) → Good h → ((c : ℕ) → o ≡ Some c → is_registered (of.phase_of c h) ≡ true) → (c : ℕ) → is_in c (members_for o (of.registered h)) ≡ true → is_registered (of.phase_of c h) ≡ true
 members-registered None h g f c i = sym (g.sound.registered_are c) ∙ i
 members-registered (Some d) h g f c i = let k : d ≡ c = one-alone d c i in subst (λ (x : ℕ). is_registered (of.phase_of x h) ≡ true) k (f d refl)
-
-once-for : (o : Option ℕ) (cs : List ℕ) → Once cs → Once (members_for o cs)
-once-for None cs o = o
-once-for (Some c) cs o = (refl, tt)
-
-wanted-alone : (wait : Wait) (ws : List Wait) (c : ℕ) → wait.wanted.only ≡ Some c → is_wanted_alone c (wait ∷ ws) ≡ true
-wanted-alone wait ws c e =
-    let k : is_only c wait.wanted.only ≡ true = ap (λ (o : Option ℕ). is_only c o) e ∙ grind (arith, nat_tests) in
-    ap (λ (x : Bool). x || is_wanted_alone c ws) k
 
 or-this : Wanted → Option Wanted → Wanted
 or-this w None = w

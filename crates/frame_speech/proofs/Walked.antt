@@ -141,23 +141,6 @@ text_none n bytes none = rw (is_few n bytes none) refl
 text_some : (n : ℕ) (bytes rest : List ℕ) → skip_at n bytes ≡ Some rest → bytes_at n bytes ≡ Some (take n bytes, rest)
 text_some n bytes rest some = let h = is_enough n bytes rest some in rw (h.0, h.1) refl
 
-pub value_uncounted : (e : Endian) (bytes : List ℕ) → skip_at 4 bytes ≡ None → array8_at e bytes ≡ None
-unfolding array8_at
-value_uncounted e bytes none = rw (card_none e bytes none) refl
-
-pub value_short : (e : Endian) (bytes behind : List ℕ) → skip_at 4 bytes ≡ Some behind → skip_at (number e 4 bytes) behind ≡ None → array8_at e bytes ≡ None
-unfolding array8_at
-value_short e bytes behind first none = rw (card_some e bytes behind first, text_none (number e 4 bytes) behind none) refl
-
-pub value_unpadded : (e : Endian) (bytes behind padded : List ℕ) → skip_at 4 bytes ≡ Some behind → skip_at (number e 4 bytes) behind ≡ Some padded → skip_at (pad_len (4 + number e 4 bytes) 8) padded ≡ None → array8_at e bytes ≡ None
-unfolding array8_at
-value_unpadded e bytes behind padded first second none = rw (card_some e bytes behind first, text_some (number e 4 bytes) behind padded second, none) refl
-
-pub value_cut : (e : Endian) (bytes behind padded rest : List ℕ) → skip_at 4 bytes ≡ Some behind → skip_at (number e 4 bytes) behind ≡ Some padded → skip_at (pad_len (4 + number e 4 bytes) 8) padded ≡ Some rest
-    → array8_at e bytes ≡ Some (take (number e 4 bytes) behind, rest)
-unfolding array8_at
-value_cut e bytes behind padded rest first second third = rw (card_some e bytes behind first, text_some (number e 4 bytes) behind padded second, third) refl
-
 pub head_uncounted : (e : Endian) (bytes : List ℕ) → skip_at 4 bytes ≡ None → head_at e bytes ≡ None
 head_uncounted e bytes none = rw (card_none e bytes none) refl
 

@@ -1,9 +1,8 @@
 ghost use Rattle.std.specs.Prelude.{◌≡◌, length, option_map};
-ghost use Rattle.ice_values.specs.Properties.{array8_at};
 ghost use Rattle.ice_values.specs.Reading.{Finds};
 ghost use Rattle.frame_speech.specs.Settings.{GivesValue, ShownBy, head_at};
 
-use ice_values::{Endian, PropertyView, pad, pass_bytes, read_card32};
+use ice_values::{Endian, PropertyView, cut_array8, pass_bytes, read_card32};
 
 /// The values of a property, one after the other, where they lie. It can be copied, and so walked
 /// again.
@@ -12,18 +11,6 @@ pub struct ValueWalk<'a> {
     endian: Endian,
     count: u32,
     bytes: &'a [u8],
-}
-
-/// The value at the front where it lies, and what follows it. None where there is none.
-fn cut_value(endian: Endian, bytes: &[u8]) -> Option<(&[u8], &[u8])>
-    ensures { Finds (λ x. (x.0.now, x.1.now)) result (array8_at endian bytes.now) }
-{
-    let behind = pass_bytes(4, bytes)?;
-    let count = read_card32(endian, bytes) as usize;
-    let padded = pass_bytes(count, behind)?;
-    let rest = pass_bytes(pad(4 + count, 8), padded)?;
-    let (value, _) = behind.split_at(count);
-    Some((value, rest))
 }
 
 /// How many values a list has, and where the first of them lies. None where it is too short.
@@ -70,7 +57,7 @@ impl<'a> ValueWalk<'a> {
         if self.count == 0 {
             return None;
         }
-        let (value, rest) = cut_value(self.endian, self.bytes)?;
+        let (value, rest) = cut_array8(self.endian, self.bytes)?;
         self.count -= 1;
         self.bytes = rest;
         Some(value)

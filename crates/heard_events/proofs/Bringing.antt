@@ -1,5 +1,5 @@
 -- What a run was brought, event by event.
-use Rattle.std.proofs.Common.{◌≡◌, ℕ, zero, suc, List, [], ◌∷◌, ◌++◌, length, drop, Option, Some, None, Ok, refl, sym, ◌∙◌, ap, arith, length-append}
+use Rattle.std.proofs.Common.{◌≡◌, ℕ, zero, suc, Bool, true, false, if◌then◌else◌, List, [], ◌∷◌, ◌++◌, length, drop, Option, Some, None, Ok, refl, sym, ◌∙◌, ap, arith, length-append}
 use Rattle.sm_world.specs.Events.{next_of}
 use Rattle.sm_world.specs.Outside.{TakesNext}
 use Rattle.sm_world.specs.declared.events.Event.{Event}
@@ -49,3 +49,8 @@ brought_is (Some coming) left events brought = brought.0
 pub brought_nothing : (coming : Option (List Event)) → Brought coming []
 brought_nothing None = tt
 brought_nothing (Some coming) = refl
+
+-- what comes behind, where anything does, may be written otherwise
+pub same_rest : {A : Type 0} (b : Bool) (first one other : List A) → (b ≡ false → one ≡ other) → first ++ (if b then [] else one) ≡ first ++ (if b then [] else other)
+same_rest true first one other same = refl
+same_rest false first one other same = ap (λ xs. first ++ xs) (same refl)

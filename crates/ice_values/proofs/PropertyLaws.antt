@@ -38,7 +38,7 @@ listed_exact item Fits item_at e exact = record {
 pub array8_list_exact : (e : Endian) → Exact (array8_list e) (IsListed IsArray8) (array8_list_at e)
 array8_list_exact e = listed_exact (array8 e) IsArray8 (array8_at e) e (array8_exact e)
 
-property_of : List ℕ → List ℕ → List (List ℕ) → Property
+pub property_of : List ℕ → List ℕ → List (List ℕ) → Property
 property_of name kind values = record { name = name; kind = kind; values = values }
 
 pub property_exact : (e : Endian) → Exact (property e) IsProperty (property_at e)

@@ -22,7 +22,7 @@ mod words;
 mod writing;
 
 pub use array8::{
-    Array8, Array8List, read_array8, read_array8_list, write_array8, write_array8_list,
+    Array8, Array8List, cut_array8, read_array8, read_array8_list, write_array8, write_array8_list,
 };
 pub use class::ErrorClass;
 pub use enumerated::{Enumerated, value_at};

@@ -11,11 +11,6 @@ use Rattle.named_joiner.specs.Doing.{Begins, Desk, Does, Follows, bytes_in, byte
 use Rattle.named_joiner.specs.Script.{Callbacks, Entry, Says, AsksSave, AsksReasons}
 use Rattle.named_joiner.specs.declared.callbacks.NamedAsk.{NamedAsk}
 
-pub short_at : (all : List Message) (i : ℕ) (message : Message) → i < length all → message ≡ slice_index_or all i message → AreShort all → ¬ (IsTooLong message)
-short_at [] i message inside is short = absurd (omega (arith, inside))
-short_at (m ∷ all) zero message inside is short = rw is short.0
-short_at (m ∷ all) (suc i) message inside is short = short_at all i message (omega (arith, inside)) is short.1
-
 -- one message more was said
 pub said_more : (old mid new : List ℕ) (all : List Message) (i : ℕ) (message : Message) → i < length all → message ≡ slice_index_or all i message → mid ≡ old ++ flat_map spelled (take i all) → new ≡ mid ++ spelled message → new ≡ old ++ flat_map spelled (take (i + 1) all)
 said_more old mid new all i message inside is before said =

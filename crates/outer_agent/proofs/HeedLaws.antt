@@ -23,11 +23,6 @@ use Rattle.outer_agent.specs.Script.{Keeper, cancelled, heeded, own_set, reacts,
 use Rattle.outer_agent.specs.Words.{own_properties}
 use Rattle.outer_agent.specs.declared.acts.AgentAct.{AgentAct}
 
-pub short_at : (all : List Message) (i : ℕ) (message : Message) → i < length all → message ≡ slice_index_or all i message → AreShort all → ¬ (IsTooLong message)
-short_at [] i message inside is short = absurd (omega (arith, inside))
-short_at (m ∷ all) zero message inside is short = rw is short.0
-short_at (m ∷ all) (suc i) message inside is short = short_at all i message (omega (arith, inside)) is short.1
-
 -- ---- acts one after another
 
 carries_more : (a b c xs ys : List AgentAct) (fault : Option NoMemory) → Carries a b xs None → Carries b c ys fault → Carries a c (xs ++ ys) fault

@@ -6,6 +6,7 @@ use Rattle.byteorder.specs.Endian.{little_bytes}
 use Rattle.byteorder.specs.Numbers.{length-bytes_low_first}
 use Rattle.ice_values.specs.Cells.{free, pad_len, zeros}
 use Rattle.session_model.specs.Errors.{value_at}
+use Rattle.session_model.proofs.Short.{length-value}
 
 zeros-free : (n : ℕ) → zeros (free n) ≡ replicate n 0
 zeros-free zero = refl
@@ -15,14 +16,6 @@ pub spelled : (at : ℕ) (bytes three four : List ℕ) (n : ℕ) → three ≡ l
 spelled at bytes three four n front padding grown =
     grown ∙ ap (λ (xs : List ℕ). xs ++ zeros (free n)) front ∙ ap (λ (m : ℕ). little_bytes 4 at ++ little_bytes 4 (length bytes) ++ bytes ++ zeros (free m)) padding
     ∙ ap (λ (xs : List ℕ). little_bytes 4 at ++ little_bytes 4 (length bytes) ++ bytes ++ xs) (zeros-free (pad_len (length bytes) 8))
-
-length-value : (at : ℕ) (bytes : List ℕ) → length (value_at at bytes) ≡ 8 + (length bytes + pad_len (length bytes) 8)
-length-value at bytes =
-    let a : length (value_at at bytes) ≡ length (little_bytes 4 at ++ little_bytes 4 (length bytes) ++ bytes) + length (replicate (pad_len (length bytes) 8) 0) = length-append (little_bytes 4 at ++ little_bytes 4 (length bytes) ++ bytes) (replicate (pad_len (length bytes) 8) 0) in
-    let b : length (little_bytes 4 at ++ little_bytes 4 (length bytes) ++ bytes) ≡ length (little_bytes 4 at ++ little_bytes 4 (length bytes)) + length bytes = length-append (little_bytes 4 at ++ little_bytes 4 (length bytes)) bytes in
-    let c : length (little_bytes 4 at ++ little_bytes 4 (length bytes)) ≡ length (little_bytes 4 at) + length (little_bytes 4 (length bytes)) = length-append (little_bytes 4 at) (little_bytes 4 (length bytes)) in
-    let d : length (replicate (pad_len (length bytes) 8) 0) ≡ pad_len (length bytes) 8 = length-replicate {A = ℕ} (pad_len (length bytes) 8) 0 in
-    omega (arith, a, b, c, d, length-bytes_low_first 0 4 at, length-bytes_low_first 0 4 (length bytes))
 
 filled : (n : ℕ) → (8 + (n + pad_len n 8)) % 8 ≡ 0
 filled n = omega arith

@@ -36,10 +36,6 @@ use Rattle.session_engine.proofs.Connections.{same, other, connection_of-changed
 use Rattle.session_engine.proofs.Running.{has_finish-append}
 use Rattle.session_engine.proofs.Showing.{piece_brings, piece_comes}
 
--- the part of a slice from a place on
-pub from_place : (n : ℕ) (xs : List ℕ) → take (length xs - n) (drop n xs) ≡ drop n xs
-from_place n xs = take_all (length xs - n) (drop n xs) (omega (arith, length-drop n xs))
-
 -- all parts that the stream of a connection still has are taken
 abbrev pub rest_taken : Machine → ℕ → Step
 rest_taken m c = parts_taken m c (parts_left m c)

@@ -28,7 +28,7 @@ has_finish-append (Commit book ∷ xs) ys = has_finish-append xs ys
 has_finish-append (Print text ∷ xs) ys = has_finish-append xs ys
 has_finish-append (Finish ∷ xs) ys = refl
 
-second_by : (b c : Bool) → (if b then true else c) ≡ false → c ≡ false
+pub second_by : (b c : Bool) → (if b then true else c) ≡ false → c ≡ false
 second_by true c e = absurd (false≢true (sym e))
 second_by false c e = e
 

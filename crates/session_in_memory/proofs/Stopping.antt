@@ -6,14 +6,11 @@ use Rattle.session_engine.specs.Acts.{deeds_in, has_finish}
 use Rattle.session_engine.specs.Machine.{Machine, Came, Did, acts_of, step, script_from, run_from}
 use Rattle.session_engine.specs.declared.acts.Act.{Act}
 use Rattle.session_engine.proofs.Running.{has_finish-append}
+use Rattle.heard_events.proofs.Bringing.{same_rest}
 
 later_finish : (b : Bool) (rest : List Act) → (if b then true else has_finish (if b then [] else rest)) ≡ true → b ≡ false → has_finish rest ≡ true
 later_finish true rest e unfinished = absurd (false≢true (sym unfinished))
 later_finish false rest e unfinished = e
-
-same_rest : {A : Type 0} (b : Bool) (first one other : List A) → (b ≡ false → one ≡ other) → first ++ (if b then [] else one) ≡ first ++ (if b then [] else other)
-same_rest true first one other same = refl
-same_rest false first one other same = ap (λ xs. first ++ xs) (same refl)
 
 -- After Finish nothing follows.
 pub script_stops : (m : Machine) (xs ys : List Event) → has_finish (script_from m xs) ≡ true → script_from m (xs ++ ys) ≡ script_from m xs

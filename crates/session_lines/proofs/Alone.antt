@@ -32,6 +32,7 @@ use Rattle.protocol_messages.specs.declared.message.Message.{Message}
 use Rattle.protocol_messages.specs.declared.message.Message.TheVariants.{Ice}
 use Rattle.session_engine.proofs.Connections.{other, connection_of-append, connection_of-changed, connection_of-without}
 use Rattle.session_engine.proofs.Following.{since-is}
+use Rattle.session_model.proofs.Sound.{ends-later}
 use Rattle.session_lines.specs.Others.{LeavesAlone, Spares, conn_of, is_shut}
 use Rattle.session_lines.proofs.Spared.{AllSparing, IsApart, Spared, Sparing, all-spared}
 use Rattle.session_engine.proofs.Opening.{acts-onto}
@@ -74,13 +75,9 @@ moves-registered : (d : ℕ) (moves : List Move) (h : History) → AllSparing d 
 moves-registered d [] h s = refl
 moves-registered d (m ∷ moves) h s = moves-registered d moves (m ▷ h) s.1 ∙ move-registered d m h s.0
 
-still-ending : (m : Move) (h : History) → of.is_ending h ≡ true → of.is_ending (m ▷ h) ≡ true
-still-ending Agreed h e = ap (λ (b : Bool). b || is_shutdown (of.wanted h)) e
-still-ending m h e = e
-
 moves-ending : (moves : List Move) (h : History) → of.is_ending h ≡ true → of.is_ending (onto h moves) ≡ true
 moves-ending [] h e = e
-moves-ending (m ∷ moves) h e = moves-ending moves (m ▷ h) (still-ending m h e)
+moves-ending (m ∷ moves) h e = moves-ending moves (m ▷ h) (ends-later m h e)
 
 -- ---- their acts
 

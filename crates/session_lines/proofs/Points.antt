@@ -24,6 +24,7 @@ use Rattle.session_notes.specs.Watching.{has_token}
 use Rattle.session_notes.proofs.Fine.{DiscardsHold, IdsHold, IsDue, IsOwed, KeptHolds, OneHas}
 use Rattle.session_notes.proofs.Standing.{holds-gone, holds-heard, holds-ordered}
 use Rattle.session_notes.proofs.Tests.{and-after}
+use Rattle.session_notes.proofs.Heard.{token-before}
 use Rattle.session_lines.specs.Lines.{Comes, Does, Seen, Took, given_in, heard_as, heard_in, is_error, is_open, noted}
 
 -- what holds of the notes at each point
@@ -46,11 +47,6 @@ kept-top book [] h = h
 kept-top book (entry ∷ seen) h = h.0
 
 -- What notes keep
-
--- nobody gets the token by what is said
-token-before : (c : ℕ) (m : XsmpMessage) (d : ℕ) (n : List Note) → has_token d (Heard c m ∷ n) ≡ true → has_token d n ≡ true
-token-before c (InteractDone cancel) d n e = and-after (eqb c d) (has_token d n) e
-token-before c m d n e = e
 
 -- nor is a state discarded by it
 pub discarded-before : (command : Command) (c : ℕ) (m : XsmpMessage) (n : List Note) → is_discarded command (Heard c m ∷ n) ≡ true → is_discarded command n ≡ true

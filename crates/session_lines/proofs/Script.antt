@@ -10,7 +10,7 @@ use Rattle.checkpoint_records.specs.declared.records.Book.{Book}
 use Rattle.session_engine.specs.Acts.{has_finish}
 use Rattle.session_engine.specs.Machine.{Does as DoesAct, Entry, Machine, Took as TookPart, act_in, acts_of, after_all, opening_acts, script_from, script_of, start, step}
 use Rattle.session_engine.specs.declared.acts.Act.{Act}
-use Rattle.session_engine.proofs.Running.{has_finish-append}
+use Rattle.session_engine.proofs.Running.{has_finish-append, second_by}
 use Rattle.session_lines.specs.Lines.{Comes, Does, Seen, act_of, acts_in, event_of, events_in, line, line_from, seen_of}
 
 -- Acts
@@ -44,10 +44,6 @@ acts-line config book events =
     ∙ ap (λ (xs : List Act). opening_acts book ++ xs) (acts-from (start config book) events)
 
 -- Finish
-
-second_by : (b c : Bool) → (if b then true else c) ≡ false → c ≡ false
-second_by true c e = absurd (false≢true (sym e))
-second_by false c e = e
 
 finish-by : (b : Bool) (rest : List Act) → (if b then true else has_finish (if◌then◌else◌ {A = List Act} b [] rest)) ≡ false → (b ≡ false) × (has_finish rest ≡ false)
 finish-by true rest e = absurd (false≢true (sym e))

@@ -36,6 +36,7 @@ use Rattle.session_model.proofs.Pending.{all-more}
 use Rattle.session_model.proofs.Ruled.{others, rows_now, round_now}
 use Rattle.session_model.proofs.Sound.{or-true}
 use Rattle.protocol_messages.specs.declared.message.Message.TheVariants.{Xsmp}
+use Rattle.session_notes.proofs.Settled.{ends-session}
 use Rattle.session_lines.specs.Others.{is_of_round}
 
 -- what a move may be to a connection, in the history before it
@@ -123,9 +124,6 @@ sparing-ended d clients book h r e =
 sparing-completed : (d : ℕ) (b : Bool) (clients : Clients) (round : Agreement) (book : Book) (h : History) → clients.registered ≡ of.registered h → (b ≡ true → of.is_ending h ≡ true) → AllSparing d (completed b clients round book) h
 sparing-completed d true clients round book h r e = sparing-ended d clients book h r (e refl)
 sparing-completed d false clients round book h r e = sparing-gave d SaveComplete (conns_of round.members) h refl
-
-ends-session : (r : of.Begun) (h : History) → of.running h ≡ Some r → r.wanted.shutdown ≡ true → (of.is_ending h || is_shutdown (of.wanted h)) ≡ true
-ends-session r h e s = ap (λ (o : Option of.Begun). of.is_ending h || is_shutdown (of.wanted_of o)) e ∙ ap (λ (b : Bool). of.is_ending h || b) s ∙ or-true (of.is_ending h)
 
 sparing-agreement : (d : ℕ) (r : of.Begun) (h : History) → of.running h ≡ Some r → AllSparing d (agreement (reading h) (round_now r h)) h
 sparing-agreement d r h e =

@@ -19,6 +19,27 @@ use Rattle.session_model.proofs.Lists.{in-without, in-append, Once, once-push, o
 abbrev pub NoneMore : Option Phase → Option Phase → Type 0
 NoneMore p q = is_asked q ≡ true → is_asked p ≡ true
 
+-- its save goes on: it may yet ask for the token or want the second phase
+abbrev pub is_at_work : Option Phase → Bool
+is_at_work (Some Saving) = true
+is_at_work (Some Asked) = true
+is_at_work (Some Interacting) = true
+is_at_work (Some WantsTwo) = true
+is_at_work (Some SavingTwo) = true
+is_at_work (Some AskedTwo) = true
+is_at_work (Some InteractingTwo) = true
+is_at_work phase = false
+
+pub saving-asked : (p : Option Phase) → is_saving p ≡ true → is_asked (asked_phase p) ≡ true
+saving-asked (Some Saving) e = refl
+saving-asked (Some SavingTwo) e = refl
+saving-asked p e = absurd (grind arith)
+
+pub cancelled-asked : (p : Option Phase) → is_asked (cancelled_phase p) ≡ false
+cancelled-asked None = refl
+cancelled-asked (Some Done) = refl
+cancelled-asked (Some p) = refl
+
 none-talked : (p : Option Phase) → NoneMore p (talked_phase p)
 none-talked None e = e
 none-talked (Some Asked) e = e

@@ -130,7 +130,7 @@ hushed-all n (c ∷ conns) h u = hushed-all n conns (Closed c ▷ h) (hushed-clo
 peace-hushed : (n : ℕ) (h : History) → Hushed n h → AtPeace n h
 peace-hushed n h u = record { waits = u.waits; running = u.running; token = none-next h u.none }
 
-dying-asked : (p : Option Phase) → is_asked (dying_phase p) ≡ false
+pub dying-asked : (p : Option Phase) → is_asked (dying_phase p) ≡ false
 dying-asked None = refl
 dying-asked (Some Unregistered) = refl
 dying-asked (Some p) = refl

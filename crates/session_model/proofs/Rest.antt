@@ -139,7 +139,7 @@ round-token c h = ap (λ (xs : List Member). of.course (of.running h) xs)
     (rows-same (λ d. of.phase_of d h) (λ d. of.phase_of d (Gave c Interact ▷ h)) (λ d. of.saved_of d h) (λ d. of.saved_of d (Gave c Interact ▷ h)) (of.members h)
     (λ d. step-at (eqb c d) (of.phase_of d h) (held_phase (of.phase_of d h)) (of.saved_of d h) (held-step (of.phase_of d h))))
 
-asked-held : (p : Option Phase) → is_asked p ≡ true → is_interacting (held_phase p) ≡ true
+pub asked-held : (p : Option Phase) → is_asked p ≡ true → is_interacting (held_phase p) ≡ true
 asked-held (Some Asked) e = refl
 asked-held (Some AskedTwo) e = refl
 asked-held p e = absurd (grind arith)

@@ -11,7 +11,7 @@ use Rattle.session_model.specs.Tables.{has_id, is_of}
 use Rattle.session_model.specs.Moves.{History}
 use Rattle.session_model.specs.Readings as of
 use Rattle.session_model.proofs.Left.{within-by}
-use Rattle.session_model.proofs.Sound.{or-true, or-either}
+use Rattle.session_model.proofs.Sound.{or-after, or-either, or-true}
 use Rattle.session_model.proofs.Pending.{distinct-filter}
 use Rattle.session_model.proofs.Known.{distinct-append}
 use Rattle.session_model.proofs.NextIds.{apart-unrecorded, swap-all}
@@ -60,12 +60,8 @@ has-filter q test (x ∷ xs) t e = has-at (bytes_eq q x) (test x) refl refl e (h
   has-at false true s u e k = ap (λ (c : Bool). bytes_eq q x || c) (k e) ∙ or-true (bytes_eq q x)
   has-at false false s u e k = k e
 
-or-more : (x y z : Bool) → (y ≡ true → z ≡ true) → (x || y) ≡ true → (x || z) ≡ true
-or-more true y z k e = refl
-or-more false y z k e = k e
-
 had-at : (q x : List ℕ) (a : Bool) (ys xs : List (List ℕ)) → (has_id q ys ≡ true → has_id q xs ≡ true) → has_id q (cond a (x ∷ ys) ys) ≡ true → (bytes_eq q x || has_id q xs) ≡ true
-had-at q x true ys xs k e = or-more (bytes_eq q x) (has_id q ys) (has_id q xs) k e
+had-at q x true ys xs k e = or-after (bytes_eq q x) (has_id q ys) (has_id q xs) k e
 had-at q x false ys xs k e = ap (λ (b : Bool). bytes_eq q x || b) (k e) ∙ or-true (bytes_eq q x)
 
 -- an ID that is kept was there

@@ -20,7 +20,7 @@ use Rattle.session_model.specs.Phases.{is_registered, is_member, is_interacting,
 use Rattle.session_model.specs.Moves.{Gave, Closed, Began, Over, Agreed, Committed, History, ◌▷◌, onto, gave_each, tried_each, End}
 use Rattle.session_model.specs.Waits.{is_only}
 use Rattle.session_model.specs.Readings as of
-use Rattle.session_model.specs.Reading.{Clients, reading}
+use Rattle.session_model.specs.Reading.{Clients, reading, wanted_in}
 use Rattle.session_model.specs.Books.{next_book, issue, discarded, standing}
 use Rattle.session_model.specs.Rules.{last_command, ended, completed, agreement_with, wanting_two, over_rule, agreed_rule, running_rule, save_yourself, members_for, begin, begin_first, is_free, idle_rule, round_rule, token_rule, rule}
 use Rattle.session_model.proofs.Sound.{AllFit, AreRegistered, Sound, sound-step, is_wanted_alone, or-true}
@@ -62,6 +62,14 @@ any-in test d (c ∷ cs) e t = any-in-at test d c cs (eqb c d) refl (λ i. any-i
 pub none-in : (test : ℕ → Bool) (d : ℕ) (cs : List ℕ) → list_any test cs ≡ false → is_in d cs ≡ true → test d ≡ false
 none-in test d cs n i = denied (test d) (λ t. differ (any-in test d cs i t) n)
 
+pub none-any : (test : ℕ → Bool) (cs : List ℕ) → ((c : ℕ) → test c ≡ false) → list_any test cs ≡ false
+none-any test [] k = refl
+none-any test (c ∷ cs) k = ap (λ (b : Bool). b || list_any test cs) (k c) ∙ none-any test cs k
+
+pub wanted-in-course : (o : Option of.Begun) (members : List Member) → wanted_in (of.course o members) ≡ of.wanted_of o
+wanted-in-course None members = refl
+wanted-in-course (Some r) members = refl
+
 pub interacting-registered : (p : Option Phase) → is_interacting p ≡ true → is_registered p ≡ true
 interacting-registered None e = e
 interacting-registered (Some Unregistered) e = e
@@ -74,7 +82,7 @@ member-registered (Some p) e = refl
 
 -- The token
 
-nobody-holds : (h : History) → AreRegistered h → of.is_held h ≡ false → (d : ℕ) → is_interacting (of.phase_of d h) ≡ false
+pub nobody-holds : (h : History) → AreRegistered h → of.is_held h ≡ false → (d : ℕ) → is_interacting (of.phase_of d h) ≡ false
 nobody-holds h r n d = denied (is_interacting (of.phase_of d h)) (λ e. differ (any-in (λ c. is_interacting (of.phase_of c h)) d (of.registered h) (r d ∙ interacting-registered (of.phase_of d h) e) e) n)
 
 good-token : (c : ℕ) (h : History) → of.is_held h ≡ false → Good h → Good (Gave c Interact ▷ h)
@@ -147,7 +155,7 @@ good-complete : (conns : List ℕ) (book : Book) (h : History) → ((c : ℕ) �
 good-complete conns book h f n s = good-by (gave_each SaveComplete conns) (closing book h) (fit-complete conns (closing book h)) (sound-closing book h s)
     (level-emptied SaveComplete once-completed conns (closing book h) refl (λ c. member-by (is_in c conns) (of.phase_of c h) (completed_phase (of.phase_of c h)) (f c) (n c)))
 
-dying-no-member : (p : Option Phase) → is_member (dying_phase p) ≡ false
+pub dying-no-member : (p : Option Phase) → is_member (dying_phase p) ≡ false
 dying-no-member None = refl
 dying-no-member (Some Unregistered) = refl
 dying-no-member (Some p) = refl
@@ -217,11 +225,11 @@ one-alone : (c d : ℕ) → is_in d (c ∷ []) ≡ true → c ≡ d
 one-alone c d e = grind (arith, nat_tests)
 
 -- the members of the round that begins are registered
-members-registered : (o : Option ℕ) (h : History) → Sound h → ((c : ℕ) → o ≡ Some c → is_registered (of.phase_of c h) ≡ true) → (c : ℕ) → is_in c (members_for o (of.registered h)) ≡ true → is_registered (of.phase_of c h) ≡ true
+pub members-registered : (o : Option ℕ) (h : History) → Sound h → ((c : ℕ) → o ≡ Some c → is_registered (of.phase_of c h) ≡ true) → (c : ℕ) → is_in c (members_for o (of.registered h)) ≡ true → is_registered (of.phase_of c h) ≡ true
 members-registered None h s f c i = sym (s.registered_are c) ∙ i
 members-registered (Some d) h s f c i = let k : d ≡ c = one-alone d c i in subst (λ (x : ℕ). is_registered (of.phase_of x h) ≡ true) k (f d refl)
 
-wanted-alone : (wait : Wait) (ws : List Wait) (c : ℕ) → wait.wanted.only ≡ Some c → is_wanted_alone c (wait ∷ ws) ≡ true
+pub wanted-alone : (wait : Wait) (ws : List Wait) (c : ℕ) → wait.wanted.only ≡ Some c → is_wanted_alone c (wait ∷ ws) ≡ true
 wanted-alone wait ws c e =
     let k : is_only c wait.wanted.only ≡ true = ap (λ (o : Option ℕ). is_only c o) e ∙ grind (arith, nat_tests) in
     ap (λ (x : Bool). x || is_wanted_alone c ws) k

@@ -59,7 +59,7 @@ short-error error k long = omega (arith, k, long, length-error_body Lsb error)
 padded : (n : ℕ) → n ≤ 65520 → n + pad_len n 8 ≤ 65520
 padded n k = omega arith
 
-length-value : (at : ℕ) (bytes : List ℕ) → length (value_at at bytes) ≡ 8 + (length bytes + pad_len (length bytes) 8)
+pub length-value : (at : ℕ) (bytes : List ℕ) → length (value_at at bytes) ≡ 8 + (length bytes + pad_len (length bytes) 8)
 length-value at bytes =
     let a : length (value_at at bytes) ≡ length (little_bytes 4 at ++ little_bytes 4 (length bytes) ++ bytes) + length (replicate (pad_len (length bytes) 8) 0) = length-append (little_bytes 4 at ++ little_bytes 4 (length bytes) ++ bytes) (replicate (pad_len (length bytes) 8) 0) in
     let b : length (little_bytes 4 at ++ little_bytes 4 (length bytes) ++ bytes) ≡ length (little_bytes 4 at ++ little_bytes 4 (length bytes)) + length bytes = length-append (little_bytes 4 at ++ little_bytes 4 (length bytes)) bytes in

@@ -170,7 +170,7 @@ one-step m h f o = o
 abbrev pub DieAtEnd : History → Type 0
 DieAtEnd h = (c : ℕ) → is_dying (of.phase_of c h) ≡ true → of.is_ending h ≡ true
 
-ends-later : (m : Move) (h : History) → of.is_ending h ≡ true → of.is_ending (m ▷ h) ≡ true
+pub ends-later : (m : Move) (h : History) → of.is_ending h ≡ true → of.is_ending (m ▷ h) ≡ true
 ends-later Agreed h e = ap (λ (b : Bool). b || is_shutdown (of.wanted h)) e
 ends-later m h e = e
 
@@ -307,7 +307,7 @@ ordered-alone d Checkpoint ending ws k e = more-alone (is_busy ending ws) d ws c
 ordered-alone d Shutdown ending ws k e = more-alone (is_busy ending ws) d ws shutdown_wait refl k e
 ordered-alone d order ending ws k e = k e
 
-or-after : (x y z : Bool) → (y ≡ true → z ≡ true) → (x || y) ≡ true → (x || z) ≡ true
+pub or-after : (x y z : Bool) → (y ≡ true → z ≡ true) → (x || y) ≡ true → (x || z) ≡ true
 or-after true y z k e = refl
 or-after false y z k e = k e
 

@@ -228,7 +228,7 @@ part-going true epoch r h w =
     part-mild epoch (gave_each SaveYourselfPhase2 (wanting_two (rows_now h))) h (every-gave IsMild SaveYourselfPhase2 (wanting_two (rows_now h)) (λ c. refl)) (every-gave (Proper epoch) SaveYourselfPhase2 (wanting_two (rows_now h)) (λ c. refl)) (part-of epoch h w)
 part-going false epoch r h w = part-agreed (agreed (round_now r h)) epoch r h w
 
-once-for : (o : Option ℕ) (cs : List ℕ) → Once cs → Once (members_for o cs)
+pub once-for : (o : Option ℕ) (cs : List ℕ) → Once cs → Once (members_for o cs)
 once-for None cs o = o
 once-for (Some c) cs o = (refl, tt)
 

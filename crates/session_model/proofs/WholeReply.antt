@@ -197,7 +197,7 @@ part-order : (epoch : ℕ) (order : Order) (h : History) → Part epoch h → Pa
 part-order epoch order h w = record { carried = carried-step epoch (Outside (Operator order)) h tt tt w.carried.once w.carried; few_live = w.few_live; few_pending = w.few_pending }
 
 -- the history in which a client is about to be forgotten
-abbrev asked_to_forget : List ℕ → History → History
+abbrev pub asked_to_forget : List ℕ → History → History
 asked_to_forget id h = Printed (codes "ok") ▷ Outside (Operator (Forget id)) ▷ h
 
 whole-asked : (epoch : ℕ) (id : List ℕ) (h : History) → Whole epoch h → Whole epoch (asked_to_forget id h)

@@ -35,13 +35,15 @@ use Rattle.session_model.specs.Replies.{or_bad_state, respawned, depart, has_no_
 use Rattle.session_model.proofs.Sound.{Sound, sound-step}
 use Rattle.session_model.proofs.Level.{Good}
 use Rattle.session_model.proofs.Names.{asks-heard}
-use Rattle.session_model.proofs.Ruled.{and-left, and-right, differ, nobody-level}
+use Rattle.session_model.proofs.Ruled.{and-left, and-right, differ, nobody-level, wanted-in-course}
 use Rattle.session_model.proofs.Replied.{unregistered-is, cond-same}
+use Rattle.session_model.proofs.Asked.{is_at_work}
+use Rattle.session_model.proofs.WholeReply.{asked_to_forget}
 use Rattle.session_notes.specs.Notes.{Note, Heard}
 use Rattle.session_notes.specs.Watching.{has_token}
 use Rattle.session_notes.specs.Keeping.{book_in, sets_discard, is_discarded, is_newcomer}
 use Rattle.session_notes.proofs.Seen.{noted_of, AtEach}
-use Rattle.session_notes.proofs.Steps.{is_at_work, has_replied, is_bound_to_save}
+use Rattle.session_notes.proofs.Steps.{has_replied, is_bound_to_save}
 use Rattle.session_notes.proofs.Open.{HasPlace}
 use Rattle.session_notes.proofs.Kept.{opened_of, IsGiven, IsClearSaved, Clear}
 use Rattle.session_notes.proofs.Next.{forgetting-is}
@@ -131,7 +133,7 @@ discards-heard : (book : Book) (c : ℕ) (m : XsmpMessage) (n : List Note) → D
 discards-heard book c m n d u command e = d u command (discarded-before command c m n e)
 
 -- nobody gets the token by what is said
-token-before : (c : ℕ) (m : XsmpMessage) (d : ℕ) (n : List Note) → has_token d (Heard c m ∷ n) ≡ true → has_token d n ≡ true
+pub token-before : (c : ℕ) (m : XsmpMessage) (d : ℕ) (n : List Note) → has_token d (Heard c m ∷ n) ≡ true → has_token d n ≡ true
 token-before c (InteractDone cancel) d n e = and-after (eqb c d) (has_token d n) e
 token-before c m d n e = e
 
@@ -223,10 +225,6 @@ fine-register c previous sequence frame (b ∷ id) h s u f =
 
 -- The token
 
-wanted-is : (o : Option of.Begun) (members : List Member) → wanted_in (of.course o members) ≡ of.wanted_of o
-wanted-is None members = refl
-wanted-is (Some r) members = refl
-
 asked-not : (a : Bool) (p : Option Phase) → (is_saving p && a) ≡ false → cond a (asked_phase p) p ≡ p
 asked-not false p e = refl
 asked-not true None e = refl
@@ -257,7 +255,7 @@ abbrev style_allows : History → Dialog → Bool
 style_allows h dialog = may_interact (wanted_in (of.round h)) dialog
 
 style-is : (h : History) (dialog : Dialog) → style_allows h dialog ≡ may_interact (of.wanted h) dialog
-style-is h dialog = ap (λ (o : Option Wanted). may_interact o dialog) (wanted-is (of.running h) (of.rows (λ c. of.phase_of c h) (λ c. of.saved_of c h) (of.members h)))
+style-is h dialog = ap (λ (o : Option Wanted). may_interact o dialog) (wanted-in-course (of.running h) (of.rows (λ c. of.phase_of c h) (λ c. of.saved_of c h) (of.members h)))
 
 request-ignored : (c : ℕ) (dialog : Dialog) (h : History) → (is_owing (of.phase_of c h) || is_saving (of.phase_of c h) && style_allows h dialog) ≡ false → Ignored c (InteractRequest dialog) h
 request-ignored c dialog h e =
@@ -355,10 +353,6 @@ fine-said c m sequence frame h f = fine-unless c m sequence frame h (of.phase_of
 
 -- Orders
 
--- the history in which a client is about to be forgotten
-abbrev to_forget : List ℕ → History → History
-to_forget id h = Printed (codes "ok") ▷ Outside (Operator (Forget id)) ▷ h
-
 lone-resigned : (c : ℕ) (command : Option Command) (g : History) → is_member (of.phase_of c g) ≡ false → is_member (of.phase_of c (onto g (resigned command))) ≡ false
 lone-resigned c None g e = e
 lone-resigned c (Some command) g e = e
@@ -371,7 +365,7 @@ fine-forgotten : (id : List ℕ) (entry : Entry) (h : History) → ((c : ℕ) �
 fine-forgotten id entry h a none f =
     let book : Book = book_forgetting (reading h).store id in
     let last : Option Command = command_anyway (codes "ResignCommand") entry in
-    let asked : History = to_forget id h in
+    let asked : History = asked_to_forget id h in
     let written : History = Committed book ▷ asked in
     let g : History = onto written (resigned last) in
     fine-append written (resigned last) (discarded (reading h).clients book)

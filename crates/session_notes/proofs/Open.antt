@@ -12,7 +12,7 @@ use Rattle.session_model.specs.declared.events.SessionEvent.TheVariants.{Ready, 
 use Rattle.session_model.specs.Phases.{is_asked, is_dying, is_owing, is_saving, may_interact, asked_phase, cancelled_phase, held_phase, phase_given, phase_said, ready_phase}
 use Rattle.session_model.specs.Moves.{Outside, Gave, Unset, History, ◌▷◌}
 use Rattle.session_model.specs.Readings as of
-use Rattle.session_model.proofs.Asked.{phases-tell}
+use Rattle.session_model.proofs.Asked.{cancelled-asked, phases-tell, saving-asked}
 use Rattle.session_model.proofs.Sound.{phase-there, DieAtEnd}
 use Rattle.session_notes.specs.Notes.{Note, Heard, Given, Gone}
 use Rattle.session_notes.specs.Watching.{was_asked, requests}
@@ -99,11 +99,6 @@ held-waits (Some Asked) = refl
 held-waits (Some AskedTwo) = refl
 held-waits (Some p) = refl
 
-cancelled-waits : (p : Option Phase) → is_asked (cancelled_phase p) ≡ false
-cancelled-waits None = refl
-cancelled-waits (Some Done) = refl
-cancelled-waits (Some p) = refl
-
 -- the messages by which nobody waits less
 abbrev pub keeps_waiting : XsmpMessage → Bool
 keeps_waiting Interact = false
@@ -133,7 +128,7 @@ pub waits-interact : (d : ℕ) (h : History) (n : List Note) → WaitsTold h n �
 waits-interact d h n t e = ap (λ (cs : List ℕ). without d cs) (t e) ∙ sym (less-waits d (λ c. held_phase (of.phase_of c h)) h (held-waits (of.phase_of d h)))
 
 pub waits-cancelled : (d : ℕ) (h : History) (n : List Note) → WaitsTold h n → WaitsTold (Gave d ShutdownCancelled ▷ h) (Given d ShutdownCancelled ∷ n)
-waits-cancelled d h n t e = ap (λ (cs : List ℕ). without d cs) (t e) ∙ sym (less-waits d (λ c. cancelled_phase (of.phase_of c h)) h (cancelled-waits (of.phase_of d h)))
+waits-cancelled d h n t e = ap (λ (cs : List ℕ). without d cs) (t e) ∙ sym (less-waits d (λ c. cancelled_phase (of.phase_of c h)) h (cancelled-asked (of.phase_of d h)))
 
 pub waits-given : (d : ℕ) (m : XsmpMessage) (h : History) (n : List Note) → keeps_waiting m ≡ true → WaitsTold h n → WaitsTold (Gave d m ▷ h) (Given d m ∷ n)
 waits-given d Interact h n k t e = absurd (grind arith)
@@ -188,11 +183,6 @@ waits-said d m sequence frame h n r t e =
 -- a request has its place, or nothing comes of it
 abbrev pub HasPlace : ℕ → Dialog → History → Type 0
 HasPlace d dialog h = (is_dying (of.phase_of d h) || (is_owing (of.phase_of d h) || is_saving (of.phase_of d h) && may_interact (of.wanted h) dialog)) ≡ true
-
-saving-asked : (p : Option Phase) → is_saving p ≡ true → is_asked (asked_phase p) ≡ true
-saving-asked (Some Saving) e = refl
-saving-asked (Some SavingTwo) e = refl
-saving-asked p e = absurd (grind arith)
 
 asked-owing : (b : Bool) (p : Option Phase) → is_owing p ≡ true → cond b (asked_phase p) p ≡ p
 asked-owing true (Some Owing) e = refl

@@ -33,8 +33,9 @@ use Rattle.session_model.specs.Rules.{last_command, ended, completed, agreement,
 use Rattle.session_model.proofs.Sound.{AreRegistered, or-true, or-either}
 use Rattle.session_model.proofs.Pending.{all-more, command_equiv}
 use Rattle.session_model.proofs.Level.{Good, good-plain, onto-append, phase-each, members-each, once-begun, once-completed, once-dying}
-use Rattle.session_model.proofs.Ruled.{denied, differ, and-left, and-right, any-in, interacting-registered, member-registered, nobody-level, member-by, conns-rows, others, rows_now, round_now, good-rule}
+use Rattle.session_model.proofs.Ruled.{and-left, and-right, any-in, conns-rows, denied, differ, dying-no-member, good-rule, interacting-registered, member-by, member-registered, nobody-holds, nobody-level, none-any, others, round_now, rows_now}
 use Rattle.session_model.proofs.Replied.{good-reply, good-opened, good-run}
+use Rattle.session_model.proofs.Asked.{is_at_work}
 use Rattle.session_notes.specs.Notes.{Did, Entry, Given, Note, Wrote, noted, notes}
 use Rattle.session_notes.specs.Keeping.{book_in, id_in, is_started, snapshot_in}
 use Rattle.session_notes.specs.Kept as kept
@@ -43,7 +44,7 @@ use Rattle.session_notes.specs.Laws.{IsOpenable, IsSeen, IsSaved}
 use Rattle.session_notes.specs.Watching.{is_to_save}
 use Rattle.session_model.proofs.Inner.{kept-opening, kept-taken}
 use Rattle.session_notes.proofs.Seen.{noted_of, AtEach, EachEntry, at-front, at-entry}
-use Rattle.session_notes.proofs.Steps.{is_at_work, has_replied, begun-first, works-member}
+use Rattle.session_notes.proofs.Steps.{has_replied, begun-first, works-member}
 use Rattle.session_notes.proofs.Told.{BeginsToSave, RestTold}
 use Rattle.session_notes.proofs.Discards.{among-by}
 use Rattle.session_notes.proofs.Kept.{IsNeedless, NoneNamed, opened_of}
@@ -61,11 +62,8 @@ use Rattle.session_notes.proofs.Tests.{contains-all, or-first, or-second, own}
 
 -- The token
 
-nobody-talks : (h : History) → AreRegistered h → of.is_held h ≡ false → (d : ℕ) → is_interacting (of.phase_of d h) ≡ false
-nobody-talks h r n d = denied (is_interacting (of.phase_of d h)) (λ e. differ (any-in (λ c. is_interacting (of.phase_of c h)) d (of.registered h) (r d ∙ interacting-registered (of.phase_of d h) e) e) n)
-
 fine-token : (c : ℕ) (others : List ℕ) (h : History) → of.is_held h ≡ false → of.waiting h ≡ c ∷ others → Fine h → Fine (Gave c Interact ▷ h)
-fine-token c others h n e f = fine-step (Gave c Interact) h (nobody-talks h f.sound.registered_are n, (others, e)) f
+fine-token c others h n e f = fine-step (Gave c Interact) h (nobody-holds h f.sound.registered_are n, (others, e)) f
 
 -- A round begins
 
@@ -120,10 +118,6 @@ all-rows test f s (c ∷ cs) = ap (λ (b : Bool). test (step_of (f c) (is_some (
 any-rows : (test : Step → Bool) (f : ℕ → Option Phase) (s : ℕ → Option (List Property)) (cs : List ℕ) → list_any (λ (m : Member). test m.step) (of.rows f s cs) ≡ list_any (λ c. test (step_of (f c) (is_some (s c)))) cs
 any-rows test f s [] = refl
 any-rows test f s (c ∷ cs) = ap (λ (b : Bool). test (step_of (f c) (is_some (s c))) || b) (any-rows test f s cs)
-
-none-any : (test : ℕ → Bool) (cs : List ℕ) → ((c : ℕ) → test c ≡ false) → list_any test cs ≡ false
-none-any test [] k = refl
-none-any test (c ∷ cs) k = ap (λ (b : Bool). b || list_any test cs) (k c) ∙ none-any test cs k
 
 -- The second phase begins
 
@@ -220,7 +214,7 @@ fine-completed : (b : Bool) (clients : Clients) (round : Agreement) (book : Book
 fine-completed true clients round book h e s a f = fine-ended clients book h (e refl) s f
 fine-completed false clients round book h e s a f = fine-complete (conns_of round.members) h a f
 
-ends-session : (r : of.Begun) (h : History) → of.running h ≡ Some r → r.wanted.shutdown ≡ true → (of.is_ending h || is_shutdown (of.wanted h)) ≡ true
+pub ends-session : (r : of.Begun) (h : History) → of.running h ≡ Some r → r.wanted.shutdown ≡ true → (of.is_ending h || is_shutdown (of.wanted h)) ≡ true
 ends-session r h e s = ap (λ (o : Option of.Begun). of.is_ending h || is_shutdown (of.wanted_of o)) e ∙ ap (λ (b : Bool). of.is_ending h || b) s ∙ or-true (of.is_ending h)
 
 -- Nobody is a member any more
@@ -228,11 +222,6 @@ ends-session r h e s = ap (λ (o : Option of.Begun). of.is_ending h || is_shutdo
 done-leaves : (p : Option Phase) (t : Bool) → is_done (step_of p t) ≡ true → is_member (completed_phase p) ≡ false
 done-leaves (Some Done) t e = refl
 done-leaves p t e = absurd (grind arith)
-
-dying-leaves : (p : Option Phase) → is_member (dying_phase p) ≡ false
-dying-leaves None = refl
-dying-leaves (Some Unregistered) = refl
-dying-leaves (Some p) = refl
 
 abbrev pub IsLone : History → Type 0
 IsLone h = (c : ℕ) → is_member (of.phase_of c h) ≡ false
@@ -261,7 +250,7 @@ lone-ended book written h g =
     (lone-append (agreed_now written h) (gave_each Die (of.registered h)) (map Closed gone) (lone-closed gone (onto (agreed_now written h) (gave_each Die (of.registered h))) die))) where
       die : IsLone (onto (agreed_now written h) (gave_each Die (of.registered h)))
       die c = ap (λ (p : Option Phase). is_member p) (phase-each Die once-dying (of.registered h) (agreed_now written h) c)
-          ∙ member-by (is_in c (of.registered h)) (of.phase_of c h) (dying_phase (of.phase_of c h)) (λ i. dying-leaves (of.phase_of c h)) (λ i. denied (is_member (of.phase_of c h)) (λ m. differ (g.sound.registered_are c ∙ member-registered (of.phase_of c h) m) i))
+          ∙ member-by (is_in c (of.registered h)) (of.phase_of c h) (dying_phase (of.phase_of c h)) (λ i. dying-no-member (of.phase_of c h)) (λ i. denied (is_member (of.phase_of c h)) (λ m. differ (g.sound.registered_are c ∙ member-registered (of.phase_of c h) m) i))
 
 lone-complete : (r : of.Begun) (written : Book) (h : History) → all_done (rows_now h) ≡ true → Good h → IsLone (onto (agreed_now written h) (gave_each SaveComplete (conns_of (rows_now h))))
 lone-complete r written h a g c =

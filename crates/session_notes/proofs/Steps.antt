@@ -7,17 +7,7 @@ use Rattle.xsmp_messages.specs.declared.message.XsmpMessage.TheVariants.{Registe
 use Rattle.session_model.specs.declared.phase.Phase.{Phase}
 use Rattle.session_model.specs.declared.phase.Phase.TheVariants.{Unregistered, Idle, Saving, Asked, Interacting, WantsTwo, SavingTwo, AskedTwo, InteractingTwo, Done, Owing, Dying}
 use Rattle.session_model.specs.Phases.{is_asked, is_dying, is_first_saving, is_interacting, is_member, is_owing, is_saving, asked_phase, phase_given, phase_said, ready_phase, begun_phase, cancelled_phase, dying_phase, held_phase}
-
--- its save goes on: it may yet ask for the token or want the second phase
-abbrev pub is_at_work : Option Phase → Bool
-is_at_work (Some Saving) = true
-is_at_work (Some Asked) = true
-is_at_work (Some Interacting) = true
-is_at_work (Some WantsTwo) = true
-is_at_work (Some SavingTwo) = true
-is_at_work (Some AskedTwo) = true
-is_at_work (Some InteractingTwo) = true
-is_at_work phase = false
+use Rattle.session_model.proofs.Asked.{is_at_work}
 
 -- it has answered its SaveYourself, and its round still runs
 abbrev pub has_replied : Option Phase → Bool
@@ -69,11 +59,6 @@ saving-not-asked (Some p) e = absurd (grind arith)
 pub owing-not-saving : (p : Option Phase) → is_owing p ≡ true → is_saving p ≡ false
 owing-not-saving (Some Owing) e = refl
 owing-not-saving p e = absurd (grind arith)
-
-pub asked-talks : (p : Option Phase) → is_asked p ≡ true → is_interacting (held_phase p) ≡ true
-asked-talks (Some Asked) e = refl
-asked-talks (Some AskedTwo) e = refl
-asked-talks p e = absurd (grind arith)
 
 pub begun-first : (p : Option Phase) → is_member p ≡ false → is_member (begun_phase p) ≡ true → is_first_saving (begun_phase p) ≡ true
 begun-first (Some Idle) n e = refl

@@ -10,11 +10,12 @@ use Rattle.session_model.specs.Phases.{is_interacting, is_member, is_shutdown}
 use Rattle.session_model.specs.Moves.{Move, Discard, Outside, Gave, Blamed, Unset, Began, Agreed, Tried, Committed, History}
 use Rattle.session_model.specs.Readings as of
 use Rattle.session_model.proofs.Sound.{Fits}
+use Rattle.session_model.proofs.Asked.{is_at_work}
 use Rattle.session_notes.specs.Laws.{IsOpenable}
 use Rattle.session_notes.specs.Watching.{is_to_save}
 use Rattle.session_notes.specs.Keeping.{is_newcomer}
 use Rattle.session_notes.proofs.Seen.{noted_of}
-use Rattle.session_notes.proofs.Steps.{is_at_work, has_replied}
+use Rattle.session_notes.proofs.Steps.{has_replied}
 use Rattle.session_notes.proofs.Told as told
 use Rattle.session_notes.proofs.Standing.{Completes}
 use Rattle.session_notes.proofs.Kept.{opened_of, HasRoom, HasTable, MaySave, IsGiven, IsNext, IsNeedless}

@@ -11,9 +11,11 @@ use Rattle.session_model.specs.Moves.{Outside, Gave, Unset, History, ◌▷◌}
 use Rattle.session_model.specs.Readings as of
 use Rattle.session_model.proofs.PhaseSteps.{quiet-said, quiet-ready}
 use Rattle.session_model.proofs.Sound.{phase-there}
+use Rattle.session_model.proofs.Asked.{is_at_work}
+use Rattle.session_model.proofs.Rest.{asked-held}
 use Rattle.session_notes.specs.Notes.{Note, Heard, Given, Gone}
 use Rattle.session_notes.specs.Watching.{has_token, was_asked, is_to_save, has_answered}
-use Rattle.session_notes.proofs.Steps.{is_at_work, has_replied, is_bound_to_save, talks-works, asked-talks, first-not-owing, first-not-replied, ends_talk, talk-given, member-cancelled, begins, member-given, cancels, owing-given, releases, bound-given, replied-given, work-given, talk-said, owing-said, replied-said, work-said, work-ready, replied-ready, owing-ready, talk-ready}
+use Rattle.session_notes.proofs.Steps.{has_replied, is_bound_to_save, talks-works, first-not-owing, first-not-replied, ends_talk, talk-given, member-cancelled, begins, member-given, cancels, owing-given, releases, bound-given, replied-given, work-given, talk-said, owing-said, replied-said, work-said, work-ready, replied-ready, owing-ready, talk-ready}
 use Rattle.session_notes.proofs.Tests.{came-one, none-passes, same-there}
 
 -- The token
@@ -31,7 +33,7 @@ lost-one test true t p q k e = absurd (grind arith)
 lost-one test false t p q k e = k e
 
 token-at : (b t : Bool) (p : Option Phase) → (b ≡ true → is_asked p ≡ true) → (t ≡ true → is_interacting p ≡ true) → (b || t) ≡ true → is_interacting (cond b (held_phase p) p) ≡ true
-token-at true t p a k e = asked-talks p (a refl)
+token-at true t p a k e = asked-held p (a refl)
 token-at false t p a k e = k e
 
 pub token-interact : (d : ℕ) (h : History) (n : List Note) → is_asked (of.phase_of d h) ≡ true → TokenTold h n → TokenTold (Gave d Interact ▷ h) (Given d Interact ∷ n)

@@ -18,10 +18,11 @@ use Rattle.session_model.specs.Phases.{asked_phase, begun_phase, held_phase, is_
 use Rattle.session_model.specs.Moves.{Began, Closed, Gave, History, Move, Outside, Unset, ◌▷◌}
 use Rattle.session_model.specs.Readings as of
 use Rattle.session_model.proofs.Sound.{phase-there}
+use Rattle.session_model.proofs.Asked.{is_at_work}
 use Rattle.session_state.specs.Session.{in_round, round_after, round_said, with_second_at}
 use Rattle.session_state.proofs.Known.{head-in, or-later, test-there}
 use Rattle.session_state.proofs.Suits.{Suits, SuitsGiven, is_done}
-use Rattle.session_state.proofs.Unsaved.{is_underway, unsaved}
+use Rattle.session_state.proofs.Unsaved.{unsaved}
 
 -- Rows of members
 
@@ -146,7 +147,7 @@ failed-step (Some Saving) saved e k = ap (λ (x : Option (List Property)). AllDo
 failed-step (Some SavingTwo) saved e k = ap (λ (x : Option (List Property)). AllDone (is_some x)) (sym k)
 failed-step p saved e k = absurd (grind arith)
 
-saving-underway : (p : Option Phase) → is_saving p ≡ true → is_underway p ≡ true
+saving-underway : (p : Option Phase) → is_saving p ≡ true → is_at_work p ≡ true
 saving-underway (Some Saving) e = refl
 saving-underway (Some SavingTwo) e = refl
 saving-underway p e = absurd (grind arith)

@@ -24,6 +24,8 @@ use Rattle.session_model.proofs.Ruled.{denied, differ, good-rule, nobody-level, 
 use Rattle.session_model.proofs.Replied.{good-reply}
 use Rattle.session_model.proofs.Asked.{once-waiting, phases-tell}
 use Rattle.session_clients.specs.Clients.{phase_in}
+use Rattle.session_model.proofs.Whole.{once-for}
+use Rattle.session_state.proofs.Turns.{saving-idle}
 use Rattle.session_state.specs.Session.{Session, moved_all, reading_in}
 use Rattle.session_state.specs.Stands.{IsMade, Stands}
 use Rattle.session_state.proofs.Known.{head-in, own}
@@ -60,11 +62,6 @@ reaches-rule s h r = record {
 
 -- The token
 
-saving-unasked : (p : Option Phase) → is_saving p ≡ true → is_asked p ≡ false
-saving-unasked (Some Saving) e = refl
-saving-unasked (Some SavingTwo) e = refl
-saving-unasked p e = absurd (grind arith)
-
 saving-silent : (p : Option Phase) → is_saving p ≡ true → is_interacting p ≡ false
 saving-silent (Some Saving) e = refl
 saving-silent (Some SavingTwo) e = refl
@@ -73,7 +70,7 @@ saving-silent p e = absurd (grind arith)
 -- who saves neither waits for the token nor has it, so it may ask
 pub saving-not_waiting : (c : ℕ) (s : Session) (h : History) → Stands s h → is_saving (phase_in c s.clients.rows) ≡ true → is_in c s.turns.waiting ≡ false
 saving-not_waiting c s h st e =
-    ap (λ (cs : List ℕ). is_in c cs) st.waiting_is ∙ phases-tell h c ∙ saving-unasked (of.phase_of c h) (sym (ap (λ (p : Option Phase). is_saving p) (st.phases_are c)) ∙ e)
+    ap (λ (cs : List ℕ). is_in c cs) st.waiting_is ∙ phases-tell h c ∙ saving-idle (of.phase_of c h) (sym (ap (λ (p : Option Phase). is_saving p) (st.phases_are c)) ∙ e)
 
 pub saving-not_holding : (c : ℕ) (s : Session) (h : History) → Stands s h → is_saving (phase_in c s.clients.rows) ≡ true → is_holder c s.turns.holder ≡ false
 saving-not_holding c s h st e = st.holder_is c ∙ saving-silent (of.phase_of c h) (sym (ap (λ (p : Option Phase). is_saving p) (st.phases_are c)) ∙ e)
@@ -173,10 +170,6 @@ pub saving-round : (c : ℕ) (s : Session) (h : History) → Reaches s h → is_
 saving-round c s h r e =
     let m : is_member (of.phase_of c h) ≡ true = saving-member (of.phase_of c h) (sym (ap (λ (p : Option Phase). is_saving p) (r.stands.phases_are c)) ∙ e) in
     not-false (is_some s.round) (λ n. differ m (nobody-level h (no-members s h r n) r.good.level c))
-
-once-for : (o : Option ℕ) (cs : List ℕ) → Once cs → Once (members_for o cs)
-once-for None cs o = o
-once-for (Some c) cs o = (refl, tt)
 
 -- nobody is a member twice of the round that begins
 pub begin-distinct : (o : Option ℕ) (s : Session) (h : History) → Reaches s h → are_distinct (members_for o s.clients.registered) ≡ true

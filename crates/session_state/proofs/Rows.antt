@@ -19,17 +19,13 @@ use Rattle.session_model.specs.Readings as of
 use Rattle.session_model.proofs.Replied.{cond-same}
 use Rattle.session_clients.specs.declared.client.Client.{Client}
 use Rattle.session_clients.specs.Clients.{client_after, conns_in, id_in, no_client, part_in, phase_in, quiet_in, rows_after, saved_in, table_in, without_row}
+use Rattle.session_clients.specs.Rows.{part_of}
 use Rattle.session_state.proofs.Suits.{Suits}
 
 -- The row of a connection
 
 abbrev pub row_of : ℕ → List Client → Option Client
 row_of c rows = find (λ k. k.conn == c) rows
-
--- a part of a row, and this where there is none
-abbrev pub part_of : {A : Type 0} → A → (Client → A) → Option Client → A
-part_of none part None = none
-part_of none part (Some k) = part k
 
 found-at : {A : Type 0} (b : Bool) (none x : A) (part : Client → A) (k : Client) (o : Option Client) → x ≡ part_of none part o → cond b (part k) x ≡ part_of none part (cond b (Some k) o)
 found-at true none x part k o e = refl

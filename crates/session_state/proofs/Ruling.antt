@@ -20,7 +20,7 @@ use Rattle.session_model.specs.Books.{discarded, next_book, standing}
 use Rattle.session_model.specs.Rules.{agreed_rule, agreement_with, begin, begin_first, completed, ended, idle_rule, is_free, last_command, members_for, over_rule, round_rule, rule, running_rule, save_yourself, token_rule, wanting_two}
 use Rattle.session_model.proofs.Sound.{AreRegistered, Sound, is_wanted_alone}
 use Rattle.session_model.proofs.Level.{Good}
-use Rattle.session_model.proofs.Ruled.{and-left, and-right, any-in, denied, differ, interacting-registered, nobody-level, none-in, round_now, rows_now}
+use Rattle.session_model.proofs.Ruled.{and-left, and-right, any-in, denied, differ, interacting-registered, members-registered, nobody-holds, nobody-level, none-in, round_now, rows_now, wanted-alone}
 use Rattle.session_model.proofs.Asked.{phases-tell}
 use Rattle.session_state.proofs.Known.{head-in, or-later}
 use Rattle.session_state.proofs.Suits.{AllLight, AllSuit, IsLight, is_done, suit-append, suit-light}
@@ -31,9 +31,6 @@ not-true true e = sym e
 not-true false e = refl
 
 -- The token
-
-nobody-holds : (h : History) → AreRegistered h → of.is_held h ≡ false → (d : ℕ) → is_interacting (of.phase_of d h) ≡ false
-nobody-holds h r n d = denied (is_interacting (of.phase_of d h)) (λ e. differ (any-in (λ c. is_interacting (of.phase_of c h)) d (of.registered h) (r d ∙ interacting-registered (of.phase_of d h) e) e) n)
 
 -- the first that waits waits
 first-asked : (c : ℕ) (cs : List ℕ) (h : History) → of.waiting h ≡ c ∷ cs → is_asked (of.phase_of c h) ≡ true
@@ -85,16 +82,6 @@ idle-is p r m o d = absurd (grind arith)
 
 one-alone : (c d : ℕ) → is_in d (c ∷ []) ≡ true → c ≡ d
 one-alone c d e = grind (arith, nat_tests)
-
--- the members of the round that begins are registered
-members-registered : (o : Option ℕ) (h : History) → Sound h → ((c : ℕ) → o ≡ Some c → is_registered (of.phase_of c h) ≡ true) → (c : ℕ) → is_in c (members_for o (of.registered h)) ≡ true → is_registered (of.phase_of c h) ≡ true
-members-registered None h s f c i = sym (s.registered_are c) ∙ i
-members-registered (Some d) h s f c i = let k : d ≡ c = one-alone d c i in subst (λ (x : ℕ). is_registered (of.phase_of x h) ≡ true) k (f d refl)
-
-wanted-alone : (wait : Wait) (ws : List Wait) (c : ℕ) → wait.wanted.only ≡ Some c → is_wanted_alone c (wait ∷ ws) ≡ true
-wanted-alone wait ws c e =
-    let k : is_only c wait.wanted.only ≡ true = ap (λ (o : Option ℕ). is_only c o) e ∙ grind (arith, nat_tests) in
-    ap (λ (x : Bool). x || is_wanted_alone c ws) k
 
 members-idle : (h : History) → of.members h ≡ [] → is_free (reading h) ≡ true → Good h → (c : ℕ) → is_registered (of.phase_of c h) ≡ true → of.phase_of c h ≡ Some Idle
 members-idle h e f g c r =

@@ -13,7 +13,7 @@ use Rattle.session_model.specs.Reading.{reading, wanted_in}
 use Rattle.session_model.specs.Waits.{is_only}
 use Rattle.session_model.specs.Readings as of
 use Rattle.session_model.proofs.Sound.{AreRegistered}
-use Rattle.session_model.proofs.Ruled.{any-in, interacting-registered}
+use Rattle.session_model.proofs.Ruled.{any-in, interacting-registered, none-any, wanted-in-course}
 use Rattle.session_clients.specs.declared.client.Client.{Client}
 use Rattle.session_clients.specs.Clients.{phase_in, rows_after}
 use Rattle.session_state.specs.Session.{Session, Turns, moved, moved_all, reading_in, round_after, turns_after}
@@ -27,12 +27,8 @@ use Rattle.session_state.proofs.Counts.{counted-step}
 
 -- One move
 
-wanted-course : (o : Option of.Begun) (members : List Member) → wanted_in (of.course o members) ≡ of.wanted_of o
-wanted-course None members = refl
-wanted-course (Some r) members = refl
-
 wanted-is : (s : Session) (h : History) → Stands s h → wanted_in s.round ≡ of.wanted h
-wanted-is s h st = ap (λ (o : Option Agreement). wanted_in o) st.round_is ∙ wanted-course (of.running h) (of.rows (λ c. of.phase_of c h) (λ c. of.saved_of c h) (of.members h))
+wanted-is s h st = ap (λ (o : Option Agreement). wanted_in o) st.round_is ∙ wanted-in-course (of.running h) (of.rows (λ c. of.phase_of c h) (λ c. of.saved_of c h) (of.members h))
 
 told-of : (s : Session) (h : History) → Stands s h → Told s.clients.rows h
 told-of s h st = record { phases_are = st.phases_are; ids_are = st.ids_are; tables_are = st.tables_are; snapshots_are = st.snapshots_are; quiets_are = st.quiets_are; live_is = st.live_is }
@@ -105,10 +101,6 @@ follows-all before [] s h a f = f
 follows-all before (m ∷ moves) s h a f = follows-all before moves (moved m s) (m ▷ h) a.1 (follows-moved before m s h a.0 f)
 
 -- What is read
-
-none-any : (test : ℕ → Bool) (cs : List ℕ) → ((c : ℕ) → test c ≡ false) → list_any test cs ≡ false
-none-any test [] k = refl
-none-any test (c ∷ cs) k = ap (λ (b : Bool). b || list_any test cs) (k c) ∙ none-any test cs k
 
 held-by : (holder : Option ℕ) (h : History) → ((c : ℕ) → is_holder c holder ≡ is_interacting (of.phase_of c h)) → AreRegistered h → is_some holder ≡ of.is_held h
 held-by None h k r = sym (none-any (λ c. is_interacting (of.phase_of c h)) (of.registered h) (λ c. sym (k c)))

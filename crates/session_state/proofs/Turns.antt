@@ -14,6 +14,9 @@ use Rattle.session_model.specs.Phases.{asked_phase, begun_phase, cancelled_phase
 use Rattle.session_model.specs.Moves.{Closed, Gave, History, Move, Outside, Unset, ◌▷◌}
 use Rattle.session_model.specs.Readings as of
 use Rattle.session_model.proofs.Sound.{phase-there}
+use Rattle.session_model.proofs.Rest.{asked-held}
+use Rattle.session_model.proofs.Asked.{cancelled-asked, saving-asked}
+use Rattle.session_model.proofs.Falls.{dying-asked}
 use Rattle.session_state.specs.Session.{Turns, turns_after, turns_said, turns_without}
 use Rattle.session_state.proofs.Known.{flips, own, test-there}
 use Rattle.session_state.proofs.Suits.{Suits, SuitsGiven}
@@ -132,20 +135,10 @@ queued-out d q turns m h step a b same queued = record {
       ∙ test-at (λ p. is_interacting p) (d == c) (of.phase_of c h) (q c) ∙ sym (ap (λ (p : Option Phase). is_interacting p) (step c));
 }
 
-cancelled-asked : (p : Option Phase) → is_asked (cancelled_phase p) ≡ false
-cancelled-asked None = refl
-cancelled-asked (Some Done) = refl
-cancelled-asked (Some p) = refl
-
 cancelled-interacting : (p : Option Phase) → is_interacting (cancelled_phase p) ≡ false
 cancelled-interacting None = refl
 cancelled-interacting (Some Done) = refl
 cancelled-interacting (Some p) = refl
-
-dying-asked : (p : Option Phase) → is_asked (dying_phase p) ≡ false
-dying-asked None = refl
-dying-asked (Some Unregistered) = refl
-dying-asked (Some p) = refl
 
 dying-interacting : (p : Option Phase) → is_interacting (dying_phase p) ≡ false
 dying-interacting None = refl
@@ -159,13 +152,8 @@ held-asked (Some Asked) = refl
 held-asked (Some AskedTwo) = refl
 held-asked p = refl
 
-held-interacting : (p : Option Phase) → is_asked p ≡ true → is_interacting (held_phase p) ≡ true
-held-interacting (Some Asked) e = refl
-held-interacting (Some AskedTwo) e = refl
-held-interacting p e = absurd (grind arith)
-
 token-at : (b : Bool) (p : Option Phase) → (b ≡ true → is_asked p ≡ true) → is_interacting p ≡ false → b ≡ is_interacting (cond b (held_phase p) p)
-token-at true p a n = sym (held-interacting p (a refl))
+token-at true p a n = sym (asked-held p (a refl))
 token-at false p a n = sym n
 
 queued-token : (d : ℕ) (turns : Turns) (h : History) → SuitsGiven d Interact h → Queued turns h → Queued (record { waiting = without d turns.waiting; holder = Some d }) (Gave d Interact ▷ h)
@@ -181,12 +169,7 @@ queued-token d turns h s queued = record {
 
 -- One asks for it
 
-asked-saving : (p : Option Phase) → is_saving p ≡ true → is_asked (asked_phase p) ≡ true
-asked-saving (Some Saving) e = refl
-asked-saving (Some SavingTwo) e = refl
-asked-saving p e = absurd (grind arith)
-
-saving-idle : (p : Option Phase) → is_saving p ≡ true → is_asked p ≡ false
+pub saving-idle : (p : Option Phase) → is_saving p ≡ true → is_asked p ≡ false
 saving-idle (Some Saving) e = refl
 saving-idle (Some SavingTwo) e = refl
 saving-idle p e = absurd (grind arith)
@@ -233,7 +216,7 @@ waiting-asked : (d : ℕ) (waiting : List ℕ) (h : History) → is_saving (of.p
 waiting-asked d waiting h e w =
     ap (λ (cs : List ℕ). cs ++ d ∷ []) (w
     ∙ filter-others (λ c. is_asked (of.phase_of c h)) (λ c. is_asked (asked_phases d h c)) d (of.askers h) (λ c f. ask-at (eqb d c) (of.phase_of c h) (flips d c ∙ f)) (saving-idle (of.phase_of d h) e))
-    ∙ sym (filter-append (λ c. is_asked (asked_phases d h c)) (without d (of.askers h)) d (own-at (eqb d d) (of.phase_of d h) (asked_phase (of.phase_of d h)) (own d) (asked-saving (of.phase_of d h) e)))
+    ∙ sym (filter-append (λ c. is_asked (asked_phases d h c)) (without d (of.askers h)) d (own-at (eqb d d) (of.phase_of d h) (asked_phase (of.phase_of d h)) (own d) (saving-asked (of.phase_of d h) e)))
 
 -- the queue and its holder, where d steps to this phase
 abbrev QueuedAt : ℕ → (ℕ → Option Phase) → Turns → History → Type 0

@@ -12,21 +12,11 @@ use Rattle.session_model.specs.declared.events.SessionEvent.TheVariants.{Joined,
 use Rattle.session_model.specs.Phases.{asked_phase, completed_phase, dying_phase, held_phase, is_saving, may_interact, phase_given, phase_said, ready_phase, registered_phase, saved_phase, second_begun_phase, second_phase, talked_phase}
 use Rattle.session_model.specs.Moves.{Closed, Gave, History, Move, Opened, Outside, Unset, ◌▷◌}
 use Rattle.session_model.specs.Readings as of
-
--- its answer to the SaveYourself of a round that runs is still to come
-abbrev pub is_underway : Option Phase → Bool
-is_underway (Some Saving) = true
-is_underway (Some Asked) = true
-is_underway (Some Interacting) = true
-is_underway (Some WantsTwo) = true
-is_underway (Some SavingTwo) = true
-is_underway (Some AskedTwo) = true
-is_underway (Some InteractingTwo) = true
-is_underway phase = false
+use Rattle.session_model.proofs.Asked.{is_at_work}
 
 -- a step by which nobody begins to save
 abbrev NoneMore : Option Phase → Option Phase → Type 0
-NoneMore p q = is_underway q ≡ true → is_underway p ≡ true
+NoneMore p q = is_at_work q ≡ true → is_at_work p ≡ true
 
 none-asked : (p : Option Phase) → NoneMore p (asked_phase p)
 none-asked (Some Saving) e = refl
@@ -74,7 +64,7 @@ none-dying (Some p) e = absurd (grind arith)
 
 -- there is no snapshot while the save is still to come
 abbrev HasNone : Option Phase → Option (List Property) → Type 0
-HasNone p saved = is_underway p ≡ true → saved ≡ None
+HasNone p saved = is_at_work p ≡ true → saved ≡ None
 
 none-saved : (p : Option Phase) (table : List Property) (saved : Option (List Property)) → HasNone p saved → HasNone (saved_phase p) (cond (is_saving p) (Some table) saved)
 none-saved (Some Saving) table saved k e = absurd (grind arith)
@@ -116,7 +106,7 @@ one-at true p q s k l e = k (l e)
 one-at false p q s k l e = k e
 
 abbrev pub Unsaved : History → Type 0
-Unsaved h = (c : ℕ) → is_underway (of.phase_of c h) ≡ true → of.saved_of c h ≡ None
+Unsaved h = (c : ℕ) → is_at_work (of.phase_of c h) ≡ true → of.saved_of c h ≡ None
 
 unsaved-heard : (event : SessionEvent) (h : History) → Unsaved h → Unsaved (Outside event ▷ h)
 unsaved-heard (Joined d) h k c e = k c e

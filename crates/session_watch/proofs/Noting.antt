@@ -29,6 +29,7 @@ use Rattle.frame_speech.specs.declared.speech.Speech.{Speech}
 use Rattle.frame_speech.specs.declared.speech.Speech.TheVariants.{Silent, Greeted, Speaks, Lost}
 use Rattle.frame_speech.specs.declared.reading.Reading.{Reading}
 use Rattle.frame_speech.specs.declared.reading.Reading.TheVariants.{Nothing, Sets, Unread}
+use Rattle.xsmp_messages.proofs.ViewLaws.{set_row}
 use Rattle.session_watch.specs.Story.{Said, say, IsNoMessage, spoken, messages_in}
 use Rattle.session_watch.specs.Knowing.{latest, is_program, name_in, set_by, program_by, id_by, asked_by, answered_by, logout_by, work_by, known_by, noted, noted_all}
 use Rattle.session_watch.specs.declared.known.Known.{Known}
@@ -89,10 +90,6 @@ if_ok (Ok x) P Q f p = f x p
 if_ok (Err e) P Q f p = p
 
 -- ---- a frame that sets properties
-
-set_row : (e : Endian) (bytes : List ℕ) → slice_index bytes 1 ≡ 12 → decode_at e bytes ≡ (body_at (property_list_at e) bytes >>= λ x. Ok (SetProperties x))
-unfolding decode_at valued_at
-set_row e bytes at = rw at refl
 
 both_true : (a b : Bool) → (a && b) ≡ true → (a ≡ true) × (b ≡ true)
 both_true true b is = (refl, is)

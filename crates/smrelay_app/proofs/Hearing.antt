@@ -10,6 +10,7 @@ use Rattle.control_lines.specs.Script.{Says, SayAll}
 use Rattle.heard_events.specs.Brought.{next_events}
 use Rattle.ice_values.specs.declared.numbers.Endian.{Endian}
 use Rattle.byte_relay.specs.Relaying.{Line, step, is_end, has_end, run_from}
+use Rattle.heard_events.proofs.Bringing.{same_rest}
 use Rattle.smrelay_app.specs.Rehearsals.{with_end}
 
 none_of_two : (b c : Bool) → (b || c) ≡ false → (b ≡ false) × (c ≡ false)
@@ -19,10 +20,6 @@ none_of_two false c e = (refl, e)
 second_of_two : (b c : Bool) → (b || c) ≡ true → b ≡ false → c ≡ true
 second_of_two true c e first = absurd (false≢true (sym first))
 second_of_two false c e first = e
-
-same_rest : {A : Type 0} (b : Bool) (first one other : List A) → (b ≡ false → one ≡ other) → first ++ (if b then [] else one) ≡ first ++ (if b then [] else other)
-same_rest true first one other same = refl
-same_rest false first one other same = ap (λ xs. first ++ xs) (same refl)
 
 -- No line of a script says End.
 unended : (line : List ℕ) (event : Event) → Says line event → is_end event ≡ false

@@ -81,9 +81,6 @@ disk_counts old new failed uses = record { disk = uses.disk; links = omega (arit
 spawner_counts : (old new : Outside) (result : Result Bool WantsMemory) → UsesSpawner old new result → NotFallen old.faults new.faults
 spawner_counts old new result uses = record { disk = omega (arith, uses.disk); links = omega (arith, uses.links); spawner = uses.spawner; console = omega (arith, uses.console) }
 
-pub links_counts : {A : Type 0} (old new : Outside) (result : Result A Failure) → UsesLinks old new result → NotFallen old.faults new.faults
-links_counts old new result uses = record { disk = omega (arith, uses.disk); links = uses.links; spawner = omega (arith, uses.spawner); console = omega (arith, uses.console) }
-
 -- ---- before the program is started
 
 -- what stands in the files depends on what is told alone

@@ -76,7 +76,3 @@ put_went n bytes brought old new puts = λ streams brings countable.
 pub follows : (said : TraceLine) (before after : Watch) (brought : Brought) (old new : List ℕ) → BringsLine said before after brought → PutsLine said brought old new → FollowsLine said before after old new
 follows said before after brought old new brings puts = λ streams shows countable.
     let line = brings streams shows in record { shows = line.shows; lines = puts streams line.brings countable }
-
-pub on_ok_by : {E : Type 0} (result : Result (Unit {0}) E) (P Q : Type 0) → (P → Q) → OnOk result P → OnOk result Q
-on_ok_by (Ok x) P Q makes holds = makes holds
-on_ok_by (Err e) P Q makes holds = tt

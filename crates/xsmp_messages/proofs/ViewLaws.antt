@@ -58,7 +58,7 @@ walks_none e n (SetProperties properties) is set reply = absurd (set is)
 walks_none e n (GetPropertiesReply properties) is set reply = absurd (reply is)
 walks_none e n m is set reply = tt
 
-set_row : (e : Endian) (bytes : List ℕ) → slice_index bytes 1 ≡ 12 → decode_at e bytes ≡ (body_at (property_list_at e) bytes >>= λ x. Ok (SetProperties x))
+pub set_row : (e : Endian) (bytes : List ℕ) → slice_index bytes 1 ≡ 12 → decode_at e bytes ≡ (body_at (property_list_at e) bytes >>= λ x. Ok (SetProperties x))
 unfolding decode_at valued_at
 set_row e bytes at = rw at refl
 

@@ -1,7 +1,8 @@
 use Rattle.std.proofs.Common.{rules, ◌≡◌, ℕ, List, length, refl, sym, ◌∙◌, subst}
+use Rattle.ice_framing.proofs.Fronts.{rest_is}
 use Rattle.byte_relay.specs.Rows.{HoldsAll, TakesFirst}
 use Rattle.byte_relay.specs.declared.passing.Pair.TheVariants.{Open}
-use Rattle.byte_relay.proofs.Passed.{Middle, from_place, further, cut_off, all_sent, unbroken, grown, no_part_left, stands_there, stands_held}
+use Rattle.byte_relay.proofs.Passed.{Middle, further, cut_off, all_sent, unbroken, grown, no_part_left, stands_there, stands_held}
 use Rattle.byte_relay.proofs.passing.pass.Goals as goal
 
 pub returns-in-Ok-None-clause-grows : goal.returns-in-Ok-None-clause-grows
@@ -14,7 +15,7 @@ loop-left-preserved g c = record {
   middle =
       let t : TakesFirst c.args.respeller.now.to c.loop-left.row c.loop-left.left.now c.in-Ok-Some.cut c.cut.new.respeller.bytes c.cut.new.self = rw (c.in-Ok-Some.field-0-is, c.loop-left.invariant.to) at c.in-Ok-Some.ensures.cuts in
       let P : List ℕ → Type 0 = λ left. Middle c.args.respeller.now.to c.args.other c.args.row.now c.args.piece.now (g.W.Told.outside c.args.world.now) (g.W.Told.outside c.hand_on.new.world) c.cut.new.self left in
-      subst P (sym (from_place c.in-Ok-Some.cut.count c.loop-left.left.now))
+      subst P (sym (rest_is c.loop-left.left.now c.in-Ok-Some.cut.count))
       (further c.args.respeller.now.to c.args.other c.args.row.now c.args.piece.now (g.W.Told.outside c.args.world.now) (g.W.Told.outside c.loop-left.world) (g.W.Told.outside c.hand_on.new.world) c.loop-left.row c.loop-left.left.now c.in-Ok-Some.cut c.cut.new.respeller.bytes c.cut.new.self c.loop-left.invariant.middle t Open (sym (rw c.in-Ok-Open.field-0-is at c.in-Ok-Open.ensures.pair)) (rw (c.bytes.ensures, c.in-Ok-Open.field-0-is) at c.in-Ok-Open.ensures.done));
   conn = c.cut.ensures.conn ∙ c.loop-left.invariant.conn;
   to = c.cut.ensures.to ∙ c.loop-left.invariant.to;

@@ -1,5 +1,6 @@
 use Rattle.std.proofs.Common.{rules}
-use Rattle.client_callbacks.proofs.DoingLaws.{said_all, said_failed, said_more, sends_none, short_at}
+use Rattle.client_engine.proofs.Short.{short_at}
+use Rattle.client_callbacks.proofs.DoingLaws.{said_all, said_failed, said_more, sends_none}
 use Rattle.client_callbacks.proofs.saying.say_all.Goals as goal
 
 pub say-requires : goal.say-requires

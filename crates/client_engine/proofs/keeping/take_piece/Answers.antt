@@ -1,7 +1,8 @@
 use Rattle.std.proofs.Common.{rules, ◌≡◌, ℕ, List, length, Option, None, Some, sym, subst}
+use Rattle.ice_framing.proofs.Fronts.{rest_is}
 use Rattle.client_engine.specs.Cutting.{Cuts}
 use Rattle.client_engine.specs.declared.engine.Taken.{Taken}
-use Rattle.client_engine.proofs.Kept.{Amid, amid_begun, amid_done, amid_ended, amid_failed, amid_more, amid_never, PieceIn, for_run, from_place, none_left, own_run, served}
+use Rattle.client_engine.proofs.Kept.{Amid, amid_begun, amid_done, amid_ended, amid_failed, amid_more, amid_never, PieceIn, for_run, none_left, own_run, served}
 use Rattle.client_engine.proofs.keeping.take_piece.Goals as goal
 
 pub loop-left-init : goal.loop-left-init
@@ -9,7 +10,7 @@ loop-left-init g c = amid_begun g.K.Keeps.unasked g.K.Keeps.talk_of g.K.Keeps.st
 
 pub loop-left-preserved : goal.loop-left-preserved
 loop-left-preserved g c =
-    subst (λ (l : List ℕ). Amid g.K.Keeps.unasked g.K.Keeps.talk_of g.K.Keeps.stand_at g.K.Keeps.says g.K.Keeps.cued g.K.Keeps.carries (g.K.Keeps.desk c.args.keeper.now c.args.to.now c.args.notes.now) (g.K.Keeps.desk c.serve.new.self c.serve.new.to c.serve.new.notes) (g.K.Keeps.keeper c.args.notes.now) (g.K.Keeps.core c.args.notes.now).splitter c.args.piece.now l (g.K.Keeps.keeper c.serve.new.notes) (g.K.Keeps.core c.serve.new.notes).splitter) (sym (from_place c.in-Ok-Some.taken.count c.loop-left.left.now))
+    subst (λ (l : List ℕ). Amid g.K.Keeps.unasked g.K.Keeps.talk_of g.K.Keeps.stand_at g.K.Keeps.says g.K.Keeps.cued g.K.Keeps.carries (g.K.Keeps.desk c.args.keeper.now c.args.to.now c.args.notes.now) (g.K.Keeps.desk c.serve.new.self c.serve.new.to c.serve.new.notes) (g.K.Keeps.keeper c.args.notes.now) (g.K.Keeps.core c.args.notes.now).splitter c.args.piece.now l (g.K.Keeps.keeper c.serve.new.notes) (g.K.Keeps.core c.serve.new.notes).splitter) (sym (rest_is c.loop-left.left.now c.in-Ok-Some.taken.count))
     (amid_more g.K.Keeps.unasked g.K.Keeps.talk_of g.K.Keeps.stand_at g.K.Keeps.says g.K.Keeps.cued g.K.Keeps.carries c.requires.composes c.requires.stops (g.K.Keeps.desk c.args.keeper.now c.args.to.now c.args.notes.now) (g.K.Keeps.desk c.loop-left.keeper c.loop-left.to c.loop-left.notes) (g.K.Keeps.desk c.serve.new.self c.serve.new.to c.serve.new.notes) (g.K.Keeps.keeper c.args.notes.now) (g.K.Keeps.keeper c.loop-left.notes) (g.K.Keeps.keeper c.serve.new.notes) (g.K.Keeps.core c.args.notes.now).splitter (g.K.Keeps.core c.loop-left.notes) (g.K.Keeps.core c.cut.new.notes) (g.K.Keeps.core c.serve.new.notes).splitter c.args.piece.now c.loop-left.left.now c.in-Ok-Some.taken c.loop-left.invariant (g.met.K.Keeps.talk_is c.loop-left.notes)
     (subst (λ (o : Option Taken). Cuts (g.K.Keeps.core c.loop-left.notes) c.loop-left.left.now o (g.K.Keeps.core c.cut.new.notes)) c.in-Ok-Some.field-0-is c.in-Ok-Some.ensures.cuts)
     (served g.K.Keeps.unasked g.K.Keeps.talk_of g.K.Keeps.stand_at g.K.Keeps.says g.K.Keeps.cued g.K.Keeps.carries (g.K.Keeps.desk c.loop-left.keeper c.loop-left.to c.cut.new.notes) (g.K.Keeps.desk c.loop-left.keeper c.loop-left.to c.loop-left.notes) (g.K.Keeps.desk c.serve.new.self c.serve.new.to c.serve.new.notes) (g.K.Keeps.keeper c.loop-left.notes) (g.K.Keeps.keeper c.cut.new.notes) (g.K.Keeps.keeper c.serve.new.notes) (g.K.Keeps.core c.cut.new.notes) c.in-Ok-Some.taken None c.cut.ensures.keeper (c.cut.ensures.desk c.loop-left.keeper c.loop-left.to) c.in-Ok.ensures.takes) c.serve.ensures.splitter)

@@ -1,9 +1,10 @@
 use Rattle.std.proofs.Common.{rules, ◌≡◌, ℕ, List, length, refl, sym, ◌∙◌, ap, subst}
 use Rattle.sm_world.specs.declared.events.Event.TheVariants.{Piece}
 use Rattle.sm_world.proofs.Adding.{never_fallen, fallen_never}
+use Rattle.ice_framing.proofs.Fronts.{rest_is}
 use Rattle.session_engine.specs.Acts.{has_finish}
 use Rattle.session_engine.specs.Machine.{step}
-use Rattle.session_engine.proofs.Pieces.{Taking, begins, takes, cut_short, given_up, ends, ended, from_place}
+use Rattle.session_engine.proofs.Pieces.{Taking, begins, takes, cut_short, given_up, ends, ended}
 use Rattle.session_engine.proofs.Showing.{used_up}
 use Rattle.session_engine.proofs.serving.take_piece.Goals as goal
 
@@ -27,7 +28,7 @@ loop-left-preserved g c = record {
   taking = λ m shows.
       let taking = c.loop-left.invariant.taking m shows in
       let P : List ℕ → Type 0 = λ left. Taking (step m (Piece c.args.conn c.args.bytes.now)) c.args.conn left (g.W.Told.outside c.args.world.now).told (g.W.Told.outside c.carry_out.new.world).told c.cut.new.self c.args.store c.in-Ok.next c.and-turn.result in
-      subst P (sym (from_place c.in-Ok-Some.count c.loop-left.left.now)) (
+      subst P (sym (rest_is c.loop-left.left.now c.in-Ok-Some.count)) (
       takes _ c.args.conn _ _ _ _ _ _ c.cut.new.self c.args.store c.loop-left.store c.in-Ok.next c.loop-left.turn c.in-Ok.last c.and-turn.result taking
       (rw c.in-Ok-Some.field-0-is at (c.in-Ok-Some.ensures.takes taking.machine taking.shows))
       (rw c.acts.ensures.is at c.in-Ok.ensures.done) (c.in-Ok.ensures.turn ∙ ap has_finish c.acts.ensures.is) c.and-turn.ensures

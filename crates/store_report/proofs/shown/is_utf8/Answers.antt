@@ -1,6 +1,6 @@
 use Rattle.std.proofs.Common.{◌≡◌, ◌∙◌}
 use Rattle.std.specs.Str.{IsValidUpTo, valid_up_to}
-use Rattle.store_report.proofs.TextLaws.{decided}
+use Rattle.xsmp_properties.proofs.TextLaws.{decided}
 use Rattle.store_report.proofs.shown.is_utf8.Goals as goal
 
 pub returns : goal.returns
