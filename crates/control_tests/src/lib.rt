@@ -2,9 +2,9 @@
 #![tactic(auto)]
 
 #[cfg(test)]
-mod asked;
+mod answer_lines;
 #[cfg(test)]
-mod heard;
+mod asked;
 #[cfg(test)]
 mod looks;
 #[cfg(test)]

@@ -6,8 +6,8 @@ ghost use Rattle.session_clients.specs.Clients.{clients_in};
 ghost use Rattle.session_state.specs.Session.{moved_all, reading_in};
 ghost use Rattle.manager_machine.specs.Agreeing.{completing, ending, planned};
 
-use crate::inner::Core;
 use crate::rounds::copy_conns;
+use crate::session_core::Core;
 use checkpoint_records::EntryList;
 use owned_lists::{CommandList, NoMemory};
 use round_agreement::Round;

@@ -6,7 +6,7 @@ ghost use Rattle.session_state.specs.Session.{moved, moved_all, reading_in};
 ghost use Rattle.manager_machine.specs.Kept.{cause_for};
 ghost use Rattle.manager_machine.specs.Agreeing.{discarding};
 
-use crate::inner::Core;
+use crate::session_core::Core;
 use checkpoint_records::{Book, EntryList, copy_book};
 use discard_ledger::Ledger;
 use owned_lists::{Command, CommandList, Duplicate, NoMemory, Octets};

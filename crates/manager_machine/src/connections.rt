@@ -7,10 +7,10 @@ ghost use Rattle.manager_machine.specs.Answers.{departures_moves, again_moves, m
 ghost use Rattle.restart_plan.specs.Restarts.{respawn as respawn_of};
 ghost use Rattle.session_model.specs.Replies as of;
 
-use crate::inner::{Core, Counts};
 use crate::messages::add_stray;
 use crate::registrations::one_more;
 use crate::replies::{Again, Departure, Reply};
+use crate::session_core::{Core, Counts};
 use checkpoint_records::Entry;
 use ice_values::Array8;
 use owned_lists::{Command, Duplicate, ListOf, NoMemory};

@@ -9,7 +9,7 @@ ghost use Rattle.manager_machine.specs.Given.{ends_save, is_for_members, is_of_r
 ghost use Rattle.manager_machine.specs.Order.{InOrder, MatchNext, wants_second as wants_it};
 ghost use Rattle.xsmp_messages.specs.declared.message.XsmpMessage.TheVariants.{Die as DieSaid, SaveYourselfPhase2 as SecondSaid, ShutdownCancelled as CancelledSaid};
 
-use crate::inner::Core;
+use crate::session_core::Core;
 use ice_values::ErrorBody;
 use owned_lists::NoMemory;
 use session_clients::Clients;

@@ -9,7 +9,7 @@ ghost use Rattle.session_state.specs.Session.{reading_in};
 ghost use Rattle.manager_machine.specs.Keeper.{AreFit, StandsFor};
 
 use crate::faults::TakeFault;
-use crate::inner::{Acts, Core};
+use crate::session_core::{Acts, Core};
 use checkpoint_records::Book;
 use owned_lists::NoMemory;
 use session_clients::is_bound;

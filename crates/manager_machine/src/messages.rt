@@ -15,9 +15,9 @@ ghost use Rattle.manager_machine.specs.Order.{InOrder};
 ghost use Rattle.interact_queue.specs.Queue.{is_holder, is_in};
 ghost use Rattle.session_model.specs.declared.phase.Phase.{Phase as APhase};
 
-use crate::inner::Core;
 use crate::registrations::newcomer_said;
 use crate::replies::Reply;
+use crate::session_core::Core;
 use checkpoint_records::{Book, same_command};
 use discard_ledger::Ledger;
 use ice_values::PropertyList;

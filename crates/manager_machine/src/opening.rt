@@ -4,7 +4,7 @@ ghost use Rattle.session_model.specs.Books.{opening_moves, raised as as_raised};
 ghost use Rattle.session_model.specs.Moves.{waits_for};
 ghost use Rattle.session_state.specs.Session.{moved_all, session_of};
 
-use crate::inner::Core;
+use crate::session_core::Core;
 use checkpoint_records::{Book, Entry, copy_book};
 use discard_ledger::Ledger;
 use ice_values::Array8;

@@ -11,9 +11,9 @@ ghost use Rattle.session_state.specs.Session.{Session, reading_in, moved, moved_
 ghost use Rattle.manager_machine.specs.Answers.{moves_of, call_off_moves, forget_moves, shut_moves};
 ghost use Rattle.session_model.specs.Replies.{resigned};
 
-use crate::inner::Core;
 use crate::replies::{Again, Forgetting, Reply};
 use crate::rounds::members_of;
+use crate::session_core::Core;
 use checkpoint_records::Entry;
 use owned_lists::{Command, NoMemory, Octets};
 use round_agreement::Round;

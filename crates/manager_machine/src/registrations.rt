@@ -10,8 +10,8 @@ ghost use Rattle.session_model.specs.Waits.{first_save, is_only};
 ghost use Rattle.session_model.specs.Readings as readings;
 ghost use Rattle.session_clients.specs.Clients.{held_after};
 
-use crate::inner::Core;
 use crate::replies::Reply;
+use crate::session_core::Core;
 use ice_values::Array8;
 use owned_lists::{Duplicate, NoMemory};
 use session_answers::{bad_id, client_id, no_room};

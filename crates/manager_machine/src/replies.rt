@@ -2,7 +2,7 @@ ghost use Rattle.std.specs.Prelude.{◌≡◌, OnOk};
 ghost use Rattle.session_state.specs.Session.{moved_all};
 ghost use Rattle.manager_machine.specs.Answers.{moves_of};
 
-use crate::inner::Core;
+use crate::session_core::Core;
 use checkpoint_records::EntryList;
 use ice_values::{Array8, ErrorBody, PropertyList};
 use owned_lists::{Command, CommandList, ListOf, NoMemory, Octets};

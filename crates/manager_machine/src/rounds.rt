@@ -14,8 +14,8 @@ ghost use Rattle.session_model.specs.Reading.{wanted_in as wanted};
 ghost use Rattle.session_model.specs.Replies as of;
 ghost use Rattle.manager_machine.specs.Answers.{moves_of, call_off_moves};
 
-use crate::inner::Core;
 use crate::replies::Reply;
+use crate::session_core::Core;
 use owned_lists::{Duplicate, NoMemory};
 use round_agreement::{Round, Wanted};
 use session_clients::is_shutdown;

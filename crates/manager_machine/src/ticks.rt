@@ -5,8 +5,8 @@ ghost use Rattle.session_model.specs.Replies as of;
 ghost use Rattle.session_state.specs.Session.{Session, reading_in, moved, moved_all};
 ghost use Rattle.manager_machine.specs.Answers.{moves_of};
 
-use crate::inner::Core;
 use crate::replies::Reply;
+use crate::session_core::Core;
 use owned_lists::NoMemory;
 
 impl Core {

@@ -4,7 +4,7 @@
 #[cfg(test)]
 mod files;
 #[cfg(test)]
-mod kept;
+mod memory_lines;
 #[cfg(test)]
 mod openings;
 #[cfg(test)]

@@ -3,7 +3,7 @@ ghost use Rattle.std.specs.List.{AllByRecursion};
 ghost use Rattle.sm_world.specs.Events.{HasPieceSize};
 ghost use Rattle.sm_world.specs.Worlds.{mem_outside};
 
-use crate::kept::Room;
+use crate::memory_lines::Room;
 use owned_lists::{Command, NoMemory, NumberList, Octets, OctetsList, PairList};
 use session_recorder::Recorder;
 use sm_world::{Console, Disk, Event, EventList, Failure, Links, MemWorld, Spawner};

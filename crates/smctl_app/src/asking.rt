@@ -2,9 +2,9 @@ ghost use Rattle.std.specs.Prelude.{◌≡◌, map, string_bytes, IfErr};
 ghost use Rattle.smctl_app.specs.Requests.{IsRefused, IsUnnamed};
 
 use crate::clients::{give, show_plain, show_table, wait_for_end};
+use crate::connection::ControlConnection;
 use crate::fault::Fault;
 use crate::request::{Task, read_request};
-use crate::talk::Talk;
 use program_frame::StandardConsole;
 use std::env;
 use std::io::IsTerminal;
@@ -23,14 +23,14 @@ pub fn run(rt: &HostRuntime, words: &[String], console: &mut StandardConsole) ->
 {
     let alloc = rt.alloc();
     let request = read_request(alloc, words)?;
-    let mut talk = match request.control {
-        Some(path) => Talk::open(rt, alloc, path)?,
-        None => Talk::open(rt, alloc, named_control(rt)?.as_str())?,
+    let mut connection = match request.control {
+        Some(path) => ControlConnection::open(rt, alloc, path)?,
+        None => ControlConnection::open(rt, alloc, named_control(rt)?.as_str())?,
     };
     match &request.task {
-        Task::Order(line) => give(&mut talk, console, line.as_slice()),
-        Task::Table => show_table(alloc, &mut talk, console),
-        Task::Plain => show_plain(alloc, &mut talk, console),
-        Task::Logout => wait_for_end(alloc, &mut talk, console, rt.stdout().is_terminal()),
+        Task::Order(line) => give(&mut connection, console, line.as_slice()),
+        Task::Table => show_table(alloc, &mut connection, console),
+        Task::Plain => show_plain(alloc, &mut connection, console),
+        Task::Logout => wait_for_end(alloc, &mut connection, console, rt.stdout().is_terminal()),
     }
 }

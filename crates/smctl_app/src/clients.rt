@@ -2,19 +2,19 @@ ghost use Rattle.std.specs.Prelude.{IfErr};
 ghost use Rattle.smctl_app.specs.Requests.{IsOutside, IsOfLogout};
 
 use crate::client_line::{ClientLine, read_client_line, read_count};
+use crate::connection::ControlConnection;
 use crate::fault::Fault;
 use crate::table::table_of;
-use crate::talk::Talk;
 use crate::waiting::{Course, Logout, read_course, waited_for};
 use owned_lists::ListOf;
 use sm_world::Console;
 use std::alloc::Global;
 
 /// A line that the manager answers, without its newline.
-fn next_text(alloc: Global, talk: &mut Talk) -> Result<String, Fault>
+fn next_text(alloc: Global, connection: &mut ControlConnection) -> Result<String, Fault>
     ensures { IfErr result IsOutside }
 {
-    let line = talk.hear()?;
+    let line = connection.hear()?;
     match str::from_utf8(line.as_slice()) {
         Ok(text) => Ok(text.trim_end().to_string(alloc)?),
         Err(_) => Err(Fault::Unreadable),
@@ -22,17 +22,17 @@ fn next_text(alloc: Global, talk: &mut Talk) -> Result<String, Fault>
 }
 
 /// Asks who is there; gives the line of each client.
-fn ask(alloc: Global, talk: &mut Talk) -> Result<ListOf<String>, Fault>
+fn ask(alloc: Global, connection: &mut ControlConnection) -> Result<ListOf<String>, Fault>
     ensures { IfErr result IsOutside }
 {
-    talk.say(b"clients\n")?;
-    let head = next_text(alloc, talk)?;
+    connection.say(b"clients\n")?;
+    let head = next_text(alloc, connection)?;
     let Some(count) = read_count(head.as_str()) else {
         return Err(Fault::Unreadable);
     };
     let mut lines = ListOf::new(alloc);
     for _ in 0..count {
-        lines.push(next_text(alloc, talk)?)?;
+        lines.push(next_text(alloc, connection)?)?;
     }
     Ok(lines)
 }
@@ -52,20 +52,28 @@ fn read_lines(alloc: Global, lines: &[String]) -> Result<ListOf<ClientLine<'_>>,
 }
 
 /// Gives an order and prints its answer.
-pub fn give<W: Console>(talk: &mut Talk, console: &mut W, line: &[u8]) -> Result<(), Fault>
+pub fn give<W: Console>(
+    connection: &mut ControlConnection,
+    console: &mut W,
+    line: &[u8],
+) -> Result<(), Fault>
     ensures { IfErr result IsOutside }
 {
-    talk.say(line)?;
-    let answer = talk.hear()?;
+    connection.say(line)?;
+    let answer = connection.hear()?;
     console.print(answer.as_slice())?;
     Ok(())
 }
 
 /// Prints the lines of those who are there.
-pub fn show_plain<W: Console>(alloc: Global, talk: &mut Talk, console: &mut W) -> Result<(), Fault>
+pub fn show_plain<W: Console>(
+    alloc: Global,
+    connection: &mut ControlConnection,
+    console: &mut W,
+) -> Result<(), Fault>
     ensures { IfErr result IsOutside }
 {
-    let lines = ask(alloc, talk)?;
+    let lines = ask(alloc, connection)?;
     for line in lines.as_slice() {
         console.print(line.as_bytes())?;
         console.print(b"\n")?;
@@ -74,10 +82,14 @@ pub fn show_plain<W: Console>(alloc: Global, talk: &mut Talk, console: &mut W) -
 }
 
 /// Prints a table of those who are there.
-pub fn show_table<W: Console>(alloc: Global, talk: &mut Talk, console: &mut W) -> Result<(), Fault>
+pub fn show_table<W: Console>(
+    alloc: Global,
+    connection: &mut ControlConnection,
+    console: &mut W,
+) -> Result<(), Fault>
     ensures { IfErr result IsOutside }
 {
-    let lines = ask(alloc, talk)?;
+    let lines = ask(alloc, connection)?;
     let clients = read_lines(alloc, lines.as_slice())?;
     let table = table_of(alloc, clients.as_slice())?;
     console.print(table.as_bytes())?;
@@ -109,14 +121,18 @@ fn show_waiting<W: Console>(
 
 /// What the session is at, while these are there. The manager prints a line for each `status`, so it is
 /// asked for that only where they don't tell.
-fn find_course(alloc: Global, talk: &mut Talk, clients: &[ClientLine<'_>]) -> Result<Course, Fault>
+fn find_course(
+    alloc: Global,
+    connection: &mut ControlConnection,
+    clients: &[ClientLine<'_>],
+) -> Result<Course, Fault>
     ensures { IfErr result IsOutside }
 {
     if clients.iter().any(|client| client.leaves()) {
         return Ok(Course::Leaving);
     }
-    talk.say(b"status\n")?;
-    let line = next_text(alloc, talk)?;
+    connection.say(b"status\n")?;
+    let line = next_text(alloc, connection)?;
     match read_course(line.as_str()) {
         Some(course) => Ok(course),
         None => Err(Fault::Unreadable),
@@ -126,7 +142,7 @@ fn find_course(alloc: Global, talk: &mut Talk, clients: &[ClientLine<'_>]) -> Re
 /// Looks at who is there again and again, until the manager has gone or the logout is cancelled.
 fn follow<W: Console>(
     alloc: Global,
-    talk: &mut Talk,
+    connection: &mut ControlConnection,
     console: &mut W,
     is_terminal: bool,
 ) -> Result<(), Fault>
@@ -135,9 +151,9 @@ fn follow<W: Console>(
     let mut logout = Logout::new();
     let mut shown = String::new(alloc);
     for _ in 0..u64::MAX {
-        let lines = ask(alloc, talk)?;
+        let lines = ask(alloc, connection)?;
         let clients = read_lines(alloc, lines.as_slice())?;
-        let course = find_course(alloc, talk, clients.as_slice())?;
+        let course = find_course(alloc, connection, clients.as_slice())?;
         logout.look(clients.as_slice(), course);
         if logout.is_cancelled() {
             return Err(Fault::Cancelled);
@@ -145,7 +161,7 @@ fn follow<W: Console>(
         let text = waited_for(alloc, clients.as_slice())?;
         show_waiting(console, is_terminal, shown.as_str(), text.as_str())?;
         shown = text;
-        if !talk.rest()? {
+        if !connection.rest()? {
             break;
         }
     }
@@ -155,19 +171,19 @@ fn follow<W: Console>(
 /// Orders a logout and waits for its end, which is when the manager goes.
 pub fn wait_for_end<W: Console>(
     alloc: Global,
-    talk: &mut Talk,
+    connection: &mut ControlConnection,
     console: &mut W,
     is_terminal: bool,
 ) -> Result<(), Fault>
     ensures { IfErr result IsOfLogout }
 {
-    talk.say(b"shutdown\n")?;
-    let answer = talk.hear()?;
+    connection.say(b"shutdown\n")?;
+    let answer = connection.hear()?;
     console.print(answer.as_slice())?;
     if answer.as_slice() != b"ok\n".as_slice() {
         return Err(Fault::Unordered);
     }
-    let end = match follow(alloc, talk, console, is_terminal) {
+    let end = match follow(alloc, connection, console, is_terminal) {
         Err(Fault::Gone) => Ok(()),
         end => end,
     };

@@ -4,16 +4,16 @@
 mod asking;
 mod client_line;
 mod clients;
+mod connection;
 mod fault;
 mod request;
 mod table;
-mod talk;
 mod waiting;
 
 pub use asking::run;
 pub use client_line::{ClientLine, read_client_line};
+pub use connection::ControlConnection;
 pub use fault::Fault;
 pub use request::{Request, Task, read_request};
 pub use table::table_of;
-pub use talk::Talk;
 pub use waiting::{Course, Logout, read_course, waited_for};

@@ -1,6 +1,0 @@
-use Rattle.std.proofs.Common.{◌∙◌, sym}
-use Rattle.manager_machine.proofs.Acting.{printed}
-use Rattle.manager_machine.proofs.inner.Core.print.Goals as goal
-
-pub returns : goal.returns
-returns c = c.in_ok-act.ensures ∙ sym (printed c.args.text c.args.self.now)

@@ -1,8 +1,0 @@
-use Rattle.manager_machine.proofs.Keeping.{run-order, run-settles}
-use Rattle.manager_machine.proofs.inner.Core.take.Goals as goal
-
-pub answer-requires : goal.answer-requires
-answer-requires c = run-order c.args.self.now c.requires.of_run
-
-pub settle-requires : goal.settle-requires
-settle-requires c = run-settles c.args.event c.args.self.now c.answer.new.self c.requires.of_run c.requires.takes c.in_ok-answer.ensures
