@@ -3,3 +3,4 @@ pub mod LineLemmas
 pub mod PartLemmas
 pub mod TellingLemmas
 pub mod Once
+pub mod FollowLemmas

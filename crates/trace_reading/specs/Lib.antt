@@ -4,3 +4,4 @@ pub mod Lines
 pub mod Told
 pub mod Reads
 pub mod Tellers
+pub mod Follows

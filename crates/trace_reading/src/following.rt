@@ -1,3 +1,6 @@
+ghost use Rattle.std.specs.Prelude.{◌≡◌, [], false, OnOk};
+ghost use Rattle.trace_reading.specs.Follows.{EndsOpening, Followed, FollowsOn, KeepsOpening, OpensNothing};
+
 use crate::lines::put_opening;
 use crate::telling::Teller;
 use control_lines::OrderRefusal;
@@ -14,7 +17,9 @@ pub struct Follower {
 }
 
 /// Whether a line belongs to what a trace opens with.
-fn opens(line: &[u8]) -> bool {
+fn opens(line: &[u8]) -> bool
+    ensures { result ≡ false → OpensNothing line.now }
+{
     line.strip_prefix(b"cookie ").is_some()
         || line.strip_prefix(b"book ").is_some()
         || line.strip_prefix(b"patience ").is_some()
@@ -22,7 +27,9 @@ fn opens(line: &[u8]) -> bool {
 
 impl Follower {
     /// Before the first line.
-    pub fn new(alloc: Global) -> Follower {
+    pub fn new(alloc: Global) -> Follower
+        ensures { Followed [] [] result }
+    {
         Follower {
             teller: Teller::new(alloc),
             opening: Some(Octets::new(alloc)),
@@ -30,7 +37,9 @@ impl Follower {
     }
 
     /// Appends what is told of the opening, which is at its end.
-    fn end_opening(&mut self, alloc: Global, out: &mut Octets) -> Result<(), NoMemory> {
+    fn end_opening(&mut self, alloc: Global, out: &mut Octets) -> Result<(), NoMemory>
+        ensures { OnOk result (EndsOpening self.old self.new out.old out.new) }
+    {
         if let Some(text) = self.opening.take() {
             let opening = read_opening(alloc, text.as_slice())?;
             put_opening(alloc, out, &opening)?;
@@ -39,7 +48,9 @@ impl Follower {
     }
 
     /// One more line of the opening.
-    fn take_opening(&mut self, alloc: Global, line: &[u8]) -> Result<(), OrderRefusal> {
+    fn take_opening(&mut self, alloc: Global, line: &[u8]) -> Result<(), OrderRefusal>
+        ensures { OnOk result (KeepsOpening line.now self.old self.new) }
+    {
         let Some(text) = &mut self.opening else {
             return Err(OrderRefusal::BadLine);
         };
@@ -54,12 +65,9 @@ impl Follower {
     }
 
     /// Appends what is told of the next line, without its newline.
-    pub fn take(
-        &mut self,
-        alloc: Global,
-        out: &mut Octets,
-        line: &[u8],
-    ) -> Result<(), OrderRefusal> {
+    pub fn take(&mut self, alloc: Global, out: &mut Octets, line: &[u8]) -> Result<(), OrderRefusal>
+        ensures { OnOk result (FollowsOn line.now self.old self.new out.old out.new) }
+    {
         if opens(line) {
             return self.take_opening(alloc, line);
         }
