@@ -11,7 +11,6 @@ use Rattle.ice_values.specs.declared.property.Property.{Property}
 use Rattle.xsmp_properties.specs.Tables.{equal_property}
 use Rattle.checkpoint_records.specs.Books.{same_command}
 use Rattle.checkpoint_records.specs.declared.records.Entry.{Entry}
-use Rattle.ice_values.proofs.PropertyLaws.{property_of}
 use Rattle.checkpoint_changes.specs.Plain.{equal_command, equal_entry, equal_pair}
 
 abbrev pub DecidesEqual : {A : Type 0} → (A → A → Bool) → Type 0
@@ -25,6 +24,9 @@ text_own x = (bytes_decides x x).1 refl
 
 texts_own : (xs : List (List ℕ)) → pointwise bytes_eq xs xs ≡ true
 texts_own xs = (pointwise_decides bytes_decides xs xs).1 refl
+
+property_of : List ℕ → List ℕ → List (List ℕ) → Property
+property_of name kind values = record { name = name; kind = kind; values = values }
 
 property_is : (p q : Property) → equal_property p q ≡ true → p ≡ q
 unfolding property_of

@@ -37,7 +37,7 @@ joined_and lines line = flat_map-append ended_line lines (line ∷ []) ∙ ap (�
 -- ---- an opening, with a line behind it that isn't one of an opening
 
 begin_and : {A : Type 0} (word : List ℕ) (Means : List ℕ → A → Type 0) (lines : List (List ℕ)) (found : Option A) (line : List ℕ) → BeginWith (SaysBehind word Means) lines found → ((field : List ℕ) → line ≢ word ++ field) → BeginWith (SaysBehind word Means) (lines ++ line ∷ []) found
-begin_and word Means [] None line begins none = λ value says. none says.0 says.1.0
+begin_and word Means [] None line begins none = λ value says. none says.0 says.1
 begin_and word Means [] (Some value) line begins none = elim begins [ ]
 begin_and word Means (first ∷ lines) None line begins none = begins
 begin_and word Means (first ∷ lines) (Some value) line begins none = begins
@@ -58,8 +58,8 @@ open_and lines opening line opens nothing =
     let two = ap (drop (count_of opening.book)) one ∙ behind_and (count_of opening.book) first line (count_fits _ first opening.book opens.book) in
     record {
       cookie = begin_and (codes "cookie ") _ lines opening.cookie line opens.cookie (λ field. (nothing field).0);
-      book = subst (λ ls. BeginWith (SaysBehind (codes "book ") _) ls opening.book) (sym one) (begin_and (codes "book ") _ first opening.book line opens.book (λ field. (nothing field).1.0));
-      patience = subst (λ ls. BeginWith (SaysBehind (codes "patience ") _) ls opening.patience) (sym two) (begin_and (codes "patience ") _ (drop (count_of opening.book) first) opening.patience line opens.patience (λ field. (nothing field).1.1));
+      book = subst (λ ls. BeginWith (SaysBehind (codes "book ") _) ls opening.book) (sym one) (begin_and (codes "book ") _ first opening.book line opens.book (λ field. (nothing field).1));
+      patience = subst (λ ls. BeginWith (SaysBehind (codes "patience ") _) ls opening.patience) (sym two) (begin_and (codes "patience ") _ (drop (count_of opening.book) first) opening.patience line opens.patience (λ field. (nothing field).2));
     }
 
 behind_opening_and : (lines : List (List ℕ)) (opening : Opening) (line : List ℕ) → Open lines opening → behind_opening opening (lines ++ line ∷ []) ≡ behind_opening opening lines ++ line ∷ []
@@ -103,19 +103,19 @@ pub keeps_on : (line : List ℕ) (before after : Follower) (old : List ℕ) → 
 keeps_on line before after old keeps = λ without lines text all followed. ([], sym (append-nil old), by lines text without all followed)
   where
     by : (lines : List (List ℕ)) (text : List ℕ) → IsWithout 10 line → AllByRecursion (IsWithout 10) lines → Followed lines text before → Followed (lines ++ line ∷ []) (text ++ []) after
-    by lines text without all (inr told) = absurd (some_not_none before.opening keeps.0 keeps.1.0 told.none)
+    by lines text without all (inr has) = absurd (some_not_none before.opening keeps.0 keeps.1 has.none)
     by lines text without all (inl has) =
-        let kept : keeps.0 ≡ flat_map ended_line lines = same_some before.opening keeps.0 (flat_map ended_line lines) keeps.1.0 has.kept in
+        let kept : keeps.0 ≡ flat_map ended_line lines = same_some before.opening keeps.0 (flat_map ended_line lines) keeps.1 has.kept in
         let joined : keeps.0 ++ ended_line line ≡ flat_map ended_line (lines ++ line ∷ []) = ap (λ front. front ++ ended_line line) kept ∙ sym (joined_and lines line) in
         let are : lines_of (keeps.0 ++ ended_line line) ≡ lines ++ line ∷ [] = ap lines_of joined ∙ lines_joined (lines ++ line ∷ []) (all_and lines line all without) in
-        let found : Opening = keeps.1.1.1.1.0 in
-        let opens : Open (lines ++ line ∷ []) found = subst (λ ls. Open ls found) are keeps.1.1.1.1.1.0 in
-        let over : behind_opening found (lines ++ line ∷ []) ≡ [] = ap (behind_opening found) (sym are) ∙ keeps.1.1.1.1.1.1 in
+        let found : Opening = keeps.4 in
+        let opens : Open (lines ++ line ∷ []) found = subst (λ ls. Open ls found) are keeps.5 in
+        let over : behind_opening found (lines ++ line ∷ []) ≡ [] = ap (behind_opening found) (sym are) ∙ keeps.6 in
         inl (record {
-          kept = keeps.1.1.0 ∙ ap Some joined;
+          kept = keeps.2 ∙ ap Some joined;
           over = λ opening other. ap (λ o. behind_opening o (lines ++ line ∷ [])) (one_opening (lines ++ line ∷ []) opening found other opens) ∙ over;
           nothing = append-nil text ∙ has.nothing;
-          stands = subst (Stands first_scene) (sym keeps.1.1.1.0) has.stands;
+          stands = subst (Stands first_scene) (sym keeps.3) has.stands;
         })
 
 -- a line behind the opening
@@ -127,8 +127,8 @@ tells_on_line line said before ended teller old mid new nothing ends says goes =
     by None is lines text all (inl has) = absurd (some_not_none before.opening (flat_map ended_line lines) has.kept is)
     by None is lines text all (inr has) =
         let scene : Scene = scene_from first_scene has.said in
-        let grows : mid ≡ old = subst (λ (o : Option (List ℕ)). MatchOption o (mid ≡ old) (λ kept. (opening : Opening) × Open (lines_of kept) opening × (mid ≡ old ++ opening_told opening))) is ends.1.1 in
-        let one = goes scene (subst (Stands scene) (sym ends.1.0) has.stands) in (
+        let grows : mid ≡ old = subst (λ (o : Option (List ℕ)). MatchOption o (mid ≡ old) (λ kept. (opening : Opening) × Open (lines_of kept) opening × (mid ≡ old ++ opening_told opening))) is ends.2 in
+        let one = goes scene (subst (Stands scene) (sym ends.1) has.stands) in (
           line_told scene said,
           one.lines ∙ ap (λ front. front ++ line_told scene said) grows,
           inr (record {
@@ -141,15 +141,15 @@ tells_on_line line said before ended teller old mid new nothing ends says goes =
           }),
         )
     by (Some kept) is lines text all (inl has) =
-        let told_now = subst (λ (o : Option (List ℕ)). MatchOption o (mid ≡ old) (λ kept. (opening : Opening) × Open (lines_of kept) opening × (mid ≡ old ++ opening_told opening))) is ends.1.1 in
+        let told_now = subst (λ (o : Option (List ℕ)). MatchOption o (mid ≡ old) (λ kept. (opening : Opening) × Open (lines_of kept) opening × (mid ≡ old ++ opening_told opening))) is ends.2 in
         let opening : Opening = told_now.0 in
         let same : kept ≡ flat_map ended_line lines = same_some before.opening kept (flat_map ended_line lines) is has.kept in
-        let opens : Open lines opening = subst (λ ls. Open ls opening) (ap lines_of same ∙ lines_joined lines all) told_now.1.0 in
+        let opens : Open lines opening = subst (λ ls. Open ls opening) (ap lines_of same ∙ lines_joined lines all) told_now.1 in
         let trace : IsTrace lines opening [] = record { opens = opens; say = subst (λ back. SayLines back []) (sym (has.over opening opens)) tt } in
-        let one = goes first_scene (subst (Stands first_scene) (sym ends.1.0) has.stands) in
+        let one = goes first_scene (subst (Stands first_scene) (sym ends.1) has.stands) in
         let all_told : opening_told opening ++ line_told first_scene said ≡ told opening (said ∷ []) = ap (λ back. opening_told opening ++ back) (sym (append-nil (line_told first_scene said))) in (
           opening_told opening ++ line_told first_scene said,
-          one.lines ∙ (ap (λ front. front ++ line_told first_scene said) told_now.1.1 ∙ append_assoc old (opening_told opening) (line_told first_scene said)),
+          one.lines ∙ (ap (λ front. front ++ line_told first_scene said) told_now.2 ∙ append_assoc old (opening_told opening) (line_told first_scene said)),
           inr (record {
             opening = opening;
             said = said ∷ [];

@@ -1,7 +1,7 @@
 use Rattle.trace_replay.proofs.WatchLemmas.{put_came}
+use Rattle.message_text.proofs.Joining.{on_ok_by}
 use Rattle.trace_replay.proofs.showing.put_heard.Goals as goal
 
 pub returns-in-Piece : goal.returns-in-Piece
 returns-in-Piece c =
     rw (c.in-Piece.is) (on_ok_by c.put_parts.result _ _ (put_came c.in-Piece.conn c.in-Piece.field-1 c.args.brought.now c.args.out.now c.put_parts.new.out) c.put_parts.ensures)
-use Rattle.message_text.proofs.Joining.{on_ok_by}
