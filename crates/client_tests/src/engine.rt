@@ -1,12 +1,9 @@
-//! A client's core, one part of its manager's stream after the other (ICE, chapters 5 and 7; XSMP,
-//! chapter 10).
+//! A client's core in steps, one part of its manager's stream after the other.
 
-use crate::calls::{
-    CLOSES, CONNECTED, CONNECTS, COOKIE, DEMAND, DONE, OPENED, OPENS, ORDER, REGISTERED, REGISTERS,
-    SAVE, WAITS,
-};
-use client_engine::{Core, Cue, greeting, spell, stage_again};
-use client_machine::{AskRefusal, ClientPhase, Request, SaveAnswer, Stage, Step};
+use crate::frames::{frame_of, named};
+use crate::phases::request_of;
+use client_engine::{Core, Cue, Taken, greeting, spell, stage_again};
+use client_machine::{Request, SaveAnswer, Stage, Step};
 use ice_cookie::Cookie;
 use ice_messages::encode_ice;
 use ice_values::{Array8, Array8List, EncodeRefusal, Endian, PropertyList};
@@ -15,21 +12,8 @@ use protocol_messages::Message;
 use std::alloc::{Alloc, Global};
 use std::process::Abort;
 use std::test::Fail;
+use test_tables::{expect_rows, text_of};
 use xsmp_messages::encode_xsmp;
-
-fn cue_name(cue: &Cue) -> &'static str {
-    match cue {
-        Cue::Nothing => "nothing",
-        Cue::Registered(_) => "registered",
-        Cue::Save(_) => "save",
-        Cue::Cancelled => "cancelled",
-        Cue::Complete => "complete",
-        Cue::Die => "die",
-        Cue::Properties(_) => "properties",
-        Cue::Refused(_) => "refused",
-        Cue::Malformed(_) => "malformed",
-    }
-}
 
 fn put(message: &Message, out: &mut Octets) -> Result<(), EncodeRefusal> {
     match message {
@@ -38,103 +22,138 @@ fn put(message: &Message, out: &mut Octets) -> Result<(), EncodeRefusal> {
     }
 }
 
-/// These messages have these bytes.
-fn says(rt: &(impl Abort + Alloc<A = Global>), said: &[Message], bytes: &[u8]) -> Result<(), Fail> {
-    let mut out = Octets::new(rt.alloc());
+/// A message by the name of its frame, behind a blank.
+fn message_shown(alloc: Global, message: &Message) -> Result<String, Fail> {
+    let mut out = Octets::new(alloc);
+    put(message, &mut out)?;
+    let name = named(alloc, out.as_slice())?;
+    Ok(format!(in alloc; " {name}")?)
+}
+
+fn said_shown(alloc: Global, said: &[Message]) -> Result<String, Fail> {
+    let mut text = String::new(alloc);
     for message in said {
-        put(message, &mut out)?;
+        text.push_str(message_shown(alloc, message)?.as_str())?;
     }
-    assert_eq!(rt; out.as_slice(), bytes);
-    Ok(())
+    Ok(text)
 }
 
-/// A part brings this cue, and the client says these bytes.
-fn hears(
-    rt: &(impl Abort + Alloc<A = Global>),
-    core: &mut Core,
-    part: &[u8],
-    cue: &str,
-    bytes: &[u8],
-) -> Result<(), Fail> {
-    match core.cut(rt.alloc(), part)? {
-        Some(taken) => {
-            assert_eq!(rt; taken.count, part.len());
-            assert_eq!(rt; cue_name(&taken.cue), cue);
-            says(rt, taken.said.as_slice(), bytes)
-        }
-        None => panic!(rt; "no part"),
+/// How many bytes were taken, the cue, and what the client says.
+fn taken_shown(alloc: Global, taken: &Taken) -> Result<String, Fail> {
+    let said = said_shown(alloc, taken.said.as_slice())?;
+    Ok(format!(in alloc; "{} {:?}{said}", taken.count, taken.cue)?)
+}
+
+fn heard(alloc: Global, core: &mut Core, name: &str) -> Result<String, Fail> {
+    let part = frame_of(alloc, name)?;
+    match core.cut(alloc, part.as_slice())? {
+        Some(taken) => taken_shown(alloc, &taken),
+        None => Err("no part".into()),
     }
 }
 
-/// The client says these bytes for a request.
-fn asks(
-    rt: &(impl Abort + Alloc<A = Global>),
-    core: &mut Core,
-    request: Request,
-    bytes: &[u8],
-) -> Result<(), Fail> {
-    let message = core.ask(request)?;
-    says(rt, &[message], bytes)
+fn asked(alloc: Global, core: &mut Core, request: Request) -> Result<String, Fail> {
+    match core.ask(request) {
+        Ok(message) => message_shown(alloc, &message),
+        Err(refusal) => text_of(alloc, &refusal),
+    }
 }
 
-/// The client is asked how it saves, and has saved.
-fn saves(rt: &(impl Abort + Alloc<A = Global>), core: &mut Core) -> Result<(), Fail> {
-    let alloc = rt.alloc();
-    let taken = match core.cut(alloc, SAVE)? {
+/// The client hears that it is to save, and has saved.
+fn saved(alloc: Global, core: &mut Core, name: &str) -> Result<String, Fail> {
+    let part = frame_of(alloc, name)?;
+    let taken = match core.cut(alloc, part.as_slice())? {
         Some(taken) => taken,
-        None => panic!(rt; "no part"),
+        None => return Err("no part".into()),
     };
     match taken.cue {
         Cue::Save(ask) => {
-            assert_eq!(rt; ask.stage, Stage::First);
+            if ask.stage != Stage::First {
+                return Err("another stage".into());
+            }
             let set = PropertyList::new(alloc);
             let step = Step::Done(true);
             let said = core.answer(alloc, ask, SaveAnswer { set, step })?;
-            says(rt, said.as_slice(), DONE)
+            said_shown(alloc, said.as_slice())
         }
-        _ => panic!(rt; "no save"),
+        _ => Err("no save".into()),
     }
 }
 
-/// A client that has joined and has an ID.
-fn registered(rt: &(impl Abort + Alloc<A = Global>)) -> Result<Core, Fail> {
-    let alloc = rt.alloc();
+fn owed(alloc: Global, core: &mut Core) -> Result<String, Fail> {
+    let said = core.owed(alloc)?;
+    said_shown(alloc, said.as_slice())
+}
+
+fn closed(alloc: Global, core: &mut Core) -> Result<String, Fail> {
+    let message = core.close(Array8List::new(alloc));
+    message_shown(alloc, &message)
+}
+
+fn id_shown(alloc: Global, core: &Core) -> Result<String, Fail> {
+    match core.id() {
+        Some(id) => Ok(str::from_utf8(id)?.to_string(alloc)?),
+        None => Ok("-".to_string(alloc)?),
+    }
+}
+
+/// A step of one word.
+fn done(alloc: Global, core: &mut Core, word: &str) -> Result<String, Fail> {
+    match word {
+        "owes" => owed(alloc, core),
+        "closes" => closed(alloc, core),
+        "id" => id_shown(alloc, core),
+        _ => text_of(alloc, &core.phase()),
+    }
+}
+
+fn stepped(alloc: Global, core: &mut Core, step: &str) -> Result<String, Fail> {
+    match step.split_once(' ') {
+        Some(("hears", name)) => heard(alloc, core, name),
+        Some(("saves", name)) => saved(alloc, core, name),
+        Some(("asks", name)) => asked(alloc, core, request_of(alloc, name)?),
+        _ => done(alloc, core, step),
+    }
+}
+
+fn steps_shown(alloc: Global, core: &mut Core, steps: &str) -> Result<String, Fail> {
+    let mut text = String::new(alloc);
+    for step in steps.split(", ") {
+        text.push_str(stepped(alloc, core, step)?.as_str())?;
+        text.push_str(", ")?;
+    }
+    Ok(text)
+}
+
+/// What a new client does in these steps.
+fn session_shown(alloc: Global, steps: &str) -> Result<String, Fail> {
     let cookie = Cookie([0, 1, 2, 3, 4, 5, 6, 7, 8, 9, 10, 11, 12, 13, 14, 15]);
     let mut core = Core::new(alloc, cookie, Array8::new(alloc))?;
-    hears(rt, &mut core, ORDER, "nothing", CONNECTS)?;
-    hears(rt, &mut core, DEMAND, "nothing", COOKIE)?;
-    hears(rt, &mut core, CONNECTED, "nothing", OPENS)?;
-    hears(rt, &mut core, OPENED, "nothing", REGISTERS)?;
-    hears(rt, &mut core, REGISTERED, "registered", b"")?;
-    Ok(core)
+    steps_shown(alloc, &mut core, steps)
+}
+
+const SESSION: &str =
+    "hears order, hears demand, hears connected, hears opened, hears registered, id, asks done, saves save, phase, hears save, asks to-wait, owes, closes, phase => 8 Nothing connects, 16 Nothing cookie, 24 Nothing opens, 24 Nothing registers, 40 Registered(Octets { bytes: [115, 109, 100, 45, 48, 48, 48, 48, 48, 48, 48, 49, 45, 48, 48, 48, 48, 48, 48, 48, 49] }), smd-00000001-00000001, WrongPhase { phase: Idle },  done, Done, 16 Save(SaveAsk { stage: First, kind: Local, shutdown: false, style: Nothing, fast: false }),  waits, ,  closes, Dead, ";
+
+#[test]
+fn a_client_asks_in_its_phase(rt: HostRuntime) -> Result<(), Fail> {
+    expect_rows(&rt, SESSION, session_shown)
+}
+
+/// The message with which a client begins.
+fn greeting_shown(alloc: Global) -> Result<String, Fail> {
+    let mut bytes = Octets::new(alloc);
+    spell(&greeting(), &mut bytes)?;
+    named(alloc, bytes.as_slice())
+}
+
+/// That message, and the stage behind one at which the client talks.
+fn beginning_shown(alloc: Global, _stage: &str) -> Result<String, Fail> {
+    let begun = greeting_shown(alloc)?;
+    Ok(format!(in alloc; "{begun} {:?}", stage_again(Stage::Talking))?)
 }
 
 #[test]
 fn a_client_begins_with_byte_order(rt: HostRuntime) -> Result<(), Fail> {
-    let mut bytes = Octets::new(rt.alloc());
-    spell(&greeting(), &mut bytes)?;
-    assert_eq!(&rt; bytes.as_slice(), ORDER);
-    assert_eq!(&rt; stage_again(Stage::Talking), Some(Stage::First));
-    Ok(())
-}
-
-#[test]
-fn a_client_asks_in_its_phase(rt: HostRuntime) -> Result<(), Fail> {
-    let mut core = registered(&rt)?;
-    assert_eq!(&rt; core.id(), Some(b"smd-00000001-00000001".as_slice()));
-    assert_eq!(&rt;
-        core.ask(Request::Done(true)).err(),
-        Some(AskRefusal::WrongPhase {
-            phase: ClientPhase::Idle
-        })
-    );
-    saves(&rt, &mut core)?;
-    assert_eq!(&rt; core.phase(), ClientPhase::Done);
-    hears(&rt, &mut core, SAVE, "save", b"")?;
-    asks(&rt, &mut core, Request::PhaseTwo, WAITS)?;
-    says(&rt, core.owed(rt.alloc())?.as_slice(), b"")?;
-    let message = core.close(Array8List::new(rt.alloc()));
-    says(&rt, &[message], CLOSES)?;
-    assert_eq!(&rt; core.phase(), ClientPhase::Dead);
-    Ok(())
+    expect_rows(&rt, "Talking => order Some(First)", beginning_shown)
 }

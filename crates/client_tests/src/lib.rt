@@ -6,8 +6,12 @@ mod calls;
 #[cfg(test)]
 mod engine;
 #[cfg(test)]
+mod frames;
+#[cfg(test)]
 mod joining;
 #[cfg(test)]
 mod peers;
 #[cfg(test)]
 mod phases;
+#[cfg(test)]
+mod worlds;

@@ -1,151 +1,109 @@
-//! What a peer in memory gives and records, by calls written down by hand.
+//! What a peer in memory gives and records, in steps. An input has the number of the call that fails.
 
-use client_peer::{FILE_LIMIT, MemPeer, Peer};
-use owned_lists::{NoMemory, NumberList, Octets, OctetsList, PairList};
-use sm_world::{Console, Failure};
+use crate::worlds::peer_of;
+use client_peer::{MemPeer, Peer};
+use hex_rows::{bytes_of, digits_of};
+use owned_lists::{NoMemory, Octets, OctetsList};
+use sm_world::Console;
 use std::alloc::{Alloc, Global};
 use std::process::Abort;
 use std::test::Fail;
+use test_tables::{expect_rows, text_of};
 
-/// A file with this path and this text.
-fn add_file(alloc: Global, files: &mut PairList, path: &[u8], text: &[u8]) -> Result<(), NoMemory> {
-    let path = Octets::from_slice(alloc, path)?;
-    files.push((path, Octets::from_slice(alloc, text)?))
-}
+/// The files of each peer, `a` twice. `full` is as long as a file may be.
+const FILES: &str = "\
+a 6669727374
+b zeros-0
+a 7365636f6e64
+full zeros-65536
+long zeros-65537";
 
-/// A file with this path and so many zeros.
-fn add_zeros(
-    alloc: Global,
-    files: &mut PairList,
-    path: &[u8],
-    count: usize,
-) -> Result<(), NoMemory> {
-    let path = Octets::from_slice(alloc, path)?;
-    files.push((path, Octets::from_vec(vec![in alloc; 0; count]?)))
-}
-
-/// The files `a`, twice, and `b`, `full` and `long`.
-fn files(alloc: Global) -> Result<PairList, NoMemory> {
-    let mut files = PairList::new(alloc);
-    add_file(alloc, &mut files, b"a", b"first")?;
-    add_file(alloc, &mut files, b"b", b"")?;
-    add_file(alloc, &mut files, b"a", b"second")?;
-    add_zeros(alloc, &mut files, b"full", FILE_LIMIT)?;
-    add_zeros(alloc, &mut files, b"long", FILE_LIMIT + 1)?;
-    Ok(files)
-}
-
-/// A peer that gives `abc`, nothing, `de` and its end, and whose call with this number fails.
-fn peer(alloc: Global, failing: u64) -> Result<MemPeer, NoMemory> {
+/// The pieces that a row writes as digits, parted by blanks.
+fn pieces_of(alloc: Global, text: &str) -> Result<OctetsList, Fail> {
     let mut pieces = OctetsList::new(alloc);
-    pieces.push(Octets::from_slice(alloc, b"abc")?)?;
-    pieces.push(Octets::new(alloc))?;
-    pieces.push(Octets::from_slice(alloc, b"de")?)?;
-    let mut numbers = NumberList::new(alloc);
-    numbers.push(failing)?;
-    MemPeer::new(alloc, pieces, files(alloc)?, numbers)
+    for digits in text.split(' ') {
+        pieces.push(Octets::from_vec(bytes_of(alloc, digits)?))?;
+    }
+    Ok(pieces)
 }
 
 /// The next bytes of the stream, of which two are taken at most.
-fn gives<P: Peer>(
-    rt: &(impl Abort + Alloc<A = Global>),
-    peer: &mut P,
-    want: &[u8],
-) -> Result<(), Fail> {
+fn received<P: Peer>(alloc: Global, peer: &mut P) -> Result<String, Fail> {
     let mut room = [0; 2];
-    let count = peer.receive(&mut room)?;
-    assert_eq!(rt; &room[..count], want);
-    Ok(())
+    match peer.receive(&mut room) {
+        Ok(count) => digits_of(alloc, &room[..count]),
+        Err(failure) => text_of(alloc, &failure),
+    }
 }
 
-fn expect_effects(
-    rt: &(impl Abort + Alloc<A = Global>),
-    peer: &MemPeer,
-    want: &str,
-) -> Result<(), Fail> {
-    let text = format!(in rt.alloc(); "{:?}", peer.effects())?;
-    assert_eq!(rt; text.as_str(), want);
-    Ok(())
+/// How many bytes a file has, and the first five.
+fn fetched<P: Peer>(alloc: Global, peer: &mut P, path: &str) -> Result<String, Fail> {
+    match peer.fetch(path) {
+        Ok(file) => {
+            let (front, _) = file.as_slice().split_at(file.len().min(5));
+            let front = digits_of(alloc, front)?;
+            Ok(format!(in alloc; "{} {front}", file.len())?)
+        }
+        Err(failure) => text_of(alloc, &failure),
+    }
 }
 
-#[test]
-fn a_stream_comes_as_it_fits(rt: HostRuntime) -> Result<(), Fail> {
-    let mut peer = peer(rt.alloc(), 0)?;
-    peer.connect("/s")?;
-    gives(&rt, &mut peer, b"ab")?;
-    gives(&rt, &mut peer, b"c")?;
-    peer.deliver(b"x")?;
-    gives(&rt, &mut peer, b"de")?;
-    gives(&rt, &mut peer, b"")?;
-    gives(&rt, &mut peer, b"")?;
-    let want =
-        "[Heard(Piece(0, Octets { bytes: [97, 98] })), Heard(Piece(0, Octets { bytes: [99] })), \
-        Sent(0, Octets { bytes: [120] }), Heard(Piece(0, Octets { bytes: [100, 101] })), \
-        Heard(Gone(0)), Heard(Gone(0))]";
-    expect_effects(&rt, &peer, want)
-}
-
-/// A file has these bytes.
-fn fetches<P: Peer>(
-    rt: &(impl Abort + Alloc<A = Global>),
-    peer: &mut P,
-    path: &str,
-    want: &[u8],
-) -> Result<(), Fail> {
-    assert_eq!(rt; peer.fetch(path)?.as_slice(), want);
-    Ok(())
-}
-
-/// A file can't be fetched.
-fn fetches_not<P: Peer>(
-    rt: &(impl Abort + Alloc<A = Global>),
-    peer: &mut P,
-    path: &str,
-) -> Result<(), Fail> {
-    assert_eq!(rt; peer.fetch(path).err(), Some(Failure::Failed));
-    Ok(())
-}
-
-#[test]
-fn files_are_fetched_by_their_paths(rt: HostRuntime) -> Result<(), Fail> {
-    let mut peer = peer(rt.alloc(), 0)?;
-    fetches(&rt, &mut peer, "a", b"first")?;
-    fetches(&rt, &mut peer, "b", b"")?;
-    fetches_not(&rt, &mut peer, "c")?;
-    fetches_not(&rt, &mut peer, "long")?;
-    let full = peer.fetch("full")?;
-    assert_eq!(rt; full.len(), FILE_LIMIT);
-    expect_effects(&rt, &peer, "[]")
-}
-
-#[test]
-fn a_call_fails_by_its_number(rt: HostRuntime) -> Result<(), Fail> {
-    let mut peer = peer(rt.alloc(), 2)?;
-    gives(&rt, &mut peer, b"ab")?;
+fn read<P: Console>(alloc: Global, peer: &mut P) -> Result<String, Fail> {
     let mut room = [0; 2];
-    assert_eq!(rt; peer.receive(&mut room).err(), Some(Failure::Failed));
-    gives(&rt, &mut peer, b"c")?;
-    let want =
-        "[Heard(Piece(0, Octets { bytes: [97, 98] })), Heard(Piece(0, Octets { bytes: [99] }))]";
-    expect_effects(&rt, &peer, want)
+    text_of(alloc, &peer.read(&mut room))
 }
 
-/// A fetch and a console are counted too.
-fn last_fails<P: Peer + Console>(
-    rt: &(impl Abort + Alloc<A = Global>),
-    peer: &mut P,
-) -> Result<(), Fail> {
-    fetches_not(rt, peer, "c")?;
-    let mut room = [0; 2];
-    assert_eq!(rt; peer.read(&mut room)?, 0);
-    peer.print(b"x")?;
-    assert_eq!(rt; peer.print(b"y").err(), Some(Failure::Failed));
-    Ok(())
+/// A step that takes no word.
+fn taken(alloc: Global, peer: &mut MemPeer, verb: &str) -> Result<String, Fail> {
+    match verb {
+        "receive" => received(alloc, peer),
+        "read" => read(alloc, peer),
+        _ => Err("no step".into()),
+    }
 }
+
+fn stepped(alloc: Global, peer: &mut MemPeer, step: &str) -> Result<String, Fail> {
+    match step.split_once(' ') {
+        Some(("connect", path)) => text_of(alloc, &peer.connect(path)),
+        Some(("deliver", text)) => text_of(alloc, &peer.deliver(text.as_bytes())),
+        Some(("fetch", path)) => fetched(alloc, peer, path),
+        Some(("print", text)) => text_of(alloc, &peer.print(text.as_bytes())),
+        _ => taken(alloc, peer, step),
+    }
+}
+
+fn steps_shown(alloc: Global, peer: &mut MemPeer, steps: &str) -> Result<String, Fail> {
+    let mut text = String::new(alloc);
+    for step in steps.split(", ") {
+        text.push_str(stepped(alloc, peer, step)?.as_str())?;
+        text.push_str(", ")?;
+    }
+    Ok(text)
+}
+
+/// What the steps bring, and the effects behind them.
+fn played(alloc: Global, mut peer: MemPeer, steps: &str) -> Result<String, Fail> {
+    let shown = steps_shown(alloc, &mut peer, steps)?;
+    Ok(format!(in alloc; "{shown}{:?}", peer.effects())?)
+}
+
+/// The same over a peer that gives `abc`, nothing, `de` and its end.
+fn peer_shown(alloc: Global, input: &str) -> Result<String, Fail> {
+    let (failing, steps) = input.split_once("; ").ok_or("no steps")?;
+    let pieces = pieces_of(alloc, "616263  6465")?;
+    let peer = peer_of(alloc, pieces, FILES, failing.parse::<u64>()?)?;
+    played(alloc, peer, steps)
+}
+
+/// A stream comes as it fits; files are fetched by their paths; a call fails by its number; and the
+/// console has no input, where a fetch and a console are counted too.
+const PEERS: &str = "\
+0; connect /s, receive, receive, deliver x, receive, receive, receive => Ok(()), 6162, 63, Ok(()), 6465, , , [Heard(Piece(0, Octets { bytes: [97, 98] })), Heard(Piece(0, Octets { bytes: [99] })), Sent(0, Octets { bytes: [120] }), Heard(Piece(0, Octets { bytes: [100, 101] })), Heard(Gone(0)), Heard(Gone(0))]
+0; fetch a, fetch b, fetch c, fetch long, fetch full => 5 6669727374, 0 , Failed, Failed, 65536 0000000000, []
+2; receive, receive, receive => 6162, Failed, 63, [Heard(Piece(0, Octets { bytes: [97, 98] })), Heard(Piece(0, Octets { bytes: [99] }))]
+4; fetch c, read, print x, print y => Failed, Ok(0), Ok(()), Err(Failed), [Printed(Octets { bytes: [120] })]";
 
 #[test]
-fn the_console_has_no_input(rt: HostRuntime) -> Result<(), Fail> {
-    let mut peer = peer(rt.alloc(), 4)?;
-    last_fails(&rt, &mut peer)?;
-    expect_effects(&rt, &peer, "[Printed(Octets { bytes: [120] })]")
+fn a_peer_gives_and_records(rt: HostRuntime) -> Result<(), Fail> {
+    expect_rows(&rt, PEERS, peer_shown)
 }

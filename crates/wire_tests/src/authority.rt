@@ -1,6 +1,6 @@
 //! Authority files against bytes written down by hand.
 
-use crate::written::{bytes_of, digits_of};
+use hex_rows::{bytes_of, digits_of};
 use ice_cookie::{AuthorityEntry, AuthorityList, authority_bytes, read_authority};
 use owned_lists::{NoMemory, Octets};
 use std::alloc::{Alloc, Global};

@@ -1,6 +1,7 @@
 //! Frames of the set-up by their names, and the messages that they spell.
 
-use crate::written::{bytes_of, digits_of, is_frame};
+use crate::written::is_frame;
+use hex_rows::{bytes_of, digits_of};
 use ice_cookie::Cookie;
 use ice_messages::{IceMessage, decode_ice, encode_ice, minor};
 use ice_values::{DecodeRefusal, Endian, Enumerated};

@@ -1,7 +1,7 @@
 ghost use Rattle.std.specs.Prelude.{◌≤◌, IfOk};
 ghost use Rattle.ice_framing.specs.Frames.{IsPartial, units, unit_limit};
 
-use crate::written::{bytes_of, digits_of};
+use hex_rows::{bytes_of, digits_of};
 use ice_framing::{FRAME_LIMIT, Remainder, Splitter, WholeFrameList, cut_pieces};
 use ice_values::Endian;
 use owned_lists::{NoMemory, Octets, OctetsList};

@@ -2,7 +2,8 @@
 
 use crate::frames::decoded;
 use crate::framing::cut_frames;
-use crate::written::{agreed, bytes_of, digits_of, spelled, units_of, with_units};
+use crate::written::{agreed, spelled, units_of, with_units};
+use hex_rows::{bytes_of, digits_of};
 use ice_messages::{IceMessage, encode_ice};
 use ice_values::{Endian, Text16};
 use owned_lists::Octets;

@@ -2,7 +2,7 @@
 //! byte. An input names the frames that come, one after the other.
 
 use crate::frames::{COOKIE, MESSAGES, answer_digits, answer_name, answer_or_dash, message_of};
-use crate::written::{bytes_of, digits_of};
+use hex_rows::{bytes_of, digits_of};
 use ice_messages::IceMessage;
 use ice_setup::{
     AnySetup, AwaitOrder, Moved, Offending, error_of, opcode_values, refusal, text_values,

@@ -1,8 +1,8 @@
 //! Each message as a frame, least significant byte first, and its line, both written down by hand.
 
 use crate::frames::decoded as ice_decoded;
-use crate::written::bytes_of;
 use crate::xsmp::decoded as xsmp_decoded;
+use hex_rows::bytes_of;
 use ice_values::Endian;
 use message_text::{Writing, ice_line, xsmp_line};
 use std::alloc::{Alloc, Global};

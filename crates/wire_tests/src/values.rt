@@ -1,7 +1,8 @@
 //! Values as the standards spell them (ICE, chapter 7: Compound Types; XSMP, chapter 10: Types),
 //! written down by hand.
 
-use crate::written::{bytes_of, digits_of, other, spelled};
+use crate::written::{other, spelled};
+use hex_rows::{bytes_of, digits_of};
 use ice_values::{
     Array8, Dialog, Enumerated, ErrorClass, SaveKind, SaveStyle, Spelled, Text16, ValueRefusal,
     read_array8, read_array8_list, read_property, read_property_list, read_text16, read_version,

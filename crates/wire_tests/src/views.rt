@@ -1,6 +1,7 @@
 //! Messages and properties where they lie.
 
-use crate::written::{digits_of, is_frame, spelled};
+use crate::written::{is_frame, spelled};
+use hex_rows::digits_of;
 use ice_values::{Endian, PropertyView, PropertyWalk};
 use std::alloc::{Alloc, Global};
 use std::process::Abort;

@@ -3,19 +3,11 @@
 ghost use Rattle.std.specs.Prelude.{◌<◌, IfOk, IsTrue};
 ghost use Rattle.ice_values.specs.Frames.{IsFrame};
 
+use hex_rows::bytes_of;
 use ice_values::{Endian, put_card32, read_card32};
 use owned_lists::{NoMemory, Octets};
 use std::alloc::Global;
 use std::test::Fail;
-
-/// The bytes that a row writes as hex digits.
-pub fn bytes_of(alloc: Global, digits: &str) -> Result<Vec<u8>, Fail> {
-    Ok(hex::decode(alloc, digits)?)
-}
-
-pub fn digits_of(alloc: Global, bytes: &[u8]) -> Result<String, Fail> {
-    Ok(hex::encode(alloc, bytes)?)
-}
 
 /// The order and the bytes that an input names: `l` is for the least significant byte first, and `m`
 /// for the most.

@@ -3,7 +3,8 @@
 
 use crate::framing::cut_frames;
 use crate::views::{view_verdict, viewed};
-use crate::written::{agreed, bytes_of, digits_of, is_frame, spelled, units_of, with_units};
+use crate::written::{agreed, is_frame, spelled, units_of, with_units};
+use hex_rows::{bytes_of, digits_of};
 use ice_values::{Array8List, DecodeRefusal, Endian, Property, PropertyList};
 use owned_lists::Octets;
 use std::alloc::{Alloc, Global};
