@@ -1,6 +1,7 @@
 -- Which ends of saves an agent says.
 use Rattle.std.proofs.Common.{◌≡◌, ℕ, Bool, true, false, List, [], ◌∷◌, ◌++◌, map, drop, Option, None, Some, refl, sym, subst}
 use Rattle.std.specs.Prelude.{cond, ◌&&◌, if◌then◌else◌}
+use Rattle.ice_cookie.specs.declared.cookies.Cookie.{Cookie}
 use Rattle.ice_framing.specs.Frames.{fed}
 use Rattle.ice_framing.specs.Parts.{Part, Whole, TooMuch, parts_at}
 use Rattle.ice_framing.specs.declared.cutting.WholeFrame.{WholeFrame}
@@ -43,7 +44,7 @@ use Rattle.client_engine.specs.declared.received.Received.{Received}
 use Rattle.client_engine.specs.declared.received.Received.TheVariants.{Ice as GotIce, Xsmp as GotXsmp, Stray, Unspelled}
 use Rattle.protocol_messages.specs.declared.message.Message.{Message}
 use Rattle.protocol_messages.specs.declared.message.Message.TheVariants.{Xsmp}
-use Rattle.outer_agent.specs.Ends.{Came, Piece, SaveEnded, SessionEnded, EndsAreSaidWhereDue, Life, after, after_all, is_due, life_of}
+use Rattle.outer_agent.specs.Ends.{Came, Piece, SaveEnded, SessionEnded, AreOneByOne, EndsAreSaidWhereDue, Life, SavesComeOneByOne, after, after_all, is_due, life_of}
 use Rattle.outer_agent.specs.Script.{Keeper, bytes_asked, cancelled, closing_with, heeded, reacts, saved, sends, start, talk_of}
 use Rattle.outer_agent.specs.declared.acts.AgentAct.{AgentAct}
 use Rattle.outer_agent.specs.declared.acts.AgentAct.TheVariants.{Send, Checkpoint, Forget, Shutdown, Drop}
@@ -119,7 +120,7 @@ closed_fits keeper (Some id) fits = tt
 -- ---- a part of the stream
 
 abbrev FitsStep : Bool → Step Keeper AgentAct → Type 0
-FitsStep due step = Fits step.next.talk.place (is_due due step.line)
+FitsStep due step = Fits step.next.talk.place (is_due due step.line) × AreOneByOne due step.line
 
 due_more : (due : Bool) (xs ys : List AgentAct) → is_due due (xs ++ ys) ≡ is_due (is_due due xs) ys
 due_more due [] ys = refl
@@ -133,9 +134,21 @@ due_said : (due : Bool) (said : List Message) (acts : List AgentAct) → is_due 
 due_said due [] acts = refl
 due_said due (message ∷ said) acts = due_said due said acts
 
+one_by_one_more : (due : Bool) (xs ys : List AgentAct) → AreOneByOne due xs → AreOneByOne (is_due due xs) ys → AreOneByOne due (xs ++ ys)
+one_by_one_more due [] ys one two = two
+one_by_one_more due (Send bytes ∷ xs) ys one two = one_by_one_more due xs ys one two
+one_by_one_more due (Checkpoint ∷ xs) ys one two = (one.0, one_by_one_more true xs ys one.1 two)
+one_by_one_more due (Forget ∷ xs) ys one two = one_by_one_more false xs ys one two
+one_by_one_more due (Shutdown ∷ xs) ys one two = (one.0, one_by_one_more false xs ys one.1 two)
+one_by_one_more due (Drop ∷ xs) ys one two = one_by_one_more false xs ys one two
+
+one_by_one_said : (due : Bool) (said : List Message) (acts : List AgentAct) → AreOneByOne due acts → AreOneByOne due (map sends said ++ acts)
+one_by_one_said due [] acts one = one
+one_by_one_said due (message ∷ said) acts one = one_by_one_said due said acts one
+
 -- what a cue is to find
 abbrev FitsSave : Stage → Place → Bool → Type 0
-FitsSave First place due = Fits place true
+FitsSave First place due = Fits place true × (due ≡ false)
 FitsSave stage place due = Fits place due
 
 abbrev FitsCancelled : Bool → Place → Bool → Type 0
@@ -145,7 +158,7 @@ FitsCancelled false place due = Fits place due
 abbrev FitsCue : Cue → Place → Bool → Type 0
 FitsCue (Save ask) place due = FitsSave ask.stage place due
 FitsCue Cancelled place due = FitsCancelled (is_owing (phase_at place)) place due
-FitsCue IsTold place due = Unit {0}
+FitsCue IsTold place due = due ≡ false
 FitsCue (Refused class) place due = Fits place false
 FitsCue (Malformed at) place due = Fits place false
 FitsCue cue place due = Fits place due
@@ -154,30 +167,33 @@ abbrev FitsHeard : Heard → Bool → Type 0
 FitsHeard heard due = FitsCue heard.cue heard.next.place due
 
 saved_fits : (keeper : Keeper) (stage : Stage) (due : Bool) → FitsSave stage keeper.talk.place due → FitsStep due (saved keeper stage)
-saved_fits keeper First due fits = fits
-saved_fits keeper Second due fits = fits
-saved_fits keeper Talking due fits = fits
-saved_fits keeper TalkingTwo due fits = fits
+saved_fits keeper First due fits = (fits.0, (fits.1, tt))
+saved_fits keeper Second due fits = (fits, tt)
+saved_fits keeper Talking due fits = (fits, tt)
+saved_fits keeper TalkingTwo due fits = (fits, tt)
 
 cancelled_fits : (keeper : Keeper) (owing due : Bool) → FitsCancelled owing keeper.talk.place due → FitsStep due (cancelled keeper owing)
-cancelled_fits keeper true due fits = fits
-cancelled_fits keeper false due fits = fits
+cancelled_fits keeper true due fits = (fits, tt)
+cancelled_fits keeper false due fits = (fits, tt)
 
 heeded_fits : (keeper : Keeper) (cue : Cue) (due : Bool) → FitsCue cue keeper.talk.place due → FitsStep due (heeded keeper cue)
-heeded_fits keeper Nothing due fits = fits
-heeded_fits keeper (Registered id) due fits = fits
+heeded_fits keeper Nothing due fits = (fits, tt)
+heeded_fits keeper (Registered id) due fits = (fits, tt)
 heeded_fits keeper (Save ask) due fits = saved_fits keeper ask.stage due fits
 heeded_fits keeper Cancelled due fits = cancelled_fits keeper (is_owing (phase_at keeper.talk.place)) due fits
-heeded_fits keeper Complete due fits = fits
-heeded_fits keeper IsTold due fits = tt
-heeded_fits keeper (Properties list) due fits = fits
-heeded_fits keeper (Refused class) due fits = fits
-heeded_fits keeper (Malformed at) due fits = fits
+heeded_fits keeper Complete due fits = (fits, tt)
+heeded_fits keeper IsTold due fits = (tt, (fits, tt))
+heeded_fits keeper (Properties list) due fits = (fits, tt)
+heeded_fits keeper (Refused class) due fits = (fits, tt)
+heeded_fits keeper (Malformed at) due fits = (fits, tt)
 
 reacts_fits : (keeper : Keeper) (heard : Heard) (r : Unit {0}) (due : Bool) → FitsHeard heard due → FitsStep due (reacts keeper heard r)
 reacts_fits keeper heard r due fits =
     let at : Keeper = record keeper { talk = heard.next } in
-    subst (λ (d : Bool). Fits (heeded at heard.cue).next.talk.place d) (sym (due_said due heard.said (heeded at heard.cue).line)) (heeded_fits at heard.cue due fits)
+    let heeds : FitsStep due (heeded at heard.cue) = heeded_fits at heard.cue due fits in (
+      subst (λ (d : Bool). Fits (heeded at heard.cue).next.talk.place d) (sym (due_said due heard.said (heeded at heard.cue).line)) heeds.0,
+      one_by_one_said due heard.said (heeded at heard.cue).line heeds.1,
+    )
 
 -- ---- a message of XSMP
 
@@ -201,9 +217,9 @@ given_fits a joined (RegisterClientReply new) Saving id asked due fits = fits
 given_fits a joined (RegisterClientReply new) Done id asked due fits = fits
 given_fits a joined (RegisterClientReply new) phase id asked due fits = absurd fits
 given_fits a joined (SaveYourself kind shutdown style fast) Registering id asked due fits = fits
-given_fits a joined (SaveYourself kind shutdown style fast) Idle id asked due fits = refl
+given_fits a joined (SaveYourself kind shutdown style fast) Idle id asked due fits = (refl, fits)
 given_fits a joined (SaveYourself kind shutdown style fast) Saving id asked due fits = fits
-given_fits a joined (SaveYourself kind shutdown style fast) Done id asked due fits = refl
+given_fits a joined (SaveYourself kind shutdown style fast) Done id asked due fits = (refl, fits)
 given_fits a joined (SaveYourself kind shutdown style fast) phase id asked due fits = absurd fits
 given_fits a joined Interact Registering id asked due fits = fits
 given_fits a joined Interact Idle id asked due fits = fits
@@ -226,9 +242,9 @@ given_fits a joined ShutdownCancelled Saving id asked due fits = refl
 given_fits a joined ShutdownCancelled Done id asked due fits = fits
 given_fits a joined ShutdownCancelled phase id asked due fits = absurd fits
 given_fits a joined Die Registering id asked due fits = fits
-given_fits a joined Die Idle id asked due fits = tt
+given_fits a joined Die Idle id asked due fits = fits
 given_fits a joined Die Saving id asked due fits = fits
-given_fits a joined Die Done id asked due fits = tt
+given_fits a joined Die Done id asked due fits = fits
 given_fits a joined Die phase id asked due fits = absurd fits
 given_fits a joined (GetPropertiesReply list) Registering id asked due fits = fits
 given_fits a joined (GetPropertiesReply list) Idle id asked due fits = fits
@@ -290,19 +306,20 @@ part_fits talk (TooMuch header) due fits = header_fits talk.counts talk.place du
 -- ---- all that comes
 
 parts_fit : (keeper : Keeper) (parts : List Part) (rs : List (Unit {0})) (due : Bool) → Fits keeper.talk.place due → FitsStep due (parts_taken tt talk_of reacts keeper parts rs)
-parts_fit keeper [] rs due fits = fits
+parts_fit keeper [] rs due fits = (fits, tt)
 parts_fit keeper (part ∷ parts) rs due fits =
     let r : Unit {0} = reply tt talk_of reacts rs in
     let first : Step Keeper AgentAct = part_taken tt talk_of reacts keeper part r in
     let rest : Step Keeper AgentAct = parts_taken tt talk_of reacts first.next parts (drop 1 rs) in
-    subst (λ (d : Bool). Fits rest.next.talk.place d) (sym (due_more due first.line rest.line))
-    (parts_fit first.next parts (drop 1 rs) (is_due due first.line) (reacts_fits keeper (part_heard keeper.talk part) r due (part_fits keeper.talk part due fits)))
+    let one : FitsStep due first = reacts_fits keeper (part_heard keeper.talk part) r due (part_fits keeper.talk part due fits) in
+    let two : FitsStep (is_due due first.line) rest = parts_fit first.next parts (drop 1 rs) (is_due due first.line) one.0 in
+    (subst (λ (d : Bool). Fits rest.next.talk.place d) (sym (due_more due first.line rest.line)) two.0, one_by_one_more due first.line rest.line one.1 two.1)
 
 abbrev FitsLife : Life → Type 0
 FitsLife life = Fits life.run.keeper.talk.place life.due
 
 came_fits : (life : Life) (came : Came) → FitsLife life → FitsLife (after life came)
-came_fits life (Piece bytes) fits = parts_fit life.run.keeper (parts_at (fed life.run.standing bytes)) [] life.due fits
+came_fits life (Piece bytes) fits = (parts_fit life.run.keeper (parts_at (fed life.run.standing bytes)) [] life.due fits).0
 came_fits life (SaveEnded success) fits = told_fits life.run.keeper.talk.place life.due success fits
 came_fits life SessionEnded fits = closed_fits life.run.keeper (id_at life.run.keeper.talk.place) (unnamed life.run.keeper.talk.place life.due fits)
 
@@ -310,7 +327,15 @@ all_fit : (life : Life) (all : List Came) → FitsLife life → FitsLife (after_
 all_fit life [] fits = fits
 all_fit life (came ∷ all) fits = all_fit (after life came) all (came_fits life came fits)
 
+life_fits : (cookie : Cookie) (previous : List ℕ) (words : List (List ℕ)) (all : List Came) → FitsLife (life_of cookie previous words all)
+life_fits cookie previous words all = all_fit (record { run = start cookie previous words; due = false }) all refl
+
 pub said_where_due : EndsAreSaidWhereDue
 said_where_due cookie previous words all success =
     let life : Life = life_of cookie previous words all in
-    said_at life.run.keeper.talk.place life.due success (all_fit (record { run = start cookie previous words; due = false }) all refl)
+    said_at life.run.keeper.talk.place life.due success (life_fits cookie previous words all)
+
+pub one_by_one : SavesComeOneByOne
+one_by_one cookie previous words all bytes =
+    let life : Life = life_of cookie previous words all in
+    (parts_fit life.run.keeper (parts_at (fed life.run.standing bytes)) [] life.due (life_fits cookie previous words all)).1

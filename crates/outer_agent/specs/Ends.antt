@@ -55,6 +55,19 @@ end_said life success = if life.due && hears_still life then spelled (Xsmp (Save
 abbrev pub EndsAreSaidWhereDue : Type 0
 EndsAreSaidWhereDue = (cookie : Cookie) (previous : List ℕ) (words : List (List ℕ)) (all : List Came) (success : Bool) → (told (life_of cookie previous words all).run success).line ≡ end_said (life_of cookie previous words all) success
 
+-- A save is asked for, and the session is to be shut down, only where the end of no save is due.
+abbrev pub AreOneByOne : Bool → List AgentAct → Type 0
+AreOneByOne due [] = Unit {0}
+AreOneByOne due (Send bytes ∷ acts) = AreOneByOne due acts
+AreOneByOne due (Checkpoint ∷ acts) = (due ≡ false) × AreOneByOne true acts
+AreOneByOne due (Forget ∷ acts) = AreOneByOne false acts
+AreOneByOne due (Shutdown ∷ acts) = (due ≡ false) × AreOneByOne false acts
+AreOneByOne due (Drop ∷ acts) = AreOneByOne false acts
+
+-- Whatever came, and whatever piece comes then, its acts ask for such things one by one.
+abbrev pub SavesComeOneByOne : Type 0
+SavesComeOneByOne = (cookie : Cookie) (previous : List ℕ) (words : List (List ℕ)) (all : List Came) (bytes : List ℕ) → AreOneByOne (life_of cookie previous words all).due (piece_heard (life_of cookie previous words all).run bytes).line
+
 -- No act about a piece says that a save succeeded.
 abbrev pub PiecesBringNoSuccess : Type 0
 PiecesBringNoSuccess = (run : Run Keeper) (bytes : List ℕ) → AllByRecursion (λ act. act ≢ Send (spelled (Xsmp (SaveYourselfDone true)))) (piece_heard run bytes).line

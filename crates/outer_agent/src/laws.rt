@@ -1,4 +1,4 @@
-ghost use Rattle.outer_agent.specs.Ends.{EndsAreSaidWhereDue, PiecesBringNoSuccess};
+ghost use Rattle.outer_agent.specs.Ends.{EndsAreSaidWhereDue, PiecesBringNoSuccess, SavesComeOneByOne};
 ghost use Rattle.outer_agent.specs.Laws.{PiecesMakeNoDifference};
 
 /// Does nothing: its contract is a law. What an agent does about a stream doesn't depend on the pieces
@@ -18,4 +18,10 @@ pub fn ends_are_said_where_due()
 /// as it is told alone.
 pub fn pieces_bring_no_success()
     ensures { PiecesBringNoSuccess }
+{}
+
+/// Does nothing: its contract is a law. Whatever came to an agent, a piece has it ask for a save, or
+/// for the session's end, only where the end of no save is due.
+pub fn saves_come_one_by_one()
+    ensures { SavesComeOneByOne }
 {}

@@ -13,5 +13,8 @@ mod words;
 
 pub use acts::{AgentAct, AgentActs, AgentFault};
 pub use agent::Agent;
-pub use laws::{ends_are_said_where_due, pieces_bring_no_success, pieces_make_no_difference};
+pub use laws::{
+    ends_are_said_where_due, pieces_bring_no_success, pieces_make_no_difference,
+    saves_come_one_by_one,
+};
 pub use words::are_few;
