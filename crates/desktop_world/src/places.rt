@@ -6,6 +6,8 @@ use unix_links::{control_fault, path_fault};
 /// Where the four files of a session lie.
 #[derive(Clone, Copy, Debug, PartialEq, Eq)]
 pub struct Places<'a> {
+    /// The program whose session it is, by which it calls itself where it tells the user something.
+    pub program: &'a str,
     pub socket: &'a str,
     pub control: &'a str,
     pub store: &'a str,
@@ -67,7 +69,7 @@ impl Places<'_> {
             (self.control, control_fault(self.control)),
         ] {
             if let Some(fault) = fault {
-                let _ = eprintln!(rt; "smd: cannot listen at {path}: {fault}");
+                let _ = eprintln!(rt; "{}: cannot listen at {path}: {fault}", self.program);
                 return true;
             }
         }
@@ -78,11 +80,16 @@ impl Places<'_> {
     fn clashes(&self, rt: &HostRuntime, path: &str, others: &[&str]) -> bool {
         for other in others {
             if is_one(rt, path, other) {
-                let _ = eprintln!(rt; "smd: {path} and {other} would be one file");
+                let _ = eprintln!(rt; "{}: {path} and {other} would be one file", self.program);
                 return true;
             }
         }
         false
+    }
+
+    /// Whether another socket is that of the session, which the user is told.
+    pub fn has_socket(&self, rt: &HostRuntime, other: &str) -> bool {
+        self.clashes(rt, other, &[self.socket])
     }
 
     /// What can't be had at these places, as far as it can be seen before anything is made. The user

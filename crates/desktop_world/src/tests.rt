@@ -1,4 +1,5 @@
 use crate::{BadPlaces, DesktopWorld, Places, host_name, random_cookie};
+use outer_world::Outer;
 use owned_lists::{Command, Octets, OctetsList, PairList};
 use sm_world::{Console, Disk, Event, Failure, Links, Spawner};
 use std::alloc::Global;
@@ -102,6 +103,25 @@ fn a_line_goes_to_the_operator_who_asked(rt: HostRuntime) -> Result<(), Fail> {
 }
 
 #[test]
+fn the_file_of_the_outer_cookie_is_fetched(rt: HostRuntime) -> Result<(), Fail> {
+    let path = path_of(rt, "cookies")?;
+    let mut world = DesktopWorld::new(rt, host_name(&rt)?);
+    fs::write(&rt, path.as_str(), b"bytes")?;
+    assert_eq!(rt;
+        world.fetch(rt.alloc(), path.as_str())?.as_slice(),
+        b"bytes".as_slice()
+    );
+    fs::remove_file(&rt, path.as_str())?;
+    assert_eq!(rt;
+        world.fetch(rt.alloc(), path.as_str()).err(),
+        Some(Failure::Failed)
+    );
+    // Nobody is listened to yet.
+    assert_eq!(rt; world.open_outer(path.as_str()), Err(Failure::Failed));
+    Ok(())
+}
+
+#[test]
 fn each_cookie_is_another(rt: HostRuntime) -> Result<(), Fail> {
     assert!(rt; random_cookie(&rt)? != random_cookie(&rt)?);
     Ok(())
@@ -111,6 +131,7 @@ fn each_cookie_is_another(rt: HostRuntime) -> Result<(), Fail> {
 fn fault_at(rt: HostRuntime, paths: [&str; 4]) -> Option<BadPlaces> {
     let [socket, control, store, authority] = paths;
     let places = Places {
+        program: "smd",
         socket,
         control,
         store,

@@ -1,13 +1,29 @@
-ghost use Rattle.std.specs.Prelude.{◌≡◌};
+ghost use Rattle.std.specs.Prelude.{◌≡◌, ◌≤◌, length, IfOk};
 ghost use Rattle.desktop_world.specs.Untold.{world_outside};
 
 use checkpoint_slots::STORE_BYTES;
-use owned_lists::{Command, NoMemory};
+use outer_world::Outer;
+use owned_lists::{Command, NoMemory, Octets};
 use program_frame::StandardConsole;
 use program_spawner::ProgramSpawner;
 use sm_world::{Conn, Console, Disk, Event, Failed, Failure, Links, Spawner, Told};
+use std::alloc::Global;
 use store_file::FileDisk;
-use unix_links::{LinkOptions, SocketLinks};
+use unix_links::{LinkOptions, SocketLinks, refused};
+use unix_peer::read_file;
+
+/// The bytes of a file of at most 65,536. The user is told why they can't be had.
+fn bytes_at(rt: &HostRuntime, path: &str) -> Result<Octets, Failure>
+    ensures { IfOk result (λ bytes. length bytes ≤ 65536) }
+{
+    match read_file(rt, path) {
+        Ok(bytes) => Ok(Octets::from_vec(bytes)),
+        Err(error) => {
+            let _ = eprintln!(rt; "smnest: cannot read {path}: {error}");
+            Err(refused(error))
+        }
+    }
+}
 
 /// The outside of a session manager on a desktop. What happens there is told to nobody; each fault is
 /// counted.
@@ -17,6 +33,7 @@ use unix_links::{LinkOptions, SocketLinks};
 /// and before the next event is asked for, goes to the order's operator too.
 #[derive(Drop)]
 pub struct DesktopWorld {
+    rt: HostRuntime,
     host: String,
     disk: FileDisk,
     links: SocketLinks,
@@ -33,6 +50,7 @@ impl DesktopWorld {
     /// The same, with what was chosen of the links.
     pub fn with_options(rt: HostRuntime, host: String, options: LinkOptions) -> DesktopWorld {
         DesktopWorld {
+            rt,
             host,
             disk: FileDisk::new(rt, STORE_BYTES),
             links: SocketLinks::with_options(rt, options),
@@ -113,6 +131,17 @@ impl Links for DesktopWorld {
 
     fn shut(&mut self, to: Conn) -> Result<(), Failure> {
         self.links.shut(to)
+    }
+}
+
+impl Outer for DesktopWorld {
+    fn open_outer(&mut self, path: &str) -> Result<(), Failure> {
+        self.links.open_outer(path)
+    }
+
+    fn fetch(&mut self, _alloc: Global, path: &str) -> Result<Octets, Failure> {
+        let fetched = bytes_at(&self.rt, path);
+        self.links.count(fetched)
     }
 }
 

@@ -11,7 +11,7 @@ use unix_links::SocketLinks;
 #[derive(Drop)]
 pub struct Paths {
     pub socket: String,
-    control: String,
+    pub control: String,
 }
 
 pub fn room(rt: HostRuntime, name: &str) -> Result<Paths, Fail> {
@@ -45,7 +45,7 @@ pub fn dial(rt: HostRuntime, path: &str) -> Result<UnixStream, Fail> {
 }
 
 /// Whether these bytes come to a peer next.
-fn reads(peer: &mut UnixStream, want: &[u8]) -> io::Result<bool> {
+pub fn reads(peer: &mut UnixStream, want: &[u8]) -> io::Result<bool> {
     let mut came = [0u8; 32];
     let room = &mut came[..want.len().min(32)];
     peer.read_exact(room)?;
@@ -81,7 +81,7 @@ pub fn goes(links: &mut SocketLinks, number: u32) -> bool {
 }
 
 /// Whether this one says these bytes next.
-fn says(links: &mut SocketLinks, number: u32, text: &[u8]) -> bool {
+pub fn says(links: &mut SocketLinks, number: u32, text: &[u8]) -> bool {
     match &next(links) {
         Event::Piece(conn, bytes) => *conn == number && bytes.as_slice() == text,
         _ => false,
@@ -104,7 +104,7 @@ fn asks_drop(links: &mut SocketLinks, number: u32) -> bool {
 }
 
 /// Whether a tick comes now, a quarter of a second after the last one or later.
-fn ticks(links: &mut SocketLinks) -> bool {
+pub fn ticks(links: &mut SocketLinks) -> bool {
     matches!(links.next(), Ok(Event::Tick(passed)) if passed >= 250)
 }
 
@@ -114,7 +114,7 @@ pub fn sends(links: &mut SocketLinks, number: u32, bytes: &[u8]) -> bool {
 }
 
 /// Whether this one is shut.
-fn shuts(links: &mut SocketLinks, number: u32) -> bool {
+pub fn shuts(links: &mut SocketLinks, number: u32) -> bool {
     links.shut(number) == Ok(())
 }
 

@@ -9,13 +9,13 @@ use sm_world::{Conn, Event, PIECE_LIMIT};
 use std::alloc::{AllocError, Global};
 use std::collections::{BTreeMap, VecDeque};
 use std::io::Read;
-use unix_links::{Client, Leavers, Reading, is_passing, would_wait};
+use unix_links::{Connection, Leavers, Reading, is_passing, would_wait};
 
 /// The connections of a relay, by their numbers: 2k - 1 is that of a client, and 2k leads it on.
 #[derive(Drop)]
 pub struct Streams {
     alloc: Global,
-    open: BTreeMap<Conn, Client>,
+    open: BTreeMap<Conn, Connection>,
     /// The number that was given last, which is even. None is given twice.
     last: Conn,
     /// Who came and who was dropped, which is told next.
@@ -49,10 +49,10 @@ impl Streams {
             return Ok(());
         };
         let first = second - 1;
-        let Some(near) = Client::new(self.alloc, registry, first, near, 0) else {
+        let Some(near) = Connection::new(self.alloc, registry, first, near) else {
             return Ok(());
         };
-        let Some(far) = Client::new(self.alloc, registry, second, far, 0) else {
+        let Some(far) = Connection::new(self.alloc, registry, second, far) else {
             return Ok(());
         };
         self.last = second;
@@ -71,12 +71,12 @@ impl Streams {
         ends: bool,
         takes: bool,
     ) -> Result<(), NoMemory> {
-        let Some(client) = self.open.get_mut(&conn) else {
+        let Some(connection) = self.open.get_mut(&conn) else {
             self.leaving.told(registry, conn, ends, takes);
             return Ok(());
         };
-        client.ends = client.ends || ends;
-        if takes && !client.flush(registry, conn) {
+        connection.ends = connection.ends || ends;
+        if takes && !connection.flush(registry, conn) {
             return self.lose(conn);
         }
         Ok(())
@@ -86,13 +86,13 @@ impl Streams {
     pub fn read(&mut self, conn: Conn) -> Result<Reading, NoMemory>
         ensures size { IfOk result (λ reading. IfSome reading.event HasPieceSize) }
     {
-        let Some(client) = self.open.get_mut(&conn) else {
+        let Some(connection) = self.open.get_mut(&conn) else {
             return Ok(self.leaving.read(conn, self.piece.as_mut_slice()));
         };
-        match client.stream.read(self.piece.as_mut_slice()) {
+        match connection.stream.read(self.piece.as_mut_slice()) {
             Ok(count) if 0 < count && count <= PIECE_LIMIT => {
                 // A read that doesn't fill its room took all that there was.
-                let more = client.ends || count == PIECE_LIMIT;
+                let more = connection.ends || count == PIECE_LIMIT;
                 let bytes = Octets::from_slice(self.alloc, &self.piece[..count])?;
                 Ok(Reading {
                     event: Some(Event::Piece(conn, bytes)),
@@ -113,10 +113,10 @@ impl Streams {
 
     /// Sends bytes on a connection. One for which too many wait is dropped.
     pub fn send(&mut self, registry: &Registry, to: Conn, bytes: &[u8]) -> Result<(), NoMemory> {
-        let Some(client) = self.open.get_mut(&to) else {
+        let Some(connection) = self.open.get_mut(&to) else {
             return Ok(());
         };
-        if client.send(registry, to, bytes)? {
+        if connection.send(registry, to, bytes)? {
             Ok(())
         } else {
             self.lose(to)
@@ -125,8 +125,8 @@ impl Streams {
 
     /// Closes a connection gently. What was sent on it still reaches the peer.
     pub fn shut(&mut self, registry: &Registry, conn: Conn) {
-        if let Some(client) = self.open.remove(&conn) {
-            self.leaving.add(registry, conn, client);
+        if let Some(connection) = self.open.remove(&conn) {
+            self.leaving.add(registry, conn, connection);
         }
     }
 

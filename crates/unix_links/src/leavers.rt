@@ -1,6 +1,6 @@
 ghost use Rattle.std.specs.Prelude.{◌≡◌, None};
 
-use crate::client::Client;
+use crate::connection::Connection;
 use crate::reading::{Reading, is_passing, would_wait};
 use mio::Registry;
 use sm_world::{Conn, PIECE_LIMIT};
@@ -17,7 +17,7 @@ const GRACE: u64 = 1_000;
 /// A connection that is closing.
 #[derive(Drop)]
 struct Leaver {
-    client: Client,
+    connection: Connection,
     /// The milliseconds until it is closed anyway.
     left: u64,
 }
@@ -40,15 +40,15 @@ impl Leavers {
 
     /// Takes a connection over. Where too many are closing, the oldest is closed at once; and this
     /// one is, where there is no memory for it.
-    pub fn add(&mut self, registry: &Registry, conn: Conn, mut client: Client) {
-        if !client.finish(registry, conn) {
+    pub fn add(&mut self, registry: &Registry, conn: Conn, mut connection: Connection) {
+        if !connection.finish(registry, conn) {
             return;
         }
         if self.open.len() >= LEAVER_LIMIT {
             let _ = self.open.pop_first();
         }
         let left = GRACE;
-        let _ = self.open.insert(conn, Leaver { client, left });
+        let _ = self.open.insert(conn, Leaver { connection, left });
     }
 
     /// Notes what the system told of a connection besides that it can be read.
@@ -56,8 +56,8 @@ impl Leavers {
         let Some(leaver) = self.open.get_mut(&conn) else {
             return;
         };
-        leaver.client.ends = leaver.client.ends || ends;
-        if takes && !leaver.client.finish(registry, conn) {
+        leaver.connection.ends = leaver.connection.ends || ends;
+        if takes && !leaver.connection.finish(registry, conn) {
             let _ = self.open.remove(&conn);
         }
     }
@@ -69,9 +69,9 @@ impl Leavers {
         let Some(leaver) = self.open.get_mut(&conn) else {
             return Reading::nothing();
         };
-        match leaver.client.stream.read(room) {
+        match leaver.connection.stream.read(room) {
             Ok(count) if 0 < count => {
-                if leaver.client.ends || count == PIECE_LIMIT {
+                if leaver.connection.ends || count == PIECE_LIMIT {
                     Reading::later()
                 } else {
                     Reading::nothing()

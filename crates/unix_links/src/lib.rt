@@ -1,9 +1,9 @@
-//! The clients and the operators over Unix sockets. Nobody is told what goes through them; their
-//! faults are counted.
+//! The clients and the operators over Unix sockets, and the connection to an outer manager. Nobody is
+//! told what goes through them; their faults are counted.
 #![tactic(auto)]
 
-mod client;
 mod clients;
+mod connection;
 mod doors;
 mod leavers;
 mod links;
@@ -16,7 +16,7 @@ mod reading;
 mod sockets;
 mod sources;
 
-pub use client::Client;
+pub use connection::Connection;
 pub use doors::{abstract_listener, private_listener};
 pub use leavers::Leavers;
 pub use links::SocketLinks;

@@ -1,5 +1,5 @@
 ghost use Rattle.std.specs.Prelude.{◌≡◌, ◌≤◌, IsErrOf};
-ghost use Rattle.sm_world.specs.Outside.{Rose};
+ghost use Rattle.sm_world.specs.Outside.{Rose, UsesLinks};
 ghost use Rattle.unix_links.specs.Untold.{links_outside};
 
 use crate::doors::{Doors, Refusal};
@@ -9,14 +9,15 @@ use crate::reading::refused;
 use crate::sockets::Sockets;
 use sm_world::{Conn, Event, Failure, Links, Told};
 use std::io;
+use std::io::ErrorKind;
 
-/// The clients at a Unix socket, and the operators at another. What goes through them is told to
-/// nobody; each fault is counted.
+/// The clients at a Unix socket, the operators at another, and the connection to an outer manager,
+/// where one is opened. What goes through them is told to nobody; each fault is counted.
 ///
-/// Connections have the numbers from 1 on. A client for which more than 1,048,576 bytes would wait is
-/// dropped, and then gone. One that is shut still gets what was sent on it, and is read on, unheard,
-/// until the peer closes it or a second has passed. There is a tick every 250 milliseconds, also while events come, and it
-/// carries the milliseconds since the last one.
+/// Clients have the numbers from 1 on, and the outer manager has 0. A connection for which more than
+/// 1,048,576 bytes would wait is dropped, and then gone. One that is shut still gets what was sent on it,
+/// and is read on, unheard, until the peer closes it or a second has passed. There is a tick every 250
+/// milliseconds, also while events come, and it carries the milliseconds since the last one.
 #[derive(Drop)]
 pub struct SocketLinks {
     rt: HostRuntime,
@@ -63,6 +64,32 @@ impl SocketLinks {
         self.sockets = None;
     }
 
+    /// Connects to the outer manager's socket at this path. Of this connection the links bring pieces,
+    /// and its end once, but not that it has begun; it is sent to and shut as any other. Where nobody
+    /// is listened to yet, this is a fault.
+    pub fn open_outer(&mut self, path: &str) -> Result<(), Failure>
+        ensures uses { UsesLinks (links_outside self.old) (links_outside self.new) result }
+    {
+        let answer = self.lead_out(path);
+        self.count(answer)
+    }
+
+    fn lead_out(&mut self, path: &str) -> Result<(), Failure>
+        ensures same { self.new.faults ≡ self.old.faults }
+    {
+        let opened = match &mut self.sockets {
+            Some(sockets) => sockets.open_outer(path),
+            None => Err(io::Error::from(ErrorKind::NotConnected)),
+        };
+        match opened {
+            Ok(()) => Ok(()),
+            Err(error) => {
+                let _ = eprintln!(self.rt; "smnest: cannot connect to {path}: {error}");
+                Err(refused(error))
+            }
+        }
+    }
+
     fn open(&mut self, socket: &str, control: &str) -> Result<(), Failure>
         ensures same { self.new.faults ≡ self.old.faults }
     {
@@ -89,8 +116,9 @@ impl SocketLinks {
     }
 
     /// Counts a fault, where the answer is one.
-    fn count<T>(&mut self, answer: Result<T, Failure>) -> Result<T, Failure>
+    pub fn count<T>(&mut self, answer: Result<T, Failure>) -> Result<T, Failure>
         ensures same { result ≡ answer }
+        ensures uses { UsesLinks (links_outside self.old) (links_outside self.new) result }
         ensures cause { IsErrOf result Failure.Failed → Rose self.old.faults self.new.faults }
         ensures not_fallen { self.old.faults ≤ self.new.faults }
     {

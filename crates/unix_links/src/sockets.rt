@@ -1,7 +1,7 @@
 ghost use Rattle.std.specs.Prelude.{IfOk, IfSome};
 ghost use Rattle.sm_world.specs.Events.{HasPieceSize};
 
-use crate::clients::Clients;
+use crate::clients::{Clients, OUTER};
 use crate::doors::Doors;
 use crate::operators::Operators;
 use crate::reading::{Reading, is_passing, refused, would_wait};
@@ -12,6 +12,7 @@ use owned_lists::NoMemory;
 use sm_world::{Conn, Event, Failure};
 use std::collections::VecDeque;
 use std::io;
+use std::os::unix::net;
 use std::time::{Duration, Instant};
 use stream_watch::Place;
 
@@ -24,8 +25,9 @@ const MOMENT: u64 = 10;
 /// How many ready sources the system tells of at once.
 const READY: usize = 128;
 
-/// The doors, and all who came in. Those who may have something stand in a queue, each once; a turn
-/// serves each of them once, and between two turns the system is asked who else is ready.
+/// The doors, all who came in, and the connection to an outer manager. Those who may have something
+/// stand in a queue, each once; a turn serves each of them once, and between two turns the system is
+/// asked who else is ready.
 #[derive(Drop)]
 pub struct Sockets {
     rt: HostRuntime,
@@ -299,6 +301,15 @@ impl Sockets {
         Ok(Reading::nothing())
     }
 
+    /// Connects to the socket of an outer manager. This waits for a place at its door; what is read and
+    /// written then waits for nothing.
+    pub fn open_outer(&mut self, path: &str) -> io::Result<()> {
+        let stream = net::UnixStream::connect(&self.rt, path)?;
+        stream.set_nonblocking(true)?;
+        let stream = UnixStream::from_std(stream);
+        self.clients.add_outer(self.poll.registry(), stream)
+    }
+
     pub fn send(&mut self, to: Conn, bytes: &[u8]) -> Result<(), NoMemory> {
         self.clients.send(self.poll.registry(), to, bytes)
     }
@@ -307,9 +318,10 @@ impl Sockets {
         self.clients.shut(self.poll.registry(), conn);
     }
 
-    /// Waits until the connections that were shut are closed, which takes a second or two at most.
-    /// Whatever else comes is heard by nobody.
+    /// Waits until the connections that were shut are closed, which takes a second or two at most, and
+    /// the one to an outer manager with them. Whatever else comes is heard by nobody.
     pub fn finish(&mut self) {
+        self.shut(OUTER);
         for _ in 0..u64::MAX {
             if !self.clients.has_leavers() || self.next().is_err() {
                 return;

@@ -11,6 +11,7 @@ pub enum Source {
     Hidden,
     /// The operators' door.
     Control,
+    /// A client's connection, or with the number 0 the one to an outer manager.
     Client(Conn),
     Operator(u32),
 }

@@ -8,3 +8,4 @@ mod reading;
 mod tests;
 
 pub use peer::UnixPeer;
+pub use reading::read_file;

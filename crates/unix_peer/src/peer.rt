@@ -4,7 +4,7 @@ ghost use Rattle.program_frame.specs.Untold.{CountsFault};
 ghost use Rattle.unix_peer.specs.Untold.{peer_outside};
 
 use crate::reading::{read_file, read_some};
-use client_peer::{FILE_LIMIT, Peer};
+use client_peer::Peer;
 use owned_lists::Octets;
 use program_frame::StandardConsole;
 use sm_world::{Console, Failure, Told};
@@ -90,8 +90,7 @@ impl Peer for UnixPeer {
 
     fn fetch(&mut self, path: &str) -> Result<Octets, Failure> {
         match read_file(&self.rt, path) {
-            Ok(bytes) if bytes.len() <= FILE_LIMIT => Ok(Octets::from_vec(bytes)),
-            Ok(_) => Err(self.failed()),
+            Ok(bytes) => Ok(Octets::from_vec(bytes)),
             Err(error) if error.kind() == ErrorKind::OutOfMemory => Err(Failure::NoMemory),
             Err(_) => Err(self.failed()),
         }

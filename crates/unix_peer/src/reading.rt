@@ -40,10 +40,16 @@ fn read_into(stream: &mut UnixStream, into: &mut [u8]) -> io::Result<usize>
     Err(io::Error::from(ErrorKind::Interrupted))
 }
 
-/// All bytes of a file, but of a long one only the first that show that it is too long.
-pub fn read_file(rt: &HostRuntime, path: &str) -> io::Result<Vec<u8>> {
+/// All bytes of a file of at most 65,536; a longer one is refused.
+pub fn read_file(rt: &HostRuntime, path: &str) -> io::Result<Vec<u8>>
+    ensures { IfOk result (λ bytes. length bytes.items ≤ 65536) }
+{
     let file = File::open(rt, path)?;
     let mut bytes = Vec::new(rt.alloc());
     file.take(FILE_LIMIT as u64 + 1).read_to_end(&mut bytes)?;
+    if bytes.len() > FILE_LIMIT {
+        let why = "it has more than 65536 bytes";
+        return Err(io::Error::new(ErrorKind::InvalidInput, why));
+    }
     Ok(bytes)
 }

@@ -3,18 +3,15 @@ use crate::sources::Source;
 use mio::net::UnixStream;
 use mio::{Interest, Registry};
 use owned_lists::NoMemory;
-use session_watch::ClientWatch;
 use sm_world::Conn;
 use std::alloc::Global;
 use std::io;
 use std::net::Shutdown;
 
-/// A client's connection.
+/// A connection, which a client came by or which leads to another manager.
 #[derive(Drop)]
-pub struct Client {
+pub struct Connection {
     pub stream: UnixStream,
-    /// What is known of the client by what passed.
-    pub watch: ClientWatch,
     outbox: Outbox,
     /// The system told that the peer sends no more. It won't tell again, so all is read that is left.
     pub ends: bool,
@@ -23,15 +20,14 @@ pub struct Client {
     waits: bool,
 }
 
-impl Client {
-    /// A connection that begins now and of which the system is to tell; none where it can't.
+impl Connection {
+    /// A connection of which the system is to tell; none where it can't.
     pub fn new(
         alloc: Global,
         registry: &Registry,
         conn: Conn,
         mut stream: UnixStream,
-        now: u64,
-    ) -> Option<Client> {
+    ) -> Option<Connection> {
         let token = Source::Client(conn).token();
         if registry
             .register(&mut stream, token, Interest::READABLE)
@@ -39,9 +35,8 @@ impl Client {
         {
             return None;
         }
-        Some(Client {
+        Some(Connection {
             stream,
-            watch: ClientWatch::new(alloc, now),
             outbox: Outbox::new(alloc),
             ends: false,
             waits: false,
@@ -62,7 +57,7 @@ impl Client {
         registry.reregister(&mut self.stream, Source::Client(conn).token(), interest)
     }
 
-    /// Goes on after bytes were sent; false where the client can't be served any more.
+    /// Goes on after bytes were sent; false where the peer can't be served any more.
     fn keeps(&mut self, registry: &Registry, conn: Conn, progress: Progress) -> bool {
         match progress {
             Progress::All => self.watch(registry, conn, false).is_ok(),
@@ -71,7 +66,7 @@ impl Client {
         }
     }
 
-    /// Sends these bytes behind those that wait; false where the client can't be served any more.
+    /// Sends these bytes behind those that wait; false where the peer can't be served any more.
     pub fn send(
         &mut self,
         registry: &Registry,
@@ -82,7 +77,7 @@ impl Client {
         Ok(self.keeps(registry, conn, progress))
     }
 
-    /// Sends what waits; false where the client can't be served any more.
+    /// Sends what waits; false where the peer can't be served any more.
     pub fn flush(&mut self, registry: &Registry, conn: Conn) -> bool {
         let progress = self.outbox.flush(&self.stream);
         self.keeps(registry, conn, progress)
