@@ -1,0 +1,9 @@
+pub mod Woven
+pub mod Nesting
+pub mod Nests
+pub mod Standing
+pub mod Promise
+pub mod Serving
+pub mod Tags
+pub mod Awaited
+pub mod Examples
