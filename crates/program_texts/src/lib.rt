@@ -8,4 +8,4 @@ mod tests;
 mod versions;
 
 pub use slips::{first_meant, is_slip, meant_word, try_hint};
-pub use versions::{SMCLIENT, SMCTL, SMD, SMRELAY, SMTRACE, SMWRAP};
+pub use versions::{SMCLIENT, SMCTL, SMD, SMNEST, SMRELAY, SMTRACE, SMWRAP};

@@ -17,3 +17,5 @@ pub const SMCLIENT: &str = version_of!("smclient");
 pub const SMRELAY: &str = version_of!("smrelay");
 
 pub const SMWRAP: &str = version_of!("smwrap");
+
+pub const SMNEST: &str = version_of!("smnest");

@@ -49,6 +49,7 @@ const TEXTS: OwnTexts = OwnTexts {
 /// first is made.
 fn bad_places(rt: HostRuntime, paths: Paths<'_>) -> Option<BadPlaces> {
     let places = Places {
+        program: "smd",
         socket: paths.socket,
         control: paths.control,
         store: paths.store,

@@ -54,14 +54,14 @@ same_cell began path bytes text effects i =
     ∙ (others_keep (Printed text) i _ tt ∙ others_keep (Published path bytes) i _ tt)
 
 -- what stands behind the set-up
-record Behind (identity : Identity) (places : Places) (old mid : Outside) : Type 0 where
-  told : mid.told ≡ adds (adds old.told (handing_out identity places)) (announcing identity places)
-  first : mid.first ≡ old.first
-  coming : mid.coming ≡ old.coming
-  size : KeepsToldSize old mid
-  counts : NotFallen old.faults mid.faults
+pub record Behind (identity : Identity) (places : Places) (old mid : Outside) : Type 0 where
+  pub told : mid.told ≡ adds (adds old.told (handing_out identity places)) (announcing identity places)
+  pub first : mid.first ≡ old.first
+  pub coming : mid.coming ≡ old.coming
+  pub size : KeepsToldSize old mid
+  pub counts : NotFallen old.faults mid.faults
 
-still_settled : (identity : Identity) (places : Places) (old mid : Outside) → Behind identity places old mid → (file : List ℕ) → IsSettled old file → IsSettled mid file
+pub still_settled : (identity : Identity) (places : Places) (old mid : Outside) → Behind identity places old mid → (file : List ℕ) → IsSettled old file → IsSettled mid file
 still_settled identity places old mid behind file settled =
     let cells = same_cell settled.began _ _ _ settled.effects in
     record {
@@ -74,10 +74,10 @@ still_settled identity places old mid behind file settled =
       left = λ i byte within is. settled.left i byte within (rw (cells i) at is);
     }
 
-kept_since : (identity : Identity) (places : Places) (old mid new : Outside) → Behind identity places old mid → KeepsToldSize mid new → KeepsToldSize old new
+pub kept_since : (identity : Identity) (places : Places) (old mid new : Outside) → Behind identity places old mid → KeepsToldSize mid new → KeepsToldSize old new
 kept_since identity places old mid new behind kept = λ first told. kept first (behind.first ∙ told) ∙ behind.size first told
 
-unopened_since : (identity : Identity) (places : Places) (old mid : Outside) (size : ℕ) (fault : ServeFault) → Behind identity places old mid → IsUnopened mid size fault → IsUnopened old size fault
+pub unopened_since : (identity : Identity) (places : Places) (old mid : Outside) (size : ℕ) (fault : ServeFault) → Behind identity places old mid → IsUnopened mid size fault → IsUnopened old size fault
 unopened_since identity places old mid size (WrongSize n) behind cause = cause
 unopened_since identity places old mid size (Damaged at) behind cause = (cause.0, (λ file settled. cause.1 file (still_settled identity places old mid behind file settled)))
 unopened_since identity places old mid size Worn behind cause = (cause.0, (cause.1.0, cause.1.1, (λ file settled. cause.1.2 file (still_settled identity places old mid behind file settled)), cause.1.3))
@@ -115,7 +115,7 @@ own identity places config turns old mid new (Err fault) behind (inr opens) = re
   holds = inr (opened_since identity places config turns old mid new (Err fault) behind opens);
 }
 
-caused_since : (old mid new : Faults) (answer : Result (Unit {0}) ServeFault) → NotFallen old mid → IfErr answer (HasCause mid new) → IfErr answer (HasCause old new)
+pub caused_since : (old mid new : Faults) (answer : Result (Unit {0}) ServeFault) → NotFallen old mid → IfErr answer (HasCause mid new) → IfErr answer (HasCause old new)
 caused_since old mid new (Ok x) counts cause = cause
 caused_since old mid new (Err (Damaged at)) counts cause = cause
 caused_since old mid new (Err (WrongSize size)) counts cause = cause
@@ -139,7 +139,7 @@ same_rest (t ∷ told) xs ys e = same_rest told xs ys (ap tail_of e)
 same_told : (xs ys : List Effect) → Some xs ≡ Some ys → xs ≡ ys
 same_told xs ys e = cc
 
-same_added : (old new : Option (List Effect)) (told xs ys : List Effect) → old ≡ Some told → new ≡ adds old xs → new ≡ adds old ys → xs ≡ ys
+pub same_added : (old new : Option (List Effect)) (told xs ys : List Effect) → old ≡ Some told → new ≡ adds old xs → new ≡ adds old ys → xs ≡ ys
 same_added old new told xs ys is one other =
     same_rest told xs ys (same_told (told ++ xs) (told ++ ys) (sym (one ∙ ap (λ o. adds o xs) is) ∙ (other ∙ ap (λ o. adds o ys) is)))
 

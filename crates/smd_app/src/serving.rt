@@ -81,7 +81,7 @@ fn line_of(alloc: Global, identity: &Identity, socket: &str) -> Result<Octets, N
 }
 
 /// Takes the store, and publishes the file from which clients have the cookie.
-fn hand_out<W: Disk>(
+pub fn hand_out<W: Disk>(
     alloc: Global,
     world: &mut W,
     identity: &Identity,
@@ -116,7 +116,7 @@ fn hand_out<W: Disk>(
 }
 
 /// Opens the sockets, and prints where the session is.
-fn announce<W: Links + Console>(
+pub fn announce<W: Links + Console>(
     alloc: Global,
     world: &mut W,
     identity: &Identity,

@@ -90,7 +90,7 @@ fn path_of<'a>(pairs: &'a [String], name: &str) -> Option<&'a str>
 }
 
 /// The patience that a word states.
-fn read_patience(alloc: Global, word: &str) -> Result<Option<u64>, NoMemory>
+pub fn read_patience(alloc: Global, word: &str) -> Result<Option<u64>, NoMemory>
     ensures { IfOk result (λ found.
         MatchOption found ((patience : ℕ) → IsPatience patience → word.now ≢ decimal patience)
         (λ patience. IsPatience patience × (word.now ≡ decimal patience))) }

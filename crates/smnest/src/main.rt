@@ -1,0 +1,124 @@
+//! `smnest`, a session manager inside a session.
+#![tactic(auto)]
+
+use desktop_world::{BadPlaces, DesktopWorld, Places, host_name, random_cookie};
+use owned_lists::{NoMemory, Octets};
+use program_frame::{OwnTexts, StandardConsole, read_words};
+use program_texts::{SMNEST, first_meant, try_hint};
+use sm_world::Console;
+use smd_app::Identity;
+use smnest_app::{NestPaths, read_places, smnest_main};
+use std::io;
+use std::io::ErrorKind;
+use std::process::ExitCode;
+
+const TEXTS: OwnTexts = OwnTexts {
+    help: "smnest, a session manager inside a session\n\n\
+        usage: smnest serve --socket P --control C --store F --authority A [--patience MS]\n\
+        \x20                 --outer X --outer-authority Y [--outer-id ID]\n\
+        \x20                          runs a session that is one client of another\n\
+        \x20         --outer X            the socket of the other one's manager\n\
+        \x20         --outer-authority Y  the file that has the cookie for it\n\
+        \x20         --outer-id ID        the ID that it had in an earlier session\n\
+        \x20                          as: smnest serve --socket s --control c --store f --authority a\n\
+        \x20                              --outer \"${SESSION_MANAGER#*:}\" --outer-authority \"$ICEAUTHORITY\"\n\
+        \x20      smnest rehearse [--outer-id ID] < SCRIPT\n\
+        \x20                          shows what smnest does at the events of a script\n\
+        \x20                          as: smnest rehearse < examples/nested.script\n\
+        \x20      smnest --help       shows this\n\
+        \x20      smnest --version    shows the version\n\n\
+        The other options are those of smd serve.\n",
+    version: SMNEST,
+    no_memory: "smnest: no memory\n",
+};
+
+/// What can't be had at these paths. The session opens one after another, and this is seen before the
+/// first is made.
+fn bad_places(rt: HostRuntime, paths: &NestPaths<'_>) -> Option<BadPlaces> {
+    let places = Places {
+        program: "smnest",
+        socket: paths.own.socket,
+        control: paths.own.control,
+        store: paths.own.store,
+        authority: paths.own.authority,
+    };
+    match places.fault(&rt) {
+        None if places.has_socket(&rt, paths.outer) => Some(BadPlaces::Sockets),
+        fault => fault,
+    }
+}
+
+/// The status of a session whose places can't be had, which is printed.
+fn refused(rt: HostRuntime, bad: BadPlaces) -> u8 {
+    let (line, status) = match bad {
+        BadPlaces::Sockets => ("smnest: link fault\n", 5),
+        BadPlaces::Files => ("smnest: disk fault\n", 4),
+    };
+    let _ = StandardConsole::new(rt).print(line.as_bytes());
+    status
+}
+
+fn no_memory(_error: NoMemory) -> io::Error {
+    io::Error::from(ErrorKind::OutOfMemory)
+}
+
+/// The status of a run with these words on this desktop.
+fn run(rt: HostRuntime, words: &[String]) -> io::Result<u8> {
+    let host = host_name(&rt)?;
+    let identity = Identity {
+        cookie: random_cookie(&rt)?,
+        host: Octets::from_vec(Vec::from_slice(rt.alloc(), host.as_bytes())?),
+    };
+    if let Some(paths) = read_places(rt.alloc(), words).map_err(no_memory)? {
+        if let Some(bad) = bad_places(rt, &paths) {
+            return Ok(refused(rt, bad));
+        }
+    }
+    let mut world = DesktopWorld::new(rt, host);
+    let status = smnest_main(rt.alloc(), words, &mut world, identity, u64::MAX);
+    world.close();
+    Ok(status)
+}
+
+/// The same; where there was no memory for it, this is printed.
+fn run_or_tell(rt: HostRuntime, words: &[String], console: &mut StandardConsole) -> u8 {
+    match run(rt, words) {
+        Ok(status) => status,
+        // Neither the host's name nor a cookie is refused for another reason.
+        Err(_) => {
+            let _ = console.print(TEXTS.no_memory.as_bytes());
+            10
+        }
+    }
+}
+
+/// The words that it knows, of which one may be meant by one that it doesn't know.
+const KNOWN: [&str; 12] = [
+    "serve",
+    "rehearse",
+    "--socket",
+    "--control",
+    "--store",
+    "--authority",
+    "--patience",
+    "--outer",
+    "--outer-authority",
+    "--outer-id",
+    "--help",
+    "--version",
+];
+
+fn main(rt: HostRuntime) -> ExitCode {
+    let words = read_words(&rt);
+    let mut console = StandardConsole::new(rt);
+    let status = match TEXTS.begin(words, &mut console) {
+        Ok(words) => {
+            let meant = first_meant(words.as_slice(), &KNOWN);
+            let status = run_or_tell(rt, words.as_slice(), &mut console);
+            try_hint(rt.alloc(), &mut console, "smnest", status, meant);
+            status
+        }
+        Err(status) => status,
+    };
+    ExitCode::from(status)
+}
