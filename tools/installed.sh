@@ -3,7 +3,7 @@
 
 [ $# -eq 1 ] && [ -n "$1" ] || { echo "usage: tools/$(basename "$0") PREFIX" >&2; exit 2; }
 prefix=$1
-installed="smd smctl smtrace smclient smrelay smwrap"
+installed="smd smctl smtrace smclient smrelay smwrap smnest"
 
 # each_file CALL: calls with the mode, the file of the repository and its place under the prefix.
 each_file() {

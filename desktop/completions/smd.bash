@@ -3,11 +3,11 @@
 _smd_words() {
   local before=$1 line=$2
   case $before in
-    --socket | --control | --store | --authority | --record | --to | --state | --follow) echo FILES ;;
+    --socket | --control | --store | --authority | --record | --to | --state | --follow | --outer | --outer-authority) echo FILES ;;
     --order) echo lsb msb ;;
     drop) smctl clients --plain 2> /dev/null | sed -n 's/^conn=\([0-9]*\) .*/\1/p' ;;
     forget) smctl clients --plain 2> /dev/null | sed -n 's/.* id=\([^ -][^ ]*\).*/\1/p' ;;
-    --patience | --last-wait | --from | --saves | --id | --program | --seconds | --restore) ;;
+    --patience | --last-wait | --from | --saves | --id | --outer-id | --program | --seconds | --restore) ;;
     *) _smd_own "$line" ;;
   esac
 }
@@ -29,6 +29,9 @@ _smd_own() {
     smrelay:serve) echo --socket --to --order ;;
     smrelay:rehearse) echo lsb msb ;;
     smwrap:*) echo --socket --authority --state --from --id -- --help --version ;;
+    smnest:) echo serve rehearse --help --version ;;
+    smnest:serve) echo --socket --control --store --authority --patience --outer --outer-authority --outer-id ;;
+    smnest:rehearse) echo --outer-id ;;
     smd-session:) echo --list --restore ;;
     smd-logout:) echo --now --save ;;
     smd-ask:) echo --seconds --tell ;;
@@ -46,4 +49,4 @@ _smd() {
   fi
 }
 
-complete -F _smd smd smctl smtrace smclient smrelay smwrap smd-session smd-logout smd-ask
+complete -F _smd smd smctl smtrace smclient smrelay smwrap smnest smd-session smd-logout smd-ask
