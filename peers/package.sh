@@ -3,7 +3,7 @@
 # The programs that are checked, in one folder.
 make_package() {
   local name
-  mkdir "$room/programs" && for name in smd smctl smtrace smclient smrelay smwrap; do
+  mkdir "$room/programs" && for name in smd smctl smtrace smclient smrelay smwrap smnest; do
     cp "${!name}" "$room/programs/$name" || return 1
   done
   package=$("$top/tools/package" "$room/package" "$room/programs")

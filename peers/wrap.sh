@@ -41,15 +41,16 @@ first_words() {
   echo --socket "$wrapped/socket" --authority "$wrapped/authority" --state "$wrapped/text" --from 0 -- "$wrapped/edit"
 }
 
-# The name `smwrap` stands for the built program, behind what finds the manager's place.
+# name_program PROGRAM COMMAND: the program's name stands for the built one, behind the command that finds the manager's
+# place.
 name_program() {
   mkdir -p "$wrapped/bin"
-  cat > "$wrapped/bin/smwrap" << NAMED
+  cat > "$wrapped/bin/$1" << NAMED
 #!/bin/sh
-$1
-exec "$smwrap" "\$@" 2>> "$wrapped/said"
+$2
+exec "${!1}" "\$@" 2>> "$wrapped/said"
 NAMED
-  chmod +x "$wrapped/bin/smwrap"
+  chmod +x "$wrapped/bin/$1"
   PATH=$wrapped/bin:$PATH
 }
 
@@ -96,7 +97,7 @@ editor_comes_back() {
 wrapped_by_smd() {
   wrapped_anew "$room/wrapped"
   local old_path=$PATH
-  name_program :
+  name_program smwrap :
   check "smd starts for the editor" start_smd "$wrapped"
   smwrap $(first_words) < /dev/null > "$wrapped/out" 2>&1 &
   local wrapper=$!
@@ -124,6 +125,10 @@ long_state() {
 }
 
 # ---- a manager on libSM
+
+has_libsm_manager() {
+  [ -x "$room/libsm_manager" ] || gcc -Wall -Wextra -Werror -O1 -o "$room/libsm_manager" "$here/libsm_manager.c" -lSM -lICE
+}
 
 start_libsm_manager() {
   mkfifo "$wrapped/orders$1"
@@ -154,9 +159,8 @@ last_discard() { sed -n 's/^DiscardCommand\t//p' "$wrapped/log" | sed -n "$1p"; 
 wrapped_by_libsm() {
   wrapped_anew "$room/wrapped_libsm"
   local old_path=$PATH words
-  check "the manager on libSM is built without a warning" \
-    gcc -Wall -Wextra -Werror -O1 -o "$room/libsm_manager" "$here/libsm_manager.c" -lSM -lICE
-  name_program "python3 '$here/door.py' '$wrapped' || exit 1"
+  check "the manager on libSM is built without a warning" has_libsm_manager
+  name_program smwrap "python3 '$here/door.py' '$wrapped' || exit 1"
   check "the manager on libSM starts" start_libsm_manager 1
   smwrap $(first_words) < /dev/null &
   two_saves libSM libsm_saves
@@ -220,7 +224,7 @@ wrapped_by_xsm() {
   # xsm aborts where the command that it starts again has more than some 230 bytes, so its folder has a short name.
   export HOME=$room/x
   wrapped_anew "$HOME"
-  name_program "python3 '$here/door.py' '$wrapped' || exit 1"
+  name_program smwrap "python3 '$here/door.py' '$wrapped' || exit 1"
   echo "smwrap $(first_words)" > "$HOME/.xsmstartup"
   check "Xvfb starts for xsm" start_display
   start_xsm
