@@ -3,13 +3,15 @@ ghost use Rattle.checkpoint_records.specs.Books.{empty_book};
 ghost use Rattle.round_agreement.specs.Agreement.{conns_of};
 ghost use Rattle.session_model.specs.Tables.{has_id as has_that_id, is_of};
 ghost use Rattle.session_model.specs.Books.{is_eligible as may_start_again, recorded as entry_of_table, is_kept as stays, entry_saved, snapshot, next_entry as entry_after, next_entries as entries_after, new_entry as entry_new};
+ghost use Rattle.session_clients.specs.Clients.{clients_in};
+ghost use Rattle.session_clients.specs.Ids.{registered_ids};
 ghost use Rattle.session_books.specs.Plans.{expecting, seen};
 
 use checkpoint_records::{Book, Entry, EntryList};
 use ice_values::Array8;
 use owned_lists::{Duplicate, NoMemory};
 use round_agreement::Round;
-use session_clients::{Clients, is_recorded};
+use session_clients::{Clients, RegisteredIds, is_recorded, is_same_id};
 use sm_world::Conn;
 use std::alloc::Global;
 use xsmp_properties::{Hint, PropertyTable, command_of, hint_of};
@@ -39,7 +41,8 @@ fn recorded(alloc: Global, id: &Array8, table: &PropertyTable) -> Result<Option<
 fn has_id(id: &Array8, ids: &[Array8]) -> bool
     ensures { result ≡ has_that_id id.now ids.now }
 {
-    ids.iter().any(|other| other.as_slice() == id.as_slice())
+    ids.iter()
+        .any(|other| is_same_id(id.as_slice(), other.as_slice()))
 }
 
 /// Whether the entry of a client that isn't there stays.
@@ -91,18 +94,20 @@ fn entry_of_client(
     }
 }
 
-/// What becomes of an entry; None where it goes.
+/// What becomes of an entry, where these are the IDs of the clients; None where it goes.
 fn next_entry(
     alloc: Global,
     clients: &Clients,
+    ids: &RegisteredIds<'_>,
     round: &Round,
     expected: &[Array8],
     entry: &Entry,
 ) -> Result<Option<Entry>, NoMemory>
+    requires { ids.now ≡ registered_ids (clients_in clients.now) }
     ensures { IfOk result (λ next.
         next ≡ entry_after (seen clients.now empty_book expected.now) round.now entry.now) }
 {
-    match clients.client_of(entry.id.as_slice()) {
+    match ids.client_of(entry.id.as_slice()) {
         Some(conn) => entry_of_client(alloc, clients, round, conn, entry),
         None => entry_left(alloc, expected, round.wanted().shutdown, entry),
     }
@@ -159,9 +164,10 @@ fn old_entries(
         entries ≡ filter_map (entry_after (seen clients.now empty_book expected.now) round.now)
         book.now.entries) }
 {
+    let ids = clients.registered_ids()?;
     let mut entries = EntryList::new(alloc);
     for entry in book.entries.as_slice() {
-        if let Some(next) = next_entry(alloc, clients, round, expected, entry)? {
+        if let Some(next) = next_entry(alloc, clients, &ids, round, expected, entry)? {
             entries.push(next)?;
         }
     }
@@ -195,7 +201,7 @@ pub fn entries_without(alloc: Global, book: &Book, id: &[u8]) -> Result<EntryLis
 {
     let mut entries = EntryList::new(alloc);
     for entry in book.entries.as_slice() {
-        if id != entry.id.as_slice() {
+        if !is_same_id(id, entry.id.as_slice()) {
             entries.push(entry.copy()?)?;
         }
     }

@@ -1,2 +1,4 @@
+pub mod FirstRowLaws
+pub mod IdLaws
 pub mod MoveLaws
 pub mod RowLaws

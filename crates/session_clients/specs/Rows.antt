@@ -3,7 +3,7 @@ use Rattle.std.specs.Prelude.{Bool, List, None, Option, Some, [], false, find, �
 use Rattle.ice_values.specs.declared.saves.Dialog.{Dialog}
 use Rattle.ice_values.specs.declared.property.Property.{Property}
 use Rattle.xsmp_messages.specs.declared.message.XsmpMessage.{XsmpMessage}
-use Rattle.xsmp_messages.specs.declared.message.XsmpMessage.TheVariants.{RegisterClientReply}
+use Rattle.xsmp_messages.specs.declared.message.XsmpMessage.TheVariants.{RegisterClientReply, SetProperties}
 use Rattle.session_model.specs.declared.events.SessionEvent.TheVariants.{Said}
 use Rattle.session_clients.specs.declared.client.Client.{Client}
 use Rattle.session_model.specs.Moves.{Gave, Move, Outside}
@@ -20,6 +20,10 @@ client_heard c m allowed k = client_after (Outside (Said c m 0 [])) (λ id. []) 
 -- a row after a connection got an ID, and this as its first table
 abbrev pub client_registered : ℕ → List ℕ → List Property → Client → Client
 client_registered c id table k = client_after (Gave c (RegisterClientReply id)) (λ other. table) (λ dialog. false) k
+
+-- a row after a connection set all these properties
+abbrev pub client_setting : ℕ → List Property → Client → Client
+client_setting c list k = client_by (Outside (Said c (SetProperties list) 0 [])) k
 
 -- the first row of a connection
 abbrev pub row_in : ℕ → List Client → Option Client

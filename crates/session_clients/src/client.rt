@@ -5,11 +5,13 @@ ghost use Rattle.session_model.specs.Phases.{may_interact};
 ghost use Rattle.session_model.specs.Readings as of;
 ghost use Rattle.session_model.specs.Tables.{table_said};
 ghost use Rattle.session_clients.specs.Clients.{is_reply, no_client};
-ghost use Rattle.session_clients.specs.Rows.{client_by, client_heard, client_registered};
+ghost use Rattle.session_clients.specs.Rows.{client_by, client_heard, client_registered, client_setting};
+ghost use Rattle.ice_values.specs.Walks.{walk_left};
+ghost use Rattle.xsmp_messages.specs.declared.message.XsmpMessage.TheVariants.{SetProperties};
 
 use crate::phases::{given, is_bound, is_saving, readied, registered, said};
-use crate::tables::set_if_fits;
-use ice_values::Array8;
+use crate::tables::{set_if_fits, set_walk_if_fits};
+use ice_values::{Array8, PropertyWalk};
 use owned_lists::{Duplicate, NoMemory};
 use round_agreement::Wanted;
 use session_model::Phase;
@@ -80,7 +82,7 @@ impl Client {
         }
     }
 
-    /// A connection got an ID, and with it this as its first table.
+    /// A connection got an ID, and with it a copy of this as its first table.
     pub(crate) fn register(
         &mut self,
         conn: Conn,
@@ -90,12 +92,22 @@ impl Client {
         ensures { OnOk result (self.new ≡ client_registered conn id.now table.now self.old) }
     {
         if conn == self.conn {
-            self.phase = registered(self.phase);
-            self.id = Some(id.copy()?);
-            self.table = table.copy()?;
-            self.quiet = 0;
+            self.register_owned(conn, id.copy()?, table.copy()?);
         }
         Ok(())
+    }
+
+    /// A connection got an ID, and with it this as its first table; neither is copied, and so this
+    /// takes no memory.
+    pub(crate) fn register_owned(&mut self, conn: Conn, id: Array8, table: PropertyTable)
+        ensures { self.new ≡ client_registered conn id table self.old }
+    {
+        if conn == self.conn {
+            self.phase = registered(self.phase);
+            self.id = Some(id);
+            self.table = table;
+            self.quiet = 0;
+        }
     }
 
     /// A connection was sent a message, which doesn't give it an ID.
@@ -164,6 +176,31 @@ impl Client {
             }
             _ => Ok(()),
         }
+    }
+
+    /// A connection set all properties of a list, where it lies.
+    pub(crate) fn set(&mut self, conn: Conn, walk: PropertyWalk<'_>) -> Result<(), NoMemory>
+        ensures { OnOk result (self.new ≡ client_setting conn (walk_left walk.entry) self.old) }
+    {
+        if conn == self.conn {
+            self.set_if_bound(walk)?;
+            self.quiet = 0;
+        }
+        Ok(())
+    }
+
+    /// Sets properties where the client may.
+    fn set_if_bound(&mut self, walk: PropertyWalk<'_>) -> Result<(), NoMemory>
+        ensures { OnOk result
+            (self.new ≡ record self.old {
+              table = table_said self.old.conn (SetProperties (walk_left walk.entry)) (λ c.
+                  self.old.phase) self.old.table;
+            }) }
+    {
+        if is_bound(self.phase) {
+            return set_walk_if_fits(&mut self.table, walk);
+        }
+        Ok(())
     }
 }
 

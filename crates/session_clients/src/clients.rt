@@ -1,7 +1,7 @@
-ghost use Rattle.std.specs.Prelude.{◌≡◌, [], ℕ, List, false, filter, is_some, length, not, option_copied, unwrap_or, IfOk, OnOk};
+ghost use Rattle.std.specs.Prelude.{◌≡◌, [], ℕ, List, Bool, false, filter, is_some, length, not, option_copied, unwrap_or, IfOk, OnOk};
 ghost use Rattle.std.specs.List.{list_any};
 ghost use Rattle.ice_values.specs.declared.property.Property.{Property};
-ghost use Rattle.xsmp_messages.specs.declared.message.XsmpMessage.TheVariants.{RegisterClientReply};
+ghost use Rattle.xsmp_messages.specs.declared.message.XsmpMessage.TheVariants.{RegisterClientReply, SetProperties};
 ghost use Rattle.xsmp_properties.specs.Tables.{set_all};
 ghost use Rattle.interact_queue.specs.Queue.{is_in};
 ghost use Rattle.discard_ledger.specs.Discards.{discard_of};
@@ -12,19 +12,22 @@ ghost use Rattle.session_model.specs.Tables.{is_full};
 ghost use Rattle.session_model.specs.Reading.{Reading, client_of};
 ghost use Rattle.session_model.specs.Books.{standing};
 ghost use Rattle.session_model.specs.Replies.{is_overdue, known_ids};
+ghost use Rattle.session_clients.specs.Ids.{registered_ids};
+ghost use Rattle.ice_values.specs.Walks.{walk_left};
+ghost use Rattle.ice_values.specs.declared.saves.Dialog.{Dialog};
 ghost use Rattle.session_clients.specs.Clients.{clients_in, conns_in, held_after, held_by, id_in, is_reply, phase_in, saved_in, table_in};
 
-use crate::Client;
 use crate::rows::{
-    give_each, has_row, hear_each, id_in, phase_in, ready_each, register_each, saved_in, table_in,
-    tick_each, unset_each,
+    give_each, has_row, hear_each, id_in, phase_in, ready_each, register_in, saved_in, set_each,
+    table_in, tick_each, unset_each,
 };
 use crate::summaries::{
     client_in, conns_beside, count_new_ids, discard_in, discards_in, is_any_owing, late_among,
 };
-use crate::tables::would_be_full;
+use crate::tables::{is_over_by, would_be_full};
+use crate::{Client, RegisteredIds};
 use checkpoint_records::Book;
-use ice_values::{Array8, PropertyList};
+use ice_values::{Array8, PropertyList, PropertyWalk};
 use owned_lists::{Command, CommandList, Duplicate, NoMemory};
 use round_agreement::Wanted;
 use session_model::Phase;
@@ -127,6 +130,13 @@ impl Clients {
         ensures { result ≡ client_of id.now (clients_in self.now) }
     {
         client_in(&self.rows, &self.registered, id)
+    }
+
+    /// The registered connections with their IDs, by which many IDs are looked up quickly.
+    pub fn registered_ids(&self) -> Result<RegisteredIds<'_>, NoMemory>
+        ensures { IfOk result (λ ids. ids ≡ registered_ids (clients_in self.now)) }
+    {
+        RegisteredIds::among(*self.rows.allocator(), &self.rows, &self.registered)
     }
 
     /// Whether a registered client owes an answer to a SaveYourself.
@@ -234,7 +244,7 @@ impl Clients {
         ensures { OnOk result (self.new ≡ held_after (Gave conn (RegisterClientReply id)) (λ other.
             table) (λ dialog. false) self.old) }
     {
-        register_each(&mut self.rows, conn, &id, &table)?;
+        register_in(&mut self.rows, conn, id, table)?;
         self.registered.push(conn)?;
         Ok(())
     }
@@ -260,5 +270,31 @@ impl Clients {
             (may_interact wanted) self.old) }
     {
         hear_each(&mut self.rows, conn, message, wanted)
+    }
+
+    /// A connection set all properties of a list, where it lies. A list that doesn't fit leaves the
+    /// table as it is.
+    pub fn set(&mut self, conn: Conn, walk: PropertyWalk<'_>) -> Result<(), NoMemory>
+        ensures { OnOk result ((first : List ℕ → List Property) (allowed : Dialog → Bool)
+            (sequence : ℕ) (frame : List ℕ) →
+            self.new ≡ held_after
+            (Outside (Said conn (SetProperties (walk_left walk.entry)) sequence frame)) first allowed
+            self.old) }
+    {
+        set_each(&mut self.rows, conn, walk)
+    }
+
+    /// Whether a client couldn't set the properties of this list, since its table would be too full.
+    pub fn would_be_full_of(&self, conn: Conn, walk: PropertyWalk<'_>) -> Result<bool, NoMemory>
+        ensures { IfOk result (λ full.
+            full ≡ is_full (set_all (table_in conn self.now.rows) (walk_left walk.entry))) }
+    {
+        match table_in(&self.rows, conn) {
+            Some(table) => Ok(is_over_by(table, walk)),
+            None => {
+                let table = PropertyTable::new(*self.rows.allocator())?;
+                Ok(is_over_by(&table, walk))
+            }
+        }
     }
 }

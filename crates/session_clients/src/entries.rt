@@ -1,6 +1,7 @@
 ghost use Rattle.std.specs.Prelude.{◌≡◌, IfOk, option_copied};
 ghost use Rattle.session_model.specs.Tables as of;
 
+use crate::ids::is_same_id;
 use checkpoint_records::{Book, Entry};
 use owned_lists::{Duplicate, NoMemory};
 use std::alloc::Global;
@@ -13,7 +14,7 @@ pub fn entry_of<'a>(book: &'a Book, id: &[u8]) -> Option<&'a Entry>
     book.entries
         .as_slice()
         .iter()
-        .find(|entry| id == entry.id.as_slice())
+        .find(|entry| is_same_id(id, entry.id.as_slice()))
 }
 
 /// Whether a book has an entry under an ID.

@@ -1,14 +1,16 @@
-ghost use Rattle.std.specs.Prelude.{◌≡◌, [], false, is_some, map, option_copied, unwrap_or, OnOk};
+ghost use Rattle.std.specs.Prelude.{◌≡◌, ◌==◌, [], false, is_some, map, option_copied, position, unwrap_or, OnOk};
 ghost use Rattle.session_model.specs.declared.events.SessionEvent.TheVariants.{Ready, Tick};
 ghost use Rattle.interact_queue.specs.Queue.{is_in};
 ghost use Rattle.session_model.specs.Moves.{Gave, Outside, Unset};
 ghost use Rattle.session_model.specs.Phases.{may_interact};
 ghost use Rattle.session_model.specs.Reading.{has_that_id};
 ghost use Rattle.session_clients.specs.Clients.{conns_in, id_in, is_reply, phase_in, quiet_in, saved_in, table_in};
-ghost use Rattle.session_clients.specs.Rows.{client_by, client_heard, client_registered, row_in};
+ghost use Rattle.session_clients.specs.Rows.{client_by, client_heard, client_registered, client_setting, row_in};
+ghost use Rattle.ice_values.specs.Walks.{walk_left};
 
 use crate::Client;
-use ice_values::Array8;
+use crate::ids::is_same_id;
+use ice_values::{Array8, PropertyWalk};
 use owned_lists::NoMemory;
 use round_agreement::Wanted;
 use session_model::Phase;
@@ -69,7 +71,7 @@ pub(crate) fn saved_in(rows: &[Client], conn: Conn) -> Option<&PropertyTable>
 pub(crate) fn has_id(rows: &[Client], conn: Conn, id: &[u8]) -> bool
     ensures { result ≡ has_that_id id.now (id_in conn rows.now) }
 {
-    id_in(rows, conn).is_some_and(|other| id == other.as_slice())
+    id_in(rows, conn).is_some_and(|other| is_same_id(id, other.as_slice()))
 }
 
 /// XSMP began on a connection.
@@ -99,8 +101,52 @@ pub(crate) fn tick_each(rows: &mut [Client], milliseconds: u64)
     }
 }
 
+/// The place of the first row of a connection.
+fn place_in(rows: &[Client], conn: Conn) -> Option<usize>
+    ensures { result ≡ position (λ k. k.conn == conn) rows.now }
+{
+    rows.iter().position(|row| row.conn == conn)
+}
+
+/// A connection got an ID, and with it this as its first table. Both go into its first row; a later
+/// row would get copies, but a connection has no second one while it is live.
+pub(crate) fn register_in(
+    rows: &mut [Client],
+    conn: Conn,
+    id: Array8,
+    table: PropertyTable,
+) -> Result<(), NoMemory>
+    ensures { OnOk result (rows.new ≡ map (client_registered conn id table) rows.old) }
+{
+    let place = match place_in(rows, conn) {
+        Some(place) => place,
+        None => return Ok(()),
+    };
+    let (_, rest) = rows.split_at_mut(place);
+    register_from(rest, conn, id, table)
+}
+
+/// As `register_in` says, over rows of which the first alone can get what isn't a copy.
+fn register_from(
+    rows: &mut [Client],
+    conn: Conn,
+    id: Array8,
+    table: PropertyTable,
+) -> Result<(), NoMemory>
+    ensures { OnOk result (rows.new ≡ map (client_registered conn id table) rows.old) }
+{
+    match rows.split_first_mut() {
+        Some((first, later)) => {
+            register_each(later, conn, &id, &table)?;
+            first.register_owned(conn, id, table);
+            Ok(())
+        }
+        None => Ok(()),
+    }
+}
+
 /// A connection got an ID, and with it a copy of this as its first table.
-pub(crate) fn register_each(
+fn register_each(
     rows: &mut [Client],
     conn: Conn,
     id: &Array8,
@@ -136,6 +182,20 @@ pub(crate) fn hear_each(
 {
     for row in rows {
         row.hear(conn, message, wanted)?;
+    }
+    Ok(())
+}
+
+/// A connection set all properties of a list, where it lies.
+pub(crate) fn set_each(
+    rows: &mut [Client],
+    conn: Conn,
+    walk: PropertyWalk<'_>,
+) -> Result<(), NoMemory>
+    ensures { OnOk result (rows.new ≡ map (client_setting conn (walk_left walk.entry)) rows.old) }
+{
+    for row in rows {
+        row.set(conn, walk)?;
     }
     Ok(())
 }
