@@ -3,7 +3,6 @@ use Rattle.std.proofs.Common.{◌≡◌, ℕ, List, [], ◌∷◌, ◌++◌, sym
 use Rattle.std.specs.Prelude.{Option}
 use Rattle.std.proofs.lemmas.List.{append-nil}
 use Rattle.owned_lists.specs.declared.commands.Command.{Command}
-use Rattle.round_agreement.specs.Agreement.{Agreement, without_member}
 use Rattle.interact_queue.specs.Queue.{holder_without, without}
 use Rattle.discard_ledger.specs.Discards.{discard_of}
 use Rattle.session_model.specs.declared.events.Act.TheVariants.{Shut}
@@ -14,7 +13,7 @@ use Rattle.session_model.specs.Tables.{strays_with}
 use Rattle.session_model.specs.Waits.{waits_left}
 use Rattle.session_clients.specs.Clients.{phase_in, Held, held_by, table_in}
 use Rattle.session_rounds.specs.Rounds.{Running, running_after}
-use Rattle.session_state.specs.Session.{Session, in_round, moved}
+use Rattle.session_state.specs.Session.{Session, moved}
 
 pub left-by : (c : ℕ) (s : Session) (clients : Held) (running : Running) (waits : List Wait) (waiting : List ℕ) (holder : Option ℕ) (strays : List Command)
     → clients ≡ held_by (Outside (Left c)) s.clients → running ≡ running_after (Outside (Left c)) (λ d. phase_in d s.clients.rows) (record { round = s.round; marks = s.marks }) → waits ≡ waits_left c s.waits

@@ -15,3 +15,5 @@ pub mod Reaching
 pub mod Keeping
 pub mod Fitting
 pub mod Nothing
+pub mod Heard
+pub mod Setting

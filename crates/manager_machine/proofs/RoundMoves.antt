@@ -1,15 +1,11 @@
 -- Moves by which a round begins and ends.
 use Rattle.std.proofs.Common.{◌≡◌, ℕ, Bool, cond, ◌||◌, List, [], drop, sym, map-id}
-use Rattle.std.specs.Prelude.{None, Some}
 use Rattle.std.proofs.lemmas.List.{append-nil}
 use Rattle.round_agreement.specs.declared.wanted.Wanted.{Wanted}
-use Rattle.round_agreement.specs.Agreement.{Agreement, all_saving, is_nil}
-use Rattle.session_model.specs.declared.marks.Marks.{Marks}
 use Rattle.session_model.specs.declared.waits.Wait.{Wait}
 use Rattle.session_model.specs.Moves.{Agreed, Began, Cancelled, Over}
 use Rattle.session_model.specs.Phases.{is_shutdown}
 use Rattle.session_model.specs.Reading.{wanted_in}
-use Rattle.session_model.specs.Readings.{marks_after}
 use Rattle.session_clients.specs.Clients.{phase_in}
 use Rattle.session_rounds.specs.Rounds.{Running, running_after}
 use Rattle.session_state.specs.Session.{Session, moved}

@@ -1,11 +1,8 @@
 -- A client says something, and a DiscardCommand of its may stop standing by that.
-use Rattle.std.proofs.Common.{◌≡◌, refl, ℕ, Bool, true, false, cond, ◌&&◌, List, [], ◌∷◌, map, sym, ap, ◌∙◌, arith}
-use Rattle.std.specs.Prelude.{Option, Some, None, ◌==◌}
-use Rattle.std.specs.Str.{bytes_eq}
-use Rattle.std.specs.Cmp.Lexicographic.{pointwise}
+use Rattle.std.proofs.Common.{◌≡◌, refl, ℕ, Bool, true, false, cond, List, [], ◌∷◌, map, sym, ap, ◌∙◌, arith}
+use Rattle.std.specs.Prelude.{Option, None, ◌==◌}
 use Rattle.std.proofs.lemmas.Bool.Decides.{nat_tests}
 use Rattle.std.proofs.lemmas.List.{append-nil}
-use Rattle.std.proofs.lemmas.Slice.Eq.{bytes_eq-Decides}
 use Rattle.owned_lists.specs.declared.commands.Command.{Command}
 use Rattle.ice_values.specs.declared.saves.Dialog.{Dialog}
 use Rattle.ice_values.specs.declared.property.Property.{Property}
@@ -26,16 +23,7 @@ use Rattle.session_model.specs.Waits.{waits_said}
 use Rattle.session_clients.specs.declared.client.Client.{Client}
 use Rattle.session_clients.specs.Clients.{Held, client_after, held_after, phase_in, table_in}
 use Rattle.session_state.specs.Session.{Session, Turns, moved, round_said, turns_said}
-
--- A command is the same as itself
-
-same-words : (words : List (List ℕ)) → pointwise bytes_eq words words ≡ true
-same-words [] = refl
-same-words (word ∷ words) = ap (λ (b : Bool). b && pointwise bytes_eq words words) ((bytes_eq-Decides word word).1 refl) ∙ same-words words
-
-stopped-same : (command : Option Command) → stopped command command ≡ None
-stopped-same None = refl
-stopped-same (Some command) = ap (λ (b : Bool). cond b None (Some command)) (same-words command.words)
+use Rattle.manager_machine.specs.Given.{where_told}
 
 -- The table of the one that speaks
 
@@ -61,16 +49,16 @@ table-spoken c m sequence frame first allowed (k ∷ rows) =
 
 -- What stops standing
 
-stopped-between : (c : ℕ) (m : XsmpMessage) (phase : ℕ → Option Phase) (table : ℕ → List Property) → stopped (discard_of (table c)) (discard_of (table_said c m (λ d. phase c) (table c))) ≡ stopped_said c m phase table
+stopped-between : (c : ℕ) (m : XsmpMessage) (phase : ℕ → Option Phase) (table : ℕ → List Property) → stopped (where_told m (discard_of (table c))) (where_told m (discard_of (table_said c m (λ d. phase c) (table c)))) ≡ stopped_said c m phase table
 stopped-between c (SetProperties list) phase table = refl
 stopped-between c (DeleteProperties names) phase table = refl
-stopped-between c m phase table = stopped-same (discard_of (table c))
+stopped-between c m phase table = refl
 
 pub stopped-spoken : (c : ℕ) (m : XsmpMessage) (sequence : ℕ) (frame : List ℕ) (first : List ℕ → List Property) (allowed : Dialog → Bool) (before now : Held) → now ≡ held_after (Outside (Said c m sequence frame)) first allowed before
-    → stopped (discard_of (table_in c before.rows)) (discard_of (table_in c now.rows)) ≡ stopped_said c m (λ d. phase_in d before.rows) (λ d. table_in d before.rows)
+    → stopped (where_told m (discard_of (table_in c before.rows))) (where_told m (discard_of (table_in c now.rows))) ≡ stopped_said c m (λ d. phase_in d before.rows) (λ d. table_in d before.rows)
 stopped-spoken c m sequence frame first allowed before now e =
-    ap (λ (held : Held). stopped (discard_of (table_in c before.rows)) (discard_of (table_in c held.rows))) e
-    ∙ ap (λ (table : List Property). stopped (discard_of (table_in c before.rows)) (discard_of table)) (table-spoken c m sequence frame first allowed before.rows)
+    ap (λ (held : Held). stopped (where_told m (discard_of (table_in c before.rows))) (where_told m (discard_of (table_in c held.rows)))) e
+    ∙ ap (λ (table : List Property). stopped (where_told m (discard_of (table_in c before.rows))) (where_told m (discard_of table))) (table-spoken c m sequence frame first allowed before.rows)
     ∙ stopped-between c m (λ d. phase_in d before.rows) (λ d. table_in d before.rows)
 
 -- The move

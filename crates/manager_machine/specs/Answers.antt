@@ -1,20 +1,11 @@
 -- What is done about an event, as moves.
-use Rattle.std.specs.Prelude.{Bool, List, None, Option, Some, [], codes, cond, false, flat_map, not, true, ℕ, ◌&&◌, ◌++◌, ◌||◌, ◌∷◌}
-use Rattle.xsmp_properties.specs.Tables.{set_all}
+use Rattle.std.specs.Prelude.{List, None, Option, Some, [], codes, flat_map, ℕ, ◌++◌, ◌∷◌}
 use Rattle.checkpoint_records.specs.declared.records.Book.{Book}
-use Rattle.xsmp_messages.specs.declared.message.XsmpMessage.{XsmpMessage}
-use Rattle.xsmp_messages.specs.declared.message.XsmpMessage.TheVariants.{DeleteProperties, GetProperties, GetPropertiesReply, InteractDone, InteractRequest, RegisterClient, RegisterClientReply, SaveYourselfDone, SaveYourselfPhase2Request, SaveYourselfRequest, SetProperties, ShutdownCancelled}
-use Rattle.round_agreement.specs.declared.wanted.Wanted.{Wanted}
+use Rattle.xsmp_messages.specs.declared.message.XsmpMessage.TheVariants.{GetPropertiesReply, RegisterClientReply, ShutdownCancelled}
 use Rattle.discard_ledger.specs.Discards.{issuable}
-use Rattle.session_model.specs.declared.phase.Phase.{Phase}
-use Rattle.session_model.specs.Phases.{is_bound, is_first_saving, is_interacting, is_owing, is_saving, is_shutdown, is_unregistered, may_interact}
-use Rattle.session_model.specs.Tables.{is_full}
-use Rattle.session_model.specs.Errors.{full_table, lone_shutdown}
-use Rattle.session_model.specs.declared.events.Arrival.{Arrival}
 use Rattle.session_model.specs.Moves.{Blamed, Cancelled, Closed, Committed, Gave, Move, Printed, Respawn, Tried, Unset, gave_each}
-use Rattle.session_model.specs.Reading.{Reading, wanted_in}
 use Rattle.session_model.specs.Books.{issue, with_entries}
-use Rattle.session_model.specs.Replies.{register, resigned, want_cancel}
+use Rattle.session_model.specs.Replies.{resigned}
 use Rattle.session_state.specs.Session.{Session, reading_in}
 use Rattle.manager_machine.specs.declared.replies.Again.{Again}
 use Rattle.manager_machine.specs.declared.replies.Departure.{Departure}

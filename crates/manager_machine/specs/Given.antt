@@ -1,7 +1,8 @@
 -- Messages by what they change.
-use Rattle.std.specs.Prelude.{Bool, List, [], false, true, ℕ, ◌++◌, ◌∷◌}
+use Rattle.std.specs.Prelude.{Bool, List, None, Option, [], false, true, ℕ, ◌++◌, ◌∷◌}
+use Rattle.owned_lists.specs.declared.commands.Command.{Command}
 use Rattle.xsmp_messages.specs.declared.message.XsmpMessage.{XsmpMessage}
-use Rattle.xsmp_messages.specs.declared.message.XsmpMessage.TheVariants.{Die, Interact, RegisterClientReply, SaveComplete, SaveYourself, SaveYourselfPhase2, ShutdownCancelled}
+use Rattle.xsmp_messages.specs.declared.message.XsmpMessage.TheVariants.{DeleteProperties, Die, Interact, RegisterClientReply, SaveComplete, SaveYourself, SaveYourselfPhase2, SetProperties, ShutdownCancelled}
 use Rattle.session_model.specs.declared.events.Act.TheVariants.{Say}
 use Rattle.session_model.specs.Moves.{Gave}
 use Rattle.session_clients.specs.Clients.{held_by}
@@ -35,3 +36,9 @@ told c m s = record s { clients = held_by (Gave c m) s.clients; acts = s.acts ++
 abbrev pub told_each : XsmpMessage → List ℕ → Session → Session
 told_each m [] s = s
 told_each m (c ∷ conns) s = told_each m conns (told c m s)
+
+-- the DiscardCommand of its sender, where the message may change that, and none elsewhere
+abbrev pub where_told : XsmpMessage → Option Command → Option Command
+where_told (SetProperties list) command = command
+where_told (DeleteProperties names) command = command
+where_told m command = None

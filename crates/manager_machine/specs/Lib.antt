@@ -5,3 +5,5 @@ pub mod Keeper
 pub mod Answers
 pub mod Settling
 pub mod Agreeing
+pub mod Heard
+pub mod Settings

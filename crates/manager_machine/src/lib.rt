@@ -14,6 +14,7 @@ mod registrations;
 mod replies;
 mod rounds;
 mod session_core;
+mod settings;
 mod ticks;
 
 pub use faults::TakeFault;

@@ -6,6 +6,7 @@ ghost use Rattle.session_model.specs.Moves.{History, all_acts, waits_for};
 ghost use Rattle.session_model.specs.Phases.{is_bound as is_bound_phase};
 ghost use Rattle.session_model.specs.Rules.{Takes, opened, taken};
 ghost use Rattle.session_state.specs.Session.{reading_in};
+ghost use Rattle.manager_machine.specs.Heard.{Hears, heard_on};
 ghost use Rattle.manager_machine.specs.Keeper.{AreFit, StandsFor};
 
 use crate::faults::TakeFault;
@@ -17,6 +18,7 @@ use session_model::{Marks, Phase, SessionEvent};
 use sm_world::Conn;
 use std::alloc::Global;
 use std::marker::Model;
+use xsmp_messages::XsmpView;
 
 /// The manager of a session (XSMP, chapters 6 to 8). It takes what happens, one event after another,
 /// and says what is to be done about each.
@@ -79,6 +81,33 @@ impl Manager {
         }
         self.stopped = true;
         let acts = self.core.take(event)?;
+        self.stopped = false;
+        Ok(acts)
+    }
+
+    /// Takes the message of a view, which came on a connection with this number among all that came
+    /// there. It is `take` of a Said with this message, and with the bytes of the view as its frame,
+    /// which aren't copied. The connection is live, and XSMP has begun on it.
+    pub fn hear(
+        &mut self,
+        conn: Conn,
+        view: &XsmpView<'_>,
+        sequence: u32,
+    ) -> Result<Acts, TakeFault>
+        requires { Hears conn view.now (reading_in self.old.session) }
+        ensures stands { OnOk result ((h : History) → StandsFor self.old h →
+            StandsFor self.new (taken (heard_on conn view.now sequence) h)) }
+        ensures acts { IfOk result (λ acts. (h : History) → StandsFor self.old h →
+            all_acts (taken (heard_on conn view.now sequence) h) ≡ all_acts h ++ acts) }
+        ensures fit { IfOk result (λ acts. (h : History) → StandsFor self.old h → AreFit acts) }
+        ensures refused { (result ≡ Err TakeFault.Stopped) ↔ (self.old.stopped ≡ true) }
+        ensures stopped { self.new.stopped ≡ is_err result }
+    {
+        if self.stopped {
+            return Err(TakeFault::Stopped);
+        }
+        self.stopped = true;
+        let acts = self.core.take_view(conn, view, sequence)?;
         self.stopped = false;
         Ok(acts)
     }

@@ -1,5 +1,6 @@
 ghost use Rattle.std.specs.Prelude.{◌≡◌, ◌∷◌, [], List, cond, ℕ, IfOk, OnOk, ◌++◌, Option, false, true};
 ghost use Rattle.xsmp_properties.specs.Tables.{set_all};
+ghost use Rattle.discard_ledger.specs.Discards.{discard_of};
 ghost use Rattle.session_model.specs.declared.events.SessionEvent.TheVariants.{Said as HasSaid};
 ghost use Rattle.session_model.specs.Errors as errors;
 ghost use Rattle.session_model.specs.Moves.{Blamed, Outside};
@@ -10,6 +11,8 @@ ghost use Rattle.session_model.specs.Tables.{is_full, is_same as is_same_command
 ghost use Rattle.session_clients.specs.Clients.{phase_in, table_in};
 ghost use Rattle.session_state.specs.Session.{Session, reading_in, moved, moved_all, turns_said};
 ghost use Rattle.manager_machine.specs.Answers.{moves_of};
+ghost use Rattle.manager_machine.specs.Given.{where_told};
+ghost use Rattle.session_answers.specs.Arrivals.{arrival_of};
 ghost use Rattle.session_model.specs.Replies.{has_place as belongs, placed};
 ghost use Rattle.manager_machine.specs.Order.{InOrder};
 ghost use Rattle.interact_queue.specs.Queue.{is_holder, is_in};
@@ -24,24 +27,25 @@ use ice_values::PropertyList;
 use interact_queue::InteractQueue;
 use owned_lists::{Command, NoMemory};
 use round_agreement::Wanted;
-use session_answers::{bad_state, full_table, lone_shutdown};
+use session_answers::{ArrivalView, bad_state, full_table, lone_shutdown};
 use session_clients::{
-    is_bound, is_dying, is_first_saving, is_interacting, is_owing, is_saving, is_shutdown,
+    Clients, is_bound, is_dying, is_first_saving, is_interacting, is_owing, is_saving, is_shutdown,
     is_unregistered, may_interact,
 };
-use session_model::{Arrival, Phase};
+use session_model::Phase;
 use sm_world::Conn;
 use std::alloc::Global;
 use xsmp_messages::XsmpMessage;
 
 impl Core {
     /// The answer to a message, with its number among those of its sender, and its frame.
-    fn reply_to_message(&self, arrival: &Arrival) -> Result<Reply, NoMemory>
+    fn reply_to_message(&self, arrival: &ArrivalView<'_>) -> Result<Reply, NoMemory>
         ensures { IfOk result (λ reply. (s : Session) →
             moves_of s reply ≡ of.reply (reading_in self.now)
-            (HasSaid arrival.now.conn arrival.now.message arrival.now.sequence arrival.now.frame)) }
+            (HasSaid arrival.now.conn arrival.now.message.now arrival.now.sequence
+            arrival.now.frame.now)) }
     {
-        match &arrival.message {
+        match arrival.message {
             XsmpMessage::ConnectionClosed { .. } => Ok(Reply::Shut(
                 arrival.conn,
                 self.again(arrival.conn)?,
@@ -53,9 +57,9 @@ impl Core {
 
     /// The answer to a message that doesn't end anything. A client that was told to die is heard
     /// no more.
-    fn reply_to_client(&self, arrival: &Arrival) -> Result<Reply, NoMemory>
+    fn reply_to_client(&self, arrival: &ArrivalView<'_>) -> Result<Reply, NoMemory>
         ensures { IfOk result (λ reply. (s : Session) →
-            moves_of s reply ≡ of.unless_dying (reading_in self.now) arrival.now
+            moves_of s reply ≡ of.unless_dying (reading_in self.now) (arrival_of arrival.now)
             (phase_in arrival.now.conn self.now.clients.rows)) }
     {
         if is_dying(self.clients.phase(arrival.conn)) {
@@ -65,9 +69,10 @@ impl Core {
     }
 
     /// The answer to a message of a client that wasn't told to die.
-    fn reply_by_phase(&self, arrival: &Arrival) -> Result<Reply, NoMemory>
+    fn reply_by_phase(&self, arrival: &ArrivalView<'_>) -> Result<Reply, NoMemory>
         ensures { IfOk result (λ reply. (s : Session) →
-            moves_of s reply ≡ of.answered (reading_in self.now) arrival.now arrival.now.message
+            moves_of s reply ≡ of.answered (reading_in self.now) (arrival_of arrival.now)
+            arrival.now.message.now
             (phase_in arrival.now.conn self.now.clients.rows)) }
     {
         if !self.belongs(arrival) {
@@ -79,24 +84,25 @@ impl Core {
     }
 
     /// Whether a message has its place, by the phase of its sender.
-    fn belongs(&self, arrival: &Arrival) -> bool
-        ensures { result ≡ belongs (wanted self.now.round) arrival.now.message
+    fn belongs(&self, arrival: &ArrivalView<'_>) -> bool
+        ensures { result ≡ belongs (wanted self.now.round) arrival.now.message.now
             (phase_in arrival.now.conn self.now.clients.rows) }
     {
         has_place(
             self.running.wanted(),
-            &arrival.message,
+            arrival.message,
             self.clients.phase(arrival.conn),
         )
     }
 
     /// The answer to a message that has its place.
-    fn reply_in_place(&self, arrival: &Arrival) -> Result<Reply, NoMemory>
+    fn reply_in_place(&self, arrival: &ArrivalView<'_>) -> Result<Reply, NoMemory>
         ensures { IfOk result (λ reply. (s : Session) →
-            moves_of s reply ≡ placed (reading_in self.now) arrival.now arrival.now.message
+            moves_of s reply ≡ placed (reading_in self.now) (arrival_of arrival.now)
+            arrival.now.message.now
             (phase_in arrival.now.conn self.now.clients.rows)) }
     {
-        match &arrival.message {
+        match arrival.message {
             XsmpMessage::RegisterClient { previous } => {
                 self.reply_to_registering(arrival, previous)
             }
@@ -123,13 +129,13 @@ impl Core {
     /// The answer to a client that sets properties.
     fn reply_to_setting(
         &self,
-        arrival: &Arrival,
+        arrival: &ArrivalView<'_>,
         properties: &PropertyList,
     ) -> Result<Reply, NoMemory>
         ensures { IfOk result (λ reply. (s : Session) →
             moves_of s reply ≡ cond
             (is_full (set_all (table_in arrival.now.conn self.now.clients.rows) properties.now))
-            (Blamed arrival.now.conn (errors.full_table arrival.now) ∷ []) []) }
+            (Blamed arrival.now.conn (errors.full_table (arrival_of arrival.now)) ∷ []) []) }
     {
         if self.clients.would_be_full(arrival.conn, properties)? {
             let error = full_table(*self.acts.allocator(), arrival)?;
@@ -149,10 +155,14 @@ impl Core {
     }
 
     /// The answer to a client that asks for a save, which can't be a shutdown of itself alone.
-    fn reply_to_save_request(&self, arrival: &Arrival, is_lone: bool) -> Result<Reply, NoMemory>
+    fn reply_to_save_request(
+        &self,
+        arrival: &ArrivalView<'_>,
+        is_lone: bool,
+    ) -> Result<Reply, NoMemory>
         ensures { IfOk result (λ reply. (s : Session) →
             moves_of s reply ≡ cond is_lone (Blamed arrival.now.conn
-            (errors.lone_shutdown arrival.now) ∷ []) []) }
+            (errors.lone_shutdown (arrival_of arrival.now)) ∷ []) []) }
     {
         if is_lone {
             let error = lone_shutdown(*self.acts.allocator(), arrival)?;
@@ -162,10 +172,10 @@ impl Core {
     }
 
     /// The answer to a client whose user wants the shutdown cancelled.
-    fn reply_to_cancelling(&self, arrival: &Arrival) -> Result<Reply, NoMemory>
+    fn reply_to_cancelling(&self, arrival: &ArrivalView<'_>) -> Result<Reply, NoMemory>
         ensures { IfOk result (λ reply. (s : Session) →
             moves_of s reply ≡ cond (owes (phase_in arrival.now.conn self.now.clients.rows)) []
-            (of.want_cancel (reading_in self.now) arrival.now
+            (of.want_cancel (reading_in self.now) (arrival_of arrival.now)
             (is_a_shutdown (wanted self.now.round)))) }
     {
         if is_owing(self.clients.phase(arrival.conn)) {
@@ -179,17 +189,18 @@ impl Core {
     }
 
     /// A client said this.
-    pub(crate) fn answer_message(&mut self, arrival: &Arrival) -> Result<(), NoMemory>
+    pub(crate) fn answer_message(&mut self, arrival: &ArrivalView<'_>) -> Result<(), NoMemory>
         requires { InOrder self.old }
         ensures { OnOk result
             (self.new ≡ moved_all
-            (Outside (HasSaid arrival.now.conn arrival.now.message arrival.now.sequence
-            arrival.now.frame) ∷ of.reply (reading_in self.old)
-            (HasSaid arrival.now.conn arrival.now.message arrival.now.sequence arrival.now.frame))
+            (Outside (HasSaid arrival.now.conn arrival.now.message.now arrival.now.sequence
+            arrival.now.frame.now) ∷ of.reply (reading_in self.old)
+            (HasSaid arrival.now.conn arrival.now.message.now arrival.now.sequence
+            arrival.now.frame.now))
             self.old) }
     {
         let reply = self.reply_to_message(arrival)?;
-        self.hear(arrival.conn, &arrival.message)?;
+        self.hear(arrival.conn, arrival.message)?;
         self.perform(reply)?;
         Ok(())
     }
@@ -202,13 +213,13 @@ impl Core {
     {
         let phase = self.clients.phase(conn);
         let wanted = self.running.wanted();
-        let before = self.clients.discard(conn)?;
+        let before = discard_told(&self.clients, conn, message)?;
         self.running.hear(conn, message, phase);
         hear_queue(&mut self.queue, conn, message, phase, wanted)?;
         self.waits.hear(conn, message, phase)?;
         self.newcomer = newcomer_said(conn, message, self.newcomer);
         self.clients.hear(conn, message, wanted)?;
-        let now = self.clients.discard(conn)?;
+        let now = discard_told(&self.clients, conn, message)?;
         add_stray(&mut self.ledger, &self.book, stopped(before, &now))?;
         Ok(())
     }
@@ -236,8 +247,8 @@ fn has_place(wanted: Option<Wanted>, message: &XsmpMessage, phase: Option<Phase>
 }
 
 /// The Error for a message that has no place here.
-fn refusal(alloc: Global, arrival: &Arrival) -> Reply
-    ensures { (s : Session) → moves_of s result ≡ of.refused arrival.now }
+fn refusal(alloc: Global, arrival: &ArrivalView<'_>) -> Reply
+    ensures { (s : Session) → moves_of s result ≡ of.refused (arrival_of arrival.now) }
 {
     Reply::Blame(arrival.conn, bad_state(alloc, arrival))
 }
@@ -281,6 +292,23 @@ fn ask(queue: &mut InteractQueue, conn: Conn) -> Result<(), NoMemory>
     Ok(())
 }
 
+/// The DiscardCommand of a connection, where this message may change it. None for every other
+/// message, which takes no memory.
+fn discard_told(
+    clients: &Clients,
+    conn: Conn,
+    message: &XsmpMessage,
+) -> Result<Option<Command>, NoMemory>
+    ensures { IfOk result (λ command.
+        command ≡ where_told message.now (discard_of (table_in conn clients.now.rows))) }
+{
+    match message {
+        XsmpMessage::SetProperties { .. } => clients.discard(conn),
+        XsmpMessage::DeleteProperties { .. } => clients.discard(conn),
+        _ => Ok(None),
+    }
+}
+
 /// Notes a DiscardCommand that stopped standing, if one did. The ledger's pending commands are
 /// those of the book.
 pub(crate) fn add_stray(
@@ -309,7 +337,7 @@ fn is_same(command: &Command, other: &Option<Command>) -> bool
 }
 
 /// The command that stood before and stands no longer.
-fn stopped(before: Option<Command>, now: &Option<Command>) -> Option<Command>
+pub(crate) fn stopped(before: Option<Command>, now: &Option<Command>) -> Option<Command>
     ensures { result ≡ stops before now.now }
 {
     match before {

@@ -1,4 +1,5 @@
 ghost use Rattle.std.specs.Prelude.{◌≡◌, IfOk, ◌+◌, ◌++◌, ◌∷◌, [], cond, false, filter, not, OnOk};
+ghost use Rattle.session_answers.specs.Arrivals.{arrival_of};
 ghost use Rattle.session_model.specs.Replies as of;
 ghost use Rattle.session_state.specs.Session.{Session, reading_in, moved};
 ghost use Rattle.manager_machine.specs.Answers.{moves_of};
@@ -14,9 +15,9 @@ use crate::replies::Reply;
 use crate::session_core::Core;
 use ice_values::Array8;
 use owned_lists::{Duplicate, NoMemory};
-use session_answers::{bad_id, client_id, no_room};
+use session_answers::{ArrivalView, bad_id, client_id, no_room};
 use session_clients::{first_table, is_recorded};
-use session_model::{Act, Arrival};
+use session_model::Act;
 use session_rounds::is_only;
 use sm_world::Conn;
 use xsmp_messages::XsmpMessage;
@@ -28,11 +29,12 @@ impl Core {
     /// The answer to a client that registers, by the ID that it had before.
     pub(crate) fn reply_to_registering(
         &self,
-        arrival: &Arrival,
+        arrival: &ArrivalView<'_>,
         previous: &Array8,
     ) -> Result<Reply, NoMemory>
         ensures { IfOk result (λ reply. (s : Session) →
-            moves_of s reply ≡ of.register (reading_in self.now) arrival.now previous.now) }
+            moves_of s reply ≡ of.register (reading_in self.now) (arrival_of arrival.now)
+            previous.now) }
     {
         if previous.as_slice().is_empty() {
             self.reply_to_newcomer(arrival)
@@ -42,9 +44,9 @@ impl Core {
     }
 
     /// The answer to a client that is new.
-    fn reply_to_newcomer(&self, arrival: &Arrival) -> Result<Reply, NoMemory>
+    fn reply_to_newcomer(&self, arrival: &ArrivalView<'_>) -> Result<Reply, NoMemory>
         ensures { IfOk result (λ reply. (s : Session) →
-            moves_of s reply ≡ of.enter (reading_in self.now) arrival.now) }
+            moves_of s reply ≡ of.enter (reading_in self.now) (arrival_of arrival.now)) }
     {
         let alloc = *self.acts.allocator();
         if self.has_no_room() {
@@ -64,9 +66,9 @@ impl Core {
     }
 
     /// The answer to a client that comes back.
-    fn reply_to_returner(&self, arrival: &Arrival, id: &Array8) -> Result<Reply, NoMemory>
+    fn reply_to_returner(&self, arrival: &ArrivalView<'_>, id: &Array8) -> Result<Reply, NoMemory>
         ensures { IfOk result (λ reply. (s : Session) →
-            moves_of s reply ≡ of.rejoin (reading_in self.now) arrival.now id.now) }
+            moves_of s reply ≡ of.rejoin (reading_in self.now) (arrival_of arrival.now) id.now) }
     {
         if self.may_rejoin(id) {
             return Ok(Reply::Register(arrival.conn, id.copy()?));

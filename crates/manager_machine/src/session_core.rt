@@ -1,22 +1,27 @@
 ghost use Rattle.std.specs.Prelude.{◌≡◌, ◌++◌, ◌∷◌, [], OnOk, IfOk};
 ghost use Rattle.session_model.specs.Rules.{Takes};
-ghost use Rattle.session_state.specs.Session.{reading_in, taken_in, moved_all};
+ghost use Rattle.session_state.specs.Session.{reading_in, taken_in, moved_all, finished_in, settled_in};
+ghost use Rattle.manager_machine.specs.Heard.{event_of, heard_on};
 ghost use Rattle.manager_machine.specs.Keeper.{IsOfRun};
 ghost use Rattle.session_model.specs.Moves.{Outside};
 ghost use Rattle.session_model.specs.Replies.{reply as answer_to};
-ghost use Rattle.manager_machine.specs.Order.{InOrder};
+ghost use Rattle.manager_machine.specs.Order.{InOrder, SettlesInOrder};
+ghost use Rattle.manager_machine.specs.Settings.{setting_event};
 
+use crate::settings::{Setting, settings_in};
 use checkpoint_records::Book;
 use discard_ledger::Ledger;
 use ice_values::Array8;
 use interact_queue::InteractQueue;
 use owned_lists::{ListOf, NoMemory};
+use session_answers::ArrivalView;
 use session_clients::Clients;
-use session_model::{Act, Arrival, SessionEvent};
+use session_model::{Act, SessionEvent};
 use session_rounds::{RunningRound, WaitingRounds};
 use sm_world::Conn;
 use std::marker::Model;
 use std::mem;
+use xsmp_messages::XsmpView;
 
 /// What is done, in its order.
 pub type Acts = ListOf<Act>;
@@ -102,6 +107,100 @@ impl Core {
         ensures session { OnOk result (self.new ≡ record (taken_in event self.old) { acts = [] }) }
     {
         self.answer(event)?;
+        let acts = self.end_turn()?;
+        Ok(acts)
+    }
+
+    /// Takes a message that came on a connection, and what it is read from, where both lie. It
+    /// does what `take` does with the event that this is.
+    pub(crate) fn take_said(&mut self, arrival: &ArrivalView<'_>) -> Result<Acts, NoMemory>
+        requires of_run { IsOfRun self.old }
+        requires takes { Takes (event_of arrival.now) (reading_in self.old) }
+        requires no_acts { self.old.acts ≡ [] }
+        ensures acts { IfOk result (λ acts. acts ≡ (taken_in (event_of arrival.now) self.old).acts) }
+        ensures session { OnOk result
+            (self.new ≡ record (taken_in (event_of arrival.now) self.old) { acts = [] }) }
+    {
+        self.answer_message(arrival)?;
+        let acts = self.end_turn()?;
+        Ok(acts)
+    }
+
+    /// Takes the message of a view that came on a connection, with this number among all that came
+    /// there.
+    pub(crate) fn take_view(
+        &mut self,
+        conn: Conn,
+        view: &XsmpView<'_>,
+        sequence: u32,
+    ) -> Result<Acts, NoMemory>
+        requires of_run { IsOfRun self.old }
+        requires takes { Takes (heard_on conn view.now sequence) (reading_in self.old) }
+        requires no_acts { self.old.acts ≡ [] }
+        ensures acts { IfOk result (λ acts.
+            acts ≡ (taken_in (heard_on conn view.now sequence) self.old).acts) }
+        ensures session { OnOk result
+            (self.new ≡ record (taken_in (heard_on conn view.now sequence) self.old) { acts = [] }) }
+    {
+        match settings_in(view) {
+            Some(walk) => self.take_set(&Setting {
+                conn,
+                walk,
+                sequence,
+                frame: view.bytes(),
+            }),
+            None => self.take_read(conn, view, sequence),
+        }
+    }
+
+    /// Takes a SetProperties that came on a connection, and makes no list of its properties. It
+    /// does what `take` does with the event that this is.
+    fn take_set(&mut self, setting: &Setting<'_>) -> Result<Acts, NoMemory>
+        requires of_run { IsOfRun self.old }
+        requires takes { Takes (setting_event setting.now) (reading_in self.old) }
+        requires no_acts { self.old.acts ≡ [] }
+        ensures acts { IfOk result (λ acts.
+            acts ≡ (taken_in (setting_event setting.now) self.old).acts) }
+        ensures session { OnOk result
+            (self.new ≡ record (taken_in (setting_event setting.now) self.old) { acts = [] }) }
+    {
+        self.answer_set(setting)?;
+        let acts = self.end_turn()?;
+        Ok(acts)
+    }
+
+    /// Takes the message of a view, as `take_view` does, and makes it in memory of its own.
+    fn take_read(
+        &mut self,
+        conn: Conn,
+        view: &XsmpView<'_>,
+        sequence: u32,
+    ) -> Result<Acts, NoMemory>
+        requires of_run { IsOfRun self.old }
+        requires takes { Takes (heard_on conn view.now sequence) (reading_in self.old) }
+        requires no_acts { self.old.acts ≡ [] }
+        ensures acts { IfOk result (λ acts.
+            acts ≡ (taken_in (heard_on conn view.now sequence) self.old).acts) }
+        ensures session { OnOk result
+            (self.new ≡ record (taken_in (heard_on conn view.now sequence) self.old) { acts = [] }) }
+    {
+        let message = view.to_message(*self.acts.allocator())?;
+        let acts = self.take_said(&ArrivalView {
+            conn,
+            message: &message,
+            sequence,
+            frame: view.bytes(),
+        })?;
+        Ok(acts)
+    }
+
+    /// Goes on until nothing is left to do, and gives away what was done since the last event came.
+    fn end_turn(&mut self) -> Result<Acts, NoMemory>
+        requires { SettlesInOrder self.old }
+        ensures acts { IfOk result (λ acts. acts ≡ (finished_in (settled_in self.old)).acts) }
+        ensures session { OnOk result
+            (self.new ≡ record (finished_in (settled_in self.old)) { acts = [] }) }
+    {
         self.settle()?;
         self.finish_if_over()?;
         Ok(self.hand_over())
@@ -118,11 +217,11 @@ impl Core {
             SessionEvent::Joined(conn) => self.answer_joining(conn),
             SessionEvent::Ready(conn) => self.ready(conn),
             SessionEvent::Said(conn, message, sequence, frame) => {
-                self.answer_message(&Arrival {
+                self.answer_message(&ArrivalView {
                     conn,
-                    message,
+                    message: &message,
                     sequence,
-                    frame,
+                    frame: frame.as_slice(),
                 })
             }
             SessionEvent::Left(conn) => self.answer_leaving(conn),

@@ -15,9 +15,7 @@ use Rattle.session_model.proofs.Level.{onto-append}
 use Rattle.session_model.proofs.Own.{Answers, all-answers}
 use Rattle.session_engine.specs.Answers.{outcome, sequence_after}
 use Rattle.session_engine.specs.Machine.{Connection, Machine, after_all, answered, asked, connection_of, fed_on, gone_for, join_for, noted, part_for, part_taken, parts_taken, piece_for, start, step}
-use Rattle.session_engine.specs.declared.answers.Answer.{Answer}
-use Rattle.session_engine.specs.declared.answers.Answer.TheVariants.{Asks, Begins, Closes, Speaks, Stays}
-use Rattle.session_engine.specs.declared.answers.Outcome.{Outcome}
+use Rattle.session_engine.specs.Outcomes.{Answer, Asks, Begins, Closes, Outcome, Speaks, Stays}
 use Rattle.session_engine.specs.declared.config.Config.{Config}
 use Rattle.agreement_marks.specs.Agreements.{WritesBooks}
 use Rattle.agreement_marks.proofs.Written.{written-opened, written-taken}

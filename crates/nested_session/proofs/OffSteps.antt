@@ -22,9 +22,7 @@ use Rattle.session_engine.specs.Answers.{outcome, sequence_after}
 use Rattle.session_engine.specs.Machine.{Connection, Does, Entry, Machine, Step, Took, act_in, acts_of, acts_since, answered, asked, behind, brought, connection_of, departs, fed_on, gone_for, greeted, greeting, join_for, joining, noted, opening_acts, part_for, part_taken, parted, parts_taken, piece_for, step, told}
 use Rattle.session_engine.specs.declared.acts.Act.{Act}
 use Rattle.session_engine.specs.declared.acts.Act.TheVariants.{Commit, Finish, Print, Say, Shut, Start}
-use Rattle.session_engine.specs.declared.answers.Answer.{Answer}
-use Rattle.session_engine.specs.declared.answers.Answer.TheVariants.{Asks, Begins, Closes, Speaks, Stays}
-use Rattle.session_engine.specs.declared.answers.Outcome.{Outcome}
+use Rattle.session_engine.specs.Outcomes.{Answer, Asks, Begins, Closes, Outcome, Speaks, Stays}
 use Rattle.session_model.proofs.Pending.{all-append}
 use Rattle.nested_session.specs.Woven.{is_outer}
 use Rattle.nested_session.proofs.OffMoves.{ActOff, EventOff, HistoryOff, IsOff, all-acts-off, all-drop, opening-acts-off, taken-off}

@@ -1,11 +1,12 @@
 ghost use Rattle.std.specs.Prelude.{◌≡◌, ◌<◌, ◌^◌, ◌%◌, ◌≤◌, drop, length, take, IfOk};
 ghost use Rattle.ice_values.specs.Classes.{class_number};
 ghost use Rattle.session_model.specs.Errors as of;
+ghost use Rattle.session_answers.specs.Arrivals.{arrival_of};
 ghost use Rattle.xsmp_messages.specs.Messages.{minor_of};
 
+use crate::arrivals::ArrivalView;
 use ice_values::{Endian, ErrorBody, ErrorClass, Severity, pad, put_bytes, put_card32, put_zeros};
 use owned_lists::{NoMemory, Octets};
-use session_model::Arrival;
 use std::alloc::Global;
 use xsmp_messages::{XsmpMessage, minor};
 
@@ -13,11 +14,11 @@ use xsmp_messages::{XsmpMessage, minor};
 const SHOWN_LIMIT: u32 = 65_520;
 
 /// The Error for a message that has no place in the phase of its sender (ICE, chapter 7: BadState).
-pub fn bad_state(alloc: Global, arrival: &Arrival) -> ErrorBody
-    ensures { result ≡ of.bad_state arrival.now }
+pub fn bad_state(alloc: Global, arrival: &ArrivalView<'_>) -> ErrorBody
+    ensures { result ≡ of.bad_state (arrival_of arrival.now) }
 {
     error_about(
-        &arrival.message,
+        arrival.message,
         arrival.sequence,
         ErrorClass::BadState,
         Severity::CanContinue,
@@ -26,29 +27,29 @@ pub fn bad_state(alloc: Global, arrival: &Arrival) -> ErrorBody
 }
 
 /// The Error for an ID that the sender can't have.
-pub fn bad_id(alloc: Global, arrival: &Arrival) -> Result<ErrorBody, NoMemory>
-    ensures { IfOk result (λ error. error ≡ of.bad_id arrival.now) }
+pub fn bad_id(alloc: Global, arrival: &ArrivalView<'_>) -> Result<ErrorBody, NoMemory>
+    ensures { IfOk result (λ error. error ≡ of.bad_id (arrival_of arrival.now)) }
 {
     bad_value(alloc, Severity::CanContinue, arrival, 8, SHOWN_LIMIT)
 }
 
 /// The Error for a new client where there is no room for one more ID.
-pub fn no_room(alloc: Global, arrival: &Arrival) -> Result<ErrorBody, NoMemory>
-    ensures { IfOk result (λ error. error ≡ of.no_room arrival.now) }
+pub fn no_room(alloc: Global, arrival: &ArrivalView<'_>) -> Result<ErrorBody, NoMemory>
+    ensures { IfOk result (λ error. error ≡ of.no_room (arrival_of arrival.now)) }
 {
     bad_value(alloc, Severity::FatalToProtocol, arrival, 8, 8)
 }
 
 /// The Error for properties that don't fit into the table of their client.
-pub fn full_table(alloc: Global, arrival: &Arrival) -> Result<ErrorBody, NoMemory>
-    ensures { IfOk result (λ error. error ≡ of.full_table arrival.now) }
+pub fn full_table(alloc: Global, arrival: &ArrivalView<'_>) -> Result<ErrorBody, NoMemory>
+    ensures { IfOk result (λ error. error ≡ of.full_table (arrival_of arrival.now)) }
 {
     bad_value(alloc, Severity::CanContinue, arrival, 8, 4)
 }
 
 /// The Error for a client that wants to be shut down alone.
-pub fn lone_shutdown(alloc: Global, arrival: &Arrival) -> Result<ErrorBody, NoMemory>
-    ensures { IfOk result (λ error. error ≡ of.lone_shutdown arrival.now) }
+pub fn lone_shutdown(alloc: Global, arrival: &ArrivalView<'_>) -> Result<ErrorBody, NoMemory>
+    ensures { IfOk result (λ error. error ≡ of.lone_shutdown (arrival_of arrival.now)) }
 {
     bad_value(alloc, Severity::CanContinue, arrival, 12, 1)
 }
@@ -58,16 +59,17 @@ pub fn lone_shutdown(alloc: Global, arrival: &Arrival) -> Result<ErrorBody, NoMe
 fn bad_value(
     alloc: Global,
     severity: Severity,
-    arrival: &Arrival,
+    arrival: &ArrivalView<'_>,
     at: u32,
     limit: u32,
 ) -> Result<ErrorBody, NoMemory>
     ensures { IfOk result (λ error.
-        error ≡ of.bad_value severity arrival.now at (take limit (drop at arrival.now.frame))) }
+        error ≡ of.bad_value severity (arrival_of arrival.now) at
+        (take limit (drop at arrival.now.frame.now))) }
 {
-    let values = values_at(alloc, at, part(arrival.frame.as_slice(), at, limit))?;
+    let values = values_at(alloc, at, part(arrival.frame, at, limit))?;
     let class = ErrorClass::BadValue;
-    let error = error_about(&arrival.message, arrival.sequence, class, severity, values);
+    let error = error_about(arrival.message, arrival.sequence, class, severity, values);
     Ok(error)
 }
 

@@ -23,10 +23,7 @@ use Rattle.session_engine.specs.Shown.{Agrees, IsShown, Matches, Shows, ShowsLiv
 use Rattle.session_engine.specs.Telling.{AgreesFor, Answers, Departs, GivesBehind, IsAnswering, ShowsOthers, TakesAnswer, Tells}
 use Rattle.session_engine.specs.declared.acts.Act.{Act}
 use Rattle.session_engine.specs.declared.acts.Act.TheVariants.{Say, Shut}
-use Rattle.session_engine.specs.declared.answers.Answer.{Answer}
-use Rattle.session_engine.specs.declared.answers.Answer.TheVariants.{Stays, Begins, Closes, Speaks, Asks}
-use Rattle.session_engine.specs.declared.answers.Outcome.{Outcome}
-use Rattle.session_engine.specs.declared.connection.Answered.{Answered}
+use Rattle.session_engine.specs.Outcomes.{Answer, Stays, Begins, Closes, Speaks, Asks, Outcome, Answered}
 use Rattle.session_engine.specs.declared.connection.Connection.{Connection as Kept}
 use Rattle.session_engine.specs.declared.engine.Engine.{Engine}
 use Rattle.protocol_messages.specs.declared.message.Message.{Message}

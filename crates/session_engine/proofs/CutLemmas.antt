@@ -1,16 +1,27 @@
 -- What cutting does at a connection that is live.
-use Rattle.std.proofs.Common.{◌≡◌, ℕ, Bool, true, false, ◌==◌, slice_index, List, Option, Some, None, refl, if◌then◌else◌}
+use Rattle.std.proofs.Common.{◌≡◌, ℕ, Bool, true, false, ◌==◌, slice_index, List, Option, Some, None, refl, subst, if◌then◌else◌}
+use Rattle.std.specs.Prelude.{IfSome}
 use Rattle.ice_setup.specs.declared.states.AnySetup.{AnySetup}
 use Rattle.session_engine.specs.Answers.{oversize_answer, KeepsWhole}
+use Rattle.manager_machine.specs.Keeper.{Keeper}
+use Rattle.session_engine.specs.Bringing.{CutsSo}
 use Rattle.session_engine.specs.Cutting.{Cuts, Unsets}
 use Rattle.session_engine.specs.Shown.{CutsAt, UnsetsAt}
-use Rattle.session_engine.specs.declared.answers.Answer.{Answer}
-use Rattle.session_engine.specs.declared.answers.Answer.TheVariants.{Closes}
+use Rattle.session_engine.specs.Outcomes.{Answer, Closes, Answered}
+use Rattle.session_engine.specs.declared.connection.Answered.{Answered as PartAnswered}
 use Rattle.session_engine.specs.declared.connection.Connection.{Connection as Kept}
-use Rattle.session_engine.specs.declared.connection.Answered.{Answered}
 
 pub cuts_live : (before after : Option Kept) (kept changed : Kept) (left : List ℕ) (answered : Option Answered) → before ≡ Some kept → after ≡ Some changed → Cuts kept left answered changed → CutsAt before left answered after
 cuts_live before after kept changed left answered is_kept is_changed cuts = rw (is_kept, is_changed) (changed, refl, cuts)
+
+-- what was cut has another property too, where that follows
+pub cuts_so : (c : ℕ) (P Q : Option Answered → Type 0) (part : Option PartAnswered) (old new : Keeper) → ((answered : Option Answered) → P answered → Q answered) → CutsSo c P part old new → CutsSo c Q part old new
+cuts_so c P Q None old new follows cuts = (follows None cuts.0, cuts.1)
+cuts_so c P Q (Some part) old new follows (answer, cuts, replies) = (answer, follows (Some (record { answer = answer; count = part.count })) cuts, replies)
+
+-- what is asked of the connection that is kept, where one is
+pub asked_of : (held : Option Kept) (kept : Kept) (P : Kept → Type 0) → held ≡ Some kept → IfSome held P → P kept
+asked_of held kept P is asked = subst (λ (o : Option Kept). IfSome o P) is asked
 
 -- an oversize frame ends its connection
 oversize_by : (b : Bool) (answer : Answer) → (KeepsWhole answer → ⊥) → KeepsWhole (if b then Closes None else answer) → ⊥

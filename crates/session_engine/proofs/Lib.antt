@@ -20,3 +20,5 @@ pub mod Settling
 pub mod Pieces
 pub mod Seats
 pub mod Loop
+pub mod Brought
+pub mod Views

@@ -27,9 +27,7 @@ use Rattle.ice_framing.specs.Parts.{Part, new_parts}
 use Rattle.session_engine.specs.Telling.{AgreesFor}
 use Rattle.session_engine.specs.declared.acts.Act.{Act}
 use Rattle.session_engine.specs.declared.acts.Act.TheVariants.{Shut}
-use Rattle.session_engine.specs.declared.answers.Answer.{Answer}
-use Rattle.session_engine.specs.declared.answers.Answer.TheVariants.{Stays, Begins, Closes, Speaks, Asks}
-use Rattle.session_engine.specs.declared.answers.Outcome.{Outcome}
+use Rattle.session_engine.specs.Outcomes.{Answer, Stays, Begins, Closes, Speaks, Asks, Outcome}
 use Rattle.session_engine.proofs.Opening.{opened_live, opened_phase}
 use Rattle.session_engine.proofs.Answering.{agrees-for}
 use Rattle.session_engine.proofs.Connections.{same, length-changed}

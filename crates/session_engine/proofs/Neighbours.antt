@@ -22,9 +22,7 @@ use Rattle.session_engine.specs.Acts.{acts_for_all, book_in, books_in, has_finis
 use Rattle.session_engine.specs.Answers.{outcome, sequence_after}
 use Rattle.session_engine.specs.Machine.{Connection, Does, Entry, Machine, Step, act_in, acts_of, acts_since, after_all, answered, asked, behind, brought, connection_of, departs, does, fed_on, gone_for, greeted, greeting, join_for, joining, noted, opening_acts, part_for, part_taken, parted, parts_taken, piece_for, script_from, script_of, start, stays, step, told}
 use Rattle.session_engine.specs.declared.acts.Act.{Act}
-use Rattle.session_engine.specs.declared.answers.Answer.{Answer}
-use Rattle.session_engine.specs.declared.answers.Answer.TheVariants.{Stays, Begins, Closes, Speaks, Asks}
-use Rattle.session_engine.specs.declared.answers.Outcome.{Outcome}
+use Rattle.session_engine.specs.Outcomes.{Answer, Stays, Begins, Closes, Speaks, Asks, Outcome}
 use Rattle.protocol_messages.specs.declared.message.Message.{Message}
 use Rattle.session_engine.proofs.Committing.{books_in-append}
 use Rattle.session_engine.proofs.Following.{since-is}

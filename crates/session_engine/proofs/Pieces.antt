@@ -21,11 +21,9 @@ use Rattle.session_engine.specs.Machine.{Connection, Machine, Step, Entry, act_i
 use Rattle.session_engine.specs.Shown.{Shows, Carried, TakesPart, TakesNone, parts_on, parts_left, all_cut, to_cut}
 use Rattle.ice_framing.specs.Parts.{Part, parts_of}
 use Rattle.session_engine.specs.Turns.{is_end, either}
-use Rattle.session_engine.specs.declared.answers.Answer.{Answer}
-use Rattle.session_engine.specs.declared.answers.Answer.TheVariants.{Stays, Begins, Closes, Speaks, Asks}
+use Rattle.session_engine.specs.Outcomes.{Answer, Stays, Begins, Closes, Speaks, Asks, Outcome}
 use Rattle.session_engine.specs.declared.acts.Act.{Act}
 use Rattle.session_engine.specs.declared.acts.Act.TheVariants.{Shut}
-use Rattle.session_engine.specs.declared.answers.Outcome.{Outcome}
 use Rattle.session_engine.specs.declared.engine.Engine.{Engine}
 use Rattle.session_engine.specs.declared.fault.Halt.{Halt}
 use Rattle.session_engine.specs.declared.fault.Halt.TheVariants.{NoMemory}

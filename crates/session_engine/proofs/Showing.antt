@@ -29,9 +29,8 @@ use Rattle.session_engine.specs.Machine.{Connection, Machine, Step, Does, act_in
 use Rattle.session_engine.specs.Shown.{kept_at, ChangesAt, CutsAt, UnsetsAt, Leaves, IsKeptOf, Matches, Agrees, AreDistinct, ShowsLive, Shows, TakesNone, parts_on, parts_left, all_cut, to_cut}
 use Rattle.session_engine.specs.Telling.{Follows, GivesBehind, IsAnswering, Tells, AgreesFor}
 use Rattle.session_engine.specs.declared.acts.Act.{Act}
-use Rattle.session_engine.specs.declared.answers.Outcome.{Outcome}
+use Rattle.session_engine.specs.Outcomes.{Outcome, Answered}
 use Rattle.session_engine.specs.declared.connection.Connection.{Connection as Kept}
-use Rattle.session_engine.specs.declared.connection.Answered.{Answered}
 use Rattle.session_engine.specs.declared.engine.Engine.{Engine}
 use Rattle.session_engine.specs.declared.live.Connections.{Connections}
 use Rattle.session_engine.proofs.Opening.{opened_live, opened_phase}

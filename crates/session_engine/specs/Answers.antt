@@ -29,9 +29,7 @@ use Rattle.xsmp_messages.specs.declared.message.XsmpMessage.{XsmpMessage}
 use Rattle.xsmp_messages.specs.declared.message.XsmpMessage.TheVariants.{Error as XsmpError}
 use Rattle.protocol_messages.specs.declared.message.Message.{Message}
 use Rattle.protocol_messages.specs.declared.message.Message.TheVariants.{Ice, Xsmp}
-use Rattle.session_engine.specs.declared.answers.Answer.{Answer}
-use Rattle.session_engine.specs.declared.answers.Outcome.{Outcome}
-use Rattle.session_engine.specs.declared.answers.Answer.TheVariants.{Stays, Begins, Closes, Speaks, Asks}
+use Rattle.session_engine.specs.Outcomes.{Answer, Outcome, Stays, Begins, Closes, Speaks, Asks}
 
 -- what an Error names of a frame
 abbrev pub named_in : List ℕ → ℕ → Offending

@@ -6,7 +6,7 @@ use Rattle.ice_framing.specs.Parts.{Part, parts_at}
 use Rattle.ice_setup.specs.declared.states.AnySetup.TheVariants.{AwaitOrder as AtOrder}
 use Rattle.session_engine.specs.Answers.{outcome, sequence_after, without_xsmp, KeepsWhole}
 use Rattle.session_engine.specs.declared.connection.Connection.{Connection as Kept}
-use Rattle.session_engine.specs.declared.connection.Answered.{Answered}
+use Rattle.session_engine.specs.Outcomes.{Answered}
 
 pub record IsNew (cookie : Cookie) (kept : Kept) : Type 0 where
   pub setup : kept.setup ≡ AtOrder (record { cookie = cookie })

@@ -18,3 +18,5 @@ pub mod Places
 pub mod Shown
 pub mod Telling
 pub mod Turns
+pub mod Outcomes
+pub mod Bringing

@@ -26,9 +26,7 @@ use Rattle.session_engine.specs.declared.config.Config.{Config}
 use Rattle.session_engine.specs.declared.acts.Act.{Act}
 use Rattle.session_engine.specs.declared.acts.Act.TheVariants.{Say, Shut, Finish}
 use Rattle.protocol_messages.specs.declared.message.Message.TheVariants.{Ice}
-use Rattle.session_engine.specs.declared.answers.Answer.{Answer}
-use Rattle.session_engine.specs.declared.answers.Outcome.{Outcome}
-use Rattle.session_engine.specs.declared.answers.Answer.TheVariants.{Stays, Begins, Closes, Speaks, Asks}
+use Rattle.session_engine.specs.Outcomes.{Answer, Outcome, Stays, Begins, Closes, Speaks, Asks}
 
 -- what the machine notes, in its order: it took a part of a connection's stream, or it gave an act
 pub data Entry : Type 0 where

@@ -16,7 +16,7 @@ use Rattle.session_engine.specs.Machine.{Connection, Machine, Step, acts_of, con
 use Rattle.session_engine.specs.Places.{kept_in}
 use Rattle.session_engine.specs.Saved.{Performs}
 use Rattle.session_engine.specs.declared.connection.Connection.{Connection as Kept}
-use Rattle.session_engine.specs.declared.connection.Answered.{Answered}
+use Rattle.session_engine.specs.Outcomes.{Answered}
 use Rattle.session_engine.specs.declared.engine.Engine.{Engine}
 use Rattle.session_engine.specs.declared.fault.Halt.{Halt}
 use Rattle.session_engine.specs.declared.live.Connections.{Connections}

@@ -12,8 +12,7 @@ use Rattle.session_engine.specs.Answers.{KeepsWhole}
 use Rattle.session_engine.specs.Machine.{Connection, Machine, Step, acts_of, acts_since, answered, connection_of, connections_through, departs}
 use Rattle.session_engine.specs.Shown.{Agrees, AreDistinct, Matches, Shows, ShowsLive, kept_at}
 use Rattle.session_engine.specs.declared.acts.Act.{Act}
-use Rattle.session_engine.specs.declared.answers.Answer.{Answer}
-use Rattle.session_engine.specs.declared.answers.Answer.TheVariants.{Stays, Begins, Closes, Speaks, Asks}
+use Rattle.session_engine.specs.Outcomes.{Answer, Stays, Begins, Closes, Speaks, Asks}
 use Rattle.session_engine.specs.declared.engine.Engine.{Engine}
 use Rattle.session_engine.specs.declared.live.Connections.{Connections}
 

@@ -6,6 +6,7 @@ ghost use Rattle.xsmp_messages.specs.Reading.{decode_at as xsmp_at};
 ghost use Rattle.ice_values.specs.declared.numbers.Endian.{Endian as AnyEndian};
 ghost use Rattle.ice_setup.specs.Setup.{HasFittingBody, CanBeSaid as MovesWithin};
 ghost use Rattle.session_engine.specs.Answers.{named_in, staying, closing, going, speaks_xsmp, outcome_of, message_outcome, refused, refused_xsmp, first_outcome, read_outcome, xsmp_outcome, later_outcome, frame_outcome, is_opcode as is_opcode_of, is_ordered, error_about as error_about_of, oversize_answer, said_in, IsSpelled};
+ghost use Rattle.session_engine.specs.Bringing.{as_answer, as_outcome, as_taken};
 ghost use Rattle.session_engine.specs.Messages.{CanBeSaid};
 
 use ice_framing::{Frame, Splitter};
@@ -17,9 +18,9 @@ use ice_values::{DecodeRefusal, Endian, ErrorBody, ErrorClass, Severity, read_ca
 use owned_lists::{NoMemory, Octets};
 use protocol_messages::Message;
 use std::alloc::Global;
-use xsmp_messages::{XsmpMessage, decode_xsmp};
+use xsmp_messages::{ViewRefusal, XsmpMessage, XsmpView, view_xsmp};
 
-/// What is done about one part of a client's stream.
+/// What is done about one part of a client's stream that brings no message of XSMP.
 #[derive(Drop)]
 pub enum Answer {
     /// The message, if any, goes back, and the connection stays.
@@ -28,14 +29,11 @@ pub enum Answer {
     Begins(Option<Message>),
     /// The message, if any, goes back, and the connection is closed.
     Closes(Option<Message>),
-    /// A message of XSMP came, with its number among all messages of the connection and its whole
-    /// frame. The session answers it.
-    Speaks(XsmpMessage, u32, Octets),
     /// The client wants to close, which the session decides.
     Asks,
 }
 
-/// What a part of a client's stream brings.
+/// What such a part brings.
 #[derive(Drop)]
 pub struct Outcome {
     /// How far the connection's set-up has come then.
@@ -43,10 +41,18 @@ pub struct Outcome {
     pub answer: Answer,
 }
 
+/// What a whole frame brings.
+#[derive(Drop)]
+pub enum Taken<'a> {
+    Brings(Outcome),
+    /// A message of XSMP, where it lies. The session answers it, and the set-up stays as it is.
+    Speaks(XsmpView<'a>),
+}
+
 impl Outcome {
     /// The connection goes on from here, and the message, if any, goes back.
     fn stays(setup: AnySetup, message: Option<Message>) -> Outcome
-        ensures { result ≡ staying setup message }
+        ensures { as_outcome result ≡ staying setup message }
     {
         let answer = Answer::Stays(message);
         Outcome { setup, answer }
@@ -55,10 +61,9 @@ impl Outcome {
     /// The connection goes on from here, after it was there; where XSMP is spoken and wasn't
     /// before, it has begun.
     fn goes(before: &AnySetup, setup: AnySetup, message: Option<Message>) -> Outcome
-        ensures outcome { result ≡ going (speaks_xsmp setup && not (speaks_xsmp before.now)) setup
+        ensures outcome { as_outcome result ≡ going (speaks_xsmp setup && not (speaks_xsmp before.now)) setup
             message }
-        ensures said { CanBeSaid message → CanBeSaid (said_in result.answer) }
-        ensures spelled { IsSpelled result.answer }
+        ensures said { CanBeSaid message → CanBeSaid (said_in (as_answer result.answer)) }
     {
         if setup.client_opcode().is_some() && !before.client_opcode().is_some() {
             let answer = Answer::Begins(message);
@@ -69,7 +74,7 @@ impl Outcome {
 
     /// The message, if any, goes back, and the connection is closed.
     fn closes(setup: AnySetup, message: Option<Message>) -> Outcome
-        ensures { result ≡ closing setup message }
+        ensures { as_outcome result ≡ closing setup message }
     {
         let answer = Answer::Closes(message);
         Outcome { setup, answer }
@@ -89,9 +94,8 @@ fn named(sequence: u32, frame: &[u8]) -> Offending
 
 /// What the set-up brings, as an outcome.
 fn settle(before: AnySetup, moved: Moved) -> Outcome
-    ensures outcome { result ≡ outcome_of before moved }
-    ensures said { MovesWithin moved → CanBeSaid (said_in result.answer) }
-    ensures spelled { IsSpelled result.answer }
+    ensures outcome { as_outcome result ≡ outcome_of before moved }
+    ensures said { MovesWithin moved → CanBeSaid (said_in (as_answer result.answer)) }
 {
     match moved {
         Moved::Goes(setup, message) => Outcome::goes(&before, setup, message.map(Message::Ice)),
@@ -111,10 +115,9 @@ fn take_message(
     sequence: u32,
     message: IceMessage,
 ) -> Result<Outcome, NoMemory>
-    ensures outcome { IfOk result (λ outcome. outcome ≡ message_outcome setup message sequence) }
+    ensures outcome { IfOk result (λ outcome. as_outcome outcome ≡ message_outcome setup message sequence) }
     ensures said { (e : AnyEndian) → HasFittingBody e message →
-        IfOk result (λ outcome. CanBeSaid (said_in outcome.answer)) }
-    ensures spelled { IfOk result (λ outcome. IsSpelled outcome.answer) }
+        IfOk result (λ outcome. CanBeSaid (said_in (as_answer outcome.answer))) }
 {
     match setup.take(alloc, message, sequence) {
         Ok(moved) => Ok(settle(setup, moved)),
@@ -127,9 +130,8 @@ fn take_message(
 fn refuse(setup: AnySetup, class: ErrorClass, offending: Offending, values: Octets) -> Outcome
     requires units { length values % 8 ≡ 0 }
     requires few { length values ≤ 65528 }
-    ensures outcome { result ≡ refused setup class offending values }
-    ensures said { CanBeSaid (said_in result.answer) }
-    ensures spelled { IsSpelled result.answer }
+    ensures outcome { as_outcome result ≡ refused setup class offending values }
+    ensures said { CanBeSaid (said_in (as_answer result.answer)) }
 {
     let error = Message::Ice(IceMessage::Error(refusal(&setup, class, offending, values)));
     if setup.connected() {
@@ -146,9 +148,8 @@ fn take_first(
     frame: &[u8],
 ) -> Result<Outcome, NoMemory>
     requires { 8 ≤ length frame.now }
-    ensures outcome { IfOk result (λ outcome. outcome ≡ first_outcome state sequence frame.now) }
-    ensures said { IfOk result (λ outcome. CanBeSaid (said_in outcome.answer)) }
-    ensures spelled { IfOk result (λ outcome. IsSpelled outcome.answer) }
+    ensures outcome { IfOk result (λ outcome. as_outcome outcome ≡ first_outcome state sequence frame.now) }
+    ensures said { IfOk result (λ outcome. CanBeSaid (said_in (as_answer outcome.answer))) }
 {
     let offending = named(sequence, frame);
     let setup = AnySetup::AwaitOrder(state);
@@ -181,10 +182,9 @@ fn take_ice(
     requires whole { IsFrame endian frame.now }
     requires within { length frame.now ≤ byte_limit }
     requires opcode { slice_index frame.now 0 ≡ 0 }
-    ensures outcome { IfOk result (λ outcome. outcome
+    ensures outcome { IfOk result (λ outcome. as_outcome outcome
         ≡ read_outcome setup sequence frame.now (decode_at endian frame.now)) }
-    ensures said { IfOk result (λ outcome. CanBeSaid (said_in outcome.answer)) }
-    ensures spelled { IfOk result (λ outcome. IsSpelled outcome.answer) }
+    ensures said { IfOk result (λ outcome. CanBeSaid (said_in (as_answer outcome.answer))) }
 {
     let offending = named(sequence, frame);
     match decode_ice(alloc, endian, frame) {
@@ -217,96 +217,104 @@ fn is_opcode(own: Option<u8>, opcode: u8) -> bool
 fn refuse_xsmp(setup: AnySetup, class: ErrorClass, offending: Offending, values: Octets) -> Outcome
     requires units { length values % 8 ≡ 0 }
     requires few { length values ≤ 65528 }
-    ensures outcome { result ≡ refused_xsmp setup class offending values }
-    ensures said { CanBeSaid (said_in result.answer) }
-    ensures spelled { IsSpelled result.answer }
+    ensures outcome { as_outcome result ≡ refused_xsmp setup class offending values }
+    ensures said { CanBeSaid (said_in (as_answer result.answer)) }
 {
     let error = error_of(Severity::CanContinue, class, offending, values);
     Outcome::stays(setup, Some(Message::Xsmp(XsmpMessage::Error(error))))
 }
 
 /// Takes what a frame of the client's opcode spells.
-fn take_xsmp(
+fn take_xsmp<'a>(
     alloc: Global,
     setup: AnySetup,
     sequence: u32,
     endian: Endian,
-    frame: &[u8],
-) -> Result<Outcome, NoMemory>
+    frame: &'a [u8],
+) -> Result<Taken<'a>, NoMemory>
     requires whole { IsFrame endian frame.now }
     requires within { length frame.now ≤ byte_limit }
-    ensures outcome { IfOk result (λ outcome. outcome
+    ensures outcome { IfOk result (λ taken. as_taken setup sequence taken
         ≡ xsmp_outcome setup sequence frame.now (xsmp_at endian frame.now)) }
-    ensures said { IfOk result (λ outcome. CanBeSaid (said_in outcome.answer)) }
-    ensures spelled { IfOk result (λ outcome. IsSpelled outcome.answer) }
+    ensures said { IfOk result (λ taken.
+        CanBeSaid (said_in (as_taken setup sequence taken).answer)) }
+    ensures spelled { IfOk result (λ taken. IsSpelled (as_taken setup sequence taken).answer) }
 {
     let offending = named(sequence, frame);
-    match decode_xsmp(alloc, endian, frame) {
-        Ok(message) => {
-            let answer = Answer::Speaks(message, sequence, Octets::from_slice(alloc, frame)?);
-            Ok(Outcome { setup, answer })
+    match view_xsmp(endian, frame) {
+        Ok(view) => Ok(Taken::Speaks(view)),
+        Err(ViewRefusal::BadMinor) => {
+            let none = Octets::new(alloc);
+            let outcome = refuse_xsmp(setup, ErrorClass::BadMinor, offending, none);
+            Ok(Taken::Brings(outcome))
         }
-        Err(DecodeRefusal::BadMinor) => {
-            Ok(refuse_xsmp(setup, ErrorClass::BadMinor, offending, Octets::new(alloc)))
+        Err(ViewRefusal::BadLength) => {
+            let none = Octets::new(alloc);
+            let outcome = refuse_xsmp(setup, ErrorClass::BadLength, offending, none);
+            Ok(Taken::Brings(outcome))
         }
-        Err(DecodeRefusal::BadLength) => {
-            Ok(refuse_xsmp(setup, ErrorClass::BadLength, offending, Octets::new(alloc)))
-        }
-        Err(DecodeRefusal::BadValue { at, .. }) => {
+        Err(ViewRefusal::BadValue { at, .. }) => {
             let values = wrong_byte_values(alloc, at, frame)?;
-            Ok(refuse_xsmp(setup, ErrorClass::BadValue, offending, values))
+            let outcome = refuse_xsmp(setup, ErrorClass::BadValue, offending, values);
+            Ok(Taken::Brings(outcome))
         }
-        Err(DecodeRefusal::NoMemory) => Err(NoMemory),
     }
 }
 
 /// Takes a frame behind the first.
-fn take_later(
+fn take_later<'a>(
     alloc: Global,
     setup: AnySetup,
     sequence: u32,
     endian: Endian,
-    frame: &[u8],
-) -> Result<Outcome, NoMemory>
+    frame: &'a [u8],
+) -> Result<Taken<'a>, NoMemory>
     requires whole { IsFrame endian frame.now }
     requires within { length frame.now ≤ byte_limit }
-    ensures outcome { IfOk result (λ outcome. outcome
+    ensures outcome { IfOk result (λ taken. as_taken setup sequence taken
         ≡ later_outcome setup sequence endian frame.now) }
-    ensures said { IfOk result (λ outcome. CanBeSaid (said_in outcome.answer)) }
-    ensures spelled { IfOk result (λ outcome. IsSpelled outcome.answer) }
+    ensures said { IfOk result (λ taken.
+        CanBeSaid (said_in (as_taken setup sequence taken).answer)) }
+    ensures spelled { IfOk result (λ taken. IsSpelled (as_taken setup sequence taken).answer) }
 {
     let (opcode, minor) = (frame[0], frame[1]);
     if minor == 0 {
-        return Ok(Outcome::stays(setup, None));
+        return Ok(Taken::Brings(Outcome::stays(setup, None)));
     }
     if opcode == 0 {
-        return take_ice(alloc, setup, sequence, endian, frame);
+        let outcome = take_ice(alloc, setup, sequence, endian, frame)?;
+        return Ok(Taken::Brings(outcome));
     }
     if is_opcode(setup.client_opcode(), opcode) {
         return take_xsmp(alloc, setup, sequence, endian, frame);
     }
     let values = opcode_values(alloc, opcode)?;
-    Ok(refuse(setup, ErrorClass::BadMajor, named(sequence, frame), values))
+    let outcome = refuse(setup, ErrorClass::BadMajor, named(sequence, frame), values);
+    Ok(Taken::Brings(outcome))
 }
 
 /// Takes a whole frame.
-pub fn take_frame(
+pub fn take_frame<'a>(
     alloc: Global,
     setup: AnySetup,
     sequence: u32,
-    frame: Frame<'_>,
-) -> Result<Outcome, NoMemory>
+    frame: Frame<'a>,
+) -> Result<Taken<'a>, NoMemory>
     requires header { 8 ≤ length frame.bytes.now }
     requires whole { is_ordered setup ≡ true → IsFrame frame.endian frame.bytes.now }
     requires within { length frame.bytes.now ≤ byte_limit }
-    ensures outcome { IfOk result (λ outcome. outcome
+    ensures outcome { IfOk result (λ taken. as_taken setup sequence taken
         ≡ frame_outcome setup sequence
         (record { endian = frame.entry.endian; bytes = frame.entry.bytes.now })) }
-    ensures said { IfOk result (λ outcome. CanBeSaid (said_in outcome.answer)) }
-    ensures spelled { IfOk result (λ outcome. IsSpelled outcome.answer) }
+    ensures said { IfOk result (λ taken.
+        CanBeSaid (said_in (as_taken setup sequence taken).answer)) }
+    ensures spelled { IfOk result (λ taken. IsSpelled (as_taken setup sequence taken).answer) }
 {
     match setup {
-        AnySetup::AwaitOrder(state) => take_first(alloc, state, sequence, frame.bytes),
+        AnySetup::AwaitOrder(state) => {
+            let outcome = take_first(alloc, state, sequence, frame.bytes)?;
+            Ok(Taken::Brings(outcome))
+        }
         setup => take_later(alloc, setup, sequence, frame.endian, frame.bytes),
     }
 }
@@ -323,9 +331,8 @@ fn error_about(of_xsmp: bool, error: ErrorBody) -> Message
 
 /// The answer to the header of an oversize frame.
 fn answer_oversize(alloc: Global, setup: &AnySetup, sequence: u32, header: &[u8; 8]) -> Answer
-    ensures answer { result ≡ oversize_answer setup.now sequence header.now }
-    ensures said { CanBeSaid (said_in result) }
-    ensures spelled { IsSpelled result }
+    ensures answer { as_answer result ≡ oversize_answer setup.now sequence header.now }
+    ensures said { CanBeSaid (said_in (as_answer result)) }
 {
     let offending = named(sequence, header);
     if offending.minor == 0 {
@@ -345,9 +352,8 @@ fn answer_oversize(alloc: Global, setup: &AnySetup, sequence: u32, header: &[u8;
 /// The answer to the header of an oversize frame, which a splitter holds.
 pub fn answer_header(alloc: Global, setup: &AnySetup, sequence: u32, splitter: &Splitter) -> Answer
     requires { 8 ≤ length splitter.now.held }
-    ensures answer { result ≡ oversize_answer setup.now sequence (take 8 splitter.now.held) }
-    ensures said { CanBeSaid (said_in result) }
-    ensures spelled { IsSpelled result }
+    ensures answer { as_answer result ≡ oversize_answer setup.now sequence (take 8 splitter.now.held) }
+    ensures said { CanBeSaid (said_in (as_answer result)) }
 {
     match splitter.header() {
         Some(header) => answer_oversize(alloc, setup, sequence, &header),

@@ -2,10 +2,12 @@ ghost use Rattle.std.specs.Prelude.{◌≡◌, ◌≤◌, true, IsSome};
 ghost use Rattle.ice_framing.specs.Frames.{IsPartial, units, unit_limit};
 ghost use Rattle.session_engine.specs.Answers.{is_ordered};
 
-use crate::answers::{Answer, answer_header, take_frame};
+use crate::answers::answer_header;
+use crate::hearing::{Reply, bring};
 use ice_cookie::Cookie;
 use ice_framing::Splitter;
 use ice_setup::{AnySetup, AwaitOrder};
+use manager_machine::Manager;
 use owned_lists::NoMemory;
 use sm_world::Conn;
 use std::alloc::Global;
@@ -28,16 +30,18 @@ pub struct Connection {
 /// A part of the stream is whole.
 #[derive(Drop)]
 pub struct Answered {
-    /// How it is answered.
-    pub answer: Answer,
+    /// What answers it.
+    pub reply: Reply,
     /// How many bytes of the piece completed it.
     pub count: usize,
 }
 
 impl Connection {
-    ghost use Rattle.std.specs.Prelude.{◌≡◌, ◌≤◌, ℕ, length, IfOk, IfSome};
+    ghost use Rattle.std.specs.Prelude.{◌≡◌, ◌≤◌, ℕ, length, true, IfOk, IfSome};
     ghost use Rattle.ice_framing.specs.Frames.{beginning};
-    ghost use Rattle.session_engine.specs.Answers.{said_in, IsSpelled};
+    ghost use Rattle.session_state.specs.Session.{reading_in};
+    ghost use Rattle.session_engine.specs.Answers.{speaks_xsmp};
+    ghost use Rattle.session_engine.specs.Bringing.{CanHear, CutsSo, said_by};
     ghost use Rattle.session_engine.specs.Messages.{CanBeSaid};
     ghost use Rattle.session_engine.specs.Cutting.{IsNew, Cuts, Unsets};
 
@@ -55,12 +59,19 @@ impl Connection {
     }
 
     /// Takes the rest of a piece up to the end of the first part. `None` where it completes none.
-    pub fn cut(&mut self, alloc: Global, left: &[u8]) -> Result<Option<Answered>, NoMemory>
-        ensures cuts { IfOk result (λ answered. Cuts self.old left.now answered self.new) }
+    /// The session hears a message of XSMP at once.
+    pub fn cut(
+        &mut self,
+        alloc: Global,
+        manager: &mut Manager,
+        left: &[u8],
+    ) -> Result<Option<Answered>, NoMemory>
+        requires { speaks_xsmp self.old.setup ≡ true →
+            CanHear self.old.conn (reading_in manager.old.session) }
+        ensures cuts { IfOk result (λ answered. CutsSo self.old.conn (λ part.
+            Cuts self.old left.now part self.new) answered manager.old manager.new) }
         ensures said { IfOk result (λ answered.
-            IfSome answered (λ part. CanBeSaid (said_in part.answer))) }
-        ensures spelled { IfOk result (λ answered.
-            IfSome answered (λ part. IsSpelled part.answer)) }
+            IfSome answered (λ part. CanBeSaid (said_by part.reply))) }
         ensures some { IfOk result (λ answered. IfSome answered (λ part. 1 ≤ part.count)) }
         ensures within { IfOk result (λ answered.
             IfSome answered (λ part. part.count ≤ length left.now)) }
@@ -74,7 +85,7 @@ impl Connection {
                 self.sequence = sequence;
                 self.splitter.forget();
                 return Ok(Some(Answered {
-                    answer,
+                    reply: Reply::Answers(answer),
                     count: left.len(),
                 }));
             }
@@ -83,13 +94,13 @@ impl Connection {
             Some(frame) => frame,
             None => return Ok(None),
         };
-        let taken = take_frame(alloc, self.setup, sequence, frame);
+        let taken = bring(alloc, manager, self.conn, self.setup, sequence, frame);
         self.splitter.take_frame();
         self.sequence = sequence;
-        let outcome = taken?;
-        self.setup = outcome.setup;
+        let brought = taken?;
+        self.setup = brought.setup;
         Ok(Some(Answered {
-            answer: outcome.answer,
+            reply: brought.reply,
             count,
         }))
     }

@@ -2,6 +2,7 @@ use crate::act_list::ActList;
 use crate::acts::Act;
 use crate::answers::Answer;
 use crate::config::Config;
+use crate::hearing::Reply;
 use crate::live::Connections;
 use checkpoint_records::Book;
 use ice_cookie::Cookie;
@@ -32,14 +33,16 @@ impl Engine {
     ghost use Rattle.std.specs.List.{AllByRecursion};
     ghost use Rattle.sm_world.specs.declared.events.Event.TheVariants.{Joined, Gone, Operator, Tick};
     ghost use Rattle.checkpoint_records.specs.Rules.{KeepsRules};
-    ghost use Rattle.manager_machine.specs.Keeper.{AreFit, IsFit};
+    ghost use Rattle.manager_machine.specs.Keeper.{AreFit, IsFit, Keeper};
     ghost use Rattle.session_model.specs.Rules.{Takes as TakesEvent};
     ghost use Rattle.session_model.specs.declared.events.SessionEvent.TheVariants.{Left as LeftIt};
     ghost use Rattle.session_state.specs.Session.{reading_in};
     ghost use Rattle.session_engine.specs.Acts.{CanBeDone, says};
     ghost use Rattle.session_engine.specs.Answers.{said_in};
+    ghost use Rattle.session_engine.specs.Bringing.{Replies, TakesReply, as_answer, said_by};
     ghost use Rattle.session_engine.specs.Machine.{Machine, opening_acts, start, step};
     ghost use Rattle.session_engine.specs.Messages.{CanBeSaid};
+    ghost use Rattle.session_engine.specs.Outcomes.{Answer as AnyAnswer, Asks as ItAsks};
     ghost use Rattle.session_engine.specs.Shown.{Shows, Gives, Takes, IsShown, all_cut, to_cut};
     ghost use Rattle.session_engine.specs.Telling.{Tells, Follows, TakesAnswer, Answers, Departs, IsStanding};
     ghost use Rattle.session_engine.specs.declared.acts.Act.TheVariants.{Shut};
@@ -170,13 +173,29 @@ impl Engine {
         self.tell(SessionEvent::Left(conn))
     }
 
+    /// Gives what answers a part of a client's stream. What the session heard of it before is
+    /// followed.
+    fn reply(&mut self, conn: Conn, reply: Reply) -> Result<(), NoMemory>
+        requires said { CanBeSaid (said_by reply) }
+        requires stands { IsStanding self.old.manager }
+        requires takes { TakesReply conn reply self.old.manager.session }
+        ensures { OnOk result ((answer : AnyAnswer) (before : Keeper) →
+            Replies conn answer reply before self.old.manager →
+            Answers conn answer (record self.old { manager = before }) self.new) }
+    {
+        match reply {
+            Reply::Answers(answer) => self.answer(conn, answer),
+            Reply::Did(acts) => self.follow_all(acts),
+        }
+    }
+
     /// Gives what answers a client, and tells the session what it has to hear. A connection that is
     /// closed is no longer live.
     fn answer(&mut self, conn: Conn, answer: Answer) -> Result<(), NoMemory>
-        requires said { CanBeSaid (said_in answer) }
+        requires said { CanBeSaid (said_in (as_answer answer)) }
         requires stands { IsStanding self.old.manager }
-        requires takes { TakesAnswer conn answer self.old.manager.session }
-        ensures { OnOk result (Answers conn answer self.old self.new) }
+        requires takes { TakesAnswer conn (as_answer answer) self.old.manager.session }
+        ensures { OnOk result (Answers conn (as_answer answer) self.old self.new) }
     {
         match answer {
             Answer::Stays(message) => self.acts.say(conn, message),
@@ -185,9 +204,6 @@ impl Engine {
                 self.tell(SessionEvent::Ready(conn))
             }
             Answer::Closes(message) => self.close(conn, message),
-            Answer::Speaks(message, sequence, frame) => {
-                self.tell(SessionEvent::Said(conn, message, sequence, frame))
-            }
             Answer::Asks => self.decide(conn),
         }
     }
@@ -196,7 +212,7 @@ impl Engine {
     fn decide(&mut self, conn: Conn) -> Result<(), NoMemory>
         requires stands { IsStanding self.old.manager }
         requires takes { TakesEvent (LeftIt conn) (reading_in self.old.manager.session) }
-        ensures { OnOk result (Answers conn Answer.Asks self.old self.new) }
+        ensures { OnOk result (Answers conn ItAsks self.old self.new) }
     {
         if self.manager.bound(conn) {
             return self
@@ -216,9 +232,9 @@ impl Engine {
         ensures within { IfOk result (λ count. IfSome count (λ n. n ≤ length left.now)) }
     {
         self.acts.clear();
-        match self.live.cut(alloc, conn, left)? {
+        match self.live.cut(alloc, &mut self.manager, conn, left)? {
             Some(part) => {
-                self.answer(conn, part.answer)?;
+                self.reply(conn, part.reply)?;
                 Ok(Some(part.count))
             }
             None => Ok(None),

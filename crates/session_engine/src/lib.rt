@@ -8,6 +8,7 @@ mod config;
 mod connection;
 mod engine;
 mod fault;
+mod hearing;
 mod laws;
 mod live;
 mod serving;
@@ -16,7 +17,6 @@ mod shell;
 mod store;
 
 pub use acts::Act;
-pub use answers::{Answer, Outcome};
 pub use config::Config;
 pub use fault::ServeFault;
 pub use laws::{at_most_64_live, checkpoints_are_in_their_place};

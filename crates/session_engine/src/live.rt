@@ -2,6 +2,7 @@ ghost use Rattle.session_engine.specs.Places.{AreSeated};
 
 use crate::connection::{Answered, Connection};
 use ice_cookie::Cookie;
+use manager_machine::Manager;
 use owned_lists::NoMemory;
 use slab::Slab;
 use sm_world::Conn;
@@ -19,8 +20,10 @@ pub struct Connections {
 }
 
 impl Connections {
-    ghost use Rattle.std.specs.Prelude.{◌≡◌, ◌≢◌, ◌≤◌, ℕ, length, None, Some, is_some, IfSome, IfOk, OnOk};
-    ghost use Rattle.session_engine.specs.Answers.{said_in, IsSpelled};
+    ghost use Rattle.std.specs.Prelude.{◌≡◌, ◌≢◌, ◌≤◌, ℕ, length, true, None, Some, is_some, IfSome, IfOk, OnOk};
+    ghost use Rattle.session_state.specs.Session.{reading_in};
+    ghost use Rattle.session_engine.specs.Answers.{speaks_xsmp};
+    ghost use Rattle.session_engine.specs.Bringing.{CanHear, CutsSo, said_by};
     ghost use Rattle.session_engine.specs.Messages.{CanBeSaid};
     ghost use Rattle.session_engine.specs.Cutting.{IsNew};
     ghost use Rattle.session_engine.specs.Shown.{kept_at, ChangesAt, CutsAt, Leaves, UnsetsAt};
@@ -56,19 +59,21 @@ impl Connections {
     }
 
     /// Takes the rest of a piece up to the end of the first part. `None` where it completes no
-    /// part, or the connection isn't live.
+    /// part, or the connection isn't live. The session hears a message of XSMP at once.
     pub fn cut(
         &mut self,
         alloc: Global,
+        manager: &mut Manager,
         conn: Conn,
         left: &[u8],
     ) -> Result<Option<Answered>, NoMemory>
-        ensures cut { IfOk result (λ answered.
-            CutsAt (kept_at self.old conn) left.now answered (kept_at self.new conn)) }
+        requires { IfSome (kept_at self.old conn) (λ kept. speaks_xsmp kept.setup ≡ true →
+            CanHear conn (reading_in manager.old.session)) }
+        ensures cut { IfOk result (λ answered. CutsSo conn (λ part.
+            CutsAt (kept_at self.old conn) left.now part (kept_at self.new conn)) answered
+            manager.old manager.new) }
         ensures said { IfOk result (λ answered.
-            IfSome answered (λ part. CanBeSaid (said_in part.answer))) }
-        ensures spelled { IfOk result (λ answered.
-            IfSome answered (λ part. IsSpelled part.answer)) }
+            IfSome answered (λ part. CanBeSaid (said_by part.reply))) }
         ensures some { IfOk result (λ answered. IfSome answered (λ part. 1 ≤ part.count)) }
         ensures within { IfOk result (λ answered.
             IfSome answered (λ part. part.count ≤ length left.now)) }
@@ -81,7 +86,7 @@ impl Connections {
         let Some(connection) = self.seats.get_mut(*place) else {
             return Ok(None);
         };
-        let answered = connection.cut(alloc, left)?;
+        let answered = connection.cut(alloc, manager, left)?;
         Ok(answered)
     }
 

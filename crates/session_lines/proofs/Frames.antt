@@ -25,9 +25,7 @@ use Rattle.ice_setup.specs.declared.states.Moved.TheVariants.{Goes, Ends, Close,
 use Rattle.xsmp_messages.specs.Reading.{decode_at}
 use Rattle.xsmp_messages.specs.declared.message.XsmpMessage.{XsmpMessage}
 use Rattle.session_engine.specs.Answers.{named_in, stated_order, going, speaks_xsmp, refused, outcome_of, first_outcome, read_outcome, xsmp_outcome, later_outcome, frame_outcome, is_opcode, outcome, error_about}
-use Rattle.session_engine.specs.declared.answers.Answer.{Answer}
-use Rattle.session_engine.specs.declared.answers.Answer.TheVariants.{Stays, Begins, Closes, Speaks, Asks}
-use Rattle.session_engine.specs.declared.answers.Outcome.{Outcome}
+use Rattle.session_engine.specs.Outcomes.{Answer, Stays, Begins, Closes, Speaks, Asks, Outcome}
 use Rattle.protocol_messages.specs.declared.message.Message.{Message}
 use Rattle.protocol_messages.specs.declared.message.Message.TheVariants.{Ice}
 use Rattle.session_notes.specs.Notes.{Heard, Note}

@@ -3,7 +3,6 @@ use Rattle.std.proofs.Common.{◌≡◌, ◌∙◌, ◌||◌, ap, cond, []}
 use Rattle.session_model.specs.Moves.{Agreed}
 use Rattle.session_model.specs.Phases.{is_shutdown}
 use Rattle.session_model.specs.Reading.{wanted_in}
-use Rattle.session_model.specs.Readings.{marks_after}
 use Rattle.session_state.specs.Session.{Session, moved}
 use Rattle.manager_machine.specs.contracts.session_core.Core.{the_view}
 use Rattle.manager_machine.proofs.RoundMoves.{agreed-by}

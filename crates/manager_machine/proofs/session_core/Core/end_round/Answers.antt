@@ -1,8 +1,6 @@
 use Rattle.session_clients.specs.Clients.{phase_in}
-use Rattle.std.proofs.Common.{◌≡◌, ◌∙◌, ap}
+use Rattle.std.proofs.Common.{◌∙◌, ap}
 use Rattle.session_model.specs.Moves.{Over}
-use Rattle.session_model.specs.Reading.{wanted_in}
-use Rattle.session_model.specs.Readings.{marks_after}
 use Rattle.session_state.specs.Session.{Session, moved}
 use Rattle.manager_machine.specs.contracts.session_core.Core.{the_view}
 use Rattle.manager_machine.proofs.RoundMoves.{over-by}

@@ -1,7 +1,7 @@
 use Rattle.std.proofs.Common.{refl}
 use Rattle.session_engine.specs.Acts.{says}
 use Rattle.session_engine.proofs.Showing.{given}
-use Rattle.session_engine.proofs.Answering.{gives-said, gives-begun, gives-spoken}
+use Rattle.session_engine.proofs.Answering.{gives-said, gives-begun}
 use Rattle.session_engine.proofs.engine.Engine.answer.Goals as goal
 
 pub returns-in-Stays : goal.returns-in-Stays
@@ -14,6 +14,3 @@ returns-in_ok-say-in-Begins c = rw c.in-Begins.is (given c.tell.result c.tell.en
 
 pub returns-in-Closes : goal.returns-in-Closes
 returns-in-Closes c = rw c.in-Closes.is (given c.close.result c.close.ensures (λ departs. λ pending m is. departs pending m is.others is.agrees))
-
-pub returns-in-Speaks : goal.returns-in-Speaks
-returns-in-Speaks c = rw c.in-Speaks.is (given c.tell-in-Speaks.result c.tell-in-Speaks.ensures (λ tells. gives-spoken c.args.conn c.in-Speaks.message c.in-Speaks.sequence c.in-Speaks.frame c.args.self.now c.tell-in-Speaks.new.self tells))
