@@ -3,25 +3,19 @@
 use ice_values::ErrorBody;
 use owned_lists::{NoMemory, Octets};
 use session_answers::{
-    Doing, Status, bad_id, bad_state, client_id, full_table, lone_shutdown, no_room, status_line,
+    ArrivalView, Doing, Status, bad_id, bad_state, client_id, full_table, lone_shutdown, no_room,
+    status_line,
 };
-use session_model::Arrival;
 use std::alloc::{Alloc, Global};
 use std::process::Abort;
 use std::test::Fail;
 use test_tables::{expect_rows, text_of};
 use xsmp_messages::XsmpMessage;
 
-/// A RegisterClient with this previous-ID: the first message of its sender, whose frame has the
-/// length and the bytes of the ID behind its head.
-fn registering(alloc: Global, previous: &[u8], frame: &[u8]) -> Result<Arrival, NoMemory> {
+/// A RegisterClient with this previous-ID.
+fn registering(alloc: Global, previous: &[u8]) -> Result<XsmpMessage, NoMemory> {
     let previous = Octets::from_slice(alloc, previous)?;
-    Ok(Arrival {
-        conn: 3,
-        message: XsmpMessage::RegisterClient { previous },
-        sequence: 1,
-        frame: Octets::from_slice(alloc, frame)?,
-    })
+    Ok(XsmpMessage::RegisterClient { previous })
 }
 
 /// The class, the minor opcode, the sequence number, the severity and the values of an Error.
@@ -34,7 +28,13 @@ fn error_shown(alloc: Global, error: &ErrorBody) -> Result<String, Fail> {
 
 /// The message has no place. Nothing of it is shown.
 fn misplaced(alloc: Global, _input: &str) -> Result<String, Fail> {
-    let arrival = registering(alloc, b"", b"")?;
+    let message = registering(alloc, b"")?;
+    let arrival = ArrivalView {
+        conn: 3,
+        message: &message,
+        sequence: 1,
+        frame: b"",
+    };
     error_shown(alloc, &bad_state(alloc, &arrival))
 }
 
@@ -44,7 +44,7 @@ fn a_message_without_a_place_is_named(rt: HostRuntime) -> Result<(), Fail> {
 }
 
 /// What is wrong with a message: its ID, that there is no room for one, its table, or a shutdown.
-fn error_of(alloc: Global, what: &str, arrival: &Arrival) -> Result<ErrorBody, NoMemory> {
+fn error_of(alloc: Global, what: &str, arrival: &ArrivalView<'_>) -> Result<ErrorBody, NoMemory> {
     match what {
         "id" => bad_id(alloc, arrival),
         "room" => no_room(alloc, arrival),
@@ -54,7 +54,13 @@ fn error_of(alloc: Global, what: &str, arrival: &Arrival) -> Result<ErrorBody, N
 }
 
 fn wrong(alloc: Global, what: &str) -> Result<String, Fail> {
-    let arrival = registering(alloc, b"abc", b"\x01\x01\0\0\x01\0\0\0\x03\0\0\0abc\0")?;
+    let message = registering(alloc, b"abc")?;
+    let arrival = ArrivalView {
+        conn: 3,
+        message: &message,
+        sequence: 1,
+        frame: b"\x01\x01\0\0\x01\0\0\0\x03\0\0\0abc\0",
+    };
     error_shown(alloc, &error_of(alloc, what, &arrival)?)
 }
 

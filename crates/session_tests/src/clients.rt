@@ -4,7 +4,9 @@ ghost use Rattle.session_clients.specs.Clients.{is_reply as is_reply_message};
 
 use crate::written::{entry, removal, words};
 use checkpoint_records::Book;
-use ice_values::{Dialog, PropertyList, SaveKind, SaveStyle};
+use ice_values::{
+    Dialog, Endian, PropertyList, PropertyWalk, SaveKind, SaveStyle, walk_properties,
+};
 use owned_lists::{NoMemory, Octets};
 use round_agreement::Wanted;
 use session_clients::{
@@ -18,7 +20,7 @@ use std::alloc::{Alloc, Global};
 use std::process::Abort;
 use std::test::Fail;
 use test_tables::{expect_rows, text_of};
-use xsmp_messages::XsmpMessage;
+use xsmp_messages::{XsmpMessage, encode_xsmp};
 use xsmp_properties::{PropertyTable, SetRefusal};
 
 /// A book with an entry under this ID.
@@ -86,7 +88,39 @@ fn told(alloc: Global, what: &str) -> Result<XsmpMessage, Fail> {
     }
 }
 
-/// A connection is given back, or is gone; a client is sent something; or else it says something.
+/// The usual frame of what a client says.
+fn frame_told(alloc: Global, what: &str) -> Result<Octets, Fail> {
+    let message = told(alloc, what)?;
+    let mut frame = Octets::new(alloc);
+    encode_xsmp(Endian::Lsb, 1, &message, &mut frame)?;
+    Ok(frame)
+}
+
+/// The properties of a frame where they lie.
+fn walk_of(frame: &[u8]) -> Option<PropertyWalk<'_>> {
+    match walk_properties(Endian::Lsb, frame.get(8..)?) {
+        Ok(found) => Some(found.0),
+        Err(_) => None,
+    }
+}
+
+/// A client sets what it says where that lies.
+fn set_told(alloc: Global, clients: &mut Clients, conn: Conn, what: &str) -> Result<(), Fail> {
+    let frame = frame_told(alloc, what)?;
+    let walk = walk_of(frame.as_slice()).ok_or("no list")?;
+    clients.set(conn, walk)?;
+    Ok(())
+}
+
+/// Whether what a client says would be too much where it lies.
+fn is_too_much(alloc: Global, clients: &Clients, conn: Conn, what: &str) -> Result<bool, Fail> {
+    let frame = frame_told(alloc, what)?;
+    let walk = walk_of(frame.as_slice()).ok_or("no list")?;
+    Ok(clients.would_be_full_of(conn, walk)?)
+}
+
+/// A connection is given back, or is gone; a client is sent something; it sets something where that
+/// lies; or else it says something.
 fn change(alloc: Global, clients: &mut Clients, conn: Conn, what: &str) -> Result<(), Fail> {
     match what {
         "unset" => clients.unset(conn),
@@ -94,7 +128,10 @@ fn change(alloc: Global, clients: &mut Clients, conn: Conn, what: &str) -> Resul
         "asked" => clients.give(conn, &save_yourself()),
         "complete" => clients.give(conn, &XsmpMessage::SaveComplete),
         "cancelled" => clients.give(conn, &XsmpMessage::ShutdownCancelled),
-        _ => clients.hear(conn, &told(alloc, what)?, None)?,
+        _ => match what.strip_prefix("sets ") {
+            Some(list) => set_told(alloc, clients, conn, list)?,
+            None => clients.hear(conn, &told(alloc, what)?, None)?,
+        },
     }
     Ok(())
 }
@@ -104,7 +141,8 @@ fn has_discard(table: Option<&PropertyTable>) -> bool {
 }
 
 /// Whether something is so of what a client says of itself: there is a table, or a snapshot; there is a
-/// DiscardCommand in either, or one to be run; a small list or a large one would be too much.
+/// DiscardCommand in either, or one to be run; a small list or a large one would be too much, or else
+/// what it says would be, where that lies.
 fn is_so_of_table(alloc: Global, clients: &Clients, conn: Conn, what: &str) -> Result<bool, Fail> {
     match what {
         "table" => Ok(clients.table(conn).is_some()),
@@ -116,7 +154,8 @@ fn is_so_of_table(alloc: Global, clients: &Clients, conn: Conn, what: &str) -> R
             let list = removal(alloc, b"DiscardCommand", b"a")?;
             Ok(clients.would_be_full(conn, &list)?)
         }
-        _ => Ok(clients.would_be_full(conn, &large(alloc)?)?),
+        "large" => Ok(clients.would_be_full(conn, &large(alloc)?)?),
+        _ => is_too_much(alloc, clients, conn, what),
     }
 }
 
@@ -138,6 +177,14 @@ fn is_so(alloc: Global, clients: &Clients, conn: Conn, what: &str) -> Result<boo
     }
 }
 
+/// Who has an ID, which is also looked up in the list of the registered ones.
+fn found(alloc: Global, clients: &Clients, id: &str) -> Result<String, Fail> {
+    match id.strip_prefix("listed ") {
+        Some(id) => text_of(alloc, &clients.registered_ids()?.client_of(id.as_bytes())),
+        None => text_of(alloc, &clients.client_of(id.as_bytes())),
+    }
+}
+
 /// What is so of all: how many are live, and how many rows there are; who is registered, and who isn't;
 /// whether anyone owes an answer; how many commands stand; or else whose ID this is.
 fn of_all(alloc: Global, clients: &Clients, what: &str) -> Result<String, Fail> {
@@ -148,7 +195,7 @@ fn of_all(alloc: Global, clients: &Clients, what: &str) -> Result<String, Fail> 
         "unregistered" => text_of(alloc, &clients.unregistered()?.as_slice()),
         "owing" => text_of(alloc, &clients.is_anyone_owing()),
         "standing" => text_of(alloc, &clients.standing()?.as_slice().len()),
-        _ => text_of(alloc, &clients.client_of(what.as_bytes())),
+        _ => found(alloc, clients, what),
     }
 }
 
@@ -202,7 +249,8 @@ fn three_shown(alloc: Global, steps: &str) -> Result<String, Fail> {
 const CONNECTIONS: &str = "\
 all live?, all rows?, all registered?, 1 bound?, 2 unregistered?, 3 phase?, 1 one?, 2 id? => 3 3 [1] true true false true false
 all one?, all two?, 3 live?, 4 live?, 3 table?, 4 table?, all unregistered? => Some(1) None true false true false [2, 3]
-2 unset, 2 phase?, 1 leaves, 1 live?, all registered?, all one? => false false [] None";
+2 unset, 2 phase?, 1 leaves, 1 live?, all registered?, all one? => false false [] None
+all listed one?, all listed two?, all listed ona?, 1 leaves, all listed one? => Some(1) None None None";
 
 #[test]
 fn connections_join_register_and_leave(rt: HostRuntime) -> Result<(), Fail> {
@@ -215,7 +263,10 @@ const PROPERTIES: &str = "\
 1 a, 2 b, 1 told?, 2 told?, all standing? => true false 1
 1 a, 2 b, 1 discard?, 1 deletes, 1 discard? => true false
 1 small?, 1 large? => false true
-1 grows, 1 told? => false";
+1 grows, 1 told? => false
+1 sets a, 2 sets b, 1 told?, 2 told?, all standing? => true false 1
+1 a?, 1 grows?, 4 a?, 4 grows? => false true false true
+1 sets grows, 1 told? => false";
 
 #[test]
 fn clients_set_and_delete_properties(rt: HostRuntime) -> Result<(), Fail> {

@@ -1,7 +1,7 @@
 //! Sessions by hand, through the public calls. A session is a text of steps.
 ghost use Rattle.std.specs.Prelude.{IfOk};
 ghost use Rattle.ice_values.specs.declared.numbers.Endian.TheVariants.{Lsb};
-ghost use Rattle.xsmp_messages.specs.Messages.{Spells};
+ghost use Rattle.xsmp_messages.specs.Messages.{IsFrame, Spells};
 
 use crate::written::{LIST, property, words};
 use checkpoint_records::Book;
@@ -13,7 +13,7 @@ use std::alloc::{Alloc, Global};
 use std::process::Abort;
 use std::test::Fail;
 use test_tables::expect_rows;
-use xsmp_messages::{XsmpMessage, encode_xsmp};
+use xsmp_messages::{XsmpMessage, encode_xsmp, view_xsmp};
 
 // What is done, as text
 
@@ -205,7 +205,8 @@ struct Desk {
 
 /// The usual frame of a message.
 fn frame_of(alloc: Global, message: &XsmpMessage) -> Result<Octets, EncodeRefusal>
-    ensures { IfOk result (λ frame. Spells Lsb 1 message.now frame) }
+    ensures spells { IfOk result (λ frame. Spells Lsb 1 message.now frame) }
+    ensures frame { IfOk result (λ frame. IsFrame Lsb frame) }
 {
     let mut frame = Octets::new(alloc);
     encode_xsmp(Endian::Lsb, 1, message, &mut frame)?;
@@ -257,6 +258,19 @@ fn say(alloc: Global, desk: &mut Desk, conn: Conn, message: XsmpMessage) -> Resu
     Ok(put_acts(&mut desk.done, acts.as_slice())?)
 }
 
+/// A client says this, in its usual frame, in which it is heard where it lies.
+fn hear(alloc: Global, desk: &mut Desk, conn: Conn, message: &XsmpMessage) -> Result<(), Fail> {
+    let frame = frame_of(alloc, message)?;
+    if !desk.manager.is_live(conn) || desk.manager.phase(conn).is_none() || frame.len() > 65544 {
+        return Err("nobody says this".into());
+    }
+    let Ok(view) = view_xsmp(Endian::Lsb, frame.as_slice()) else {
+        return Err("it is no message".into());
+    };
+    let acts = desk.manager.hear(conn, &view, 9)?;
+    Ok(put_acts(&mut desk.done, acts.as_slice())?)
+}
+
 fn order(desk: &mut Desk, order: Order) -> Result<(), Fail> {
     let acts = desk.manager.take(SessionEvent::Operator(order))?;
     Ok(put_acts(&mut desk.done, acts.as_slice())?)
@@ -270,15 +284,19 @@ fn register(alloc: Global, desk: &mut Desk, conn: Conn, id: &[u8]) -> Result<(),
     say(alloc, desk, conn, XsmpMessage::RegisterClient { previous })
 }
 
-/// A connection is opened or ends; a client registers, as one that is new or under the ID of the first
-/// new one; or else it says something.
+/// A connection is opened, XSMP begins on it, or it ends; a client registers, as one that is new or under the ID of the first
+/// new one; or else it says something, which is heard where it lies or isn't.
 fn act(alloc: Global, desk: &mut Desk, conn: Conn, what: &str) -> Result<(), Fail> {
     match what {
         "joins" => join(desk, conn),
+        "begins" => begin(desk, conn),
         "leaves" => leave(desk, conn),
         "registers" => register(alloc, desk, conn, b""),
         "returns" => register(alloc, desk, conn, FIRST_ID),
-        _ => say(alloc, desk, conn, said(alloc, what)?),
+        _ => match what.strip_prefix("heard ") {
+            Some(what) => hear(alloc, desk, conn, &said(alloc, what)?),
+            None => say(alloc, desk, conn, said(alloc, what)?),
+        },
     }
 }
 
@@ -325,6 +343,16 @@ const PROPERTIES: &str = "\
 #[test]
 fn a_client_keeps_properties(rt: HostRuntime) -> Result<(), Fail> {
     expect_rows(&rt, PROPERTIES, session_shown)
+}
+
+/// The same where each message is heard where it lies, beside one of a client that is not registered.
+const HEARD: &str = "\
+1 registers, 1 heard restarts c, 1 heard saved; 1 heard discards d, 1 heard looks, 1 heard deletes, 1 looks; 1 heard asks, 1 heard wants two => Commit |1 smd-00000001-00000001|1 SaveYourself|Commit *|1 SaveComplete|;1  c d|1  c|;1 Error|1 Error|;
+1 joins, 1 begins, 1 heard discards d, 1 heard looks; 1 heard closes => Commit |1 Error|1 Error|;1 Shut|;";
+
+#[test]
+fn a_client_is_heard_where_its_message_lies(rt: HostRuntime) -> Result<(), Fail> {
+    expect_rows(&rt, HEARD, session_shown)
 }
 
 /// A checkpoint has a second phase, and another waits for its end.
