@@ -41,10 +41,7 @@ quiet_then old between new result coming input first size counts quiet = record 
 pub quiet_both : {A B : Type 0} (old between new : Outside) (first : Result A ServeFault) (second : Result B ServeFault) → Quiet old between first → Quiet between new second → Quiet old new second
 quiet_both old between new first second one two = quiet_then old between new second one.coming one.input one.first one.size one.counts two
 
--- another answer with the same fault, and one with none
-pub quiet_err : {A B : Type 0} (old new : Outside) (fault : ServeFault) → Quiet {A = A} old new (Err fault) → Quiet {A = B} old new (Err fault)
-quiet_err old new fault quiet = record { coming = quiet.coming; input = quiet.input; first = quiet.first; size = quiet.size; counts = quiet.counts; cause = quiet.cause }
-
+-- another answer, with no fault
 pub quiet_ok : {A B : Type 0} (old new : Outside) (result : Result A ServeFault) (x : B) → Quiet old new result → Quiet old new (Ok x)
 quiet_ok old new result x quiet = record { coming = quiet.coming; input = quiet.input; first = quiet.first; size = quiet.size; counts = quiet.counts; cause = tt }
 

@@ -63,19 +63,7 @@ links_failed old new DeviceMemory uses = inr refl
 
 -- ---- the set-up
 
--- The session's own cookie wasn't handed out.
-pub cut_first : (identity : Identity) (places : NestPlaces) (old new : Outside) (fault : SessionFault) → new.told ≡ old.told → IsOfDisk old new fault → Added old.told new.told (IsCutShort identity places old new fault)
-cut_first identity places old new fault same cause = record { effects = []; added = same ∙ sym (adds-none old.told); holds = inl (cause, refl) }
-
--- It was, and where the session is wasn't said.
-pub cut_second : (identity : Identity) (places : NestPlaces) (old one new : Outside) (fault : SessionFault) → one.told ≡ adds old.told (handing_out identity places.own) → SetsUp old one → new.told ≡ one.told → IsOfEdge one new fault → Added old.told new.told (IsCutShort identity places old new fault)
-cut_second identity places old one new fault handed set same cause = record {
-  effects = handing_out identity places.own;
-  added = same ∙ handed;
-  holds = inr (inl (of_edge_since old one new fault set cause, refl));
-}
-
--- That was said too, and there is no outer manager.
+-- The session's own cookie was handed out, and it was said where the session is, but there is no outer manager.
 pub cut_third : (identity : Identity) (places : NestPlaces) (old one two new : Outside) (fault : SessionFault) → one.told ≡ adds old.told (handing_out identity places.own) → SetsUp old one → two.told ≡ adds one.told (announcing identity places.own) → SetsUp one two → new.told ≡ two.told → IsOfLinks two new fault → Added old.told new.told (IsCutShort identity places old new fault)
 cut_third identity places old one two new fault handed set said then_set same cause = record {
   effects = setting_up identity places;
