@@ -1,24 +1,30 @@
 /* A session manager on libSM and libICE, for clients that another one is to be tried with:
- *   libsm_manager LOG AUTHORITY
+ *   libsm_manager LOG AUTHORITY [STORE]
  * It writes its cookies into a new file AUTHORITY, and prints SESSION_MANAGER=.. then. Its orders are lines of
  * standard input: `save`, `shutdown`, and the end of the input, at which it ends. In LOG stands what happened, with
- * the client's properties behind each save that succeeded, whose words are parted by tabs. */
+ * the client's properties behind each save that succeeded, whose words are parted by tabs.
+ * With a STORE it saves as smd does: a client may ask for a save of all, and once the last one has saved, the
+ * properties of all are written there, which is synced twice, before any client is told that its save is complete.
+ * LOG stays empty then. */
 #include <X11/ICE/ICElib.h>
 #include <X11/ICE/ICEutil.h>
 #include <X11/SM/SMlib.h>
+#include <fcntl.h>
 #include <poll.h>
 #include <stdio.h>
 #include <stdlib.h>
 #include <string.h>
 #include <unistd.h>
 
-#define MOST 16
+#define MOST 80
+#define ROOM 1048576
 
 static FILE *notes;
 static SmsConn clients[MOST];
 static int count, saving, leaving;
 static IceConn links[MOST];
 static int link_count;
+static int store = -1;
 
 static void drop(SmsConn client) {
     for (int i = 0; i < count; i++)
@@ -47,12 +53,27 @@ static int place_of(SmsConn client) {
     return -1;
 }
 
+/* Writes what the clients say of themselves, and syncs it and then the byte that says so. */
+static void write_store(void) {
+    static char bytes[ROOM];
+    size_t size = 1;
+    for (int i = 0; i < count; i++)
+        for (int j = 0; j < kept_count[i]; j++) {
+            size += (size_t)snprintf(bytes + size, ROOM - size, "%s", kept[i][j]->name);
+            for (int k = 0; k < kept[i][j]->num_vals; k++)
+                size += (size_t)snprintf(bytes + size, ROOM - size, "\t%.*s", kept[i][j]->vals[k].length,
+                    (char *)kept[i][j]->vals[k].value);
+        }
+    if (pwrite(store, bytes, size, 0) != (ssize_t)size || fdatasync(store) || pwrite(store, "1", 1, 0) != 1 || fdatasync(store))
+        exit(1);
+}
+
 static Status on_register(SmsConn client, SmPointer data, char *previous) {
     char *own = previous ? previous : SmsGenerateClientID(client);
     (void)data;
     SmsRegisterClientReply(client, own);
     fprintf(notes, "registered %s\n", own);
-    if (!previous) {
+    if (!previous && store < 0) {
         saving++;
         SmsSaveYourself(client, SmSaveLocal, False, SmInteractStyleNone, False);
     }
@@ -69,8 +90,17 @@ static void on_interact_done(SmsConn client, SmPointer data, Bool cancel) {
     (void)client, (void)data, (void)cancel;
 }
 
+static void ask_all(Bool shutdown) {
+    saving = count;
+    leaving = shutdown;
+    for (int i = 0; i < count; i++)
+        SmsSaveYourself(clients[i], shutdown ? SmSaveBoth : SmSaveLocal, shutdown, SmInteractStyleNone, False);
+}
+
 static void on_request(SmsConn client, SmPointer data, int type, Bool shutdown, int style, Bool fast, Bool global) {
     (void)client, (void)data, (void)type, (void)shutdown, (void)style, (void)fast, (void)global;
+    if (store >= 0 && saving == 0)
+        ask_all(False);
 }
 
 static void on_phase_two(SmsConn client, SmPointer data) {
@@ -78,9 +108,21 @@ static void on_phase_two(SmsConn client, SmPointer data) {
     SmsSaveYourselfPhase2(client);
 }
 
+static void on_stored(void) {
+    if (--saving > 0)
+        return;
+    write_store();
+    for (int i = 0; i < count; i++)
+        SmsSaveComplete(clients[i]);
+}
+
 static void on_done(SmsConn client, SmPointer data, Bool success) {
     int place = place_of(client);
     (void)data;
+    if (store >= 0) {
+        on_stored();
+        return;
+    }
     fprintf(notes, "saved %s\n", success ? "yes" : "no");
     if (success && place >= 0)
         note_properties(client, kept_count[place], kept[place]), kept_count[place] = 0;
@@ -180,13 +222,6 @@ static void let_in(int doors, IceListenObj *listeners, FILE *authority) {
     IceSetPaAuthData(made, entries);
 }
 
-static void ask_all(Bool shutdown) {
-    saving = count;
-    leaving = shutdown;
-    for (int i = 0; i < count; i++)
-        SmsSaveYourself(clients[i], shutdown ? SmSaveBoth : SmSaveLocal, shutdown, SmInteractStyleNone, False);
-}
-
 /* Returns whether the input goes on. */
 static int take_order(void) {
     char line[32] = "";
@@ -252,7 +287,9 @@ int main(int number, char **words) {
     int doors = 0;
     IceListenObj *listeners = NULL;
     FILE *authority;
-    if (number != 3 || !(notes = fopen(words[1], "a")) || !(authority = fopen(words[2], "w")))
+    if (number < 3 || number > 4 || !(notes = fopen(words[1], "a")) || !(authority = fopen(words[2], "w")))
+        return 2;
+    if (number == 4 && (store = open(words[3], O_RDWR | O_CREAT, 0600)) < 0)
         return 2;
     IceSetIOErrorHandler(on_io_error);
     IceAddConnectionWatch(on_link, NULL);
