@@ -13,7 +13,7 @@ pub record Going (whole : Cut) (frames : List WholeFrame) (at : Standing) (rest 
   pub partial : IsPartial at
   pub within : units at ≤ 8192
 
-no_items : (rest : List ℕ) → length rest ≡ 0 → rest ≡ []
+pub no_items : (rest : List ℕ) → length rest ≡ 0 → rest ≡ []
 no_items [] none = refl
 no_items (b ∷ bytes) none = absurd (omega arith)
 

@@ -1,7 +1,7 @@
-ghost use Rattle.std.specs.Prelude.{◌≡◌, ◌≤◌, ◌++◌, false, true, None, length, drop, IfOk, OnOk, MatchOption};
-ghost use Rattle.ice_framing.specs.Frames.{beginning, fed, wanted, has_frame, uncut, behind, cut, IsOversize, StandsAt};
+ghost use Rattle.std.specs.Prelude.{◌≡◌, ◌≤◌, ◌++◌, false, None, length, drop, IfOk, OnOk, MatchOption};
+ghost use Rattle.ice_framing.specs.Frames.{beginning, fed, has_frame, uncut, behind, cut, IsOversize, StandsAt};
 
-use crate::splitting::{HEADER_LEN, UNIT_LIMIT, endian_of, units_of};
+use crate::splitting::{UNIT_LIMIT, endian_of, units_of, whole_len};
 use crate::{WholeFrame, WholeFrameList};
 use ice_values::Endian;
 use owned_lists::{NoMemory, Octets};
@@ -31,19 +31,6 @@ struct Front {
     order: Option<Endian>,
     /// How many bytes they have.
     taken: usize,
-}
-
-/// How many bytes the frame at the front has; None where none is whole or its header states too much.
-fn whole_len(order: Option<Endian>, bytes: &[u8]) -> Option<usize>
-    ensures { MatchOption result (has_frame (record { order = order; held = bytes.now }) ≡ false)
-        (λ len. (len ≡ wanted (record { order = order; held = bytes.now })) × (has_frame (record { order = order; held = bytes.now }) ≡ true)) }
-{
-    let units = units_of(order, bytes);
-    if units > UNIT_LIMIT {
-        return None;
-    }
-    let len = HEADER_LEN + 8 * units as usize;
-    if len <= bytes.len() { Some(len) } else { None }
 }
 
 /// Adds the frames at the front of some bytes to the list.

@@ -1,5 +1,5 @@
-ghost use Rattle.std.specs.Prelude.{◌≡◌, ℕ, ◌+◌, ◌-◌, ◌<◌, ◌≤◌, min, ◌++◌, ◌∷◌, [], List, length, take, drop, vec_len, vec_capacity, IfOk, OnOk, OnErr, IfErr, IfNone, IfSome, OnSome};
-ghost use Rattle.ice_framing.specs.Frames.{Standing, beginning, fed, units_in, units, wanted, endian_in, endian, IsPartial, IsOversize, header_of, without_first, behind, cut, unit_limit, byte_limit};
+ghost use Rattle.std.specs.Prelude.{◌≡◌, ℕ, ◌+◌, ◌-◌, ◌<◌, ◌≤◌, false, true, min, ◌++◌, ◌∷◌, [], List, length, take, drop, vec_len, vec_capacity, IfOk, OnOk, OnErr, IfErr, IfNone, IfSome, OnSome, MatchOption, Some};
+ghost use Rattle.ice_framing.specs.Frames.{Standing, beginning, fed, units_in, units, wanted, endian_in, endian, IsPartial, IsOversize, IsLater, has_frame, header_of, without_first, behind, cut, unit_limit, byte_limit};
 
 use ice_values::{Endian, read_card32};
 use owned_lists::NoMemory;
@@ -85,6 +85,19 @@ pub(crate) fn units_of(order: Option<Endian>, held: &[u8]) -> u32
     read_card32(endian, length)
 }
 
+/// How many bytes the frame at the front has; None where none is whole or its header states too much.
+pub(crate) fn whole_len(order: Option<Endian>, bytes: &[u8]) -> Option<usize>
+    ensures { MatchOption result (has_frame (record { order = order; held = bytes.now }) ≡ false)
+        (λ len. (len ≡ wanted (record { order = order; held = bytes.now })) × (has_frame (record { order = order; held = bytes.now }) ≡ true)) }
+{
+    let units = units_of(order, bytes);
+    if units > UNIT_LIMIT {
+        return None;
+    }
+    let len = HEADER_LEN + 8 * units as usize;
+    if len <= bytes.len() { Some(len) } else { None }
+}
+
 /// Takes bytes of the piece until so many are held, for which there is room, and says how many.
 fn fill(held: &mut Vec<u8>, piece: &[u8], target: usize) -> usize
     requires { target ≤ vec_capacity held.old }
@@ -168,6 +181,28 @@ impl Splitter {
         }
         let (_, rest) = piece.split_at(head);
         Ok(head + fill(&mut self.held, rest, HEADER_LEN + 8 * units as usize))
+    }
+
+    /// The first frame of the rest of a piece, lent from the piece: neither memory nor a copy is taken,
+    /// and the splitter stays as it is. So the next frame of a long piece needn't be fed.
+    ///
+    /// It comes only where nothing is held, the order is known, and the frame is whole and within the
+    /// limit. Feed the rest where None comes.
+    pub fn front<'a>(&self, rest: &'a [u8]) -> Option<Frame<'a>>
+        // What is cut behind it is cut from what it leaves of the rest.
+        ensures first { IfSome result (λ frame. cut (fed self.now rest.now)
+            ≡ behind (record { endian = frame.endian; bytes = frame.bytes.now } ∷ []) (cut (fed self.now (drop (length frame.bytes.now) rest.now)))) }
+        ensures later { IfSome result (λ frame. IsLater frame.endian (record { endian = frame.endian; bytes = frame.bytes.now })) }
+        ensures order { IfSome result (λ frame. self.now.order ≡ Some frame.endian) }
+        ensures within { IfSome result (λ frame. length frame.bytes.now ≤ length rest.now) }
+    {
+        let endian = self.order?;
+        if !self.held.is_empty() {
+            return None;
+        }
+        let len = whole_len(self.order, rest)?;
+        let (bytes, _) = rest.split_at(len);
+        Some(Frame { endian, bytes })
     }
 
     /// Lends the frame that is held, if a whole one is.

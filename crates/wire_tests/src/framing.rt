@@ -207,6 +207,31 @@ fn limit_of_units(rt: HostRuntime) -> Result<(), Fail> {
     expect_rows(&rt, LIMITS, limit_shown)
 }
 
+/// What lies in front of a piece that comes behind a first frame.
+fn front_shown(alloc: Global, input: &str) -> Result<String, Fail> {
+    let (first, piece) = input.split_once(' ').ok_or("one frame")?;
+    let splitter = behind(alloc, bytes_of(alloc, first)?.as_slice())?;
+    let piece = bytes_of(alloc, piece)?;
+    match splitter.front(piece.as_slice()) {
+        Some(frame) => frame_shown(alloc, frame.endian, frame.bytes),
+        None => Ok("no frame".to_string(alloc)?),
+    }
+}
+
+/// One frame of one unit, and a byte behind it; one without units, and nothing behind it; half of a frame;
+/// half of a header; a header that states 8,193 units.
+const FRONTS: &str = "\
+0001010000000007 00020500000000016162636465666768ff => M00020500000000016162636465666768|
+0001000000000000 0009000000000000 => L0009000000000000|
+0001000000000000 000900000100000061626364 => no frame
+0001000000000000 00090000 => no frame
+0001010000000007 0002000000002001 => no frame";
+
+#[test]
+fn frames_in_front(rt: HostRuntime) -> Result<(), Fail> {
+    expect_rows(&rt, FRONTS, front_shown)
+}
+
 /// The bytes of a frame of 8,192 units.
 fn largest(alloc: Global) -> Result<Vec<u8>, NoMemory> {
     let mut largest = Vec::from_slice(alloc, &[0, 2, 0, 0, 0, 0, 0x20, 0])?;
