@@ -1,3 +1,4 @@
 pub mod MessageLaws
 pub mod Dispatch
 pub mod ViewLaws
+pub mod HeadLaws

@@ -1,13 +1,13 @@
-ghost use Rattle.std.specs.Prelude.{◌≡◌, ◌≤◌, ◌++◌, ◌↔◌, length, Err, OnOk, OnErr};
-ghost use Rattle.ice_values.specs.Cells.{zeros, byte};
+ghost use Rattle.std.specs.Prelude.{◌≡◌, ◌≤◌, ◌∷◌, ◌++◌, ◌↔◌, length, Err, OnOk, OnErr};
+ghost use Rattle.ice_values.specs.Cells.{zeros, free, byte, pad_len};
+ghost use Rattle.ice_values.specs.Numbers.{number_bytes};
 ghost use Rattle.ice_values.specs.Writing.{Extends};
 ghost use Rattle.xsmp_messages.specs.Messages.{IsFrame, canon, minor_of, layout, IsMessage, IsTooLong};
 
 use crate::XsmpMessage;
 use crate::lengths::body_size;
 use ice_values::{
-    EncodeRefusal, Endian, Enumerated, Spelled, pad, put_bytes, put_card16, put_card32, put_error,
-    put_zeros,
+    EncodeRefusal, Endian, Enumerated, Spelled, pad, put_bytes, put_error, put_zeros,
 };
 use owned_lists::{NoMemory, Octets};
 
@@ -38,16 +38,35 @@ pub fn minor(message: &XsmpMessage) -> u8
     }
 }
 
-/// Adds the two bytes of a message's own.
-fn put_own(endian: Endian, message: &XsmpMessage, out: &mut Octets) -> Result<(), NoMemory>
-    ensures ok { OnOk result (out.new ≡ out.old ++ zeros (layout byte endian message.now).0) }
-    ensures kept { Extends out.old out.new }
+/// The two bytes of a CARD16.
+fn card16_bytes(endian: Endian, number: u16) -> [u8; 2]
+    ensures { result ≡ number_bytes endian 2 number }
+{
+    match endian {
+        Endian::Lsb => number.to_le_bytes(),
+        Endian::Msb => number.to_be_bytes(),
+    }
+}
+
+/// The four bytes of a CARD32.
+fn card32_bytes(endian: Endian, number: u32) -> [u8; 4]
+    ensures { result ≡ number_bytes endian 4 number }
+{
+    match endian {
+        Endian::Lsb => number.to_le_bytes(),
+        Endian::Msb => number.to_be_bytes(),
+    }
+}
+
+/// The two bytes of a message's own.
+fn own_bytes(endian: Endian, message: &XsmpMessage) -> [u8; 2]
+    ensures { result ≡ zeros (layout byte endian message.now).0 }
 {
     match message {
-        XsmpMessage::Error(error) => put_card16(endian, error.class, out),
-        XsmpMessage::InteractRequest { dialog } => put_bytes(&[dialog.number(), 0], out),
-        XsmpMessage::InteractDone { cancel } => put_bytes(&[cancel.number(), 0], out),
-        XsmpMessage::SaveYourselfDone { success } => put_bytes(&[success.number(), 0], out),
+        XsmpMessage::Error(error) => card16_bytes(endian, error.class),
+        XsmpMessage::InteractRequest { dialog } => [dialog.number(), 0],
+        XsmpMessage::InteractDone { cancel } => [cancel.number(), 0],
+        XsmpMessage::SaveYourselfDone { success } => [success.number(), 0],
         XsmpMessage::RegisterClient { .. }
         | XsmpMessage::RegisterClientReply { .. }
         | XsmpMessage::SaveYourself { .. }
@@ -62,8 +81,19 @@ fn put_own(endian: Endian, message: &XsmpMessage, out: &mut Octets) -> Result<()
         | XsmpMessage::GetPropertiesReply { .. }
         | XsmpMessage::SaveYourselfPhase2Request
         | XsmpMessage::SaveYourselfPhase2
-        | XsmpMessage::SaveComplete => put_bytes(&[0, 0], out),
+        | XsmpMessage::SaveComplete => [0, 0],
     }
+}
+
+/// The eight bytes in front of a body that takes so many units.
+fn head(endian: Endian, opcode: u8, message: &XsmpMessage, units: u32) -> [u8; 8]
+    ensures { result ≡ opcode ∷ minor_of message.now
+        ∷ (zeros (layout byte endian message.now).0 ++ number_bytes endian 4 units) }
+{
+    let minor = minor(message);
+    let [own, rest] = own_bytes(endian, message);
+    let [first, second, third, fourth] = card32_bytes(endian, units);
+    [opcode, minor, own, rest, first, second, third, fourth]
 }
 
 /// Adds the body of a message.
@@ -117,6 +147,31 @@ fn put_body(endian: Endian, message: &XsmpMessage, out: &mut Octets) -> Result<(
     }
 }
 
+/// Adds the body of a message, which has so many bytes, and its padding. Most messages have neither.
+fn put_padded(
+    endian: Endian,
+    message: &XsmpMessage,
+    count: usize,
+    padding: usize,
+    out: &mut Octets,
+) -> Result<(), NoMemory>
+    requires fits { IsMessage message.now }
+    requires body { count ≡ length (layout byte endian message.now).1 }
+    requires padding { padding ≡ pad_len count 8 }
+    ensures ok { OnOk result
+        (out.new ≡ out.old ++ (zeros (layout byte endian message.now).1 ++ zeros (free padding))) }
+    ensures kept { Extends out.old out.new }
+{
+    if count == 0 {
+        return Ok(());
+    }
+    put_body(endian, message, out)?;
+    if padding == 0 {
+        return Ok(());
+    }
+    put_zeros(padding, out)
+}
+
 /// Adds a whole message, whose body has so many bytes.
 fn put_message(
     endian: Endian,
@@ -133,11 +188,9 @@ fn put_message(
     ensures kept { Extends out.old out.new }
 {
     let padding = pad(count, 8);
-    put_bytes(&[opcode, minor(message)], out)?;
-    put_own(endian, message, out)?;
-    put_card32(endian, ((count + padding) / 8) as u32, out)?;
-    put_body(endian, message, out)?;
-    put_zeros(padding, out)
+    let head = head(endian, opcode, message, ((count + padding) / 8) as u32);
+    put_bytes(&head, out)?;
+    put_padded(endian, message, count, padding, out)
 }
 
 /// Appends the spelling of a message under a major opcode, with zeros in unused and padding
