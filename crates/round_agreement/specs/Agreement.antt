@@ -1,6 +1,6 @@
 -- A round: everybody in it was asked to save, and it goes on until all of them have. A member says
 -- whether it saved, or first that it wants to save in a second phase, when the others are done.
-use Rattle.std.specs.Prelude.{ℕ, ◌==◌, Bool, true, false, not, ◌&&◌, ◌||◌, if◌then◌else◌, List, [], ◌∷◌, map, filter}
+use Rattle.std.specs.Prelude.{ℕ, ◌==◌, Bool, true, false, not, ◌&&◌, ◌||◌, if◌then◌else◌, List, [], ◌∷◌, length, map, filter}
 use Rattle.std.specs.List.{list_any, list_all}
 use Rattle.round_agreement.specs.declared.round.Member.{Member}
 use Rattle.round_agreement.specs.declared.round.Step.{Step}
@@ -56,6 +56,10 @@ owes step = not (is_done step)
 -- this connection is a member, and at such a step
 abbrev pub is_at : (Step → Bool) → ℕ → List Member → Bool
 is_at test conn members = list_any (λ m. (m.conn == conn) && test m.step) members
+
+-- how many members are at such a step
+abbrev pub count_at : (Step → Bool) → List Member → ℕ
+count_at test members = length (filter (λ m. test m.step) members)
 
 abbrev pub is_nil : {A : Type 0} → List A → Bool
 is_nil [] = true

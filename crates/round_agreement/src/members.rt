@@ -1,6 +1,6 @@
-ghost use Rattle.std.specs.Prelude.{◌≡◌, ◌||◌};
-ghost use Rattle.std.specs.List.{list_all, list_any};
-ghost use Rattle.round_agreement.specs.Agreement.{is_nil as is_nil_list, all_done as all_done_members, is_done as is_done_step, wants_two as wants_second, is_saved as is_saved_step, moved as moved_member, with_step as stepped, second_step, second_saving as second_member, with_second as all_second};
+ghost use Rattle.std.specs.Prelude.{◌≡◌, ◌==◌, position, IsTrue};
+ghost use Rattle.std.specs.List.{list_any};
+ghost use Rattle.round_agreement.specs.Agreement.{is_nil as is_nil_list, conns_of, are_distinct, count_at, is_done as is_done_step, is_saving as is_saving_step, wants_two as wants_second, is_saved as is_saved_step, with_step as stepped, second_step, second_saving as second_member, with_second as all_second};
 
 use crate::{Member, Step};
 use sm_world::Conn;
@@ -15,6 +15,18 @@ impl Step {
             Step::WantsTwo => false,
             Step::SavingTwo => false,
             Step::Done(_) => true,
+        }
+    }
+
+    /// Whether it saves, in the first phase or in the second.
+    fn is_saving(self) -> bool
+        ensures { result ≡ is_saving_step self }
+    {
+        match self {
+            Step::Saving => true,
+            Step::WantsTwo => false,
+            Step::SavingTwo => true,
+            Step::Done(_) => false,
         }
     }
 
@@ -56,16 +68,6 @@ impl Step {
 }
 
 impl Member {
-    fn moved(self, conn: Conn, step: Step) -> Member
-        ensures { result ≡ moved_member conn step self }
-    {
-        if self.conn == conn {
-            Member { conn, step }
-        } else {
-            self
-        }
-    }
-
     fn second(self) -> Member
         ensures { result ≡ second_member self }
     {
@@ -84,20 +86,11 @@ pub(crate) fn is_nil<T>(items: &[T]) -> bool
     items.is_empty()
 }
 
-/// Whether every member has saved.
-pub(crate) fn all_done(members: &[Member]) -> bool
-    ensures { result ≡ all_done_members members.now }
+/// How many members save, in the first phase or in the second.
+pub(crate) fn count_saving(members: &[Member]) -> usize
+    ensures { result ≡ count_at is_saving_step members.now }
 {
-    members.iter().all(|m| m.step.is_done())
-}
-
-/// Whether every member has saved or waits for the second phase.
-pub(crate) fn nobody_saves(members: &[Member]) -> bool
-    ensures { result ≡ list_all (λ m. is_done_step m.step || wants_second m.step) members.now }
-{
-    members
-        .iter()
-        .all(|m| m.step.is_done() || m.step.wants_two())
+    members.iter().filter(|m| m.step.is_saving()).count()
 }
 
 /// Whether a member waits for the second phase.
@@ -107,12 +100,22 @@ pub(crate) fn somebody_wants_two(members: &[Member]) -> bool
     members.iter().any(|m| m.step.wants_two())
 }
 
-/// Brings one member to a step.
-pub(crate) fn set_step(members: &mut [Member], conn: Conn, step: Step)
+/// The place at which a connection stands first.
+fn place_of(conns: &[Conn], conn: Conn) -> Option<usize>
+    ensures { result ≡ position (λ other. other == conn) conns.now }
+{
+    conns.iter().position(|other| *other == conn)
+}
+
+/// Brings the one member of a connection to a step. The members' connections are handed in beside
+/// them, since they are searched quicker.
+pub(crate) fn set_step(members: &mut [Member], conns: &[Conn], conn: Conn, step: Step)
+    requires conns { conns.now ≡ conns_of members.old }
+    requires distinct { IsTrue (are_distinct conns.now) }
     ensures { members.new ≡ stepped conn step members.old }
 {
-    for member in members {
-        *member = member.moved(conn, step);
+    if let Some(place) = place_of(conns, conn) {
+        members[place] = Member { conn, step };
     }
 }
 

@@ -1,9 +1,9 @@
-ghost use Rattle.std.specs.Prelude.{◌≡◌, IsTrue, IfOk};
-ghost use Rattle.round_agreement.specs.Agreement.{is_saving, is_first_saving, is_saved, is_at, is_nil, conns_of, are_distinct, all_saving, with_step, without_member, with_second, owing, two_ready as second_ready, agreed as all_agreed, deserted as all_left};
+ghost use Rattle.std.specs.Prelude.{◌≡◌, false, IsTrue, IfOk};
+ghost use Rattle.round_agreement.specs.Agreement.{is_saving, is_first_saving, is_saved, is_at, is_nil, conns_of, are_distinct, all_saving, with_step, without_member, with_second, owing, two_ready as second_ready, all_done, agreed as all_agreed, deserted as all_left};
 ghost use Rattle.round_agreement.specs.declared.round.Step.TheVariants.{WantsTwo, Done};
 
 use crate::Wanted;
-use crate::members::{all_done, is_nil, nobody_saves, set_second, set_step, somebody_wants_two};
+use crate::members::{count_saving, is_nil, set_second, set_step, somebody_wants_two};
 use owned_lists::NoMemory;
 use sm_world::{Conn, ConnList};
 use std::alloc::Global;
@@ -31,25 +31,32 @@ pub struct Member {
 }
 
 /// A round of saves (XSMP, chapter 7: SaveYourself). It goes on until every member has said
-/// SaveYourselfDone; those that said SaveYourselfPhase2Request save when the others are done.
+/// SaveYourselfDone; those that said SaveYourselfPhase2Request save when the others are done. What
+/// each message has to know of all members is counted, so that none of them is gone over for it.
 #[derive(Drop)]
 pub struct Round {
     conns: Vec<Conn>,
     members: Vec<Member>,
+    saving: usize,
+    is_second_wanted: bool,
     began_empty: bool,
     wanted: Wanted,
 }
 
 impl Model for Round {
-    ghost use Rattle.std.specs.Prelude.{◌≡◌};
-    ghost use Rattle.round_agreement.specs.Agreement.{Agreement, conns_of};
+    ghost use Rattle.std.specs.Prelude.{◌≡◌, true};
+    ghost use Rattle.std.specs.List.{list_any};
+    ghost use Rattle.round_agreement.specs.Agreement.{Agreement, are_distinct, conns_of, count_at, is_saving, wants_two};
 
     ghost Value = { Agreement };
 
     ghost view = { λ r.
         record { members = r.members.items; began_empty = r.began_empty; wanted = r.wanted } };
 
-    ghost invariant = { λ r. r.conns.items ≡ conns_of r.members.items };
+    ghost invariant = { λ r. (r.conns.items ≡ conns_of r.members.items)
+        × (are_distinct r.conns.items ≡ true)
+        × (r.saving ≡ count_at is_saving r.members.items)
+        × (r.is_second_wanted ≡ list_any (λ m. wants_two m.step) r.members.items) };
 }
 
 impl Round {
@@ -71,6 +78,8 @@ impl Round {
         }
         Ok(Round {
             began_empty: is_nil(&conns),
+            saving: conns.len(),
+            is_second_wanted: false,
             conns,
             members,
             wanted,
@@ -84,7 +93,7 @@ impl Round {
         ensures empty { self.new.began_empty ≡ self.old.began_empty }
         ensures wanted { self.new.wanted ≡ self.old.wanted }
     {
-        set_step(&mut self.members, conn, Step::Done(success));
+        self.stop_saving(conn, Step::Done(success));
     }
 
     /// Notes that a member wants to save in the second phase. It must be saving in the first.
@@ -94,7 +103,20 @@ impl Round {
         ensures empty { self.new.began_empty ≡ self.old.began_empty }
         ensures wanted { self.new.wanted ≡ self.old.wanted }
     {
-        set_step(&mut self.members, conn, Step::WantsTwo);
+        self.stop_saving(conn, Step::WantsTwo);
+    }
+
+    /// Brings a member that saves to a step at which it doesn't.
+    fn stop_saving(&mut self, conn: Conn, step: Step)
+        requires saving { IsTrue (is_at is_saving conn self.old.members) }
+        requires stops { is_saving step ≡ false }
+        ensures members { self.new.members ≡ with_step conn step self.old.members }
+        ensures empty { self.new.began_empty ≡ self.old.began_empty }
+        ensures wanted { self.new.wanted ≡ self.old.wanted }
+    {
+        set_step(&mut self.members, &self.conns, conn, step);
+        self.saving -= 1;
+        self.is_second_wanted |= step.wants_two();
     }
 
     /// Takes a member out, if it is one.
@@ -105,13 +127,15 @@ impl Round {
     {
         self.members.retain(|member| member.conn != conn);
         self.conns.retain(|other| *other != conn);
+        self.saving = count_saving(&self.members);
+        self.is_second_wanted = somebody_wants_two(&self.members);
     }
 
     /// Whether the second phase can begin: every member is done or wants it, and one wants it.
     pub fn two_ready(&self) -> bool
         ensures { result ≡ second_ready self.now.members }
     {
-        nobody_saves(&self.members) && somebody_wants_two(&self.members)
+        self.saving == 0 && self.is_second_wanted
     }
 
     /// Lets those that want the second phase save in it, which must be able to begin.
@@ -122,13 +146,22 @@ impl Round {
         ensures wanted { self.new.wanted ≡ self.old.wanted }
     {
         set_second(&mut self.members);
+        self.saving = count_saving(&self.members);
+        self.is_second_wanted = false;
+    }
+
+    /// Whether every member is done.
+    fn are_done(&self) -> bool
+        ensures { result ≡ all_done self.now.members }
+    {
+        self.saving == 0 && !self.is_second_wanted
     }
 
     /// Whether all agree: every member is done, and there is one, or the round began without any.
     pub fn agreed(&self) -> bool
         ensures { result ≡ all_agreed self.now }
     {
-        all_done(&self.members) && (self.began_empty || !is_nil(&self.members))
+        self.are_done() && (self.began_empty || !is_nil(&self.members))
     }
 
     /// Whether the round began with members and all have left it.
