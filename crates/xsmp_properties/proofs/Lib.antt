@@ -1,4 +1,4 @@
 pub mod TableLaws
-pub mod MapLaws
+pub mod SharedLaws
 pub mod TextLaws
 pub mod SizeLaws

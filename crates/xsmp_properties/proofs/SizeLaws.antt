@@ -153,3 +153,9 @@ is_full-by sizes items is names =
         | inr long ↦ lt-ltb 16384 (total_of sizes) (over items sizes total long)
       ],
     )
+
+-- where there are too many names before the rest of a list is set, there are too many after it
+pub too_many : (before now list whole : List Property) (p : Property) (n : ℕ) → set_all before (drop n list) ≡ whole → drop n list ≡ p ∷ drop (n + 1) list → now ≡ set_one before p → 128 < length now → 128 < length whole
+too_many before now list whole p n is next put many =
+    let step : set_all now (drop (n + 1) list) ≡ whole = ap (λ l. set_all l (drop (n + 1) list)) put ∙ ap (set_all before) (sym next) ∙ is in
+    omega (arith, many, set_all-longer now (drop (n + 1) list), ap length step)

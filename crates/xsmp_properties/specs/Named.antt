@@ -1,19 +1,9 @@
--- How a map keeps properties.
-use Rattle.std.specs.Prelude.{◌≡◌, ℕ, Bool, List}
-use Rattle.std.specs.List.{AllByRecursion, IsDistinct}
-use Rattle.std.specs.Str.{bytes_eq}
-use Rattle.std.specs.Global.{Vec}
-use Rattle.std.specs.Map.{keys_of}
+-- Where a property is held.
+use Rattle.std.specs.Prelude.{ℕ, suc, cond, List, [], ◌∷◌}
 use Rattle.ice_values.specs.declared.property.Property.{Property}
+use Rattle.xsmp_properties.specs.Tables.{is_named}
 
--- the key is the property's name
-abbrev pub HasOwnName : Vec ℕ × Property → Type 0
-HasOwnName entry = entry.0.items ≡ entry.1.name
-
--- the map's test of two keys
-abbrev pub same_key : Vec ℕ → Vec ℕ → Bool
-same_key a b = bytes_eq a.items b.items
-
--- each under its own name, and none twice
-abbrev pub AreNamed : List (Vec ℕ × Property) → Type 0
-AreNamed entries = AllByRecursion HasOwnName entries × IsDistinct same_key (keys_of entries)
+-- the first place of a name, or how many properties there are
+abbrev pub place_among : List ℕ → List Property → ℕ
+place_among name [] = 0
+place_among name (p ∷ items) = cond (is_named name p) 0 (suc (place_among name items))

@@ -81,6 +81,11 @@ abbrev pub are_words : List (List ℕ) → Bool
 are_words [] = false
 are_words (program ∷ arguments) = is_nonempty program && list_all is_text (program ∷ arguments)
 
+-- the words of the command under a name, where they are those of one
+abbrev pub words_in : List ℕ → List Property → Option (List (List ℕ))
+words_in name items =
+    option_and_then (λ words. if are_words words then Some words else None) (values_of name (codes "LISTofARRAY8") items)
+
 abbrev pub command_with : List Property → List (List ℕ) → Option Command
 command_with items words =
     if are_words words then Some (record { words = words; directory = directory_of items; environment = environment_of items }) else None

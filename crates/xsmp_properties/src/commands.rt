@@ -1,5 +1,5 @@
-ghost use Rattle.std.specs.Prelude.{◌≡◌, IfOk, codes};
-ghost use Rattle.xsmp_properties.specs.Readers.{directory_in, directory_of as directory_of_items, is_environment, in_pairs, environment_in, environment_of as environment_of_items, command_of as command_of_items};
+ghost use Rattle.std.specs.Prelude.{◌≡◌, IfOk, codes, is_some, option_copied};
+ghost use Rattle.xsmp_properties.specs.Readers.{directory_in, directory_of as directory_of_items, is_environment, in_pairs, environment_in, environment_of as environment_of_items, command_of as command_of_items, words_in};
 
 use crate::PropertyTable;
 use crate::texts::{are_words, is_text, is_variable, values_of};
@@ -92,6 +92,25 @@ fn words_of(alloc: Global, values: &[Array8]) -> Result<OctetsList, NoMemory>
     Ok(words)
 }
 
+/// The words of the command that stands under a name, where there is one.
+fn words_in<'a>(table: &'a PropertyTable, name: &[u8]) -> Option<&'a [Array8]>
+    ensures { option_copied result ≡ words_in name.now table.now }
+{
+    let values = values_of(table, name, LIST)?;
+    if are_words(values) {
+        Some(values)
+    } else {
+        None
+    }
+}
+
+/// Whether `command_of` finds a command under a name. This takes no memory.
+pub fn has_command(table: &PropertyTable, name: &[u8]) -> bool
+    ensures { result ≡ is_some (command_of_items name.now table.now) }
+{
+    words_in(table, name).is_some()
+}
+
 /// The command that stands under a name, such as RestartCommand: its words are texts of kind
 /// `LISTofARRAY8`, in UTF-8 without NUL, of which there is one at least, and the first isn't empty.
 /// Its directory and environment are those of the same table. None where there is no such property.
@@ -102,14 +121,11 @@ pub fn command_of(
 ) -> Result<Option<Command>, NoMemory>
     ensures { IfOk result (λ command. command ≡ command_of_items name.now table.now) }
 {
-    let Some(values) = values_of(table, name, LIST) else {
+    let Some(words) = words_in(table, name) else {
         return Ok(None);
     };
-    if !are_words(values) {
-        return Ok(None);
-    }
     Ok(Some(Command {
-        words: words_of(alloc, values)?,
+        words: words_of(alloc, words)?,
         directory: directory_of(alloc, table)?,
         environment: environment_of(alloc, table)?,
     }))

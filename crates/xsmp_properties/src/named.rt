@@ -1,16 +1,20 @@
-ghost use Rattle.std.specs.Prelude.{◌≡◌, ◌<◌, ◌≤◌, [], ◌∷◌, length, map, IfOk, OnOk, IfNone, IfSome, IsTrue, ◌↔◌, option_copied};
+ghost use Rattle.std.specs.Prelude.{◌≡◌, ◌<◌, ◌≤◌, [], ◌∷◌, Err, length, map, IfOk, OnOk, IfNone, IfSome, IsTrue, ◌↔◌, option_copied};
 ghost use Rattle.std.specs.Cmp.Lexicographic.{pointwise};
 ghost use Rattle.ice_values.specs.Walks.{walk_left};
+ghost use Rattle.std.specs.Rc.{rc_value};
+ghost use Rattle.xsmp_properties.specs.Named.{place_among};
 ghost use Rattle.xsmp_properties.specs.Sizes.{sized, sizes_of};
+ghost use Rattle.xsmp_properties.specs.declared.refusals.SetRefusal.TheVariants.{TableFull};
 ghost use Rattle.xsmp_properties.specs.Tables.{set_one, set_all, without_names, find_property, encoded_len, equal_property as are_equal, IsTableFull, WouldBeFull, AreNamesDistinct};
 
+use crate::SetRefusal;
 use crate::sizes::{TableSizes, property_size};
-use crate::texts::same_texts;
+use crate::texts::{same_bytes, same_texts};
 use ice_values::{Array8, Property, PropertyList, PropertyWalk, Spelled};
-use indexmap::IndexMap;
 use owned_lists::{Duplicate, NoMemory};
 use std::alloc::Global;
 use std::marker::Model;
+use std::rc::Rc;
 
 pub(crate) const NAME_LIMIT: usize = 128;
 
@@ -20,28 +24,41 @@ pub(crate) const BYTE_LIMIT: usize = 16_384;
 fn equal_property(first: &Property, second: &Property) -> bool
     ensures { result ≡ are_equal first.now second.now }
 {
-    first.name.as_slice() == second.name.as_slice()
-        && first.kind.as_slice() == second.kind.as_slice()
+    same_bytes(first.name.as_slice(), second.name.as_slice())
+        && same_bytes(first.kind.as_slice(), second.kind.as_slice())
         && same_texts(first.values.as_slice(), second.values.as_slice())
 }
 
+/// The first place of a name, or how many there are.
+fn place(held: &[Rc<Property>], name: &[u8]) -> usize
+    ensures { result ≡ place_among name.now (map rc_value held.now) }
+{
+    for (index, shared) in held.iter().enumerate() {
+        if same_bytes(name, shared.as_ref().name.as_slice()) {
+            return index;
+        }
+    }
+    held.len()
+}
+
 /// Properties of different names, in the order in which each name was first set, without a limit.
+/// A copy shares them: what takes another's place is a property of its own.
 #[derive(Drop)]
 pub(crate) struct NamedProperties {
-    held: IndexMap<Vec<u8>, Property>,
+    held: Vec<Rc<Property>>,
 }
 
 impl Model for NamedProperties {
-    ghost use Rattle.std.specs.Prelude.{List};
-    ghost use Rattle.indexmap.specs.IndexMap.{values};
+    ghost use Rattle.std.specs.Prelude.{List, map};
     ghost use Rattle.ice_values.specs.declared.property.Property.{Property};
-    ghost use Rattle.xsmp_properties.specs.Named.{AreNamed};
+    ghost use Rattle.std.specs.Rc.{rc_value};
+    ghost use Rattle.xsmp_properties.specs.Tables.{AreNamesDistinct};
 
     ghost Value = { List Property };
 
-    ghost view = { λ named. values named.held };
+    ghost view = { λ named. map rc_value named.held.items };
 
-    ghost invariant = { λ named. AreNamed named.held.entries };
+    ghost invariant = { λ named. AreNamesDistinct (map rc_value named.held.items) };
 }
 
 impl NamedProperties {
@@ -50,7 +67,7 @@ impl NamedProperties {
         ensures { result ≡ [] }
     {
         NamedProperties {
-            held: IndexMap::new(alloc),
+            held: Vec::new(alloc),
         }
     }
 
@@ -58,17 +75,27 @@ impl NamedProperties {
     pub fn put(&mut self, property: Property) -> Result<(), NoMemory>
         ensures { OnOk result (self.new ≡ set_one self.old property) }
     {
-        let name = Vec::from_slice(*self.held.allocator(), property.name.as_slice())?;
-        self.held.insert(name, property)?;
+        let place = place(self.held.as_slice(), property.name.as_slice());
+        let shared = Rc::new(*self.held.allocator(), property)?;
+        if place < self.held.len() {
+            self.held[place] = shared;
+            return Ok(());
+        }
+        self.held.push(shared)?;
         Ok(())
     }
 
-    /// Sets copies of these properties in turn.
-    pub fn put_all(&mut self, list: &[Property]) -> Result<(), NoMemory>
-        ensures { OnOk result (self.new ≡ set_all self.old list.now) }
+    /// Sets copies of these properties in turn. The table is full as soon as there are more names
+    /// than a client may say, whatever follows in the list.
+    pub fn put_all(&mut self, list: &[Property]) -> Result<(), SetRefusal>
+        ensures ok { OnOk result (self.new ≡ set_all self.old list.now) }
+        ensures full { result ≡ Err TableFull → 128 < length (set_all self.old list.now) }
     {
         for property in list {
             self.put(property.copy()?)?;
+            if self.held.len() > NAME_LIMIT {
+                return Err(SetRefusal::TableFull);
+            }
         }
         Ok(())
     }
@@ -90,7 +117,11 @@ impl NamedProperties {
     pub fn remove(&mut self, name: &[u8])
         ensures { self.new ≡ without_names (name.now ∷ []) self.old }
     {
-        self.held.shift_remove(name);
+        let place = place(self.held.as_slice(), name);
+        if place >= self.held.len() {
+            return;
+        }
+        drop(self.held.remove(place));
     }
 
     /// Takes the properties of these names out.
@@ -106,7 +137,11 @@ impl NamedProperties {
     pub fn get(&self, name: &[u8]) -> Option<&Property>
         ensures { option_copied result ≡ find_property name.now self.now }
     {
-        self.held.get(name)
+        let place = place(self.held.as_slice(), name);
+        if place >= self.held.len() {
+            return None;
+        }
+        Some(self.held[place].as_ref())
     }
 
     /// Copies of all properties, in order.
@@ -115,8 +150,8 @@ impl NamedProperties {
         ensures names { AreNamesDistinct self.now }
     {
         let mut list = PropertyList::new(*self.held.allocator());
-        for (_, property) in self.held.iter() {
-            list.push(property.copy()?)?;
+        for shared in self.held.as_slice() {
+            list.push(shared.as_ref().copy()?)?;
         }
         Ok(list)
     }
@@ -127,8 +162,8 @@ impl NamedProperties {
         ensures some { IfSome result (λ n. (n ≡ encoded_len self.now) × (n ≤ 16384)) }
     {
         let mut total = 0;
-        for (_, property) in self.held.iter() {
-            total += property.size()?;
+        for shared in self.held.as_slice() {
+            total += shared.as_ref().size()?;
             if total > BYTE_LIMIT {
                 return None;
             }
@@ -149,7 +184,8 @@ impl NamedProperties {
         ensures none { IfNone result (128 < length self.now) }
     {
         let mut sizes = TableSizes::new();
-        for (_, property) in self.held.iter() {
+        for shared in self.held.as_slice() {
+            let property = shared.as_ref();
             if !sizes.set(property.name.as_slice(), property_size(property)) {
                 return None;
             }
@@ -175,25 +211,24 @@ impl NamedProperties {
     pub fn is_same(&self, other: &NamedProperties) -> bool
         ensures { result ≡ pointwise are_equal self.now other.now }
     {
-        let mut others = other.held.iter();
-        for (_, property) in self.held.iter() {
-            let Some((_, twin)) = others.next() else {
+        let mut left = other.held.as_slice();
+        for shared in self.held.as_slice() {
+            let [twin, others @ ..] = left else {
                 return false;
             };
-            if !equal_property(property, twin) {
+            if !equal_property(shared.as_ref(), twin.as_ref()) {
                 return false;
             }
+            left = others;
         }
-        others.next().is_none()
+        left.is_empty()
     }
 }
 
 impl Duplicate for NamedProperties {
     fn copy(&self) -> Result<NamedProperties, NoMemory> {
-        let mut twin = NamedProperties::new(*self.held.allocator());
-        for (_, property) in self.held.iter() {
-            twin.put(property.copy()?)?;
-        }
-        Ok(twin)
+        Ok(NamedProperties {
+            held: self.held.clone()?,
+        })
     }
 }

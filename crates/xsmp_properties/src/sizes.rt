@@ -5,6 +5,7 @@ ghost use Rattle.ice_values.specs.declared.numbers.Endian.TheVariants.{Lsb};
 ghost use Rattle.xsmp_properties.specs.Sizes.{limited, place_of, shown, sizes_of, total_of, with_size, with_walk};
 
 use crate::named::{BYTE_LIMIT, NAME_LIMIT};
+use crate::texts::same_bytes;
 use arrayvec::ArrayVec;
 use ice_values::{Property, PropertyView, PropertyWalk, Spelled};
 
@@ -59,7 +60,7 @@ fn place(held: &[Size<'_>], name: &[u8]) -> usize
     ensures { result ≡ place_of name.now (map shown held.now) }
 {
     for (index, size) in held.iter().enumerate() {
-        if name == size.name {
+        if same_bytes(name, size.name) {
             return index;
         }
     }

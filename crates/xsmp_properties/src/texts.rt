@@ -43,6 +43,21 @@ pub fn are_words(values: &[Array8]) -> bool
     !program.as_slice().is_empty() && are_texts(values)
 }
 
+/// Whether these are the same bytes, as those of two names or IDs. Most that differ are told apart
+/// by their lengths or their last bytes, which costs less than to begin with the whole of them.
+pub fn same_bytes(first: &[u8], second: &[u8]) -> bool
+    ensures { result ≡ bytes_eq first.now second.now }
+{
+    let count = first.len();
+    if count != second.len() {
+        return false;
+    }
+    if count > 0 && first[count - 1] != second[count - 1] {
+        return false;
+    }
+    first == second
+}
+
 /// Whether these are the same texts in the same order.
 pub fn same_texts(first: &[Array8], second: &[Array8]) -> bool
     ensures { result ≡ pointwise bytes_eq first.now second.now }
@@ -52,7 +67,7 @@ pub fn same_texts(first: &[Array8], second: &[Array8]) -> bool
         let [other, others @ ..] = left else {
             return false;
         };
-        if text.as_slice() != other.as_slice() {
+        if !same_bytes(text.as_slice(), other.as_slice()) {
             return false;
         }
         left = others;
@@ -69,7 +84,7 @@ pub(crate) fn values_of<'a>(
     ensures { option_copied result ≡ values_of name.now kind.now table.now }
 {
     let property = table.get(name)?;
-    if kind == property.kind.as_slice() {
+    if same_bytes(kind, property.kind.as_slice()) {
         Some(property.values.as_slice())
     } else {
         None

@@ -1,6 +1,6 @@
-use Rattle.std.proofs.Common.{◌≡◌, ◌++◌}
-use Rattle.std.specs.Map.{values_of}
+use Rattle.std.proofs.Common.{◌≡◌, map, ◌++◌, drop}
+use Rattle.std.specs.Rc.{rc_value}
 use Rattle.xsmp_properties.proofs.named.NamedProperties.list.Given as goal
 
-abbrev pub invariant-loop-property : goal.invariant-loop-property
-invariant-loop-property l = l.list ++ values_of l.property-iterator ≡ l.self
+abbrev pub invariant-loop-shared : goal.invariant-loop-shared
+invariant-loop-shared l = l.list ++ map rc_value (drop l.shared-index l.shared-items) ≡ l.self
