@@ -18,6 +18,7 @@ pub mod Propers
 pub mod TidyRun
 pub mod Commands
 pub mod Pending
+pub mod DiscardLaws
 pub mod Ids
 pub mod Names
 pub mod Known

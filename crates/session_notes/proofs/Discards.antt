@@ -16,73 +16,9 @@ use Rattle.session_model.specs.Tables.{is_full, is_same, is_of, first_table, set
 use Rattle.session_model.proofs.Sound.{or-true, or-either}
 use Rattle.session_model.proofs.Ruled.{differ}
 use Rattle.session_model.proofs.Pending.{command_equiv}
+use Rattle.session_model.proofs.DiscardLaws.{last_named, find-all, last-either, tells, same-tells}
 use Rattle.session_notes.specs.Keeping.{sets_discard}
 use Rattle.session_notes.proofs.Tests.{or-none}
-
--- The property under a name
-
-find-set : (name : List ℕ) (p : Property) (items : List Property) → find_property name (set_one items p) ≡ cond (is_named name p) (Some p) (find_property name items)
-find-set name p [] = refl
-find-set name p (q ∷ items) = set-at (is_named p.name q) refl (find-set name p items) where
-  both : (b c : Bool) → b ≡ c → cond b (Some p) (find_property name items) ≡ cond b (Some p) (cond c (Some q) (find_property name items))
-  both true c e = refl
-  both false c e = ap (λ (b : Bool). cond b (Some q) (find_property name items)) e
-
-  -- q has the name of p, so they fit the same names
-  same : is_named p.name q ≡ true → is_named name p ≡ is_named name q
-  same e = ap (λ (x : List ℕ). bytes_eq name x) (same_text p.name q.name (sym e))
-
-  -- q has another name than p, so the name fits one of them at most
-  swap : (b c : Bool) → (b ≡ true → c ≡ true → ⊥) → cond c (Some q) (cond b (Some p) (find_property name items)) ≡ cond b (Some p) (cond c (Some q) (find_property name items))
-  swap true true k = absurd (k refl refl)
-  swap true false k = refl
-  swap false c k = refl
-
-  apart : is_named p.name q ≡ false → is_named name p ≡ true → is_named name q ≡ true → ⊥
-  apart e f g = let k : name ≡ p.name = same_text name p.name (sym f) in let l : is_named p.name q ≡ true = subst (λ (x : List ℕ). is_named x q ≡ true) k g in grind arith
-
-  set-at : (b : Bool) → is_named p.name q ≡ b → find_property name (set_one items p) ≡ cond (is_named name p) (Some p) (find_property name items)
-      → find_property name (cond b (p ∷ items) (q ∷ set_one items p)) ≡ cond (is_named name p) (Some p) (cond (is_named name q) (Some q) (find_property name items))
-  set-at true e k = both (is_named name p) (is_named name q) (same e)
-  set-at false e k = ap (λ (o : Option Property). cond (is_named name q) (Some q) o) k ∙ swap (is_named name p) (is_named name q) (apart e)
-
--- the last property of a list with this name, and what there was where there is none
-abbrev last_named : List ℕ → List Property → Option Property → Option Property
-last_named name [] o = o
-last_named name (p ∷ list) o = last_named name list (cond (is_named name p) (Some p) o)
-
-find-all : (name : List ℕ) (list items : List Property) → find_property name (set_all items list) ≡ last_named name list (find_property name items)
-find-all name [] items = refl
-find-all name (p ∷ list) items = find-all name list (set_one items p) ∙ ap (λ (o : Option Property). last_named name list o) (find-set name p items)
-
--- the list has the name, or it changes nothing under it
-last-either : (name : List ℕ) (list : List Property) (o : Option Property) → (last_named name list o ≡ last_named name list None) ⊎ (last_named name list o ≡ o)
-last-either name [] o = inr refl
-last-either name (p ∷ list) o = either-at (is_named name p) (last-either name list o) where
-  either-at : (b : Bool) → (last_named name list o ≡ last_named name list None) ⊎ (last_named name list o ≡ o)
-      → (last_named name list (cond b (Some p) o) ≡ last_named name list (cond b (Some p) None)) ⊎ (last_named name list (cond b (Some p) o) ≡ o)
-  either-at true k = inl refl
-  either-at false k = k
-
--- The command in a property
-
-abbrev words_in : Command → Option (List (List ℕ)) → Bool
-words_in command None = false
-words_in command (Some words) = are_words words && same_command command (record { words = words; directory = []; environment = [] })
-
-abbrev tells : Command → Option Property → Bool
-tells command o = words_in command (option_and_then (values_of_kind (codes "LISTofARRAY8")) o)
-
-same-words : (command : Command) (items : List Property) (o : Option (List (List ℕ))) → is_same command (option_and_then (command_with items) o) ≡ words_in command o
-same-words command items None = refl
-same-words command items (Some words) = words-at (are_words words) where
-  words-at : (b : Bool) → is_same command (if b then Some (record { words = words; directory = directory_of items; environment = environment_of items }) else None) ≡ (b && same_command command (record { words = words; directory = []; environment = [] }))
-  words-at true = refl
-  words-at false = refl
-
--- whether a table's DiscardCommand is the same goes by the property of this name alone
-same-tells : (command : Command) (items : List Property) → is_same command (discard_of items) ≡ tells command (find_property (codes "DiscardCommand") items)
-same-tells command items = same-words command items (values_of (codes "DiscardCommand") (codes "LISTofARRAY8") items)
 
 -- Tables
 
