@@ -1,19 +1,11 @@
--- IDs whose ends differ are not the same, and how the list of the registered IDs is used.
-use Rattle.std.proofs.Common.{◌≡◌, ℕ, Bool, true, false, cond, List, [], ◌∷◌, Option, Some, None, refl, sym, ap, ◌∙◌, map}
+-- How the list of the registered IDs is used.
+use Rattle.std.proofs.Common.{◌≡◌, ℕ, Bool, true, false, cond, List, [], ◌∷◌, Option, Some, None, refl, ap, map}
 use Rattle.std.specs.Prelude.{filter_map, find, option_map}
 use Rattle.std.specs.List.{cons_option}
 use Rattle.std.specs.Str.{bytes_eq}
-use Rattle.std.proofs.lemmas.Slice.Eq.{bytes_eq-Decides}
 use Rattle.session_model.specs.Reading.{Clients, client_of, has_that_id}
 use Rattle.session_clients.specs.declared.registered_ids.RegisteredId.{RegisteredId}
-use Rattle.session_clients.specs.Ids.{conn_of, last_byte, registered_ids, registered_under}
-
-pub ends_differ : (one other : List ℕ) (m n : ℕ) → m ≡ last_byte one → n ≡ last_byte other → (m ≡ n → ⊥) → false ≡ bytes_eq one other
-ends_differ one other m n is_m is_n apart = by (bytes_eq one other) refl
-  where
-    by : (b : Bool) → bytes_eq one other ≡ b → false ≡ b
-    by true same = absurd (apart (is_m ∙ ap last_byte ((bytes_eq-Decides one other).0 same) ∙ sym is_n))
-    by false same = refl
+use Rattle.session_clients.specs.Ids.{conn_of, registered_ids, registered_under}
 
 -- the first registered connection with an ID, by the list of those that have one
 pub conn-client : (id : List ℕ) (clients : Clients) → conn_of id (registered_ids clients) ≡ client_of id clients

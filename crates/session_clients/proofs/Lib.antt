@@ -2,3 +2,5 @@ pub mod FirstRowLaws
 pub mod IdLaws
 pub mod MoveLaws
 pub mod RowLaws
+pub mod SpanLaws
+pub mod OtherRowLaws

@@ -1,13 +1,7 @@
--- How an ID ends, and the IDs of the registered connections.
-use Rattle.std.specs.Prelude.{List, None, Option, Some, [], cond, filter_map, length, option_map, ℕ, ◌-◌, ◌∷◌}
-use Rattle.std.specs.Option.{option_map_or}
-use Rattle.std.specs.List.{slice_get}
+-- The IDs of the registered connections.
+use Rattle.std.specs.Prelude.{List, None, Option, Some, [], cond, filter_map, option_map, ℕ, ◌∷◌}
 use Rattle.std.specs.Str.{bytes_eq}
 use Rattle.session_model.specs.Reading.{Clients}
-
--- the last byte, or 0 where there is none
-abbrev pub last_byte : List ℕ → ℕ
-last_byte id = option_map_or (λ byte. byte) (slice_get id (length id - 1)) 0
 
 -- a registered connection, and the ID under which it registered
 pub record Registered : Type 0 where

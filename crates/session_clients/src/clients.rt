@@ -17,10 +17,8 @@ ghost use Rattle.ice_values.specs.Walks.{walk_left};
 ghost use Rattle.ice_values.specs.declared.saves.Dialog.{Dialog};
 ghost use Rattle.session_clients.specs.Clients.{clients_in, conns_in, held_after, held_by, id_in, is_reply, phase_in, saved_in, table_in};
 
-use crate::rows::{
-    give_each, has_row, hear_each, id_in, phase_in, ready_each, register_in, saved_in, set_each,
-    table_in, tick_each, unset_each,
-};
+use crate::live_rows::LiveRows;
+use crate::rows::{has_row, id_in, phase_in, saved_in, table_in};
 use crate::summaries::{
     client_in, conns_beside, count_new_ids, discard_in, discards_in, is_any_owing, late_among,
 };
@@ -42,7 +40,7 @@ use xsmp_properties::PropertyTable;
 /// of memory, nothing is promised of what is held then.
 #[derive(Drop)]
 pub struct Clients {
-    rows: Vec<Client>,
+    rows: LiveRows,
     registered: Vec<Conn>,
 }
 
@@ -52,7 +50,7 @@ impl Model for Clients {
     ghost Value = { Held };
 
     ghost view = { λ clients.
-        record { rows = clients.rows.items; registered = clients.registered.items } };
+        record { rows = clients.rows; registered = clients.registered.items } };
 }
 
 impl Clients {
@@ -62,7 +60,7 @@ impl Clients {
         ensures registered { result.registered ≡ [] }
     {
         Clients {
-            rows: Vec::new(alloc),
+            rows: LiveRows::new(alloc),
             registered: Vec::new(alloc),
         }
     }
@@ -108,7 +106,7 @@ impl Clients {
     pub fn live_count(&self) -> usize
         ensures { result ≡ length (conns_in self.now.rows) }
     {
-        self.rows.len()
+        self.rows.as_slice().len()
     }
 
     /// The registered connections, in the order in which they registered.
@@ -136,7 +134,7 @@ impl Clients {
     pub fn registered_ids(&self) -> Result<RegisteredIds<'_>, NoMemory>
         ensures { IfOk result (λ ids. ids ≡ registered_ids (clients_in self.now)) }
     {
-        RegisteredIds::among(*self.rows.allocator(), &self.rows, &self.registered)
+        RegisteredIds::among(self.rows.allocator(), &self.rows, &self.registered)
     }
 
     /// Whether a registered client owes an answer to a SaveYourself.
@@ -159,14 +157,14 @@ impl Clients {
     pub fn standing(&self) -> Result<CommandList, NoMemory>
         ensures { IfOk result (λ commands. commands ≡ standing (clients_in self.now)) }
     {
-        discards_in(*self.rows.allocator(), &self.rows, &self.registered)
+        discards_in(self.rows.allocator(), &self.rows, &self.registered)
     }
 
     /// The DiscardCommand of a connection.
     pub fn discard(&self, conn: Conn) -> Result<Option<Command>, NoMemory>
         ensures { IfOk result (λ command. command ≡ discard_of (table_in conn self.now.rows)) }
     {
-        discard_in(*self.rows.allocator(), &self.rows, conn)
+        discard_in(self.rows.allocator(), &self.rows, conn)
     }
 
     /// The registered connections that are overdue once these milliseconds have passed, in the order
@@ -176,7 +174,7 @@ impl Clients {
             r.run.patience ≡ patience → conns ≡ filter
             (is_overdue r milliseconds) r.clients.registered) }
     {
-        let alloc = *self.rows.allocator();
+        let alloc = self.rows.allocator();
         late_among(alloc, &self.rows, &self.registered, patience, milliseconds)
     }
 
@@ -185,7 +183,11 @@ impl Clients {
         ensures { IfOk result (λ conns.
             conns ≡ filter (λ c. not (is_in c self.now.registered)) (conns_in self.now.rows)) }
     {
-        conns_beside(*self.rows.allocator(), &self.rows, &self.registered)
+        conns_beside(
+            self.rows.allocator(),
+            self.rows.as_slice(),
+            &self.registered,
+        )
     }
 
     /// Whether a client couldn't set these properties, since its table would be too full.
@@ -195,7 +197,7 @@ impl Clients {
     {
         let table = match table_in(&self.rows, conn) {
             Some(table) => table.copy()?,
-            None => PropertyTable::new(*self.rows.allocator())?,
+            None => PropertyTable::new(self.rows.allocator())?,
         };
         would_be_full(table, list)
     }
@@ -204,23 +206,21 @@ impl Clients {
     pub fn join(&mut self, conn: Conn) -> Result<(), NoMemory>
         ensures { OnOk result (self.new ≡ held_by (Outside (Joined conn)) self.old) }
     {
-        let client = Client::joined(*self.rows.allocator(), conn)?;
-        self.rows.push(client)?;
-        Ok(())
+        self.rows.join(conn)
     }
 
     /// XSMP began on a connection. This takes no memory.
     pub fn ready(&mut self, conn: Conn)
         ensures { self.new ≡ held_by (Outside (Ready conn)) self.old }
     {
-        ready_each(&mut self.rows, conn);
+        self.rows.ready(conn);
     }
 
     /// So many milliseconds have passed. This takes no memory.
     pub fn tick(&mut self, milliseconds: u64)
         ensures { self.new ≡ held_by (Outside (Tick milliseconds)) self.old }
     {
-        tick_each(&mut self.rows, milliseconds);
+        self.rows.tick(milliseconds);
     }
 
     /// A connection is gone, or was shut. This takes no memory.
@@ -228,7 +228,7 @@ impl Clients {
         ensures left { self.new ≡ held_by (Outside (Left conn)) self.old }
         ensures closed { self.new ≡ held_by (Closed conn) self.old }
     {
-        self.rows.retain(|row| row.conn != conn);
+        self.rows.leave(conn);
         self.registered.retain(|other| *other != conn);
     }
 
@@ -236,7 +236,7 @@ impl Clients {
     pub fn unset(&mut self, conn: Conn)
         ensures { self.new ≡ held_by (Unset conn) self.old }
     {
-        unset_each(&mut self.rows, conn);
+        self.rows.unset(conn);
     }
 
     /// A connection was given an ID by a RegisterClientReply, and begins with this table.
@@ -244,7 +244,7 @@ impl Clients {
         ensures { OnOk result (self.new ≡ held_after (Gave conn (RegisterClientReply id)) (λ other.
             table) (λ dialog. false) self.old) }
     {
-        register_in(&mut self.rows, conn, id, table)?;
+        self.rows.register(conn, id, table)?;
         self.registered.push(conn)?;
         Ok(())
     }
@@ -254,7 +254,7 @@ impl Clients {
         requires { is_reply message.now ≡ false }
         ensures { self.new ≡ held_by (Gave conn message.now) self.old }
     {
-        give_each(&mut self.rows, conn, message);
+        self.rows.give(conn, message);
     }
 
     /// A connection said this, while the running round, if there is one, was begun for `wanted`. A
@@ -269,7 +269,7 @@ impl Clients {
             self.new ≡ held_after (Outside (Said conn message.now sequence frame)) first
             (may_interact wanted) self.old) }
     {
-        hear_each(&mut self.rows, conn, message, wanted)
+        self.rows.hear(conn, message, wanted)
     }
 
     /// A connection set all properties of a list, where it lies. A list that doesn't fit leaves the
@@ -281,7 +281,7 @@ impl Clients {
             (Outside (Said conn (SetProperties (walk_left walk.entry)) sequence frame)) first allowed
             self.old) }
     {
-        set_each(&mut self.rows, conn, walk)
+        self.rows.set(conn, walk)
     }
 
     /// Whether a client couldn't set the properties of this list, since its table would be too full.
@@ -292,7 +292,7 @@ impl Clients {
         match table_in(&self.rows, conn) {
             Some(table) => Ok(is_over_by(table, walk)),
             None => {
-                let table = PropertyTable::new(*self.rows.allocator())?;
+                let table = PropertyTable::new(self.rows.allocator())?;
                 Ok(is_over_by(&table, walk))
             }
         }

@@ -1,11 +1,10 @@
 ghost use Rattle.std.specs.Prelude.{◌≡◌, IfOk, option_copied};
 ghost use Rattle.session_model.specs.Tables as of;
 
-use crate::ids::is_same_id;
 use checkpoint_records::{Book, Entry};
 use owned_lists::{Duplicate, NoMemory};
 use std::alloc::Global;
-use xsmp_properties::PropertyTable;
+use xsmp_properties::{PropertyTable, same_bytes};
 
 /// The entry that a book has under an ID.
 pub fn entry_of<'a>(book: &'a Book, id: &[u8]) -> Option<&'a Entry>
@@ -14,7 +13,7 @@ pub fn entry_of<'a>(book: &'a Book, id: &[u8]) -> Option<&'a Entry>
     book.entries
         .as_slice()
         .iter()
-        .find(|entry| is_same_id(id, entry.id.as_slice()))
+        .find(|entry| same_bytes(id, entry.id.as_slice()))
 }
 
 /// Whether a book has an entry under an ID.

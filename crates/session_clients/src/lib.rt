@@ -4,7 +4,8 @@
 mod client;
 mod clients;
 mod entries;
-mod ids;
+mod guesses;
+mod live_rows;
 mod phases;
 mod registered_ids;
 mod rows;
@@ -14,7 +15,6 @@ mod tables;
 pub use client::{Client, is_reply};
 pub use clients::Clients;
 pub use entries::{entry_of, first_table, is_recorded};
-pub use ids::is_same_id;
 pub use phases::{
     given, is_bound, is_dying, is_first_saving, is_interacting, is_owing, is_saving, is_shutdown,
     is_unregistered, may_interact, readied, said,

@@ -4,13 +4,13 @@ ghost use Rattle.session_model.specs.Reading.{Clients, client_of};
 ghost use Rattle.session_clients.specs.Clients.{id_in};
 ghost use Rattle.session_clients.specs.Ids.{conn_of, registered_ids, registered_under};
 
-use crate::Client;
-use crate::ids::is_same_id;
+use crate::live_rows::LiveRows;
 use crate::rows::id_in;
 use owned_lists::NoMemory;
 use sm_world::Conn;
 use std::alloc::Global;
 use std::marker::Model;
+use xsmp_properties::same_bytes;
 
 /// A connection, and the ID under which it registered.
 #[derive(Drop)]
@@ -40,7 +40,7 @@ impl<'a> Model for RegisteredIds<'a> {
 fn known_among<'a, 'b>(ids: &'b [RegisteredId<'a>], id: &[u8]) -> Option<&'b RegisteredId<'a>>
     ensures { option_copied result ≡ find (λ k. bytes_eq id.now k.id.now) ids.now }
 {
-    ids.iter().find(|known| is_same_id(id, known.id))
+    ids.iter().find(|known| same_bytes(id, known.id))
 }
 
 fn conn_among(ids: &[RegisteredId<'_>], id: &[u8]) -> Option<Conn>
@@ -56,7 +56,7 @@ impl<'a> RegisteredIds<'a> {
     /// These of the connections that have an ID, each with it.
     pub(crate) fn among(
         alloc: Global,
-        rows: &'a [Client],
+        rows: &'a LiveRows,
         conns: &[Conn],
     ) -> Result<RegisteredIds<'a>, NoMemory>
         ensures { IfOk result (λ known.

@@ -1,77 +1,87 @@
-ghost use Rattle.std.specs.Prelude.{◌≡◌, ◌==◌, [], false, is_some, map, option_copied, position, unwrap_or, OnOk};
+ghost use Rattle.std.specs.Prelude.{◌≡◌, ◌==◌, [], false, is_some, map, option_copied, position, slice_get, unwrap_or, OnOk};
 ghost use Rattle.session_model.specs.declared.events.SessionEvent.TheVariants.{Ready, Tick};
 ghost use Rattle.interact_queue.specs.Queue.{is_in};
 ghost use Rattle.session_model.specs.Moves.{Gave, Outside, Unset};
 ghost use Rattle.session_model.specs.Phases.{may_interact};
 ghost use Rattle.session_model.specs.Reading.{has_that_id};
 ghost use Rattle.session_clients.specs.Clients.{conns_in, id_in, is_reply, phase_in, quiet_in, saved_in, table_in};
-ghost use Rattle.session_clients.specs.Rows.{client_by, client_heard, client_registered, client_setting, row_in};
+ghost use Rattle.session_clients.specs.Rows.{client_by, client_heard, client_registered, client_setting, is_of, row_in};
 ghost use Rattle.ice_values.specs.Walks.{walk_left};
 
 use crate::Client;
-use crate::ids::is_same_id;
+use crate::live_rows::LiveRows;
 use ice_values::{Array8, PropertyWalk};
 use owned_lists::NoMemory;
 use round_agreement::Wanted;
 use session_model::Phase;
 use sm_world::Conn;
 use xsmp_messages::XsmpMessage;
-use xsmp_properties::PropertyTable;
+use xsmp_properties::{PropertyTable, same_bytes};
 
 /// The first row of a connection.
-fn row_in(rows: &[Client], conn: Conn) -> Option<&Client>
+pub(crate) fn first_row(rows: &[Client], conn: Conn) -> Option<&Client>
     ensures { option_copied result ≡ row_in conn rows.now }
 {
     rows.iter().find(|row| row.conn == conn)
 }
 
+/// Whether the row at a place is that of a connection.
+pub(crate) fn stands_at(rows: &[Client], place: usize, conn: Conn) -> bool
+    ensures { result ≡ is_of conn (slice_get rows.now place) }
+{
+    match rows.get(place) {
+        Some(row) => row.conn == conn,
+        None => false,
+    }
+}
+
 /// Whether a connection has a row.
-pub(crate) fn has_row(rows: &[Client], conn: Conn) -> bool
+pub(crate) fn has_row(rows: &LiveRows, conn: Conn) -> bool
     ensures { result ≡ is_in conn (conns_in rows.now) }
 {
-    row_in(rows, conn).is_some()
+    rows.row(conn).is_some()
 }
 
-pub(crate) fn phase_in(rows: &[Client], conn: Conn) -> Option<Phase>
+pub(crate) fn phase_in(rows: &LiveRows, conn: Conn) -> Option<Phase>
     ensures { result ≡ phase_in conn rows.now }
 {
-    row_in(rows, conn)?.phase
+    rows.row(conn)?.phase
 }
 
-pub(crate) fn id_in(rows: &[Client], conn: Conn) -> Option<&Array8>
+pub(crate) fn id_in(rows: &LiveRows, conn: Conn) -> Option<&Array8>
     ensures { option_copied result ≡ id_in conn rows.now }
 {
-    row_in(rows, conn)?.id.as_ref()
+    rows.row(conn)?.id.as_ref()
 }
 
 /// For how many milliseconds a connection has been quiet; 0 where it has no row.
-pub(crate) fn quiet_in(rows: &[Client], conn: Conn) -> u64
+pub(crate) fn quiet_in(rows: &LiveRows, conn: Conn) -> u64
     ensures { result ≡ quiet_in conn rows.now }
 {
-    match row_in(rows, conn) {
+    match rows.row(conn) {
         Some(row) => row.quiet,
         None => 0,
     }
 }
 
-pub(crate) fn table_in(rows: &[Client], conn: Conn) -> Option<&PropertyTable>
+pub(crate) fn table_in(rows: &LiveRows, conn: Conn) -> Option<&PropertyTable>
     ensures known { is_some result ≡ is_in conn (conns_in rows.now) }
     ensures table { unwrap_or (option_copied result) [] ≡ table_in conn rows.now }
 {
-    Some(&row_in(rows, conn)?.table)
+    Some(&rows.row(conn)?.table)
 }
 
-pub(crate) fn saved_in(rows: &[Client], conn: Conn) -> Option<&PropertyTable>
+pub(crate) fn saved_in(rows: &LiveRows, conn: Conn) -> Option<&PropertyTable>
     ensures { option_copied result ≡ saved_in conn rows.now }
 {
-    row_in(rows, conn)?.saved.as_ref()
+    rows.row(conn)?.saved.as_ref()
 }
 
 /// Whether a connection registered under this ID.
-pub(crate) fn has_id(rows: &[Client], conn: Conn, id: &[u8]) -> bool
+pub(crate) fn has_id(rows: &LiveRows, conn: Conn, id: &[u8]) -> bool
     ensures { result ≡ has_that_id id.now (id_in conn rows.now) }
 {
-    id_in(rows, conn).is_some_and(|other| is_same_id(id, other.as_slice()))
+    id_in(rows, conn).is_some_and(|other| same_bytes(id, other.as_slice()))
 }
 
 /// XSMP began on a connection.

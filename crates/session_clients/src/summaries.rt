@@ -10,6 +10,7 @@ ghost use Rattle.session_model.specs.Replies.{is_late};
 
 use crate::Client;
 use crate::entries::is_recorded;
+use crate::live_rows::LiveRows;
 use crate::phases::{is_late, is_owing};
 use crate::rows::{has_id, id_in, phase_in, quiet_in, table_in};
 use checkpoint_records::Book;
@@ -19,7 +20,7 @@ use std::alloc::Global;
 use xsmp_properties::command_of;
 
 /// The first of these connections that registered under this ID.
-pub(crate) fn client_in(rows: &[Client], conns: &[Conn], id: &[u8]) -> Option<Conn>
+pub(crate) fn client_in(rows: &LiveRows, conns: &[Conn], id: &[u8]) -> Option<Conn>
     ensures { result ≡ find (λ c. has_that_id id.now (id_in c rows.now)) conns.now }
 {
     conns.iter().copied().find(|conn| has_id(rows, *conn, id))
@@ -28,7 +29,7 @@ pub(crate) fn client_in(rows: &[Client], conns: &[Conn], id: &[u8]) -> Option<Co
 /// The DiscardCommand of a connection.
 pub(crate) fn discard_in(
     alloc: Global,
-    rows: &[Client],
+    rows: &LiveRows,
     conn: Conn,
 ) -> Result<Option<Command>, NoMemory>
     ensures { IfOk result (λ command. command ≡ discard_of (table_in conn rows.now)) }
@@ -42,7 +43,7 @@ pub(crate) fn discard_in(
 /// The DiscardCommands of these connections, in their order.
 pub(crate) fn discards_in(
     alloc: Global,
-    rows: &[Client],
+    rows: &LiveRows,
     conns: &[Conn],
 ) -> Result<CommandList, NoMemory>
     ensures { IfOk result (λ commands.
@@ -84,7 +85,7 @@ pub(crate) fn conns_beside(
 /// Those of these connections that are overdue once these milliseconds have passed, in their order.
 pub(crate) fn late_among(
     alloc: Global,
-    rows: &[Client],
+    rows: &LiveRows,
     conns: &[Conn],
     patience: u64,
     milliseconds: u64,
@@ -107,15 +108,23 @@ pub(crate) fn late_among(
     Ok(late)
 }
 
-/// Whether one of these connections owes an answer to a SaveYourself.
-pub(crate) fn is_any_owing(rows: &[Client], conns: &[Conn]) -> bool
+/// Whether the client of a row owes an answer to a SaveYourself.
+fn is_any_row_owing(rows: &[Client]) -> bool
+    ensures { result ≡ list_any (λ k. is_owing k.phase) rows.now }
+{
+    rows.iter().any(|row| is_owing(row.phase))
+}
+
+/// Whether one of these connections owes an answer to a SaveYourself. Mostly nobody does, which the
+/// rows tell alone.
+pub(crate) fn is_any_owing(rows: &LiveRows, conns: &[Conn]) -> bool
     ensures { result ≡ list_any (λ c. is_owing (phase_in c rows.now)) conns.now }
 {
-    conns.iter().any(|conn| is_owing(phase_in(rows, *conn)))
+    is_any_row_owing(rows.as_slice()) && conns.iter().any(|conn| is_owing(phase_in(rows, *conn)))
 }
 
 /// How many of these connections have an ID which the book has no entry for.
-pub(crate) fn count_new_ids(rows: &[Client], conns: &[Conn], book: &Book) -> usize
+pub(crate) fn count_new_ids(rows: &LiveRows, conns: &[Conn], book: &Book) -> usize
     ensures count { result
         ≡ length (filter (λ id. not (is_recorded id book.now))
         (filter_map (λ c. id_in c rows.now) conns.now)) }

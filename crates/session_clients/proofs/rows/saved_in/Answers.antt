@@ -5,8 +5,8 @@ use Rattle.session_clients.specs.declared.client.Client.{Client}
 use Rattle.session_clients.proofs.RowLaws.{part-row}
 use Rattle.session_clients.proofs.rows.saved_in.Goals as goal
 
-pub returns-in_err-row_in : goal.returns-in_err-row_in
-returns-in_err-row_in c = grind (arith, common_steps, part-row None (λ (k : Client). k.saved) c.args.conn c.args.rows.now)
+pub returns-in_err-row : goal.returns-in_err-row
+returns-in_err-row c = grind (arith, common_steps, part-row None (λ (k : Client). k.saved) c.args.conn c.args.rows.now)
 
 pub returns : goal.returns
 returns c = grind (arith, common_steps, part-row None (λ (k : Client). k.saved) c.args.conn c.args.rows.now)
