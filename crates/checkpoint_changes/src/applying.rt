@@ -6,6 +6,7 @@ ghost use Rattle.checkpoint_changes.specs.Changes.{applied, with_entry, without,
 use crate::Change;
 use checkpoint_records::{Book, Entry, EntryList};
 use owned_lists::{CommandList, NoMemory};
+use xsmp_properties::same_bytes;
 
 /// The place of the first entry with this ID.
 fn place_of(entries: &[Entry], id: &[u8]) -> Option<usize>
@@ -15,7 +16,9 @@ fn place_of(entries: &[Entry], id: &[u8]) -> Option<usize>
         bytes_eq entry.id id.now ≡ true) entries.now place
         × AllWithin (λ entry. bytes_eq entry.id id.now ≡ false) entries.now 0 place) }
 {
-    entries.iter().position(|entry| entry.id.as_slice() == id)
+    entries
+        .iter()
+        .position(|entry| same_bytes(entry.id.as_slice(), id))
 }
 
 /// The entries but for the one with this ID. None where there is none.

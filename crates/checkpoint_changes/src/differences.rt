@@ -16,13 +16,7 @@ use crate::{Change, Delta};
 use checkpoint_records::{Book, Entry};
 use owned_lists::{Command, Duplicate, NoMemory, Octets};
 use std::alloc::Global;
-use xsmp_properties::same_texts;
-
-fn equal_entry(first: &Entry, second: &Entry) -> bool
-    ensures { result ≡ are_equal_entries first.now second.now }
-{
-    first.id.as_slice() == second.id.as_slice() && first.table.is_same(&second.table)
-}
+use xsmp_properties::{same_bytes, same_texts};
 
 fn equal_pairs(first: &[(Octets, Octets)], second: &[(Octets, Octets)]) -> bool
     ensures { result ≡ pointwise equal_pair first.now second.now }
@@ -32,7 +26,9 @@ fn equal_pairs(first: &[(Octets, Octets)], second: &[(Octets, Octets)]) -> bool
         let [(other, another), others @ ..] = left else {
             return false;
         };
-        if name.as_slice() != other.as_slice() || value.as_slice() != another.as_slice() {
+        if !same_bytes(name.as_slice(), other.as_slice())
+            || !same_bytes(value.as_slice(), another.as_slice())
+        {
             return false;
         }
         left = others;
@@ -44,7 +40,7 @@ fn equal_command(first: &Command, second: &Command) -> bool
     ensures { result ≡ are_equal_commands first.now second.now }
 {
     same_texts(first.words.as_slice(), second.words.as_slice())
-        && first.directory.as_slice() == second.directory.as_slice()
+        && same_bytes(first.directory.as_slice(), second.directory.as_slice())
         && equal_pairs(first.environment.as_slice(), second.environment.as_slice())
 }
 
@@ -65,7 +61,7 @@ fn next_with<'a>(id: &[u8], entries: &'a [Entry]) -> Option<(&'a Entry, &'a [Ent
         entries.now ≡ entry ∷ others → bytes_eq id.now entry.id ≡ false) }
 {
     let (entry, others) = entries.split_first()?;
-    if id == entry.id.as_slice() {
+    if same_bytes(id, entry.id.as_slice()) {
         Some((entry, others))
     } else {
         None
@@ -74,11 +70,12 @@ fn next_with<'a>(id: &[u8], entries: &'a [Entry]) -> Option<(&'a Entry, &'a [Ent
 
 /// Puts an entry in the place of the one with its ID, unless they are equal.
 fn change_entry(old: &Entry, new: &Entry, delta: &mut Delta) -> Result<(), NoMemory>
+    requires { bytes_eq old.now.id new.now.id ≡ true }
     ensures { OnOk result
         (delta.new ≡ delta.old ++ (if are_equal_entries old.now new.now then [] else
         (Put new.now ∷ []))) }
 {
-    if equal_entry(old, new) {
+    if old.table.is_same(&new.table) {
         return Ok(());
     }
     delta.push(Change::Put(new.copy()?))

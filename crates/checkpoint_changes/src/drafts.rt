@@ -14,7 +14,7 @@ use crate::rules::{PENDING_LIMIT, are_of_runs};
 use checkpoint_records::{Book, Entry, is_client_id};
 use ice_values::{Array8, Property};
 use owned_lists::{Command, NoMemory};
-use xsmp_properties::{are_words, same_texts};
+use xsmp_properties::{are_words, same_bytes, same_texts};
 
 const LIST: &[u8] = b"LISTofARRAY8";
 
@@ -52,7 +52,7 @@ fn has_words(property: &Property, command: &Command) -> bool
     ensures { result ≡ are_words_of property.now command.now }
 {
     same_words(command.words.as_slice(), property.values.as_slice())
-        && LIST == property.kind.as_slice()
+        && same_bytes(LIST, property.kind.as_slice())
         && are_words(property.values.as_slice())
 }
 

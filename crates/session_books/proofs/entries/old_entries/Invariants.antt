@@ -4,7 +4,7 @@ use Rattle.session_model.specs.Books.{next_entry}
 use Rattle.session_books.specs.Plans.{seen}
 use Rattle.session_books.proofs.entries.old_entries.Given as goal
 
-abbrev pub invariant-loop-entry : goal.invariant-loop-entry
-invariant-loop-entry l =
-    l.entries ++ filter_map (next_entry (seen l.clients empty_book l.expected) l.round) (drop l.entry-index l.entry-items)
+abbrev pub invariant-loop-place : goal.invariant-loop-place
+invariant-loop-place l =
+    l.entries ++ filter_map (next_entry (seen l.clients empty_book l.expected) l.round) (drop l.place l.old)
     ≡ filter_map (next_entry (seen l.clients empty_book l.expected) l.round) l.book.entries
