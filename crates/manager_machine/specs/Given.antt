@@ -1,6 +1,9 @@
 -- Messages by what they change.
-use Rattle.std.specs.Prelude.{Bool, List, None, Option, [], false, true, ℕ, ◌++◌, ◌∷◌}
+use Rattle.std.specs.Prelude.{Bool, List, None, Option, [], codes, cond, false, true, ℕ, ◌++◌, ◌∷◌}
+use Rattle.std.specs.List.{list_any}
+use Rattle.std.specs.Str.{bytes_eq}
 use Rattle.owned_lists.specs.declared.commands.Command.{Command}
+use Rattle.xsmp_properties.specs.Tables.{is_named}
 use Rattle.xsmp_messages.specs.declared.message.XsmpMessage.{XsmpMessage}
 use Rattle.xsmp_messages.specs.declared.message.XsmpMessage.TheVariants.{DeleteProperties, Die, Interact, RegisterClientReply, SaveComplete, SaveYourself, SaveYourselfPhase2, SetProperties, ShutdownCancelled}
 use Rattle.session_model.specs.declared.events.Act.TheVariants.{Say}
@@ -37,8 +40,12 @@ abbrev pub told_each : XsmpMessage → List ℕ → Session → Session
 told_each m [] s = s
 told_each m (c ∷ conns) s = told_each m conns (told c m s)
 
+-- a message by which its sender sets its DiscardCommand, or deletes it
+abbrev pub names_discard : XsmpMessage → Bool
+names_discard (SetProperties list) = list_any (is_named (codes "DiscardCommand")) list
+names_discard (DeleteProperties names) = list_any (bytes_eq (codes "DiscardCommand")) names
+names_discard m = false
+
 -- the DiscardCommand of its sender, where the message may change that, and none elsewhere
 abbrev pub where_told : XsmpMessage → Option Command → Option Command
-where_told (SetProperties list) command = command
-where_told (DeleteProperties names) command = command
-where_told m command = None
+where_told m command = cond (names_discard m) command None

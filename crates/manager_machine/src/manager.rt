@@ -87,7 +87,8 @@ impl Manager {
 
     /// Takes the message of a view, which came on a connection with this number among all that came
     /// there. It is `take` of a Said with this message, and with the bytes of the view as its frame,
-    /// which aren't copied. The connection is live, and XSMP has begun on it.
+    /// which aren't copied. The connection is live, XSMP has begun on it, and the frame has at most
+    /// 65,544 bytes. The call is refused as `Stopped` exactly after want of memory in an earlier one.
     pub fn hear(
         &mut self,
         conn: Conn,

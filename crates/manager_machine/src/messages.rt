@@ -1,5 +1,7 @@
-ghost use Rattle.std.specs.Prelude.{◌≡◌, ◌∷◌, [], List, cond, ℕ, IfOk, OnOk, ◌++◌, Option, false, true};
-ghost use Rattle.xsmp_properties.specs.Tables.{set_all};
+ghost use Rattle.std.specs.Prelude.{◌≡◌, ◌∷◌, [], List, codes, cond, ℕ, IfOk, OnOk, ◌++◌, None, Option, false, true};
+ghost use Rattle.std.specs.List.{list_any};
+ghost use Rattle.std.specs.Str.{bytes_eq};
+ghost use Rattle.xsmp_properties.specs.Tables.{is_named, set_all};
 ghost use Rattle.discard_ledger.specs.Discards.{discard_of};
 ghost use Rattle.session_model.specs.declared.events.SessionEvent.TheVariants.{Said as HasSaid};
 ghost use Rattle.session_model.specs.Errors as errors;
@@ -11,7 +13,7 @@ ghost use Rattle.session_model.specs.Tables.{is_full, is_same as is_same_command
 ghost use Rattle.session_clients.specs.Clients.{phase_in, table_in};
 ghost use Rattle.session_state.specs.Session.{Session, reading_in, moved, moved_all, turns_said};
 ghost use Rattle.manager_machine.specs.Answers.{moves_of};
-ghost use Rattle.manager_machine.specs.Given.{where_told};
+ghost use Rattle.manager_machine.specs.Given.{names_discard};
 ghost use Rattle.session_answers.specs.Arrivals.{arrival_of};
 ghost use Rattle.session_model.specs.Replies.{has_place as belongs, placed};
 ghost use Rattle.manager_machine.specs.Order.{InOrder};
@@ -23,7 +25,7 @@ use crate::replies::Reply;
 use crate::session_core::Core;
 use checkpoint_records::{Book, same_command};
 use discard_ledger::Ledger;
-use ice_values::PropertyList;
+use ice_values::{Array8, Property, PropertyList};
 use interact_queue::InteractQueue;
 use owned_lists::{Command, NoMemory};
 use round_agreement::Wanted;
@@ -36,6 +38,7 @@ use session_model::Phase;
 use sm_world::Conn;
 use std::alloc::Global;
 use xsmp_messages::XsmpMessage;
+use xsmp_properties::same_bytes;
 
 impl Core {
     /// The answer to a message, with its number among those of its sender, and its frame.
@@ -213,13 +216,14 @@ impl Core {
     {
         let phase = self.clients.phase(conn);
         let wanted = self.running.wanted();
-        let before = discard_told(&self.clients, conn, message)?;
+        let is_discard_named = names_discard(message);
+        let before = discard_where(&self.clients, conn, is_discard_named)?;
         self.running.hear(conn, message, phase);
         hear_queue(&mut self.queue, conn, message, phase, wanted)?;
         self.waits.hear(conn, message, phase)?;
         self.newcomer = newcomer_said(conn, message, self.newcomer);
         self.clients.hear(conn, message, wanted)?;
-        let now = discard_told(&self.clients, conn, message)?;
+        let now = discard_where(&self.clients, conn, is_discard_named)?;
         add_stray(&mut self.ledger, &self.book, stopped(before, &now))?;
         Ok(())
     }
@@ -292,20 +296,51 @@ fn ask(queue: &mut InteractQueue, conn: Conn) -> Result<(), NoMemory>
     Ok(())
 }
 
-/// The DiscardCommand of a connection, where this message may change it. None for every other
-/// message, which takes no memory.
-fn discard_told(
-    clients: &Clients,
-    conn: Conn,
-    message: &XsmpMessage,
-) -> Result<Option<Command>, NoMemory>
-    ensures { IfOk result (λ command.
-        command ≡ where_told message.now (discard_of (table_in conn clients.now.rows))) }
+pub(crate) fn is_discard(name: &[u8]) -> bool
+    ensures { result ≡ bytes_eq (codes "DiscardCommand") name.now }
+{
+    same_bytes(b"DiscardCommand", name)
+}
+
+fn sets_discard(properties: &[Property]) -> bool
+    ensures { result ≡ list_any (is_named (codes "DiscardCommand")) properties.now }
+{
+    properties
+        .iter()
+        .any(|property| is_discard(property.name.as_slice()))
+}
+
+fn deletes_discard(names: &[Array8]) -> bool
+    ensures { result ≡ list_any (bytes_eq (codes "DiscardCommand")) names.now }
+{
+    names.iter().any(|name| is_discard(name.as_slice()))
+}
+
+/// Whether its sender sets its DiscardCommand by a message, or deletes it.
+fn names_discard(message: &XsmpMessage) -> bool
+    ensures { result ≡ names_discard message.now }
 {
     match message {
-        XsmpMessage::SetProperties { .. } => clients.discard(conn),
-        XsmpMessage::DeleteProperties { .. } => clients.discard(conn),
-        _ => Ok(None),
+        XsmpMessage::SetProperties { properties } => sets_discard(properties.as_slice()),
+        XsmpMessage::DeleteProperties { names } => deletes_discard(names.as_slice()),
+        _ => false,
+    }
+}
+
+/// The DiscardCommand of a connection, where a message names it. None elsewhere, which takes no
+/// memory.
+pub(crate) fn discard_where(
+    clients: &Clients,
+    conn: Conn,
+    is_named: bool,
+) -> Result<Option<Command>, NoMemory>
+    ensures { IfOk result (λ command.
+        command ≡ cond is_named (discard_of (table_in conn clients.now.rows)) None) }
+{
+    if is_named {
+        clients.discard(conn)
+    } else {
+        Ok(None)
     }
 }
 

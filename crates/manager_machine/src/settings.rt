@@ -1,5 +1,7 @@
-ghost use Rattle.std.specs.Prelude.{◌≡◌, ◌∷◌, [], List, ℕ, IfOk, OnOk};
+ghost use Rattle.std.specs.Prelude.{◌≡◌, ◌∷◌, [], List, codes, ℕ, IfOk, OnOk};
+ghost use Rattle.std.specs.List.{list_any};
 ghost use Rattle.ice_values.specs.Walks.{walk_left};
+ghost use Rattle.xsmp_properties.specs.Tables.{is_named};
 ghost use Rattle.xsmp_messages.specs.declared.message.XsmpMessage.TheVariants.{SetProperties};
 ghost use Rattle.session_model.specs.declared.events.SessionEvent.TheVariants.{Said as HasSaid};
 ghost use Rattle.session_model.specs.Errors as errors;
@@ -11,7 +13,7 @@ ghost use Rattle.manager_machine.specs.Answers.{moves_of};
 ghost use Rattle.manager_machine.specs.Heard.{message_of};
 ghost use Rattle.manager_machine.specs.Settings.{WalksSet, arrived, set_by, setting_event};
 
-use crate::messages::{add_stray, stopped};
+use crate::messages::{add_stray, discard_where, is_discard, stopped};
 use crate::replies::Reply;
 use crate::session_core::Core;
 use ice_values::{ErrorBody, PropertyList, PropertyWalk};
@@ -91,6 +93,19 @@ fn overfull(alloc: Global, setting: &Setting<'_>) -> Result<ErrorBody, NoMemory>
     )
 }
 
+/// Whether a list of properties, where it lies, has a DiscardCommand.
+fn sets_discard(walk: PropertyWalk<'_>) -> bool
+    ensures { result ≡ list_any (is_named (codes "DiscardCommand")) (walk_left walk.entry) }
+{
+    let mut left = walk;
+    while let Some(view) = left.next() {
+        if is_discard(view.name) {
+            return true;
+        }
+    }
+    false
+}
+
 impl Core {
     /// The answer to a SetProperties. A client that was told to die is heard no more.
     fn reply_to_set(&self, setting: &Setting<'_>) -> Result<Reply, NoMemory>
@@ -151,9 +166,10 @@ impl Core {
             (Outside (HasSaid conn (SetProperties (walk_left walk.entry)) sequence frame))
             self.old) }
     {
-        let before = self.clients.discard(conn)?;
+        let is_discard_named = sets_discard(walk);
+        let before = discard_where(&self.clients, conn, is_discard_named)?;
         self.clients.set(conn, walk)?;
-        let now = self.clients.discard(conn)?;
+        let now = discard_where(&self.clients, conn, is_discard_named)?;
         add_stray(&mut self.ledger, &self.book, stopped(before, &now))?;
         Ok(())
     }
