@@ -1,11 +1,15 @@
 -- What cutting does at a connection that is live.
-use Rattle.std.proofs.Common.{◌≡◌, ℕ, Bool, true, false, ◌==◌, slice_index, List, Option, Some, None, refl, subst, if◌then◌else◌}
+use Rattle.std.proofs.Common.{◌≡◌, ℕ, Bool, true, false, ◌==◌, slice_index, List, [], ◌∷◌, length, drop, Option, Some, None, refl, sym, ap, ◌∙◌, subst, if◌then◌else◌}
 use Rattle.std.specs.Prelude.{IfSome}
+use Rattle.ice_framing.specs.Frames.{Standing, fed, cut, behind}
+use Rattle.ice_framing.specs.Parts.{Whole}
+use Rattle.ice_framing.specs.declared.cutting.WholeFrame.{WholeFrame}
+use Rattle.ice_framing.proofs.Parts.{parts_at-whole, behind_standing}
 use Rattle.ice_setup.specs.declared.states.AnySetup.{AnySetup}
-use Rattle.session_engine.specs.Answers.{oversize_answer, KeepsWhole}
+use Rattle.session_engine.specs.Answers.{outcome, oversize_answer, sequence_after, KeepsWhole}
 use Rattle.manager_machine.specs.Keeper.{Keeper}
 use Rattle.session_engine.specs.Bringing.{CutsSo}
-use Rattle.session_engine.specs.Cutting.{Cuts, Unsets}
+use Rattle.session_engine.specs.Cutting.{Cuts, TakesFirst, Unsets}
 use Rattle.session_engine.specs.Shown.{CutsAt, UnsetsAt}
 use Rattle.session_engine.specs.Outcomes.{Answer, Closes, Answered}
 use Rattle.session_engine.specs.declared.connection.Answered.{Answered as PartAnswered}
@@ -33,3 +37,24 @@ oversize_ends setup sequence header keeps = oversize_by (slice_index header 1 ==
 
 pub unsets_live : (before after : Option Kept) (kept changed : Kept) → before ≡ Some kept → after ≡ Some changed → Unsets kept changed → UnsetsAt before after
 unsets_live before after kept changed is_kept is_changed unsets = rw (is_kept, is_changed) (changed, refl, unsets)
+
+-- a whole frame was cut, and what is cut behind it is cut from where the splitter stands then
+pub takes_whole : (before after : Kept) (left : List ℕ) (frame : WholeFrame) (count : ℕ) → after.setup ≡ (outcome before.setup (sequence_after before.sequence) (Whole frame)).setup → after.sequence ≡ sequence_after before.sequence
+    → cut (fed before.splitter left) ≡ behind (frame ∷ []) (cut (fed after.splitter (drop count left)))
+    → TakesFirst before left (record { answer = (outcome before.setup (sequence_after before.sequence) (Whole frame)).answer; count = count }) after
+takes_whole before after left frame count setup sequence cuts = record {
+  part = Whole frame;
+  parts = parts_at-whole (fed before.splitter left) (fed after.splitter (drop count left)) frame cuts;
+  answer = refl;
+  setup = setup;
+  sequence = sequence;
+  stands = λ keeps. behind_standing (fed before.splitter left) (fed after.splitter (drop count left)) frame cuts;
+}
+
+-- the same where the frame lay in front of the piece, and the splitter stayed as it was
+pub takes_front : (before after : Kept) (left : List ℕ) (frame : WholeFrame) (count : ℕ) → after.setup ≡ (outcome before.setup (sequence_after before.sequence) (Whole frame)).setup → after.sequence ≡ sequence_after before.sequence → after.splitter ≡ before.splitter → count ≡ length frame.bytes
+    → cut (fed before.splitter left) ≡ behind (frame ∷ []) (cut (fed before.splitter (drop (length frame.bytes) left)))
+    → TakesFirst before left (record { answer = (outcome before.setup (sequence_after before.sequence) (Whole frame)).answer; count = count }) after
+takes_front before after left frame count setup sequence same all cuts =
+    takes_whole before after left frame count setup sequence
+    (cuts ∙ ap (λ n. behind (frame ∷ []) (cut (fed before.splitter (drop n left)))) (sym all) ∙ ap (λ (at : Standing). behind (frame ∷ []) (cut (fed at (drop count left)))) (sym same))

@@ -10,6 +10,7 @@ pub mod Counting
 pub mod Following
 pub mod Showing
 pub mod Outcomes
+pub mod AtOnce
 pub mod Answering
 pub mod Events
 pub mod Limits

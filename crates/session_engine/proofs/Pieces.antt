@@ -1,5 +1,5 @@
 -- The rest of a piece: the acts that were done, and the parts that the machine still has to take.
-use Rattle.std.proofs.Common.{◌≡◌, inl, inr, ℕ, ◌+◌, ◌-◌, zero, suc, Bool, true, false, List, [], ◌∷◌, ◌++◌, length, take, drop, Option, Some, None, Ok, Err, refl, sym, ◌∙◌, ap, arith, append_assoc}
+use Rattle.std.proofs.Common.{◌≡◌, inl, inr, ℕ, ◌+◌, ◌-◌, zero, suc, Bool, true, false, List, [], ◌∷◌, ◌++◌, length, take, drop, Option, Some, None, Result, Ok, Err, refl, sym, ◌∙◌, ap, subst, arith, append_assoc}
 use Rattle.std.proofs.lemmas.List.{append-nil, length-drop, take_all}
 use Rattle.std.proofs.lemmas.Grind.{flat_map-append}
 use Rattle.sm_world.specs.Outside.{Added}
@@ -18,7 +18,7 @@ use Rattle.session_engine.specs.Acts.{has_finish, says}
 use Rattle.session_engine.specs.Answers.{outcome, sequence_after}
 use Rattle.session_engine.specs.Saved.{Performs}
 use Rattle.session_engine.specs.Machine.{Connection, Machine, Step, Entry, act_in, acts_of, acts_since, asked, behind, connection_of, connections_after, connections_through, counted, departs, noted, fed_on, stays, unset_on, without, answered, part_taken, parts_taken, step}
-use Rattle.session_engine.specs.Shown.{Shows, Carried, TakesPart, TakesNone, parts_on, parts_left, all_cut, to_cut}
+use Rattle.session_engine.specs.Shown.{Shows, Carried, Gives, TakesPart, TakesNone, parts_on, parts_left, all_cut, to_cut}
 use Rattle.ice_framing.specs.Parts.{Part, parts_of}
 use Rattle.session_engine.specs.Turns.{is_end, either}
 use Rattle.session_engine.specs.Outcomes.{Answer, Stays, Begins, Closes, Speaks, Asks, Outcome}
@@ -129,6 +129,37 @@ pub record Taking (all : Step) (c : ℕ) (left : List ℕ) (old now : Option (Li
   pub performs : Added old now (Performs began done (Ok current))
   pub next : (rest_taken machine c).next ≡ all.next
   pub ended : has_finish (acts_of all) ≡ either (is_end turn) (has_finish (acts_of (rest_taken machine c)))
+
+-- the acts were taken out of the session in memory, and nothing else has changed
+abbrev pub IsEmptied : Engine → Engine → Type 0
+IsEmptied before after = after ≡ record before { acts = [] }
+
+-- it shows the same machine
+pub shows_emptied : (pending : ℕ → List ℕ) (before after : Engine) (m : Machine) → IsEmptied before after → Shows pending before m → Shows pending after m
+shows_emptied pending before after m emptied shows =
+    subst (λ (engine : Engine). Shows pending engine m) (sym emptied) (record { cookie = shows.cookie; live = shows.live; stands = shows.stands; agrees = shows.agrees })
+
+pub taking_emptied : (all : Step) (c : ℕ) (left : List ℕ) (old now : Option (List Effect)) (before after : Engine) (began current : Stored) (turn : Turn) → IsEmptied before after → Taking all c left old now before began current turn → Taking all c left old now after began current turn
+taking_emptied all c left old now before after began current turn emptied taking = record {
+  machine = taking.machine;
+  shows = shows_emptied (to_cut c left) before after taking.machine emptied taking.shows;
+  done = taking.done;
+  parts = taking.parts;
+  performs = taking.performs;
+  next = taking.next;
+  ended = taking.ended;
+}
+
+-- the acts of a step were taken out and done
+pub carried_out : (s : Step) (old new : Option (List Effect)) (store : Stored) (before after : Engine) (acts : List Act) (answer : Result Stored Halt) → Gives s before → acts ≡ before.acts → IsEmptied before after → Added old new (Performs store acts answer) → Carried old new store after s answer
+carried_out s old new store before after acts answer gives taken emptied done = record {
+  acts = subst (λ (xs : List Act). Added old new (Performs store xs answer)) (taken ∙ gives.acts) done;
+  shows = λ e. shows_emptied all_cut before after s.next emptied gives.shows;
+}
+
+-- a run that was cut short shows nothing any more
+pub carried_short : (s : Step) (old new : Option (List Effect)) (store : Stored) (before after : Engine) (halt : Halt) → Carried old new store before s (Err halt) → Carried old new store after s (Err halt)
+carried_short s old new store before after halt carried = record { acts = carried.acts; shows = λ e. absurd cc }
 
 pub begins : (m : Machine) (c : ℕ) (bytes : List ℕ) (old : Option (List Effect)) (engine : Engine) (current : Stored) → Shows all_cut engine m → Taking (step m (Piece c bytes)) c bytes old old engine current current GoesOn
 begins m c bytes old engine current shows = rw (piece_brings m c bytes engine shows) (record {

@@ -3,7 +3,9 @@ use owned_lists::NoMemory;
 use protocol_messages::Message;
 use sm_world::Conn;
 use std::alloc::Global;
+use std::collections::VecDeque;
 use std::marker::Model;
+use std::mem;
 
 /// What is to be done, in its order. Each message in it has a spelling that is not too long.
 #[derive(Drop)]
@@ -38,6 +40,25 @@ impl ActList {
         ActList {
             items: Vec::new(alloc),
         }
+    }
+
+    /// Gives all acts away, and their memory with them.
+    pub fn take(&mut self) -> ActList
+        ensures acts { result ≡ self.old }
+        ensures rest { self.new ≡ [] }
+    {
+        let none = Vec::new(*self.items.allocator());
+        ActList {
+            items: mem::replace(&mut self.items, none),
+        }
+    }
+
+    /// The acts as a queue, each of which can be done.
+    pub fn into_queue(self) -> VecDeque<Act>
+        ensures is { result.items ≡ self }
+        ensures can { AllByRecursion CanBeDone result.items }
+    {
+        VecDeque::from(self.items)
     }
 
     /// Drops all acts. The memory stays, for those that come next.

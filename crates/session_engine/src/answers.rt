@@ -1,4 +1,4 @@
-ghost use Rattle.std.specs.Prelude.{◌≡◌, ◌≤◌, ◌%◌, ◌&&◌, length, take, slice_index, true, not, IfOk};
+ghost use Rattle.std.specs.Prelude.{◌≡◌, ◌≤◌, ◌%◌, ◌&&◌, length, take, slice_index, true, not, ℕ, IfOk, IfSome};
 ghost use Rattle.ice_messages.specs.Messages.{IsFrame};
 ghost use Rattle.ice_messages.specs.Reading.{decode_at};
 ghost use Rattle.ice_framing.specs.Frames.{byte_limit};
@@ -108,6 +108,24 @@ fn settle(before: AnySetup, moved: Moved) -> Outcome
     }
 }
 
+/// What is answered to a message of ICE while XSMP is spoken, where the set-up neither is asked nor
+/// moves on.
+fn answer_at_once(setup: &AnySetup, message: &IceMessage) -> Option<Answer>
+    ensures outcome { IfSome result (λ answer. (sequence : ℕ) →
+        message_outcome setup.now message.now sequence ≡ record { setup = setup.now; answer = as_answer answer }) }
+    ensures said { IfSome result (λ answer. CanBeSaid (said_in (as_answer answer))) }
+{
+    if setup.client_opcode().is_none() {
+        return None;
+    }
+    match message {
+        IceMessage::Ping => Some(Answer::Stays(Some(Message::Ice(IceMessage::PingReply)))),
+        IceMessage::Error(_) => Some(Answer::Stays(None)),
+        IceMessage::WantToClose => Some(Answer::Asks),
+        _ => None,
+    }
+}
+
 /// Takes a message of ICE.
 fn take_message(
     alloc: Global,
@@ -119,6 +137,9 @@ fn take_message(
     ensures said { (e : AnyEndian) → HasFittingBody e message →
         IfOk result (λ outcome. CanBeSaid (said_in (as_answer outcome.answer))) }
 {
+    if let Some(answer) = answer_at_once(&setup, &message) {
+        return Ok(Outcome { setup, answer });
+    }
     match setup.take(alloc, message, sequence) {
         Ok(moved) => Ok(settle(setup, moved)),
         Err((_, NoMemory)) => Err(NoMemory),

@@ -30,14 +30,13 @@ pub struct Engine {
 
 impl Engine {
     ghost use Rattle.std.specs.Prelude.{◌≡◌, ◌≤◌, ◌<◌, ◌++◌, [], ◌∷◌, length, IfOk, IfSome, OnOk};
-    ghost use Rattle.std.specs.List.{AllByRecursion};
     ghost use Rattle.sm_world.specs.declared.events.Event.TheVariants.{Joined, Gone, Operator, Tick};
     ghost use Rattle.checkpoint_records.specs.Rules.{KeepsRules};
     ghost use Rattle.manager_machine.specs.Keeper.{AreFit, IsFit, Keeper};
     ghost use Rattle.session_model.specs.Rules.{Takes as TakesEvent};
     ghost use Rattle.session_model.specs.declared.events.SessionEvent.TheVariants.{Left as LeftIt};
     ghost use Rattle.session_state.specs.Session.{reading_in};
-    ghost use Rattle.session_engine.specs.Acts.{CanBeDone, says};
+    ghost use Rattle.session_engine.specs.Acts.{says};
     ghost use Rattle.session_engine.specs.Answers.{said_in};
     ghost use Rattle.session_engine.specs.Bringing.{Replies, TakesReply, as_answer, said_by};
     ghost use Rattle.session_engine.specs.Machine.{Machine, opening_acts, start, step};
@@ -65,12 +64,12 @@ impl Engine {
         Ok(engine)
     }
 
-    /// What the last call gave.
-    pub fn acts(&self) -> &[Act]
-        ensures is { result.now ≡ self.now.acts }
-        ensures can { AllByRecursion CanBeDone result.now }
+    /// Gives away what the last call gave.
+    pub fn take_acts(&mut self) -> ActList
+        ensures acts { result ≡ self.old.acts }
+        ensures rest { self.new ≡ record self.old { acts = [] } }
     {
-        self.acts.as_slice()
+        self.acts.take()
     }
 
     /// The book that was committed last.

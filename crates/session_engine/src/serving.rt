@@ -1,15 +1,16 @@
-ghost use Rattle.std.specs.Prelude.{◌≡◌, IfOk};
+ghost use Rattle.std.specs.Prelude.{◌≡◌, [], ◌∷◌, true, IfOk};
 ghost use Rattle.checkpoint_slots.specs.Layout.{store_size};
-ghost use Rattle.std.specs.List.{AllByRecursion};
 ghost use Rattle.sm_world.specs.declared.events.Event.TheVariants.{Joined, Piece, Gone, Operator, Tick};
 ghost use Rattle.sm_world.specs.Outside.{Added};
-ghost use Rattle.session_engine.specs.Acts.{CanBeDone, is_finish, has_finish};
+ghost use Rattle.session_engine.specs.Acts.{is_finish, has_finish};
 ghost use Rattle.session_engine.specs.Causes.{HearsNone};
 ghost use Rattle.session_engine.specs.Machine.{Machine, acts_of, step};
 ghost use Rattle.session_engine.specs.Saved.{Performs};
 ghost use Rattle.session_engine.specs.Shown.{Shows, Carried, IsShown, all_cut};
 ghost use Rattle.session_engine.specs.Turns.{is_end, either, stored};
+ghost use Rattle.session_engine.specs.declared.acts.Act.TheVariants.{Finish};
 
+use crate::act_list::ActList;
 use crate::acts::Act;
 use crate::engine::Engine;
 use crate::fault::Halt;
@@ -69,17 +70,35 @@ fn carry_out<W: Disk + Links + Spawner + Console>(
     world: &mut W,
     shell: &mut Shell,
     store: Store,
-    acts: &[Act],
+    acts: ActList,
 ) -> Result<(Store, Turn), Halt>
     requires size { (W.outside world.old).size ≡ store_size }
-    requires can { AllByRecursion CanBeDone acts.now }
     ensures done { Added (W.outside world.old).told (W.outside world.new).told
-        (Performs store acts.now (stored result)) }
-    ensures turn { IfOk result (λ done. is_end done.1 ≡ has_finish acts.now) }
+        (Performs store acts (stored result)) }
+    ensures turn { IfOk result (λ done. is_end done.1 ≡ has_finish acts) }
     ensures alone { HearsNone (W.outside world.old) (W.outside world.new) result }
 {
+    let turn = turn_of(acts.as_slice());
     match shell.perform(world, store, acts) {
-        Ok(store) => Ok((store, turn_of(acts))),
+        Ok(store) => Ok((store, turn)),
+        Err(halt) => Err(halt),
+    }
+}
+
+/// Does what the end of all events brings: the run ends.
+fn take_last<W: Disk + Links + Spawner + Console>(
+    world: &mut W,
+    shell: &mut Shell,
+    store: Store,
+) -> Result<(Store, Turn), Halt>
+    requires size { (W.outside world.old).size ≡ store_size }
+    ensures done { Added (W.outside world.old).told (W.outside world.new).told
+        (Performs store (Finish ∷ []) (stored result)) }
+    ensures turn { IfOk result (λ done. is_end done.1 ≡ true) }
+    ensures alone { HearsNone (W.outside world.old) (W.outside world.new) result }
+{
+    match shell.do_act(world, store, Act::Finish) {
+        Ok(store) => Ok((store, Turn::Ended)),
         Err(halt) => Err(halt),
     }
 }
@@ -111,7 +130,7 @@ fn take_piece<W: Disk + Links + Spawner + Console>(
             Ok(None) => return Ok((store, turn)),
             Ok(Some(count)) => {
                 left = &left[count..];
-                match carry_out(world, shell, store, engine.acts()) {
+                match carry_out(world, shell, store, engine.take_acts()) {
                     Ok((next, last)) => {
                         store = next;
                         turn = turn.and(last);
@@ -144,7 +163,7 @@ fn take_join<W: Disk + Links + Spawner + Console>(
     ensures alone { HearsNone (W.outside world.old) (W.outside world.new) result }
 {
     match engine.join(alloc, conn) {
-        Ok(()) => carry_out(world, shell, store, engine.acts()),
+        Ok(()) => carry_out(world, shell, store, engine.take_acts()),
         Err(NoMemory) => Err(Halt::NoMemory),
     }
 }
@@ -167,7 +186,7 @@ fn take_end<W: Disk + Links + Spawner + Console>(
     ensures alone { HearsNone (W.outside world.old) (W.outside world.new) result }
 {
     match engine.leave(conn) {
-        Ok(()) => carry_out(world, shell, store, engine.acts()),
+        Ok(()) => carry_out(world, shell, store, engine.take_acts()),
         Err(NoMemory) => Err(Halt::NoMemory),
     }
 }
@@ -189,7 +208,7 @@ fn hear_order<W: Disk + Links + Spawner + Console>(
     ensures alone { HearsNone (W.outside world.old) (W.outside world.new) result }
 {
     match engine.order(order) {
-        Ok(()) => carry_out(world, shell, store, engine.acts()),
+        Ok(()) => carry_out(world, shell, store, engine.take_acts()),
         Err(NoMemory) => Err(Halt::NoMemory),
     }
 }
@@ -235,7 +254,7 @@ fn take_tick<W: Disk + Links + Spawner + Console>(
     ensures alone { HearsNone (W.outside world.old) (W.outside world.new) result }
 {
     match engine.tick(milliseconds) {
-        Ok(()) => carry_out(world, shell, store, engine.acts()),
+        Ok(()) => carry_out(world, shell, store, engine.take_acts()),
         Err(NoMemory) => Err(Halt::NoMemory),
     }
 }
@@ -266,6 +285,6 @@ pub fn take_event<W: Disk + Links + Spawner + Console>(
         Event::Gone(conn) => take_end(world, engine, shell, store, *conn),
         Event::Operator(order) => take_order(world, engine, shell, store, order),
         Event::Tick(milliseconds) => take_tick(world, engine, shell, store, *milliseconds),
-        Event::End => carry_out(world, shell, store, &[Act::Finish]),
+        Event::End => take_last(world, shell, store),
     }
 }

@@ -152,12 +152,12 @@ fn open<W: Disk + Links + Spawner + Console>(
     ensures shows { IfOk result (λ session. Shows all_cut session.engine (begun config book)) }
     ensures alone { HearsNone (W.outside world.old) (W.outside world.new) result }
 {
-    let engine = match Engine::new(alloc, config, book) {
+    let mut engine = match Engine::new(alloc, config, book) {
         Ok(engine) => engine,
         Err(NoMemory) => return Err(Halt::NoMemory),
     };
     let mut shell = Shell::new(alloc);
-    match shell.perform(world, store, engine.acts()) {
+    match shell.perform(world, store, engine.take_acts()) {
         Ok(store) => Ok(Session {
             engine,
             shell,

@@ -8,6 +8,7 @@ ghost use Rattle.session_engine.specs.Messages.{spelled};
 ghost use Rattle.protocol_messages.specs.Messages.{IsTooLong};
 ghost use Rattle.session_engine.specs.Starting.{handed_on};
 
+use crate::act_list::ActList;
 use crate::acts::Act;
 use crate::fault::{Halt, commit_halt, console_halt, link_halt};
 use crate::store::Store;
@@ -63,7 +64,6 @@ pub struct Shell {
 
 impl Shell {
     ghost use Rattle.std.specs.Prelude.{◌≡◌, [], ◌∷◌, ◌++◌};
-    ghost use Rattle.std.specs.List.{AllByRecursion};
     ghost use Rattle.sm_world.specs.Outside.{Added, adds, on_ok};
     ghost use Rattle.sm_world.specs.declared.effects.Effect.TheVariants.{Sent, Shut, Printed};
     ghost use Rattle.checkpoint_records.specs.Rules.{KeepsRules};
@@ -137,11 +137,11 @@ impl Shell {
     }
 
     /// Writes a checkpoint, which stands in the store once a gate is opened.
-    fn commit<W: Disk>(&mut self, world: &mut W, store: Store, book: &Book) -> Result<Store, Halt>
+    fn commit<W: Disk>(&mut self, world: &mut W, store: Store, book: Book) -> Result<Store, Halt>
         requires size { (W.outside world.old).size ≡ store_size }
-        requires rules { KeepsRules book.now }
+        requires rules { KeepsRules book }
         ensures done { Added (W.outside world.old).told (W.outside world.new).told
-            (Performs store (Commits book.now ∷ []) result) }
+            (Performs store (Commits book ∷ []) result) }
         ensures alone { HearsNone (W.outside world.old) (W.outside world.new) result }
     {
         match store.commit(self.alloc, world, book) {
@@ -151,22 +151,22 @@ impl Shell {
     }
 
     /// Does an act, and hands the store's turn on.
-    fn do_act<W: Disk + Links + Spawner + Console>(
+    pub fn do_act<W: Disk + Links + Spawner + Console>(
         &mut self,
         world: &mut W,
         store: Store,
-        act: &Act,
+        act: Act,
     ) -> Result<Store, Halt>
         requires size { (W.outside world.old).size ≡ store_size }
-        requires can { CanBeDone act.now }
+        requires can { CanBeDone act }
         ensures done { Added (W.outside world.old).told (W.outside world.new).told
-            (Performs store (act.now ∷ []) result) }
+            (Performs store (act ∷ []) result) }
         ensures alone { HearsNone (W.outside world.old) (W.outside world.new) result }
     {
         match act {
-            Act::Say(to, message) => hand_on(self.send(world, *to, message), store),
-            Act::Shut(conn) => hand_on(self.shut(world, *conn), store),
-            Act::Start(_reason, command) => hand_on(self.start(world, command), store),
+            Act::Say(to, message) => hand_on(self.send(world, to, &message), store),
+            Act::Shut(conn) => hand_on(self.shut(world, conn), store),
+            Act::Start(_reason, command) => hand_on(self.start(world, &command), store),
             Act::Commit(book) => self.commit(world, store, book),
             Act::Print(text) => hand_on(self.print(world, text.as_slice()), store),
             Act::Finish => Ok(store),
@@ -178,16 +178,16 @@ impl Shell {
         &mut self,
         world: &mut W,
         store: Store,
-        acts: &[Act],
+        acts: ActList,
     ) -> Result<Store, Halt>
         requires size { (W.outside world.old).size ≡ store_size }
-        requires can { AllByRecursion CanBeDone acts.now }
         ensures done { Added (W.outside world.old).told (W.outside world.new).told
-            (Performs store acts.now result) }
+            (Performs store acts result) }
         ensures alone { HearsNone (W.outside world.old) (W.outside world.new) result }
     {
         let mut store = store;
-        for act in acts {
+        let mut left = acts.into_queue();
+        while let Some(act) = left.pop_front() {
             match self.do_act(world, store, act) {
                 Ok(next) => store = next,
                 Err(halt) => return Err(halt),

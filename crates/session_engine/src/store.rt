@@ -98,19 +98,19 @@ impl Store {
         }
     }
 
-    /// Writes a checkpoint. Its changes and a copy of it are made before the disk is touched. After
-    /// a fault the store must be recovered anew.
+    /// Writes a checkpoint, and keeps the book. Its changes are made before the disk is touched.
+    /// After a fault the store must be recovered anew.
     pub fn commit<D: Disk>(
         self,
         alloc: Global,
         disk: &mut D,
-        book: &Book,
+        book: Book,
     ) -> Result<Store, StoreFault>
         requires size { (D.outside disk.old).size ≡ store_size }
-        requires rules { KeepsRules book.now }
+        requires rules { KeepsRules book }
         ensures effects { Added (D.outside disk.old).told (D.outside disk.new).told
-            (Writes self.journal self.book book.now (journal_of result)) }
-        ensures book { IfOk result (λ store. store.book ≡ book.now) }
+            (Writes self.journal self.book book (journal_of result)) }
+        ensures book { IfOk result (λ store. store.book ≡ book) }
         ensures rules { KeepsRules self.book }
         ensures size { (D.outside disk.new).size ≡ (D.outside disk.old).size }
         ensures uses { UsesDisk (D.outside disk.old) (D.outside disk.new) (is_disk_fault result) }
@@ -120,19 +120,12 @@ impl Store {
             journal,
             book: saved,
         } = self;
-        let delta = match delta_of(alloc, &saved, book) {
+        let delta = match delta_of(alloc, &saved, &book) {
             Ok(delta) => delta,
             Err(NoMemory) => return Err(StoreFault::NoMemory),
         };
-        let twin = match copy_book(book) {
-            Ok(twin) => twin,
-            Err(NoMemory) => return Err(StoreFault::NoMemory),
-        };
-        match write(journal, alloc, disk, &delta, book) {
-            Ok(journal) => Ok(Store {
-                journal,
-                book: twin,
-            }),
+        match write(journal, alloc, disk, &delta, &book) {
+            Ok(journal) => Ok(Store { journal, book }),
             Err(fault) => Err(fault),
         }
     }

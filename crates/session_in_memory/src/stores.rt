@@ -1,4 +1,4 @@
-ghost use Rattle.std.specs.Prelude.{IfOk};
+ghost use Rattle.std.specs.Prelude.{◌≡◌, replicate, IfOk};
 ghost use Rattle.session_in_memory.specs.Stores.{IsBlank};
 
 use ice_cookie::Cookie;
@@ -15,5 +15,14 @@ const STORE_LEN: usize = 16_777_280;
 pub fn blank_store(alloc: Global) -> Result<Octets, NoMemory>
     ensures { IfOk result IsBlank }
 {
-    Ok(Octets::from_vec(vec![in alloc; 0; STORE_LEN]?))
+    Ok(Octets::from_vec(zeros(alloc, STORE_LEN)?))
+}
+
+/// So many bytes that are 0, which are filled in one go: `vec!` would make one after another.
+fn zeros(alloc: Global, count: usize) -> Result<Vec<u8>, NoMemory>
+    ensures { IfOk result (λ bytes. bytes.items ≡ replicate count 0) }
+{
+    let mut bytes = Vec::new(alloc);
+    bytes.resize(count, 0)?;
+    Ok(bytes)
 }

@@ -1,5 +1,5 @@
-use Rattle.std.proofs.Common.{◌≡◌, ◌+◌, [], ◌∷◌, ◌++◌, ◌∙◌, sym, refl, ap, take, drop, Ok, Err, List, subst, append_assoc}
-use Rattle.std.proofs.lemmas.List.{drop_more, take_more, take-append-drop}
+use Rattle.std.proofs.Common.{rules, ◌≡◌, [], ◌∷◌, ◌++◌, ◌∙◌, sym, refl, ap, Ok, Err, List, subst, append_assoc}
+use Rattle.std.proofs.lemmas.List.{append-nil}
 use Rattle.sm_world.specs.Outside.{Added}
 use Rattle.sm_world.proofs.Adding.{fallen_never, never_fallen}
 use Rattle.session_engine.specs.Saved.{Performs}
@@ -9,8 +9,8 @@ use Rattle.session_engine.proofs.shell.Shell.perform.Goals as goal
 
 pub loop-act-init : goal.loop-act-init
 loop-act-init g c = record {
-  performs = told_nothing c.args.store _;
-  can = c.requires.can;
+  performs = ([], c.into_queue-left.ensures.is, told_nothing c.args.store _);
+  can = c.into_queue-left.ensures.can;
   size = refl;
   coming = refl;
   input = refl;
@@ -20,22 +20,24 @@ loop-act-init g c = record {
 
 pub returns-in-Err-clause-done : goal.returns-in-Err-clause-done
 returns-in-Err-clause-done g c =
-    let front : List Act = take c.loop-act.act-index c.args.acts.now in
-    let rest : List Act = drop (c.loop-act.act-index + 1) c.args.acts.now in
-    let left : drop c.loop-act.act-index c.args.acts.now ≡ c.act-item.result ∷ rest = drop_more c.args.acts.now c.loop-act.act-index c.act-item.result c.loop-act-test.true ∙ ap (λ act. act ∷ rest) (sym c.act-item.is) in
-    let whole : (front ++ c.act-item.result ∷ []) ++ rest ≡ c.args.acts.now = append_assoc front (c.act-item.result ∷ []) rest ∙ (ap (λ acts. front ++ acts) (sym left) ∙ take-append-drop c.loop-act.act-index c.args.acts.now) in
+    let so_far = c.loop-act.invariant.performs in
+    let left = c.in-Some.ensures.items in
+    let rest : List Act = c.pop_front.new.self.items in
+    let whole : (so_far.0 ++ c.in-Some.act ∷ []) ++ rest ≡ c.args.acts = append_assoc so_far.0 (c.in-Some.act ∷ []) rest ∙ (ap (λ acts. so_far.0 ++ acts) (sym left) ∙ so_far.1) in
     subst (λ (acts : List Act). Added (g.W.Told.outside c.args.world.now).told (g.W.Told.outside c.do_act.new.world).told (Performs c.args.store acts (Err c.in-Err.halt))) whole
-    (told_stopped c.args.store (front ++ c.act-item.result ∷ []) rest c.in-Err.halt _ _ (told_then c.args.store c.loop-act.store front (c.act-item.result ∷ []) (Err c.in-Err.halt) _ _ _ c.loop-act.invariant.performs c.in-Err.ensures.done))
+    (told_stopped c.args.store (so_far.0 ++ c.in-Some.act ∷ []) rest c.in-Err.halt _ _ (told_then c.args.store c.loop-act.store so_far.0 (c.in-Some.act ∷ []) (Err c.in-Err.halt) _ _ _ so_far.2 c.in-Err.ensures.done))
 
 pub loop-act-preserved : goal.loop-act-preserved
 loop-act-preserved g c =
-    let front : List Act = take c.loop-act.act-index c.args.acts.now in
-    let rest : List Act = drop (c.loop-act.act-index + 1) c.args.acts.now in
-    let left : drop c.loop-act.act-index c.args.acts.now ≡ c.act-item.result ∷ rest = drop_more c.args.acts.now c.loop-act.act-index c.act-item.result c.loop-act-test.true ∙ ap (λ act. act ∷ rest) (sym c.act-item.is) in
-    let grown : front ++ c.act-item.result ∷ [] ≡ take (c.loop-act.act-index + 1) c.args.acts.now = sym (take_more c.args.acts.now c.loop-act.act-index c.act-item.result c.loop-act-test.true ∙ ap (λ act. front ++ act ∷ []) (sym c.act-item.is)) in
+    let so_far = c.loop-act.invariant.performs in
+    let left = c.in-Some.ensures.items in
+    let rest : List Act = c.pop_front.new.self.items in
     record {
-      performs = subst (λ (acts : List Act). Added (g.W.Told.outside c.args.world.now).told (g.W.Told.outside c.do_act.new.world).told (Performs c.args.store acts (Ok c.in-Ok.next))) grown
-          (told_then c.args.store c.loop-act.store front (c.act-item.result ∷ []) (Ok c.in-Ok.next) _ _ _ c.loop-act.invariant.performs c.in-Ok.ensures.done);
+      performs = (
+        so_far.0 ++ c.in-Some.act ∷ [],
+        append_assoc so_far.0 (c.in-Some.act ∷ []) rest ∙ (ap (λ acts. so_far.0 ++ acts) (sym left) ∙ so_far.1),
+        told_then c.args.store c.loop-act.store so_far.0 (c.in-Some.act ∷ []) (Ok c.in-Ok.next) _ _ _ so_far.2 c.in-Ok.ensures.done,
+      );
       can = (rw left at c.loop-act.invariant.can).1;
       size = c.in-Ok.ensures.alone.size ∙ c.loop-act.invariant.size;
       coming = c.in-Ok.ensures.alone.coming ∙ c.loop-act.invariant.coming;
@@ -43,3 +45,10 @@ loop-act-preserved g c =
       first = c.in-Ok.ensures.alone.first ∙ c.loop-act.invariant.first;
       counts = fallen_never _ _ _ c.loop-act.invariant.counts c.in-Ok.ensures.alone.counts.counts;
     }
+
+pub returns-clause-done : goal.returns-clause-done
+returns-clause-done g c =
+    let so_far = c.loop-act.invariant.performs in
+    let none : c.loop-act.left.items ≡ [] = search rules in
+    let all : so_far.0 ≡ c.args.acts = sym (append-nil so_far.0) ∙ (ap (λ xs. so_far.0 ++ xs) (sym none) ∙ so_far.1) in
+    subst (λ (acts : List Act). Added (g.W.Told.outside c.args.world.now).told (g.W.Told.outside c.loop-act.world).told (Performs c.args.store acts (Ok c.loop-act.store))) all so_far.2
