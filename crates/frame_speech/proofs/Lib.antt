@@ -3,3 +3,4 @@ pub mod Passed
 pub mod Speeches
 pub mod Streams
 pub mod Walked
+pub mod Alone

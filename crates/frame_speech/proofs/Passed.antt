@@ -21,7 +21,7 @@ use Rattle.frame_speech.specs.declared.speech.Speech.TheVariants.{Silent, Greete
 use Rattle.frame_speech.specs.declared.reading.Reading.TheVariants.{Nothing}
 use Rattle.frame_speech.specs.declared.stream.CutStream.{CutStream}
 
-whole_by : (f : WholeFrame) → 8 ≤ length f.bytes → length f.bytes ≡ 8 + 8 * number f.endian 4 (drop 4 f.bytes) → is_whole f ≡ true
+pub whole_by : (f : WholeFrame) → 8 ≤ length f.bytes → length f.bytes ≡ 8 + 8 * number f.endian 4 (drop 4 f.bytes) → is_whole f ≡ true
 whole_by f header units = grind (arith, nat_tests)
 
 -- Frames were passed over: behind all bytes the stream stands as behind what is left of them.
@@ -65,7 +65,7 @@ between ignores e at bytes order held passes = subst (λ (s : Standing). Passes 
 
 -- ---- of a stream
 
-goes_so : (stream bytes : List ℕ) (cutter : CutStream) (at : Standing) → cutter.rest ≡ Some at → (cut (fed at bytes)).standing ≡ at → IsAt stream cutter → Cuts stream bytes (cut (fed at bytes)).frames cutter
+pub goes_so : (stream bytes : List ℕ) (cutter : CutStream) (at : Standing) → cutter.rest ≡ Some at → (cut (fed at bytes)).standing ≡ at → IsAt stream cutter → Cuts stream bytes (cut (fed at bytes)).frames cutter
 goes_so stream bytes cutter at some stays is =
     let stands = subst (λ (o : Option Standing). Stands stream o) some is in
     let there : standing_of (stream ++ bytes) ≡ standing_of stream = standing_of-append stream bytes ∙ ap (λ (s : Standing). (cut (fed s bytes)).standing) (sym stands.0) ∙ stays ∙ stands.0 in

@@ -1,6 +1,7 @@
 -- Frames of a stream with which somebody has nothing to do, who looks for others.
-use Rattle.std.specs.Prelude.{◌≡◌, ℕ, ◌==◌, ◌≤◌, Bool, true, false, List, [], Option, Some}
+use Rattle.std.specs.Prelude.{◌≡◌, ℕ, ◌≤◌, Bool, true, false, List, [], ◌∷◌, Some}
 use Rattle.std.specs.List.{AllByRecursion}
+use Rattle.ice_values.specs.Frames.{IsFrame}
 use Rattle.ice_values.specs.declared.numbers.Endian.{Endian}
 use Rattle.ice_framing.specs.Frames.{Standing, fed, wanted, has_frame, cut}
 use Rattle.ice_framing.specs.declared.cutting.WholeFrame.{WholeFrame}
@@ -35,6 +36,23 @@ pub record PassesBy (ignores : WholeFrame → Type 0) (bytes : List ℕ) (cut : 
   pub new : List WholeFrame
   pub cuts : (stream : List ℕ) → IsAt stream cut → Cuts stream bytes new cut
   pub frames : AllByRecursion (IsPassed ignores) new
+
+-- a piece as the frame that it is
+abbrev pub as_frame : Endian → List ℕ → WholeFrame
+as_frame e bytes = record { endian = e; bytes = bytes }
+
+-- These bytes are one whole frame, which comes between two frames: the stream stands behind it as it stood.
+pub record ComesAlone (e : Endian) (bytes : List ℕ) (at : Standing) : Type 0 where
+  pub frame : IsFrame e bytes
+  pub whole : is_whole (as_frame e bytes) ≡ true
+  pub stands : (cut (fed at bytes)).standing ≡ at
+  pub frames : (cut (fed at bytes)).frames ≡ as_frame e bytes ∷ []
+
+-- the same behind any stream that was cut so far
+pub record IsAlone (e : Endian) (bytes : List ℕ) (cut : CutStream) : Type 0 where
+  pub frame : IsFrame e bytes
+  pub whole : is_whole (as_frame e bytes) ≡ true
+  pub cuts : (stream : List ℕ) → IsAt stream cut → Cuts stream bytes (as_frame e bytes ∷ []) cut
 
 -- a frame that may say something of its sender
 abbrev pub may_say : Speech → WholeFrame → Bool

@@ -1,9 +1,9 @@
-ghost use Rattle.std.specs.Prelude.{◌≡◌, ◌-◌, length, flat_map, MatchOption, IfOk, IsTrue};
+ghost use Rattle.std.specs.Prelude.{◌≡◌, ◌-◌, length, flat_map, MatchOption, IfOk, IfSome, IsTrue};
 ghost use Rattle.ice_framing.specs.Frames.{beginning, fed, cut, order_of, IsOversize};
-ghost use Rattle.frame_speech.specs.Passing.{Passes};
+ghost use Rattle.frame_speech.specs.Passing.{ComesAlone, Passes};
 ghost use Rattle.frame_speech.specs.Streams.{bytes_in, GoesOn};
 
-use crate::passing::{Heeds, are_passed};
+use crate::passing::{Heeds, are_passed, is_alone};
 use ice_framing::{Remainder, WholeFrame, WholeFrameList};
 use ice_values::Endian;
 use owned_lists::NoMemory;
@@ -87,6 +87,18 @@ impl FrameCutter {
         match self.order {
             Some(endian) => self.held == 0 && are_passed(heeds, endian, piece),
             None => false,
+        }
+    }
+
+    /// The order of a piece that is one whole frame, and comes between two frames.
+    pub fn alone(&self, piece: &[u8]) -> Option<Endian>
+        ensures { IfSome result (λ e. ComesAlone e piece.now self.now) }
+    {
+        let endian = self.order?;
+        if self.held == 0 && is_alone(endian, piece) {
+            Some(endian)
+        } else {
+            None
         }
     }
 

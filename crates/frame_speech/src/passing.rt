@@ -1,7 +1,7 @@
 ghost use Rattle.std.specs.Prelude.{◌≡◌, ◌≤◌, false, [], length, IfSome, IsTrue};
 ghost use Rattle.ice_framing.specs.declared.cutting.WholeFrame.{WholeFrame};
 ghost use Rattle.ice_values.specs.declared.numbers.Endian.{Endian as AnyEndian};
-ghost use Rattle.frame_speech.specs.Passing.{from, IsFront, Passes, SaysNothing, may_say};
+ghost use Rattle.frame_speech.specs.Passing.{from, IsFront, ComesAlone, Passes, SaysNothing, may_say};
 
 use crate::Speech;
 use crate::reading::byte_at;
@@ -56,6 +56,16 @@ fn front_len(endian: Endian, bytes: &[u8]) -> Option<usize>
     }
     let len = 8 + 8 * units as usize;
     if len <= bytes.len() { Some(len) } else { None }
+}
+
+/// Whether these bytes are one whole frame, where the stream stands between two frames.
+pub fn is_alone(endian: Endian, bytes: &[u8]) -> bool
+    ensures { IsTrue result → ComesAlone endian bytes.now (from endian []) }
+{
+    match front_len(endian, bytes) {
+        Some(len) => len == bytes.len(),
+        None => false,
+    }
 }
 
 /// Whether these bytes are whole frames, none of which is heeded, where the stream stands between two

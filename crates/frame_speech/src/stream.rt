@@ -1,11 +1,12 @@
-ghost use Rattle.std.specs.Prelude.{◌≡◌, ◌++◌, ℕ, List, [], IfOk, IsTrue};
+ghost use Rattle.std.specs.Prelude.{◌≡◌, ◌++◌, ℕ, List, [], IfOk, IfSome, IsTrue};
 ghost use Rattle.ice_framing.specs.Frames.{standing_of, is_oversize};
 ghost use Rattle.frame_speech.specs.Streams.{IsAt, Cuts};
-ghost use Rattle.frame_speech.specs.Passing.{PassesBy};
+ghost use Rattle.frame_speech.specs.Passing.{IsAlone, PassesBy};
 
 use crate::cutter::{Cutting, FrameCutter};
 use crate::passing::Heeds;
 use ice_framing::WholeFrameList;
+use ice_values::Endian;
 use owned_lists::NoMemory;
 use std::alloc::Global;
 
@@ -50,6 +51,17 @@ impl CutStream {
         match &self.rest {
             Some(cutter) => cutter.passes(heeds, bytes),
             None => true,
+        }
+    }
+
+    /// The order of bytes that are one whole frame, and come between two frames. Then they needn't be
+    /// taken.
+    pub fn alone(&self, bytes: &[u8]) -> Option<Endian>
+        ensures { IfSome result (λ e. IsAlone e bytes.now self.now) }
+    {
+        match &self.rest {
+            Some(cutter) => cutter.alone(bytes),
+            None => None,
         }
     }
 

@@ -1,5 +1,7 @@
 -- What is kept of a connection as more passes on it.
 use Rattle.std.proofs.Common.{◌≡◌, ℕ, List, [], ◌∷◌, ◌++◌, map, refl, sym, ap, ◌∙◌, subst, append-nil}
+use Rattle.std.specs.Prelude.{option_to_list}
+use Rattle.ice_values.specs.declared.numbers.Endian.{Endian}
 use Rattle.ice_framing.specs.Frames.{frames_of}
 use Rattle.ice_framing.specs.declared.cutting.WholeFrame.{WholeFrame}
 use Rattle.ice_framing.proofs.Streams.{frames_of-nil}
@@ -7,11 +9,11 @@ use Rattle.xsmp_messages.specs.declared.message.XsmpMessage.{XsmpMessage}
 use Rattle.frame_speech.proofs.Speeches.{speech_behind-append}
 use Rattle.frame_speech.specs.Speech.{speech_behind}
 use Rattle.frame_speech.specs.Streams.{IsAt, Cuts}
-use Rattle.frame_speech.specs.Passing.{PassesBy}
+use Rattle.frame_speech.specs.Passing.{PassesBy, as_frame}
 use Rattle.frame_speech.specs.declared.speech.Speech.{Speech}
 use Rattle.frame_speech.specs.declared.speech.Speech.TheVariants.{Silent}
 use Rattle.frame_speech.specs.declared.stream.CutStream.{CutStream}
-use Rattle.session_watch.specs.Story.{Passage, Said, say, IsNoMessage, part_of, stream_of, messages_in, brought, messages}
+use Rattle.session_watch.specs.Story.{Passage, Said, say, spoken, IsLone, IsNoMessage, part_of, stream_of, messages_in, brought, messages}
 use Rattle.session_watch.specs.Knowing.{Follows, known_by, noted_all}
 use Rattle.session_watch.specs.declared.known.Known.{Known}
 use Rattle.session_watch.specs.declared.party.Party.{Party}
@@ -80,6 +82,18 @@ heard_nothing old at bytes new passes is =
       told = refl;
     })
 
+-- it sent one frame, which doesn't change how it is understood
+pub heard_lone : (old : ClientWatch) (at : ℕ) (e : Endian) (bytes : List ℕ) (known : Known) → IsLone old.said e bytes old.came → known ≡ noted_all Client (option_to_list (spoken old.said (as_frame e bytes))) old.known
+    → Heard old at bytes (as_frame e bytes ∷ []) (record old { since = at; known = known })
+heard_lone old at e bytes known lone is = record {
+  cuts = lone.alone.cuts;
+  said = sym lone.stays;
+  known = is ∙ ap (λ (ms : List XsmpMessage). noted_all Client ms old.known) (sym (append-nil (option_to_list (spoken old.said (as_frame e bytes)))));
+  since = refl;
+  sent = refl;
+  told = refl;
+}
+
 -- the manager sent more
 pub record Told (old : ClientWatch) (bytes : List ℕ) (frames : List WholeFrame) (new : ClientWatch) : Type 0 where
   pub cuts : (stream : List ℕ) → IsAt stream old.sent → Cuts stream bytes frames new.sent
@@ -116,3 +130,15 @@ told_nothing old bytes passes =
       came = refl;
       said = refl;
     }
+
+-- it sent one frame, which doesn't change how it is understood
+pub told_lone : (old : ClientWatch) (e : Endian) (bytes : List ℕ) (known : Known) → IsLone old.told e bytes old.sent → known ≡ noted_all Manager (option_to_list (spoken old.told (as_frame e bytes))) old.known
+    → Told old bytes (as_frame e bytes ∷ []) (record old { known = known })
+told_lone old e bytes known lone is = record {
+  cuts = lone.alone.cuts;
+  told = sym lone.stays;
+  known = is ∙ ap (λ (ms : List XsmpMessage). noted_all Manager ms old.known) (sym (append-nil (option_to_list (spoken old.told (as_frame e bytes)))));
+  since = refl;
+  came = refl;
+  said = refl;
+}

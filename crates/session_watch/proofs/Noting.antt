@@ -16,7 +16,7 @@ use Rattle.ice_values.specs.declared.view.PropertyView.{PropertyView}
 use Rattle.ice_values.specs.declared.walk.PropertyWalk.{PropertyWalk}
 use Rattle.ice_values.proofs.OptionLaws.{none_not_some}
 use Rattle.ice_framing.specs.declared.cutting.WholeFrame.{WholeFrame}
-use Rattle.xsmp_messages.specs.Reading.{decode_at, valued_at}
+use Rattle.xsmp_messages.specs.Reading.{decode_at}
 use Rattle.xsmp_messages.specs.Views.{WalksOf}
 use Rattle.xsmp_messages.specs.declared.message.XsmpMessage.{XsmpMessage}
 use Rattle.xsmp_messages.specs.declared.message.XsmpMessage.TheVariants.{SetProperties}
@@ -125,6 +125,12 @@ settings_whole s f result whole walks = rw whole walks
 
 pub no_settings : (s : Speech) (f : WholeFrame) → is_whole f ≡ false → WalksOf f.endian (set_in (reading s f)) None
 no_settings s f whole = rw whole tt
+
+pub unspoken : (s : Speech) (f : WholeFrame) → is_whole f ≡ false → None ≡ spoken s f
+unspoken Silent f whole = refl
+unspoken Greeted f whole = refl
+unspoken (Speaks opcode) f whole = rw whole refl
+unspoken Lost f whole = refl
 
 -- ---- all that is known
 

@@ -1,11 +1,14 @@
 -- What passed on a client's connection in both directions, and the messages of XSMP that it brought, in the order in which they passed. Times are in milliseconds.
 use Rattle.std.specs.Prelude.{◌≡◌, ℕ, Bool, true, false, ◌==◌, ◌&&◌, if◌then◌else◌, List, [], ◌∷◌, ◌++◌, length, drop, map, flat_map, slice_index, Option, None, option_to_list}
 use Rattle.std.specs.Result.{result_ok}
+use Rattle.ice_values.specs.declared.numbers.Endian.{Endian}
 use Rattle.ice_framing.specs.Frames.{frames_of}
 use Rattle.ice_framing.specs.declared.cutting.WholeFrame.{WholeFrame}
 use Rattle.xsmp_messages.specs.Reading.{decode_at}
 use Rattle.xsmp_messages.specs.declared.message.XsmpMessage.{XsmpMessage}
+use Rattle.frame_speech.specs.Passing.{IsAlone, as_frame}
 use Rattle.frame_speech.specs.Speech.{is_whole, reading, after, speech_behind}
+use Rattle.frame_speech.specs.declared.stream.CutStream.{CutStream}
 use Rattle.frame_speech.specs.declared.speech.Speech.{Speech}
 use Rattle.frame_speech.specs.declared.speech.Speech.TheVariants.{Silent, Greeted, Speaks, Lost}
 use Rattle.session_watch.specs.declared.party.Party.{Party}
@@ -49,6 +52,11 @@ may_speak Lost f = false
 
 abbrev pub IsNoMessage : Speech → WholeFrame → Type 0
 IsNoMessage speech f = may_speak speech f ≡ false
+
+-- These bytes are one whole frame, which comes between two frames and doesn't change how its sender is understood.
+pub record IsLone (speech : Speech) (e : Endian) (bytes : List ℕ) (cut : CutStream) : Type 0 where
+  pub alone : IsAlone e bytes cut
+  pub stays : after speech (reading speech (as_frame e bytes)) ≡ speech
 
 abbrev pub messages_in : Speech → List WholeFrame → List XsmpMessage
 messages_in speech [] = []

@@ -1,10 +1,11 @@
-ghost use Rattle.std.specs.Prelude.{◌≡◌, IfOk, OnOk, option_to_list};
+ghost use Rattle.std.specs.Prelude.{◌≡◌, true, IfOk, OnOk, option_to_list};
 ghost use Rattle.ice_values.specs.Frames.{IsFrame};
 ghost use Rattle.std.specs.Result.{result_ok};
 ghost use Rattle.xsmp_messages.specs.Reading.{decode_at};
 ghost use Rattle.xsmp_messages.specs.Views.{WalksOf};
+ghost use Rattle.frame_speech.specs.Passing.{as_frame};
 ghost use Rattle.frame_speech.specs.Settings.{set_in};
-ghost use Rattle.frame_speech.specs.Speech.{reading as reading_by, after as after_reading, speech_behind};
+ghost use Rattle.frame_speech.specs.Speech.{is_whole, reading as reading_by, after as after_reading, speech_behind};
 ghost use Rattle.session_watch.specs.Story.{IsNoMessage, spoken as spoken_by, messages_in};
 ghost use Rattle.session_watch.specs.Knowing.{noted_all};
 
@@ -37,17 +38,41 @@ impl Heeds for Messages {
 }
 
 /// The message that a frame spells, if it spells one.
-fn read(alloc: Global, frame: &WholeFrame) -> Result<Option<XsmpMessage>, NoMemory>
-    requires { IsFrame frame.now.endian frame.now.bytes }
-    ensures { IfOk result (λ message.
-        message ≡ result_ok (decode_at frame.now.endian frame.now.bytes)) }
+fn read(alloc: Global, endian: Endian, frame: &[u8]) -> Result<Option<XsmpMessage>, NoMemory>
+    requires { IsFrame endian frame.now }
+    ensures { IfOk result (λ message. message ≡ result_ok (decode_at endian frame.now)) }
 {
-    match decode_xsmp(alloc, frame.endian, frame.bytes.as_slice()) {
+    match decode_xsmp(alloc, endian, frame) {
         Ok(message) => Ok(Some(message)),
         Err(DecodeRefusal::BadMinor) => Ok(None),
         Err(DecodeRefusal::BadLength) => Ok(None),
         Err(DecodeRefusal::BadValue { .. }) => Ok(None),
         Err(DecodeRefusal::NoMemory) => Err(NoMemory),
+    }
+}
+
+/// The message that a whole frame is, where its sender speaks XSMP and it can be read.
+fn spoken_whole(
+    alloc: Global,
+    speech: Speech,
+    endian: Endian,
+    frame: &[u8],
+) -> Result<Option<XsmpMessage>, NoMemory>
+    requires frame { IsFrame endian frame.now }
+    requires whole { is_whole (as_frame endian frame.now) ≡ true }
+    ensures { IfOk result (λ message. message ≡ spoken_by speech (as_frame endian frame.now)) }
+{
+    match speech {
+        Speech::Speaks(opcode) => {
+            if byte_at(frame, 0) == opcode {
+                read(alloc, endian, frame)
+            } else {
+                Ok(None)
+            }
+        }
+        Speech::Silent => Ok(None),
+        Speech::Greeted => Ok(None),
+        Speech::Lost => Ok(None),
     }
 }
 
@@ -59,17 +84,33 @@ fn spoken(
 ) -> Result<Option<XsmpMessage>, NoMemory>
     ensures { IfOk result (λ message. message ≡ spoken_by speech frame.now) }
 {
-    match speech {
-        Speech::Speaks(opcode) => {
-            if is_whole(frame) && byte_at(frame.bytes.as_slice(), 0) == opcode {
-                read(alloc, frame)
-            } else {
-                Ok(None)
-            }
-        }
-        Speech::Silent => Ok(None),
-        Speech::Greeted => Ok(None),
-        Speech::Lost => Ok(None),
+    if is_whole(frame) {
+        spoken_whole(alloc, speech, frame.endian, frame.bytes.as_slice())
+    } else {
+        Ok(None)
+    }
+}
+
+/// Notes the message that a whole frame is, where it lies.
+pub fn note_whole(
+    alloc: Global,
+    party: Party,
+    speech: Speech,
+    endian: Endian,
+    frame: &[u8],
+    known: &mut Known,
+) -> Result<(), NoMemory>
+    requires frame { IsFrame endian frame.now }
+    requires whole { is_whole (as_frame endian frame.now) ≡ true }
+    ensures { OnOk result (known.new ≡ noted_all party
+        (option_to_list (spoken_by speech (as_frame endian frame.now))) known.old) }
+{
+    if let Some(walk) = speech.settings(endian, frame) {
+        return known.note_set(alloc, party, walk);
+    }
+    match spoken_whole(alloc, speech, endian, frame)? {
+        Some(message) => known.note(alloc, party, &message),
+        None => Ok(()),
     }
 }
 

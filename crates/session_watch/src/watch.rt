@@ -1,14 +1,15 @@
-ghost use Rattle.std.specs.Prelude.{◌≡◌, ◌-◌, ◌++◌, ◌∷◌, ◌||◌, [], ℕ, List, OnOk, option_copied};
-ghost use Rattle.session_watch.specs.Story.{Passage, stream_of};
+ghost use Rattle.std.specs.Prelude.{◌≡◌, ◌-◌, ◌++◌, ◌∷◌, ◌||◌, [], ℕ, List, IfSome, OnOk, option_copied};
+ghost use Rattle.session_watch.specs.Story.{IsLone, Passage, stream_of};
 ghost use Rattle.session_watch.specs.Knowing.{Follows, program_of, id_of, asked_of, answered_of, is_logout, stage_of, silent_since, is_lost, is_unreadable};
 ghost use Rattle.session_watch.specs.declared.party.Party.TheVariants.{Client, Manager};
 
 use crate::asking::{Answered, Asked};
 use crate::known::Known;
 use crate::party::Party;
-use crate::spoken::{Messages, note_frames};
+use crate::spoken::{Messages, note_frames, note_whole};
 use crate::stage::Stage;
 use frame_speech::{CutStream, Speech};
+use ice_values::Endian;
 use owned_lists::{NoMemory, Octets};
 use std::alloc::Global;
 
@@ -38,6 +39,23 @@ fn is_lost(speech: Speech) -> bool
     }
 }
 
+/// The order of bytes that are one whole frame, which comes between two frames and doesn't change how
+/// its sender is understood.
+fn lone(stream: &CutStream, speech: Speech, bytes: &[u8]) -> Option<Endian>
+    ensures { IfSome result (λ e. IsLone speech e bytes.now stream.now) }
+{
+    match stream.alone(bytes) {
+        Some(endian) => {
+            if speech.may_turn(endian, bytes) {
+                None
+            } else {
+                Some(endian)
+            }
+        }
+        None => None,
+    }
+}
+
 impl ClientWatch {
     /// A connection that begins now; this takes no memory.
     pub fn new(alloc: Global, now: u64) -> ClientWatch
@@ -59,6 +77,21 @@ impl ClientWatch {
         ensures { OnOk result ((start : ℕ) (story : List Passage) → Follows start story self.old
             → Follows start (story ++ record { by = Client; at = now; bytes = bytes.now } ∷ []) self.new) }
     {
+        match lone(&self.came, self.said, bytes) {
+            Some(endian) => {
+                self.since = now;
+                let (alloc, said) = (self.alloc, self.said);
+                note_whole(alloc, Party::Client, said, endian, bytes, &mut self.known)
+            }
+            None => self.hear_piece(now, bytes),
+        }
+    }
+
+    /// Hears what the client sends, cut into frames.
+    fn hear_piece(&mut self, now: u64, bytes: &[u8]) -> Result<(), NoMemory>
+        ensures { OnOk result ((start : ℕ) (story : List Passage) → Follows start story self.old
+            → Follows start (story ++ record { by = Client; at = now; bytes = bytes.now } ∷ []) self.new) }
+    {
         self.since = now;
         if self.came.passes(&Messages { speech: self.said }, bytes) {
             return Ok(());
@@ -77,6 +110,20 @@ impl ClientWatch {
 
     /// Takes note of what the manager sends. After NoMemory nothing more is known.
     pub fn tell(&mut self, now: u64, bytes: &[u8]) -> Result<(), NoMemory>
+        ensures { OnOk result ((start : ℕ) (story : List Passage) → Follows start story self.old
+            → Follows start (story ++ record { by = Manager; at = now; bytes = bytes.now } ∷ []) self.new) }
+    {
+        match lone(&self.sent, self.told, bytes) {
+            Some(endian) => {
+                let (alloc, told) = (self.alloc, self.told);
+                note_whole(alloc, Party::Manager, told, endian, bytes, &mut self.known)
+            }
+            None => self.tell_piece(now, bytes),
+        }
+    }
+
+    /// Takes note of what the manager sends, cut into frames.
+    fn tell_piece(&mut self, now: u64, bytes: &[u8]) -> Result<(), NoMemory>
         ensures { OnOk result ((start : ℕ) (story : List Passage) → Follows start story self.old
             → Follows start (story ++ record { by = Manager; at = now; bytes = bytes.now } ∷ []) self.new) }
     {

@@ -1,30 +1,17 @@
-use Rattle.std.proofs.Common.{rules, ◌≡◌, List, refl, subst}
-use Rattle.ice_framing.specs.declared.cutting.WholeFrame.{WholeFrame}
-use Rattle.frame_speech.specs.Streams.{Cuts}
-use Rattle.frame_speech.specs.Passing.{PassesBy}
-use Rattle.session_watch.specs.Story.{IsNoMessage}
+use Rattle.std.proofs.Common.{[], ◌∷◌}
+use Rattle.std.proofs.lemmas.Result.{on_ok_weaker}
+use Rattle.frame_speech.specs.Passing.{as_frame}
 use Rattle.session_watch.specs.declared.watch.ClientWatch.{ClientWatch}
-use Rattle.session_watch.proofs.Following.{heard, heard_nothing}
+use Rattle.session_watch.proofs.Following.{heard, heard_lone}
 use Rattle.session_watch.proofs.watch.ClientWatch.hear.Goals as goal
 
-pub returns : goal.returns
-returns c = λ start story follows.
-    let old = c.args.self.now in
-    let new : ClientWatch = record { alloc = old.alloc; came = c.take.new.self; said = c.in_ok-self.field-0; sent = old.sent; told = old.told; known = c.note_frames.new.known; since = c.args.now } in
-    let same : c.in_ok-frames.frames ≡ c.as_slice-frames.result.now = search rules in
-    heard start story old c.args.now c.args.bytes.now c.as_slice-frames.result.now new follows
-    (record {
-      cuts = λ stream at. subst (λ (fs : List WholeFrame). Cuts stream c.args.bytes.now fs c.take.new.self) same (c.in_ok-frames.ensures stream at);
-      said = c.in_ok-self.ensures.speech;
-      known = c.in_ok-self.ensures.known;
-      since = refl;
-      sent = refl;
-      told = refl;
-    })
+pub note_whole-requires : goal.note_whole-requires
+note_whole-requires c = record { frame = c.in-Some.ensures.alone.frame; whole = c.in-Some.ensures.alone.whole }
 
-pub returns-then-passes : goal.returns-then-passes
-returns-then-passes c = λ start story follows.
-    let old = c.args.self.now in
-    let passes : PassesBy (IsNoMessage old.said) c.args.bytes.now old.came = search rules in
-    let new : ClientWatch = record old { since = c.args.now } in
-    heard start story old c.args.now c.args.bytes.now passes.new new follows (heard_nothing old c.args.now c.args.bytes.now new passes refl)
+pub returns-in-Some : goal.returns-in-Some
+returns-in-Some c =
+    let old : ClientWatch = c.args.self.now in
+    let new : ClientWatch = record old { since = c.args.now; known = c.note_whole.new.known } in
+    on_ok_weaker c.note_whole.result
+    (λ is start story follows. heard start story old c.args.now c.args.bytes.now (as_frame c.in-Some.endian c.args.bytes.now ∷ []) new follows (heard_lone old c.args.now c.in-Some.endian c.args.bytes.now c.note_whole.new.known c.in-Some.ensures is))
+    c.note_whole.ensures
