@@ -146,7 +146,9 @@ impl Outer for DesktopWorld {
 }
 
 impl Spawner for DesktopWorld {
+    /// What was sent before goes out first.
     fn start(&mut self, command: &Command) -> Result<bool, NoMemory> {
+        self.links.flush()?;
         self.spawner.start(command)
     }
 }
@@ -156,7 +158,9 @@ impl Console for DesktopWorld {
         self.console.read(into)
     }
 
+    /// What was sent before goes out first.
     fn print(&mut self, bytes: &[u8]) -> Result<(), Failure> {
+        self.links.flush()?;
         self.links.answer(bytes);
         self.console.print(bytes)
     }

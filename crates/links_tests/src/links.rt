@@ -132,7 +132,9 @@ fn come_and_go(
     assert!(test; joins(links, 1));
     first.write_all(b"hello")?;
     assert!(test; says(links, 1, b"hello"));
-    assert!(test; sends(links, 1, b"good day"));
+    assert!(test; sends(links, 1, b"good "));
+    assert!(test; sends(links, 1, b"day"));
+    assert!(test; ticks(links));
     assert!(test; reads(&mut first, b"good day")?);
     first.write_all(b"bye")?;
     drop(first);

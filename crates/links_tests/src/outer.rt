@@ -36,6 +36,7 @@ fn speak_and_go(
     outer.write_all(b"hello")?;
     assert!(test; says(links, 0, b"hello"));
     assert!(test; sends(links, 0, b"good day"));
+    assert!(test; ticks(links));
     assert!(test; reads(&mut outer, b"good day")?);
     let _client = dial(rt, paths.socket.as_str())?;
     assert!(test; joins(links, 1));

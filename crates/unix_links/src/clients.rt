@@ -1,4 +1,4 @@
-ghost use Rattle.std.specs.Prelude.{IfOk, IfSome};
+ghost use Rattle.std.specs.Prelude.{◌<◌, length, IfOk, IfSome};
 ghost use Rattle.sm_world.specs.Events.{HasPieceSize};
 
 use crate::connection::Connection;
@@ -11,7 +11,7 @@ use owned_lists::{NoMemory, Octets};
 use session_watch::{ClientWatch, put_client, put_count, put_shown};
 use sm_world::{Conn, Event, Failure, PIECE_LIMIT};
 use std::alloc::{AllocError, Global};
-use std::collections::{BTreeMap, VecDeque};
+use std::collections::VecDeque;
 use std::io;
 use std::io::{ErrorKind, Read};
 use stream_watch::{Place, Visitors};
@@ -19,12 +19,37 @@ use stream_watch::{Place, Visitors};
 /// The number of the connection to an outer manager. Whoever comes in has one from 1 on.
 pub const OUTER: Conn = 0;
 
-/// The clients' connections, by their numbers, and the one to an outer manager, where there is one.
-/// That one is no visitor: nobody makes way for it, and it makes way for nobody.
+/// A connection that is open.
+#[derive(Drop)]
+struct Open {
+    conn: Conn,
+    connection: Connection,
+    /// It stands in the queue of those who may have something.
+    queued: bool,
+    /// What is known of its client by what it said and was told. An outer manager is no client.
+    watch: Option<ClientWatch>,
+}
+
+/// Where the connection of a number stands.
+fn place_of(open: &[Open], conn: Conn) -> Option<usize>
+    ensures { IfSome result (λ place. place < length open.now) }
+{
+    open.binary_search_by_key(&conn, |row| row.conn).ok()
+}
+
+/// The connection of a number.
+fn find(open: &mut [Open], conn: Conn) -> Option<&mut Open> {
+    let place = place_of(open, conn)?;
+    open.get_mut(place)
+}
+
+/// The clients' connections, and the one to an outer manager, where there is one. That one is no
+/// visitor: nobody makes way for it, and it makes way for nobody.
 #[derive(Drop)]
 pub struct Clients {
     alloc: Global,
-    open: BTreeMap<Conn, Connection>,
+    /// In the order of their numbers.
+    open: Vec<Open>,
     /// The number that was given last. None is given twice.
     last: Conn,
     /// Who came and who was dropped, which is told next.
@@ -32,8 +57,8 @@ pub struct Clients {
     leaving: Leavers,
     /// The clients by what passed, and who of them makes way for others.
     visitors: Visitors,
-    /// What is known of each client by what it said and was told.
-    watches: BTreeMap<Conn, ClientWatch>,
+    /// For whom the system hasn't been handed yet what was sent.
+    unsent: Vec<Conn>,
     /// How many milliseconds have passed since the first moment.
     now: u64,
     /// Room for one read.
@@ -44,12 +69,12 @@ impl Clients {
     pub fn new(alloc: Global) -> Result<Clients, AllocError> {
         Ok(Clients {
             alloc,
-            open: BTreeMap::new(alloc),
+            open: Vec::new(alloc),
             last: 0,
             news: VecDeque::new(alloc),
             leaving: Leavers::new(alloc),
             visitors: Visitors::new(alloc),
-            watches: BTreeMap::new(alloc),
+            unsent: Vec::new(alloc),
             now: 0,
             piece: vec![in alloc; 0u8; PIECE_LIMIT]?,
         })
@@ -89,9 +114,13 @@ impl Clients {
             self.lose(stranger)?;
         }
         self.visitors.join(conn, self.now)?;
-        self.watches
-            .insert(conn, ClientWatch::new(self.alloc, self.now))?;
-        self.open.insert(conn, connection)?;
+        let watch = Some(ClientWatch::new(self.alloc, self.now));
+        self.open.push(Open {
+            conn,
+            connection,
+            queued: false,
+            watch,
+        })?;
         self.last = conn;
         self.news.push_back(News::Came(conn))?;
         Ok(())
@@ -103,7 +132,14 @@ impl Clients {
         let Some(connection) = Connection::new(self.alloc, registry, OUTER, stream) else {
             return Err(io::Error::from(ErrorKind::Other));
         };
-        self.open.insert(OUTER, connection)?;
+        self.close(OUTER);
+        let outer = Open {
+            conn: OUTER,
+            connection,
+            queued: false,
+            watch: None,
+        };
+        self.open.insert(0, outer)?;
         Ok(())
     }
 
@@ -115,30 +151,39 @@ impl Clients {
         ends: bool,
         takes: bool,
     ) -> Result<(), NoMemory> {
-        let Some(connection) = self.open.get_mut(&conn) else {
+        let Some(open) = find(&mut self.open, conn) else {
             self.leaving.told(registry, conn, ends, takes);
             return Ok(());
         };
-        connection.ends = connection.ends || ends;
-        if takes && !connection.flush(registry, conn) {
+        open.connection.ends = open.connection.ends || ends;
+        if takes && !open.connection.flush(registry, conn) {
             return self.lose(conn);
         }
         Ok(())
+    }
+
+    /// Notes whether a connection stands in the queue of those who may have something, and says whether
+    /// it stood there before; None where it isn't open.
+    pub fn set_queued(&mut self, conn: Conn, queued: bool) -> Option<bool> {
+        let open = find(&mut self.open, conn)?;
+        let was = open.queued;
+        open.queued = queued;
+        Some(was)
     }
 
     /// Reads once from a connection.
     pub fn read(&mut self, conn: Conn) -> Result<Reading, NoMemory>
         ensures size { IfOk result (λ reading. IfSome reading.event HasPieceSize) }
     {
-        let Some(connection) = self.open.get_mut(&conn) else {
+        let Some(open) = find(&mut self.open, conn) else {
             return Ok(self.leaving.read(conn, self.piece.as_mut_slice()));
         };
-        match connection.stream.read(self.piece.as_mut_slice()) {
+        match open.connection.stream.read(self.piece.as_mut_slice()) {
             Ok(count) if 0 < count && count <= PIECE_LIMIT => {
                 // A read that doesn't fill its room took all that there was.
-                let more = connection.ends || count == PIECE_LIMIT;
+                let more = open.connection.ends || count == PIECE_LIMIT;
                 let bytes = Octets::from_slice(self.alloc, &self.piece[..count])?;
-                if let Some(watch) = self.watches.get_mut(&conn) {
+                if let Some(watch) = &mut open.watch {
                     watch.hear(self.now, bytes.as_slice())?;
                 }
                 Ok(Reading {
@@ -149,7 +194,7 @@ impl Clients {
             Err(error) if would_wait(&error) => Ok(Reading::nothing()),
             Err(error) if is_passing(&error) => Ok(Reading::later()),
             _ => {
-                self.forget(conn);
+                self.close(conn);
                 Ok(Reading {
                     event: Some(Event::Gone(conn)),
                     more: false,
@@ -158,27 +203,57 @@ impl Clients {
         }
     }
 
-    /// Sends bytes on a connection. One that can't be served any more is lost.
+    /// Sends bytes on a connection, which go out at the next `flush`. One that can't be served any more
+    /// is lost.
     pub fn send(&mut self, registry: &Registry, to: Conn, bytes: &[u8]) -> Result<(), NoMemory> {
-        let Some(connection) = self.open.get_mut(&to) else {
+        let Some(open) = find(&mut self.open, to) else {
             return Ok(());
         };
         self.visitors.follow(to, self.now, bytes)?;
-        if let Some(watch) = self.watches.get_mut(&to) {
+        if let Some(watch) = &mut open.watch {
             watch.tell(self.now, bytes)?;
         }
-        if connection.send(registry, to, bytes)? {
+        if open.connection.is_sent() {
+            self.unsent.push(to)?;
+        }
+        if open.connection.put(registry, to, bytes)? {
             Ok(())
         } else {
             self.lose(to)
         }
     }
 
+    /// Hands the system what was sent since the last time, each connection's at once. One that can't be
+    /// served any more is lost.
+    pub fn flush(&mut self, registry: &Registry) -> Result<(), NoMemory> {
+        for at in 0..self.unsent.len() {
+            let Some(conn) = self.unsent.get(at).copied() else {
+                break;
+            };
+            self.flush_one(registry, conn)?;
+        }
+        self.unsent.clear();
+        Ok(())
+    }
+
+    /// Hands the system what waits for a peer, where its connection is still open.
+    fn flush_one(&mut self, registry: &Registry, conn: Conn) -> Result<(), NoMemory> {
+        let Some(open) = find(&mut self.open, conn) else {
+            return Ok(());
+        };
+        if open.connection.flush(registry, conn) {
+            Ok(())
+        } else {
+            self.lose(conn)
+        }
+    }
+
     /// Closes a connection gently. What was sent on it still reaches the peer.
     pub fn shut(&mut self, registry: &Registry, conn: Conn) {
-        if let Some(connection) = self.open.remove(&conn) {
-            self.forget(conn);
-            self.leaving.add(registry, conn, connection);
+        if let Some(place) = place_of(&self.open, conn) {
+            let open = self.open.remove(place);
+            self.visitors.leave(conn);
+            self.leaving.add(registry, conn, open.connection);
         }
     }
 
@@ -211,11 +286,9 @@ impl Clients {
     /// The program at the other end of a connection, as it can be printed.
     pub fn program(&self, conn: Conn) -> Result<Octets, NoMemory> {
         let mut name = Octets::new(self.alloc);
-        let program = match self.watches.get(&conn) {
-            Some(watch) => watch.program(),
-            None => None,
-        };
-        match program {
+        let open = place_of(&self.open, conn).and_then(|place| self.open.get(place));
+        let watch = open.and_then(|open| open.watch.as_ref());
+        match watch.and_then(|watch| watch.program()) {
             Some(program) => put_shown(self.alloc, &mut name, program.as_slice())?,
             None => name.append(b"a program without a name")?,
         }
@@ -225,9 +298,12 @@ impl Clients {
     /// The lines that say who is there.
     pub fn lines(&self) -> Result<Octets, NoMemory> {
         let mut lines = Octets::new(self.alloc);
-        put_count(self.alloc, &mut lines, self.watches.len() as u64)?;
-        for (conn, watch) in &self.watches {
-            put_client(self.alloc, &mut lines, *conn, self.now, watch)?;
+        let count = self.open.iter().filter(|open| open.watch.is_some()).count();
+        put_count(self.alloc, &mut lines, count as u64)?;
+        for open in &self.open {
+            if let Some(watch) = &open.watch {
+                put_client(self.alloc, &mut lines, open.conn, self.now, watch)?;
+            }
         }
         Ok(lines)
     }
@@ -235,15 +311,16 @@ impl Clients {
     /// Closes a connection that is to be told as gone.
     pub fn lose(&mut self, conn: Conn) -> Result<(), NoMemory> {
         self.news.push_back(News::Went(conn))?;
-        self.forget(conn);
+        self.close(conn);
         Ok(())
     }
 
     /// Closes a connection, and forgets what was known of its client.
-    fn forget(&mut self, conn: Conn) {
+    fn close(&mut self, conn: Conn) {
+        if let Some(place) = place_of(&self.open, conn) {
+            let _ = self.open.remove(place);
+        }
         self.visitors.leave(conn);
-        let _ = self.watches.remove(&conn);
-        let _ = self.open.remove(&conn);
     }
 
     /// Who came or was lost and isn't told yet.

@@ -77,6 +77,23 @@ impl Connection {
         Ok(self.keeps(registry, conn, progress))
     }
 
+    /// Whether no bytes wait for the peer.
+    pub fn is_sent(&self) -> bool {
+        self.outbox.is_empty()
+    }
+
+    /// Puts these bytes behind those that wait, to be sent by `flush`. Where too many would wait, those
+    /// that the system wasn't asked to take yet go first; false where the peer can't be served any more.
+    pub fn put(&mut self, registry: &Registry, conn: Conn, bytes: &[u8]) -> Result<bool, NoMemory> {
+        if self.outbox.put(bytes)? {
+            return Ok(true);
+        }
+        if self.waits || !self.flush(registry, conn) {
+            return Ok(false);
+        }
+        self.outbox.put(bytes)
+    }
+
     /// Sends what waits; false where the peer can't be served any more.
     pub fn flush(&mut self, registry: &Registry, conn: Conn) -> bool {
         let progress = self.outbox.flush(&self.stream);

@@ -7,6 +7,7 @@ use crate::options::LinkOptions;
 use crate::paths::path_fault;
 use crate::reading::refused;
 use crate::sockets::Sockets;
+use owned_lists::NoMemory;
 use sm_world::{Conn, Event, Failure, Links, Told};
 use std::io;
 use std::io::ErrorKind;
@@ -14,7 +15,8 @@ use std::io::ErrorKind;
 /// The clients at a Unix socket, the operators at another, and the connection to an outer manager,
 /// where one is opened. What goes through them is told to nobody; each fault is counted.
 ///
-/// Clients have the numbers from 1 on, and the outer manager has 0. A connection for which more than
+/// Clients have the numbers from 1 on, and the outer manager has 0. What is sent goes out when the next
+/// event is asked for, when `flush` asks for that, when the connection is shut, or at the end. A connection for which more than
 /// 1,048,576 bytes would wait is dropped, and then gone. One that is shut still gets what was sent on it,
 /// and is read on, unheard, until the peer closes it or a second has passed. There is a tick every 250
 /// milliseconds, also while events come, and it carries the milliseconds since the last one.
@@ -49,6 +51,17 @@ impl SocketLinks {
     {
         if let Some(sockets) = &mut self.sockets {
             sockets.answer(line);
+        }
+    }
+
+    /// Hands the system what was sent since the last event. It is for who does something next that
+    /// others see.
+    pub fn flush(&mut self) -> Result<(), NoMemory>
+        ensures untouched { links_outside self.new ≡ links_outside self.old }
+    {
+        match &mut self.sockets {
+            Some(sockets) => sockets.flush(),
+            None => Ok(()),
         }
     }
 

@@ -35,20 +35,34 @@ impl Outbox {
         }
     }
 
-    /// Sends these bytes behind those that wait.
-    pub fn send(&mut self, stream: &UnixStream, bytes: &[u8]) -> Result<Progress, NoMemory> {
+    /// Whether nothing waits.
+    pub fn is_empty(&self) -> bool {
+        self.bytes.is_empty()
+    }
+
+    /// Puts these bytes behind those that wait; false where too many would wait then.
+    pub fn put(&mut self, bytes: &[u8]) -> Result<bool, NoMemory> {
         if self.is_deaf {
-            return Ok(Progress::All);
+            return Ok(true);
         }
         let waiting = self.bytes.len();
         if bytes.len() > OUTBOX_LIMIT || waiting > OUTBOX_LIMIT - bytes.len() {
-            return Ok(Progress::Broken);
+            return Ok(false);
         }
         self.bytes.extend_from_slice(bytes)?;
-        if waiting == 0 {
-            Ok(self.flush(stream))
-        } else {
+        Ok(true)
+    }
+
+    /// Sends these bytes behind those that wait.
+    pub fn send(&mut self, stream: &UnixStream, bytes: &[u8]) -> Result<Progress, NoMemory> {
+        let waits = !self.bytes.is_empty();
+        if !self.put(bytes)? {
+            return Ok(Progress::Broken);
+        }
+        if waits {
             Ok(Progress::Some)
+        } else {
+            Ok(self.flush(stream))
         }
     }
 

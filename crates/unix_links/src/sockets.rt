@@ -76,11 +76,13 @@ impl Sockets {
         })
     }
 
-    /// The next event. The system wakes us as soon as somebody is ready.
+    /// The next event. The system wakes us as soon as somebody is ready. Before, it is handed what was
+    /// sent since the last event.
     pub fn next(&mut self) -> Result<Event, Failure>
         ensures size { IfOk result HasPieceSize }
     {
         self.operators.forget();
+        self.flush()?;
         for _ in 0..u64::MAX {
             let now = Instant::now(&self.rt).map_err(refused)?;
             let time = milliseconds(self.begun, now);
@@ -187,10 +189,30 @@ impl Sockets {
     }
 
     fn enqueue(&mut self, source: Source) -> Result<(), NoMemory> {
-        if !self.queue.contains(&source) {
+        if !self.is_queued(source) {
             self.queue.push_back(source)?;
         }
         Ok(())
+    }
+
+    /// Whether a source stands in the queue. One that doesn't is put there next, which a connection
+    /// that is open notes, so that the queue needn't be gone through for it.
+    fn is_queued(&mut self, source: Source) -> bool {
+        if let Source::Client(conn) = source {
+            if let Some(was) = self.clients.set_queued(conn, true) {
+                return was;
+            }
+        }
+        self.queue.contains(&source)
+    }
+
+    /// The source whose turn it is.
+    fn dequeue(&mut self) -> Option<Source> {
+        let source = self.queue.pop_front()?;
+        if let Source::Client(conn) = source {
+            self.clients.set_queued(conn, false);
+        }
+        Some(source)
     }
 
     /// Serves those whose turn it is until one gives an event.
@@ -202,7 +224,7 @@ impl Sockets {
         }
         for _ in 0..self.turn {
             self.turn = self.turn.saturating_sub(1);
-            let Some(source) = self.queue.pop_front() else {
+            let Some(source) = self.dequeue() else {
                 return Ok(None);
             };
             let reading = self.serve(source)?;
@@ -314,13 +336,20 @@ impl Sockets {
         self.clients.send(self.poll.registry(), to, bytes)
     }
 
+    /// Hands the system what was sent since this was called last.
+    pub fn flush(&mut self) -> Result<(), NoMemory> {
+        self.clients.flush(self.poll.registry())
+    }
+
     pub fn shut(&mut self, conn: Conn) {
         self.clients.shut(self.poll.registry(), conn);
     }
 
-    /// Waits until the connections that were shut are closed, which takes a second or two at most, and
-    /// the one to an outer manager with them. Whatever else comes is heard by nobody.
+    /// Hands the system what was sent, and waits until the connections that were shut are closed, which
+    /// takes a second or two at most, and the one to an outer manager with them. Whatever else comes is
+    /// heard by nobody.
     pub fn finish(&mut self) {
+        let _ = self.flush();
         self.shut(OUTER);
         for _ in 0..u64::MAX {
             if !self.clients.has_leavers() || self.next().is_err() {
