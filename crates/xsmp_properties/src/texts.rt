@@ -1,4 +1,4 @@
-ghost use Rattle.std.specs.Prelude.{◌≡◌, option_copied};
+ghost use Rattle.std.specs.Prelude.{◌≡◌, length, option_copied};
 ghost use Rattle.std.specs.List.{list_all};
 ghost use Rattle.std.specs.Str.{bytes_eq, is_utf8};
 ghost use Rattle.std.specs.Cmp.Lexicographic.{pointwise};
@@ -44,7 +44,8 @@ pub fn are_words(values: &[Array8]) -> bool
 }
 
 /// Whether these are the same bytes, as those of two names or IDs. Most that differ are told apart
-/// by their lengths or their last bytes, which costs less than to begin with the whole of them.
+/// by their lengths, their last bytes or their first ones, which costs less than to begin with the
+/// whole of them.
 pub fn same_bytes(first: &[u8], second: &[u8]) -> bool
     ensures { result ≡ bytes_eq first.now second.now }
 {
@@ -52,10 +53,24 @@ pub fn same_bytes(first: &[u8], second: &[u8]) -> bool
     if count != second.len() {
         return false;
     }
-    if count > 0 && first[count - 1] != second[count - 1] {
+    if count > 0 && (first[count - 1] != second[count - 1] || first[0] != second[0]) {
         return false;
     }
-    first == second
+    same_each(first, second)
+}
+
+/// Whether bytes of one length are the same, one after another: names and IDs are short, so this
+/// costs less than `==`, which is made for long texts.
+fn same_each(first: &[u8], second: &[u8]) -> bool
+    requires { length first.now ≡ length second.now }
+    ensures { result ≡ bytes_eq first.now second.now }
+{
+    for (index, byte) in first.iter().enumerate() {
+        if *byte != second[index] {
+            return false;
+        }
+    }
+    true
 }
 
 /// Whether these are the same texts in the same order.
