@@ -6,10 +6,11 @@ plain_twm() {
   for font in TitleFont ResizeFont MenuFont IconFont IconManagerFont; do echo "$font \"fixed\""; done >> "$HOME/.twmrc"
 }
 
-# The file of an earlier display is emptied here, since what is started empties it too late to be waited for.
+# The file of an earlier display is emptied here, since what is started empties it too late to be waited for. Between two logins
+# the display may have no client: it is told to stay as it is then, since a program that comes while it starts anew is turned away.
 start_display() {
   : > "$room/display"
-  Xvfb -displayfd 3 -screen 0 640x480x24 -nolisten tcp 3> "$room/display" > "$room/display.said" 2>&1 < /dev/null &
+  Xvfb -displayfd 3 -screen 0 640x480x24 -nolisten tcp -noreset 3> "$room/display" > "$room/display.said" 2>&1 < /dev/null &
   within 20 test -s "$room/display" || return 1
   export DISPLAY
   DISPLAY=:$(cat "$room/display")
