@@ -1,10 +1,13 @@
 -- What is counted of a round's members, as one of them stops saving and as one leaves. Each connection stands once.
-use Rattle.std.proofs.Common.{◌≡◌, ℕ, zero, suc, ◌<◌, ◌≤◌, ◌+◌, ◌-◌, ◌==◌, subst, Bool, true, false, not, cond, ◌&&◌, ◌||◌, List, [], ◌∷◌, length, Some, None, refl, sym, ap, ap₂, ◌∙◌, arith, position, slice_set}
+use Rattle.std.proofs.Common.{◌≡◌, ℕ, zero, suc, ◌<◌, ◌≤◌, ◌+◌, ◌-◌, ◌==◌, subst, Bool, true, false, not, cond, ◌&&◌, ◌||◌, List, [], ◌∷◌, length, Some, None, refl, sym, ap, ap₂, ◌∙◌, arith, position, slice_index_or, slice_set}
 use Rattle.std.specs.Prelude.{filter}
-use Rattle.std.specs.List.{list_all, list_any, position_or_len}
-use Rattle.std.proofs.lemmas.Bool.{eqb-true}
+use Rattle.std.specs.List.{HoldsAt, list_all, list_any, position_or_len}
+use Rattle.std.specs.Ordering.{nat_cmp}
+use Rattle.std.specs.declared.cmp.Ordering.TheVariants.{Equal}
+use Rattle.std.proofs.lemmas.Bool.{eqb-true, false≢true}
 use Rattle.std.proofs.lemmas.Bool.Decides.{nat_tests}
 use Rattle.std.proofs.lemmas.Grind.{common_steps}
+use Rattle.std.proofs.lemmas.Map.Lookups.{exact_unsigned}
 use Rattle.round_agreement.specs.declared.round.Member.{Member}
 use Rattle.round_agreement.specs.declared.round.Step.{Step}
 use Rattle.round_agreement.specs.declared.round.Step.TheVariants.{Saving, WantsTwo, SavingTwo, Done}
@@ -179,6 +182,39 @@ set-in-place c step ms conns n are once is =
     let at : place c conns ≡ n = grind (arith, common_steps) in
     let inside : n < length conns = grind (arith, common_steps) in
     set-at c step ms n (ap (λ cs. are_distinct cs) (sym are) ∙ once) (ap (λ cs. place c cs) (sym are) ∙ at) (subst (λ (cs : List ℕ). n < length cs) are inside)
+
+-- ---- the one place of a connection
+
+is-same : (d c : ℕ) → d ≡ c → (d == c) ≡ true
+is-same d c e = grind (arith, nat_tests, e)
+
+has-at : (c n : ℕ) (conns : List ℕ) → n < length conns → slice_index_or conns n 0 ≡ c → has c conns ≡ true
+has-at c n [] inside at = absurd (omega (arith, inside))
+has-at c zero (d ∷ conns) inside at = rw (is-same d c at) refl
+has-at c (suc n) (d ∷ conns) inside at = by (d == c) (has-at c n conns (omega (arith, inside)) at)
+  where
+    by : (b : Bool) → has c conns ≡ true → (b || has c conns) ≡ true
+    by true rest = refl
+    by false rest = rest
+
+placed : (c n : ℕ) (conns : List ℕ) → are_distinct conns ≡ true → n < length conns → slice_index_or conns n 0 ≡ c → place c conns ≡ n
+placed c n [] once inside at = absurd (omega (arith, inside))
+placed c zero (d ∷ conns) once inside at = rw (is-same d c at) refl
+placed c (suc n) (d ∷ conns) once inside at =
+    by (d == c) refl (placed c n conns (tail-apart (has d conns) (are_distinct conns) once) (omega (arith, inside)) at)
+  where
+    by : (b : Bool) → (d == c) ≡ b → place c conns ≡ n → place c (d ∷ conns) ≡ suc n
+    by true is rest =
+        let twice : has d conns ≡ true = ap (λ (e : ℕ). has e conns) (eqb-true d c is) ∙ has-at c n conns (omega (arith, inside)) at in
+        absurd (false≢true (sym (head-apart (has d conns) (are_distinct conns) once) ∙ twice))
+    by false other rest =
+        let more : place c (d ∷ conns) ≡ 1 + place c conns = rw other refl in
+        omega (arith, more, rest)
+
+pub found-at : (c n : ℕ) (conns : List ℕ) → are_distinct conns ≡ true → n < length conns → HoldsAt (λ (other : ℕ). nat_cmp other c ≡ Equal) conns n → Some n ≡ position (λ other. other == c) conns
+found-at c n conns once inside equal =
+    let at : place c conns ≡ n = placed c n conns once inside (exact_unsigned (slice_index_or conns n 0) c (equal 0)) in
+    grind (arith, common_steps, at)
 
 absent-past : (c : ℕ) (conns : List ℕ) → length conns ≤ place c conns → has c conns ≡ false
 absent-past c [] past = refl

@@ -101,10 +101,22 @@ pub(crate) fn somebody_wants_two(members: &[Member]) -> bool
 }
 
 /// The place at which a connection stands first.
-fn place_of(conns: &[Conn], conn: Conn) -> Option<usize>
+fn first_place_of(conns: &[Conn], conn: Conn) -> Option<usize>
     ensures { result ≡ position (λ other. other == conn) conns.now }
 {
     conns.iter().position(|other| *other == conn)
+}
+
+/// The place of a connection. Members mostly stand in the order of their numbers, so it is looked
+/// for by halving first.
+fn place_of(conns: &[Conn], conn: Conn) -> Option<usize>
+    requires { IsTrue (are_distinct conns.now) }
+    ensures { result ≡ position (λ other. other == conn) conns.now }
+{
+    match conns.binary_search(&conn) {
+        Ok(place) => Some(place),
+        Err(_) => first_place_of(conns, conn),
+    }
 }
 
 /// Brings the one member of a connection to a step. The members' connections are handed in beside
