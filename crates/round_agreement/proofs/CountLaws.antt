@@ -12,6 +12,7 @@ use Rattle.round_agreement.specs.declared.round.Member.{Member}
 use Rattle.round_agreement.specs.declared.round.Step.{Step}
 use Rattle.round_agreement.specs.declared.round.Step.TheVariants.{Saving, WantsTwo, SavingTwo, Done}
 use Rattle.round_agreement.specs.Agreement.{is_at, is_done, is_first_saving, is_saving, wants_two, are_distinct, conns_of, count_at, all_saving, moved, with_step, second_step, with_second, two_ready, all_done}
+use Rattle.round_agreement.proofs.BoolLaws.{left, right, head-apart, tail-apart, both}
 use Rattle.round_agreement.proofs.MemberLaws.{conns-moved, conns-saving, conns-second}
 
 -- one of them is of this connection
@@ -22,22 +23,6 @@ has c conns = list_any (λ other. other == c) conns
 abbrev made : ℕ → Step → Member
 made c step = record { conn = c; step = step }
 
-left : (a b : Bool) → (a || b) ≡ false → a ≡ false
-left true b e = e
-left false b e = refl
-
-right : (a b : Bool) → (a || b) ≡ false → b ≡ false
-right true b e = absurd cc
-right false b e = e
-
-head-apart : (a b : Bool) → (not a && b) ≡ true → a ≡ false
-head-apart true b e = sym e
-head-apart false b e = refl
-
-tail-apart : (a b : Bool) → (not a && b) ≡ true → b ≡ true
-tail-apart true b e = absurd cc
-tail-apart false b e = e
-
 first : (t a b : Bool) → t ≡ true → b ≡ false → ((t && a) || b) ≡ true → a ≡ true
 first true true b e f g = refl
 first true false b e f g = sym f ∙ g
@@ -46,10 +31,6 @@ first false a b e f g = absurd cc
 later : (t a b : Bool) → t ≡ false → ((t && a) || b) ≡ true → b ≡ true
 later true a b e g = absurd cc
 later false a b e g = g
-
-both : (a b : Bool) → a ≡ false → b ≡ true → (not a && b) ≡ true
-both true b e f = sym e
-both false b e f = f
 
 -- ---- who isn't there
 

@@ -7,31 +7,13 @@ use Rattle.std.proofs.lemmas.List.{drop-drop, length-map, map-append, take-appen
 use Rattle.std.proofs.Math.Seq.{take-append_seam}
 use Rattle.owned_lists.specs.declared.failures.NoMemory.{NoMemory}
 use Rattle.round_agreement.specs.Agreement.{are_distinct}
+use Rattle.round_agreement.proofs.BoolLaws.{left, right, head-apart, tail-apart, both}
+use Rattle.round_agreement.proofs.CountLaws.{once-without}
 use Rattle.interact_queue.specs.Queue.{is_in, without}
-use Rattle.session_model.proofs.Lists.{in-append, in-without}
+use Rattle.session_model.proofs.Lists.{in-append}
 use Rattle.session_clients.specs.declared.client.Client.{Client}
 use Rattle.session_clients.specs.Clients.{conns_in, no_client, without_row}
 use Rattle.session_clients.specs.Rows.{StandsWithin, is_of, row_in}
-
-left : (a b : Bool) → (a || b) ≡ false → a ≡ false
-left true b e = e
-left false b e = refl
-
-right : (a b : Bool) → (a || b) ≡ false → b ≡ false
-right true b e = absurd cc
-right false b e = e
-
-head-apart : (a b : Bool) → (not a && b) ≡ true → a ≡ false
-head-apart true b e = sym e
-head-apart false b e = refl
-
-tail-apart : (a b : Bool) → (not a && b) ≡ true → b ≡ true
-tail-apart true b e = absurd cc
-tail-apart false b e = e
-
-both : (a b : Bool) → a ≡ false → b ≡ true → (not a && b) ≡ true
-both true b e f = sym e
-both false b e f = f
 
 neither : (a b : Bool) → a ≡ false → b ≡ false → (a || b) ≡ false
 neither true b e f = e
@@ -152,11 +134,11 @@ stands-alone c n rows once of =
 
 -- ---- that no connection stands twice
 
-pub conns-kept : (f : Client → Client) → ((k : Client) → (f k).conn ≡ k.conn) → (rows : List Client) → conns_in (map f rows) ≡ conns_in rows
+conns-kept : (f : Client → Client) → ((k : Client) → (f k).conn ≡ k.conn) → (rows : List Client) → conns_in (map f rows) ≡ conns_in rows
 conns-kept f keeps [] = refl
 conns-kept f keeps (k ∷ ks) = ap₂ (λ x xs. x ∷ xs) (keeps k) (conns-kept f keeps ks)
 
-pub conns-without : (c : ℕ) (rows : List Client) → conns_in (without_row c rows) ≡ without c (conns_in rows)
+conns-without : (c : ℕ) (rows : List Client) → conns_in (without_row c rows) ≡ without c (conns_in rows)
 conns-without c [] = refl
 conns-without c (k ∷ ks) = by (not (k.conn == c)) (conns-without c ks)
   where
@@ -164,15 +146,7 @@ conns-without c (k ∷ ks) = by (not (k.conn == c)) (conns-without c ks)
     by true rest = ap (λ xs. k.conn ∷ xs) rest
     by false rest = rest
 
-pub distinct-without : (c : ℕ) (cs : List ℕ) → are_distinct cs ≡ true → are_distinct (without c cs) ≡ true
-distinct-without c [] once = refl
-distinct-without c (d ∷ cs) once = by (not (d == c)) (distinct-without c cs (tail-apart (is_in d cs) (are_distinct cs) once))
-  where
-    by : (b : Bool) → are_distinct (without c cs) ≡ true → are_distinct (cond b (d ∷ without c cs) (without c cs)) ≡ true
-    by true rest = both (is_in d (without c cs)) (are_distinct (without c cs)) (grind (arith, nat_tests, in-without d c cs, head-apart (is_in d cs) (are_distinct cs) once)) rest
-    by false rest = rest
-
-pub distinct-push : (c : ℕ) (cs : List ℕ) → are_distinct cs ≡ true → is_in c cs ≡ false → are_distinct (cs ++ c ∷ []) ≡ true
+distinct-push : (c : ℕ) (cs : List ℕ) → are_distinct cs ≡ true → is_in c cs ≡ false → are_distinct (cs ++ c ∷ []) ≡ true
 distinct-push c [] once new = refl
 distinct-push c (d ∷ cs) once new =
     both (is_in d (cs ++ c ∷ [])) (are_distinct (cs ++ c ∷ [])) (grind (arith, nat_tests, in-append d cs (c ∷ []), head-apart (is_in d cs) (are_distinct cs) once))
@@ -198,8 +172,8 @@ Once b rows = b ≡ true → are_distinct (conns_in rows) ≡ true
 pub once-kept : (b : Bool) (f : Client → Client) (rows new : List Client) → ((k : Client) → (f k).conn ≡ k.conn) → new ≡ map f rows → Once b rows → Once b new
 once-kept b f rows new keeps are once = λ is. ap (λ xs. are_distinct (conns_in xs)) are ∙ ap (λ cs. are_distinct cs) (conns-kept f keeps rows) ∙ once is
 
-pub once-without : (b : Bool) (c : ℕ) (rows new : List Client) → new ≡ without_row c rows → Once b rows → Once b new
-once-without b c rows new are once = λ is. ap (λ xs. are_distinct (conns_in xs)) are ∙ ap (λ cs. are_distinct cs) (conns-without c rows) ∙ distinct-without c (conns_in rows) (once is)
+pub once-left : (b : Bool) (c : ℕ) (rows new : List Client) → new ≡ without_row c rows → Once b rows → Once b new
+once-left b c rows new are once = λ is. ap (λ xs. are_distinct (conns_in xs)) are ∙ ap (λ cs. are_distinct cs) (conns-without c rows) ∙ once-without c (conns_in rows) (once is)
 
 first-of-both : (a b : Bool) → (a && b) ≡ true → a ≡ true
 first-of-both true b e = refl

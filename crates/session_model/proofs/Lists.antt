@@ -1,8 +1,9 @@
 -- Lists of connections.
-use Rattle.std.proofs.Common.{sym, ◌≡◌, refl, ℕ, Bool, true, false, cond, not, ◌&&◌, ◌||◌, List, [], ◌∷◌, ◌++◌, arith}
+use Rattle.std.proofs.Common.{◌≡◌, refl, ℕ, Bool, true, false, cond, not, ◌&&◌, ◌||◌, List, [], ◌∷◌, ◌++◌, arith}
 use Rattle.std.specs.Prelude.{◌==◌}
 use Rattle.std.proofs.lemmas.Bool.Decides.{nat_tests}
 use Rattle.round_agreement.specs.Agreement.{are_distinct}
+use Rattle.round_agreement.proofs.BoolLaws.{both}
 use Rattle.interact_queue.specs.Queue.{is_in, without}
 
 pub in-without : (c d : ℕ) (cs : List ℕ) → is_in c (without d cs) ≡ (not (d == c) && is_in c cs)
@@ -32,10 +33,6 @@ once-kept d x cs false e o = o
 pub once-without : (d : ℕ) (cs : List ℕ) → Once cs → Once (without d cs)
 once-without d [] o = tt
 once-without d (x ∷ cs) o = once-kept d x cs (not (x == d)) o.0 (once-without d cs o.1)
-
-both : (x y : Bool) → x ≡ false → y ≡ true → (not x && y) ≡ true
-both true y e f = sym e
-both false y e f = f
 
 pub distinct-from_once : (cs : List ℕ) → Once cs → are_distinct cs ≡ true
 distinct-from_once [] o = refl
