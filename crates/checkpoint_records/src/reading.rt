@@ -8,7 +8,7 @@ use crate::entries::take_entries;
 use crate::head::take_head;
 use crate::pending::take_pending;
 use crate::stops::Stop;
-use crate::{Book, BookRefusal};
+use crate::{Book, BookRefusal, SharedEntries};
 use std::alloc::Global;
 
 /// The book that bytes spell, or how many bytes are left at the place of the damage.
@@ -35,7 +35,7 @@ fn read_parts(alloc: Global, bytes: &[u8]) -> Result<Book, Stop>
         return Err(Stop::Broken { left });
     }
     Ok(Book {
-        entries,
+        entries: SharedEntries::new(alloc, entries)?,
         pending,
         epoch: head.epoch,
     })

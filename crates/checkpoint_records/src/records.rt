@@ -1,6 +1,7 @@
 ghost use Rattle.std.specs.Prelude.{◌≡◌, IfOk};
 ghost use Rattle.checkpoint_records.specs.Books.{empty_book};
 
+use crate::SharedEntries;
 use ice_values::Array8;
 use owned_lists::{CommandList, Duplicate, ListOf, NoMemory};
 use std::alloc::Global;
@@ -15,13 +16,14 @@ pub struct Entry {
     pub table: PropertyTable,
 }
 
+/// Entries that are being put together.
 pub type EntryList = ListOf<Entry>;
 
 /// What is kept of a session between its logins.
 #[derive(Drop)]
 pub struct Book {
     /// One entry for each client, in the order in which they came into the book.
-    pub entries: EntryList,
+    pub entries: SharedEntries,
     /// The commands that are yet to be run, each of which discards a state that nobody needs.
     pub pending: CommandList,
     /// How often the manager has opened the book.
@@ -34,14 +36,14 @@ impl Book {
         ensures { IfOk result (λ book. book ≡ empty_book) }
     {
         Ok(Book {
-            entries: EntryList::new(alloc),
+            entries: SharedEntries::new(alloc, EntryList::new(alloc))?,
             pending: CommandList::new(alloc),
             epoch: 0,
         })
     }
 }
 
-/// An equal book in memory of its own.
+/// An equal book, which shares the entries.
 pub fn copy_book(book: &Book) -> Result<Book, NoMemory>
     ensures { IfOk result (λ twin. twin ≡ book.now) }
 {

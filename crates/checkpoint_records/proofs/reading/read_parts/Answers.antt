@@ -34,5 +34,6 @@ returns-clause-book c =
     let rest = c.in-Ok.taken.1.now in
     let pending = c.in-Ok-take_pending.taken.0 in
     let last = c.in-Ok-take_pending.taken.1.now in
-    is_whole c.args.bytes.now c.in-Some.found.0 c.in-Some.found.1.now c.in-Some.ensures.some.0 c.in-Some.ensures.some.1 c.in-Ok.taken.0 rest c.in-Ok.ensures.all.0 c.in-Ok.ensures.all.1 pending last
-    (subst (λ (es : List Entry). AreInFront (command_cells Lsb) (ArePending (discards es)) rest pending last) c.as_slice.ensures c.in-Ok-take_pending.ensures.all.0) c.in-Ok-take_pending.ensures.all.1 c.if-left-gt0.false
+    let whole = is_whole c.args.bytes.now c.in-Some.found.0 c.in-Some.found.1.now c.in-Some.ensures.some.0 c.in-Some.ensures.some.1 c.in-Ok.taken.0 rest c.in-Ok.ensures.all.0 c.in-Ok.ensures.all.1 pending last
+    (subst (λ (es : List Entry). AreInFront (command_cells Lsb) (ArePending (discards es)) rest pending last) c.as_slice.ensures c.in-Ok-take_pending.ensures.all.0) c.in-Ok-take_pending.ensures.all.1 c.if-left-gt0.false in
+    rw c.in_ok-new.ensures whole
