@@ -1,7 +1,7 @@
 #!/usr/bin/env python3
 """Measures rounds of saves of `smd serve` beside those of a manager on libSM (peers/libsm_manager.c) that writes and syncs as often: how
-many rounds a second each makes, on a RAM disk and on a disk, and how many instructions a round takes, by valgrind's callgrind. One
-process, bench/driver.c, is the clients of both.
+many rounds a second each makes, on a RAM disk and on a disk, how much of a round's time is its own and the system's, and how many
+instructions a round takes, by valgrind's callgrind. One process, bench/driver.c, is the clients of both.
 Usage: bench/beside.py [SMD [FOLDER]]. Without a program, that which `tools/build` builds. The folder lies on the disk that is measured.
 """
 import os
@@ -14,7 +14,7 @@ sys.dont_write_bytecode = True
 sys.path[:0] = [os.path.join(TOP, "peers"), os.path.join(TOP, "bench")]
 import xsmp  # noqa: E402
 from manager import Manager  # noqa: E402
-from serve import built, driven  # noqa: E402
+from serve import SECONDS, built, driven  # noqa: E402
 
 TURNS = 3
 SET_UP = (xsmp.BYTE_ORDER, xsmp.REQUIRED, xsmp.CONNECTED, xsmp.REQUIRED, xsmp.PROTOCOL_REPLY)
@@ -76,7 +76,7 @@ def with_clients(made, count, measure, folder=None, before=()):
         manager.start(120)
         try:
             clients = [manager.login() for _ in range(count)]
-            found = measure(clients)
+            found = measure(manager, clients)
         finally:
             manager.stop()
         return found if not before else total(counts)
@@ -90,7 +90,7 @@ def total(counts):
 def rounds_of(number):
     """That many rounds, which the first client asks for."""
 
-    def run(clients):
+    def run(_manager, clients):
         for _ in range(number):
             clients[0].say(xsmp.REQUEST, xsmp.pack("BBBBBBBB", 1, 0, 0, 0, 1, 0, 0, 0))
             for client in clients:
@@ -102,18 +102,30 @@ def rounds_of(number):
     return run
 
 
-def freed(driver, clients):
+def times_of(manager):
+    """The seconds that a manager has spent in itself and in the system."""
+    with open("/proc/%d/stat" % manager.process.pid) as file:
+        fields = file.read().rsplit(")", 1)[1].split()
+    return [int(ticks) / os.sysconf("SC_CLK_TCK") for ticks in fields[11:13]]
+
+
+def rate(driver, manager, clients):
+    """The rounds a second, and the microseconds of a round that are the manager's own and the system's."""
     for client in clients:
         client.socket.settimeout(None)
-    return driven(driver, "round", clients)
+    before = times_of(manager)
+    rounds = driven(driver, "round", clients)
+    spent = [after - was for was, after in zip(before, times_of(manager))]
+    return [rounds, *[1e6 * seconds / (rounds * SECONDS) for seconds in spent]]
 
 
 def rates(driver, makers, count, folder):
-    """The rounds a second of each, the best of some turns in which both take part one after the other."""
-    best = [0.0, 0.0]
+    """The rates of each, the best of some turns in which both take part one after the other."""
+    best = [[0.0], [0.0]]
     for _ in range(TURNS):
         for at, made in enumerate(makers):
-            best[at] = max(best[at], with_clients(made, count, lambda clients: freed(driver, clients), folder))
+            found = with_clients(made, count, lambda manager, clients: rate(driver, manager, clients), folder)
+            best[at] = max(best[at], found)
     return best
 
 
@@ -138,7 +150,11 @@ def main():
                 one, two = rates(driver, makers, count, place)
                 print(
                     "%d clients, store on %s: %.0f rounds a second beside %.0f, %.2f times as many"
-                    % (count, name, one, two, one / two)
+                    % (count, name, one[0], two[0], one[0] / two[0])
+                )
+                print(
+                    "%d clients, store on %s: microseconds of its own %.0f beside %.0f, of the system %.0f beside %.0f"
+                    % (count, name, one[1], two[1], one[2], two[2])
                 )
         costs = [[instructions(made, count) for count in (8, 64)] for made in makers]
         for at, count in enumerate((8, 64)):
