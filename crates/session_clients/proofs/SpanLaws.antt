@@ -1,6 +1,5 @@
 -- Where all rows of a connection stand from one place to another, who goes over those alone has gone over all.
-use Rattle.std.proofs.Common.{◌≡◌, ℕ, zero, suc, ◌≤◌, ◌==◌, ◌+◌, ◌-◌, ◌++◌, ◌∷◌, Bool, true, false, not, ◌&&◌, ◌||◌, cond, List, [], length, Option, Some, None, refl, sym, ap, ap₂, ◌∙◌, map, take, drop, arith, slice_get, is_none, is_ok, subst, Result, Ok, Err, OnOk}
-use Rattle.std.specs.Prelude.{filter, find}
+use Rattle.std.proofs.Common.{◌≡◌, ℕ, zero, suc, ◌≤◌, ◌==◌, ◌+◌, ◌-◌, ◌++◌, ◌∷◌, Bool, true, false, not, ◌&&◌, ◌||◌, cond, List, [], length, Some, refl, sym, ap, ap₂, ◌∙◌, map, take, drop, arith, slice_get, is_none, is_ok, subst, Result, Ok, Err, OnOk}
 use Rattle.std.proofs.lemmas.Bool.{eqb-true, false≢true}
 use Rattle.std.proofs.lemmas.Bool.Decides.{nat_tests}
 use Rattle.std.proofs.lemmas.List.{drop-drop, length-map, map-append, take-append-drop}
@@ -68,26 +67,6 @@ changed c f for items lent new start end len is long stands are =
     ap (put start end lent) are ∙ put-within c f for lent start end (subst (λ (rows : List Client). StandsWithin c rows start end) (sym is) stands) in
     changed-all f items lent (put start end lent new) len is long same
 
--- ---- the first row of a connection
-
-find-behind : (c : ℕ) (xs ys : List Client) → is_in c (conns_in xs) ≡ false → row_in c (xs ++ ys) ≡ row_in c ys
-find-behind c [] ys none = refl
-find-behind c (k ∷ ks) ys none = rw (left (k.conn == c) (is_in c (conns_in ks)) none) (find-behind c ks ys (right (k.conn == c) (is_in c (conns_in ks)) none))
-
-find-none : (c : ℕ) (ys : List Client) → is_in c (conns_in ys) ≡ false → row_in c ys ≡ None
-find-none c [] none = refl
-find-none c (k ∷ ks) none = rw (left (k.conn == c) (is_in c (conns_in ks)) none) (find-none c ks (right (k.conn == c) (is_in c (conns_in ks)) none))
-
-find-before : (c : ℕ) (xs ys : List Client) → is_in c (conns_in ys) ≡ false → row_in c (xs ++ ys) ≡ row_in c xs
-find-before c [] ys none = find-none c ys none
-find-before c (k ∷ ks) ys none = ap (cond (k.conn == c) (Some k)) (find-before c ks ys none)
-
-pub found-within : (c : ℕ) (rows : List Client) (start end : ℕ) → StandsWithin c rows start end → row_in c (middle start end rows) ≡ row_in c rows
-found-within c rows start end stands =
-    sym (find-before c (middle start end rows) (drop end rows) stands.none_behind)
-    ∙ sym (find-behind c (take start rows) (middle start end rows ++ drop end rows) stands.none_before)
-    ∙ ap (row_in c) (sym (in-three rows start end stands.in_order))
-
 -- ---- which places those are
 
 has-of : (c n : ℕ) (rows : List Client) → is_of c (slice_get rows n) ≡ true → is_in c (conns_in rows) ≡ true
@@ -131,6 +110,20 @@ stands-alone c n rows once of =
       none_before = none-in-front c n rows once of;
       none_behind = ap (λ (k : ℕ). is_in c (conns_in (drop k rows))) next ∙ none-after c n rows once of;
     }
+
+-- ---- the only row of a connection
+
+pub only-row : (c n : ℕ) (rows : List Client) → are_distinct (conns_in rows) ≡ true → is_of c (slice_get rows n) ≡ true → slice_get rows n ≡ row_in c rows
+only-row c n [] once of = absurd cc
+only-row c zero (k ∷ ks) once of = rw of refl
+only-row c (suc n) (k ∷ ks) once of =
+    by (k.conn == c) refl (only-row c n ks (tail-apart (is_in k.conn (conns_in ks)) (are_distinct (conns_in ks)) once) of)
+  where
+    by : (b : Bool) → (k.conn == c) ≡ b → slice_get ks n ≡ row_in c ks → slice_get ks n ≡ row_in c (k ∷ ks)
+    by true is rest =
+        let twice : is_in k.conn (conns_in ks) ≡ true = ap (λ (d : ℕ). is_in d (conns_in ks)) (eqb-true k.conn c is) ∙ has-of c n ks of in
+        absurd (false≢true (sym (head-apart (is_in k.conn (conns_in ks)) (are_distinct (conns_in ks)) once) ∙ twice))
+    by false other rest = rw other rest
 
 -- ---- that no connection stands twice
 

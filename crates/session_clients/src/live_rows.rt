@@ -23,7 +23,8 @@ use xsmp_messages::XsmpMessage;
 use xsmp_properties::PropertyTable;
 
 /// The rows of the live connections, in the order in which they joined. As long as no connection has
-/// two rows, which no session does, the row of one is found and changed without a look at others.
+/// two rows, which no session does, the row of one whose place is guessed right is found and changed
+/// without a look at others.
 #[derive(Drop)]
 pub(crate) struct LiveRows {
     items: Vec<Client>,
@@ -86,8 +87,11 @@ impl LiveRows {
     pub(crate) fn row(&self, conn: Conn) -> Option<&Client>
         ensures { option_copied result ≡ row_in conn self.now }
     {
-        let span = self.span_of(conn);
-        first_row(&self.items[span], conn)
+        let place = self.guesses.place(conn);
+        match self.items.get(place) {
+            Some(row) if self.each_once && row.conn == conn => Some(row),
+            _ => first_row(&self.items, conn),
+        }
     }
 
     /// A connection was opened.
