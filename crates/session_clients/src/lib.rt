@@ -3,6 +3,7 @@
 
 mod client;
 mod clients;
+mod ended_id;
 mod entries;
 mod guesses;
 mod live_rows;

@@ -4,19 +4,19 @@ ghost use Rattle.session_model.specs.Reading.{Clients, client_of};
 ghost use Rattle.session_clients.specs.Clients.{id_in};
 ghost use Rattle.session_clients.specs.Ids.{conn_of, registered_ids, registered_under};
 
+use crate::ended_id::EndedId;
 use crate::live_rows::LiveRows;
 use crate::rows::id_in;
 use owned_lists::NoMemory;
 use sm_world::Conn;
 use std::alloc::Global;
 use std::marker::Model;
-use xsmp_properties::same_bytes;
 
 /// A connection, and the ID under which it registered.
 #[derive(Drop)]
 struct RegisteredId<'a> {
     conn: Conn,
-    id: &'a [u8],
+    id: EndedId<'a>,
 }
 
 /// The registered connections with their IDs, in the order in which they registered: for one who
@@ -33,18 +33,21 @@ impl<'a> Model for RegisteredIds<'a> {
 
     ghost Value = { List Registered };
 
-    ghost view = { λ known. map (λ k. registered_under k.conn k.id.now) known.ids.items };
+    ghost view = { λ known. map (λ k. registered_under k.conn k.id) known.ids.items };
 }
 
 /// The first of these that has this ID.
-fn known_among<'a, 'b>(ids: &'b [RegisteredId<'a>], id: &[u8]) -> Option<&'b RegisteredId<'a>>
-    ensures { option_copied result ≡ find (λ k. bytes_eq id.now k.id.now) ids.now }
+fn known_among<'a, 'b>(
+    ids: &'b [RegisteredId<'a>],
+    id: &EndedId<'_>,
+) -> Option<&'b RegisteredId<'a>>
+    ensures { option_copied result ≡ find (λ k. bytes_eq id.now k.id) ids.now }
 {
-    ids.iter().find(|known| same_bytes(id, known.id))
+    ids.iter().find(|known| id.is_same(&known.id))
 }
 
-fn conn_among(ids: &[RegisteredId<'_>], id: &[u8]) -> Option<Conn>
-    ensures { result ≡ conn_of id.now (map (λ k. registered_under k.conn k.id.now) ids.now) }
+fn conn_among(ids: &[RegisteredId<'_>], id: &EndedId<'_>) -> Option<Conn>
+    ensures { result ≡ conn_of id.now (map (λ k. registered_under k.conn k.id) ids.now) }
 {
     match known_among(ids, id) {
         Some(known) => Some(known.conn),
@@ -62,12 +65,12 @@ impl<'a> RegisteredIds<'a> {
         ensures { IfOk result (λ known.
             known ≡ filter_map (λ c. option_map (registered_under c) (id_in c rows.now)) conns.now) }
     {
-        let mut ids = Vec::new(alloc);
+        let mut ids = Vec::with_capacity(alloc, conns.len())?;
         for conn in conns {
             if let Some(id) = id_in(rows, *conn) {
                 ids.push(RegisteredId {
                     conn: *conn,
-                    id: id.as_slice(),
+                    id: EndedId::new(id.as_slice()),
                 })?;
             }
         }
@@ -79,6 +82,6 @@ impl<'a> RegisteredIds<'a> {
         ensures { (clients : Clients) → self.now ≡ registered_ids clients →
             result ≡ client_of id.now clients }
     {
-        conn_among(self.ids.as_slice(), id)
+        conn_among(self.ids.as_slice(), &EndedId::new(id))
     }
 }

@@ -6,5 +6,5 @@ use Rattle.session_clients.proofs.registered_ids.RegisteredIds.among.Given as go
 
 abbrev pub invariant-loop-conn : goal.invariant-loop-conn
 invariant-loop-conn l =
-    map (λ k. registered_under k.conn k.id.now) l.ids.items ++ filter_map (λ c. option_map (registered_under c) (id_in c l.rows)) (drop l.conn-index l.conns)
+    map (λ k. registered_under k.conn k.id) l.ids.items ++ filter_map (λ c. option_map (registered_under c) (id_in c l.rows)) (drop l.conn-index l.conns)
     ≡ filter_map (λ c. option_map (registered_under c) (id_in c l.rows)) l.conns
