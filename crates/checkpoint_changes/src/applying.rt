@@ -4,8 +4,9 @@ ghost use Rattle.std.specs.Str.{bytes_eq};
 ghost use Rattle.checkpoint_changes.specs.Changes.{applied, with_entry, without, without_at};
 
 use crate::Change;
-use checkpoint_records::{Book, Entry, EntryList};
+use checkpoint_records::{Book, Entry, EntryList, SharedEntries};
 use owned_lists::{CommandList, NoMemory};
+use std::alloc::Global;
 use xsmp_properties::same_bytes;
 
 /// The place of the first entry with this ID.
@@ -61,24 +62,31 @@ fn without_at(commands: CommandList, place: u32) -> Option<CommandList>
 }
 
 /// The book after a change. None where it takes out what isn't there.
-pub(crate) fn applied(mut book: Book, change: Change) -> Result<Option<Book>, NoMemory>
+pub(crate) fn applied(
+    alloc: Global,
+    mut book: Book,
+    change: Change,
+) -> Result<Option<Book>, NoMemory>
     ensures { IfOk result (λ next. next ≡ applied book change) }
 {
     match change {
         Change::Epoch(epoch) => Ok(Some(Book { epoch, ..book })),
-        Change::Remove(id) => match without(book.entries, id.as_slice()) {
+        Change::Remove(id) => match without(book.entries.into_list()?, id.as_slice()) {
             Some(entries) => Ok(Some(Book {
-                entries,
+                entries: SharedEntries::new(alloc, entries)?,
                 pending: book.pending,
                 epoch: book.epoch,
             })),
             None => Ok(None),
         },
-        Change::Put(entry) => Ok(Some(Book {
-            entries: with_entry(book.entries, entry)?,
-            pending: book.pending,
-            epoch: book.epoch,
-        })),
+        Change::Put(entry) => {
+            let entries = with_entry(book.entries.into_list()?, entry)?;
+            Ok(Some(Book {
+                entries: SharedEntries::new(alloc, entries)?,
+                pending: book.pending,
+                epoch: book.epoch,
+            }))
+        }
         Change::Unpend(place) => match without_at(book.pending, place) {
             Some(pending) => Ok(Some(Book {
                 entries: book.entries,

@@ -14,6 +14,7 @@ use crate::rules::{PENDING_LIMIT, are_of_runs};
 use checkpoint_records::{Book, Entry, is_client_id};
 use ice_values::{Array8, Property};
 use owned_lists::{Command, NoMemory};
+use std::alloc::Global;
 use xsmp_properties::{are_words, same_bytes, same_texts};
 
 const LIST: &[u8] = b"LISTofARRAY8";
@@ -140,7 +141,11 @@ fn is_fit_for(draft: &Draft, change: &Change) -> bool
 }
 
 /// The draft after a change. None where it takes out what isn't there.
-pub(crate) fn changed(draft: Draft, change: Change) -> Result<Option<Draft>, NoMemory>
+pub(crate) fn changed(
+    alloc: Global,
+    draft: Draft,
+    change: Change,
+) -> Result<Option<Draft>, NoMemory>
     requires { IsTrue draft.fits → FitTogether draft.book }
     ensures book { IfOk result (λ next. option_map (λ draft. draft.book) next
         ≡ applied_to draft.book change) }
@@ -148,7 +153,7 @@ pub(crate) fn changed(draft: Draft, change: Change) -> Result<Option<Draft>, NoM
         IfSome next (λ draft. IsTrue draft.fits → FitTogether draft.book)) }
 {
     let fits = is_fit_for(&draft, &change);
-    match applied(draft.book, change)? {
+    match applied(alloc, draft.book, change)? {
         Some(book) => Ok(Some(Draft { book, fits })),
         None => Ok(None),
     }

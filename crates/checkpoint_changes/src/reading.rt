@@ -38,7 +38,7 @@ fn apply_all(alloc: Global, draft: Draft, bytes: &[u8]) -> Result<Option<Draft>,
             Some(taken) => taken,
             None => return Ok(None),
         };
-        draft = match changed(draft, change)? {
+        draft = match changed(alloc, draft, change)? {
             Some(next) => next,
             None => return Ok(None),
         };
