@@ -7,7 +7,7 @@ ghost use Rattle.manager_machine.specs.Kept.{cause_for};
 ghost use Rattle.manager_machine.specs.Agreeing.{discarding};
 
 use crate::session_core::Core;
-use checkpoint_records::{Book, EntryList, copy_book};
+use checkpoint_records::{Book, EntryList, SharedEntries, copy_book};
 use discard_ledger::Ledger;
 use owned_lists::{Command, CommandList, Duplicate, NoMemory, Octets};
 use session_model::{Act, Reason};
@@ -48,7 +48,7 @@ impl Core {
         let fresh = Ledger::new(alloc, self.book.pending.copy()?);
         let mut ledger = mem::replace(&mut self.ledger, fresh);
         let mut book = Book {
-            entries,
+            entries: SharedEntries::new(alloc, entries)?,
             pending: CommandList::new(alloc),
             epoch: self.book.epoch,
         };

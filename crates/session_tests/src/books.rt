@@ -2,8 +2,8 @@
 ghost use Rattle.std.specs.Prelude.{◌≡◌, false};
 ghost use Rattle.session_clients.specs.Clients.{is_reply as is_reply_message};
 
-use crate::written::{LIST, entry, property, table};
-use checkpoint_records::{Book, Entry};
+use crate::written::{LIST, book_of, entry, property, table};
+use checkpoint_records::{Book, Entry, EntryList};
 use ice_values::{Array8, PropertyList, SaveKind, SaveStyle};
 use owned_lists::{Command, NoMemory, Octets};
 use round_agreement::{Round, Wanted};
@@ -37,11 +37,11 @@ fn old_entry(alloc: Global, word: &str) -> Result<Entry, Fail> {
 
 /// The clients a, b, c and d of the last session, of which c and d may start again anyway.
 fn example(alloc: Global) -> Result<Book, Fail> {
-    let mut book = Book::empty(alloc)?;
+    let mut entries = EntryList::new(alloc);
     for word in "a=0 b=0 c=1 d=1".split(' ') {
-        book.entries.push(old_entry(alloc, word)?)?;
+        entries.push(old_entry(alloc, word)?)?;
     }
-    Ok(book)
+    Ok(book_of(alloc, entries)?)
 }
 
 fn save_yourself() -> XsmpMessage
@@ -186,11 +186,8 @@ fn commands_shown(alloc: Global, commands: &[Command]) -> Result<String, Fail> {
 
 fn last_shown(alloc: Global, _input: &str) -> Result<String, Fail> {
     let clients = two(alloc, true)?;
-    let book = example(alloc)?;
-    commands_shown(
-        alloc,
-        last_commands(alloc, &clients, &book.entries)?.as_slice(),
-    )
+    let entries = example(alloc)?.entries.into_list()?;
+    commands_shown(alloc, last_commands(alloc, &clients, &entries)?.as_slice())
 }
 
 #[test]

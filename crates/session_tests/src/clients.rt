@@ -2,8 +2,8 @@
 ghost use Rattle.std.specs.Prelude.{◌≡◌, false};
 ghost use Rattle.session_clients.specs.Clients.{is_reply as is_reply_message};
 
-use crate::written::{entry, removal, words};
-use checkpoint_records::Book;
+use crate::written::{book_of, entry, removal, words};
+use checkpoint_records::{Book, EntryList};
 use ice_values::{
     Dialog, Endian, PropertyList, PropertyWalk, SaveKind, SaveStyle, walk_properties,
 };
@@ -25,9 +25,9 @@ use xsmp_properties::{PropertyTable, SetRefusal};
 
 /// A book with an entry under this ID.
 fn book(alloc: Global, id: &[u8]) -> Result<Book, SetRefusal> {
-    let mut book = Book::empty(alloc)?;
-    book.entries.push(entry(alloc, id, &removal(alloc, b"DiscardCommand", b"a")?)?)?;
-    Ok(book)
+    let mut entries = EntryList::new(alloc);
+    entries.push(entry(alloc, id, &removal(alloc, b"DiscardCommand", b"a")?)?)?;
+    Ok(book_of(alloc, entries)?)
 }
 
 fn shutdown(style: SaveStyle) -> Option<Wanted> {

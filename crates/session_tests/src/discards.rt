@@ -1,7 +1,7 @@
 //! Books and ledgers written down by hand.
 
-use crate::written::{entry, removal, words};
-use checkpoint_records::Book;
+use crate::written::{book_of, entry, removal, words};
+use checkpoint_records::{Book, EntryList};
 use discard_ledger::Ledger;
 use owned_lists::{Command, CommandList, NoMemory, Octets, PairList};
 use std::alloc::{Alloc, Global};
@@ -29,13 +29,12 @@ fn commands(alloc: Global, files: &[u8]) -> Result<CommandList, NoMemory> {
 
 /// A book with an entry for each byte, of a client with this DiscardCommand.
 fn book(alloc: Global, files: &[u8]) -> Result<Book, SetRefusal> {
-    let mut book = Book::empty(alloc)?;
+    let mut entries = EntryList::new(alloc);
     for file in files {
         let list = removal(alloc, b"DiscardCommand", &[*file])?;
-        book.entries
-            .push(entry(alloc, b"smd-00000001-00000001", &list)?)?;
+        entries.push(entry(alloc, b"smd-00000001-00000001", &list)?)?;
     }
-    Ok(book)
+    Ok(book_of(alloc, entries)?)
 }
 
 /// The second words of commands.

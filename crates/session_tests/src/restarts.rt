@@ -1,7 +1,7 @@
 //! Books written down by hand.
 
-use crate::written::{LIST, entry, property};
-use checkpoint_records::{Book, Entry};
+use crate::written::{LIST, book_of, entry, property};
+use checkpoint_records::{Book, Entry, EntryList};
 use ice_values::PropertyList;
 use owned_lists::{Command, CommandList, NoMemory};
 use restart_plan::{plan, respawn};
@@ -25,13 +25,13 @@ fn entry_of(alloc: Global, word: &str) -> Result<Entry, Fail> {
     Ok(entry(alloc, b"smd-00000001-00000001", &list)?)
 }
 
-/// A book of these entries.
-fn book_of(alloc: Global, words: &str) -> Result<Book, Fail> {
-    let mut book = Book::empty(alloc)?;
+/// The book of the entries that these words stand for.
+fn book_from(alloc: Global, words: &str) -> Result<Book, Fail> {
+    let mut entries = EntryList::new(alloc);
     for word in words.split(' ') {
-        book.entries.push(entry_of(alloc, word)?)?;
+        entries.push(entry_of(alloc, word)?)?;
     }
-    Ok(book)
+    Ok(book_of(alloc, entries)?)
 }
 
 /// The words of commands, each with a bar behind it.
@@ -52,7 +52,7 @@ fn add_words(text: &mut String, command: &Command) -> Result<(), Fail> {
 }
 
 fn planned(alloc: Global, words: &str) -> Result<String, Fail> {
-    let book = book_of(alloc, words)?;
+    let book = book_from(alloc, words)?;
     words_of(alloc, plan(alloc, &book)?.as_slice())
 }
 

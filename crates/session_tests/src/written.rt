@@ -1,8 +1,8 @@
-//! Properties, tables and entries as clients write them.
+//! Properties, tables and entries as clients write them, and books of them.
 
-use checkpoint_records::Entry;
+use checkpoint_records::{Book, Entry, EntryList, SharedEntries};
 use ice_values::{Array8List, Property, PropertyList};
-use owned_lists::{NoMemory, Octets};
+use owned_lists::{CommandList, NoMemory, Octets};
 use std::alloc::Global;
 use xsmp_properties::{PropertyTable, SetRefusal};
 
@@ -55,5 +55,14 @@ pub fn entry(alloc: Global, id: &[u8], list: &PropertyList) -> Result<Entry, Set
     Ok(Entry {
         id: Octets::from_slice(alloc, id)?,
         table: table(alloc, list)?,
+    })
+}
+
+/// A book of these entries.
+pub fn book_of(alloc: Global, entries: EntryList) -> Result<Book, NoMemory> {
+    Ok(Book {
+        entries: SharedEntries::new(alloc, entries)?,
+        pending: CommandList::new(alloc),
+        epoch: 0,
     })
 }

@@ -9,7 +9,7 @@ ghost use Rattle.store_report.specs.Tokens.{book_tokens, byte_number, bytes_toke
 use crate::Finding;
 use crate::lines::{hint_text, program_of, starts_of};
 use crate::shown::is_utf8;
-use checkpoint_records::{Book, Entry};
+use checkpoint_records::{Book, Entry, SharedEntries};
 use ice_values::Property;
 use json::{Pretty, Token};
 use owned_lists::{Command, ListOf, NoMemory, Octets};
@@ -186,14 +186,29 @@ fn put_environment(
     end_array(out)
 }
 
+/// Appends an array of items.
+#[tactic(auto, unfolding(crate::specs::Tokens::listed))]
+fn put_array<T: Shown>(alloc: Global, out: &mut Pretty, items: &[T]) -> Result<(), NoMemory>
+    ensures { OnOk result (out.new ≡ out.old ++ listed T.tokens items.now) }
+{
+    begin_array(out)?;
+    put_items(alloc, out, items)?;
+    end_array(out)
+}
+
 impl<T: Shown + Drop> Shown for ListOf<T> {
     ghost tokens = { listed T.tokens };
 
-    #[tactic(auto, unfolding(crate::specs::Tokens::listed))]
     fn put(&self, alloc: Global, out: &mut Pretty) -> Result<(), NoMemory> {
-        begin_array(out)?;
-        put_items(alloc, out, self.as_slice())?;
-        end_array(out)
+        put_array(alloc, out, self.as_slice())
+    }
+}
+
+impl Shown for SharedEntries {
+    ghost tokens = { listed entry_tokens };
+
+    fn put(&self, alloc: Global, out: &mut Pretty) -> Result<(), NoMemory> {
+        put_array(alloc, out, self.as_slice())
     }
 }
 

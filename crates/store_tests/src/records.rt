@@ -1,9 +1,9 @@
 //! Books written down by hand. Words have a bar behind each.
 
 use crate::table::{expect_rows, text_of};
-use checkpoint_records::{Book, Entry, copy_book, names, same_command};
+use checkpoint_records::{Book, Entry, EntryList, SharedEntries, copy_book, names, same_command};
 use ice_values::{Array8List, Property, PropertyList};
-use owned_lists::{Command, NoMemory, Octets, OctetsList, PairList};
+use owned_lists::{Command, CommandList, NoMemory, Octets, OctetsList, PairList};
 use std::alloc::{Alloc, Global};
 use std::process::Abort;
 use std::test::Fail;
@@ -52,13 +52,18 @@ fn entry(alloc: Global, id: &str, name: &str, text: &str) -> Result<Entry, Fail>
 
 /// A copy of a book of two clients, of which the second has a DiscardCommand.
 fn example(alloc: Global) -> Result<Book, Fail> {
-    let mut book = Book::empty(alloc)?;
-    book.epoch = 7;
     let first = entry(alloc, "one", "RestartCommand", "rm|a|")?;
     let second = entry(alloc, "two", "DiscardCommand", "rm|b|")?;
-    book.entries.push(first)?;
-    book.entries.push(second)?;
-    book.pending.push(command(alloc, "rm|c| ")?)?;
+    let mut entries = EntryList::new(alloc);
+    entries.push(first)?;
+    entries.push(second)?;
+    let mut pending = CommandList::new(alloc);
+    pending.push(command(alloc, "rm|c| ")?)?;
+    let book = Book {
+        entries: SharedEntries::new(alloc, entries)?,
+        pending,
+        epoch: 7,
+    };
     Ok(copy_book(&book)?)
 }
 
