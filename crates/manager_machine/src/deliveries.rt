@@ -43,6 +43,7 @@ impl Core {
         requires { is_for_members message.now ≡ true }
         ensures { OnOk result (self.new ≡ moved_all (gave_each message.now conns.now) self.old) }
     {
+        self.make_room(conns.len())?;
         for conn in conns {
             self.say(*conn, again(message))?;
         }
@@ -153,6 +154,7 @@ impl Core {
     fn tell_second(&mut self, conns: &[Conn]) -> Result<(), NoMemory>
         ensures { OnOk result (self.new ≡ told_each SecondSaid conns.now self.old) }
     {
+        self.make_room(conns.len())?;
         for conn in conns {
             self.tell(*conn, XsmpMessage::SaveYourselfPhase2)?;
         }

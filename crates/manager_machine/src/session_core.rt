@@ -89,6 +89,14 @@ impl Core {
         Ok(())
     }
 
+    /// Makes room for so many acts, which then don't copy those before them.
+    pub(crate) fn make_room(&mut self, count: usize) -> Result<(), NoMemory>
+        ensures { OnOk result (self.new ≡ self.old) }
+    {
+        self.acts.reserve(count)?;
+        Ok(())
+    }
+
     /// Gives away what was done since the last event came.
     pub(crate) fn hand_over(&mut self) -> Acts
         ensures acts { result ≡ self.old.acts }
