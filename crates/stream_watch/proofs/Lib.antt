@@ -1,3 +1,4 @@
 pub mod Beginning
+pub mod Once
 pub mod Shown
 pub mod Unseen

@@ -1,5 +1,5 @@
 -- Who is at the door, said over all that the manager sent on each connection; and who makes way for others. Times are in milliseconds.
-use Rattle.std.specs.Prelude.{◌≡◌, ℕ, ◌-◌, Bool, true, false, not, ◌&&◌, ◌||◌, ◌==◌, nat_le, nat_lt, List, [], ◌∷◌, ◌++◌, length, filter, Option, Some, None, if◌then◌else◌}
+use Rattle.std.specs.Prelude.{◌≡◌, ℕ, ◌-◌, Bool, true, false, not, ◌&&◌, ◌||◌, ◌==◌, nat_le, nat_lt, List, [], ◌∷◌, ◌++◌, length, map, filter, Option, Some, None, if◌then◌else◌}
 use Rattle.stream_watch.specs.Watching.{is_let_in, is_told_to_die, Follows}
 use Rattle.stream_watch.specs.declared.visitor.Visitor.{Visitor}
 use Rattle.stream_watch.specs.declared.visitors.Place.{Place}
@@ -88,6 +88,24 @@ ShowAll [] [] = Unit {0}
 ShowAll [] (l ∷ ls) = ⊥
 ShowAll (row ∷ rows) [] = ⊥
 ShowAll (row ∷ rows) (l ∷ ls) = Shows row l × ShowAll rows ls
+
+-- a row, where there is one, is of this connection
+abbrev pub is_of : ℕ → Option Visitor → Bool
+is_of c None = false
+is_of c (Some row) = row.conn == c
+
+abbrev pub numbers : List Visitor → List ℕ
+numbers rows = map (λ (row : Visitor). row.conn) rows
+
+-- a number isn't among these
+abbrev pub IsAbsent : ℕ → List ℕ → Type 0
+IsAbsent c [] = Unit {0}
+IsAbsent c (n ∷ ns) = ((n == c) ≡ false) × IsAbsent c ns
+
+-- none stands twice
+abbrev pub AreOnce : List ℕ → Type 0
+AreOnce [] = Unit {0}
+AreOnce (n ∷ ns) = IsAbsent n ns × AreOnce ns
 
 abbrev pub is_strange : Visitor → Bool
 is_strange row = not row.watch.let_in

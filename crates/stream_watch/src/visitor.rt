@@ -46,8 +46,9 @@ impl Visitor {
 
     /// Follows what is sent to it.
     pub fn follow(&mut self, now: u64, bytes: &[u8]) -> Result<(), NoMemory>
-        ensures { OnOk result ((line : Line) → Shows self.old line →
+        ensures shows { OnOk result ((line : Line) → Shows self.old line →
             Shows self.new (sent_more now bytes.now line)) }
+        ensures same { self.new.conn ≡ self.old.conn }
     {
         self.watch.follow(bytes)?;
         self.told = first_told(self.told, now, self.watch.is_told_to_die());

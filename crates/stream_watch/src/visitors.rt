@@ -1,11 +1,12 @@
-ghost use Rattle.std.specs.Prelude.{◌≡◌, ◌==◌, ◌∷◌, [], ◌++◌, List, None, length, filter, find, option_copied, position, OnOk};
-ghost use Rattle.stream_watch.specs.Visiting.{Line, ShowAll, after_sent, without, is_strange, has_stayed, has_stayed_on, is_full, place_of_first, place_for_one_more, overdue as overdue_in, lingering as lingering_in, strangers};
+ghost use Rattle.std.specs.Prelude.{◌≡◌, ◌==◌, ◌∷◌, [], ◌++◌, List, None, length, filter, find, option_copied, position, slice_get, OnOk};
+ghost use Rattle.stream_watch.specs.Visiting.{Line, ShowAll, after_sent, without, is_strange, is_of, has_stayed, has_stayed_on, is_full, place_of_first, place_for_one_more, overdue as overdue_in, lingering as lingering_in, strangers};
 ghost use Rattle.stream_watch.specs.declared.visitor.Visitor.{Visitor as AnyVisitor};
 
 use crate::visitor::Visitor;
 use owned_lists::NoMemory;
 use sm_world::Conn;
 use std::alloc::Global;
+use std::marker::Model;
 
 /// How many may be at the door at once who aren't let in.
 const STRANGER_LIMIT: usize = 32;
@@ -58,39 +59,87 @@ fn place_of(rows: &[Visitor], conn: Conn) -> Option<usize>
     rows.iter().position(|row| row.conn == conn)
 }
 
+/// Where the connection of a number stands, if the numbers go on by one from the first.
+fn guess(rows: &[Visitor], conn: Conn) -> usize {
+    match rows.first() {
+        Some(first) => conn.saturating_sub(first.conn) as usize,
+        None => 0,
+    }
+}
+
+/// Whether the connection of a number stands at this place.
+fn stands_at(rows: &[Visitor], place: usize, conn: Conn) -> bool
+    ensures { result ≡ is_of conn (slice_get rows.now place) }
+{
+    match rows.get(place) {
+        Some(row) => row.conn == conn,
+        None => false,
+    }
+}
+
 /// The live connections, in the order in which they came, and what was sent on each.
 #[derive(Debug, Drop)]
 pub struct Visitors {
     alloc: Global,
     rows: Vec<Visitor>,
+    /// No number has come twice, so one that stands at a place stands nowhere else.
+    each_once: bool,
+}
+
+impl Model for Visitors {
+    ghost use Rattle.std.specs.Prelude.{◌≡◌, List, true};
+    ghost use Rattle.stream_watch.specs.Visiting.{AreOnce, numbers};
+    ghost use Rattle.stream_watch.specs.declared.visitor.Visitor.{Visitor};
+
+    ghost Value = { List Visitor };
+
+    ghost view = { λ visitors. visitors.rows.items };
+
+    ghost invariant = { λ visitors.
+        visitors.each_once ≡ true → AreOnce (numbers visitors.rows.items) };
 }
 
 impl Visitors {
     /// Nobody has come yet; this takes no memory.
     pub fn new(alloc: Global) -> Visitors
-        ensures { ShowAll result.rows.items [] }
+        ensures { ShowAll result [] }
     {
         Visitors {
             alloc,
             rows: Vec::new(alloc),
+            each_once: true,
+        }
+    }
+
+    /// Where the connection of a number stands.
+    fn place_of(&self, conn: Conn) -> Option<usize>
+        ensures { result ≡ position (λ (row : AnyVisitor). row.conn == conn) self.now }
+    {
+        let place = guess(&self.rows, conn);
+        if self.each_once && stands_at(&self.rows, place, conn) {
+            Some(place)
+        } else {
+            place_of(&self.rows, conn)
         }
     }
 
     /// A connection comes.
     pub fn join(&mut self, conn: Conn, now: u64) -> Result<(), NoMemory>
-        ensures { OnOk result ((lines : List Line) → ShowAll self.old.rows.items lines
-            → ShowAll self.new.rows.items (lines ++ record { number = conn; since = now; sent = []; told = None } ∷ [])) }
+        ensures { OnOk result ((lines : List Line) → ShowAll self.old lines
+            → ShowAll self.new (lines ++ record { number = conn; since = now; sent = []; told = None } ∷ [])) }
     {
+        let is_new = place_of(&self.rows, conn).is_none();
+        self.each_once &= is_new;
         self.rows.push(Visitor::new(self.alloc, conn, now))?;
         Ok(())
     }
 
     /// The manager sends these bytes on a connection.
     pub fn follow(&mut self, conn: Conn, now: u64, bytes: &[u8]) -> Result<(), NoMemory>
-        ensures { OnOk result ((lines : List Line) → ShowAll self.old.rows.items lines →
-            ShowAll self.new.rows.items (after_sent conn now bytes.now lines)) }
+        ensures { OnOk result ((lines : List Line) → ShowAll self.old lines →
+            ShowAll self.new (after_sent conn now bytes.now lines)) }
     {
-        match place_of(&self.rows, conn) {
+        match self.place_of(conn) {
             Some(place) => self.rows[place].follow(now, bytes),
             None => Ok(()),
         }
@@ -98,21 +147,21 @@ impl Visitors {
 
     /// A connection is closed.
     pub fn leave(&mut self, conn: Conn)
-        ensures { (lines : List Line) → ShowAll self.old.rows.items lines →
-            ShowAll self.new.rows.items (without conn lines) }
+        ensures { (lines : List Line) → ShowAll self.old lines →
+            ShowAll self.new (without conn lines) }
     {
         self.rows.retain(|row| row.conn != conn);
     }
 
     fn is_full(&self) -> bool
-        ensures { (lines : List Line) → ShowAll self.now.rows.items lines → result ≡ is_full lines }
+        ensures { (lines : List Line) → ShowAll self.now lines → result ≡ is_full lines }
     {
         count_strangers(&self.rows) >= STRANGER_LIMIT || self.rows.len() >= LIVE_LIMIT
     }
 
     /// Where somebody finds a place for whom a stranger has to make way, if there is one.
     pub fn place_of_first(&self, now: u64) -> Place
-        ensures { (lines : List Line) → ShowAll self.now.rows.items lines →
+        ensures { (lines : List Line) → ShowAll self.now lines →
             result ≡ place_of_first now (strangers lines) }
     {
         match first_stranger(&self.rows) {
@@ -124,7 +173,7 @@ impl Visitors {
 
     /// Where one more finds a place.
     pub fn place_for_one_more(&self, now: u64) -> Place
-        ensures { (lines : List Line) → ShowAll self.now.rows.items lines →
+        ensures { (lines : List Line) → ShowAll self.now lines →
             result ≡ place_for_one_more now lines }
     {
         if self.is_full() {
@@ -136,7 +185,7 @@ impl Visitors {
 
     /// The first who wasn't let in for ten seconds.
     pub fn overdue(&self, now: u64) -> Option<Conn>
-        ensures { (lines : List Line) → ShowAll self.now.rows.items lines →
+        ensures { (lines : List Line) → ShowAll self.now lines →
             result ≡ overdue_in now lines }
     {
         match first_overdue(&self.rows, now) {
@@ -147,7 +196,7 @@ impl Visitors {
 
     /// The first whose client was told to die so many milliseconds ago, or before.
     pub fn lingering(&self, now: u64, wait: u64) -> Option<Conn>
-        ensures { (lines : List Line) → ShowAll self.now.rows.items lines →
+        ensures { (lines : List Line) → ShowAll self.now lines →
             result ≡ lingering_in now wait lines }
     {
         match first_lingering(&self.rows, now, wait) {
