@@ -1,9 +1,9 @@
 -- What is known as messages are noted one after another.
 use Rattle.std.proofs.Common.{◌≡◌, ℕ, ◌+◌, ◌<◌, ◌≤◌, Bool, true, false, List, [], ◌∷◌, ◌++◌, length, take, drop, get_or, map, Option, Some, None, Result, Ok, Err, refl, sym, ap, ◌∙◌, arith, append_assoc, append-nil}
-use Rattle.std.specs.Prelude.{◌==◌, ◌&&◌, slice_index, IfOk, unwrap_or, option_map, option_to_list}
+use Rattle.std.specs.Prelude.{◌==◌, slice_index, IfOk, unwrap_or, option_map, option_to_list}
 use Rattle.std.specs.List.{AllByRecursion}
 use Rattle.std.specs.Option.{option_or, option_flatten}
-use Rattle.std.proofs.lemmas.Bool.{false≢true}
+use Rattle.std.proofs.lemmas.Bool.{and_parts, false≢true}
 use Rattle.std.proofs.lemmas.Bool.Decides.{nat_tests}
 use Rattle.std.proofs.lemmas.List.{at_drop_all, take_more}
 use Rattle.ice_values.specs.Frames.{◌>>=◌, body_at}
@@ -91,10 +91,6 @@ if_ok (Err e) P Q f p = p
 
 -- ---- a frame that sets properties
 
-both_true : (a b : Bool) → (a && b) ≡ true → (a ≡ true) × (b ≡ true)
-both_true true b is = (refl, is)
-both_true false b is = absurd (false≢true is)
-
 is_twelve : (n : ℕ) → (n == 12) ≡ true → n ≡ 12
 is_twelve n is = grind (arith, nat_tests)
 
@@ -102,7 +98,7 @@ spoken_by : (s : Speech) (f : WholeFrame) (l : List Property) → is_whole f ≡
 spoken_by Silent f l whole said_ body = absurd (false≢true said_)
 spoken_by Greeted f l whole said_ body = absurd (false≢true said_)
 spoken_by (Speaks opcode) f l whole said_ body =
-    let both = both_true (slice_index f.bytes 0 == opcode) (slice_index f.bytes 1 == 12) said_ in
+    let both = and_parts (slice_index f.bytes 0 == opcode) (slice_index f.bytes 1 == 12) said_ in
     let read : decode_at f.endian f.bytes ≡ Ok (SetProperties l) = set_row f.endian f.bytes (is_twelve (slice_index f.bytes 1) both.1) ∙ ap (λ (r : Result (List Property) DecodeRefusal). r >>= λ x. Ok (SetProperties x)) body in
     rw (whole, both.0, read) refl
 spoken_by Lost f l whole said_ body = absurd (false≢true said_)

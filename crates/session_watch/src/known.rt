@@ -143,42 +143,39 @@ fn have_program(names: &[Array8]) -> bool
     names.iter().any(|name| is_program(name.as_slice()))
 }
 
-/// The program behind a message of the client's.
-fn program_after(
+/// Notes which program a client is behind a message of its.
+fn hear_program(
     alloc: Global,
     message: &XsmpMessage,
-    before: Option<Octets>,
-) -> Result<Option<Octets>, NoMemory>
-    ensures { IfOk result (λ program. program ≡ unwrap_or (program_in message.now) before) }
+    program: &mut Option<Octets>,
+) -> Result<(), NoMemory>
+    ensures { OnOk result (program.new ≡ unwrap_or (program_in message.now) program.old) }
 {
     match message {
         XsmpMessage::SetProperties { properties } => {
-            program_set(alloc, properties.as_slice(), before)
+            *program = program_set(alloc, properties.as_slice(), program.take())?;
+            Ok(())
         }
         XsmpMessage::DeleteProperties { names } => {
             if have_program(names.as_slice()) {
-                Ok(None)
-            } else {
-                Ok(before)
+                *program = None;
             }
+            Ok(())
         }
-        _ => Ok(before),
+        _ => Ok(()),
     }
 }
 
-/// The ID behind a message of the manager's.
-fn id_after(
-    alloc: Global,
-    message: &XsmpMessage,
-    before: Option<Octets>,
-) -> Result<Option<Octets>, NoMemory>
-    ensures { IfOk result (λ id. id ≡ option_or (id_in message.now) before) }
+/// Notes which ID a client has behind a message of the manager's.
+fn tell_id(alloc: Global, message: &XsmpMessage, id: &mut Option<Octets>) -> Result<(), NoMemory>
+    ensures { OnOk result (id.new ≡ option_or (id_in message.now) id.old) }
 {
     match message {
-        XsmpMessage::RegisterClientReply { id } => {
-            Ok(Some(shortened(alloc, id.as_slice(), ID_LIMIT)?))
+        XsmpMessage::RegisterClientReply { id: given } => {
+            *id = Some(shortened(alloc, given.as_slice(), ID_LIMIT)?);
+            Ok(())
         }
-        _ => Ok(before),
+        _ => Ok(()),
     }
 }
 
@@ -245,7 +242,7 @@ impl Known {
         ensures { OnOk result (self.new ≡ noted Client message.now self.old) }
     {
         let answer = answers(message);
-        self.program = program_after(alloc, message, self.program.take())?;
+        hear_program(alloc, message, &mut self.program)?;
         self.answered = answer.or(self.answered);
         self.work = heard(answer).or(self.work);
         Ok(())
@@ -256,7 +253,7 @@ impl Known {
         ensures { OnOk result (self.new ≡ noted Manager message.now self.old) }
     {
         let asked = asks(message);
-        self.id = id_after(alloc, message, self.id.take())?;
+        tell_id(alloc, message, &mut self.id)?;
         self.asked = asked.or(self.asked);
         self.answered = answered_since(asked, self.answered);
         self.logout = asked.and_then(|asked| logout_in(asked)).or(self.logout);

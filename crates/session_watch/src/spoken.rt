@@ -16,7 +16,10 @@ use ice_framing::WholeFrame;
 use ice_values::{DecodeRefusal, Endian, PropertyWalk};
 use owned_lists::NoMemory;
 use std::alloc::Global;
-use xsmp_messages::{XsmpMessage, decode_xsmp};
+use xsmp_messages::decode_xsmp;
+
+/// The minor opcode of SetProperties.
+const SET_PROPERTIES: u8 = 12;
 
 /// Looks for the messages of XSMP.
 #[derive(Clone, Copy, Debug)]
@@ -37,57 +40,52 @@ impl Heeds for Messages {
     }
 }
 
-/// The message that a frame spells, if it spells one.
-fn read(alloc: Global, endian: Endian, frame: &[u8]) -> Result<Option<XsmpMessage>, NoMemory>
+/// Notes the message that a frame spells, if it spells one.
+fn note_spelled(
+    alloc: Global,
+    party: Party,
+    endian: Endian,
+    frame: &[u8],
+    known: &mut Known,
+) -> Result<(), NoMemory>
     requires { IsFrame endian frame.now }
-    ensures { IfOk result (λ message. message ≡ result_ok (decode_at endian frame.now)) }
+    ensures { OnOk result (known.new ≡ noted_all party
+        (option_to_list (result_ok (decode_at endian frame.now))) known.old) }
 {
     match decode_xsmp(alloc, endian, frame) {
-        Ok(message) => Ok(Some(message)),
-        Err(DecodeRefusal::BadMinor) => Ok(None),
-        Err(DecodeRefusal::BadLength) => Ok(None),
-        Err(DecodeRefusal::BadValue { .. }) => Ok(None),
+        Ok(message) => known.note(alloc, party, &message),
+        Err(DecodeRefusal::BadMinor) => Ok(()),
+        Err(DecodeRefusal::BadLength) => Ok(()),
+        Err(DecodeRefusal::BadValue { .. }) => Ok(()),
         Err(DecodeRefusal::NoMemory) => Err(NoMemory),
     }
 }
 
-/// The message that a whole frame is, where its sender speaks XSMP and it can be read.
-fn spoken_whole(
+/// Notes the message that a whole frame is, where its sender speaks XSMP and it can be read.
+fn note_spoken(
     alloc: Global,
+    party: Party,
     speech: Speech,
     endian: Endian,
     frame: &[u8],
-) -> Result<Option<XsmpMessage>, NoMemory>
+    known: &mut Known,
+) -> Result<(), NoMemory>
     requires frame { IsFrame endian frame.now }
     requires whole { is_whole (as_frame endian frame.now) ≡ true }
-    ensures { IfOk result (λ message. message ≡ spoken_by speech (as_frame endian frame.now)) }
+    ensures { OnOk result (known.new ≡ noted_all party
+        (option_to_list (spoken_by speech (as_frame endian frame.now))) known.old) }
 {
     match speech {
         Speech::Speaks(opcode) => {
             if byte_at(frame, 0) == opcode {
-                read(alloc, endian, frame)
+                note_spelled(alloc, party, endian, frame, known)
             } else {
-                Ok(None)
+                Ok(())
             }
         }
-        Speech::Silent => Ok(None),
-        Speech::Greeted => Ok(None),
-        Speech::Lost => Ok(None),
-    }
-}
-
-/// The message that a frame is, where its sender speaks XSMP and it can be read.
-fn spoken(
-    alloc: Global,
-    speech: Speech,
-    frame: &WholeFrame,
-) -> Result<Option<XsmpMessage>, NoMemory>
-    ensures { IfOk result (λ message. message ≡ spoken_by speech frame.now) }
-{
-    if is_whole(frame) {
-        spoken_whole(alloc, speech, frame.endian, frame.bytes.as_slice())
-    } else {
-        Ok(None)
+        Speech::Silent => Ok(()),
+        Speech::Greeted => Ok(()),
+        Speech::Lost => Ok(()),
     }
 }
 
@@ -105,13 +103,12 @@ pub fn note_whole(
     ensures { OnOk result (known.new ≡ noted_all party
         (option_to_list (spoken_by speech (as_frame endian frame.now))) known.old) }
 {
-    if let Some(walk) = speech.settings(endian, frame) {
-        return known.note_set(alloc, party, walk);
+    if speech.says(SET_PROPERTIES, frame) {
+        if let Some(walk) = speech.settings(endian, frame) {
+            return known.note_set(alloc, party, walk);
+        }
     }
-    match spoken_whole(alloc, speech, endian, frame)? {
-        Some(message) => known.note(alloc, party, &message),
-        None => Ok(()),
-    }
+    note_spoken(alloc, party, speech, endian, frame, known)
 }
 
 /// A walk over the properties that a frame sets. None where it sets none or isn't understood.
@@ -136,9 +133,11 @@ fn note_message(
     ensures { OnOk result
         (known.new ≡ noted_all party (option_to_list (spoken_by speech frame.now)) known.old) }
 {
-    match spoken(alloc, speech, frame)? {
-        Some(message) => known.note(alloc, party, &message),
-        None => Ok(()),
+    if is_whole(frame) {
+        let bytes = frame.bytes.as_slice();
+        note_spoken(alloc, party, speech, frame.endian, bytes, known)
+    } else {
+        Ok(())
     }
 }
 

@@ -1,4 +1,4 @@
-use Rattle.std.proofs.Common.{◌≡◌, ◌∙◌, sym, ap, Some}
+use Rattle.std.proofs.Common.{◌∙◌, sym, ap, Some}
 use Rattle.session_watch.specs.Knowing.{name_in}
 use Rattle.session_watch.proofs.known.name_shown.Goals as goal
 

@@ -1,4 +1,4 @@
-use Rattle.std.proofs.Common.{◌≡◌, ◌∙◌, sym, ap}
+use Rattle.std.proofs.Common.{◌∙◌, sym, ap}
 use Rattle.session_watch.specs.Knowing.{name_in}
 use Rattle.session_watch.proofs.Noting.{if_ok, program_shown, no_program_shown}
 use Rattle.session_watch.proofs.known.program_shown.Goals as goal

@@ -1,9 +1,9 @@
-use Rattle.std.proofs.Common.{◌≡◌, ◌∙◌, sym, ap, subst}
+use Rattle.std.proofs.Common.{◌∙◌, subst}
 use Rattle.std.specs.Prelude.{unwrap_or}
 use Rattle.ice_values.specs.Walks.{walk_left, Views}
 use Rattle.ice_values.specs.declared.numbers.Endian.{Endian}
 use Rattle.session_watch.specs.Knowing.{latest, set_by}
-use Rattle.session_watch.proofs.Noting.{walked_more, walked_over}
+use Rattle.session_watch.proofs.Noting.{walked_more}
 use Rattle.session_watch.proofs.known.program_walked.Goals as goal
 
 pub loop-view-preserved : goal.loop-view-preserved

@@ -7,7 +7,7 @@ use Rattle.session_watch.proofs.known.Known.hear.Goals as goal
 
 pub returns : goal.returns
 returns c =
-    let program : c.in_ok-self.field-0 ≡ unwrap_or (program_in c.args.message.now) c.args.self.now.program = search rules in
+    let program : c.hear_program.new.program ≡ unwrap_or (program_in c.args.message.now) c.args.self.now.program = search rules in
     let answered : c.or-self.result ≡ option_or (answers c.args.message.now) c.args.self.now.answered = search rules in
     let work : c.or-self-2.result ≡ option_or (option_and_then worked_in (answers c.args.message.now)) c.args.self.now.work = search rules in
     rw (program, answered ∙ or_is_unwrap (answers c.args.message.now) c.args.self.now.answered, work) refl
