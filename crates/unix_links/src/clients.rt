@@ -30,11 +30,23 @@ struct Open {
     watch: Option<ClientWatch>,
 }
 
+/// Where the connection of a number stands, if the numbers go on by one from the first.
+fn guess(open: &[Open], conn: Conn) -> usize {
+    match open.first() {
+        Some(first) => conn.saturating_sub(first.conn) as usize,
+        None => 0,
+    }
+}
+
 /// Where the connection of a number stands.
 fn place_of(open: &[Open], conn: Conn) -> Option<usize>
     ensures { IfSome result (λ place. place < length open.now) }
 {
-    open.binary_search_by_key(&conn, |row| row.conn).ok()
+    let place = guess(open, conn);
+    match open.get(place) {
+        Some(row) if row.conn == conn => Some(place),
+        _ => open.binary_search_by_key(&conn, |row| row.conn).ok(),
+    }
 }
 
 /// The connection of a number.
@@ -162,22 +174,23 @@ impl Clients {
         Ok(())
     }
 
-    /// Notes whether a connection stands in the queue of those who may have something, and says whether
-    /// it stood there before; None where it isn't open.
-    pub fn set_queued(&mut self, conn: Conn, queued: bool) -> Option<bool> {
+    /// Notes that a connection stands in the queue of those who may have something, until it is read
+    /// from, and says whether it stood there before; None where it isn't open.
+    pub fn set_queued(&mut self, conn: Conn) -> Option<bool> {
         let open = find(&mut self.open, conn)?;
         let was = open.queued;
-        open.queued = queued;
+        open.queued = true;
         Some(was)
     }
 
-    /// Reads once from a connection.
+    /// Reads once from a connection, which no longer stands in the queue.
     pub fn read(&mut self, conn: Conn) -> Result<Reading, NoMemory>
         ensures size { IfOk result (λ reading. IfSome reading.event HasPieceSize) }
     {
         let Some(open) = find(&mut self.open, conn) else {
             return Ok(self.leaving.read(conn, self.piece.as_mut_slice()));
         };
+        open.queued = false;
         match open.connection.stream.read(self.piece.as_mut_slice()) {
             Ok(count) if 0 < count && count <= PIECE_LIMIT => {
                 // A read that doesn't fill its room took all that there was.

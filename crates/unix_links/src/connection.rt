@@ -45,9 +45,6 @@ impl Connection {
 
     /// Asks the system to tell when the stream takes bytes again, or not to.
     fn watch(&mut self, registry: &Registry, conn: Conn, waits: bool) -> io::Result<()> {
-        if self.waits == waits {
-            return Ok(());
-        }
         self.waits = waits;
         let interest = if waits {
             Interest::READABLE | Interest::WRITABLE
@@ -59,11 +56,12 @@ impl Connection {
 
     /// Goes on after bytes were sent; false where the peer can't be served any more.
     fn keeps(&mut self, registry: &Registry, conn: Conn, progress: Progress) -> bool {
-        match progress {
-            Progress::All => self.watch(registry, conn, false).is_ok(),
-            Progress::Some => self.watch(registry, conn, true).is_ok(),
-            Progress::Broken => false,
-        }
+        let waits = match progress {
+            Progress::All => false,
+            Progress::Some => true,
+            Progress::Broken => return false,
+        };
+        self.waits == waits || self.watch(registry, conn, waits).is_ok()
     }
 
     /// Sends these bytes behind those that wait; false where the peer can't be served any more.

@@ -7,7 +7,7 @@ use crate::operators::Operators;
 use crate::reading::{Reading, is_passing, refused, would_wait};
 use crate::sources::Source;
 use mio::net::UnixStream;
-use mio::{Events, Poll};
+use mio::{Events, Poll, Registry};
 use owned_lists::NoMemory;
 use sm_world::{Conn, Event, Failure};
 use std::collections::VecDeque;
@@ -33,8 +33,6 @@ pub struct Sockets {
     rt: HostRuntime,
     poll: Poll,
     events: Events,
-    /// What the last wait found.
-    found: Vec<mio::event::Event>,
     doors: Doors,
     clients: Clients,
     operators: Operators,
@@ -48,7 +46,8 @@ pub struct Sockets {
     /// How many milliseconds a client has that was told to die; with 0 all that it likes.
     last_wait: u64,
     begun: Instant,
-    ticked: Instant,
+    /// How many milliseconds after the beginning the last tick was.
+    ticked: u64,
 }
 
 impl Sockets {
@@ -62,7 +61,6 @@ impl Sockets {
             rt,
             poll,
             events: Events::with_capacity(alloc, READY)?,
-            found: Vec::new(alloc),
             doors,
             clients: Clients::new(alloc)?,
             operators: Operators::new(alloc),
@@ -72,7 +70,7 @@ impl Sockets {
             again: None,
             last_wait,
             begun: now,
-            ticked: now,
+            ticked: 0,
         })
     }
 
@@ -87,9 +85,10 @@ impl Sockets {
             let now = Instant::now(&self.rt).map_err(refused)?;
             let time = milliseconds(self.begun, now);
             self.clients.set_time(time);
-            let passed = milliseconds(self.ticked, now);
+            let passed = time.saturating_sub(self.ticked);
             if passed >= TICK {
-                return self.tick(now, passed);
+                self.ticked = time;
+                return self.tick(passed);
             }
             let rest = self.try_again(time)?;
             if let Some(event) = self.take()? {
@@ -119,10 +118,9 @@ impl Sockets {
         self.enqueue(Source::Control)
     }
 
-    fn tick(&mut self, now: Instant, passed: u64) -> Result<Event, Failure>
+    fn tick(&mut self, passed: u64) -> Result<Event, Failure>
         ensures size { IfOk result HasPieceSize }
     {
-        self.ticked = now;
         self.clients.pass(passed);
         self.clients.drop_overdue()?;
         self.drop_lingering()?;
@@ -159,60 +157,20 @@ impl Sockets {
         self.poll
             .poll(&mut self.events, Some(time))
             .map_err(refused)?;
-        self.found.clear();
         for event in self.events.iter() {
-            self.found.push(*event)?;
-        }
-        for at in 0..self.found.len() {
-            let Some(event) = self.found.get(at).copied() else {
-                break;
-            };
-            self.note(event)?;
+            note(
+                self.poll.registry(),
+                &mut self.clients,
+                &mut self.queue,
+                event,
+            )?;
         }
         self.turn = self.queue.len();
         Ok(())
     }
 
-    /// Notes what the system told of a source.
-    fn note(&mut self, event: mio::event::Event) -> Result<(), NoMemory> {
-        let source = Source::of(event.token());
-        let ends = event.is_read_closed() || event.is_error();
-        if let Source::Client(conn) = source {
-            let registry = self.poll.registry();
-            self.clients
-                .told(registry, conn, ends, event.is_writable())?;
-        }
-        if event.is_readable() || ends {
-            self.enqueue(source)?;
-        }
-        Ok(())
-    }
-
     fn enqueue(&mut self, source: Source) -> Result<(), NoMemory> {
-        if !self.is_queued(source) {
-            self.queue.push_back(source)?;
-        }
-        Ok(())
-    }
-
-    /// Whether a source stands in the queue. One that doesn't is put there next, which a connection
-    /// that is open notes, so that the queue needn't be gone through for it.
-    fn is_queued(&mut self, source: Source) -> bool {
-        if let Source::Client(conn) = source {
-            if let Some(was) = self.clients.set_queued(conn, true) {
-                return was;
-            }
-        }
-        self.queue.contains(&source)
-    }
-
-    /// The source whose turn it is.
-    fn dequeue(&mut self) -> Option<Source> {
-        let source = self.queue.pop_front()?;
-        if let Source::Client(conn) = source {
-            self.clients.set_queued(conn, false);
-        }
-        Some(source)
+        enqueue(&mut self.clients, &mut self.queue, source)
     }
 
     /// Serves those whose turn it is until one gives an event.
@@ -224,7 +182,7 @@ impl Sockets {
         }
         for _ in 0..self.turn {
             self.turn = self.turn.saturating_sub(1);
-            let Some(source) = self.dequeue() else {
+            let Some(source) = self.queue.pop_front() else {
                 return Ok(None);
             };
             let reading = self.serve(source)?;
@@ -367,6 +325,50 @@ impl Sockets {
     pub fn answer(&mut self, line: &[u8]) {
         self.operators.answer(line);
     }
+}
+
+/// Notes what the system told of a source.
+fn note(
+    registry: &Registry,
+    clients: &mut Clients,
+    queue: &mut VecDeque<Source>,
+    event: &mio::event::Event,
+) -> Result<(), NoMemory> {
+    let source = Source::of(event.token());
+    let ends = event.is_read_closed() || event.is_error();
+    let takes = event.is_writable();
+    if let Source::Client(conn) = source {
+        if ends || takes {
+            clients.told(registry, conn, ends, takes)?;
+        }
+    }
+    if event.is_readable() || ends {
+        enqueue(clients, queue, source)?;
+    }
+    Ok(())
+}
+
+/// Puts a source into the queue, where it doesn't stand there.
+fn enqueue(
+    clients: &mut Clients,
+    queue: &mut VecDeque<Source>,
+    source: Source,
+) -> Result<(), NoMemory> {
+    if !is_queued(clients, queue, source) {
+        queue.push_back(source)?;
+    }
+    Ok(())
+}
+
+/// Whether a source stands in the queue. One that doesn't is put there next, which a connection that is
+/// open notes, so that the queue needn't be gone through for it.
+fn is_queued(clients: &mut Clients, queue: &VecDeque<Source>, source: Source) -> bool {
+    if let Source::Client(conn) = source {
+        if let Some(was) = clients.set_queued(conn) {
+            return was;
+        }
+    }
+    queue.contains(&source)
 }
 
 /// How many milliseconds lie between two moments.
