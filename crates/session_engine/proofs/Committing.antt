@@ -1,5 +1,5 @@
 -- What commits write, put together from acts that follow one another.
-use Rattle.std.proofs.Common.{◌≡◌, inl, inr, ℕ, Bool, true, false, List, [], ◌∷◌, ◌++◌, Option, Result, Ok, Err, IfOk, refl, sym, ◌∙◌, ap, subst, append_assoc, arith}
+use Rattle.std.proofs.Common.{◌≡◌, inr, ℕ, Bool, true, false, List, [], ◌∷◌, ◌++◌, Option, Ok, Err, refl, sym, ◌∙◌, ap, subst, append_assoc, arith}
 use Rattle.std.proofs.lemmas.List.{append-nil}
 use Rattle.std.proofs.lemmas.Bool.{false≢true}
 use Rattle.std.proofs.lemmas.Grind.{flat_map-append}
@@ -13,7 +13,7 @@ use Rattle.checkpoint_journal.specs.Writing.{AreCut, all_put}
 use Rattle.checkpoint_records.specs.declared.records.Book.{Book}
 use Rattle.checkpoint_slots.specs.declared.fault.StoreFault.TheVariants.{DiskFault}
 use Rattle.checkpoint_slots.specs.declared.turn.Current.{Current}
-use Rattle.session_engine.specs.Acts.{book_after, book_in, book_with, books_in, commits_in, deed_in, deeds_in}
+use Rattle.session_engine.specs.Acts.{book_after, book_in, books_in, commits_in, deed_in, deeds_in}
 use Rattle.session_engine.specs.Commits.{AllWritten, AreCommits, DoPuts, HasWritten, WritesBook, of_store, store_effects}
 use Rattle.session_engine.specs.declared.acts.Act.{Act}
 use Rattle.session_engine.specs.declared.acts.Act.TheVariants.{Commit, Finish, Print, Say, Shut as ShutsConn, Start}

@@ -36,6 +36,7 @@ use Rattle.session_engine.specs.declared.fault.Halt.TheVariants.{Links, Console,
 use Rattle.session_engine.specs.declared.fault.ServeFault.{ServeFault}
 use Rattle.session_engine.specs.declared.fault.ServeFault.TheVariants.{Damaged, WrongSize, DiskFault, LinkFault, ConsoleFault, Worn, Spent, NoMemory}
 use Rattle.session_engine.specs.declared.session.Session.{Session}
+use Rattle.session_engine.specs.declared.shell.Shell.{Shell}
 use Rattle.session_engine.specs.declared.session.Stepped.{Stepped}
 use Rattle.session_engine.specs.declared.session.Stepped.TheVariants.{Goes, Finished}
 use Rattle.session_engine.proofs.Adding.{never_spent}
@@ -53,6 +54,10 @@ pub record Holds (config : Config) (coming left : Option (List Event)) (n : ℕ)
   pub stands : StandsFor config opening current session effects
   pub count : length (heard effects) ≡ n
   pub brought : BroughtSoFar coming left (heard effects)
+
+-- the session whose parts these are
+abbrev pub together : Engine → Shell → Stored → Session
+together engine shell store = record { engine = engine; shell = shell; store = store }
 
 -- what holds as a turn of the loop begins
 abbrev pub InLoop : Config → Outside → Outside → ℕ → Session → Type 0

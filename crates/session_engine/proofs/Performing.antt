@@ -1,5 +1,5 @@
 -- Acts that are done one after another: what was done, and what the store has at each point.
-use Rattle.std.proofs.Common.{◌≡◌, ◌⊎◌, inl, inr, arith, ℕ, ◌+◌, ◌-◌, ◌<◌, ◌^◌, zero, suc, Bool, true, false, IsTrue, List, [], ◌∷◌, ◌++◌, take, Option, Result, Ok, Err, IfErr, IfOk, IsErrOf, is_ok, refl, sym, ◌∙◌, ap, subst, append_assoc}
+use Rattle.std.proofs.Common.{◌≡◌, ◌⊎◌, inl, inr, arith, ℕ, ◌+◌, ◌<◌, ◌^◌, zero, suc, Bool, true, false, IsTrue, List, [], ◌∷◌, ◌++◌, take, Option, Result, Ok, Err, IfErr, IfOk, IsErrOf, is_ok, refl, sym, ◌∙◌, ap, subst, append_assoc}
 use Rattle.std.proofs.lemmas.List.{append-nil}
 use Rattle.std.proofs.lemmas.Bool.{false≢true}
 use Rattle.std.proofs.lemmas.Grind.{flat_map-append}
@@ -17,7 +17,7 @@ use Rattle.checkpoint_slots.specs.Recovery.{Recovers}
 use Rattle.checkpoint_slots.specs.Turns.{SteadyStands, next_generation, opened_by, opened_in}
 use Rattle.checkpoint_slots.specs.declared.turn.Current.{Current}
 use Rattle.checkpoint_journal.proofs.Swapping.{fronts_two, opened_in-append}
-use Rattle.session_engine.specs.Acts.{book_after, book_with, books_in, commits_in, deed_in, deeds_in}
+use Rattle.session_engine.specs.Acts.{acts_for, acts_for_all, book_after, book_with, books_in, commits_in, deed_in, deeds_in}
 use Rattle.session_engine.specs.Causes.{IsNotWorn, fault_of}
 use Rattle.session_engine.specs.Commits.{HasWritten, is_of_disk, of_store}
 use Rattle.session_engine.specs.Doing.{CarriesOut, Going}
@@ -26,6 +26,7 @@ use Rattle.session_engine.specs.Store.{IsRaised, Leaves, Stored, store_of}
 use Rattle.session_engine.specs.Stops.{HasFound, HasNumbers, HasOpened, IsLeft, IsNumbered, IsRefused, NextIs, Stops, is_commit, is_of_links, is_print}
 use Rattle.session_engine.specs.Starting.{Launches, handed_on}
 use Rattle.session_engine.specs.declared.acts.Act.{Act}
+use Rattle.session_model.specs.declared.events.Act.{Act as SessionAct}
 use Rattle.session_model.specs.declared.events.Reason.{Reason}
 use Rattle.session_engine.specs.declared.acts.Act.TheVariants.{Commit, Finish, Print, Say, Shut as ShutsConn, Start}
 use Rattle.session_engine.specs.declared.fault.ServeFault.{ServeFault}
@@ -523,3 +524,18 @@ told_then store next xs ys answer old middle new one two = record {
 
 pub told_stopped : (store : Stored) (xs ys : List Act) (halt : Halt) (old new : Option (List Effect)) → Added old new (Performs store xs (Err halt)) → Added old new (Performs store (xs ++ ys) (Err halt))
 told_stopped store xs ys halt old new one = record { effects = one.effects; added = one.added; holds = performs_stopped store xs ys halt one.effects one.holds }
+
+-- one more act of the session, to the outside
+pub outward_more : (done : List SessionAct) (act : SessionAct) → acts_for_all done ++ acts_for act ≡ acts_for_all (done ++ act ∷ [])
+outward_more done act = ap (λ acts. acts_for_all done ++ acts) (sym (append-nil (acts_for act))) ∙ sym (flat_map-append acts_for done (act ∷ []))
+
+-- what the session did, up to one act more
+pub did_more : (store now next : Stored) (done : List SessionAct) (act : SessionAct) (old middle new : Option (List Effect)) → Added old middle (Performs store (acts_for_all done) (Ok now)) → Added middle new (Performs now (acts_for act) (Ok next)) → Added old new (Performs store (acts_for_all (done ++ act ∷ [])) (Ok next))
+did_more store now next done act old middle new one two =
+    subst (λ (acts : List Act). Added old new (Performs store acts (Ok next))) (outward_more done act) (told_then store now (acts_for_all done) (acts_for act) (Ok next) old middle new one two)
+
+-- an act stops what the session did
+pub did_stopped : (store now : Stored) (done : List SessionAct) (act : SessionAct) (rest : List SessionAct) (halt : Halt) (old middle new : Option (List Effect)) → Added old middle (Performs store (acts_for_all done) (Ok now)) → Added middle new (Performs now (acts_for act) (Err halt)) → Added old new (Performs store (acts_for_all (done ++ act ∷ rest)) (Err halt))
+did_stopped store now done act rest halt old middle new one two =
+    let all : (acts_for_all done ++ acts_for act) ++ acts_for_all rest ≡ acts_for_all (done ++ act ∷ rest) = append_assoc (acts_for_all done) (acts_for act) (acts_for_all rest) ∙ sym (flat_map-append acts_for done (act ∷ rest)) in
+    subst (λ (acts : List Act). Added old new (Performs store acts (Err halt))) all (told_stopped store (acts_for_all done ++ acts_for act) (acts_for_all rest) halt old new (told_then store now (acts_for_all done) (acts_for act) (Err halt) old middle new one two))

@@ -28,6 +28,12 @@ has_finish-append (Commit book ∷ xs) ys = has_finish-append xs ys
 has_finish-append (Print text ∷ xs) ys = has_finish-append xs ys
 has_finish-append (Finish ∷ xs) ys = refl
 
+pub finish_first : (xs ys : List Act) → has_finish xs ≡ true → has_finish (xs ++ ys) ≡ true
+finish_first xs ys e = has_finish-append xs ys ∙ ap (λ b. if b then true else has_finish ys) e
+
+pub finish_second : (xs ys : List Act) → has_finish xs ≡ false → has_finish (xs ++ ys) ≡ has_finish ys
+finish_second xs ys e = has_finish-append xs ys ∙ ap (λ b. if b then true else has_finish ys) e
+
 pub second_by : (b c : Bool) → (if b then true else c) ≡ false → c ≡ false
 second_by true c e = absurd (false≢true (sym e))
 second_by false c e = e

@@ -1,13 +1,13 @@
 -- Effects behind which no byte of the store is in doubt: those that leave it alone, and a write with its sync behind it.
-use Rattle.std.proofs.Common.{◌≡◌, ◌⊎◌, inl, inr, ℕ, zero, suc, ◌+◌, ◌-◌, ◌<◌, Bool, true, false, IsTrue, ◌==◌, ◌||◌, nat_le, if◌then◌else◌, List, [], ◌∷◌, ◌++◌, length, slice_index, Option, None, Some, refl, ap, sym, ◌∙◌, subst, append_assoc, arith}
+use Rattle.std.proofs.Common.{◌≡◌, ℕ, zero, suc, ◌+◌, ◌-◌, ◌<◌, Bool, true, false, IsTrue, ◌==◌, ◌||◌, nat_le, if◌then◌else◌, List, [], ◌∷◌, ◌++◌, length, slice_index, Option, None, Some, refl, ap, sym, ◌∙◌, append_assoc, arith}
 use Rattle.std.proofs.lemmas.Bool.{eqb-true, false≢true}
 use Rattle.std.proofs.lemmas.List.{append-nil}
-use Rattle.sm_world.specs.Crash.{Cell, Image, LeavesStore, cell_after, cell_from, cell_of, covers, readable, settled, synced, torn, written}
+use Rattle.sm_world.specs.Crash.{Cell, LeavesStore, cell_after, cell_from, cell_of, covers, readable, settled, synced, torn, written}
 use Rattle.sm_world.specs.Outside.{Outside, adds}
 use Rattle.sm_world.specs.declared.effects.Effect.{Effect}
 use Rattle.sm_world.specs.declared.events.Event.{Event}
 use Rattle.sm_world.specs.declared.effects.Effect.TheVariants.{Heard, Sent, Shut, Started, Wrote, Torn, Synced, SyncFailed, Published, Printed}
-use Rattle.sm_world.proofs.Cells.{cell_from-append, cell_of-more, place, quiet_cells, wrote_inside, wrote_outside}
+use Rattle.sm_world.proofs.Cells.{cell_from-append, quiet_cells}
 use Rattle.checkpoint_slots.specs.Causes.{IsSettled}
 use Rattle.checkpoint_journal.specs.Writing.{all_put}
 use Rattle.session_engine.specs.Carries.{IsReady}

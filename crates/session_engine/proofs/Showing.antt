@@ -22,12 +22,12 @@ use Rattle.session_model.specs.declared.events.Act.{Act as SessionAct}
 use Rattle.session_model.specs.declared.events.Act.TheVariants.{Shut as ShutsConn, Unset}
 use Rattle.session_model.specs.declared.events.SessionEvent.{SessionEvent}
 use Rattle.session_model.specs.Rules.{opened, taken}
-use Rattle.session_engine.specs.Acts.{acts_for, acts_for_all}
+use Rattle.session_engine.specs.Acts.{acts_for_all}
 use Rattle.session_engine.specs.Answers.{outcome, sequence_after, KeepsWhole}
 use Rattle.session_engine.specs.Cutting.{IsNew, TakesFirst, HoldsAll, Unsets}
 use Rattle.session_engine.specs.Machine.{Connection, Machine, Step, Does, act_in, acts_of, acts_since, behind, connection_of, changed, without, joined, fed_with, counted, unset_on, connections_after, connections_through, start, stays, noted, fed_on, parts_taken, told, step}
 use Rattle.session_engine.specs.Shown.{kept_at, ChangesAt, CutsAt, UnsetsAt, Leaves, IsKeptOf, Matches, Agrees, AreDistinct, ShowsLive, Shows, TakesNone, parts_on, parts_left, all_cut, to_cut}
-use Rattle.session_engine.specs.Telling.{Follows, GivesBehind, IsAnswering, Tells, AgreesFor}
+use Rattle.session_engine.specs.Telling.{Follows, FollowsLive, GivesBehind, IsAnswering, Tells, AgreesFor}
 use Rattle.session_engine.specs.declared.acts.Act.{Act}
 use Rattle.session_engine.specs.Outcomes.{Outcome, Answered}
 use Rattle.session_engine.specs.declared.connection.Connection.{Connection as Kept}
@@ -120,18 +120,9 @@ tell_gives event pending m old new tells live cookie stands agrees =
       };
     }
 
--- nothing is followed yet
-pub follows_none : (engine : Engine) → Follows [] engine engine
-follows_none engine = record { cookie = refl; manager = refl; acts = sym (append-nil engine.acts); live = λ pending ks shows. shows }
-
 -- one more act is followed
-pub follows_more : (done : List SessionAct) (act : SessionAct) (old middle new : Engine) → Follows done old middle → Follows (act ∷ []) middle new → Follows (done ++ act ∷ []) old new
-follows_more done act old middle new first then_so = record {
-  cookie = then_so.cookie ∙ first.cookie;
-  manager = then_so.manager ∙ first.manager;
-  acts = then_so.acts ∙ (ap (λ xs. xs ++ acts_for_all (act ∷ [])) first.acts ∙ (append_assoc old.acts (acts_for_all done) (acts_for_all (act ∷ [])) ∙ ap (λ xs. old.acts ++ xs) (sym (flat_map-append acts_for done (act ∷ [])))));
-  live = λ pending ks shows. rw (through-append done (act ∷ []) ks) (then_so.live pending (connections_through done ks) (first.live pending ks shows));
-}
+pub live_more : (done : List SessionAct) (act : SessionAct) (old middle new : Connections) → FollowsLive done old middle → FollowsLive (act ∷ []) middle new → FollowsLive (done ++ act ∷ []) old new
+live_more done act old middle new first then_so pending ks shows = rw (through-append done (act ∷ []) ks) (then_so pending (connections_through done ks) (first pending ks shows))
 
 -- what the session did about an event is followed
 pub follows_told : (event : SessionEvent) (acts : List SessionAct) (old middle new : Engine) → middle.cookie ≡ old.cookie → middle.live ≡ old.live → middle.acts ≡ old.acts → ((h : History) → StandsFor old.manager h → StandsFor middle.manager (taken event h)) → ((h : History) → StandsFor old.manager h → all_acts (taken event h) ≡ all_acts h ++ acts) → Follows acts middle new → Tells event old new

@@ -8,14 +8,12 @@ use checkpoint_records::Book;
 use ice_cookie::Cookie;
 use ice_messages::IceMessage;
 use ice_values::Endian;
-use manager_machine::{Act as SessionAct, Acts, Manager};
+use manager_machine::{Acts, Manager};
 use owned_lists::NoMemory;
 use protocol_messages::Message;
 use session_model::{Marks, SessionEvent};
 use sm_world::{Conn, Order};
 use std::alloc::Global;
-use std::collections::VecDeque;
-use xsmp_messages::XsmpMessage;
 
 /// The session in memory. It hears what comes, and gives the acts that answer it; no device is
 /// called here. After NoMemory it is spent.
@@ -32,7 +30,7 @@ impl Engine {
     ghost use Rattle.std.specs.Prelude.{◌≡◌, ◌≤◌, ◌<◌, ◌++◌, [], ◌∷◌, length, IfOk, IfSome, OnOk};
     ghost use Rattle.sm_world.specs.declared.events.Event.TheVariants.{Joined, Gone, Operator, Tick};
     ghost use Rattle.checkpoint_records.specs.Rules.{KeepsRules};
-    ghost use Rattle.manager_machine.specs.Keeper.{AreFit, IsFit, Keeper};
+    ghost use Rattle.manager_machine.specs.Keeper.{AreFit, Keeper};
     ghost use Rattle.session_model.specs.Rules.{Takes as TakesEvent};
     ghost use Rattle.session_model.specs.declared.events.SessionEvent.TheVariants.{Left as LeftIt};
     ghost use Rattle.session_state.specs.Session.{reading_in};
@@ -86,44 +84,13 @@ impl Engine {
         self.manager.marks()
     }
 
-    /// Does to the live connections what the session did, and gives it to the outside.
-    fn follow(&mut self, act: SessionAct) -> Result<(), NoMemory>
-        requires { IsFit act }
-        ensures { OnOk result (Follows (act ∷ []) self.old self.new) }
-    {
-        match act {
-            SessionAct::Say(conn, message) => self
-                .acts
-                .push(Act::Say(conn, Message::Xsmp(message))),
-            SessionAct::Blame(conn, error) => {
-                let message = Message::Xsmp(XsmpMessage::Error(error));
-                self.acts.push(Act::Say(conn, message))
-            }
-            SessionAct::Unset(conn) => {
-                self.live.unset(conn);
-                Ok(())
-            }
-            SessionAct::Shut(closed) => {
-                self.live.leave(closed);
-                self.acts.push(Act::Shut(closed))
-            }
-            SessionAct::Start(reason, command) => self.acts.push(Act::Start(reason, command)),
-            SessionAct::Commit(book) => self.acts.push(Act::Commit(book)),
-            SessionAct::Print(text) => self.acts.push(Act::Print(text)),
-            SessionAct::Finish => self.acts.push(Act::Finish),
-        }
-    }
-
-    /// Follows all that the session did, in its order.
+    /// Does to the live connections all that the session did, and gives it to the outside.
     fn follow_all(&mut self, acts: Acts) -> Result<(), NoMemory>
         requires { AreFit acts }
         ensures { OnOk result (Follows acts self.old self.new) }
     {
-        let mut left = VecDeque::from(acts.into_vec());
-        while let Some(act) = left.pop_front() {
-            self.follow(act)?;
-        }
-        Ok(())
+        self.live.follow(acts.as_slice());
+        self.acts.follow(acts)
     }
 
     /// Tells the session what happened, and follows it.

@@ -2,7 +2,7 @@ ghost use Rattle.session_engine.specs.Places.{AreSeated};
 
 use crate::connection::{Answered, Connection};
 use ice_cookie::Cookie;
-use manager_machine::Manager;
+use manager_machine::{Act as SessionAct, Manager};
 use owned_lists::NoMemory;
 use slab::Slab;
 use sm_world::Conn;
@@ -20,13 +20,14 @@ pub struct Connections {
 }
 
 impl Connections {
-    ghost use Rattle.std.specs.Prelude.{◌≡◌, ◌≢◌, ◌≤◌, ℕ, length, true, None, Some, is_some, IfSome, IfOk, OnOk};
+    ghost use Rattle.std.specs.Prelude.{◌≡◌, ◌≢◌, ◌≤◌, ℕ, [], ◌∷◌, length, true, None, Some, is_some, IfSome, IfOk, OnOk};
     ghost use Rattle.session_state.specs.Session.{reading_in};
     ghost use Rattle.session_engine.specs.Answers.{speaks_xsmp};
     ghost use Rattle.session_engine.specs.Bringing.{CanHear, CutsSo, said_by};
     ghost use Rattle.session_engine.specs.Messages.{CanBeSaid};
     ghost use Rattle.session_engine.specs.Cutting.{IsNew};
     ghost use Rattle.session_engine.specs.Shown.{kept_at, ChangesAt, CutsAt, Leaves, UnsetsAt};
+    ghost use Rattle.session_engine.specs.Telling.{FollowsLive};
     ghost use Rattle.session_engine.specs.declared.connection.Connection.{Connection};
 
     pub fn new(alloc: Global) -> Connections
@@ -109,6 +110,31 @@ impl Connections {
         };
         if let Some(connection) = self.seats.get_mut(*place) {
             connection.unset();
+        }
+    }
+
+    /// Does what an act of the session brings here.
+    fn follow_one(&mut self, act: &SessionAct)
+        ensures { FollowsLive (act.now ∷ []) self.old self.new }
+    {
+        match act {
+            SessionAct::Say(_, _) => {}
+            SessionAct::Blame(_, _) => {}
+            SessionAct::Unset(conn) => self.unset(*conn),
+            SessionAct::Shut(conn) => self.leave(*conn),
+            SessionAct::Start(_reason, _command) => {}
+            SessionAct::Commit(_) => {}
+            SessionAct::Print(_) => {}
+            SessionAct::Finish => {}
+        }
+    }
+
+    /// Does what acts of the session bring here, in their order.
+    pub fn follow(&mut self, acts: &[SessionAct])
+        ensures { FollowsLive acts.now self.old self.new }
+    {
+        for act in acts {
+            self.follow_one(act);
         }
     }
 }

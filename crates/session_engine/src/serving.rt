@@ -2,7 +2,7 @@ ghost use Rattle.std.specs.Prelude.{◌≡◌, [], ◌∷◌, true, IfOk};
 ghost use Rattle.checkpoint_slots.specs.Layout.{store_size};
 ghost use Rattle.sm_world.specs.declared.events.Event.TheVariants.{Joined, Piece, Gone, Operator, Tick};
 ghost use Rattle.sm_world.specs.Outside.{Added};
-ghost use Rattle.session_engine.specs.Acts.{is_finish, has_finish};
+ghost use Rattle.session_engine.specs.Acts.{has_finish};
 ghost use Rattle.session_engine.specs.Causes.{HearsNone};
 ghost use Rattle.session_engine.specs.Machine.{Machine, acts_of, step};
 ghost use Rattle.session_engine.specs.Saved.{Performs};
@@ -39,30 +39,15 @@ impl Turn {
     }
 }
 
-/// Whether an act ends the run.
-fn ends(act: &Act) -> bool
-    ensures { result ≡ is_finish act.now }
-{
-    match act {
-        Act::Say(_, _) => false,
-        Act::Shut(_) => false,
-        Act::Start(_reason, _command) => false,
-        Act::Commit(_) => false,
-        Act::Print(_) => false,
-        Act::Finish => true,
-    }
-}
-
-/// Whether one of these acts ends the run.
-fn turn_of(acts: &[Act]) -> Turn
+/// Whether the run goes on after these acts.
+fn turn_of(acts: &ActList) -> Turn
     ensures { is_end result ≡ has_finish acts.now }
 {
-    for act in acts {
-        if ends(act) {
-            return Turn::Ended;
-        }
+    if acts.end() {
+        Turn::Ended
+    } else {
+        Turn::GoesOn
     }
-    Turn::GoesOn
 }
 
 /// Does acts, and says whether one of them ends the run.
@@ -78,7 +63,10 @@ fn carry_out<W: Disk + Links + Spawner + Console>(
     ensures turn { IfOk result (λ done. is_end done.1 ≡ has_finish acts) }
     ensures alone { HearsNone (W.outside world.old) (W.outside world.new) result }
 {
-    let turn = turn_of(acts.as_slice());
+    if acts.is_empty() {
+        return Ok((store, Turn::GoesOn));
+    }
+    let turn = turn_of(&acts);
     match shell.perform(world, store, acts) {
         Ok(store) => Ok((store, turn)),
         Err(halt) => Err(halt),

@@ -193,7 +193,11 @@ pub fn serve<W: Disk + Links + Spawner + Console>(
     ensures cause { IfErr result
         (HasCause (W.outside world.old).faults (W.outside world.new).faults) }
 {
-    let mut session = match Session::start(alloc, world, config) {
+    let Session {
+        mut engine,
+        mut shell,
+        mut store,
+    } = match Session::start(alloc, world, config) {
         Ok(session) => session,
         Err(fault) => return Err(fault),
     };
@@ -202,10 +206,12 @@ pub fn serve<W: Disk + Links + Spawner + Console>(
             Ok(event) => event,
             Err(halt) => return Err(halt.fault()),
         };
-        match session.step(alloc, world, event) {
-            Ok(Stepped::Goes(next)) => session = next,
-            Ok(Stepped::Finished(_)) => return Ok(()),
-            Err(fault) => return Err(fault),
+        match take_event(alloc, world, &mut engine, &mut shell, store, &event) {
+            Ok((next, turn)) => match turn {
+                Turn::GoesOn => store = next,
+                Turn::Ended => return Ok(()),
+            },
+            Err(halt) => return Err(halt.fault()),
         }
     }
     Err(ServeFault::Spent)

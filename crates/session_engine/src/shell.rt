@@ -14,11 +14,14 @@ use crate::fault::{Halt, commit_halt, console_halt, link_halt};
 use crate::store::Store;
 use checkpoint_records::Book;
 use ice_setup::MANAGER_OPCODE;
-use ice_values::EncodeRefusal;
+use ice_values::{EncodeRefusal, Endian};
+use manager_machine::Act as SessionAct;
 use owned_lists::{Command, NoMemory, Octets};
 use protocol_messages::{Message, encode};
 use sm_world::{Conn, Console, Disk, Event, Links, Spawner};
 use std::alloc::Global;
+use std::collections::VecDeque;
+use xsmp_messages::{XsmpMessage, encode_xsmp};
 
 /// The next event.
 pub fn hear<W: Links>(world: &mut W) -> Result<Event, Halt>
@@ -67,7 +70,12 @@ impl Shell {
     ghost use Rattle.sm_world.specs.Outside.{Added, adds, on_ok};
     ghost use Rattle.sm_world.specs.declared.effects.Effect.TheVariants.{Sent, Shut, Printed};
     ghost use Rattle.checkpoint_records.specs.Rules.{KeepsRules};
-    ghost use Rattle.session_engine.specs.Acts.{CanBeDone};
+    ghost use Rattle.std.specs.List.{AllByRecursion};
+    ghost use Rattle.ice_values.specs.declared.numbers.Endian.TheVariants.{Lsb};
+    ghost use Rattle.xsmp_messages.specs.Messages.{IsTooLong as IsTooLongXsmp};
+    ghost use Rattle.protocol_messages.specs.declared.message.Message.TheVariants.{Xsmp};
+    ghost use Rattle.manager_machine.specs.Keeper.{AreFit, IsFit};
+    ghost use Rattle.session_engine.specs.Acts.{CanBeDone, acts_for, acts_for_all};
     ghost use Rattle.session_engine.specs.Causes.{HearsNone};
     ghost use Rattle.session_engine.specs.Messages.{spelled};
     ghost use Rattle.protocol_messages.specs.Messages.{IsTooLong};
@@ -94,6 +102,28 @@ impl Shell {
     {
         self.bytes.truncate(0);
         match encode(MANAGER_OPCODE, message, &mut self.bytes) {
+            Ok(()) => {}
+            Err(EncodeRefusal::NoMemory) => return Err(Halt::NoMemory),
+            Err(EncodeRefusal::TooLong) => unreachable!(),
+        }
+        world.send(to, self.bytes.as_slice()).map_err(link_halt)
+    }
+
+    /// The same for a message of XSMP.
+    fn send_xsmp<W: Links>(
+        &mut self,
+        world: &mut W,
+        to: Conn,
+        message: &XsmpMessage,
+    ) -> Result<(), Halt>
+        requires { ¬ (IsTooLongXsmp Lsb message.now) }
+        ensures effects { (W.outside world.new).told
+            ≡ adds (W.outside world.old).told (on_ok result (Sent to (spelled (Xsmp message.now)) ∷ [])) }
+        ensures able { IfErr result (λ halt. IsRefused halt (Says to (Xsmp message.now) ∷ [])) }
+        ensures alone { HearsNone (W.outside world.old) (W.outside world.new) result }
+    {
+        self.bytes.truncate(0);
+        match encode_xsmp(Endian::Lsb, MANAGER_OPCODE, message, &mut self.bytes) {
             Ok(()) => {}
             Err(EncodeRefusal::NoMemory) => return Err(Halt::NoMemory),
             Err(EncodeRefusal::TooLong) => unreachable!(),
@@ -137,6 +167,7 @@ impl Shell {
     }
 
     /// Writes a checkpoint, which stands in the store once a gate is opened.
+    #[inline(never)]
     fn commit<W: Disk>(&mut self, world: &mut W, store: Store, book: Book) -> Result<Store, Halt>
         requires size { (W.outside world.old).size ≡ store_size }
         requires rules { KeepsRules book }
@@ -173,6 +204,82 @@ impl Shell {
         }
     }
 
+    /// Does an act of the session, and hands the store's turn on.
+    fn do_session_act<W: Disk + Links + Spawner + Console>(
+        &mut self,
+        world: &mut W,
+        store: Store,
+        act: SessionAct,
+    ) -> Result<Store, Halt>
+        requires size { (W.outside world.old).size ≡ store_size }
+        requires fit { IsFit act }
+        ensures done { Added (W.outside world.old).told (W.outside world.new).told
+            (Performs store (acts_for act) result) }
+        ensures alone { HearsNone (W.outside world.old) (W.outside world.new) result }
+    {
+        match act {
+            SessionAct::Say(to, message) => hand_on(self.send_xsmp(world, to, &message), store),
+            SessionAct::Blame(to, error) => {
+                let message = XsmpMessage::Error(error);
+                hand_on(self.send_xsmp(world, to, &message), store)
+            }
+            SessionAct::Unset(_conn) => Ok(store),
+            SessionAct::Shut(conn) => hand_on(self.shut(world, conn), store),
+            SessionAct::Start(_reason, command) => hand_on(self.start(world, &command), store),
+            SessionAct::Commit(book) => self.commit(world, store, book),
+            SessionAct::Print(text) => hand_on(self.print(world, text.as_slice()), store),
+            SessionAct::Finish => Ok(store),
+        }
+    }
+
+    /// Does what is done first, up to an act that a device refuses.
+    fn perform_said<W: Disk + Links + Spawner + Console>(
+        &mut self,
+        world: &mut W,
+        store: Store,
+        said: VecDeque<Act>,
+    ) -> Result<Store, Halt>
+        requires size { (W.outside world.old).size ≡ store_size }
+        requires can { AllByRecursion CanBeDone said.items }
+        ensures done { Added (W.outside world.old).told (W.outside world.new).told
+            (Performs store said.items result) }
+        ensures alone { HearsNone (W.outside world.old) (W.outside world.new) result }
+    {
+        let mut store = store;
+        let mut left = said;
+        while let Some(act) = left.pop_front() {
+            match self.do_act(world, store, act) {
+                Ok(next) => store = next,
+                Err(halt) => return Err(halt),
+            }
+        }
+        Ok(store)
+    }
+
+    /// Does what the session did, up to an act that a device refuses.
+    fn perform_did<W: Disk + Links + Spawner + Console>(
+        &mut self,
+        world: &mut W,
+        store: Store,
+        did: VecDeque<SessionAct>,
+    ) -> Result<Store, Halt>
+        requires size { (W.outside world.old).size ≡ store_size }
+        requires fit { AreFit did.items }
+        ensures done { Added (W.outside world.old).told (W.outside world.new).told
+            (Performs store (acts_for_all did.items) result) }
+        ensures alone { HearsNone (W.outside world.old) (W.outside world.new) result }
+    {
+        let mut store = store;
+        let mut left = did;
+        while let Some(act) = left.pop_front() {
+            match self.do_session_act(world, store, act) {
+                Ok(next) => store = next,
+                Err(halt) => return Err(halt),
+            }
+        }
+        Ok(store)
+    }
+
     /// Does acts in their order, up to one that a device refuses, and hands the store's turn on.
     pub fn perform<W: Disk + Links + Spawner + Console>(
         &mut self,
@@ -185,14 +292,10 @@ impl Shell {
             (Performs store acts result) }
         ensures alone { HearsNone (W.outside world.old) (W.outside world.new) result }
     {
-        let mut store = store;
-        let mut left = acts.into_queue();
-        while let Some(act) = left.pop_front() {
-            match self.do_act(world, store, act) {
-                Ok(next) => store = next,
-                Err(halt) => return Err(halt),
-            }
+        let (said, did) = acts.into_queues();
+        match self.perform_said(world, store, said) {
+            Ok(store) => self.perform_did(world, store, did),
+            Err(halt) => Err(halt),
         }
-        Ok(store)
     }
 }

@@ -1,7 +1,11 @@
-use Rattle.std.proofs.Common.{◌+◌, refl, ◌∙◌, arith}
+use Rattle.std.proofs.Common.{◌+◌, refl, sym, ◌∙◌, ap, arith}
 use Rattle.sm_world.proofs.Adding.{fallen_never}
+use Rattle.session_model.specs.declared.marks.Marks.{Marks}
+use Rattle.session_engine.specs.Turns.{is_end}
 use Rattle.session_engine.specs.declared.fault.ServeFault.TheVariants.{Spent}
-use Rattle.session_engine.proofs.Loop.{keeps_word, loop_begins, loop_cut_short, loop_ends, loop_goes_on, loop_over, loop_silent, loop_unopened, ready, shown_in}
+use Rattle.session_engine.specs.declared.session.Session.{Session}
+use Rattle.session_engine.specs.declared.session.Stepped.TheVariants.{Finished}
+use Rattle.session_engine.proofs.Loop.{keeps_word, loop_begins, loop_cut_short, loop_ends, loop_goes_on, loop_over, loop_silent, loop_unopened, ready, shown_in, step_cut_short, step_ends, step_goes, together}
 use Rattle.session_engine.proofs.session.serve.Goals as goal
 
 pub returns-in-Err-clause-serves : goal.returns-in-Err-clause-serves
@@ -14,7 +18,7 @@ pub returns-in-Err-clause-ready : goal.returns-in-Err-clause-ready
 returns-in-Err-clause-ready g c = ready c.args.config c.args.turns (g.W.Told.outside c.args.world.now) (g.W.Told.outside c.start.new.world) _ (returns-in-Err-clause-serves g c) c.in-Err.ensures.first
 
 pub returns-in-Err-hear-clause-serves : goal.returns-in-Err-hear-clause-serves
-returns-in-Err-hear-clause-serves g c = rw (c.fault.ensures) (loop_silent c.args.config c.args.turns c.loop.counter (g.W.Told.outside c.args.world.now) (g.W.Told.outside c.loop.world) (g.W.Told.outside c.hear.new.world) c.loop.session c.in-Err-hear.halt c.loop-test.true c.in-Err-hear.ensures.able c.in-Err-hear.ensures.effects c.in-Err-hear.ensures.store c.loop.invariant.held)
+returns-in-Err-hear-clause-serves g c = rw (c.fault.ensures) (loop_silent c.args.config c.args.turns c.loop.counter (g.W.Told.outside c.args.world.now) (g.W.Told.outside c.loop.world) (g.W.Told.outside c.hear.new.world) (together c.loop.engine c.loop.shell c.loop.store) c.in-Err-hear.halt c.loop-test.true c.in-Err-hear.ensures.able c.in-Err-hear.ensures.effects c.in-Err-hear.ensures.store c.loop.invariant.held)
 
 pub returns-in-Err-hear-clause-headline : goal.returns-in-Err-hear-clause-headline
 returns-in-Err-hear-clause-headline g c = keeps_word c.args.config c.args.turns (g.W.Told.outside c.args.world.now) (g.W.Told.outside c.hear.new.world) _ (returns-in-Err-hear-clause-serves g c)
@@ -22,23 +26,30 @@ returns-in-Err-hear-clause-headline g c = keeps_word c.args.config c.args.turns 
 pub returns-in-Err-hear-clause-ready : goal.returns-in-Err-hear-clause-ready
 returns-in-Err-hear-clause-ready g c = ready c.args.config c.args.turns (g.W.Told.outside c.args.world.now) (g.W.Told.outside c.hear.new.world) _ (returns-in-Err-hear-clause-serves g c) (c.in-Err-hear.ensures.first ∙ c.loop.invariant.first)
 
-pub returns-in-Ok-Finished-clause-serves : goal.returns-in-Ok-Finished-clause-serves
-returns-in-Ok-Finished-clause-serves g c = loop_ends c.args.config c.args.turns c.loop.counter (g.W.Told.outside c.args.world.now) (g.W.Told.outside c.loop.world) (g.W.Told.outside c.hear.new.world) (g.W.Told.outside c.step.new.world) c.loop.session c.in-Ok-hear.event c.in-Ok-Finished.field-0 c.in-Ok-Finished.field-0-0 c.in-Ok-Finished.field-0-is c.loop-test.true c.loop.invariant.held c.in-Ok-hear.ensures.effects c.in-Ok-hear.ensures.coming (c.in-Ok-Finished.ensures.kept ∙ (c.in-Ok-hear.ensures.store ∙ c.loop.invariant.size)) c.in-Ok-Finished.ensures.steps
+pub returns-in-Ended-clause-serves : goal.returns-in-Ended-clause-serves
+returns-in-Ended-clause-serves g c =
+    let before : Session = together c.loop.engine c.loop.shell c.loop.store in
+    let marks : Marks = c.take_event.new.engine.manager.session.marks in
+    let steps = step_ends (g.W.Told.outside c.hear.new.world) (g.W.Told.outside c.take_event.new.world) before c.in-Ok-hear.event c.take_event.new.engine c.in-Ok-take_event.next marks refl c.in-Ok-take_event.ensures.carried (λ m shows. sym (c.in-Ok-take_event.ensures.turn m shows) ∙ ap is_end c.in-Ended.is) in
+    loop_ends c.args.config c.args.turns c.loop.counter (g.W.Told.outside c.args.world.now) (g.W.Told.outside c.loop.world) (g.W.Told.outside c.hear.new.world) (g.W.Told.outside c.take_event.new.world) before c.in-Ok-hear.event (Finished marks) marks refl c.loop-test.true c.loop.invariant.held c.in-Ok-hear.ensures.effects c.in-Ok-hear.ensures.coming (c.in-Ok-take_event.ensures.alone.size ∙ (c.in-Ok-hear.ensures.store ∙ c.loop.invariant.size)) steps
 
-pub returns-in-Ok-Finished-clause-headline : goal.returns-in-Ok-Finished-clause-headline
-returns-in-Ok-Finished-clause-headline g c = keeps_word c.args.config c.args.turns (g.W.Told.outside c.args.world.now) (g.W.Told.outside c.step.new.world) _ (returns-in-Ok-Finished-clause-serves g c)
+pub returns-in-Ended-clause-headline : goal.returns-in-Ended-clause-headline
+returns-in-Ended-clause-headline g c = keeps_word c.args.config c.args.turns (g.W.Told.outside c.args.world.now) (g.W.Told.outside c.take_event.new.world) _ (returns-in-Ended-clause-serves g c)
 
-pub returns-in-Ok-Finished-clause-ready : goal.returns-in-Ok-Finished-clause-ready
-returns-in-Ok-Finished-clause-ready g c = ready c.args.config c.args.turns (g.W.Told.outside c.args.world.now) (g.W.Told.outside c.step.new.world) _ (returns-in-Ok-Finished-clause-serves g c) (c.in-Ok-Finished.ensures.first ∙ (c.in-Ok-hear.ensures.first ∙ c.loop.invariant.first))
+pub returns-in-Ended-clause-ready : goal.returns-in-Ended-clause-ready
+returns-in-Ended-clause-ready g c = ready c.args.config c.args.turns (g.W.Told.outside c.args.world.now) (g.W.Told.outside c.take_event.new.world) _ (returns-in-Ended-clause-serves g c) (c.in-Ok-take_event.ensures.alone.first ∙ (c.in-Ok-hear.ensures.first ∙ c.loop.invariant.first))
 
-pub returns-in-Err-step-clause-serves : goal.returns-in-Err-step-clause-serves
-returns-in-Err-step-clause-serves g c = loop_cut_short c.args.config c.args.turns c.loop.counter (g.W.Told.outside c.args.world.now) (g.W.Told.outside c.loop.world) (g.W.Told.outside c.hear.new.world) (g.W.Told.outside c.step.new.world) c.loop.session c.in-Ok-hear.event c.in-Err-step.fault c.loop-test.true c.loop.invariant.held c.in-Ok-hear.ensures.effects c.in-Ok-hear.ensures.coming (c.in-Err-step.ensures.kept ∙ (c.in-Ok-hear.ensures.store ∙ c.loop.invariant.size)) c.in-Err-step.ensures.steps
+pub returns-in-Err-take_event-clause-serves : goal.returns-in-Err-take_event-clause-serves
+returns-in-Err-take_event-clause-serves g c =
+    let before : Session = together c.loop.engine c.loop.shell c.loop.store in
+    let steps = step_cut_short (g.W.Told.outside c.hear.new.world) (g.W.Told.outside c.take_event.new.world) before c.in-Ok-hear.event c.take_event.new.engine c.in-Err-take_event.halt c.fault-in-Err-take_event.result c.fault-in-Err-take_event.ensures c.in-Err-take_event.ensures.carried in
+    loop_cut_short c.args.config c.args.turns c.loop.counter (g.W.Told.outside c.args.world.now) (g.W.Told.outside c.loop.world) (g.W.Told.outside c.hear.new.world) (g.W.Told.outside c.take_event.new.world) before c.in-Ok-hear.event c.fault-in-Err-take_event.result c.loop-test.true c.loop.invariant.held c.in-Ok-hear.ensures.effects c.in-Ok-hear.ensures.coming (c.in-Err-take_event.ensures.alone.size ∙ (c.in-Ok-hear.ensures.store ∙ c.loop.invariant.size)) steps
 
-pub returns-in-Err-step-clause-headline : goal.returns-in-Err-step-clause-headline
-returns-in-Err-step-clause-headline g c = keeps_word c.args.config c.args.turns (g.W.Told.outside c.args.world.now) (g.W.Told.outside c.step.new.world) _ (returns-in-Err-step-clause-serves g c)
+pub returns-in-Err-take_event-clause-headline : goal.returns-in-Err-take_event-clause-headline
+returns-in-Err-take_event-clause-headline g c = keeps_word c.args.config c.args.turns (g.W.Told.outside c.args.world.now) (g.W.Told.outside c.take_event.new.world) _ (returns-in-Err-take_event-clause-serves g c)
 
-pub returns-in-Err-step-clause-ready : goal.returns-in-Err-step-clause-ready
-returns-in-Err-step-clause-ready g c = ready c.args.config c.args.turns (g.W.Told.outside c.args.world.now) (g.W.Told.outside c.step.new.world) _ (returns-in-Err-step-clause-serves g c) (c.in-Err-step.ensures.first ∙ (c.in-Ok-hear.ensures.first ∙ c.loop.invariant.first))
+pub returns-in-Err-take_event-clause-ready : goal.returns-in-Err-take_event-clause-ready
+returns-in-Err-take_event-clause-ready g c = ready c.args.config c.args.turns (g.W.Told.outside c.args.world.now) (g.W.Told.outside c.take_event.new.world) _ (returns-in-Err-take_event-clause-serves g c) (c.in-Err-take_event.ensures.alone.first ∙ (c.in-Ok-hear.ensures.first ∙ c.loop.invariant.first))
 
 pub loop-init : goal.loop-init
 loop-init g c =
@@ -47,19 +58,22 @@ loop-init g c =
 
 pub loop-preserved : goal.loop-preserved
 loop-preserved g c =
-    let size = c.in-Ok-Goes.ensures.kept ∙ (c.in-Ok-hear.ensures.store ∙ c.loop.invariant.size) in
-    let held = loop_goes_on c.args.config c.loop.counter (c.loop.counter + 1) (g.W.Told.outside c.args.world.now) (g.W.Told.outside c.loop.world) (g.W.Told.outside c.hear.new.world) (g.W.Told.outside c.step.new.world) c.loop.session c.in-Ok-Goes.next c.in-Ok-hear.event (omega arith) c.loop.invariant.held c.in-Ok-hear.ensures.effects c.in-Ok-hear.ensures.coming c.in-Ok-Goes.ensures.coming size (rw c.in-Ok-Goes.field-0-is at c.in-Ok-Goes.ensures.steps) in
+    let before : Session = together c.loop.engine c.loop.shell c.loop.store in
+    let next : Session = together c.take_event.new.engine c.take_event.new.shell c.in-Ok-take_event.next in
+    let size = c.in-Ok-take_event.ensures.alone.size ∙ (c.in-Ok-hear.ensures.store ∙ c.loop.invariant.size) in
+    let steps = step_goes (g.W.Told.outside c.hear.new.world) (g.W.Told.outside c.take_event.new.world) before next c.in-Ok-hear.event c.take_event.new.engine c.in-Ok-take_event.ensures.carried refl (λ m shows. sym (c.in-Ok-take_event.ensures.turn m shows) ∙ ap is_end c.in-GoesOn.is) in
+    let held = loop_goes_on c.args.config c.loop.counter (c.loop.counter + 1) (g.W.Told.outside c.args.world.now) (g.W.Told.outside c.loop.world) (g.W.Told.outside c.hear.new.world) (g.W.Told.outside c.take_event.new.world) before next c.in-Ok-hear.event (omega arith) c.loop.invariant.held c.in-Ok-hear.ensures.effects c.in-Ok-hear.ensures.coming c.in-Ok-take_event.ensures.alone.coming size steps in
     record {
       held = held;
-      shown = shown_in c.args.config (g.W.Told.outside c.args.world.now) (g.W.Told.outside c.step.new.world) (c.loop.counter + 1) c.in-Ok-Goes.next held;
+      shown = shown_in c.args.config (g.W.Told.outside c.args.world.now) (g.W.Told.outside c.take_event.new.world) (c.loop.counter + 1) next held;
       size = size;
-      input = c.in-Ok-Goes.ensures.input ∙ (c.in-Ok-hear.ensures.input ∙ c.loop.invariant.input);
-      first = c.in-Ok-Goes.ensures.first ∙ (c.in-Ok-hear.ensures.first ∙ c.loop.invariant.first);
-      counts = fallen_never _ _ _ c.loop.invariant.counts (fallen_never _ _ _ c.in-Ok-hear.ensures.counts.counts c.in-Ok-Goes.ensures.counts);
+      input = c.in-Ok-take_event.ensures.alone.input ∙ (c.in-Ok-hear.ensures.input ∙ c.loop.invariant.input);
+      first = c.in-Ok-take_event.ensures.alone.first ∙ (c.in-Ok-hear.ensures.first ∙ c.loop.invariant.first);
+      counts = fallen_never _ _ _ c.loop.invariant.counts (fallen_never _ _ _ c.in-Ok-hear.ensures.counts.counts c.in-Ok-take_event.ensures.alone.counts.counts);
     }
 
 pub returns-clause-serves : goal.returns-clause-serves
-returns-clause-serves g c = loop_over c.args.config c.args.turns c.loop.counter (g.W.Told.outside c.args.world.now) (g.W.Told.outside c.loop.world) (g.W.Told.outside c.loop.world) c.loop.session Spent (omega (arith, c.loop.auto.counter-end)) (λ e. absurd cc) refl tt (λ e. omega (arith, c.loop.auto.counter-end, c.loop-test.false)) refl refl c.loop.invariant.held
+returns-clause-serves g c = loop_over c.args.config c.args.turns c.loop.counter (g.W.Told.outside c.args.world.now) (g.W.Told.outside c.loop.world) (g.W.Told.outside c.loop.world) (together c.loop.engine c.loop.shell c.loop.store) Spent (omega (arith, c.loop.auto.counter-end)) (λ e. absurd cc) refl tt (λ e. omega (arith, c.loop.auto.counter-end, c.loop-test.false)) refl refl c.loop.invariant.held
 
 pub returns-clause-headline : goal.returns-clause-headline
 returns-clause-headline g c = keeps_word c.args.config c.args.turns (g.W.Told.outside c.args.world.now) (g.W.Told.outside c.loop.world) _ (returns-clause-serves g c)

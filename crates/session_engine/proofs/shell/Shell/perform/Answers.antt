@@ -1,54 +1,17 @@
-use Rattle.std.proofs.Common.{rules, ◌≡◌, [], ◌∷◌, ◌++◌, ◌∙◌, sym, refl, ap, Ok, Err, List, subst, append_assoc}
-use Rattle.std.proofs.lemmas.List.{append-nil}
+use Rattle.std.proofs.Common.{Err, List, subst}
 use Rattle.sm_world.specs.Outside.{Added}
-use Rattle.sm_world.proofs.Adding.{fallen_never, never_fallen}
+use Rattle.session_engine.specs.Acts.{acts_for_all}
 use Rattle.session_engine.specs.Saved.{Performs}
 use Rattle.session_engine.specs.declared.acts.Act.{Act}
-use Rattle.session_engine.proofs.Performing.{told_nothing, told_stopped, told_then}
+use Rattle.session_engine.proofs.Performing.{told_stopped, told_then}
 use Rattle.session_engine.proofs.shell.Shell.perform.Goals as goal
 
-pub loop-act-init : goal.loop-act-init
-loop-act-init g c = record {
-  performs = ([], c.into_queue-left.ensures.is, told_nothing c.args.store _);
-  can = c.into_queue-left.ensures.can;
-  size = refl;
-  coming = refl;
-  input = refl;
-  first = refl;
-  counts = never_fallen _;
-}
+pub returns-in-Ok-clause-done : goal.returns-in-Ok-clause-done
+returns-in-Ok-clause-done g c =
+    subst (λ (acts : List Act). Added (g.W.Told.outside c.args.world.now).told (g.W.Told.outside c.perform_did.new.world).told (Performs c.args.store acts c.perform_did.result)) c.into_queues-said.ensures.is
+    (told_then c.args.store c.in-Ok.store c.into_queues-said.result.0.items (acts_for_all c.into_queues-said.result.1.items) c.perform_did.result _ _ _ c.in-Ok.ensures.done c.perform_did.ensures.done)
 
 pub returns-in-Err-clause-done : goal.returns-in-Err-clause-done
 returns-in-Err-clause-done g c =
-    let so_far = c.loop-act.invariant.performs in
-    let left = c.in-Some.ensures.items in
-    let rest : List Act = c.pop_front.new.self.items in
-    let whole : (so_far.0 ++ c.in-Some.act ∷ []) ++ rest ≡ c.args.acts = append_assoc so_far.0 (c.in-Some.act ∷ []) rest ∙ (ap (λ acts. so_far.0 ++ acts) (sym left) ∙ so_far.1) in
-    subst (λ (acts : List Act). Added (g.W.Told.outside c.args.world.now).told (g.W.Told.outside c.do_act.new.world).told (Performs c.args.store acts (Err c.in-Err.halt))) whole
-    (told_stopped c.args.store (so_far.0 ++ c.in-Some.act ∷ []) rest c.in-Err.halt _ _ (told_then c.args.store c.loop-act.store so_far.0 (c.in-Some.act ∷ []) (Err c.in-Err.halt) _ _ _ so_far.2 c.in-Err.ensures.done))
-
-pub loop-act-preserved : goal.loop-act-preserved
-loop-act-preserved g c =
-    let so_far = c.loop-act.invariant.performs in
-    let left = c.in-Some.ensures.items in
-    let rest : List Act = c.pop_front.new.self.items in
-    record {
-      performs = (
-        so_far.0 ++ c.in-Some.act ∷ [],
-        append_assoc so_far.0 (c.in-Some.act ∷ []) rest ∙ (ap (λ acts. so_far.0 ++ acts) (sym left) ∙ so_far.1),
-        told_then c.args.store c.loop-act.store so_far.0 (c.in-Some.act ∷ []) (Ok c.in-Ok.next) _ _ _ so_far.2 c.in-Ok.ensures.done,
-      );
-      can = (rw left at c.loop-act.invariant.can).1;
-      size = c.in-Ok.ensures.alone.size ∙ c.loop-act.invariant.size;
-      coming = c.in-Ok.ensures.alone.coming ∙ c.loop-act.invariant.coming;
-      input = c.in-Ok.ensures.alone.input ∙ c.loop-act.invariant.input;
-      first = c.in-Ok.ensures.alone.first ∙ c.loop-act.invariant.first;
-      counts = fallen_never _ _ _ c.loop-act.invariant.counts c.in-Ok.ensures.alone.counts.counts;
-    }
-
-pub returns-clause-done : goal.returns-clause-done
-returns-clause-done g c =
-    let so_far = c.loop-act.invariant.performs in
-    let none : c.loop-act.left.items ≡ [] = search rules in
-    let all : so_far.0 ≡ c.args.acts = sym (append-nil so_far.0) ∙ (ap (λ xs. so_far.0 ++ xs) (sym none) ∙ so_far.1) in
-    subst (λ (acts : List Act). Added (g.W.Told.outside c.args.world.now).told (g.W.Told.outside c.loop-act.world).told (Performs c.args.store acts (Ok c.loop-act.store))) all so_far.2
+    subst (λ (acts : List Act). Added (g.W.Told.outside c.args.world.now).told (g.W.Told.outside c.perform_said.new.world).told (Performs c.args.store acts (Err c.in-Err.halt))) c.into_queues-said.ensures.is
+    (told_stopped c.args.store c.into_queues-said.result.0.items (acts_for_all c.into_queues-said.result.1.items) c.in-Err.halt _ _ c.in-Err.ensures.done)
