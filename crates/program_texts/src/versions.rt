@@ -1,8 +1,9 @@
-/// The line of a program: its name, the version, which is that of all of them, and the kit that proved
-/// them, as `rt version` tells it.
+/// The line of a program: its name, the version, which is that of all of them, and the program logic in
+/// which they are proved, as `rt version` tells it behind the name of the kit. Kits of one logic differ
+/// in their commands, and not in what a proof is.
 macro_rules! version_of {
     ($program:literal) => {
-        concat!($program, " 0.1.0, proved with rattle-kit-13f logic dac8208d650f15bf\n")
+        concat!($program, " 0.1.0, proved with logic dac8208d650f15bf\n")
     };
 }
 
