@@ -1,7 +1,7 @@
 #!/usr/bin/env python3
 """Reads a store by docs/formats.md, by itself, and prints what `smd store-check --json` should print of it:
     peers/stored.py STORE
-The epoch, the programs that a login starts, the entries and the pending commands."""
+The epoch, the programs that a login starts, the entries of `default`, the other sessions and the pending commands."""
 import json
 import struct
 import sys
@@ -9,6 +9,7 @@ import sys
 SLOT = 8388608
 HEAD = 16
 OPEN = 0xA5
+DEFAULT = b"default"
 HINTS = ["IfRunning", "Anyway", "Immediately", "Never"]
 
 
@@ -46,43 +47,58 @@ class Reader:
     def entry(self):
         return self.text(), self.many(self.property)
 
+    def session(self):
+        name, count, _ = self.text(), self.number(), self.number()
+        return name, [self.entry() for _ in range(count)]
+
     def command(self):
         return self.texts(), self.text(), self.texts()
 
 
 def read_book(reader):
-    _, epoch, entries, pending = (reader.number() for _ in range(4))
-    return epoch, [reader.entry() for _ in range(entries)], [reader.command() for _ in range(pending)]
+    """The epoch, the entries of each session by its name, and the pending commands."""
+    format_, epoch, count, pending = (reader.number() for _ in range(4))
+    if format_ == 1:
+        sessions = {DEFAULT: [reader.entry() for _ in range(count)]}
+    else:
+        sessions = dict(reader.session() for _ in range(count))
+    return epoch, sessions, [reader.command() for _ in range(pending)]
+
+
+def put(sessions, name, new):
+    entries = sessions.setdefault(name, [])
+    ids = [entry[0] for entry in entries]
+    if new[0] in ids:
+        entries[ids.index(new[0])] = new
+    else:
+        entries.append(new)
 
 
 def amend(book, reader, end):
     """Does the changes of one amendment."""
-    epoch, entries, pending = book
+    epoch, sessions, pending = book
     while reader.at < end:
         code, number = reader.number(), reader.number()
         if code == 1:
             epoch = number
         elif code == 2:
             gone = reader.text()
-            entries = [entry for entry in entries if entry[0] != gone]
+            sessions = {name: [entry for entry in entries if entry[0] != gone] for name, entries in sessions.items()}
         elif code == 3:
-            new = reader.entry()
-            ids = [entry[0] for entry in entries]
-            if new[0] in ids:
-                entries[ids.index(new[0])] = new
-            else:
-                entries.append(new)
+            put(sessions, DEFAULT, reader.entry())
+        elif code == 6:
+            put(sessions, reader.text(), reader.entry())
         elif code == 4:
             del pending[number]
         else:
             pending.append(reader.command())
-    return epoch, entries, pending
+    return epoch, sessions, pending
 
 
 def book_of(file):
     starts = [start for gate, start in ((0, 64), (32, 64 + SLOT)) if file[gate] == OPEN]
     if not starts:
-        return 0, [], []
+        return 0, {}, []
     start = max(starts, key=lambda at: struct.unpack_from("<Q", file, at))
     slot = file[start : start + SLOT]
     count = struct.unpack_from("<I", slot, 8)[0]
@@ -134,12 +150,14 @@ def entry_shown(entry):
 
 def main():
     with open(sys.argv[1], "rb") as store:
-        epoch, entries, pending = book_of(store.read())
-    entries = [entry_shown(entry) for entry in entries]
+        epoch, sessions, pending = book_of(store.read())
+    shown_of = {name: [entry_shown(entry) for entry in entries] for name, entries in sorted(sessions.items()) if entries}
+    entries = shown_of.pop(DEFAULT, [])
     found = {
         "epoch": epoch,
         "starts": sum(1 for entry in entries if entry["restart"] and entry["hint"] != "Never"),
         "entries": entries,
+        "others": [{"name": shown(name), "entries": others} for name, others in shown_of.items()],
         "pending": [command_shown(command) for command in pending],
     }
     json.dump(found, sys.stdout, indent=2, ensure_ascii=False)

@@ -355,7 +355,7 @@ judgements() {
   check "two slots of one generation are a damage" judged 2 'smd: store damaged at 64' $size 0 '\xa5' 32 '\xa5'
   check "a length that can't be is a damage" judged 2 'smd: store damaged at 72' $size 0 '\xa5' 72 '\xff\xff\xff\xff'
   check "what is no book is a damage" judged 2 'smd: store damaged at 8388688' $size \
-    32 '\xa5' 8388680 '\x10' 8388688 '\x02'
+    32 '\xa5' 8388680 '\x10' 8388688 '\x03'
   check "what is no amendment is a damage" judged 2 'smd: store damaged at 96' $size \
     0 '\xa5' 72 '\x10' 80 '\x01' 96 '\xa5\x01'
 }

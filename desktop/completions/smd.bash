@@ -7,7 +7,7 @@ _smd_words() {
     --order) echo lsb msb ;;
     drop) smctl clients --plain 2> /dev/null | sed -n 's/^conn=\([0-9]*\) .*/\1/p' ;;
     forget) smctl clients --plain 2> /dev/null | sed -n 's/.* id=\([^ -][^ ]*\).*/\1/p' ;;
-    --patience | --last-wait | --from | --saves | --id | --outer-id | --program | --seconds | --restore) ;;
+    --patience | --session | --last-wait | --from | --saves | --id | --outer-id | --program | --seconds | --restore) ;;
     *) _smd_own "$line" ;;
   esac
 }
@@ -16,9 +16,10 @@ _smd_words() {
 _smd_own() {
   set -- $1
   case ${1##*/}:${2-} in
-    smd:) echo serve rehearse exercise store-check --help --version ;;
-    smd:serve) echo --socket --control --store --authority --patience --private --last-wait --quirks --record ;;
+    smd:) echo serve rehearse exercise store-check sessions --help --version ;;
+    smd:serve) echo --socket --control --store --authority --patience --session --private --last-wait --quirks --record ;;
     smd:store-check) echo --store --json ;;
+    smd:sessions) echo --store ;;
     smctl: | smctl:--control) echo checkpoint shutdown cancel status clients drop forget --control --help --version ;;
     smctl:clients) echo --plain ;;
     smctl:shutdown) echo --wait ;;

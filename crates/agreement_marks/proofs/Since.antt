@@ -1,9 +1,8 @@
 -- A round that is agreed, and that hadn't begun before, began since then.
-use Rattle.std.proofs.Common.{◌≡◌, refl, ℕ, ◌+◌, ◌-◌, ◌^◌, ◌<◌, ◌≤◌, min, Bool, true, false, cond, List, [], ◌∷◌, ◌++◌, sym, ap, subst, ◌∙◌, arith}
+use Rattle.std.proofs.Common.{◌≡◌, refl, ℕ, ◌-◌, ◌^◌, ◌<◌, ◌≤◌, Bool, true, false, cond, List, [], ◌∷◌, ◌++◌, sym, ap, subst, ◌∙◌, arith}
 use Rattle.std.specs.Prelude.{Option, None, Some}
 use Rattle.std.proofs.lemmas.List.{append_assoc}
 use Rattle.sm_world.specs.Calls.{one_more}
-use Rattle.round_agreement.specs.declared.wanted.Wanted.{Wanted}
 use Rattle.session_model.specs.declared.marks.Marks.{Marks}
 use Rattle.session_model.specs.Moves.{Agreed, Began, Cancelled, History, Move, Opened, Over, onto, ◌▷◌}
 use Rattle.session_model.specs.Readings as of

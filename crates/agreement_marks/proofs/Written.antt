@@ -1,6 +1,6 @@
 -- Directly before each agreement a book is written.
-use Rattle.std.proofs.Common.{◌≡◌, refl, ℕ, ◌+◌, ◌<◌, Bool, true, false, cond, not, ◌&&◌, List, [], ◌∷◌, ◌++◌, filter, sym, ap, subst, ◌∙◌, arith}
-use Rattle.std.specs.Prelude.{Option, None, Some, codes}
+use Rattle.std.proofs.Common.{◌≡◌, refl, ℕ, ◌+◌, Bool, true, false, not, ◌&&◌, List, [], ◌∷◌, ◌++◌, filter, sym, ap, subst, ◌∙◌, arith}
+use Rattle.std.specs.Prelude.{Option, None, Some}
 use Rattle.std.specs.List.{AllByRecursion}
 use Rattle.std.proofs.lemmas.List.{append_assoc}
 use Rattle.sm_world.specs.declared.events.Order.{Order}
@@ -9,10 +9,10 @@ use Rattle.checkpoint_records.specs.declared.records.Book.{Book}
 use Rattle.checkpoint_records.specs.Rules.{client_id}
 use Rattle.discard_ledger.specs.Discards.{issuable}
 use Rattle.interact_queue.specs.Queue.{next_holder}
-use Rattle.round_agreement.specs.Agreement.{Agreement, agreed, conns_of, deserted, two_ready}
+use Rattle.round_agreement.specs.Agreement.{Agreement, agreed, deserted, two_ready}
 use Rattle.round_agreement.specs.declared.wanted.Wanted.{Wanted}
 use Rattle.xsmp_messages.specs.declared.message.XsmpMessage.{XsmpMessage}
-use Rattle.xsmp_messages.specs.declared.message.XsmpMessage.TheVariants.{ConnectionClosed, Error, GetProperties, Interact, InteractDone, RegisterClient, RegisterClientReply, SaveYourselfPhase2, SaveYourselfRequest, SetProperties}
+use Rattle.xsmp_messages.specs.declared.message.XsmpMessage.TheVariants.{ConnectionClosed, Error, GetProperties, InteractDone, RegisterClient, RegisterClientReply, SaveYourselfPhase2, SaveYourselfRequest, SetProperties}
 use Rattle.xsmp_properties.specs.Tables.{set_all}
 use Rattle.session_model.specs.declared.events.Arrival.{Arrival}
 use Rattle.session_model.specs.declared.events.SessionEvent.{SessionEvent}
@@ -22,17 +22,16 @@ use Rattle.session_model.specs.declared.phase.Phase.TheVariants.{Dying}
 use Rattle.session_model.specs.declared.waits.Wait.{Wait}
 use Rattle.session_model.specs.Books.{book_forgetting, discarded, next_book, opening_moves, standing}
 use Rattle.session_model.specs.Errors.{bad_id, full_table, lone_shutdown, no_room}
-use Rattle.session_model.specs.Moves.{Agreed, Began, Blamed, Closed, Committed, Finished, Gave, History, Move, Opened, Opening, Outside, Over, Unset, gave_each, onto, ◌▷◌}
+use Rattle.session_model.specs.Moves.{Agreed, Began, Blamed, Closed, Committed, Gave, History, Move, Opened, Opening, Outside, Unset, gave_each, onto, ◌▷◌}
 use Rattle.session_model.specs.Phases.{is_owing, is_shutdown}
 use Rattle.session_model.specs.Reading.{Reading, reading, wanted_in}
-use Rattle.session_model.specs.Readings as of
-use Rattle.session_model.specs.Replies.{answered, called_off, has_no_place, has_no_room, has_place, is_overdue, may_rejoin, ordered, placed, register, reply, respawned, said, unless_dying, waited, want_cancel}
+use Rattle.session_model.specs.Replies.{answered, called_off, has_no_place, has_no_room, has_place, is_overdue, may_rejoin, placed, register, reply, said, unless_dying, want_cancel}
 use Rattle.session_model.specs.Rules.{agreed_rule, begin_first, completed, idle_rule, is_free, members_for, over_rule, opened, round_rule, rule, run, running_rule, save_yourself, taken, token_rule, wanting_two}
 use Rattle.session_model.specs.Tables.{is_full}
 use Rattle.session_model.proofs.Driven.{taken-keeps}
 use Rattle.session_model.proofs.Level.{onto-append}
 use Rattle.session_model.proofs.MoveKinds.{IsWide, Suffices, every-append, every-completed, every-cond, every-departs, every-gave, every-issue, every-off, every-opening, every-or-bad, every-ordered, every-respawned}
-use Rattle.agreement_marks.specs.Agreements.{AgreementsAreWritten, HasAgreed, HasSaved, MarkedSavesAreWritten, TurnNone, WritesBooks, has_just_written, is_turn}
+use Rattle.agreement_marks.specs.Agreements.{AgreementsAreWritten, HasAgreed, HasSaved, MarkedSavesAreWritten, TurnNone, WritesBooks, has_just_written}
 use Rattle.agreement_marks.proofs.Since.{backwards, began-since, in_order, past, past-is}
 
 -- Moves that agree nothing

@@ -1,4 +1,5 @@
 pub mod Filters
+pub mod Beside
 pub mod Entries
 pub mod Neighbours
 pub mod Ordering

@@ -1,16 +1,16 @@
 -- Each way in which a session makes the next book keeps the order of the one before it.
-use Rattle.std.proofs.Common.{◌≡◌, ℕ, Bool, true, false, cond, not, ◌||◌, List, [], ◌∷◌, ◌++◌, map, refl, sym, ap, ◌∙◌, subst, append_assoc}
+use Rattle.std.proofs.Common.{◌≡◌, ℕ, Bool, true, false, cond, not, List, [], ◌∷◌, ◌++◌, refl, sym, ap, ◌∙◌, subst, append_assoc}
 use Rattle.std.proofs.lemmas.List.{append-nil}
 use Rattle.std.proofs.lemmas.List.Elements.{filter-append}
 use Rattle.std.proofs.lemmas.List.Folds.{list_any-append}
 use Rattle.std.specs.Prelude.{filter, if◌then◌else◌}
-use Rattle.std.specs.List.{AllByRecursion, IsDistinct, list_any}
+use Rattle.std.specs.List.{AllByRecursion, IsDistinct}
 use Rattle.std.specs.Str.{bytes_eq}
 use lib.Pointwise.{bytes_decides}
 use Rattle.owned_lists.specs.declared.commands.Command.{Command}
 use Rattle.checkpoint_changes.specs.Plain.{KeepOrder, KeepsOrder, equal_command}
 use Rattle.checkpoint_changes.proofs.EqualLaws.{command_decides}
-use Rattle.checkpoint_records.specs.Books.{discards, same_command}
+use Rattle.checkpoint_records.specs.Books.{discards, entries_in, same_command}
 use Rattle.checkpoint_records.specs.Rules.{KeepsRules, ids_of}
 use Rattle.checkpoint_records.specs.declared.records.Book.{Book}
 use Rattle.checkpoint_records.specs.declared.records.Entry.{Entry}
@@ -22,6 +22,7 @@ use Rattle.session_model.specs.Reading.{Store, reading}
 use Rattle.session_model.specs.Readings as of
 use Rattle.session_model.specs.Tables.{is_of}
 use Rattle.session_model.proofs.Pending.{all-more, command_equiv, distinct-filter}
+use Rattle.book_order.proofs.Beside.{chosen_differ, order_beside}
 use Rattle.book_order.proofs.Entries.{order_next_entries}
 use Rattle.book_order.proofs.Filters.{either_false, order_chosen, order_filter, order_same}
 
@@ -85,17 +86,16 @@ order_parts gone pending new added is none =
 order_pending : (store : Store) (entries : List Entry) → IsDistinct same_command store.book.pending → KeepsRules (with_entries store entries) → KeepsOrder equal_command store.book.pending (with_entries store entries).pending
 order_pending store entries differ rules =
     let more : List Command = discards store.book.entries ++ store.strays in
-    let parts = pending_parts (discards entries) store.book.pending more differ in
-    order_parts (discards entries) store.book.pending (with_entries store entries).pending parts.0
-    (ap (λ cs. each_once (without_commands (discards entries) cs)) (append_assoc store.book.pending (discards store.book.entries) store.strays) ∙ parts.1) rules.none_named
+    let named : List Command = discards (entries ++ entries_in store.book.others) in
+    let parts = pending_parts named store.book.pending more differ in
+    order_parts named store.book.pending (with_entries store entries).pending parts.0
+    (ap (λ cs. each_once (without_commands named cs)) (append_assoc store.book.pending (discards store.book.entries) store.strays) ∙ parts.1) rules.none_named
 
 -- The books
 
 pub order_next : (h : History) (round : Agreement) → KeepsRules (of.book h) → KeepsRules (next_book (reading h) round) → KeepOrder (of.book h) (next_book (reading h) round)
-order_next h round rules next = record {
-  entries = order_next_entries h round rules.ids_differ;
-  pending = order_pending (reading h).store (next_entries (reading h) round) rules.commands_differ next;
-}
+order_next h round rules next =
+    order_beside (of.book h) (next_book (reading h) round) rules next refl refl (order_next_entries h round (chosen_differ (of.book h) rules)) (order_pending (reading h).store (next_entries (reading h) round) rules.commands_differ next)
 
 other_ids : (id : List ℕ) (entries : List Entry) → ids_of (filter (λ entry. not (is_of id entry)) entries) ≡ filter (λ other. not (bytes_eq id other)) (ids_of entries)
 other_ids id [] = refl
@@ -107,17 +107,15 @@ other_ids id (entry ∷ entries) = by (not (bytes_eq id entry.id)) (other_ids id
     by false rest = rest
 
 pub order_forgetting : (store : Store) (id : List ℕ) → KeepsRules store.book → KeepsRules (book_forgetting store id) → KeepOrder store.book (book_forgetting store id)
-order_forgetting store id rules next = record {
-  entries = subst (λ (ids : List (List ℕ)). KeepsOrder bytes_eq (ids_of store.book.entries) ids) (sym (other_ids id store.book.entries)) (order_chosen bytes_eq bytes_decides (λ other. not (bytes_eq id other)) (ids_of store.book.entries));
-  pending = order_pending store (filter (λ entry. not (is_of id entry)) store.book.entries) rules.commands_differ next;
-}
+order_forgetting store id rules next =
+    order_beside store.book (book_forgetting store id) rules next refl refl
+    (subst (λ (ids : List (List ℕ)). KeepsOrder bytes_eq (ids_of store.book.entries) ids) (sym (other_ids id store.book.entries)) (order_chosen bytes_eq bytes_decides (λ other. not (bytes_eq id other)) (ids_of store.book.entries)))
+    (order_pending store (filter (λ entry. not (is_of id entry)) store.book.entries) rules.commands_differ next)
 
 -- commands that were tried are taken out
-pub order_without : (book : Book) (gone : List Command) → KeepOrder book (record book { pending = without_commands gone book.pending })
-order_without book gone = record {
-  entries = order_same bytes_eq bytes_decides (ids_of book.entries);
-  pending = order_chosen equal_command command_decides (λ c. not (is_among c gone)) book.pending;
-}
+pub order_without : (book : Book) (gone : List Command) → KeepsRules book → KeepsRules (record book { pending = without_commands gone book.pending }) → KeepOrder book (record book { pending = without_commands gone book.pending })
+order_without book gone rules next =
+    order_beside book (record book { pending = without_commands gone book.pending }) rules next refl refl (order_same bytes_eq bytes_decides (ids_of book.entries)) (order_chosen equal_command command_decides (λ c. not (is_among c gone)) book.pending)
 
-pub order_raised : (book : Book) → KeepOrder book (raised book)
-order_raised book = record { entries = order_same bytes_eq bytes_decides (ids_of book.entries); pending = order_same equal_command command_decides book.pending }
+pub order_raised : (book : Book) → KeepsRules book → KeepsRules (raised book) → KeepOrder book (raised book)
+order_raised book rules next = order_beside book (raised book) rules next refl refl (order_same bytes_eq bytes_decides (ids_of book.entries)) (order_same equal_command command_decides book.pending)

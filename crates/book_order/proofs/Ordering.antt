@@ -1,39 +1,37 @@
 -- Whatever happens in a session, each book that it writes keeps the order of the one before it.
-use Rattle.std.proofs.Common.{◌≡◌, ℕ, zero, suc, ◌+◌, ◌*◌, Bool, true, false, cond, not, ◌&&◌, ◌||◌, List, [], ◌∷◌, ◌++◌, map, filter, length, refl, sym, ap, ◌∙◌, subst, append_assoc}
+use Rattle.std.proofs.Common.{◌≡◌, ℕ, ◌+◌, Bool, true, false, cond, not, ◌&&◌, ◌||◌, List, [], ◌∷◌, ◌++◌, filter, refl, sym, ap, ◌∙◌, subst, append_assoc}
 use Rattle.std.proofs.lemmas.List.{append-nil}
 use Rattle.std.proofs.lemmas.Grind.{flat_map-append}
-use Rattle.std.specs.Prelude.{Option, None, Some, is_some, filter_map, codes}
+use Rattle.std.specs.Prelude.{Option, None, Some, is_some, codes}
 use Rattle.std.specs.List.{AllByRecursion, flat_map}
 use Rattle.owned_lists.specs.declared.commands.Command.{Command}
 use Rattle.sm_world.specs.declared.events.Order.{Order}
-use Rattle.sm_world.specs.declared.events.Order.TheVariants.{Cancel, Checkpoint, DropConn, Forget, Shutdown, Status}
+use Rattle.sm_world.specs.declared.events.Order.TheVariants.{Cancel, Forget}
 use Rattle.xsmp_properties.specs.Tables.{set_all}
-use Rattle.checkpoint_changes.specs.Plain.{KeepOrder}
 use Rattle.checkpoint_records.specs.declared.records.Book.{Book}
 use Rattle.checkpoint_records.specs.declared.records.Entry.{Entry}
 use Rattle.checkpoint_records.specs.Rules.{client_id}
-use Rattle.round_agreement.specs.Agreement.{Agreement, agreed, conns_of, deserted, is_nil, two_ready}
-use Rattle.interact_queue.specs.Queue.{is_in, next_holder}
-use Rattle.restart_plan.specs.Restarts.{opening_restarts, respawn}
+use Rattle.round_agreement.specs.Agreement.{Agreement, agreed, deserted, two_ready}
+use Rattle.interact_queue.specs.Queue.{next_holder}
+use Rattle.restart_plan.specs.Restarts.{opening_restarts}
 use Rattle.discard_ledger.specs.Discards.{issuable, without_commands}
 use Rattle.xsmp_messages.specs.declared.message.XsmpMessage.{XsmpMessage}
-use Rattle.xsmp_messages.specs.declared.message.XsmpMessage.TheVariants.{ConnectionClosed, DeleteProperties, Die, Error, GetProperties, InteractDone, InteractRequest, RegisterClient, RegisterClientReply, SaveComplete, SaveYourselfDone, SaveYourselfPhase2, SaveYourselfPhase2Request, SaveYourselfRequest, SetProperties, ShutdownCancelled}
-use Rattle.session_model.specs.declared.events.Act.{Act}
+use Rattle.xsmp_messages.specs.declared.message.XsmpMessage.TheVariants.{ConnectionClosed, Error, GetProperties, InteractDone, RegisterClient, RegisterClientReply, SaveYourselfPhase2, SaveYourselfRequest, SetProperties}
 use Rattle.session_model.specs.declared.events.SessionEvent.{SessionEvent}
 use Rattle.session_model.specs.declared.events.SessionEvent.TheVariants.{Joined, Left, Operator, Ready, Said, Tick}
 use Rattle.session_model.specs.declared.phase.Phase.{Phase}
 use Rattle.session_model.specs.declared.phase.Phase.TheVariants.{Dying}
 use Rattle.session_model.specs.declared.waits.Wait.{Wait}
-use Rattle.session_model.specs.Phases.{is_bound, is_dying, is_first_saving, is_interacting, is_owing, is_saving, is_shutdown, is_unregistered, may_interact}
+use Rattle.session_model.specs.Phases.{is_owing, is_shutdown}
 use Rattle.session_model.specs.Tables.{entry_of, is_full}
 use Rattle.session_model.specs.Errors.{bad_id, full_table, lone_shutdown, no_room}
 use Rattle.session_model.specs.declared.events.Arrival.{Arrival}
-use Rattle.session_model.specs.Moves.{Agreed, Began, Blamed, Cancelled, Cause, Closed, Committed, Discard, End, Finished, Gave, History, Move, Opened, Opening, Outside, Over, Printed, Restart, Tried, Unset, acts_of, all_acts, gave_each, onto, tried_each, ◌▷◌}
+use Rattle.session_model.specs.Moves.{Blamed, Closed, Committed, Discard, Finished, Gave, History, Move, Opened, Opening, Outside, Printed, Restart, Unset, acts_of, all_acts, gave_each, onto, tried_each, ◌▷◌}
 use Rattle.session_model.specs.Readings as of
 use Rattle.session_model.specs.Reading.{Clients, Reading, client_of, reading, wanted_in}
 use Rattle.session_model.specs.Books.{book_forgetting, command_anyway, discarded, issue, next_book, opening_moves, raised, standing}
-use Rattle.session_model.specs.Replies.{answered, called_off, depart, enter, entry_respawn, forget_one, forgotten, has_no_place, has_no_room, has_place, placed, id_respawn, is_overdue, may_rejoin, or_bad_state, ordered, register, rejoin, reply, resigned, respawn_moves, respawned, said, unless_dying, waited, want_cancel}
-use Rattle.session_model.specs.Rules.{agreed_rule, begin_first, completed, ended, go_on, idle_rule, is_free, last_command, members_for, opened, over_rule, round_rule, rule, running_rule, save_yourself, settle, settled, taken, token_rule, wanting_two}
+use Rattle.session_model.specs.Replies.{answered, called_off, enter, forget_one, forgotten, has_no_place, has_no_room, has_place, placed, is_overdue, may_rejoin, ordered, register, rejoin, reply, resigned, respawned, said, unless_dying, waited, want_cancel}
+use Rattle.session_model.specs.Rules.{agreed_rule, begin_first, completed, idle_rule, is_free, members_for, opened, over_rule, round_rule, rule, running_rule, save_yourself, taken, token_rule, wanting_two}
 use Rattle.session_model.proofs.Driven.{taken-keeps}
 use Rattle.session_model.proofs.MoveKinds.{IsWide, every-completed, every-cond, every-depart, every-departs, every-gave, every-off, every-or-bad, every-ordered, every-resigned, every-respawned, every-tried}
 use Rattle.book_order.specs.Order.{GoesOn, InOrder, book_of, books_of, last_of}
@@ -107,7 +105,7 @@ order_issue : (book : Book) (commands : List Command) → InOrder book (written 
 order_issue book [] = tt
 order_issue book (command ∷ commands) =
     quiet_then book (tried_each Discard (command ∷ commands)) (Committed (record book { pending = without_commands (command ∷ commands) book.pending }) ∷ []) (every-tried IsSilent Discard (command ∷ commands) (λ tried. tt))
-    ((λ rules next. order_without book (command ∷ commands)), tt)
+    (record { name = refl; others = refl; order = λ rules next. order_without book (command ∷ commands) rules next }, tt)
 
 -- Rules
 
@@ -115,7 +113,7 @@ order_agreed : (b : Bool) (h : History) (round : Agreement) → InOrder (of.book
 order_agreed true h round =
     let book : Book = next_book (reading h) round in
     let clients : Clients = (reading h).clients in (
-      order_next h round,
+      record { name = refl; others = refl; order = λ rules next. order_next h round rules next },
       quiet_then book (completed round.wanted.shutdown clients round book) (discarded clients book) (every-completed IsSilent round.wanted.shutdown (reading h) round book silent_wide (λ command. tt) (λ c m e. tt)) (order_issue book (issuable (standing clients) book.pending)),
     )
 order_agreed false h round = over (deserted round) where
@@ -193,7 +191,7 @@ order_forgotten : (r : Reading) (id : List ℕ) (entry : Entry) → InOrder r.st
 order_forgotten r id entry =
     let book : Book = book_forgetting r.store id in
     let last : Option Command = command_anyway (codes "ResignCommand") entry in
-    (order_forgetting r.store id, quiet_then book (resigned last) (discarded r.clients book) (every-resigned IsSilent last silent_wide) (order_issue book (issuable (standing r.clients) book.pending)))
+    (record { name = refl; others = refl; order = λ rules next. order_forgetting r.store id rules next }, quiet_then book (resigned last) (discarded r.clients book) (every-resigned IsSilent last silent_wide) (order_issue book (issuable (standing r.clients) book.pending)))
 
 order_forget_one : (r : Reading) (id : List ℕ) (entry : Option Entry) → InOrder r.store.book (written (forget_one r id entry))
 order_forget_one r id None = tt
@@ -243,6 +241,6 @@ pub openings_keep : (opening : Opening) → GoesOn (Opened opening) (opened open
 openings_keep opening =
     let book : Book = opening.book in
     follows_onto (Opened opening) (Opened opening) (opening_moves book) (
-      (λ rules next. order_raised book),
+      record { name = refl; others = refl; order = λ rules next. order_raised book rules next },
       then_quiet (raised book) (issue (raised book) book.pending) (tried_each Restart (opening_restarts book.entries)) (order_issue (raised book) book.pending) (every-tried IsSilent Restart (opening_restarts book.entries) (λ command. tt)),
     ) (follows_itself (Opened opening))

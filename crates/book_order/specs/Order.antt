@@ -26,9 +26,12 @@ book_of Finish = []
 abbrev pub books_of : List Act → List Book
 books_of acts = flat_map book_of acts
 
--- a book keeps the order of the one before it, where both keep the rules
-abbrev pub Follows : Book → Book → Type 0
-Follows before book = KeepsRules before → KeepsRules book → KeepOrder before book
+-- A book is of the same session as the one before it, has the other sessions as they were, and keeps the order of that one where both keep
+-- the rules.
+pub record Follows (before book : Book) : Type 0 where
+  pub name : book.name ≡ before.name
+  pub others : book.others ≡ before.others
+  pub order : KeepsRules before → KeepsRules book → KeepOrder before book
 
 -- each of these books does
 abbrev pub InOrder : Book → List Book → Type 0

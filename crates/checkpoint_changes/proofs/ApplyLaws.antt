@@ -1,5 +1,5 @@
 -- What a change does to lists, by places.
-use Rattle.std.proofs.Common.{◌≡◌, ℕ, zero, suc, ◌<◌, ◌≤◌, true, false, List, [], ◌∷◌, ◌++◌, length, set, Some, None, refl, sym, ap, ◌∙◌, subst, arith}
+use Rattle.std.proofs.Common.{◌≡◌, ℕ, zero, suc, ◌+◌, ◌<◌, ◌≤◌, ap₂, drop, get_or, add-one, drop-cons, true, false, List, [], ◌∷◌, ◌++◌, length, set, Some, None, refl, sym, ap, ◌∙◌, subst, arith}
 use Rattle.std.specs.Prelude.{HoldsAt, remove}
 use Rattle.std.specs.List.{AllWithin}
 use Rattle.std.specs.Str.{bytes_eq}
@@ -51,6 +51,9 @@ pub at_found : {A : Type 0} (n : ℕ) (items : List A) → n < length items → 
 at_found n [] lt = absurd (omega (arith, lt))
 at_found zero (x ∷ items) lt = refl
 at_found (suc n) (x ∷ items) lt = (let rest = at_found n items (omega (arith, lt)) in rw rest refl)
+
+pub next_item : {A : Type 0} (i : ℕ) (xs : List A) (x : A) → i < length xs → x ≡ get_or xs i x → drop i xs ≡ x ∷ drop (i + 1) xs
+next_item {A} i xs x lt is = drop-cons xs i x lt ∙ ap₂ (λ (y : A) (n : ℕ). y ∷ drop n xs) (sym is) (sym (add-one i))
 
 -- ---- the calls
 

@@ -1,10 +1,9 @@
 -- The changes that make one book of another.
-use Rattle.std.proofs.Common.{◌≡◌, ℕ, ◌+◌, Bool, true, false, cond, List, [], ◌∷◌, ◌++◌, length, map, Option, Some, None, refl, sym, ap, ap₂, ◌∙◌, subst, append_assoc, arith, length-append}
+use Rattle.std.proofs.Common.{◌≡◌, ℕ, ◌+◌, Bool, true, false, cond, List, [], ◌∷◌, ◌++◌, length, map, Option, Some, None, refl, sym, ap, ap₂, ◌∙◌, append_assoc, arith, length-append}
 use Rattle.std.specs.Prelude.{option_and_then, if◌then◌else◌}
-use Rattle.std.specs.List.{AllByRecursion, IsDistinct}
+use Rattle.std.specs.List.{AllByRecursion}
 use Rattle.std.specs.Str.{bytes_eq}
 use Rattle.std.proofs.lemmas.List.{append-nil}
-use lib.Pointwise.{bytes_decides}
 use Rattle.owned_lists.specs.declared.commands.Command.{Command}
 use Rattle.ice_values.proofs.OptionLaws.{some_is, none_not_some}
 use Rattle.checkpoint_records.specs.Rules.{ids_of}
@@ -12,10 +11,10 @@ use Rattle.checkpoint_records.specs.declared.records.Book.{Book}
 use Rattle.checkpoint_records.specs.declared.records.Entry.{Entry}
 use Rattle.checkpoint_records.proofs.DistinctLaws.{all_more}
 use Rattle.checkpoint_changes.specs.Changes.{applied, apply, with_entry, without, without_at}
-use Rattle.checkpoint_changes.specs.Plain.{equal_command, equal_entry}
+use Rattle.checkpoint_changes.specs.Plain.{equal_command}
 use Rattle.checkpoint_changes.specs.declared.changes.Change.{Change}
-use Rattle.checkpoint_changes.specs.declared.changes.Change.TheVariants.{Pend, Put, Remove, Unpend}
-use Rattle.checkpoint_changes.proofs.EqualLaws.{command_decides, entry_decides}
+use Rattle.checkpoint_changes.specs.declared.changes.Change.TheVariants.{Pend, Unpend}
+use Rattle.checkpoint_changes.proofs.EqualLaws.{command_decides}
 
 -- ---- one delta behind another
 
@@ -29,15 +28,6 @@ apply_more (change ∷ d) e book mid is = by (applied book change) (λ b. apply_
 
 -- ---- entries
 
-abbrev pub kept_change : Entry → Entry → List Change
-kept_change e f = if equal_entry e f then [] else (Put f ∷ [])
-
--- an old entry stays where the next new one has its ID
-abbrev pub entry_changes : List Entry → List Entry → List Change
-entry_changes [] new = map (λ entry. Put entry) new
-entry_changes (e ∷ old) [] = Remove e.id ∷ entry_changes old []
-entry_changes (e ∷ old) (f ∷ new) = if bytes_eq e.id f.id then (kept_change e f ++ entry_changes old new) else (Remove e.id ∷ entry_changes old (f ∷ new))
-
 -- no entry has this ID
 abbrev pub Lacks : List ℕ → List Entry → Type 0
 Lacks id entries = AllByRecursion (λ (e : Entry). bytes_eq e.id id ≡ false) entries
@@ -46,64 +36,21 @@ Lacks id entries = AllByRecursion (λ (e : Entry). bytes_eq e.id id ≡ false) e
 abbrev pub Apart : List Entry → List Entry → Type 0
 Apart kept entries = AllByRecursion (λ (x : Entry). Lacks x.id kept) entries
 
-without_behind : (id : List ℕ) (kept : List Entry) (e : Entry) (old : List Entry) → Lacks id kept → bytes_eq e.id id ≡ true → without id (kept ++ e ∷ old) ≡ Some (kept ++ old)
+pub without_behind : (id : List ℕ) (kept : List Entry) (e : Entry) (old : List Entry) → Lacks id kept → bytes_eq e.id id ≡ true → without id (kept ++ e ∷ old) ≡ Some (kept ++ old)
 without_behind id [] e old lacks same = rw same refl
 without_behind id (k ∷ kept) e old lacks same = (let rest = without_behind id kept e old lacks.1 same in rw (lacks.0, rest) refl)
 
-put_behind : (f : Entry) (kept : List Entry) (e : Entry) (old : List Entry) → Lacks f.id kept → bytes_eq e.id f.id ≡ true → with_entry f (kept ++ e ∷ old) ≡ kept ++ f ∷ old
+pub put_behind : (f : Entry) (kept : List Entry) (e : Entry) (old : List Entry) → Lacks f.id kept → bytes_eq e.id f.id ≡ true → with_entry f (kept ++ e ∷ old) ≡ kept ++ f ∷ old
 put_behind f [] e old lacks same = rw same refl
 put_behind f (k ∷ kept) e old lacks same = (let rest = put_behind f kept e old lacks.1 same in rw (lacks.0, rest) refl)
 
-put_last : (f : Entry) (kept : List Entry) → Lacks f.id kept → with_entry f kept ≡ kept ++ f ∷ []
+pub put_last : (f : Entry) (kept : List Entry) → Lacks f.id kept → with_entry f kept ≡ kept ++ f ∷ []
 put_last f [] lacks = refl
 put_last f (k ∷ kept) lacks = (let rest = put_last f kept lacks.1 in rw (lacks.0, rest) refl)
 
-apart_more : (kept : List Entry) (f : Entry) (xs : List Entry) → Apart kept xs → AllByRecursion (λ y. bytes_eq f.id y ≡ false) (ids_of xs) → Apart (kept ++ f ∷ []) xs
+pub apart_more : (kept : List Entry) (f : Entry) (xs : List Entry) → Apart kept xs → AllByRecursion (λ y. bytes_eq f.id y ≡ false) (ids_of xs) → Apart (kept ++ f ∷ []) xs
 apart_more kept f [] a d = tt
 apart_more kept f (x ∷ xs) a d = (all_more (λ (e : Entry). bytes_eq e.id x.id ≡ false) kept f a.0 d.0, apart_more kept f xs a.1 d.1)
-
-with_entries : Book → List Entry → Book
-with_entries book entries = record book { entries = entries }
-
-puts_all : (new kept : List Entry) (book : Book) → book.entries ≡ kept → Apart kept new → IsDistinct bytes_eq (ids_of new) → apply book (map (λ entry. Put entry) new) ≡ Some (record book { entries = kept ++ new })
-unfolding IsDistinct with_entries
-puts_all [] kept book is a d = ap (λ (l : List Entry). Some (with_entries book l)) (is ∙ sym (append-nil kept))
-puts_all (f ∷ new) kept book is a d =
-    let grown : with_entry f book.entries ≡ kept ++ f ∷ [] = ap (with_entry f) is ∙ put_last f kept a.0 in
-    puts_all new (kept ++ f ∷ []) (with_entries book (with_entry f book.entries)) grown (apart_more kept f new a.1 d.0) d.1 ∙ ap (λ (l : List Entry). Some (with_entries book l)) (append_assoc kept (f ∷ []) new)
-
-kept_step : (e f : Entry) (kept old : List Entry) (book : Book) → book.entries ≡ kept ++ e ∷ old → bytes_eq e.id f.id ≡ true → Lacks f.id kept → apply book (kept_change e f) ≡ Some (record book { entries = kept ++ f ∷ old })
-unfolding with_entries
-kept_step e f kept old book is same lacks = by (equal_entry e f) refl
-  where
-    by : (b : Bool) → equal_entry e f ≡ b → apply book (cond b [] (Put f ∷ [])) ≡ Some (with_entries book (kept ++ f ∷ old))
-    by true equal = ap (λ (l : List Entry). Some (with_entries book l)) (is ∙ ap (λ (x : Entry). kept ++ x ∷ old) ((entry_decides e f).0 equal))
-    by false other = ap (λ (l : List Entry). Some (with_entries book l)) (ap (with_entry f) is ∙ put_behind f kept e old lacks same)
-
-pub entries_lead : (old new kept : List Entry) (book : Book) → book.entries ≡ kept ++ old → IsDistinct bytes_eq (ids_of old) → IsDistinct bytes_eq (ids_of new) → Apart kept old → Apart kept new
-    → apply book (entry_changes old new) ≡ Some (record book { entries = kept ++ new })
-unfolding IsDistinct with_entries
-entries_lead [] new kept book is d_old d_new a_old a_new = puts_all new kept book (is ∙ append-nil kept) a_new d_new
-entries_lead (e ∷ old) [] kept book is d_old d_new a_old a_new =
-    let gone : without e.id book.entries ≡ Some (kept ++ old) = ap (without e.id) is ∙ without_behind e.id kept e old a_old.0 ((bytes_decides e.id e.id).1 refl) in
-    rw gone (entries_lead old [] kept (with_entries book (kept ++ old)) refl d_old.1 d_new a_old.1 a_new)
-entries_lead (e ∷ old) (f ∷ new) kept book is d_old d_new a_old a_new =
-    by (bytes_eq e.id f.id) refl (entries_lead old new (kept ++ f ∷ [])) (entries_lead old (f ∷ new) kept)
-  where
-    by : (b : Bool) → bytes_eq e.id f.id ≡ b
-        → ((next : Book) → next.entries ≡ (kept ++ f ∷ []) ++ old → IsDistinct bytes_eq (ids_of old) → IsDistinct bytes_eq (ids_of new) → Apart (kept ++ f ∷ []) old → Apart (kept ++ f ∷ []) new → apply next (entry_changes old new) ≡ Some (with_entries next ((kept ++ f ∷ []) ++ new)))
-        → ((next : Book) → next.entries ≡ kept ++ old → IsDistinct bytes_eq (ids_of old) → IsDistinct bytes_eq (ids_of (f ∷ new)) → Apart kept old → Apart kept (f ∷ new) → apply next (entry_changes old (f ∷ new)) ≡ Some (with_entries next (kept ++ f ∷ new)))
-        → apply book (cond b (kept_change e f ++ entry_changes old new) (Remove e.id ∷ entry_changes old (f ∷ new))) ≡ Some (with_entries book (kept ++ f ∷ new))
-    by true same stays goes =
-        let step = kept_step e f kept old book is same a_new.0 in
-        let id : e.id ≡ f.id = (bytes_decides e.id f.id).0 same in
-        let others : AllByRecursion (λ y. bytes_eq f.id y ≡ false) (ids_of old) = subst (λ (i : List ℕ). AllByRecursion (λ y. bytes_eq i y ≡ false) (ids_of old)) id d_old.0 in
-        apply_more (kept_change e f) (entry_changes old new) book (with_entries book (kept ++ f ∷ old)) step
-        ∙ stays (with_entries book (kept ++ f ∷ old)) (sym (append_assoc kept (f ∷ []) old)) d_old.1 d_new.1 (apart_more kept f old a_old.1 others) (apart_more kept f new a_new.1 d_new.0)
-        ∙ ap (λ (l : List Entry). Some (with_entries book l)) (append_assoc kept (f ∷ []) new)
-    by false other stays goes =
-        let gone : without e.id book.entries ≡ Some (kept ++ old) = ap (without e.id) is ∙ without_behind e.id kept e old a_old.0 ((bytes_decides e.id e.id).1 refl) in
-        rw gone (goes (with_entries book (kept ++ old)) refl d_old.1 d_new a_old.1 a_new)
 
 -- ---- pending commands
 

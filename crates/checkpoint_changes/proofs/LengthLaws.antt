@@ -15,6 +15,7 @@ use Rattle.checkpoint_records.specs.Rules.{command_cells, in_turn}
 use Rattle.checkpoint_records.specs.Spelling.{entry_cells}
 use Rattle.checkpoint_records.specs.declared.records.Entry.{Entry}
 use Rattle.checkpoint_changes.specs.Amendments.{delta_bytes}
+use Rattle.checkpoint_records.specs.declared.head.Format.TheVariants.{Several}
 use Rattle.checkpoint_changes.specs.Changes.{change_cells, code_of, number_of, part_cells}
 use Rattle.checkpoint_changes.specs.declared.changes.Change.{Change}
 
@@ -43,12 +44,12 @@ length-command command =
       length-listed (array8 Lsb) Lsb (in_turn command.environment),
     )
 
-pub length-change : (change : Change) → length (change_cells change) ≡ 8 + length (part_cells change)
-length-change change = length-append (card32 Lsb (code_of change) ++ card32 Lsb (number_of change)) (part_cells change)
+pub length-change : (change : Change) → length (change_cells Several change) ≡ 8 + length (part_cells Several change)
+length-change change = length-append (card32 Lsb (code_of Several change) ++ card32 Lsb (number_of change)) (part_cells Several change)
 
 pub length-text : (text slice : List ℕ) (pad : ℕ) → slice ≡ text → pad ≡ pad_len (4 + length slice) 8 → 4 + length slice + pad ≡ length (array8 Lsb text)
 length-text text slice pad is is_pad = rw (is_pad, is) (sym (length-array8 Lsb text))
 
-pub length-whole : (items delta : List Change) (i total : ℕ) → items ≡ delta → length items ≤ i → total ≡ min (length (flat_map change_cells (take i items))) 18446744073709551615 → total ≡ min (length (delta_bytes change_cells delta)) 18446744073709551615
+pub length-whole : (items delta : List Change) (i total : ℕ) → items ≡ delta → length items ≤ i → total ≡ min (length (flat_map (change_cells Several) (take i items))) 18446744073709551615 → total ≡ min (length (delta_bytes (change_cells Several) delta)) 18446744073709551615
 length-whole items delta i total is all so_far =
-    so_far ∙ ap (λ (l : List Change). min (length (flat_map change_cells l)) 18446744073709551615) (take_all i items all ∙ is) ∙ ap (λ (n : ℕ). min n 18446744073709551615) (sym (length-zeros (flat_map change_cells delta)))
+    so_far ∙ ap (λ (l : List Change). min (length (flat_map (change_cells Several) l)) 18446744073709551615) (take_all i items all ∙ is) ∙ ap (λ (n : ℕ). min n 18446744073709551615) (sym (length-zeros (flat_map (change_cells Several) delta)))

@@ -1,5 +1,5 @@
 -- The bytes of a slot are read in one way only.
-use Rattle.std.proofs.Common.{◌≡◌, ℕ, ◌+◌, ◌<◌, ◌≤◌, ◌^◌, ◌⊎◌, inl, inr, true, false, List, [], ◌∷◌, ◌++◌, length, take, drop, slice_index, Option, Some, None, refl, sym, ap, ap₂, ◌∙◌, subst, append_assoc, arith, length-append}
+use Rattle.std.proofs.Common.{◌≡◌, ℕ, ◌+◌, ◌<◌, ◌≤◌, ◌^◌, ◌⊎◌, inl, inr, true, false, List, [], ◌∷◌, ◌++◌, length, take, drop, slice_index, Option, refl, sym, ap, ap₂, ◌∙◌, subst, append_assoc, arith, length-append}
 use Rattle.std.specs.Prelude.{flat_map, Result, Ok, Err}
 use Rattle.std.specs.List.{AllByRecursion}
 use Rattle.std.proofs.lemmas.Bool.{le-ltb}
@@ -13,14 +13,20 @@ use Rattle.ice_values.proofs.CellLaws.{length-zeros, zeros-append}
 use Rattle.ice_values.proofs.FieldLaws.{card4}
 use Rattle.ice_values.proofs.OptionLaws.{some_is}
 use Rattle.ice_values.proofs.PropertyLaws.{array8_exact}
-use Rattle.checkpoint_records.specs.Damage.{StandFor}
+use Rattle.checkpoint_records.specs.Damage.{IsDamaged}
+use Rattle.checkpoint_records.specs.Rules.{IsName}
+use Rattle.checkpoint_records.specs.Spelling.{entry_cells}
+use Rattle.checkpoint_records.specs.Parts.{HasEntrySpelling}
 use Rattle.checkpoint_records.specs.declared.records.Book.{Book}
 use Rattle.checkpoint_records.specs.declared.records.Entry.{Entry}
-use Rattle.checkpoint_records.proofs.BookLaws.{command_once, entry_once, stands_for_one}
+use Rattle.checkpoint_records.proofs.BookLaws.{one_book, stands_for_one}
+use Rattle.checkpoint_records.proofs.OnceLaws.{command_once, entry_once}
 use Rattle.checkpoint_records.proofs.OrderLaws.{AreOnce, exact_once}
 use Rattle.checkpoint_records.proofs.SpellLaws.{command_fits, entry_fits}
-use Rattle.checkpoint_changes.specs.Amendments.{Amended, Amends, Follow, ReadsOn, SlotDamaged, SlotLeads, SlotReads, StopsAt, all_bytes, amendment_bytes, delta_bytes, is_at_end}
-use Rattle.checkpoint_changes.specs.Changes.{IsChange, apply, change_cells, code_of, number_of, part_cells}
+use Rattle.checkpoint_changes.specs.Amendments.{told_length, Amended, Amends, Follow, ReadsOn, SlotDamaged, SlotLeads, SlotReads, StopsAt, all_bytes, amendment_bytes, delta_bytes, is_at_end}
+use Rattle.checkpoint_records.specs.declared.head.Format.{Format}
+use Rattle.checkpoint_records.specs.declared.head.Format.TheVariants.{Single, Several}
+use Rattle.checkpoint_changes.specs.Changes.{IsChange, apply, change_cells, code_of, number_of, part_cells, put_cells}
 use Rattle.checkpoint_changes.specs.declared.changes.Change.{Change}
 use Rattle.checkpoint_changes.specs.declared.changes.Change.TheVariants.{Epoch, Pend, Put, Remove, Unpend}
 
@@ -35,37 +41,60 @@ number_once = exact_once (card32 Lsb) IsNumber (card_at Lsb 4) (card4 Lsb)
 id_once : AreOnce (array8 Lsb) IsArray8
 id_once = exact_once (array8 Lsb) IsArray8 (array8_at Lsb) (array8_exact Lsb)
 
-pub code_fits : (change : Change) → IsNumber (code_of change)
-code_fits (Epoch epoch) = omega arith
-code_fits (Remove id) = omega arith
-code_fits (Put entry) = omega arith
-code_fits (Unpend place) = omega arith
-code_fits (Pend command) = omega arith
+pub code_fits : (format : Format) (change : Change) → IsNumber (code_of format change)
+code_fits format (Epoch epoch) = omega arith
+code_fits format (Remove id) = omega arith
+code_fits Single (Put name entry) = omega arith
+code_fits Several (Put name entry) = omega arith
+code_fits format (Unpend place) = omega arith
+code_fits format (Pend command) = omega arith
 
-pub number_fits : (change : Change) → IsChange change → IsNumber (number_of change)
-number_fits (Epoch epoch) fits = fits
-number_fits (Remove id) fits = omega arith
-number_fits (Put entry) fits = omega arith
-number_fits (Unpend place) fits = fits
-number_fits (Pend command) fits = omega arith
+pub number_fits : (format : Format) (change : Change) → IsChange format change → IsNumber (number_of change)
+number_fits format (Epoch epoch) fits = fits
+number_fits format (Remove id) fits = omega arith
+number_fits format (Put name entry) fits = omega arith
+number_fits format (Unpend place) fits = fits
+number_fits format (Pend command) fits = omega arith
 
-part_once : (x y : Change) (xs ys : List ℕ) → IsChange x → IsChange y → code_of x ≡ code_of y → number_of x ≡ number_of y → zeros (part_cells x) ++ xs ≡ zeros (part_cells y) ++ ys → (x ≡ y) × (xs ≡ ys)
-part_once (Epoch a) (Epoch b) xs ys fit_x fit_y code number is = (ap (λ (n : ℕ). Epoch n) number, is)
-part_once (Remove a) (Remove b) xs ys fit_x fit_y code number is = let e = id_once a b xs ys fit_x.0 fit_y.0 is in (ap (λ (id : List ℕ). Remove id) e.0, e.1)
-part_once (Put a) (Put b) xs ys fit_x fit_y code number is =
-    let e = entry_once a b xs ys (entry_fits 4294967295 a fit_x) (entry_fits 4294967295 b fit_y) is in (ap (λ (entry : Entry). Put entry) e.0, e.1)
-part_once (Unpend a) (Unpend b) xs ys fit_x fit_y code number is = (ap (λ (n : ℕ). Unpend n) number, is)
-part_once (Pend a) (Pend b) xs ys fit_x fit_y code number is = let e = command_once a b xs ys (command_fits a fit_x) (command_fits b fit_y) is in (ap (λ (command : Command). Pend command) e.0, e.1)
-part_once x y xs ys fit_x fit_y code number is = absurd (omega (arith, code))
+short_name : (name : List ℕ) → IsName name → IsArray8 name
+short_name name is = omega (arith, is.few)
 
-pub change_once : AreOnce change_cells IsChange
-change_once x y xs ys fit_x fit_y is =
-    let code = number_once (code_of x) (code_of y) (zeros (card32 Lsb (number_of x)) ++ (zeros (part_cells x) ++ xs)) (zeros (card32 Lsb (number_of y)) ++ (zeros (part_cells y) ++ ys)) (code_fits x) (code_fits y) is in
-    let number = number_once (number_of x) (number_of y) (zeros (part_cells x) ++ xs) (zeros (part_cells y) ++ ys) (number_fits x fit_x) (number_fits y fit_y) code.1 in
-    part_once x y xs ys fit_x fit_y code.0 number.0 number.1
+named_once : (a b : List ℕ) (x y : Entry) (xs ys : List ℕ) → IsName a → IsName b → HasEntrySpelling x → HasEntrySpelling y → zeros (put_cells Several a x) ++ xs ≡ zeros (put_cells Several b y) ++ ys → (a ≡ b) × (x ≡ y) × (xs ≡ ys)
+named_once a b x y xs ys name_a name_b fit_x fit_y is =
+    let split : (n : List ℕ) (e : Entry) (l : List ℕ) → zeros (put_cells Several n e) ++ l ≡ zeros (array8 Lsb n) ++ (zeros (entry_cells e) ++ l) =
+    λ n e l. ap (λ (k : List ℕ). k ++ l) (zeros-append (array8 Lsb n) (entry_cells e)) ∙ append_assoc (zeros (array8 Lsb n)) (zeros (entry_cells e)) l in
+    let name = id_once a b (zeros (entry_cells x) ++ xs) (zeros (entry_cells y) ++ ys) (short_name a name_a) (short_name b name_b) (sym (split a x xs) ∙ is ∙ split b y ys) in
+    let entry = entry_once x y xs ys fit_x fit_y name.1 in
+    (name.0, entry.0, entry.1)
 
-pub change_long : (change : Change) → 1 ≤ length (change_cells change)
-change_long change = omega (arith, length-append (card32 Lsb (code_of change) ++ card32 Lsb (number_of change)) (part_cells change))
+abbrev AreSamePart : Format → Change → Change → List ℕ → List ℕ → Type 0
+AreSamePart format x y xs ys = IsChange format x → IsChange format y → code_of format x ≡ code_of format y → number_of x ≡ number_of y → zeros (part_cells format x) ++ xs ≡ zeros (part_cells format y) ++ ys → (x ≡ y) × (xs ≡ ys)
+
+put_once : (format : Format) (a b : List ℕ) (x y : Entry) (xs ys : List ℕ) → AreSamePart format (Put a x) (Put b y) xs ys
+put_once Single a b x y xs ys fit_x fit_y code number is =
+    let e = entry_once x y xs ys (entry_fits 4294967295 x fit_x.1) (entry_fits 4294967295 y fit_y.1) is in
+    (ap₂ (λ (n : List ℕ) (entry : Entry). Put n entry) (fit_x.0 ∙ sym fit_y.0) e.0, e.1)
+put_once Several a b x y xs ys fit_x fit_y code number is =
+    let e = named_once a b x y xs ys fit_x.0 fit_y.0 (entry_fits 4294967295 x fit_x.1) (entry_fits 4294967295 y fit_y.1) is in
+    (ap₂ (λ (n : List ℕ) (entry : Entry). Put n entry) e.0 e.1, e.2)
+
+part_once : (format : Format) (x y : Change) (xs ys : List ℕ) → AreSamePart format x y xs ys
+part_once format (Epoch a) (Epoch b) xs ys fit_x fit_y code number is = (ap (λ (n : ℕ). Epoch n) number, is)
+part_once format (Remove a) (Remove b) xs ys fit_x fit_y code number is = let e = id_once a b xs ys fit_x.0 fit_y.0 is in (ap (λ (id : List ℕ). Remove id) e.0, e.1)
+part_once format (Put a x) (Put b y) xs ys fit_x fit_y code number is = put_once format a b x y xs ys fit_x fit_y code number is
+part_once format (Unpend a) (Unpend b) xs ys fit_x fit_y code number is = (ap (λ (n : ℕ). Unpend n) number, is)
+part_once format (Pend a) (Pend b) xs ys fit_x fit_y code number is = let e = command_once a b xs ys (command_fits a fit_x) (command_fits b fit_y) is in (ap (λ (command : Command). Pend command) e.0, e.1)
+part_once Single x y xs ys fit_x fit_y code number is = absurd (omega (arith, code))
+part_once Several x y xs ys fit_x fit_y code number is = absurd (omega (arith, code))
+
+pub change_once : (format : Format) → AreOnce (change_cells format) (IsChange format)
+change_once format x y xs ys fit_x fit_y is =
+    let code = number_once (code_of format x) (code_of format y) (zeros (card32 Lsb (number_of x)) ++ (zeros (part_cells format x) ++ xs)) (zeros (card32 Lsb (number_of y)) ++ (zeros (part_cells format y) ++ ys)) (code_fits format x) (code_fits format y) is in
+    let number = number_once (number_of x) (number_of y) (zeros (part_cells format x) ++ xs) (zeros (part_cells format y) ++ ys) (number_fits format x fit_x) (number_fits format y fit_y) code.1 in
+    part_once format x y xs ys fit_x fit_y code.0 number.0 number.1
+
+pub change_long : (format : Format) (change : Change) → 1 ≤ length (change_cells format change)
+change_long format change = omega (arith, length-append (card32 Lsb (code_of format change) ++ card32 Lsb (number_of change)) (part_cells format change))
 
 -- ---- fronts
 
@@ -152,41 +181,38 @@ module _ (cells : Change → Cells) (Fits : Change → Type 0) (once : AreOnce c
 
 -- ---- a slot
 
-ok_is : (x y : Book) → ◌≡◌ {A = Result Book ℕ} (Ok x) (Ok y) → x ≡ y
-ok_is x y e = cc
-
-same_book : (bytes : List ℕ) (x y : Book) → StandFor bytes (Ok x) → StandFor bytes (Ok y) → x ≡ y
-same_book bytes x y a b = ok_is x y (stands_for_one bytes (Ok x) (Ok y) a b)
-
-same_place : (bytes : List ℕ) (m n : ℕ) → StandFor bytes (Err m) → StandFor bytes (Err n) → m ≡ n
+same_place : (bytes : List ℕ) (m n : ℕ) → IsDamaged bytes m → IsDamaged bytes n → m ≡ n
 same_place bytes m n a b = (let e : ◌≡◌ {A = Result Book ℕ} (Err m) (Err n) = stands_for_one bytes (Err m) (Err n) a b in cc)
 
-not_both : (bytes : List ℕ) (x : Book) (n : ℕ) → StandFor bytes (Ok x) → StandFor bytes (Err n) → ⊥
-not_both bytes x n a b = (let e : ◌≡◌ {A = Result Book ℕ} (Ok x) (Err n) = stands_for_one bytes (Ok x) (Err n) a b in absurd cc)
+told_alike : (f g : Format) (m n : ℕ) → f ≡ g → m ≡ n → told_length f m ≡ told_length g n
+told_alike f g m n same more = rw (same, more) refl
 
 leads_once : (bytes : List ℕ) (n : ℕ) (x y : Book) (a b : Option ℕ) → SlotLeads bytes n x a → SlotLeads bytes n y b → (x ≡ y) × (a ≡ b)
-leads_once bytes n x y None b p q = absurd p
-leads_once bytes n x y (Some a) None p q = absurd q
-leads_once bytes n x y (Some a) (Some b) p q =
-    let same : p.0 ≡ q.0 = same_book (take n bytes) p.0 q.0 p.1 q.1 in
-    let e = reads_once change_cells IsChange change_once change_long p.0 (drop n bytes) x y a b p.2 (subst (λ (f : Book). ReadsOn change_cells IsChange f (drop n bytes) y b) (sym same) q.2) in
-    (e.0, ap (λ (k : ℕ). Some k) e.1)
+leads_once bytes n x y a b p q =
+    let f = p.0 in
+    let one = one_book (take n bytes) p.0 q.0 p.1 q.1 p.3 q.3 in
+    let other : ReadsOn (change_cells f) (IsChange f) p.1 (drop n bytes) y q.2 = rw (one.0, one.1) q.4 in
+    let e = reads_once (change_cells f) (IsChange f) (change_once f) (change_long f) p.1 (drop n bytes) x y p.2 q.2 p.4 other in
+    (e.0, p.5 ∙ told_alike p.0 q.0 p.2 q.2 one.0 e.1 ∙ sym q.5)
 
 leads_or_damaged : (bytes : List ℕ) (n : ℕ) (x : Book) (a : Option ℕ) (at : ℕ) → SlotLeads bytes n x a → SlotDamaged bytes n at → ⊥
-leads_or_damaged bytes n x None at p q = absurd p
-leads_or_damaged bytes n x (Some a) at p (inl q) = not_both (take n bytes) p.0 at p.1 q
-leads_or_damaged bytes n x (Some a) at p (inr q) =
-    let same : p.0 ≡ q.0 = same_book (take n bytes) p.0 q.0 p.1 q.2 in
-    reads_or_stops change_cells IsChange change_once change_long p.0 (drop n bytes) x a q.1 p.2 (subst (λ (f : Book). StopsAt change_cells IsChange f (drop n bytes) q.1) (sym same) q.3)
+leads_or_damaged bytes n x a at p (inl q) = q.no_book p.0 p.1 p.3
+leads_or_damaged bytes n x a at p (inr q) =
+    let f = p.0 in
+    let one = one_book (take n bytes) p.0 q.0 p.1 q.1 p.3 q.3 in
+    let other : StopsAt (change_cells f) (IsChange f) p.1 (drop n bytes) q.2 = rw (one.0, one.1) q.4 in
+    reads_or_stops (change_cells f) (IsChange f) (change_once f) (change_long f) p.1 (drop n bytes) x p.2 q.2 p.4 other
 
 damaged_once : (bytes : List ℕ) (n at other : ℕ) → SlotDamaged bytes n at → SlotDamaged bytes n other → at ≡ other
 damaged_once bytes n at other (inl p) (inl q) = same_place (take n bytes) at other p q
-damaged_once bytes n at other (inl p) (inr q) = absurd (not_both (take n bytes) q.0 at q.2 p)
-damaged_once bytes n at other (inr p) (inl q) = absurd (not_both (take n bytes) p.0 other p.2 q)
+damaged_once bytes n at other (inl p) (inr q) = absurd (p.no_book q.0 q.1 q.3)
+damaged_once bytes n at other (inr p) (inl q) = absurd (q.no_book p.0 p.1 p.3)
 damaged_once bytes n at other (inr p) (inr q) =
-    let same : p.0 ≡ q.0 = same_book (take n bytes) p.0 q.0 p.2 q.2 in
-    let e = stops_once change_cells IsChange change_once change_long p.0 (drop n bytes) p.1 q.1 p.3 (subst (λ (f : Book). StopsAt change_cells IsChange f (drop n bytes) q.1) (sym same) q.3) in
-    p.4 ∙ ap (λ (k : ℕ). n + k) e ∙ sym q.4
+    let f = p.0 in
+    let one = one_book (take n bytes) p.0 q.0 p.1 q.1 p.3 q.3 in
+    let others : StopsAt (change_cells f) (IsChange f) p.1 (drop n bytes) q.2 = rw (one.0, one.1) q.4 in
+    let e = stops_once (change_cells f) (IsChange f) (change_once f) (change_long f) p.1 (drop n bytes) p.2 q.2 p.4 others in
+    p.5 ∙ ap (λ (k : ℕ). n + k) e ∙ sym q.5
 
 abbrev Answer : Type 0
 Answer = Result (Book × Option ℕ) ℕ

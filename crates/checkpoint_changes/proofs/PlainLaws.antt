@@ -8,15 +8,14 @@ use Rattle.std.proofs.lemmas.Grind.{flat_map-append}
 use lib.Pointwise.{bytes_decides}
 use Rattle.owned_lists.specs.declared.commands.Command.{Command}
 use Rattle.xsmp_properties.specs.Tables.{equal_property}
-use Rattle.checkpoint_records.specs.Rules.{IsEntry, ids_of}
+use Rattle.checkpoint_records.specs.Rules.{ids_of}
 use Rattle.checkpoint_records.specs.declared.records.Entry.{Entry}
-use Rattle.checkpoint_records.proofs.DistinctLaws.{all_append, any_false, any_map, none_same, same_none}
-use Rattle.checkpoint_records.proofs.SpellLaws.{id_short}
-use Rattle.checkpoint_changes.specs.Changes.{IsChange}
+use Rattle.checkpoint_records.proofs.DistinctLaws.{any_false, any_map, none_same, same_none}
+use Rattle.checkpoint_changes.specs.Differences.{changed_entry, gone, placed}
 use Rattle.checkpoint_changes.specs.Plain.{KeepsOrder, equal_command, equal_entry, missing_from, pended_in, put_in, removed_in, unpended_in}
 use Rattle.checkpoint_changes.specs.declared.changes.Change.{Change}
 use Rattle.checkpoint_changes.specs.declared.changes.Change.TheVariants.{Pend, Put, Remove, Unpend}
-use Rattle.checkpoint_changes.proofs.DeltaLaws.{entry_changes, kept_change, pending_changes}
+use Rattle.checkpoint_changes.proofs.DeltaLaws.{pending_changes}
 use Rattle.checkpoint_changes.proofs.EqualLaws.{DecidesEqual, command_decides, entry_decides, not_same}
 
 -- ---- filters
@@ -27,7 +26,7 @@ chosen b x y e = rw e refl
 passed : {X : Type 0} (b : Bool) (x y : X) → b ≡ false → cond b x y ≡ y
 passed b x y e = rw e refl
 
-filter_same : {K : Type 0} (p q : K → Bool) (ks : List K) → AllByRecursion (λ k. p k ≡ q k) ks → filter p ks ≡ filter q ks
+pub filter_same : {K : Type 0} (p q : K → Bool) (ks : List K) → AllByRecursion (λ k. p k ≡ q k) ks → filter p ks ≡ filter q ks
 filter_same p q [] h = refl
 filter_same p q (k ∷ ks) h = (let rest = filter_same p q ks h.1 in rw (h.0, rest) refl)
 
@@ -95,55 +94,53 @@ id_of e = e.id
 pub entries_stay : (old new : List Entry) → IsDistinct bytes_eq (ids_of old) → KeepsOrder bytes_eq (ids_of old) (ids_of new) → Stays by_id old new
 entries_stay old new d k = kept_order id_of bytes_eq bytes_decides old new d k
 
--- what no change of entries brings
-module _ {X : Type 0} (brings : Change → List X) (no_put : (entry : Entry) → brings (Put entry) ≡ []) (no_remove : (id : List ℕ) → brings (Remove id) ≡ []) where
-  puts_bring : (new : List Entry) → flat_map brings (map (λ entry. Put entry) new) ≡ []
-  puts_bring [] = refl
-  puts_bring (f ∷ new) = (let rest = puts_bring new in rw (no_put f, rest) refl)
-
-  kept_brings : (e f : Entry) → flat_map brings (kept_change e f) ≡ []
-  kept_brings e f = by (equal_entry e f)
-    where
-      by : (b : Bool) → flat_map brings (cond b [] (Put f ∷ [])) ≡ []
-      by true = refl
-      by false = rw (no_put f) refl
-
-  pub entries_bring : (old new : List Entry) → flat_map brings (entry_changes old new) ≡ []
-  entries_bring [] new = puts_bring new
-  entries_bring (e ∷ old) [] = (let rest = entries_bring old [] in rw (no_remove e.id, rest) refl)
-  entries_bring (e ∷ old) (f ∷ new) = by (bytes_eq e.id f.id) (entries_bring old new) (entries_bring old (f ∷ new))
-    where
-      by : (b : Bool) → flat_map brings (entry_changes old new) ≡ [] → flat_map brings (entry_changes old (f ∷ new)) ≡ [] → flat_map brings (cond b (kept_change e f ++ entry_changes old new) (Remove e.id ∷ entry_changes old (f ∷ new))) ≡ []
-      by true one two = flat_map-append brings (kept_change e f) (entry_changes old new) ∙ ap₂ (λ (a b : List X). a ++ b) (kept_brings e f) one
-      by false one two = rw (no_remove e.id, two) refl
-
-no_removed : (new : List Entry) → flat_map removed_in (map (λ entry. Put entry) new) ≡ []
-no_removed [] = refl
-no_removed (f ∷ new) = no_removed new
-
-kept_removes : (e f : Entry) → flat_map removed_in (kept_change e f) ≡ []
-kept_removes e f = by (equal_entry e f)
+-- what no removal brings
+pub gone_bring : {X : Type 0} (brings : Change → List X) → ((id : List ℕ) → brings (Remove id) ≡ []) → (old new : List Entry) → flat_map brings (gone old new) ≡ []
+gone_bring brings none [] new = refl
+gone_bring brings none (e ∷ old) [] = (let rest = gone_bring brings none old [] in rw (none e.id, rest) refl)
+gone_bring {X} brings none (e ∷ old) (f ∷ new) = by (bytes_eq e.id f.id) (gone_bring brings none old new) (gone_bring brings none old (f ∷ new))
   where
-    by : (b : Bool) → flat_map removed_in (cond b [] (Put f ∷ [])) ≡ []
-    by true = refl
-    by false = refl
+    by : (b : Bool) → flat_map brings (gone old new) ≡ [] → flat_map brings (gone old (f ∷ new)) ≡ [] → flat_map brings (cond b (gone old new) (Remove e.id ∷ gone old (f ∷ new))) ≡ []
+    by true one two = one
+    by false one two = rw (none e.id, two) refl
 
-pub removed_plain : (old new : List Entry) → IsDistinct bytes_eq (ids_of old) → Stays by_id old new → flat_map removed_in (entry_changes old new) ≡ missing_from bytes_eq (ids_of new) (ids_of old)
+-- what no entry that is put brings
+module _ {X : Type 0} (brings : Change → List X) (none : (name : List ℕ) (entry : Entry) → brings (Put name entry) ≡ []) where
+  puts_bring : (name : List ℕ) (new : List Entry) → flat_map brings (map (λ entry. Put name entry) new) ≡ []
+  puts_bring name [] = refl
+  puts_bring name (f ∷ new) = (let rest = puts_bring name new in rw (none name f, rest) refl)
+
+  changed_brings : (name : List ℕ) (e f : Entry) → flat_map brings (changed_entry name e f) ≡ []
+  changed_brings name e f = by (equal_entry e f)
+    where
+      by : (b : Bool) → flat_map brings (cond b [] (Put name f ∷ [])) ≡ []
+      by true = refl
+      by false = rw (none name f) refl
+
+  pub placed_bring : (name : List ℕ) (old new : List Entry) → flat_map brings (placed name old new) ≡ []
+  placed_bring name [] new = puts_bring name new
+  placed_bring name (e ∷ old) [] = refl
+  placed_bring name (e ∷ old) (f ∷ new) = by (bytes_eq e.id f.id) (placed_bring name old new) (placed_bring name old (f ∷ new))
+    where
+      by : (b : Bool) → flat_map brings (placed name old new) ≡ [] → flat_map brings (placed name old (f ∷ new)) ≡ [] → flat_map brings (cond b (changed_entry name e f ++ placed name old new) (placed name old (f ∷ new))) ≡ []
+      by true one two = flat_map-append brings (changed_entry name e f) (placed name old new) ∙ ap₂ (λ (a b : List X). a ++ b) (changed_brings name e f) one
+      by false one two = two
+
+pub gone_plain : (old new : List Entry) → IsDistinct bytes_eq (ids_of old) → Stays by_id old new → flat_map removed_in (gone old new) ≡ missing_from bytes_eq (ids_of new) (ids_of old)
 unfolding IsDistinct
-removed_plain [] new d s = no_removed new
-removed_plain (e ∷ old) [] d s = ap (λ (l : List (List ℕ)). e.id ∷ l) (removed_plain old [] d.1 s)
-removed_plain (e ∷ old) (f ∷ new) d (inl s) =
+gone_plain [] new d s = refl
+gone_plain (e ∷ old) [] d s = ap (λ (l : List (List ℕ)). e.id ∷ l) (gone_plain old [] d.1 s)
+gone_plain (e ∷ old) (f ∷ new) d (inl s) =
     let id : e.id ≡ f.id = (bytes_decides e.id f.id).0 s.0 in
     let others : AllByRecursion (λ y. bytes_eq f.id y ≡ false) (ids_of old) = subst (λ (i : List ℕ). AllByRecursion (λ y. bytes_eq i y ≡ false) (ids_of old)) id d.0 in
-    let rest = removed_plain old new d.1 s.1 ∙ sym (drops_one bytes_eq bytes_decides f.id (ids_of new) (ids_of old) others) in
-    ap (flat_map removed_in) (chosen (bytes_eq e.id f.id) (kept_change e f ++ entry_changes old new) (Remove e.id ∷ entry_changes old (f ∷ new)) s.0)
-    ∙ flat_map-append removed_in (kept_change e f) (entry_changes old new) ∙ ap (λ (l : List (List ℕ)). l ++ flat_map removed_in (entry_changes old new)) (kept_removes e f) ∙ rest
+    let rest = gone_plain old new d.1 s.1 ∙ sym (drops_one bytes_eq bytes_decides f.id (ids_of new) (ids_of old) others) in
+    ap (flat_map removed_in) (chosen (bytes_eq e.id f.id) (gone old new) (Remove e.id ∷ gone old (f ∷ new)) s.0) ∙ rest
     ∙ sym (passed (not (bytes_eq e.id f.id || list_any (bytes_eq e.id) (ids_of new))) (e.id ∷ missing_from bytes_eq (ids_of (f ∷ new)) (ids_of old)) (missing_from bytes_eq (ids_of (f ∷ new)) (ids_of old))
     (ap (λ (b : Bool). not (b || list_any (bytes_eq e.id) (ids_of new))) s.0))
-removed_plain (e ∷ old) (f ∷ new) d (inr s) =
+gone_plain (e ∷ old) (f ∷ new) d (inr s) =
     let none : list_any (bytes_eq e.id) (ids_of (f ∷ new)) ≡ false = sym (any_map (bytes_eq e.id) id_of (f ∷ new)) ∙ s.0 in
     let parts = any_false (bytes_eq e.id f.id) (list_any (bytes_eq e.id) (ids_of new)) none in
-    rw (parts.0, parts.1) (ap (λ (l : List (List ℕ)). e.id ∷ l) (removed_plain old (f ∷ new) d.1 s.1))
+    rw (parts.0, parts.1) (ap (λ (l : List (List ℕ)). e.id ∷ l) (gone_plain old (f ∷ new) d.1 s.1))
 
 -- entries of other IDs aren't equal
 unequal : (e f : Entry) → bytes_eq e.id f.id ≡ false → equal_entry e f ≡ false
@@ -157,51 +154,36 @@ all_unequal : (e : Entry) (xs : List Entry) → AllByRecursion (λ x. by_id e x 
 all_unequal e [] h = tt
 all_unequal e (x ∷ xs) h = (unequal e x h.0, all_unequal e xs h.1)
 
-all_put : (new : List Entry) → flat_map put_in (map (λ entry. Put entry) new) ≡ missing_from equal_entry [] new
-all_put [] = refl
-all_put (f ∷ new) = ap (λ (l : List Entry). f ∷ l) (all_put new)
+-- entries with the name of their session
+abbrev pub named_all : List ℕ → List Entry → List (List ℕ × Entry)
+named_all name entries = map (λ entry. (name, entry)) entries
 
-none_missing : (old : List Entry) → missing_from equal_entry old [] ≡ []
-none_missing old = refl
+all_put : (name : List ℕ) (new : List Entry) → flat_map put_in (map (λ entry. Put name entry) new) ≡ named_all name (missing_from equal_entry [] new)
+all_put name [] = refl
+all_put name (f ∷ new) = ap (λ (l : List (List ℕ × Entry)). (name, f) ∷ l) (all_put name new)
 
-pub put_plain : (old new : List Entry) → IsDistinct bytes_eq (ids_of old) → IsDistinct bytes_eq (ids_of new) → Stays by_id old new → flat_map put_in (entry_changes old new) ≡ missing_from equal_entry old new
+pub placed_plain : (name : List ℕ) (old new : List Entry) → IsDistinct bytes_eq (ids_of old) → IsDistinct bytes_eq (ids_of new) → Stays by_id old new → flat_map put_in (placed name old new) ≡ named_all name (missing_from equal_entry old new)
 unfolding IsDistinct
-put_plain [] new d_old d_new s = all_put new
-put_plain (e ∷ old) [] d_old d_new s = put_plain old [] d_old.1 d_new s
-put_plain (e ∷ old) (f ∷ new) d_old d_new (inl s) =
+placed_plain name [] new d_old d_new s = all_put name new
+placed_plain name (e ∷ old) [] d_old d_new s = refl
+placed_plain name (e ∷ old) (f ∷ new) d_old d_new (inl s) =
     let id : e.id ≡ f.id = (bytes_decides e.id f.id).0 s.0 in
     let apart : list_any (equal_entry f) old ≡ false = same_none equal_entry f old (each_unequal e f old id d_old.0) in
-    let rest : flat_map put_in (entry_changes old new) ≡ missing_from equal_entry (e ∷ old) new =
-    put_plain old new d_old.1 d_new.1 s.1 ∙ sym (drops_one equal_entry entry_decides e old new (each_unequal f e new (sym id) d_new.0)) in
-    ap (flat_map put_in) (chosen (bytes_eq e.id f.id) (kept_change e f ++ entry_changes old new) (Remove e.id ∷ entry_changes old (f ∷ new)) s.0) ∙ by (equal_entry e f) refl rest
-    ∙ sym (ap (λ (b : Bool). cond (not (equal_entry f e || b)) (f ∷ missing_from equal_entry (e ∷ old) new) (missing_from equal_entry (e ∷ old) new)) apart)
+    let rest : flat_map put_in (placed name old new) ≡ named_all name (missing_from equal_entry (e ∷ old) new) =
+    placed_plain name old new d_old.1 d_new.1 s.1 ∙ ap (named_all name) (sym (drops_one equal_entry entry_decides e old new (each_unequal f e new (sym id) d_new.0))) in
+    ap (flat_map put_in) (chosen (bytes_eq e.id f.id) (changed_entry name e f ++ placed name old new) (placed name old (f ∷ new)) s.0) ∙ by (equal_entry e f) refl rest
+    ∙ sym (ap (λ (b : Bool). named_all name (cond (not (equal_entry f e || b)) (f ∷ missing_from equal_entry (e ∷ old) new) (missing_from equal_entry (e ∷ old) new))) apart)
   where
-    by : (b : Bool) → equal_entry e f ≡ b → flat_map put_in (entry_changes old new) ≡ missing_from equal_entry (e ∷ old) new → flat_map put_in (cond b [] (Put f ∷ []) ++ entry_changes old new) ≡ cond (not (equal_entry f e || false)) (f ∷ missing_from equal_entry (e ∷ old) new) (missing_from equal_entry (e ∷ old) new)
-    by true equal rest = rest ∙ sym (ap (λ (t : Bool). cond (not (t || false)) (f ∷ missing_from equal_entry (e ∷ old) new) (missing_from equal_entry (e ∷ old) new)) (same_back equal_entry entry_decides e f equal))
+    by : (b : Bool) → equal_entry e f ≡ b → flat_map put_in (placed name old new) ≡ named_all name (missing_from equal_entry (e ∷ old) new)
+        → flat_map put_in (cond b [] (Put name f ∷ []) ++ placed name old new) ≡ named_all name (cond (not (equal_entry f e || false)) (f ∷ missing_from equal_entry (e ∷ old) new) (missing_from equal_entry (e ∷ old) new))
+    by true equal rest = rest ∙ sym (ap (λ (t : Bool). named_all name (cond (not (t || false)) (f ∷ missing_from equal_entry (e ∷ old) new) (missing_from equal_entry (e ∷ old) new))) (same_back equal_entry entry_decides e f equal))
     by false other rest =
-        ap (λ (l : List Entry). f ∷ l) rest ∙ sym (ap (λ (t : Bool). cond (not (t || false)) (f ∷ missing_from equal_entry (e ∷ old) new) (missing_from equal_entry (e ∷ old) new)) (not_same equal_entry entry_decides e f other))
-put_plain (e ∷ old) (f ∷ new) d_old d_new (inr s) =
+        ap (λ (l : List (List ℕ × Entry)). (name, f) ∷ l) rest ∙ sym (ap (λ (t : Bool). named_all name (cond (not (t || false)) (f ∷ missing_from equal_entry (e ∷ old) new) (missing_from equal_entry (e ∷ old) new))) (not_same equal_entry entry_decides e f other))
+placed_plain name (e ∷ old) (f ∷ new) d_old d_new (inr s) =
     let parts = any_false (bytes_eq e.id f.id) (list_any (by_id e) new) s.0 in
-    let rest : flat_map put_in (entry_changes old (f ∷ new)) ≡ missing_from equal_entry (e ∷ old) (f ∷ new) =
-    put_plain old (f ∷ new) d_old.1 d_new s.1 ∙ sym (drops_one equal_entry entry_decides e old (f ∷ new) (all_unequal e (f ∷ new) (none_same by_id e (f ∷ new) s.0))) in
+    let rest : flat_map put_in (placed name old (f ∷ new)) ≡ named_all name (missing_from equal_entry (e ∷ old) (f ∷ new)) =
+    placed_plain name old (f ∷ new) d_old.1 d_new s.1 ∙ ap (named_all name) (sym (drops_one equal_entry entry_decides e old (f ∷ new) (all_unequal e (f ∷ new) (none_same by_id e (f ∷ new) s.0)))) in
     rw parts.0 rest
-
-puts_fit : (new : List Entry) → AllByRecursion (IsEntry 4294967295) new → AllByRecursion IsChange (map (λ entry. Put entry) new)
-puts_fit [] h = tt
-puts_fit (f ∷ new) h = (h.0, puts_fit new h.1)
-
-pub entries_fit : (old new : List Entry) → AllByRecursion (IsEntry 4294967295) old → AllByRecursion (IsEntry 4294967295) new → AllByRecursion IsChange (entry_changes old new)
-entries_fit [] new h k = puts_fit new k
-entries_fit (e ∷ old) [] h k = (id_short 4294967295 e.id h.0.id, entries_fit old [] h.1 k)
-entries_fit (e ∷ old) (f ∷ new) h k = by (bytes_eq e.id f.id) (entries_fit old new h.1 k.1) (entries_fit old (f ∷ new) h.1 k)
-  where
-    kept : (b : Bool) → AllByRecursion IsChange (cond b [] (Put f ∷ []))
-    kept true = tt
-    kept false = (k.0, tt)
-
-    by : (b : Bool) → AllByRecursion IsChange (entry_changes old new) → AllByRecursion IsChange (entry_changes old (f ∷ new)) → AllByRecursion IsChange (cond b (kept_change e f ++ entry_changes old new) (Remove e.id ∷ entry_changes old (f ∷ new)))
-    by true one two = all_append IsChange (kept_change e f) (entry_changes old new) (kept (equal_entry e f)) one
-    by false one two = (id_short 4294967295 e.id h.0.id, two)
 
 -- ---- pending commands
 

@@ -6,17 +6,23 @@ use Rattle.std.specs.Str.{bytes_eq}
 use lib.Pointwise.{bytes_decides}
 use Rattle.owned_lists.specs.declared.commands.Command.{Command}
 use Rattle.ice_values.proofs.OptionLaws.{some_is, none_not_some}
-use Rattle.checkpoint_records.specs.Books.{discards, same_command}
-use Rattle.checkpoint_records.specs.Rules.{IsClientId, IsCommand, IsEntry, KeepsRules, ids_of}
+use Rattle.std.proofs.lemmas.List.{map-append}
+use Rattle.checkpoint_records.specs.Books.{all_entries, default_name, discards, entries_in, entries_of, others_than, same_command, sessions}
+use Rattle.checkpoint_records.specs.Rules.{IsClientId, IsCommand, IsEntry, IsName, KeepsRules, ids_of}
+use Rattle.checkpoint_records.specs.declared.head.Format.{Format}
+use Rattle.checkpoint_records.specs.declared.head.Format.TheVariants.{Single, Several}
 use Rattle.checkpoint_records.specs.declared.records.Book.{Book}
 use Rattle.checkpoint_records.specs.declared.records.Entry.{Entry}
-use Rattle.checkpoint_records.proofs.DistinctLaws.{all_more}
-use Rattle.checkpoint_changes.specs.Changes.{IsChange, applied, apply, with_entry, without, without_at}
+use Rattle.checkpoint_records.specs.declared.records.Named.{Named}
+use Rattle.checkpoint_records.proofs.DistinctLaws.{all_append, all_behind, all_front, all_more, any_false, distinct_join, distinct_split}
+use Rattle.checkpoint_records.proofs.NameLaws.{default_fits, turned}
+use Rattle.checkpoint_changes.specs.Changes.{IsChange, MayBePut, applied, apply, has_entry, sessions_with, sessions_without, with_entries_at, with_entry, with_sessions, without, without_at}
 use Rattle.checkpoint_changes.specs.Parts.{HasParts}
-use Rattle.checkpoint_changes.specs.Together.{AreOfRuns}
+use Rattle.checkpoint_changes.specs.Together.{AreOfRuns, PutsIntoName}
 use Rattle.checkpoint_changes.specs.declared.changes.Change.{Change}
 use Rattle.checkpoint_changes.specs.declared.changes.Change.TheVariants.{Epoch, Pend, Put, Remove, Unpend}
-use Rattle.checkpoint_changes.proofs.DifferenceLaws.{next_item}
+use Rattle.checkpoint_changes.proofs.ApplyLaws.{next_item}
+use Rattle.checkpoint_changes.proofs.SessionLaws.{AreIdsDistinct, IsFormed, all_formed, all_free, chosen_formed, formed_at, found_name, ids_free, in_book, in_session, puts, removes, without_front}
 
 -- ---- all rules from the rules of parts
 
@@ -28,27 +34,43 @@ pub runs_of : (epoch : ℕ) (entries : List Entry) → AllByRecursion (IsEntry e
 runs_of epoch [] h = tt
 runs_of epoch (e ∷ entries) h = (h.0.id, runs_of epoch entries h.1)
 
-pub whole_rules : (book : Book) → HasParts book → length book.entries ≤ 128 → length book.pending ≤ 320 → AreOfRuns book.epoch book.entries → IsDistinct same_command book.pending
-    → AllByRecursion (λ command. list_any (same_command command) (discards book.entries) ≡ false) book.pending → KeepsRules book
-whole_rules book parts few_entries few_pending runs differ none_named = record {
+pub whole_rules : (book : Book) → HasParts book → length (sessions book) ≤ 8 → length (all_entries book) ≤ 128 → length book.pending ≤ 320 → AreOfRuns book.epoch (all_entries book) → IsDistinct same_command book.pending
+    → AllByRecursion (λ command. list_any (same_command command) (discards (all_entries book)) ≡ false) book.pending → KeepsRules book
+whole_rules book parts few_sessions few_entries few_pending runs differ none_named = record {
   few_entries = few_entries;
   few_pending = few_pending;
-  entries = entries_of_runs book.epoch book.entries parts.entries runs;
+  entries = entries_of_runs book.epoch (all_entries book) parts.entries runs;
   commands = parts.commands;
   ids_differ = parts.ids_differ;
   commands_differ = differ;
   none_named = none_named;
+  called = subst IsName (sym parts.chosen) default_fits;
+  stored = parts.stored;
+  rising = parts.rising;
+  apart = parts.apart;
+  few_sessions = few_sessions;
 }
 
 -- ---- parts from rules
 
-later_entries : (epoch : ℕ) (entries : List Entry) → epoch < 2 ^ 32 → AllByRecursion (IsEntry epoch) entries → AllByRecursion (IsEntry 4294967295) entries
+pub later_entries : (epoch : ℕ) (entries : List Entry) → epoch < 2 ^ 32 → AllByRecursion (IsEntry epoch) entries → AllByRecursion (IsEntry 4294967295) entries
 later_entries epoch [] lt h = tt
 later_entries epoch (e ∷ entries) lt h =
     (record { id = record { epoch = h.0.id.epoch; number = h.0.id.number; first = h.0.id.first; last = omega (arith, h.0.id.last, lt); fits = h.0.id.fits; is = h.0.id.is }; table = h.0.table }, later_entries epoch entries lt h.1)
 
-pub parts_of : (book : Book) → KeepsRules book → book.epoch < 2 ^ 32 → HasParts book
-parts_of book rules lt = record { entries = later_entries book.epoch book.entries lt rules.entries; commands = rules.commands; ids_differ = rules.ids_differ }
+pub parts_of : (book : Book) → KeepsRules book → book.name ≡ default_name → book.epoch < 2 ^ 32 → HasParts book
+parts_of book rules chosen lt = record {
+  entries = later_entries book.epoch (all_entries book) lt rules.entries;
+  commands = rules.commands;
+  ids_differ = rules.ids_differ;
+  chosen = chosen;
+  stored = rules.stored;
+  rising = rules.rising;
+  apart = rules.apart;
+}
+
+pub parts_formed : (book : Book) → HasParts book → IsFormed book
+parts_formed book parts = record { called = subst IsName (sym parts.chosen) default_fits; stored = parts.stored; rising = parts.rising; apart = parts.apart }
 
 -- ---- a change keeps the parts
 
@@ -108,42 +130,105 @@ at_all P (suc n) (c ∷ commands) left is h = by (without_at n commands) is (λ 
     by None is more = absurd (none_not_some left is)
     by (Some rest) is more = subst (AllByRecursion P) (some_is (c ∷ rest) left is) (h.0, more rest refl)
 
-unfoldable pub with_entries : Book → List Entry → Book
-with_entries book entries = record book { entries = entries }
-
 unfoldable pub with_pending : Book → List Command → Book
 with_pending book pending = record book { pending = pending }
 
-pub parts_kept : (book : Book) (change : Change) (next : Book) → HasParts book → IsChange change → applied book change ≡ Some next → HasParts next
-unfolding with_entries with_pending
-parts_kept book (Epoch epoch) next parts fits is =
-    subst HasParts (some_is (record book { epoch = epoch }) next is) (record { entries = parts.entries; commands = parts.commands; ids_differ = parts.ids_differ })
-parts_kept book (Remove id) next parts fits is = by (without id book.entries) refl is
+-- an entry is put in front of others
+pub put_front : (P : Entry → Type 0) (f : Entry) (entries others : List Entry) → P f → AllByRecursion P (entries ++ others) → AllByRecursion P (with_entry f entries ++ others)
+put_front P f entries others p h = all_append P (with_entry f entries) others (put_each P f entries p (all_front P entries others h)) (all_behind P entries others h)
+
+none_has : (id : List ℕ) (entries : List Entry) → has_entry id entries ≡ false → AllByRecursion (λ y. bytes_eq id y ≡ false) (ids_of entries)
+none_has id [] e = tt
+none_has id (x ∷ entries) e = (let h = any_false (bytes_eq x.id id) (has_entry id entries) e in (turned x.id id h.0, none_has id entries h.1))
+
+pub put_apart : (f : Entry) (entries others : List Entry) → has_entry f.id others ≡ false → AreIdsDistinct (entries ++ others) → AreIdsDistinct (with_entry f entries ++ others)
+put_apart f entries others nowhere d =
+    let split : (xs : List Entry) → ids_of (xs ++ others) ≡ ids_of xs ++ ids_of others = λ xs. map-append (λ (e : Entry). e.id) xs others in
+    let parts = distinct_split bytes_eq (ids_of entries) (ids_of others) (subst (IsDistinct bytes_eq) (split entries) d) in
+    let apart : AllByRecursion (λ (e : Entry). AllByRecursion (λ y. bytes_eq e.id y ≡ false) (ids_of others)) entries = all_ids (λ id. AllByRecursion (λ y. bytes_eq id y ≡ false) (ids_of others)) entries parts.2 in
+    let all = put_each (λ (e : Entry). AllByRecursion (λ y. bytes_eq e.id y ≡ false) (ids_of others)) f entries (none_has f.id others nowhere) apart in
+    subst (IsDistinct bytes_eq) (sym (split (with_entry f entries)))
+    (distinct_join bytes_eq (ids_of (with_entry f entries)) (ids_of others) (put_differ f entries parts.0) parts.1 (ids_all (λ id. AllByRecursion (λ y. bytes_eq id y ≡ false) (ids_of others)) (with_entry f entries) all))
+
+-- the name of the session into which an entry is put
+pub put_name : (format : Format) (name : List ℕ) → MayBePut format name → IsName name
+put_name Single name is = subst IsName (sym is) default_fits
+put_name Several name is = is
+
+pub change_named : (format : Format) (change : Change) → IsChange format change → PutsIntoName change
+change_named format (Epoch epoch) fits = tt
+change_named format (Remove id) fits = tt
+change_named format (Put name entry) fits = put_name format name fits.0
+change_named format (Unpend place) fits = tt
+change_named format (Pend command) fits = tt
+
+-- the parts of a book whose sessions are others
+sessions_parts : (book : Book) (name : List ℕ) (entries : List Entry) → HasParts book → IsName name
+    → AllByRecursion (IsEntry 4294967295) (entries ++ entries_in (others_than name (sessions book))) → AreIdsDistinct (entries ++ entries_in (others_than name (sessions book)))
+    → HasParts (with_sessions book (with_entries_at name entries (sessions book)))
+sessions_parts book name entries parts is each distinct =
+    let all = sessions book in
+    let f = all_formed book (parts_formed book parts) in
+    let formed = chosen_formed book.name (with_entries_at name entries all) book.pending book.epoch (parts_formed book parts).called (formed_at name entries all is f) in
+    record {
+      entries = in_book (AllByRecursion (IsEntry 4294967295)) (all_free (IsEntry 4294967295)) book name entries all is f each;
+      commands = parts.commands;
+      ids_differ = in_book AreIdsDistinct ids_free book name entries all is f distinct;
+      chosen = parts.chosen;
+      stored = formed.stored;
+      rising = formed.rising;
+      apart = formed.apart;
+    }
+
+pub parts_kept : (format : Format) (book : Book) (change : Change) (next : Book) → HasParts book → IsChange format change → applied book change ≡ Some next → HasParts next
+unfolding with_pending
+parts_kept format book (Epoch epoch) next parts fits is =
+    subst HasParts (some_is (record book { epoch = epoch }) next is)
+    (record { entries = parts.entries; commands = parts.commands; ids_differ = parts.ids_differ; chosen = parts.chosen; stored = parts.stored; rising = parts.rising; apart = parts.apart })
+parts_kept format book (Remove id) next parts fits is = by (sessions_without id (sessions book)) refl is
   where
-    by : (o : Option (List Entry)) → without id book.entries ≡ o → option_map (λ entries. with_entries book entries) o ≡ Some next → HasParts next
-    by None same is = absurd (none_not_some next is)
-    by (Some left) same is =
-        subst HasParts (some_is (with_entries book left) next is)
-        (record { entries = without_all (IsEntry 4294967295) id book.entries left same parts.entries; commands = parts.commands; ids_differ = without_differ id book.entries left same parts.ids_differ })
-parts_kept book (Put entry) next parts fits is =
-    subst HasParts (some_is (with_entries book (with_entry entry book.entries)) next is)
-    (record { entries = put_each (IsEntry 4294967295) entry book.entries fits parts.entries; commands = parts.commands; ids_differ = put_differ entry book.entries parts.ids_differ })
-parts_kept book (Unpend place) next parts fits is = by (without_at place book.pending) refl is
+    by : (o : Option (List Named)) → sessions_without id (sessions book) ≡ o → option_map (with_sessions book) o ≡ Some next → HasParts next
+    by None same e = absurd (none_not_some next e)
+    by (Some after) same e =
+        let all = sessions book in
+        let formed = parts_formed book parts in
+        let f = all_formed book formed in
+        let r = removes id all after same in
+        let others = entries_in (others_than r.name all) in
+        let gone = without_front id (entries_of r.name all) r.left others r.gone in
+        let each = without_all (IsEntry 4294967295) id (entries_of r.name all ++ others) (r.left ++ others) gone (in_session (AllByRecursion (IsEntry 4294967295)) (all_free (IsEntry 4294967295)) book r.name formed parts.entries) in
+        let distinct = without_differ id (entries_of r.name all ++ others) (r.left ++ others) gone (in_session AreIdsDistinct ids_free book r.name formed parts.ids_differ) in
+        subst HasParts (ap (with_sessions book) (sym r.is) ∙ some_is (with_sessions book after) next e) (sessions_parts book r.name r.left parts (found_name id r.name all r.called f.stored) each distinct)
+parts_kept format book (Put name entry) next parts fits is = by (sessions_with name entry (sessions book)) refl is
+  where
+    by : (o : Option (List Named)) → sessions_with name entry (sessions book) ≡ o → option_map (with_sessions book) o ≡ Some next → HasParts next
+    by None same e = absurd (none_not_some next e)
+    by (Some after) same e =
+        let all = sessions book in
+        let formed = parts_formed book parts in
+        let r = puts name entry all after same in
+        let others = entries_in (others_than name all) in
+        let each = put_front (IsEntry 4294967295) entry (entries_of name all) others fits.1 (in_session (AllByRecursion (IsEntry 4294967295)) (all_free (IsEntry 4294967295)) book name formed parts.entries) in
+        let distinct = put_apart entry (entries_of name all) others r.nowhere (in_session AreIdsDistinct ids_free book name formed parts.ids_differ) in
+        subst HasParts (ap (with_sessions book) (sym r.is) ∙ some_is (with_sessions book after) next e) (sessions_parts book name (with_entry entry (entries_of name all)) parts (put_name format name fits.0) each distinct)
+parts_kept format book (Unpend place) next parts fits is = by (without_at place book.pending) refl is
   where
     by : (o : Option (List Command)) → without_at place book.pending ≡ o → option_map (λ pending. with_pending book pending) o ≡ Some next → HasParts next
-    by None same is = absurd (none_not_some next is)
-    by (Some left) same is =
-        subst HasParts (some_is (with_pending book left) next is) (record { entries = parts.entries; commands = at_all IsCommand place book.pending left same parts.commands; ids_differ = parts.ids_differ })
-parts_kept book (Pend command) next parts fits is =
-    subst HasParts (some_is (with_pending book (book.pending ++ command ∷ [])) next is) (record { entries = parts.entries; commands = all_more IsCommand book.pending command parts.commands fits; ids_differ = parts.ids_differ })
+    by None same e = absurd (none_not_some next e)
+    by (Some left) same e =
+        subst HasParts (some_is (with_pending book left) next e)
+        (record { entries = parts.entries; commands = at_all IsCommand place book.pending left same parts.commands; ids_differ = parts.ids_differ; chosen = parts.chosen; stored = parts.stored; rising = parts.rising; apart = parts.apart })
+parts_kept format book (Pend command) next parts fits is =
+    subst HasParts (some_is (with_pending book (book.pending ++ command ∷ [])) next is)
+    (record { entries = parts.entries; commands = all_more IsCommand book.pending command parts.commands fits; ids_differ = parts.ids_differ; chosen = parts.chosen; stored = parts.stored; rising = parts.rising; apart = parts.apart })
 
-pub parts_after : (delta : List Change) (book next : Book) → HasParts book → AllByRecursion IsChange delta → apply book delta ≡ Some next → HasParts next
-parts_after [] book next parts fits is = subst HasParts (some_is book next is) parts
-parts_after (change ∷ delta) book next parts fits is = by (applied book change) refl is (λ mid m r. parts_after delta mid next m fits.1 r)
+pub parts_after : (format : Format) (delta : List Change) (book next : Book) → HasParts book → AllByRecursion (IsChange format) delta → apply book delta ≡ Some next → HasParts next
+parts_after format [] book next parts fits is = subst HasParts (some_is book next is) parts
+parts_after format (change ∷ delta) book next parts fits is = by (applied book change) refl is (λ mid m r. parts_after format delta mid next m fits.1 r)
   where
     by : (o : Option Book) → applied book change ≡ o → option_and_then (λ b. apply b delta) o ≡ Some next → ((mid : Book) → HasParts mid → apply mid delta ≡ Some next → HasParts next) → HasParts next
     by None same is more = absurd (none_not_some next is)
-    by (Some mid) same is more = more mid (parts_kept book change mid parts fits.0 same) is
+    by (Some mid) same is more = more mid (parts_kept format book change mid parts fits.0 same) is
 
 -- ---- the calls
 
@@ -154,14 +239,41 @@ runs_step epoch entries i e id lt is is_id of_run so_far =
     let here : IsClientId epoch e.id = subst (IsClientId epoch) is_id of_run in
     (λ rest. so_far.0 (subst (AreOfRuns epoch) (sym parts) (here, rest)), λ all. (subst (AreOfRuns epoch) parts (so_far.1 all)).1)
 
+abbrev AreEachOfRuns : ℕ → List Named → Type 0
+AreEachOfRuns epoch all = AllByRecursion (λ (s : Named). AreOfRuns epoch s.entries) all
+
+all_of_runs : (epoch : ℕ) (all : List Named) → AreEachOfRuns epoch all → AreOfRuns epoch (entries_in all)
+all_of_runs epoch [] h = tt
+all_of_runs epoch (s ∷ all) h = all_append (λ (e : Entry). IsClientId epoch e.id) s.entries (entries_in all) h.0 (all_of_runs epoch all h.1)
+
+each_of_runs : (epoch : ℕ) (all : List Named) → AreOfRuns epoch (entries_in all) → AreEachOfRuns epoch all
+each_of_runs epoch [] h = tt
+each_of_runs epoch (s ∷ all) h =
+    (all_front (λ (e : Entry). IsClientId epoch e.id) s.entries (entries_in all) h, each_of_runs epoch all (all_behind (λ (e : Entry). IsClientId epoch e.id) s.entries (entries_in all) h))
+
+pub runs_in_book : (epoch : ℕ) (entries items : List Entry) (others rest : List Named) (result : Bool) → items ≡ entries → rest ≡ others → AreOfRuns epoch items → (IsTrue result → AreEachOfRuns epoch rest) × (AreEachOfRuns epoch rest → IsTrue result)
+    → (IsTrue result → AreOfRuns epoch (entries ++ entries_in others)) × (AreOfRuns epoch (entries ++ entries_in others) → IsTrue result)
+runs_in_book epoch entries items others rest result is_items is_rest own each = (
+  λ t. all_append (λ (e : Entry). IsClientId epoch e.id) entries (entries_in others) (subst (AreOfRuns epoch) is_items own) (all_of_runs epoch others (subst (AreEachOfRuns epoch) is_rest (each.0 t))),
+  λ h. each.1 (subst (AreEachOfRuns epoch) (sym is_rest) (each_of_runs epoch others (all_behind (λ (e : Entry). IsClientId epoch e.id) entries (entries_in others) h))),
+)
+
+-- the entries of the chosen session
+pub own_of_runs : (epoch : ℕ) (entries items : List Entry) (others : List Named) → items ≡ entries → AreOfRuns epoch (entries ++ entries_in others) → AreOfRuns epoch items
+own_of_runs epoch entries items others is_items h = subst (AreOfRuns epoch) (sym is_items) (all_front (λ (e : Entry). IsClientId epoch e.id) entries (entries_in others) h)
+
 abbrev AreUnnamed : List Command → List Command → Type 0
 AreUnnamed named commands = AllByRecursion (λ command. list_any (same_command command) named ≡ false) commands
 
-pub rules_decided : (book : Book) (result : Bool) (es : List Entry) (ps ds : List Command) → HasParts book → es ≡ book.entries → ps ≡ book.pending → ds ≡ discards es → length book.entries ≤ 128 → length book.pending ≤ 320 → AreOfRuns book.epoch es → IsDistinct same_command ps
-    → (IsTrue result → AreUnnamed ds ps) × (AreUnnamed ds ps → IsTrue result) → (IsTrue result → KeepsRules book) × (KeepsRules book → IsTrue result)
-rules_decided book result es ps ds parts is_es is_ps is_ds few_entries few_pending runs differ named =
-    let named_is : ds ≡ discards book.entries = is_ds ∙ ap discards is_es in (
-      λ t. whole_rules book parts few_entries few_pending (subst (AreOfRuns book.epoch) is_es runs) (subst (IsDistinct same_command) is_ps differ)
-          (subst (AreUnnamed (discards book.entries)) is_ps (subst (λ (d : List Command). AreUnnamed d ps) named_is (named.0 t))),
-      λ k. named.1 (subst (λ (d : List Command). AreUnnamed d ps) (sym named_is) (subst (AreUnnamed (discards book.entries)) (sym is_ps) k.none_named)),
-    )
+pub rules_decided : (book : Book) (result : Bool) (ps ds : List Command) → HasParts book → ps ≡ book.pending → ds ≡ discards (all_entries book) → length (sessions book) ≤ 8 → length (all_entries book) ≤ 128 → length book.pending ≤ 320
+    → AreOfRuns book.epoch (all_entries book) → IsDistinct same_command ps → (IsTrue result → AreUnnamed ds ps) × (AreUnnamed ds ps → IsTrue result) → (IsTrue result → KeepsRules book) × (KeepsRules book → IsTrue result)
+rules_decided book result ps ds parts is_ps is_ds few_sessions few_entries few_pending runs differ named = (
+  λ t. whole_rules book parts few_sessions few_entries few_pending runs (subst (IsDistinct same_command) is_ps differ)
+      (subst (AreUnnamed (discards (all_entries book))) is_ps (subst (λ (d : List Command). AreUnnamed d ps) is_ds (named.0 t))),
+  λ k. named.1 (subst (λ (d : List Command). AreUnnamed d ps) (sym is_ds) (subst (AreUnnamed (discards (all_entries book))) (sym is_ps) k.none_named)),
+)
+
+-- where no command is pending none is named
+pub nothing_named : (named pending : List Command) → length pending ≡ 0 → AreUnnamed named pending
+nothing_named named [] none = tt
+nothing_named named (command ∷ pending) none = absurd (omega (arith, none))

@@ -5,23 +5,27 @@ use Rattle.std.specs.List.{AllByRecursion, IsDistinct, cons_option, list_any}
 use Rattle.std.specs.Option.{option_map_or}
 use Rattle.std.specs.Str.{bytes_eq}
 use Rattle.std.specs.Cmp.Lexicographic.{pointwise}
+use Rattle.std.proofs.lemmas.List.Folds.{list_any-append}
 use lib.Pointwise.{pointwise_decides, bytes_decides}
 use Rattle.owned_lists.specs.declared.commands.Command.{Command}
 use Rattle.ice_values.specs.declared.property.Property.{Property}
 use Rattle.ice_values.proofs.OptionLaws.{some_is, none_not_some}
 use Rattle.xsmp_properties.specs.Readers.{are_words, command_of, command_with, directory_of, environment_of}
 use Rattle.xsmp_properties.specs.Tables.{find_property}
-use Rattle.checkpoint_records.specs.Books.{discards, names, same_command}
-use Rattle.checkpoint_records.specs.Rules.{IsClientId, KeepsRules}
+use Rattle.checkpoint_records.specs.Books.{all_entries, discards, entries_in, entries_of, names, others_than, same_command, sessions}
+use Rattle.checkpoint_records.specs.Rules.{IsClientId, IsName, KeepsRules}
 use Rattle.checkpoint_records.specs.declared.records.Book.{Book}
 use Rattle.checkpoint_records.specs.declared.records.Entry.{Entry}
+use Rattle.checkpoint_records.specs.declared.records.Named.{Named}
 use Rattle.checkpoint_records.proofs.DistinctLaws.{all_more, any_false, distinct_more}
-use Rattle.checkpoint_changes.specs.Changes.{applied, with_entry, without, without_at}
+use Rattle.checkpoint_records.proofs.PlaceLaws.{any_in_book}
+use Rattle.checkpoint_changes.specs.Changes.{applied, sessions_with, sessions_without, with_entries_at, with_entry, with_sessions, without, without_at}
 use Rattle.checkpoint_changes.specs.Parts.{HasParts}
-use Rattle.checkpoint_changes.specs.Together.{FitTogether, FitsIn, discards_by, has_words, last_byte}
+use Rattle.checkpoint_changes.specs.Together.{AreOfRuns, FitTogether, FitsIn, PutsIntoName, discards_by, has_words, last_byte}
 use Rattle.checkpoint_changes.specs.declared.changes.Change.{Change}
 use Rattle.checkpoint_changes.specs.declared.changes.Change.TheVariants.{Epoch, Pend, Put, Remove, Unpend}
-use Rattle.checkpoint_changes.proofs.RuleLaws.{at_all, put_each, runs_of, whole_rules, with_entries, with_pending, without_all}
+use Rattle.checkpoint_changes.proofs.RuleLaws.{at_all, parts_formed, put_front, runs_of, whole_rules, with_pending, without_all}
+use Rattle.checkpoint_changes.proofs.SessionLaws.{NameNone, all_formed, all_free, found_name, in_book, in_session, named_free, puts, removes, without_front}
 
 -- ---- tests of each item
 
@@ -108,10 +112,11 @@ unnamed_without id entries left commands is h =
     all_onward (λ (c : Command). list_any (same_command c) (discards entries) ≡ false) (λ (c : Command). list_any (same_command c) (discards left) ≡ false) commands
     (λ c none. none_names c left (without_all (λ (e : Entry). discards_by c e ≡ false) id entries left is (named_by_none c entries none))) h
 
-unnamed_with : (entry : Entry) (entries : List Entry) (commands : List Command) → list_any (λ command. discards_by command entry) commands ≡ false → AreUnnamed entries commands → AreUnnamed (with_entry entry entries) commands
-unnamed_with entry entries commands free h =
-    all_both (λ (c : Command). discards_by c entry ≡ false) (λ (c : Command). list_any (same_command c) (discards entries) ≡ false) (λ (c : Command). list_any (same_command c) (discards (with_entry entry entries)) ≡ false) commands
-    (λ c new none. none_names c (with_entry entry entries) (put_each (λ (e : Entry). discards_by c e ≡ false) entry entries new (named_by_none c entries none)))
+-- an entry is put in front of others
+unnamed_with : (entry : Entry) (entries others : List Entry) (commands : List Command) → list_any (λ command. discards_by command entry) commands ≡ false → AreUnnamed (entries ++ others) commands → AreUnnamed (with_entry entry entries ++ others) commands
+unnamed_with entry entries others commands free h =
+    all_both (λ (c : Command). discards_by c entry ≡ false) (λ (c : Command). list_any (same_command c) (discards (entries ++ others)) ≡ false) (λ (c : Command). list_any (same_command c) (discards (with_entry entry entries ++ others)) ≡ false) commands
+    (λ c new none. none_names c (with_entry entry entries ++ others) (put_front (λ (e : Entry). discards_by c e ≡ false) entry entries others new (named_by_none c (entries ++ others) none)))
     (any_none (λ (command : Command). discards_by command entry) commands free) h
 
 -- ---- each change
@@ -132,67 +137,99 @@ at_differ (suc n) (c ∷ commands) left is d = by (without_at n commands) refl i
         (at_all (λ (k : Command). same_command c k ≡ false) n commands rest same d.0, more rest refl)
 
 pub fit_of : (book : Book) → KeepsRules book → FitTogether book
-fit_of book rules = record { runs = runs_of book.epoch book.entries rules.entries; commands_differ = rules.commands_differ; none_named = rules.none_named }
+fit_of book rules = record { runs = runs_of book.epoch (all_entries book) rules.entries; commands_differ = rules.commands_differ; none_named = rules.none_named }
 
-pub rules_of : (book : Book) → HasParts book → FitTogether book → length book.entries ≤ 128 → length book.pending ≤ 320 → KeepsRules book
-rules_of book parts fit few_entries few_pending = whole_rules book parts few_entries few_pending fit.runs fit.commands_differ fit.none_named
+pub rules_of : (book : Book) → HasParts book → FitTogether book → length (sessions book) ≤ 8 → length (all_entries book) ≤ 128 → length book.pending ≤ 320 → KeepsRules book
+rules_of book parts fit few_sessions few_entries few_pending = whole_rules book parts few_sessions few_entries few_pending fit.runs fit.commands_differ fit.none_named
 
-pub still_fit : (book : Book) (change : Change) (next : Book) → FitTogether book → FitsIn book change → applied book change ≡ Some next → FitTogether next
-unfolding with_entries with_pending
-still_fit book (Epoch epoch) next fit (inl later) is =
+-- a book whose sessions are others
+sessions_fit : (book : Book) (name : List ℕ) (entries : List Entry) → HasParts book → FitTogether book → IsName name
+    → AreOfRuns book.epoch (entries ++ entries_in (others_than name (sessions book))) → AreUnnamed (entries ++ entries_in (others_than name (sessions book))) book.pending
+    → FitTogether (with_sessions book (with_entries_at name entries (sessions book)))
+sessions_fit book name entries parts fit is runs none =
+    let all = sessions book in
+    let f = all_formed book (parts_formed book parts) in
+    record {
+      runs = in_book (AreOfRuns book.epoch) (all_free (λ (e : Entry). IsClientId book.epoch e.id)) book name entries all is f runs;
+      commands_differ = fit.commands_differ;
+      none_named = in_book (NameNone book.pending) (named_free book.pending) book name entries all is f none;
+    }
+
+pub still_fit : (book : Book) (change : Change) (next : Book) → HasParts book → PutsIntoName change → FitTogether book → FitsIn book change → applied book change ≡ Some next → FitTogether next
+unfolding with_pending
+still_fit book (Epoch epoch) next parts named fit (inl later) is =
     subst FitTogether (some_is (record book { epoch = epoch }) next is) (record {
-      runs = all_onward (λ (e : Entry). IsClientId book.epoch e.id) (λ (e : Entry). IsClientId epoch e.id) book.entries (λ e of_run. later_id book.epoch epoch e.id later of_run) fit.runs;
+      runs = all_onward (λ (e : Entry). IsClientId book.epoch e.id) (λ (e : Entry). IsClientId epoch e.id) (all_entries book) (λ e of_run. later_id book.epoch epoch e.id later of_run) fit.runs;
       commands_differ = fit.commands_differ;
       none_named = fit.none_named;
     })
-still_fit book (Epoch epoch) next fit (inr runs) is =
+still_fit book (Epoch epoch) next parts named fit (inr runs) is =
     subst FitTogether (some_is (record book { epoch = epoch }) next is) (record { runs = runs; commands_differ = fit.commands_differ; none_named = fit.none_named })
-still_fit book (Remove id) next fit fits is = by (without id book.entries) refl is
+still_fit book (Remove id) next parts named fit fits is = by (sessions_without id (sessions book)) refl is
   where
-    by : (o : Option (List Entry)) → without id book.entries ≡ o → option_map (λ entries. with_entries book entries) o ≡ Some next → FitTogether next
-    by None same is = absurd (none_not_some next is)
-    by (Some left) same is =
-        subst FitTogether (some_is (with_entries book left) next is) (record {
-          runs = without_all (λ (e : Entry). IsClientId book.epoch e.id) id book.entries left same fit.runs;
-          commands_differ = fit.commands_differ;
-          none_named = unnamed_without id book.entries left book.pending same fit.none_named;
-        })
-still_fit book (Put entry) next fit fits is =
-    subst FitTogether (some_is (with_entries book (with_entry entry book.entries)) next is) (record {
-      runs = put_each (λ (e : Entry). IsClientId book.epoch e.id) entry book.entries fits.0 fit.runs;
-      commands_differ = fit.commands_differ;
-      none_named = unnamed_with entry book.entries book.pending fits.1 fit.none_named;
-    })
-still_fit book (Unpend place) next fit fits is = by (without_at place book.pending) refl is
+    by : (o : Option (List Named)) → sessions_without id (sessions book) ≡ o → option_map (with_sessions book) o ≡ Some next → FitTogether next
+    by None same e = absurd (none_not_some next e)
+    by (Some after) same e =
+        let all = sessions book in
+        let formed = parts_formed book parts in
+        let f = all_formed book formed in
+        let r = removes id all after same in
+        let others = entries_in (others_than r.name all) in
+        let gone = without_front id (entries_of r.name all) r.left others r.gone in
+        let runs = without_all (λ (x : Entry). IsClientId book.epoch x.id) id (entries_of r.name all ++ others) (r.left ++ others) gone
+        (in_session (AreOfRuns book.epoch) (all_free (λ (x : Entry). IsClientId book.epoch x.id)) book r.name formed fit.runs) in
+        let none = unnamed_without id (entries_of r.name all ++ others) (r.left ++ others) book.pending gone (in_session (NameNone book.pending) (named_free book.pending) book r.name formed fit.none_named) in
+        subst FitTogether (ap (with_sessions book) (sym r.is) ∙ some_is (with_sessions book after) next e) (sessions_fit book r.name r.left parts fit (found_name id r.name all r.called f.stored) runs none)
+still_fit book (Put name entry) next parts named fit fits is = by (sessions_with name entry (sessions book)) refl is
+  where
+    by : (o : Option (List Named)) → sessions_with name entry (sessions book) ≡ o → option_map (with_sessions book) o ≡ Some next → FitTogether next
+    by None same e = absurd (none_not_some next e)
+    by (Some after) same e =
+        let all = sessions book in
+        let formed = parts_formed book parts in
+        let r = puts name entry all after same in
+        let others = entries_in (others_than name all) in
+        let runs = put_front (λ (x : Entry). IsClientId book.epoch x.id) entry (entries_of name all) others fits.0 (in_session (AreOfRuns book.epoch) (all_free (λ (x : Entry). IsClientId book.epoch x.id)) book name formed fit.runs) in
+        let none = unnamed_with entry (entries_of name all) others book.pending fits.1 (in_session (NameNone book.pending) (named_free book.pending) book name formed fit.none_named) in
+        subst FitTogether (ap (with_sessions book) (sym r.is) ∙ some_is (with_sessions book after) next e) (sessions_fit book name (with_entry entry (entries_of name all)) parts fit named runs none)
+still_fit book (Unpend place) next parts named fit fits is = by (without_at place book.pending) refl is
   where
     by : (o : Option (List Command)) → without_at place book.pending ≡ o → option_map (λ pending. with_pending book pending) o ≡ Some next → FitTogether next
-    by None same is = absurd (none_not_some next is)
-    by (Some left) same is =
-        subst FitTogether (some_is (with_pending book left) next is) (record {
+    by None same e = absurd (none_not_some next e)
+    by (Some left) same e =
+        subst FitTogether (some_is (with_pending book left) next e) (record {
           runs = fit.runs;
           commands_differ = at_differ place book.pending left same fit.commands_differ;
           none_named = at_all (λ (c : Command). names book c ≡ false) place book.pending left same fit.none_named;
         })
-still_fit book (Pend command) next fit fits is =
+still_fit book (Pend command) next parts named fit fits is =
     subst FitTogether (some_is (with_pending book (book.pending ++ command ∷ [])) next is) (record {
       runs = fit.runs;
       commands_differ = distinct_more same_command book.pending command fit.commands_differ fits.0;
-      none_named = all_more (λ (c : Command). names book c ≡ false) book.pending command fit.none_named (any_discards command book.entries ∙ fits.1);
+      none_named = all_more (λ (c : Command). names book c ≡ false) book.pending command fit.none_named (any_discards command (all_entries book) ∙ fits.1);
     })
 
 -- ---- the calls
+
+-- whether a command is the DiscardCommand of an entry of the chosen session, or of another
+pub any_chosen : (test : Entry → Bool) (entries items : List Entry) (others : List Named) (result : Bool) → items ≡ entries → result ≡ list_any test items → true ≡ list_any test items → result ≡ list_any test (entries ++ entries_in others)
+any_chosen test entries items others result is_items is some =
+    is ∙ sym some ∙ ap (λ (b : Bool). b || list_any test (entries_in others)) (some ∙ ap (list_any test) is_items) ∙ sym (list_any-append test entries (entries_in others))
+
+pub any_other : (test : Entry → Bool) (entries items : List Entry) (others rest : List Named) (result : Bool) → items ≡ entries → rest ≡ others → false ≡ list_any test items → result ≡ list_any (λ (s : Named). list_any test s.entries) rest
+    → result ≡ list_any test (entries ++ entries_in others)
+any_other test entries items others rest result is_items is_rest none is =
+    is ∙ ap (λ (b : Bool). b || list_any (λ (s : Named). list_any test s.entries) rest) none ∙ any_in_book test entries items others rest is_items is_rest
 
 not_true : (b : Bool) → IsTrue (not b) → b ≡ false
 not_true true t = (let e : false ≡ true = t in absurd cc)
 not_true false t = refl
 
-pub put_fits : (book : Book) (entry : Entry) (id : List ℕ) (pending : List Command) (discarded : Bool) → id ≡ entry.id → pending ≡ book.pending → IsClientId book.epoch id → discarded ≡ list_any (λ command. discards_by command entry) pending → IsTrue (not discarded) → FitsIn book (Put entry)
-put_fits book entry id pending discarded is_id is_pending of_run is t =
+pub put_fits : (book : Book) (name : List ℕ) (entry : Entry) (id : List ℕ) (pending : List Command) (discarded : Bool) → id ≡ entry.id → pending ≡ book.pending → IsClientId book.epoch id → discarded ≡ list_any (λ command. discards_by command entry) pending → IsTrue (not discarded) → FitsIn book (Put name entry)
+put_fits book name entry id pending discarded is_id is_pending of_run is t =
     (subst (IsClientId book.epoch) is_id of_run, ap (list_any (λ (command : Command). discards_by command entry)) (sym is_pending) ∙ sym is ∙ not_true discarded t)
 
-pub pend_fits : (book : Book) (command : Command) (entries : List Entry) (pending : List Command) (among discarded : Bool) → entries ≡ book.entries → pending ≡ book.pending → among ≡ list_any (λ other. same_command other command) pending → among ≡ false → discarded ≡ list_any (discards_by command) entries
+pub pend_fits : (book : Book) (command : Command) (pending : List Command) (among discarded : Bool) → pending ≡ book.pending → among ≡ list_any (λ other. same_command other command) pending → among ≡ false → discarded ≡ list_any (discards_by command) (all_entries book)
     → IsTrue (not discarded) → FitsIn book (Pend command)
-pend_fits book command entries pending among discarded is_entries is_pending is_among new is_discarded t = (
-  ap (list_any (λ (other : Command). same_command other command)) (sym is_pending) ∙ sym is_among ∙ new,
-  ap (list_any (discards_by command)) (sym is_entries) ∙ sym is_discarded ∙ not_true discarded t,
-)
+pend_fits book command pending among discarded is_pending is_among new is_discarded t =
+    (ap (list_any (λ (other : Command). same_command other command)) (sym is_pending) ∙ sym is_among ∙ new, sym is_discarded ∙ not_true discarded t)

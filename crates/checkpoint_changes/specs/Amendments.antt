@@ -4,7 +4,10 @@ use Rattle.std.specs.Prelude.{◌≡◌, ◌⊎◌, ℕ, ◌+◌, ◌<◌, ◌^�
 use Rattle.std.specs.List.{AllByRecursion}
 use Rattle.byteorder.specs.Endian.{little_bytes}
 use Rattle.ice_values.specs.Cells.{Cells, zeros}
-use Rattle.checkpoint_records.specs.Damage.{StandFor}
+use Rattle.checkpoint_records.specs.Damage.{IsDamaged}
+use Rattle.checkpoint_records.specs.Spelling.{Spells}
+use Rattle.checkpoint_records.specs.declared.head.Format.{Format}
+use Rattle.checkpoint_records.specs.declared.head.Format.TheVariants.{Single, Several}
 use Rattle.checkpoint_records.specs.Rules.{KeepsRules}
 use Rattle.checkpoint_records.specs.declared.records.Book.{Book}
 use Rattle.checkpoint_records.specs.declared.refusals.BookRefusal.{BookRefusal}
@@ -71,15 +74,21 @@ module _ (cells : Change → Cells) where
       pub size : more ≡ length (all_bytes deltas)
       pub stuck : (delta : List Change) (next : Book) (after : List ℕ) → rest ≡ amendment_bytes delta ++ after → ¬ (Amended book delta next)
 
--- The bytes of a slot behind its head, of which the first n are a book's, lead to this book, and amendments have so many of them. Each
--- book of the format has a length of amendments, behind which more may be appended.
+-- Behind a book of the first format no length is told, since nothing may be appended there: the next commit writes the second.
+abbrev pub told_length : Format → ℕ → Option ℕ
+told_length Single more = None
+told_length Several more = Some more
+
+-- The bytes of a slot behind its head, of which the first n are a book's, lead to this book, by the changes of that book's format.
+-- Amendments have so many of them.
 abbrev pub SlotLeads : List ℕ → ℕ → Book → Option ℕ → Type 0
-SlotLeads bytes n book None = ⊥
-SlotLeads bytes n book (Some more) = (first : Book) × StandFor (take n bytes) (Ok first) × ReadsOn change_cells IsChange first (drop n bytes) book more
+SlotLeads bytes n book length =
+    (format : Format) × (first : Book) × (more : ℕ) × Spells format (take n bytes) first × ReadsOn (change_cells format) (IsChange format) first (drop n bytes) book more × (length ≡ told_length format more)
 
 -- These bytes are damaged at a place: the book is, or the amendment whose gate stands there.
 abbrev pub SlotDamaged : List ℕ → ℕ → ℕ → Type 0
-SlotDamaged bytes n at = StandFor (take n bytes) (Err at) ⊎ ((first : Book) × (more : ℕ) × StandFor (take n bytes) (Ok first) × StopsAt change_cells IsChange first (drop n bytes) more × (at ≡ n + more))
+SlotDamaged bytes n at = IsDamaged (take n bytes) at
+    ⊎ ((format : Format) × (first : Book) × (more : ℕ) × Spells format (take n bytes) first × StopsAt (change_cells format) (IsChange format) first (drop n bytes) more × (at ≡ n + more))
 
 -- what the bytes of a slot behind its head stand for
 abbrev pub SlotReads : List ℕ → ℕ → Result (Book × Option ℕ) ℕ → Type 0

@@ -7,8 +7,8 @@ use Rattle.std.specs.Cmp.Lexicographic.{pointwise}
 use Rattle.owned_lists.specs.declared.commands.Command.{Command}
 use Rattle.ice_values.specs.declared.property.Property.{Property}
 use Rattle.xsmp_properties.specs.Readers.{are_words, command_of}
-use Rattle.checkpoint_records.specs.Books.{names, same_command}
-use Rattle.checkpoint_records.specs.Rules.{IsClientId}
+use Rattle.checkpoint_records.specs.Books.{all_entries, names, same_command}
+use Rattle.checkpoint_records.specs.Rules.{IsClientId, IsName}
 use Rattle.checkpoint_records.specs.declared.records.Book.{Book}
 use Rattle.checkpoint_records.specs.declared.records.Entry.{Entry}
 use Rattle.checkpoint_changes.specs.declared.changes.Change.{Change}
@@ -20,7 +20,7 @@ AreOfRuns epoch entries = AllByRecursion (λ (e : Entry). IsClientId epoch e.id)
 
 -- The parts of a book fit together: each ID is of a run up to the book's epoch, no two pending commands are the same, and no entry names one.
 pub record FitTogether (book : Book) : Type 0 where
-  pub runs : AreOfRuns book.epoch book.entries
+  pub runs : AreOfRuns book.epoch (all_entries book)
   pub commands_differ : IsDistinct same_command book.pending
   pub none_named : AllByRecursion (λ command. names book command ≡ false) book.pending
 
@@ -38,8 +38,16 @@ discards_by command entry = option_map_or (same_command command) (command_of (co
 
 -- a change fits the parts of a book
 abbrev pub FitsIn : Book → Change → Type 0
-FitsIn book (Epoch epoch) = (book.epoch ≤ epoch) ⊎ AreOfRuns epoch book.entries
+FitsIn book (Epoch epoch) = (book.epoch ≤ epoch) ⊎ AreOfRuns epoch (all_entries book)
 FitsIn book (Remove id) = Unit {0}
-FitsIn book (Put entry) = IsClientId book.epoch entry.id × (list_any (λ command. discards_by command entry) book.pending ≡ false)
+FitsIn book (Put name entry) = IsClientId book.epoch entry.id × (list_any (λ command. discards_by command entry) book.pending ≡ false)
 FitsIn book (Unpend place) = Unit {0}
-FitsIn book (Pend command) = (list_any (λ other. same_command other command) book.pending ≡ false) × (list_any (discards_by command) book.entries ≡ false)
+FitsIn book (Pend command) = (list_any (λ other. same_command other command) book.pending ≡ false) × (list_any (discards_by command) (all_entries book) ≡ false)
+
+-- an entry is put into a session that may be called so
+abbrev pub PutsIntoName : Change → Type 0
+PutsIntoName (Epoch epoch) = Unit {0}
+PutsIntoName (Remove id) = Unit {0}
+PutsIntoName (Put name entry) = IsName name
+PutsIntoName (Unpend place) = Unit {0}
+PutsIntoName (Pend command) = Unit {0}

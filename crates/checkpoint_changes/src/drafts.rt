@@ -1,17 +1,18 @@
-ghost use Rattle.std.specs.Prelude.{◌≡◌, IsTrue, IfOk, IfSome};
+ghost use Rattle.std.specs.Prelude.{◌≡◌, ℕ, List, IsTrue, IfOk, IfSome};
 ghost use Rattle.std.specs.List.{list_any};
 ghost use Rattle.std.specs.Option.{option_map};
 ghost use Rattle.std.specs.Str.{bytes_eq};
 ghost use Rattle.std.specs.Cmp.Lexicographic.{pointwise};
-ghost use Rattle.checkpoint_records.specs.Books.{same_command as is_same};
+ghost use Rattle.checkpoint_records.specs.Books.{all_entries, same_command as is_same};
 ghost use Rattle.checkpoint_changes.specs.Changes.{applied as applied_to};
 ghost use Rattle.checkpoint_changes.specs.declared.changes.Change.TheVariants.{Pend, Put};
-ghost use Rattle.checkpoint_changes.specs.Together.{FitsIn, FitTogether, discards_by as is_discarded_by, has_words as are_words_of, last_byte as last_byte_of};
+ghost use Rattle.checkpoint_changes.specs.Parts.{HasParts};
+ghost use Rattle.checkpoint_changes.specs.Together.{FitsIn, FitTogether, PutsIntoName, discards_by as is_discarded_by, has_words as are_words_of, last_byte as last_byte_of};
 
 use crate::Change;
 use crate::applying::applied;
-use crate::rules::{PENDING_LIMIT, are_of_runs};
-use checkpoint_records::{Book, Entry, is_client_id};
+use crate::rules::{PENDING_LIMIT, all_are_of_runs};
+use checkpoint_records::{Book, Entry, Named, is_client_id};
 use ice_values::{Array8, Property};
 use owned_lists::{Command, NoMemory};
 use std::alloc::Global;
@@ -99,10 +100,28 @@ fn is_among(commands: &[Command], command: &Command) -> bool
 }
 
 fn may_put(book: &Book, entry: &Entry) -> bool
-    ensures { IsTrue result → FitsIn book.now (Put entry.now) }
+    ensures { (name : List ℕ) → IsTrue result → FitsIn book.now (Put name entry.now) }
 {
     is_client_id(book.epoch, entry.id.as_slice())
         && !discards_one_of(book.pending.as_slice(), entry)
+}
+
+/// Whether the command is the DiscardCommand of an entry of one of these sessions.
+fn is_discarded_among(others: &[Named], command: &Command) -> bool
+    ensures { result
+        ≡ list_any (λ other. list_any (is_discarded_by command.now) other.entries) others.now }
+{
+    others
+        .iter()
+        .any(|other| is_discarded(other.entries.as_slice(), command))
+}
+
+/// Whether the command is the DiscardCommand of an entry of the book, in whichever session.
+fn is_discarded_in(book: &Book, command: &Command) -> bool
+    ensures { result ≡ list_any (is_discarded_by command.now) (all_entries book.now) }
+{
+    is_discarded(book.entries.as_slice(), command)
+        || is_discarded_among(book.others.as_slice(), command)
 }
 
 /// Behind so many pending commands that one more would break a rule this isn't asked, so that it
@@ -114,7 +133,7 @@ fn may_pend(book: &Book, command: &Command) -> bool
     if pending.len() >= PENDING_LIMIT || is_among(pending, command) {
         return false;
     }
-    !is_discarded(book.entries.as_slice(), command)
+    !is_discarded_in(book, command)
 }
 
 /// Whether a change is known to fit the parts of a book.
@@ -122,11 +141,9 @@ fn fits_in(book: &Book, change: &Change) -> bool
     ensures { IsTrue result → FitsIn book.now change.now }
 {
     match change {
-        Change::Epoch(epoch) => {
-            book.epoch <= *epoch || are_of_runs(*epoch, book.entries.as_slice())
-        }
+        Change::Epoch(epoch) => { book.epoch <= *epoch || all_are_of_runs(*epoch, book) }
         Change::Remove(_) => true,
-        Change::Put(entry) => may_put(book, entry),
+        Change::Put(_, entry) => may_put(book, entry),
         Change::Unpend(_) => true,
         Change::Pend(command) => may_pend(book, command),
     }
@@ -146,7 +163,9 @@ pub(crate) fn changed(
     draft: Draft,
     change: Change,
 ) -> Result<Option<Draft>, NoMemory>
-    requires { IsTrue draft.fits → FitTogether draft.book }
+    requires parts { HasParts draft.book }
+    requires named { PutsIntoName change }
+    requires fits { IsTrue draft.fits → FitTogether draft.book }
     ensures book { IfOk result (λ next. option_map (λ draft. draft.book) next
         ≡ applied_to draft.book change) }
     ensures fits { IfOk result (λ next.

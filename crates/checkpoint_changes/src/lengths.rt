@@ -3,6 +3,7 @@ ghost use Rattle.ice_values.specs.Properties.{array8, array8_list};
 ghost use Rattle.ice_values.specs.declared.numbers.Endian.TheVariants.{Lsb};
 ghost use Rattle.checkpoint_records.specs.Rules.{command_cells, in_turn};
 ghost use Rattle.checkpoint_records.specs.Spelling.{entry_cells};
+ghost use Rattle.checkpoint_records.specs.declared.head.Format.TheVariants.{Several};
 ghost use Rattle.checkpoint_changes.specs.Changes.{change_cells};
 ghost use Rattle.checkpoint_changes.specs.Amendments.{delta_bytes};
 
@@ -59,12 +60,14 @@ fn command_length(command: &Command) -> u64
 }
 
 fn change_length(change: &Change) -> u64
-    ensures { result ≡ min (length (change_cells change.now)) (2 ^ 64 - 1) }
+    ensures { result ≡ min (length (change_cells Several change.now)) (2 ^ 64 - 1) }
 {
     match change {
         Change::Epoch(_) => 8,
         Change::Remove(id) => text_length(id).saturating_add(8),
-        Change::Put(entry) => entry_length(entry).saturating_add(8),
+        Change::Put(name, entry) => entry_length(entry)
+            .saturating_add(text_length(name))
+            .saturating_add(8),
         Change::Unpend(_) => 8,
         Change::Pend(command) => command_length(command).saturating_add(8),
     }
@@ -73,7 +76,7 @@ fn change_length(change: &Change) -> u64
 /// How many bytes spell a delta, or 18,446,744,073,709,551,615 where there are more. This takes no
 /// memory.
 pub fn delta_length(delta: &Delta) -> u64
-    ensures { result ≡ min (length (delta_bytes change_cells delta.now)) (2 ^ 64 - 1) }
+    ensures { result ≡ min (length (delta_bytes (change_cells Several) delta.now)) (2 ^ 64 - 1) }
 {
     let mut total = 0_u64;
     for change in delta.as_slice() {

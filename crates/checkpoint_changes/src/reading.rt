@@ -3,7 +3,8 @@ ghost use Rattle.std.specs.Option.{option_map};
 ghost use Rattle.checkpoint_records.specs.Damage.{Gives};
 ghost use Rattle.checkpoint_records.specs.Rules.{KeepsRules};
 ghost use Rattle.checkpoint_records.specs.declared.records.Book.{Book as AnyBook};
-ghost use Rattle.checkpoint_changes.specs.Amendments.{ReadsOn, StopsAt, SlotReads, HasCause, IsSlotRefused, is_at_end};
+ghost use Rattle.checkpoint_changes.specs.Amendments.{ReadsOn, StopsAt, SlotReads, HasCause, IsSlotRefused, is_at_end, told_length};
+ghost use Rattle.checkpoint_records.specs.Books.{default_name};
 ghost use Rattle.checkpoint_changes.specs.Changes.{IsChange, change_cells};
 ghost use Rattle.checkpoint_changes.specs.Parts.{HasParts};
 ghost use Rattle.checkpoint_changes.specs.Together.{FitTogether};
@@ -12,7 +13,7 @@ ghost use Rattle.checkpoint_changes.specs.Taking.{AppliesAll, TakesAmendment};
 use crate::drafts::{Draft, changed};
 use crate::rules::draft_keeps_rules;
 use crate::taking::{OPEN, take_change, take_delta};
-use checkpoint_records::{Book, BookRefusal, read_book};
+use checkpoint_records::{Book, BookRefusal, Format, read_stored};
 use owned_lists::NoMemory;
 use std::alloc::Global;
 
@@ -24,17 +25,24 @@ fn is_at_end(bytes: &[u8]) -> bool
 }
 
 /// The draft after all the changes that these bytes are.
-fn apply_all(alloc: Global, draft: Draft, bytes: &[u8]) -> Result<Option<Draft>, NoMemory>
-    requires { IsTrue draft.fits → FitTogether draft.book }
+fn apply_all(
+    alloc: Global,
+    format: Format,
+    draft: Draft,
+    bytes: &[u8],
+) -> Result<Option<Draft>, NoMemory>
+    requires parts { HasParts draft.book }
+    requires fits { IsTrue draft.fits → FitTogether draft.book }
+    ensures parts { IfOk result (λ found. IfSome found (λ draft. HasParts draft.book)) }
     ensures book { IfOk result (λ found.
-        AppliesAll draft.book bytes.now (option_map (λ draft. draft.book) found)) }
+        AppliesAll format draft.book bytes.now (option_map (λ draft. draft.book) found)) }
     ensures fits { IfOk result (λ found.
         IfSome found (λ draft. IsTrue draft.fits → FitTogether draft.book)) }
 {
     let mut draft = draft;
     let mut left = bytes;
     while !left.is_empty() {
-        let (change, rest) = match take_change(alloc, left)? {
+        let (change, rest) = match take_change(alloc, format, left)? {
             Some(taken) => taken,
             None => return Ok(None),
         };
@@ -50,13 +58,15 @@ fn apply_all(alloc: Global, draft: Draft, bytes: &[u8]) -> Result<Option<Draft>,
 /// The book after the amendment at the front, and what follows it.
 fn take_amendment(
     alloc: Global,
+    format: Format,
     book: Book,
     bytes: &[u8],
 ) -> Result<Option<(Book, &[u8])>, NoMemory>
     requires rules { KeepsRules book }
+    requires chosen { book.name ≡ default_name }
     requires epoch { book.epoch < 2 ^ 32 }
     ensures { IfOk result (λ found.
-        TakesAmendment book bytes.now (option_map (λ x. (x.0, x.1.now)) found)) }
+        TakesAmendment format book bytes.now (option_map (λ x. (x.0, x.1.now)) found)) }
 {
     let Some((changes, rest)) = take_delta(bytes) else {
         return Ok(None);
@@ -65,7 +75,7 @@ fn take_amendment(
         return Ok(Some((book, rest)));
     }
     let draft = Draft { book, fits: true };
-    let Some(next) = apply_all(alloc, draft, changes)? else {
+    let Some(next) = apply_all(alloc, format, draft, changes)? else {
         return Ok(None);
     };
     if draft_keeps_rules(alloc, &next)? {
@@ -76,18 +86,25 @@ fn take_amendment(
 }
 
 /// The book after all amendments, and how many bytes they have.
-fn read_on(alloc: Global, first: Book, bytes: &[u8]) -> Result<(Book, u32), BookRefusal>
+fn read_on(
+    alloc: Global,
+    format: Format,
+    first: Book,
+    bytes: &[u8],
+) -> Result<(Book, u32), BookRefusal>
     requires rules { KeepsRules first }
+    requires chosen { first.name ≡ default_name }
     requires epoch { first.epoch < 2 ^ 32 }
     requires few { length bytes.now < 2 ^ 32 }
-    ensures book { IfOk result (λ x. ReadsOn change_cells IsChange first bytes.now x.0 x.1) }
+    ensures book { IfOk result (λ x.
+        ReadsOn (change_cells format) (IsChange format) first bytes.now x.0 x.1) }
     ensures damaged { IfErr result (λ refusal.
-        HasCause (StopsAt change_cells IsChange first bytes.now) refusal) }
+        HasCause (StopsAt (change_cells format) (IsChange format) first bytes.now) refusal) }
 {
     let mut book = first;
     let mut left = bytes;
     while !is_at_end(left) {
-        match take_amendment(alloc, book, left)? {
+        match take_amendment(alloc, format, book, left)? {
             Some((next, rest)) => {
                 book = next;
                 left = rest;
@@ -101,8 +118,20 @@ fn read_on(alloc: Global, first: Book, bytes: &[u8]) -> Result<(Book, u32), Book
     Ok((book, (bytes.len() - left.len()) as u32))
 }
 
-/// The book that the bytes of a slot behind its head lead to, and how many bytes its amendments
-/// have, behind which the next may be appended. The first `n` bytes are those of a book, and the
+/// The length behind which the next amendment may be appended, if any may: none behind a book of
+/// format 1.
+fn told_length(format: Format, more: u32) -> Option<u32>
+    ensures { result ≡ told_length format more }
+{
+    match format {
+        Format::Single => None,
+        Format::Several => Some(more),
+    }
+}
+
+/// The book that the bytes of a slot behind its head lead to, in which `default` is chosen, and how
+/// many bytes its amendments have, behind which the next may be appended; None behind a book of
+/// format 1, to which nothing is appended. The first `n` bytes are those of a book, and the
 /// amendments stand behind it. They are damaged where `read_book` finds the book damaged, or at the
 /// gate of the first amendment that is none of the book so far: it passes the end, has bytes that
 /// aren't zero where they should be, can't be cut into changes, takes out what isn't there, or
@@ -116,12 +145,12 @@ pub fn read_slot(alloc: Global, bytes: &[u8], n: u32) -> Result<(Book, Option<u3
         Gives result answer }
 {
     let (front, behind) = bytes.split_at(n as usize);
-    let first = match read_book(alloc, front) {
+    let first = match read_stored(alloc, front) {
         Ok(first) => first,
         Err(refusal) => return Err(refusal),
     };
-    match read_on(alloc, first, behind) {
-        Ok((book, more)) => Ok((book, Some(more))),
+    match read_on(alloc, first.format, first.book, behind) {
+        Ok((book, more)) => Ok((book, told_length(first.format, more))),
         Err(BookRefusal::Damaged { at }) => Err(BookRefusal::Damaged { at: n as u64 + at }),
         Err(BookRefusal::NoMemory) => Err(BookRefusal::NoMemory),
     }

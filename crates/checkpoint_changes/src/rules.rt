@@ -1,14 +1,18 @@
 ghost use Rattle.std.specs.Prelude.{◌≡◌, ◌↔◌, ◌≤◌, false, not, length, IsTrue, IfOk};
 ghost use Rattle.std.specs.List.{AllByRecursion, IsDistinct, list_any};
-ghost use Rattle.checkpoint_records.specs.Books.{same_command};
+ghost use Rattle.checkpoint_records.specs.Books.{all_entries, same_command, sessions};
 ghost use Rattle.checkpoint_records.specs.Rules.{KeepsRules};
 ghost use Rattle.checkpoint_changes.specs.Parts.{HasParts};
 ghost use Rattle.checkpoint_changes.specs.Together.{AreOfRuns, FitTogether};
 
 use crate::drafts::Draft;
-use checkpoint_records::{Book, Entry, discards_of, is_client_id, is_named};
+use checkpoint_records::{
+    Book, Entry, Named, all_discards, count_entries, count_sessions, is_client_id, is_named,
+};
 use owned_lists::{Command, NoMemory};
 use std::alloc::Global;
+
+const SESSION_LIMIT: usize = 8;
 
 const ENTRY_LIMIT: usize = 128;
 
@@ -16,7 +20,7 @@ const ENTRY_LIMIT: usize = 128;
 pub(crate) const PENDING_LIMIT: usize = 320;
 
 /// Whether each ID is one of a run up to this epoch.
-pub(crate) fn are_of_runs(epoch: u32, entries: &[Entry]) -> bool
+fn are_of_runs(epoch: u32, entries: &[Entry]) -> bool
     ensures { IsTrue result ↔ AreOfRuns epoch entries.now }
 {
     for entry in entries {
@@ -25,6 +29,23 @@ pub(crate) fn are_of_runs(epoch: u32, entries: &[Entry]) -> bool
         }
     }
     true
+}
+
+/// Whether each ID of these sessions is one of a run up to this epoch.
+fn others_are_of_runs(epoch: u32, others: &[Named]) -> bool
+    ensures { IsTrue result ↔ AllByRecursion (λ other.
+        AreOfRuns epoch other.entries) others.now }
+{
+    others
+        .iter()
+        .all(|other| are_of_runs(epoch, other.entries.as_slice()))
+}
+
+/// Whether each ID of a book is one of a run up to this epoch.
+pub(crate) fn all_are_of_runs(epoch: u32, book: &Book) -> bool
+    ensures { IsTrue result ↔ AreOfRuns epoch (all_entries book.now) }
+{
+    are_of_runs(epoch, book.entries.as_slice()) && others_are_of_runs(epoch, book.others.as_slice())
 }
 
 /// Whether no two commands are the same.
@@ -49,16 +70,19 @@ fn are_none_named(discards: &[Command], commands: &[Command]) -> bool
     commands.iter().all(|command| !is_named(discards, command))
 }
 
-/// Whether a book has no more entries and pending commands than the rules allow.
+/// Whether a book has no more sessions, entries and pending commands than the rules allow.
 fn is_within_limits(book: &Book) -> bool
-    ensures { IsTrue result ↔ (length book.now.entries ≤ 128) × (length book.now.pending ≤ 320) }
+    ensures { IsTrue result ↔ (length (sessions book.now) ≤ 8)
+        × (length (all_entries book.now) ≤ 128) × (length book.now.pending ≤ 320) }
 {
-    book.entries.as_slice().len() <= ENTRY_LIMIT && book.pending.as_slice().len() <= PENDING_LIMIT
+    count_sessions(book) <= SESSION_LIMIT
+        && count_entries(book) <= ENTRY_LIMIT
+        && book.pending.as_slice().len() <= PENDING_LIMIT
 }
 
 /// Whether a book that was put together from tested parts keeps the rules together too: it has at
-/// most 128 entries and at most 320 pending commands, each ID is of a run up to the book's epoch, no
-/// two pending commands are the same, and none is the DiscardCommand of an entry.
+/// most 8 sessions, 128 entries and 320 pending commands, each ID is of a run up to the book's epoch,
+/// no two pending commands are the same, and none is the DiscardCommand of an entry.
 pub fn keeps_rules(alloc: Global, book: &Book) -> Result<bool, NoMemory>
     requires { HasParts book.now }
     ensures { IfOk result (λ kept. IsTrue kept ↔ KeepsRules book.now) }
@@ -66,15 +90,14 @@ pub fn keeps_rules(alloc: Global, book: &Book) -> Result<bool, NoMemory>
     if !is_within_limits(book) {
         return Ok(false);
     }
-    let entries = book.entries.as_slice();
     let pending = book.pending.as_slice();
-    if !are_of_runs(book.epoch, entries) || !are_distinct(pending) {
+    if !all_are_of_runs(book.epoch, book) || !are_distinct(pending) {
         return Ok(false);
     }
     if pending.is_empty() {
         return Ok(true);
     }
-    let discards = discards_of(alloc, entries)?;
+    let discards = all_discards(alloc, book)?;
     Ok(are_none_named(discards.as_slice(), pending))
 }
 

@@ -1,5 +1,5 @@
 -- What an append and a compaction keep, by what their puts answered.
-use Rattle.std.proofs.Common.{◌≡◌, ◌+◌, ◌<◌, ◌≤◌, ◌^◌, ◌⊎◌, ℕ, zero, suc, List, [], ◌∷◌, ◌++◌, length, take, refl, ap, sym, subst, ◌∙◌, inl, inr, arith, append_assoc}
+use Rattle.std.proofs.Common.{◌≡◌, ◌+◌, ◌<◌, ◌≤◌, ◌^◌, ℕ, zero, suc, List, [], ◌∷◌, ◌++◌, length, refl, ap, sym, subst, ◌∙◌, inl, inr, arith, append_assoc}
 use Rattle.std.specs.Prelude.{IfOk, None, Option, Some, Ok, Err, Result}
 use Rattle.std.proofs.lemmas.List.{append-nil}
 use Rattle.std.specs.List.{AllByRecursion}
@@ -11,12 +11,13 @@ use Rattle.sm_world.specs.declared.effects.Effect.TheVariants.{Synced, Wrote}
 use Rattle.checkpoint_records.specs.Spelling.{book_bytes}
 use Rattle.checkpoint_records.specs.declared.records.Book.{Book}
 use Rattle.checkpoint_changes.specs.Amendments.{Amended}
+use Rattle.checkpoint_records.specs.declared.head.Format.TheVariants.{Several}
 use Rattle.checkpoint_changes.specs.Changes.{IsChange, change_cells}
 use Rattle.checkpoint_changes.specs.declared.changes.Change.{Change}
 use Rattle.checkpoint_slots.specs.Causes.{IsSpellFault}
 use Rattle.checkpoint_slots.specs.Layout.{gate_at, start_of}
-use Rattle.checkpoint_slots.specs.Recovery.{Recovers, slot_bytes}
-use Rattle.checkpoint_slots.specs.Turns.{Closes, FilledStands, Fills, HasRoomFor, IsNext, IsOfStore, IsPut, IsRoom, Lifts, SteadyStands, Swap, advanced, done, end_in, following, next_generation, nothing, opened_in, target}
+use Rattle.checkpoint_slots.specs.Recovery.{slot_bytes}
+use Rattle.checkpoint_slots.specs.Turns.{Closes, Fills, HasRoomFor, IsNext, IsOfStore, IsPut, IsRoom, Lifts, SteadyStands, Swap, advanced, done, end_in, following, next_generation, nothing, opened_in, target}
 use Rattle.checkpoint_slots.specs.declared.fault.StoreFault.{StoreFault}
 use Rattle.checkpoint_slots.specs.declared.fault.StoreFault.TheVariants.{DiskFault}
 use Rattle.checkpoint_slots.specs.declared.layout.Slot.{Slot}
@@ -73,7 +74,7 @@ compacts-none current book fault cause = record {
 -- An append
 
 module _ (current : Current) (gate : ℕ) (ends : current.end ≡ Some gate) (delta : List Change) (room : gate + 8 + size_of delta < start_of current.slot + 8388608) where
-  append-swap : (added : List Effect) → ArePut (append_puts gate delta) added → (first : List ℕ) (effects : List Effect) (book next : Book) → SteadyStands (Some current) book first effects → Amended change_cells IsChange book delta next → Swap first effects added book next
+  append-swap : (added : List Effect) → ArePut (append_puts gate delta) added → (first : List ℕ) (effects : List Effect) (book next : Book) → SteadyStands (Some current) book first effects → Amended (change_cells Several) (IsChange Several) book delta next → Swap first effects added book next
   append-swap added (inl put) first effects book next stands amended = behind-swap current gate ends delta room first effects book stands added put next
   append-swap added (inr more) first effects book next stands amended =
       let front : List Effect = Wrote (gate + 1) (behind delta) ∷ Synced ∷ [] in
@@ -81,7 +82,7 @@ module _ (current : Current) (gate : ℕ) (ends : current.end ≡ Some gate) (de
       (swap_both first effects front more.0 book next (behind-swap current gate ends delta room first effects book stands front done next)
       (gate-swap current gate ends delta room first (effects ++ front) book next amended (behind-stands current gate ends delta room first effects book stands) more.0 (last-put gate (165 ∷ []) more.0 more.1)))
 
-  append-stands : (first : List ℕ) (effects : List Effect) (book next : Book) → SteadyStands (Some current) book first effects → Amended change_cells IsChange book delta next → SteadyStands (advanced (Some current) (size_of delta)) next first (effects ++ all_put (append_puts gate delta))
+  append-stands : (first : List ℕ) (effects : List Effect) (book next : Book) → SteadyStands (Some current) book first effects → Amended (change_cells Several) (IsChange Several) book delta next → SteadyStands (advanced (Some current) (size_of delta)) next first (effects ++ all_put (append_puts gate delta))
   append-stands first effects book next stands amended =
       let front : List Effect = Wrote (gate + 1) (behind delta) ∷ Synced ∷ [] in
       subst (λ (es : List Effect). SteadyStands (advanced (Some current) (size_of delta)) next first es) (append_assoc effects front (Wrote gate (165 ∷ []) ∷ Synced ∷ []))

@@ -1,18 +1,16 @@
 -- An append: an amendment is put behind the last gate, and then the gate is opened.
-use Rattle.std.proofs.Common.{◌≡◌, ◌+◌, ◌<◌, ◌≤◌, ◌⊎◌, ℕ, List, [], ◌∷◌, ◌++◌, length, take, drop, slice_index, refl, ap, sym, subst, ◌∙◌, inl, inr, arith}
-use Rattle.std.specs.Prelude.{None, Option, Some, Ok, Err, Result}
-use Rattle.std.specs.List.{AllByRecursion}
+use Rattle.std.proofs.Common.{◌≡◌, ◌+◌, ◌<◌, ◌≤◌, ◌⊎◌, ℕ, List, [], ◌∷◌, ◌++◌, length, take, drop, slice_index, ◌∙◌, inl, inr, arith}
+use Rattle.std.specs.Prelude.{Some, Ok}
 use Rattle.std.proofs.lemmas.Grind.{same_number_lists}
-use Rattle.std.proofs.lemmas.List.{append_assoc, get_or-drop, get_or-take, length-drop, length-take}
+use Rattle.std.proofs.lemmas.List.{get_or-drop, get_or-take, length-drop, length-take}
 use Rattle.sm_world.specs.Crash.{Image}
 use Rattle.sm_world.specs.declared.effects.Effect.{Effect}
 use Rattle.sm_world.specs.declared.effects.Effect.TheVariants.{Synced, Wrote}
 use Rattle.checkpoint_records.specs.declared.records.Book.{Book}
 use Rattle.checkpoint_changes.specs.Amendments.{Amended}
+use Rattle.checkpoint_records.specs.declared.head.Format.TheVariants.{Several}
 use Rattle.checkpoint_changes.specs.Changes.{IsChange, change_cells}
 use Rattle.checkpoint_changes.specs.declared.changes.Change.{Change}
-use Rattle.checkpoint_slots.specs.declared.layout.Slot.{Slot}
-use Rattle.checkpoint_slots.specs.declared.layout.Slot.TheVariants.{First, Second}
 use Rattle.checkpoint_slots.specs.declared.turn.Current.{Current}
 use Rattle.checkpoint_slots.specs.Layout.{start_of}
 use Rattle.checkpoint_slots.specs.Recovery.{Recovers}
@@ -62,7 +60,7 @@ module _ (current : Current) (end : ℕ) (ends : current.end ≡ Some end) (delt
 
   -- The gate
 
-  module _ (next : Book) (amended : Amended change_cells IsChange book delta next) (stands : EveryImage (AppendedFile current end book delta) first effects) where
+  module _ (next : Book) (amended : Amended (change_cells Several) (IsChange Several) book delta next) (stands : EveryImage (AppendedFile current end book delta) first effects) where
     gate-at : end < length first
     gate-at = let fits = fits-file in omega (arith, fits, stands.size, behind-size delta)
 

@@ -1,18 +1,19 @@
 -- Files of which a range behind the book of the current slot was written to.
-use Rattle.std.proofs.Common.{◌≡◌, ◌+◌, ◌-◌, ◌<◌, ◌≤◌, ◌⊎◌, ℕ, Bool, true, false, nat_lt, if◌then◌else◌, List, [], ◌∷◌, ◌++◌, length, take, drop, slice_index, min, refl, ap, sym, subst, ◌∙◌, inl, inr, arith}
-use Rattle.std.specs.Prelude.{None, Option, Some, Ok, Err, Result, option_map}
+use Rattle.std.proofs.Common.{◌≡◌, ◌+◌, ◌-◌, ◌<◌, ◌≤◌, ℕ, Bool, true, false, List, length, take, drop, slice_index, min, refl, ap, sym, subst, ◌∙◌, inl, inr, arith}
+use Rattle.std.specs.Prelude.{None, Option, Some, option_map}
 use Rattle.std.proofs.lemmas.Grind.{same_number_lists}
 use Rattle.std.proofs.lemmas.List.{get_or-drop, get_or-take, length-drop, length-take}
 use Rattle.sm_world.specs.Crash.{covers}
 use Rattle.checkpoint_records.specs.declared.records.Book.{Book}
 use Rattle.checkpoint_changes.specs.Amendments.{Amended, SlotLeads}
+use Rattle.checkpoint_records.specs.declared.head.Format.TheVariants.{Several}
 use Rattle.checkpoint_changes.specs.Changes.{IsChange, change_cells}
 use Rattle.checkpoint_changes.specs.declared.changes.Change.{Change}
 use Rattle.checkpoint_slots.specs.declared.layout.Slot.{Slot}
 use Rattle.checkpoint_slots.specs.declared.layout.Slot.TheVariants.{First, Second}
 use Rattle.checkpoint_slots.specs.declared.turn.Current.{Current}
 use Rattle.checkpoint_slots.specs.Layout.{gate_at, is_gate_open, is_open, other, slot_of, start_of}
-use Rattle.checkpoint_slots.specs.Recovery.{LeadsTo, choose, chosen, generation_of, length_of, may_be_length}
+use Rattle.checkpoint_slots.specs.Recovery.{choose, chosen, generation_of, length_of, may_be_length}
 use Rattle.checkpoint_slots.specs.Turns.{HasBook, HasCurrent, SteadyFile, advanced}
 use Rattle.checkpoint_slots.proofs.Files.{IsApart, same-gate, same-slot, slot-byte, slot-length}
 use Rattle.checkpoint_slots.proofs.Images.{Agree}
@@ -54,7 +55,7 @@ record Reaches (slot : Slot) (end : ℕ) (book : Book) (bytes : List ℕ) : Type
 reaches : (slot : Slot) (end : ℕ) (book : Book) (bytes : List ℕ) → HasBook slot (Some end) book bytes → Reaches slot end book bytes
 reaches slot end book bytes has = by has.leads.more has.leads.leads has.leads.ends where
   by : (more : Option ℕ) → SlotLeads (drop 16 bytes) (length_of bytes) book more → Some end ≡ option_map (λ k. start_of slot + 16 + length_of bytes + k) more → Reaches slot end book bytes
-  by None leads e = absurd leads
+  by None leads e = absurd cc
   by (Some more) leads e = record { may = has.may; more = more; leads = leads; place = grind (arith, e) }
 
 has-end : (slot : Slot) (end : ℕ) (book : Book) (bytes : List ℕ) → Reaches slot end book bytes → HasBook slot (Some end) book bytes
@@ -142,7 +143,7 @@ module _ (current : Current) (end : ℕ) (ends : current.end ≡ Some end) (book
       steady-some two current book (current-same slot (end + 1) n one two agree size is current refl steady.chooses) (subst (λ (e : Option ℕ). HasBook slot e book (slot_of two slot)) (sym ends) (has-end slot end book (slot_of two slot) now))
 
   -- The gate was opened before an amendment.
-  module _ (delta : List Change) (next : Book) (amended : Amended change_cells IsChange book delta next) (room : end + 8 + size_of delta < start_of current.slot + 8388608)
+  module _ (delta : List Change) (next : Book) (amended : Amended (change_cells Several) (IsChange Several) book delta next) (room : end + 8 + size_of delta < start_of current.slot + 8388608)
       (tail : take (length (behind delta)) (drop (end + 1) one) ≡ behind delta) (agree : Agree end 1 one two) (gate : slice_index two end ≡ 165) where
     is-within : IsWithin current.slot end 1
     is-within = let place = there.place in record { after = omega (arith, place); before = omega (arith, room) }

@@ -1,5 +1,5 @@
 -- A fact about each front of effects, and calls that follow one another.
-use Rattle.std.proofs.Common.{◌≡◌, ◌⊎◌, inl, inr, arith, ℕ, ◌+◌, ◌-◌, ◌<◌, ◌≤◌, zero, suc, List, [], ◌∷◌, ◌++◌, length, take, Ok, refl, sym, ◌∙◌, ap, subst, append_assoc}
+use Rattle.std.proofs.Common.{◌≡◌, ◌⊎◌, inl, inr, arith, ℕ, ◌+◌, ◌-◌, ◌≤◌, List, [], ◌∷◌, ◌++◌, length, take, Ok, sym, ◌∙◌, subst, append_assoc}
 use Rattle.std.proofs.lemmas.List.{take-append-le, take_all}
 use Rattle.std.proofs.lemmas.Bool.{cases_lt}
 use Rattle.std.specs.List.{AllByRecursion}
@@ -8,7 +8,7 @@ use Rattle.sm_world.specs.Crash.{Image}
 use Rattle.sm_world.specs.declared.effects.Effect.{Effect}
 use Rattle.checkpoint_records.specs.declared.records.Book.{Book}
 use Rattle.checkpoint_slots.specs.Recovery.{Recovers}
-use Rattle.checkpoint_slots.specs.Turns.{IsOfStore, Swap, opened_by, opened_in}
+use Rattle.checkpoint_slots.specs.Turns.{IsOfStore, Swap, opened_in}
 
 -- A fact about each front of two lists of effects.
 pub fronts_two : (P : List Effect → Type 0) (es ds : List Effect) → ((n : ℕ) → P (take n es)) → ((n : ℕ) → P (es ++ take n ds)) → (n : ℕ) → P (take n (es ++ ds))

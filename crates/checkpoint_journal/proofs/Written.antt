@@ -1,6 +1,6 @@
 -- Puts that follow one another, and how many bytes they write.
-use Rattle.std.proofs.Common.{◌≡◌, ◌≢◌, ◌+◌, ◌≤◌, ◌⊎◌, ℕ, List, [], ◌∷◌, ◌++◌, length, refl, ap, sym, subst, ◌∙◌, inl, inr, arith}
-use Rattle.std.specs.Prelude.{Err, Ok, OnOk, OnErr, Option, Result}
+use Rattle.std.proofs.Common.{◌≡◌, ◌+◌, ◌≤◌, ◌⊎◌, ℕ, List, [], ◌∷◌, ◌++◌, length, refl, ap, sym, subst, ◌∙◌, inl, inr, arith}
+use Rattle.std.specs.Prelude.{Err, Ok, Option, Result}
 use Rattle.sm_world.specs.Outside.{Added, adds}
 use Rattle.sm_world.proofs.Adding.{adds-adds}
 use Rattle.sm_world.specs.declared.effects.Effect.{Effect}

@@ -2,10 +2,10 @@
 use Rattle.std.specs.Prelude.{Bool, Err, IfErr, IfOk, List, None, Ok, Option, Result, Some, [], false, length, true, ℕ, ◌++◌, ◌+◌, ◌<◌, ◌^◌, ◌≡◌, ◌≤◌, ◌∷◌}
 use Rattle.std.specs.List.{AllByRecursion}
 use Rattle.sm_world.specs.declared.effects.Effect.{Effect}
-use Rattle.checkpoint_records.specs.Rules.{KeepsRules}
 use Rattle.checkpoint_records.specs.Spelling.{book_bytes}
 use Rattle.checkpoint_records.specs.declared.records.Book.{Book}
 use Rattle.checkpoint_changes.specs.Amendments.{Amended, behind_gate, delta_bytes}
+use Rattle.checkpoint_records.specs.declared.head.Format.TheVariants.{Several}
 use Rattle.checkpoint_changes.specs.Changes.{IsChange, change_cells}
 use Rattle.checkpoint_changes.specs.declared.changes.Change.{Change}
 use Rattle.checkpoint_slots.specs.Causes.{IsSpellFault}
@@ -19,11 +19,11 @@ use Rattle.checkpoint_journal.specs.Writing.{PutsAll, bytes_in}
 
 -- how many bytes the changes of a delta have
 abbrev pub size_of : List Change → ℕ
-size_of delta = length (delta_bytes change_cells delta)
+size_of delta = length (delta_bytes (change_cells Several) delta)
 
 -- all of an amendment but its gate, and the next gate, which is closed
 abbrev pub behind : List Change → List ℕ
-behind delta = behind_gate change_cells delta ++ 0 ∷ []
+behind delta = behind_gate (change_cells Several) delta ++ 0 ∷ []
 
 -- An append puts this behind the gate at a place, and then opens that gate.
 abbrev pub append_puts : ℕ → List Change → List (ℕ × List ℕ)
@@ -61,8 +61,8 @@ IsWhyNot current added (Some journal, fault) = (journal ≡ current) × (added �
 pub record Appends (current : Option Current) (delta : List Change) (result : Answer) (added : List Effect) : Type 0 where
   pub puts : (end : ℕ) → end_in current ≡ Some end → PutsAll (append_puts end delta) result added
   pub store : AllByRecursion IsOfStore added
-  pub swap : (first : List ℕ) (effects : List Effect) (book next : Book) → SteadyStands current book first effects → Amended change_cells IsChange book delta next → Swap first effects added book next
-  pub turn : (first : List ℕ) (effects : List Effect) (book next : Book) → SteadyStands current book first effects → Amended change_cells IsChange book delta next → IfOk result (λ journal. SteadyStands journal next first (effects ++ added))
+  pub swap : (first : List ℕ) (effects : List Effect) (book next : Book) → SteadyStands current book first effects → Amended (change_cells Several) (IsChange Several) book delta next → Swap first effects added book next
+  pub turn : (first : List ℕ) (effects : List Effect) (book next : Book) → SteadyStands current book first effects → Amended (change_cells Several) (IsChange Several) book delta next → IfOk result (λ journal. SteadyStands journal next first (effects ++ added))
   -- the generation stays
   pub next : IfOk result (λ journal. journal ≡ advanced current (size_of delta))
   pub opens : IfOk result (λ journal. opened_in added ≡ 1)

@@ -1,5 +1,5 @@
 -- What a call of the journal writes.
-use Rattle.std.specs.Prelude.{Err, List, Ok, Result, [], length, ℕ, ◌++◌, ◌+◌, ◌≡◌, ◌≢◌, ◌∷◌, ◌⊎◌}
+use Rattle.std.specs.Prelude.{Err, List, Ok, Result, [], length, ℕ, ◌+◌, ◌≡◌, ◌≢◌, ◌∷◌, ◌⊎◌}
 use Rattle.sm_world.specs.declared.effects.Effect.{Effect}
 use Rattle.sm_world.specs.declared.effects.Effect.TheVariants.{Heard, Printed, Published, Sent, Shut, Started, SyncFailed, Synced, Torn, Wrote}
 use Rattle.checkpoint_slots.specs.Turns.{IsPut}

@@ -3,6 +3,7 @@ ghost use Rattle.checkpoint_slots.specs.Layout.{store_size};
 ghost use Rattle.byteorder.specs.Endian.{little_bytes};
 ghost use Rattle.sm_world.specs.Disk.{KeepsToldSize, UsesDisk};
 ghost use Rattle.sm_world.specs.Outside.{Added};
+ghost use Rattle.checkpoint_records.specs.Books.{default_name};
 ghost use Rattle.checkpoint_records.specs.Rules.{KeepsRules};
 ghost use Rattle.checkpoint_slots.specs.Causes.{IsRecoveryFault, IsSettled, is_disk_fault};
 ghost use Rattle.checkpoint_slots.specs.Turns.{HasRoomFor, SteadyFile, next_generation};
@@ -101,6 +102,7 @@ impl Journal {
         ensures recovers { (file : List ℕ) → IsSettled (D.outside disk.old) file →
             IfOk result (λ recovered. SteadyFile recovered.0 recovered.1 file) }
         ensures rules { IfOk result (λ recovered. KeepsRules recovered.1) }
+        ensures named { IfOk result (λ recovered. recovered.1.name ≡ default_name) }
         ensures cause { IfErr result
             (IsRecoveryFault (D.outside disk.old) (D.outside disk.new).size) }
         ensures uses { UsesDisk (D.outside disk.old) (D.outside disk.new) (is_disk_fault result) }
@@ -156,10 +158,10 @@ impl Journal {
         }
     }
 
-    /// Writes the whole book into the other slot, which is the current one afterwards. A store whose
-    /// generations are used up is Worn, which is tested first. With Worn and NoMemory the journal
-    /// comes back, which no device has touched. After another fault the store must be recovered
-    /// anew.
+    /// Writes the whole book, in which `default` is chosen, into the other slot, which is the
+    /// current one afterwards. A store whose generations are used up is Worn, which is tested first.
+    /// With Worn and NoMemory the journal comes back, which no device has touched. After another
+    /// fault the store must be recovered anew.
     pub fn compact<D: Disk>(
         self,
         alloc: Global,
@@ -168,6 +170,7 @@ impl Journal {
     ) -> Result<Journal, (Option<Journal>, StoreFault)>
         requires size { (D.outside disk.old).size ≡ store_size }
         requires rules { KeepsRules book.now }
+        requires chosen { book.now.name ≡ default_name }
         ensures effects { Added (D.outside disk.old).told (D.outside disk.new).told
             (Compacts self book.now result) }
         ensures worn { next_generation self ≡ 2 ^ 64 → result ≡ Err (Some self, IsWorn) }

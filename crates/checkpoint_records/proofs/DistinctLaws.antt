@@ -1,6 +1,7 @@
 -- Lists of which no two items are the same.
-use Rattle.std.proofs.Common.{◌≡◌, ◌-◌, ◌≤◌, Bool, true, false, ◌||◌, List, [], ◌∷◌, ◌++◌, length, map, take, drop, get_or, refl, sym, ap, arith}
+use Rattle.std.proofs.Common.{◌≡◌, ◌-◌, ◌≤◌, Bool, true, false, ◌||◌, List, [], ◌∷◌, ◌++◌, length, map, take, drop, get_or, refl, sym, ap, ◌∙◌, arith}
 use Rattle.std.specs.List.{AllByRecursion, IsDistinct, list_any}
+use Rattle.std.proofs.lemmas.List.Folds.{list_any-append}
 use Rattle.std.proofs.lemmas.List.{take_all}
 
 pub first_and_rest : {A : Type 0} (left : List A) (x : A) → 1 ≤ length left → x ≡ get_or left 0 x → left ≡ x ∷ take (length left - 1) (drop 1 left)
@@ -72,3 +73,66 @@ module _ {K : Type 0} (eq : K → K → Bool) where
 pub any_map : {A K : Type 0} (test : K → Bool) (key : A → K) (xs : List A) → list_any (λ x. test (key x)) xs ≡ list_any test (map key xs)
 any_map test key [] = refl
 any_map test key (x ∷ xs) = ap (λ (b : Bool). test (key x) || b) (any_map test key xs)
+
+-- ---- lists behind one another, in either order
+
+pub all_behind : {A : Type 0} (P : A → Type 0) (xs ys : List A) → AllByRecursion P (xs ++ ys) → AllByRecursion P ys
+all_behind P [] ys h = h
+all_behind P (x ∷ xs) ys h = all_behind P xs ys h.1
+
+pub all_turned : {A : Type 0} (P Q : A → Type 0) (xs : List A) → ((x : A) → P x → Q x) → AllByRecursion P xs → AllByRecursion Q xs
+all_turned P Q [] turn h = tt
+all_turned P Q (x ∷ xs) turn h = (turn x h.0, all_turned P Q xs turn h.1)
+
+or_swapped : (a b c : Bool) → (a || (b || c)) ≡ (b || (a || c))
+or_swapped true true c = refl
+or_swapped true false c = refl
+or_swapped false true c = refl
+or_swapped false false c = refl
+
+pub any_swapped : {A : Type 0} (test : A → Bool) (xs ys zs : List A) → list_any test (xs ++ (ys ++ zs)) ≡ list_any test (ys ++ (xs ++ zs))
+any_swapped test xs ys zs =
+    list_any-append test xs (ys ++ zs) ∙ ap (λ (b : Bool). list_any test xs || b) (list_any-append test ys zs) ∙ or_swapped (list_any test xs) (list_any test ys) (list_any test zs)
+    ∙ sym (list_any-append test ys (xs ++ zs) ∙ ap (λ (b : Bool). list_any test ys || b) (list_any-append test xs zs))
+
+pub all_swapped : {A : Type 0} (P : A → Type 0) (xs ys zs : List A) → AllByRecursion P (xs ++ (ys ++ zs)) → AllByRecursion P (ys ++ (xs ++ zs))
+all_swapped P xs ys zs h =
+    let behind = all_behind P xs (ys ++ zs) h in
+    all_append P ys (xs ++ zs) (all_front P ys zs behind) (all_append P xs zs (all_front P xs (ys ++ zs) h) (all_behind P ys zs behind))
+
+module _ {K : Type 0} (eq : K → K → Bool) where
+  -- none of some is the same as one of the others
+  abbrev pub AreApart : List K → List K → Type 0
+  AreApart xs ys = AllByRecursion (λ x. AllByRecursion (λ y. eq x y ≡ false) ys) xs
+
+  pub distinct_split : (xs ys : List K) → IsDistinct eq (xs ++ ys) → IsDistinct eq xs × IsDistinct eq ys × AreApart xs ys
+  unfolding IsDistinct
+  distinct_split [] ys d = (tt, d, tt)
+  distinct_split (x ∷ xs) ys d =
+      let k = distinct_split xs ys d.1 in
+      ((all_front (λ y. eq x y ≡ false) xs ys d.0, k.0), k.1, (all_behind (λ y. eq x y ≡ false) xs ys d.0, k.2))
+
+  pub distinct_join : (xs ys : List K) → IsDistinct eq xs → IsDistinct eq ys → AreApart xs ys → IsDistinct eq (xs ++ ys)
+  unfolding IsDistinct
+  distinct_join [] ys d e apart = e
+  distinct_join (x ∷ xs) ys d e apart = (all_append (λ y. eq x y ≡ false) xs ys d.0 apart.0, distinct_join xs ys d.1 e apart.1)
+
+  module _ (turned : (x y : K) → eq x y ≡ false → eq y x ≡ false) where
+    apart_turned : (xs ys : List K) → AreApart xs ys → AreApart ys xs
+    apart_turned xs [] apart = tt
+    apart_turned xs (y ∷ ys) apart = (
+      all_turned (λ x. AllByRecursion (λ z. eq x z ≡ false) (y ∷ ys)) (λ x. eq y x ≡ false) xs (λ x h. turned x y h.0) apart,
+      apart_turned xs ys (all_turned (λ x. AllByRecursion (λ z. eq x z ≡ false) (y ∷ ys)) (λ x. AllByRecursion (λ z. eq x z ≡ false) ys) xs (λ x h. h.1) apart),
+    )
+
+    pub distinct_swapped : (xs ys zs : List K) → IsDistinct eq (xs ++ (ys ++ zs)) → IsDistinct eq (ys ++ (xs ++ zs))
+    distinct_swapped xs ys zs d =
+        let first = distinct_split xs (ys ++ zs) d in
+        let second = distinct_split ys zs first.1 in
+        let from_ys : AreApart xs ys = all_turned (λ x. AllByRecursion (λ y. eq x y ≡ false) (ys ++ zs)) (λ x. AllByRecursion (λ y. eq x y ≡ false) ys) xs (λ x h. all_front (λ y. eq x y ≡ false) ys zs h) first.2 in
+        let from_zs : AreApart xs zs = all_turned (λ x. AllByRecursion (λ y. eq x y ≡ false) (ys ++ zs)) (λ x. AllByRecursion (λ y. eq x y ≡ false) zs) xs (λ x h. all_behind (λ y. eq x y ≡ false) ys zs h) first.2 in
+        distinct_join ys (xs ++ zs) second.0 (distinct_join xs zs first.0 second.1 from_zs) (both ys (apart_turned xs ys from_ys) second.2)
+      where
+        both : (ws : List K) → AreApart ws xs → AreApart ws zs → AreApart ws (xs ++ zs)
+        both [] h k = tt
+        both (w ∷ ws) h k = (all_append (λ y. eq w y ≡ false) xs zs h.0 k.0, both ws h.1 k.1)

@@ -1,18 +1,21 @@
 -- Entries, as they are read.
-use Rattle.std.proofs.Common.{◌≡◌, ℕ, ◌≤◌, true, false, List, [], ◌∷◌, ◌++◌, length, Some, None, refl, sym, ap, ◌∙◌, subst, append_assoc}
+use Rattle.std.proofs.Common.{◌≡◌, ℕ, ◌≤◌, Bool, true, false, ◌||◌, List, [], ◌∷◌, ◌++◌, length, Some, None, refl, sym, ap, ◌∙◌, subst, append_assoc}
 use Rattle.std.specs.List.{IsDistinct, list_any}
 use Rattle.std.specs.Str.{bytes_eq}
 use Rattle.std.proofs.lemmas.List.{map-append}
+use Rattle.std.proofs.lemmas.List.Folds.{list_any-append}
 use Rattle.ice_values.specs.Cells.{zeros}
 use Rattle.ice_values.specs.Properties.{array8, IsArray8, property_list, IsListed, IsProperty}
 use Rattle.ice_values.specs.declared.numbers.Endian.TheVariants.{Lsb}
 use Rattle.ice_values.specs.declared.property.Property.{Property}
 use Rattle.ice_values.proofs.CellLaws.{zeros-append}
 use Rattle.checkpoint_records.specs.Finding.{Finds, IsStuck}
-use Rattle.checkpoint_records.specs.Parts.{AreEntries}
+use Rattle.checkpoint_records.specs.Books.{entries_in}
+use Rattle.checkpoint_records.specs.Parts.{AreEntries, AreEntriesBehind}
 use Rattle.checkpoint_records.specs.Rules.{ids_of, IsClientId, IsTable, IsEntry}
 use Rattle.checkpoint_records.specs.Spelling.{entry_cells}
 use Rattle.checkpoint_records.specs.declared.records.Entry.{Entry}
+use Rattle.checkpoint_records.specs.declared.records.Named.{Named}
 use Rattle.checkpoint_records.proofs.FindLaws.{nothing, found_is, none_found}
 use Rattle.checkpoint_records.proofs.DistinctLaws.{all_more, all_front, all_last, any_map, distinct_more, distinct_last, distinct_front, distinct_nil}
 use Rattle.checkpoint_records.proofs.SpellLaws.{id_short, table_short}
@@ -115,3 +118,23 @@ old_id epoch entries bytes entry rest id finds is_id old other after is are =
 
 pub no_entries : (epoch : ℕ) → AreEntries epoch []
 no_entries epoch = record { each = tt; ids_differ = distinct_nil bytes_eq }
+
+-- ---- behind other sessions
+
+pub stuck_behind : (epoch : ℕ) (before : List Named) (items : List Entry) (bytes : List ℕ) → IsStuck entry_cells (AreEntries epoch) (entries_in before ++ items) bytes → IsStuck entry_cells (AreEntriesBehind epoch before) items bytes
+stuck_behind epoch before items bytes stuck entry after is are = stuck entry after is (subst (AreEntries epoch) (sym (append_assoc (entries_in before) items (entry ∷ []))) are)
+
+pub any_before : (test : Entry → Bool) (before : List Named) → list_any (λ (session : Named). list_any test session.entries) before ≡ list_any test (entries_in before)
+any_before test [] = refl
+any_before test (s ∷ before) = ap (λ (b : Bool). list_any test s.entries || b) (any_before test before) ∙ sym (list_any-append test s.entries (entries_in before))
+
+pub any_either : (test : Entry → Bool) (before : List Named) (items : List Entry) → (list_any (λ (session : Named). list_any test session.entries) before || list_any test items) ≡ list_any test (entries_in before ++ items)
+any_either test before items = ap (λ (b : Bool). b || list_any test items) (any_before test before) ∙ sym (list_any-append test (entries_in before) items)
+
+-- an ID is taken before, or else where it is taken here
+pub taken_before : (test : Entry → Bool) (before : List Named) (items : List Entry) (r : Bool) → r ≡ list_any (λ (session : Named). list_any test session.entries) before → true ≡ list_any (λ (session : Named). list_any test session.entries) before
+    → r ≡ list_any test (entries_in before ++ items)
+taken_before test before items r is taken = is ∙ sym taken ∙ ap (λ (b : Bool). b || list_any test items) taken ∙ any_either test before items
+
+pub taken_here : (test : Entry → Bool) (before : List Named) (items : List Entry) (r : Bool) → false ≡ list_any (λ (session : Named). list_any test session.entries) before → r ≡ list_any test items → r ≡ list_any test (entries_in before ++ items)
+taken_here test before items r free is = is ∙ ap (λ (b : Bool). b || list_any test items) free ∙ any_either test before items

@@ -5,7 +5,8 @@ use Rattle.ice_values.specs.Numbers.{number_bytes}
 use Rattle.ice_values.specs.declared.numbers.Endian.TheVariants.{Lsb}
 use Rattle.ice_values.proofs.OptionLaws.{some_is, none_not_some}
 use Rattle.checkpoint_records.specs.Finding.{Finds}
-use Rattle.checkpoint_records.specs.Spelling.{head_cells}
+use Rattle.checkpoint_records.specs.Spelling.{format_number, head_cells}
+use Rattle.checkpoint_records.specs.declared.head.Head.{Head}
 
 module _ {A : Type 0} (spelled : A → List ℕ) (Fits : A → Type 0) (bytes : List ℕ) where
   pub nothing : ((x : A) (rest : List ℕ) → Fits x → bytes ≡ spelled x ++ rest → ⊥) → Finds spelled Fits bytes None
@@ -24,5 +25,5 @@ abbrev pub number : ℕ → List ℕ
 number n = number_bytes Lsb 4 n
 
 -- a head is four numbers
-pub head_is : (epoch entries pending : ℕ) (rest : List ℕ) → zeros (head_cells epoch entries pending) ++ rest ≡ number 1 ++ (number epoch ++ (number entries ++ (number pending ++ rest)))
-head_is epoch entries pending rest = refl
+pub head_is : (head : Head) (rest : List ℕ) → zeros (head_cells head) ++ rest ≡ number (format_number head.format) ++ (number head.epoch ++ (number head.count ++ (number head.pending ++ rest)))
+head_is head rest = refl

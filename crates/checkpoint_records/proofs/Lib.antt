@@ -5,7 +5,17 @@ pub mod SpellLaws
 pub mod DistinctLaws
 pub mod TableOfLaws
 pub mod FrontLaws
+pub mod NameLaws
 pub mod EntryLaws
 pub mod PendingLaws
 pub mod OrderLaws
+pub mod OnceLaws
+pub mod SessionHeadLaws
+pub mod PartLaws
+pub mod StandLaws
+pub mod PlaceLaws
+pub mod ChoiceLaws
 pub mod BookLaws
+pub mod RefusalLaws
+pub mod WorkedBooks
+pub mod StopLaws

@@ -1,7 +1,6 @@
 -- Lists of items whose spellings begin the same bytes: the shorter is the front of the longer.
-use Rattle.std.proofs.Common.{◌≡◌, ℕ, ◌<◌, ◌≤◌, inl, inr, List, [], ◌∷◌, ◌++◌, length, Option, refl, sym, ap, ap₂, ◌∙◌, subst, append_assoc, arith, length-append}
+use Rattle.std.proofs.Common.{◌≡◌, ℕ, ◌<◌, ◌≤◌, inl, inr, List, [], ◌∷◌, ◌++◌, length, Option, refl, sym, ap, ap₂, ◌∙◌, subst, append_assoc, arith}
 use Rattle.std.specs.Prelude.{flat_map}
-use Rattle.std.specs.List.{AllByRecursion}
 use Rattle.std.proofs.lemmas.Bool.{cases_lt}
 use Rattle.std.proofs.lemmas.List.{append-nil}
 use Rattle.ice_values.specs.Cells.{Cells, zeros}
@@ -21,44 +20,38 @@ exact_once {A} cells Fits read exact x y xs ys fit_x fit_y is =
     let e : ◌≡◌ {A = A × List ℕ} (x, xs) (y, ys) = some_is (x, xs) (y, ys) (sym a ∙ ap read is ∙ b) in
     (ap (λ (p : A × List ℕ). p.0) e, ap (λ (p : A × List ℕ). p.1) e)
 
-module _ {A : Type 0} (cells : A → Cells) (Fits : A → Type 0) (once : AreOnce cells Fits) where
-  cons-zeros : (x : A) (xs : List A) (r : List ℕ) → zeros (flat_map cells (x ∷ xs)) ++ r ≡ zeros (cells x) ++ (zeros (flat_map cells xs) ++ r)
-  cons-zeros x xs r = ap (λ (l : List ℕ). l ++ r) (zeros-append (cells x) (flat_map cells xs)) ∙ append_assoc (zeros (cells x)) (zeros (flat_map cells xs)) r
+pub cons-zeros : {A : Type 0} (cells : A → Cells) (x : A) (xs : List A) (r : List ℕ) → zeros (flat_map cells (x ∷ xs)) ++ r ≡ zeros (cells x) ++ (zeros (flat_map cells xs) ++ r)
+cons-zeros cells x xs r = ap (λ (l : List ℕ). l ++ r) (zeros-append (cells x) (flat_map cells xs)) ∙ append_assoc (zeros (cells x)) (zeros (flat_map cells xs)) r
 
-  pub shorter : (xs ys : List A) (r s : List ℕ) → AllByRecursion Fits xs → AllByRecursion Fits ys → zeros (flat_map cells xs) ++ r ≡ zeros (flat_map cells ys) ++ s → length xs ≤ length ys
+-- the spellings of two items that may stand behind the same items, and that begin the same bytes, are of one item
+abbrev pub AreOnceBehind : {A : Type 0} → (A → Cells) → (List A → Type 0) → Type 0
+AreOnceBehind {A} cells Keep = (front : List A) (x y : A) (xs ys : List ℕ) → Keep (front ++ x ∷ []) → Keep (front ++ y ∷ []) → zeros (cells x) ++ xs ≡ zeros (cells y) ++ ys → (x ≡ y) × (xs ≡ ys)
+
+module _ {A : Type 0} (cells : A → Cells) (Keep : List A → Type 0) (less : (xs more : List A) → Keep (xs ++ more) → Keep xs) (once : AreOnceBehind cells Keep) where
+  one-behind : (front xs : List A) (x : A) → Keep (front ++ x ∷ xs) → Keep ((front ++ x ∷ []) ++ xs)
+  one-behind front xs x keep = subst Keep (sym (append_assoc front (x ∷ []) xs)) keep
+
+  first-kept : (front xs : List A) (x : A) → Keep (front ++ x ∷ xs) → Keep (front ++ x ∷ [])
+  first-kept front xs x keep = less (front ++ x ∷ []) xs (one-behind front xs x keep)
+
+  pub shorter : (front xs ys : List A) (r s : List ℕ) → Keep (front ++ xs) → Keep (front ++ ys) → zeros (flat_map cells xs) ++ r ≡ zeros (flat_map cells ys) ++ s → length xs ≤ length ys
       → (more : List A) × (ys ≡ xs ++ more) × (r ≡ zeros (flat_map cells more) ++ s)
-  shorter [] ys r s fit_xs fit_ys is le = (ys, refl, is)
-  shorter (x ∷ xs) [] r s fit_xs fit_ys is le = absurd (omega arith)
-  shorter (x ∷ xs) (y ∷ ys) r s fit_xs fit_ys is le =
-      let h = once x y (zeros (flat_map cells xs) ++ r) (zeros (flat_map cells ys) ++ s) fit_xs.0 fit_ys.0 (sym (cons-zeros x xs r) ∙ is ∙ cons-zeros y ys s) in
-      let k = shorter xs ys r s fit_xs.1 fit_ys.1 h.1 (omega arith) in
+  shorter front [] ys r s keep_xs keep_ys is le = (ys, refl, is)
+  shorter front (x ∷ xs) [] r s keep_xs keep_ys is le = absurd (omega arith)
+  shorter front (x ∷ xs) (y ∷ ys) r s keep_xs keep_ys is le =
+      let h = once front x y (zeros (flat_map cells xs) ++ r) (zeros (flat_map cells ys) ++ s) (first-kept front xs x keep_xs) (first-kept front ys y keep_ys) (sym (cons-zeros cells x xs r) ∙ is ∙ cons-zeros cells y ys s) in
+      let k = shorter (front ++ x ∷ []) xs ys r s (one-behind front xs x keep_xs) (subst (λ (z : A). Keep ((front ++ z ∷ []) ++ ys)) (sym h.0) (one-behind front ys y keep_ys)) h.1 (omega arith) in
       (k.0, ap₂ (λ (z : A) (l : List A). z ∷ l) (sym h.0) k.1, k.2)
 
-  -- of the same number they are the same
-  pub same_number : (xs ys : List A) (r s : List ℕ) → AllByRecursion Fits xs → AllByRecursion Fits ys → zeros (flat_map cells xs) ++ r ≡ zeros (flat_map cells ys) ++ s → length xs ≡ length ys → (xs ≡ ys) × (r ≡ s)
-  same_number xs ys r s fit_xs fit_ys is len =
-      let k = shorter xs ys r s fit_xs fit_ys is (omega (arith, len)) in
-      by k.0 k.1 k.2
+  -- where items are stuck, any others that the same bytes begin with are a front of them
+  pub front_of : (xs ys : List A) (r s : List ℕ) → Keep xs → Keep ys → IsStuck cells Keep xs r → zeros (flat_map cells xs) ++ r ≡ zeros (flat_map cells ys) ++ s
+      → (more : List A) × (xs ≡ ys ++ more) × (s ≡ zeros (flat_map cells more) ++ r)
+  front_of xs ys r s keep_xs keep_ys stuck is = elim (cases_lt (length xs) (length ys)) [
+    | inr le ↦ shorter [] ys xs s r keep_ys keep_xs (sym is) le
+    | inl lt ↦ let k = shorter [] xs ys r s keep_xs keep_ys is (omega (arith, lt)) in absurd (by k.0 k.1 k.2 lt)
+  ]
     where
-      by : (more : List A) → ys ≡ xs ++ more → r ≡ zeros (flat_map cells more) ++ s → (xs ≡ ys) × (r ≡ s)
-      by [] e f = (sym (e ∙ append-nil xs), f)
-      by (z ∷ more) e f = absurd (omega (arith, len, ap length e, length-append xs (z ∷ more)))
-
-  -- the longer leaves no more bytes
-  pub leaves_more : (xs ys : List A) (r s : List ℕ) → AllByRecursion Fits xs → AllByRecursion Fits ys → zeros (flat_map cells xs) ++ r ≡ zeros (flat_map cells ys) ++ s → length xs ≤ length ys → length s ≤ length r
-  leaves_more xs ys r s fit_xs fit_ys is le =
-      let k = shorter xs ys r s fit_xs fit_ys is le in
-      omega (arith, ap length k.2, length-append (zeros (flat_map cells k.0)) s)
-
-  module _ (Keep : List A → Type 0) (less : (xs more : List A) → Keep (xs ++ more) → Keep xs) (fit : (xs : List A) → Keep xs → AllByRecursion Fits xs) where
-    -- no longer list stands behind one that is stuck
-    pub at_most : (xs ys : List A) (r s : List ℕ) → Keep xs → Keep ys → IsStuck cells Keep xs r → zeros (flat_map cells xs) ++ r ≡ zeros (flat_map cells ys) ++ s → length ys ≤ length xs
-    at_most xs ys r s keep_xs keep_ys stuck is = elim (cases_lt (length xs) (length ys)) [
-      | inr le ↦ le
-      | inl lt ↦ let k = shorter xs ys r s (fit xs keep_xs) (fit ys keep_ys) is (omega (arith, lt)) in absurd (by k.0 k.1 k.2 lt)
-    ]
-      where
-        by : (more : List A) → ys ≡ xs ++ more → r ≡ zeros (flat_map cells more) ++ s → length xs < length ys → ⊥
-        by [] e f lt = omega (arith, lt, ap length (e ∙ append-nil xs))
-        by (z ∷ more) e f lt =
-            stuck z (zeros (flat_map cells more) ++ s) (f ∙ cons-zeros z more s) (less (xs ++ z ∷ []) more (subst Keep (e ∙ sym (append_assoc xs (z ∷ []) more)) keep_ys))
+      by : (more : List A) → ys ≡ xs ++ more → r ≡ zeros (flat_map cells more) ++ s → length xs < length ys → ⊥
+      by [] e f lt = omega (arith, lt, ap length (e ∙ append-nil xs))
+      by (z ∷ more) e f lt =
+          stuck z (zeros (flat_map cells more) ++ s) (f ∙ cons-zeros cells z more s) (less (xs ++ z ∷ []) more (subst Keep (e ∙ sym (append_assoc xs (z ∷ []) more)) keep_ys))

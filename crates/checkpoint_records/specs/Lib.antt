@@ -4,5 +4,7 @@ pub mod Spelling
 pub mod Damage
 pub mod Finding
 pub mod Parts
+pub mod Following
+pub mod Stopping
 pub mod Fields
 pub mod Laws

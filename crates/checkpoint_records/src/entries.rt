@@ -5,8 +5,9 @@ ghost use Rattle.std.specs.Str.{bytes_eq};
 ghost use Rattle.ice_values.specs.Cells.{zeros};
 ghost use Rattle.ice_values.specs.Properties.{array8, IsArray8, property_list, IsProperty, IsListed};
 ghost use Rattle.ice_values.specs.declared.numbers.Endian.TheVariants.{Lsb};
+ghost use Rattle.checkpoint_records.specs.Books.{entries_in};
 ghost use Rattle.checkpoint_records.specs.Finding.{Finds, AreInFront, IsStuck, EndsEarly, IsStop};
-ghost use Rattle.checkpoint_records.specs.Parts.{AreEntries};
+ghost use Rattle.checkpoint_records.specs.Parts.{AreEntries, AreEntriesBehind};
 ghost use Rattle.checkpoint_records.specs.Rules.{IsEntry};
 ghost use Rattle.checkpoint_records.specs.Spelling.{entry_cells};
 
@@ -14,7 +15,7 @@ use crate::ids::is_client_id;
 use crate::stops::Stop;
 use crate::tables::table_of;
 use crate::zeroed::take_zeroed;
-use crate::{Entry, EntryList};
+use crate::{Entry, EntryList, Named};
 use ice_values::{Array8, PropertyList};
 use owned_lists::NoMemory;
 use std::alloc::Global;
@@ -73,24 +74,45 @@ fn has_id(entries: &[Entry], id: &[u8]) -> bool
     entries.iter().any(|entry| entry.id.as_slice() == id)
 }
 
-/// The entry that stands behind others, and what follows it.
+/// Whether an entry of one of these sessions has this ID.
+fn has_id_before(sessions: &[Named], id: &[u8]) -> bool
+    ensures { result
+        ≡ list_any (λ session. list_any (λ entry. bytes_eq entry.id id.now) session.entries)
+        sessions.now }
+{
+    sessions
+        .iter()
+        .any(|session| has_id(session.entries.as_slice(), id))
+}
+
+/// Whether one of these sessions, or one of these entries, has this ID.
+fn is_taken(sessions: &[Named], before: &[Entry], id: &[u8]) -> bool
+    ensures { result ≡ list_any (λ entry. bytes_eq entry.id id.now)
+        (entries_in sessions.now ++ before.now) }
+{
+    has_id_before(sessions, id) || has_id(before, id)
+}
+
+/// The entry that stands behind others of its session and behind other sessions, and what follows
+/// it.
 fn take_next<'a>(
     alloc: Global,
     epoch: u32,
+    sessions: &[Named],
     before: &[Entry],
     bytes: &'a [u8],
 ) -> Result<(Entry, &'a [u8]), Stop>
-    requires { AreEntries epoch before.now }
-    ensures next { IfOk result (λ x. AreEntries epoch (before.now ++ x.0 ∷ [])
+    requires { AreEntriesBehind epoch sessions.now before.now }
+    ensures next { IfOk result (λ x. AreEntriesBehind epoch sessions.now (before.now ++ x.0 ∷ [])
         × (bytes.now ≡ zeros (entry_cells x.0) ++ x.1.now)) }
     ensures stop { IfErr result (λ stop.
         IsStop bytes.now (λ left. (left ≡ length bytes.now)
-        × IsStuck entry_cells (AreEntries epoch) before.now bytes.now) stop) }
+        × IsStuck entry_cells (AreEntriesBehind epoch sessions.now) before.now bytes.now) stop) }
 {
     let left = bytes.len();
     match take_entry(alloc, epoch, bytes)? {
         Some((entry, rest)) => {
-            if has_id(before, entry.id.as_slice()) {
+            if is_taken(sessions, before, entry.id.as_slice()) {
                 return Err(Stop::Broken { left });
             }
             Ok((entry, rest))
@@ -99,22 +121,26 @@ fn take_next<'a>(
     }
 }
 
-/// So many entries at the front, and what follows them.
-pub(crate) fn take_entries(
+/// So many entries of a session at the front, behind other sessions, and what follows them.
+pub(crate) fn take_entries<'a>(
     alloc: Global,
     epoch: u32,
+    sessions: &[Named],
     count: u32,
-    bytes: &[u8],
-) -> Result<(EntryList, &[u8]), Stop>
-    ensures all { IfOk result (λ x. AreInFront entry_cells (AreEntries epoch) bytes.now x.0 x.1.now
+    bytes: &'a [u8],
+) -> Result<(EntryList, &'a [u8]), Stop>
+    requires { AreEntries epoch (entries_in sessions.now) }
+    ensures all { IfOk result (λ x.
+        AreInFront entry_cells (AreEntriesBehind epoch sessions.now) bytes.now x.0 x.1.now
         × (length x.0 ≡ count)) }
     ensures early { IfErr result (λ stop.
-        IsStop bytes.now (EndsEarly entry_cells (AreEntries epoch) bytes.now count) stop) }
+        IsStop bytes.now (EndsEarly entry_cells (AreEntriesBehind epoch sessions.now) bytes.now
+        count) stop) }
 {
     let mut entries = EntryList::new(alloc);
     let mut rest = bytes;
     for _i in 0..count {
-        match take_next(alloc, epoch, entries.as_slice(), rest) {
+        match take_next(alloc, epoch, sessions, entries.as_slice(), rest) {
             Ok((entry, after)) => {
                 entries.push(entry)?;
                 rest = after;

@@ -1,10 +1,10 @@
-ghost use Rattle.std.specs.Prelude.{◌≡◌, ◌∷◌, ◌++◌, ◌≤◌, [], ℕ, length, IfOk, IfErr, IfSome, IfNone};
+ghost use Rattle.std.specs.Prelude.{◌≡◌, ◌∷◌, ◌++◌, ◌≤◌, [], ℕ, length, IfOk, IfErr, IfSome, IfNone, OnOk};
 ghost use Rattle.std.specs.List.{list_any};
 ghost use Rattle.std.specs.Option.{option_map};
 ghost use Rattle.ice_values.specs.Cells.{zeros};
 ghost use Rattle.ice_values.specs.Properties.{array8, IsArray8, array8_list, IsListed};
 ghost use Rattle.ice_values.specs.declared.numbers.Endian.TheVariants.{Lsb};
-ghost use Rattle.checkpoint_records.specs.Books.{same_command as is_same, discards};
+ghost use Rattle.checkpoint_records.specs.Books.{same_command as is_same, all_entries, discards, entries_in};
 ghost use Rattle.checkpoint_records.specs.Finding.{Finds, AreInFront, IsStuck, EndsEarly, IsStop};
 ghost use Rattle.checkpoint_records.specs.Fields.{fields_cells, HaveFieldSpelling, are_of_command};
 ghost use Rattle.checkpoint_records.specs.Parts.{ArePending};
@@ -12,7 +12,7 @@ ghost use Rattle.checkpoint_records.specs.Rules.{IsCommand, command_cells};
 
 use crate::stops::Stop;
 use crate::zeroed::take_zeroed;
-use crate::{Entry, same_command};
+use crate::{Book, Entry, Named, same_command};
 use ice_values::{Array8, Array8List};
 use owned_lists::{Command, CommandList, NoMemory};
 use std::alloc::Global;
@@ -20,7 +20,9 @@ use xsmp_properties::{are_words, command_of, in_pairs, is_environment, is_text};
 
 const BYTE_LIMIT: usize = 16_384;
 
-fn take_text(alloc: Global, bytes: &[u8]) -> Result<Option<(Array8, &[u8])>, NoMemory>
+/// The ARRAY8 at the front, and what follows it. None where there is none, or one of more than
+/// 65,536 bytes.
+pub(crate) fn take_text(alloc: Global, bytes: &[u8]) -> Result<Option<(Array8, &[u8])>, NoMemory>
     ensures { IfOk result (λ found.
         Finds (λ text. zeros (array8 Lsb text)) (λ text.
         IsArray8 text × (length (array8 Lsb text) ≤ 65536)) bytes.now
@@ -108,15 +110,39 @@ pub fn take_command(alloc: Global, bytes: &[u8]) -> Result<Option<(Command, &[u8
     Ok(Some((command, rest)))
 }
 
+/// Adds the DiscardCommands of entries, in order.
+fn add_discards(
+    alloc: Global,
+    entries: &[Entry],
+    commands: &mut CommandList,
+) -> Result<(), NoMemory>
+    ensures { OnOk result (commands.new ≡ commands.old ++ discards entries.now) }
+{
+    for entry in entries {
+        if let Some(discard) = command_of(alloc, &entry.table, b"DiscardCommand")? {
+            commands.push(discard)?;
+        }
+    }
+    Ok(())
+}
+
 /// The DiscardCommands of entries, in order.
 pub fn discards_of(alloc: Global, entries: &[Entry]) -> Result<CommandList, NoMemory>
     ensures { IfOk result (λ commands. commands ≡ discards entries.now) }
 {
     let mut commands = CommandList::new(alloc);
-    for entry in entries {
-        if let Some(discard) = command_of(alloc, &entry.table, b"DiscardCommand")? {
-            commands.push(discard)?;
-        }
+    add_discards(alloc, entries, &mut commands)?;
+    Ok(commands)
+}
+
+/// The DiscardCommands of all entries of a book, those of the chosen session first.
+pub fn all_discards(alloc: Global, book: &Book) -> Result<CommandList, NoMemory>
+    ensures { IfOk result (λ commands. commands ≡ discards (all_entries book.now)) }
+{
+    let mut commands = CommandList::new(alloc);
+    add_discards(alloc, book.entries.as_slice(), &mut commands)?;
+    for other in book.others.as_slice() {
+        add_discards(alloc, other.entries.as_slice(), &mut commands)?;
     }
     Ok(commands)
 }
@@ -191,20 +217,31 @@ fn take_beside<'a>(
     Ok((pending, rest))
 }
 
-/// So many pending commands at the front, beside these entries, and what follows them.
+/// The DiscardCommands of all entries of sessions, in order.
+fn discards_in(alloc: Global, sessions: &[Named]) -> Result<CommandList, NoMemory>
+    ensures { IfOk result (λ commands. commands ≡ discards (entries_in sessions.now)) }
+{
+    let mut commands = CommandList::new(alloc);
+    for session in sessions {
+        add_discards(alloc, session.entries.as_slice(), &mut commands)?;
+    }
+    Ok(commands)
+}
+
+/// So many pending commands at the front, beside these sessions, and what follows them.
 pub(crate) fn take_pending<'a>(
     alloc: Global,
-    entries: &[Entry],
+    sessions: &[Named],
     count: u32,
     bytes: &'a [u8],
 ) -> Result<(CommandList, &'a [u8]), Stop>
     ensures all { IfOk result (λ x.
-        AreInFront (command_cells Lsb) (ArePending (discards entries.now)) bytes.now x.0 x.1.now
-        × (length x.0 ≡ count)) }
+        AreInFront (command_cells Lsb) (ArePending (discards (entries_in sessions.now))) bytes.now
+        x.0 x.1.now × (length x.0 ≡ count)) }
     ensures early { IfErr result (λ stop.
         IsStop bytes.now (EndsEarly (command_cells Lsb)
-        (ArePending (discards entries.now)) bytes.now count) stop) }
+        (ArePending (discards (entries_in sessions.now))) bytes.now count) stop) }
 {
-    let discards = discards_of(alloc, entries)?;
+    let discards = discards_in(alloc, sessions)?;
     take_beside(alloc, discards.as_slice(), count, bytes)
 }

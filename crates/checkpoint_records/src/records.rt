@@ -1,9 +1,9 @@
 ghost use Rattle.std.specs.Prelude.{◌≡◌, IfOk};
 ghost use Rattle.checkpoint_records.specs.Books.{empty_book};
 
-use crate::SharedEntries;
+use crate::{SharedEntries, default_name};
 use ice_values::Array8;
-use owned_lists::{CommandList, Duplicate, ListOf, NoMemory};
+use owned_lists::{CommandList, Duplicate, ListOf, NoMemory, Octets};
 use std::alloc::Global;
 use xsmp_properties::PropertyTable;
 
@@ -19,19 +19,35 @@ pub struct Entry {
 /// Entries that are being put together.
 pub type EntryList = ListOf<Entry>;
 
-/// What is kept of a session between its logins.
+/// What is kept of the clients of one session.
+#[derive(Drop)]
+pub struct Named {
+    /// 1 to 64 bytes from `!` to `~`.
+    pub name: Octets,
+    /// One entry for each client, in the order in which they came into the book.
+    pub entries: SharedEntries,
+}
+
+pub type NamedList = ListOf<Named>;
+
+/// What is kept of sessions between their logins. One of them is chosen: the one that runs.
 #[derive(Drop)]
 pub struct Book {
-    /// One entry for each client, in the order in which they came into the book.
+    /// One entry for each client of the chosen session, in the order in which they came into the
+    /// book.
     pub entries: SharedEntries,
     /// The commands that are yet to be run, each of which discards a state that nobody needs.
     pub pending: CommandList,
     /// How often the manager has opened the book.
     pub epoch: u32,
+    /// What the chosen session is called.
+    pub name: Octets,
+    /// The other sessions, all with entries, in the order of their names.
+    pub others: NamedList,
 }
 
 impl Book {
-    /// No entries, no pending commands, and the epoch 0.
+    /// No sessions, no pending commands, and the epoch 0; `default` is chosen.
     pub fn empty(alloc: Global) -> Result<Book, NoMemory>
         ensures { IfOk result (λ book. book ≡ empty_book) }
     {
@@ -39,6 +55,8 @@ impl Book {
             entries: SharedEntries::new(alloc, EntryList::new(alloc))?,
             pending: CommandList::new(alloc),
             epoch: 0,
+            name: default_name(alloc)?,
+            others: NamedList::new(alloc),
         })
     }
 }
@@ -51,6 +69,8 @@ pub fn copy_book(book: &Book) -> Result<Book, NoMemory>
         entries: book.entries.copy()?,
         pending: book.pending.copy()?,
         epoch: book.epoch,
+        name: book.name.copy()?,
+        others: book.others.copy()?,
     })
 }
 
@@ -59,6 +79,15 @@ impl Duplicate for Entry {
         Ok(Entry {
             id: self.id.copy()?,
             table: self.table.copy()?,
+        })
+    }
+}
+
+impl Duplicate for Named {
+    fn copy(&self) -> Result<Named, NoMemory> {
+        Ok(Named {
+            name: self.name.copy()?,
+            entries: self.entries.copy()?,
         })
     }
 }

@@ -1,6 +1,6 @@
 -- The effects of a put, by what its write and its sync answered.
 use Rattle.std.proofs.Common.{◌≡◌, ◌∷◌, [], ℕ, List, Result, Ok, Err, OnOk, OnErr, length, drop, refl, ap, sym, subst, ◌∙◌, inl, inr, arith}
-use Rattle.std.specs.Prelude.{Option, ◌≢◌}
+use Rattle.std.specs.Prelude.{Option}
 use Rattle.std.specs.List.{AllByRecursion}
 use Rattle.sm_world.specs.Crash.{LeavesStore}
 use Rattle.sm_world.specs.Disk.{IsFailedWrite, IsFailedSync}
@@ -8,7 +8,7 @@ use Rattle.sm_world.specs.Outside.{Added, adds}
 use Rattle.sm_world.proofs.Adding.{adds-adds}
 use Rattle.sm_world.specs.declared.effects.Effect.{Effect}
 use Rattle.sm_world.specs.declared.effects.Effect.TheVariants.{Synced, Wrote}
-use Rattle.checkpoint_slots.specs.Turns.{IsPut, Puts, done, nothing, tore, unsynced, wrote}
+use Rattle.checkpoint_slots.specs.Turns.{Puts, nothing, tore, unsynced, wrote}
 
 abbrev Failed : (A : Type 0) {E : Type 0} → ℕ → List ℕ → E → List Effect → Type 0
 Failed A {E = E} at bytes fault added = Puts {A = A} {E = E} at bytes (Err fault) added

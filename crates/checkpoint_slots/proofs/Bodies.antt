@@ -1,12 +1,14 @@
 -- A slot that begins with what a commit writes has its generation and its book.
-use Rattle.std.proofs.Common.{◌≡◌, ◌+◌, ◌-◌, ◌<◌, ◌≤◌, ◌^◌, ◌%◌, ℕ, Bool, true, false, ◌||◌, nat_lt, List, [], ◌∷◌, ◌++◌, length, replicate, take, drop, slice_index, refl, ap, sym, subst, ◌∙◌, arith}
+use Rattle.std.proofs.Common.{◌≡◌, ◌+◌, ◌-◌, ◌<◌, ◌≤◌, ◌^◌, ◌%◌, ℕ, Bool, true, false, ◌||◌, nat_lt, List, [], ◌∷◌, ◌++◌, length, replicate, take, drop, refl, ap, sym, subst, ◌∙◌, arith}
 use Rattle.std.specs.Prelude.{Some}
 use Rattle.std.proofs.Math.Seq.{drop-append_seam, take-append_seam}
 use Rattle.std.proofs.lemmas.List.{append_assoc, length-append, take-append-drop}
 use Rattle.byteorder.specs.Endian.{little_bytes, little_number}
 use Rattle.byteorder.specs.Numbers.{length-bytes_low_first, little_number-reads_back}
+use Rattle.checkpoint_records.specs.Books.{default_name}
 use Rattle.checkpoint_records.specs.Rules.{KeepsRules}
 use Rattle.checkpoint_records.specs.Spelling.{Spells, book_bytes}
+use Rattle.checkpoint_records.specs.declared.head.Format.TheVariants.{Several}
 use Rattle.checkpoint_records.specs.declared.records.Book.{Book}
 use Rattle.checkpoint_slots.specs.declared.layout.Slot.{Slot}
 use Rattle.checkpoint_slots.specs.Layout.{start_of}
@@ -79,28 +81,28 @@ module _ (generation : ℕ) (book : Book) (slot : List ℕ) (begins : take (leng
         sized = refl
 
   -- no amendment stands behind the book
-  leads-to : (at : ℕ) → KeepsRules book → book.epoch < 2 ^ 32 → LeadsTo at (drop 16 slot) (length (book_bytes book)) book (Some (at + length (book_bytes book) + 0))
-  leads-to at rules epoch =
+  leads-to : (at : ℕ) → KeepsRules book → book.name ≡ default_name → book.epoch < 2 ^ 32 → LeadsTo at (drop 16 slot) (length (book_bytes book)) book (Some (at + length (book_bytes book) + 0))
+  leads-to at rules default epoch =
       let bytes : List ℕ = book_bytes book in
       let behind : List ℕ = replicate 7 0 ++ drop (length (slot_bytes generation book)) slot in
-      let spelled : Spells (take (length bytes) (drop 16 slot)) book = record { rules = rules; epoch = epoch; is = ap (λ (xs : List ℕ). take (length bytes) xs) behind-head ∙ take-append_seam bytes _ } in
+      let spelled : Spells Several (take (length bytes) (drop 16 slot)) book = record { rules = rules; epoch = epoch; chosen = default; allowed = tt; is = ap (λ (xs : List ℕ). take (length bytes) xs) behind-head ∙ take-append_seam bytes _ } in
       let rest : drop (length bytes) (drop 16 slot) ≡ 0 ∷ behind = ap (λ (xs : List ℕ). drop (length bytes) xs) behind-head ∙ drop-append_seam bytes (0 ∷ behind) in
       record {
         more = Some 0;
-        leads = (book, spelled, record { deltas = []; rest = 0 ∷ behind; follow = record { amends = refl; is = rest }; ended = closed (nat_lt (length (0 ∷ behind)) 8); size = refl });
+        leads = (Several, book, 0, spelled, record { deltas = []; rest = 0 ∷ behind; follow = record { amends = refl; is = rest }; ended = closed (nat_lt (length (0 ∷ behind)) 8); size = refl }, refl);
         ends = refl;
       } where
         closed : (short : Bool) → (short || true) ≡ true
         closed true = refl
         closed false = refl
 
-  pub has-book : (slot_is : Slot) → HasRoom (length (book_bytes book)) → KeepsRules book → book.epoch < 2 ^ 32 → HasBook slot_is (Some (start_of slot_is + (length (slot_bytes generation book) - 8))) book slot
-  has-book here room rules epoch =
+  pub has-book : (slot_is : Slot) → HasRoom (length (book_bytes book)) → KeepsRules book → book.name ≡ default_name → book.epoch < 2 ^ 32 → HasBook slot_is (Some (start_of slot_is + (length (slot_bytes generation book) - 8))) book slot
+  has-book here room rules default epoch =
       let place : start_of here + 16 + length (book_bytes book) + 0 ≡ start_of here + (length (slot_bytes generation book) - 8) = omega (arith, body-length generation book) in
       record {
         may = ap may_be_length (length-at room) ∙ room-may (length (book_bytes book)) room;
         leads = subst (λ (k : ℕ). LeadsTo (start_of here + 16) (drop 16 slot) k book (Some (start_of here + (length (slot_bytes generation book) - 8)))) (sym (length-at room))
-            (subst (λ (k : ℕ). LeadsTo (start_of here + 16) (drop 16 slot) (length (book_bytes book)) book (Some k)) place (leads-to (start_of here + 16) rules epoch));
+            (subst (λ (k : ℕ). LeadsTo (start_of here + 16) (drop 16 slot) (length (book_bytes book)) book (Some k)) place (leads-to (start_of here + 16) rules default epoch));
       }
 
 -- the bytes of a slot, as they are put together

@@ -51,5 +51,5 @@ module _ (next : Book) (one two : List ℕ) (size : length two ≡ 16777280) whe
       let begins : take (length body) (slot_of two (target current)) ≡ body = ap (λ (slot : List ℕ). take (length body) slot) (sym slots) ∙ filled.begins in
       let new : generation_of (slot_of two (target current)) ≡ next_generation current = has-generation (next_generation current) next (slot_of two (target current)) begins is.generation in
       let choice : chosen two ≡ Ok (Some (target current)) = chosen-next current book agree (ap is_gate_open gate) filled new in
-      let there : HasBook (target current) (Some (start_of (target current) + (length body - 8))) next (slot_of two (target current)) = has-book (next_generation current) next (slot_of two (target current)) begins (target current) (book-room next is.rules) is.rules is.epoch in
+      let there : HasBook (target current) (Some (start_of (target current) + (length body - 8))) next (slot_of two (target current)) = has-book (next_generation current) next (slot_of two (target current)) begins (target current) (book-room next is.rules) is.rules is.chosen is.epoch in
       steady-some two (following current (length body)) next (choice, new) there

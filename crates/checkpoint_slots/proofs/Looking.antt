@@ -1,9 +1,8 @@
 -- What the looks of a recovery tell of the file.
-use Rattle.std.proofs.Common.{◌≡◌, ◌≢◌, ◌-◌, ◌+◌, ◌<◌, ◌≤◌, ◌%◌, ◌⊎◌, ℕ, Bool, true, false, List, [], length, take, drop, slice_index, min, refl, ap, sym, subst, ◌∙◌, arith}
+use Rattle.std.proofs.Common.{◌≡◌, ◌≢◌, ◌-◌, ◌+◌, ◌<◌, ◌≤◌, ◌%◌, ◌⊎◌, ℕ, Bool, true, false, List, length, take, drop, slice_index, min, refl, ap, sym, subst, ◌∙◌, arith}
 use Rattle.std.specs.Prelude.{IfErr, IfOk, None, Option, Result, Some, Ok, Err}
 use Rattle.std.proofs.lemmas.Grind.{same_number_lists}
 use Rattle.std.proofs.lemmas.List.{get_or-drop, get_or-take, length-drop, length-take}
-use Rattle.std.specs.List.{IsDistinct}
 use Rattle.sm_world.specs.Outside.{Outside}
 use Rattle.checkpoint_records.specs.Books.{empty_book}
 use Rattle.checkpoint_changes.specs.Amendments.{SlotDamaged}
@@ -109,16 +108,6 @@ steady-some file current book has there =
 
 pub steady-none : (file : List ℕ) (book : Book) → HasCurrent None file → book ≡ empty_book → SteadyFile None book file
 steady-none file book has empty = record { recovers = recovers-by file (Ok None) book has (ap (λ (b : Book). Ok b) empty); chooses = has; ends = tt }
-
-distinct-none : {K : Type 0} (e : K → K → Bool) → IsDistinct e []
-unfolding IsDistinct
-distinct-none e = tt
-
--- a store without an open gate has a book that keeps the rules
-pub rules-empty : (book : Book) → book ≡ empty_book → KeepsRules book
-rules-empty book e =
-    subst (λ (b : Book). KeepsRules b) (sym e)
-    (record { few_entries = omega arith; few_pending = omega arith; entries = tt; commands = tt; ids_differ = distinct-none _; commands_differ = distinct-none _; none_named = tt })
 
 pub fails-some : (file : List ℕ) (current : Current) (at : ℕ) → HasCurrent (Some current) file → SlotStands (start_of current.slot) (slot_of file current.slot) (Err at) → Recovers file (Err at)
 fails-some file current at has stands = subst (λ (x : Result (Option Slot) ℕ). StandsBy file x (Err at)) (sym has.0) stands

@@ -1,5 +1,5 @@
 -- A file stands for one book, and what recovery gave of a file goes on from there.
-use Rattle.std.proofs.Common.{◌≡◌, ◌+◌, ◌<◌, ℕ, Bool, true, false, IsTrue, ◌==◌, List, [], take, drop, slice_index, ap, sym, subst, ◌∙◌, arith}
+use Rattle.std.proofs.Common.{◌≡◌, ◌+◌, ◌<◌, ℕ, Bool, true, false, IsTrue, ◌==◌, List, [], drop, slice_index, ap, sym, subst, ◌∙◌, arith}
 use Rattle.std.specs.Prelude.{None, Option, Result, Some, Ok, Err}
 use Rattle.std.proofs.lemmas.Grind.{same_number_lists}
 use Rattle.sm_world.specs.Crash.{Image}

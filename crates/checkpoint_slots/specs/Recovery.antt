@@ -5,7 +5,7 @@
 --   12  four bytes that say nothing
 --   16  the book, and behind it amendments, as far as their gates are open
 -- Numbers have their least significant byte first.
-use Rattle.std.specs.Prelude.{Bool, List, None, Option, Some, Result, Ok, Err, drop, false, length, nat_le, nat_lt, option_map, replicate, slice_index, take, true, ℕ, ◌%◌, ◌&&◌, ◌++◌, ◌+◌, ◌==◌, ◌≡◌, if◌then◌else◌}
+use Rattle.std.specs.Prelude.{Bool, List, None, Option, Some, Result, Ok, Err, drop, false, length, nat_le, nat_lt, option_map, replicate, true, ℕ, ◌%◌, ◌&&◌, ◌++◌, ◌+◌, ◌==◌, ◌≡◌, if◌then◌else◌}
 use Rattle.byteorder.specs.Endian.{little_bytes, little_number}
 use Rattle.checkpoint_records.specs.Books.{empty_book}
 use Rattle.checkpoint_changes.specs.Amendments.{SlotLeads, SlotReads}

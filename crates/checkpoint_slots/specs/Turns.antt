@@ -5,6 +5,7 @@ use Rattle.std.specs.Str.{bytes_eq}
 use Rattle.sm_world.specs.Crash.{Image, cell_of, readable}
 use Rattle.sm_world.specs.declared.effects.Effect.{Effect}
 use Rattle.sm_world.specs.declared.effects.Effect.TheVariants.{Heard, Printed, Published, Sent, Shut, Started, SyncFailed, Synced, Torn, Wrote}
+use Rattle.checkpoint_records.specs.Books.{default_name}
 use Rattle.checkpoint_records.specs.Rules.{KeepsRules}
 use Rattle.checkpoint_records.specs.declared.records.Book.{Book}
 use Rattle.checkpoint_slots.specs.declared.fault.StoreFault.{StoreFault}
@@ -95,9 +96,10 @@ SteadyStands current book first effects = EveryImage (SteadyFile current book) f
 abbrev pub ClosedStands : Option Current → Book → List ℕ → List Effect → Type 0
 ClosedStands current book first effects = EveryImage (ClosedFile current book) first effects
 
--- a book can be the next one: it keeps the rules, and there is a number for its generation
+-- a book can be the next one: it keeps the rules, `default` is chosen in it, and there is a number for its generation
 pub record IsNext (current : Option Current) (next : Book) : Type 0 where
   pub rules : KeepsRules next
+  pub chosen : next.name ≡ default_name
   pub epoch : next.epoch < 2 ^ 32
   pub generation : next_generation current < 2 ^ 64
 

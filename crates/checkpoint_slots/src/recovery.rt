@@ -1,5 +1,6 @@
 ghost use Rattle.std.specs.Prelude.{Some, option_map, ◌^◌, ◌≡◌, ◌+◌, ◌≤◌, ◌<◌, ℕ, List, length, take, drop, slice_index, IfOk, IfErr, OnOk, Ok, Err, false, true, nat_lt};
 ghost use Rattle.sm_world.specs.Disk.{KeepsToldSize, UsesDisk, has_failed};
+ghost use Rattle.checkpoint_records.specs.Books.{default_name};
 ghost use Rattle.checkpoint_records.specs.Rules.{KeepsRules};
 ghost use Rattle.checkpoint_slots.specs.Layout.{start_of, gate_at, is_gate_open as opens, is_open, slot_of, store_size};
 ghost use Rattle.checkpoint_slots.specs.Recovery.{LeadsTo, SlotStands, chosen, generation_of, length_of, may_be_length};
@@ -190,6 +191,7 @@ fn read_chosen<D: Disk>(
         HasBook slot found.1 found.0 (slot_of file slot)) (λ file at.
         SlotStands (start_of slot) (slot_of file slot) (Err at)) result }
     ensures rules { IfOk result (λ found. KeepsRules found.0) }
+    ensures named { IfOk result (λ found. found.0.name ≡ default_name) }
     ensures world { Looks (D.outside disk.old) (D.outside disk.new) (is_disk_fault result) }
 {
     let count = book_length(disk, slot)?;
@@ -210,7 +212,8 @@ impl Steady {
     /// The turn and the book that the store's file stands for. In this order: a file of another
     /// size than a store is WrongSize; then it is Damaged where its gates, the head of the chosen
     /// slot, the book or an amendment behind it say so. A file without an open gate has the empty
-    /// book. The rest of the chosen slot is read whole, 8,388,592 bytes.
+    /// book. In the book `default` is chosen. The rest of the chosen slot is read whole, 8,388,592
+    /// bytes.
     pub fn recover_from<D: Disk>(alloc: Global, disk: &mut D) -> Result<(Steady, Book), StoreFault>
         ensures told { (D.outside disk.new).told ≡ (D.outside disk.old).told }
         ensures size { IfOk result (λ recovered. (D.outside disk.new).size ≡ store_size) }
@@ -218,6 +221,7 @@ impl Steady {
         ensures recovers { (file : List ℕ) → IsSettled (D.outside disk.old) file →
             IfOk result (λ recovered. SteadyFile recovered.0 recovered.1 file) }
         ensures rules { IfOk result (λ recovered. KeepsRules recovered.1) }
+        ensures named { IfOk result (λ recovered. recovered.1.name ≡ default_name) }
         ensures cause { IfErr result
             (IsRecoveryFault (D.outside disk.old) (D.outside disk.new).size) }
         ensures uses { UsesDisk (D.outside disk.old) (D.outside disk.new) (is_disk_fault result) }

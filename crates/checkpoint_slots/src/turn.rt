@@ -3,6 +3,7 @@ ghost use Rattle.checkpoint_slots.specs.Layout.{store_size};
 ghost use Rattle.byteorder.specs.Endian.{little_bytes};
 ghost use Rattle.sm_world.specs.Disk.{UsesDisk};
 ghost use Rattle.sm_world.specs.Outside.{Added};
+ghost use Rattle.checkpoint_records.specs.Books.{default_name};
 ghost use Rattle.checkpoint_records.specs.Rules.{KeepsRules};
 ghost use Rattle.checkpoint_slots.specs.Recovery.{slot_bytes};
 ghost use Rattle.checkpoint_slots.specs.Turns.{Closes, Fills, HasRoomFor, Lifts, Puts, advanced, end_in, following, next_generation, target as next_slot};
@@ -125,7 +126,8 @@ fn head(generation: u64, count: u32) -> [u8; 16]
 
 /// What a commit writes into a slot.
 fn body_of(alloc: Global, generation: u64, book: &Book) -> Result<Octets, NoMemory>
-    requires { KeepsRules book.now }
+    requires rules { KeepsRules book.now }
+    requires chosen { book.now.name ≡ default_name }
     ensures { IfOk result (λ body. body ≡ slot_bytes generation book.now) }
 {
     let bytes = spell_book(alloc, book)?;
@@ -192,10 +194,11 @@ impl Steady {
         }
     }
 
-    /// The bytes that `fill` writes for this book, and the turn, which no device has touched. A
-    /// store whose generations are used up is Worn, which is tested first.
+    /// The bytes that `fill` writes for this book, in which `default` is chosen, and the turn, which
+    /// no device has touched. A store whose generations are used up is Worn, which is tested first.
     pub fn spell(self, alloc: Global, book: &Book) -> Result<(Steady, Octets), (Steady, StoreFault)>
-        requires { KeepsRules book.now }
+        requires rules { KeepsRules book.now }
+        requires chosen { book.now.name ≡ default_name }
         ensures body { IfOk result (λ spelled. (spelled.0 ≡ self)
             × (spelled.1 ≡ slot_bytes (next_generation self) book.now)) }
         ensures room { IfOk result (λ spelled. length spelled.1 ≤ 8388608) }

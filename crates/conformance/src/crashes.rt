@@ -3,11 +3,11 @@
 //! one of the two: nothing is done meanwhile, so no deed is done before its checkpoint.
 
 use crate::sessions::{
-    FIRST_SAVE, FULL_SLOT, FULL_TO_THE_END, LOGIN, QUIET_LOGIN, Session, put, quiet_world, served,
-    store_of,
+    DISCARD_OF_ANOTHER, DISCARD_OF_ITS_OWN, FIRST_SAVE, FULL_SLOT, FULL_TO_THE_END, LOGIN,
+    NEW_SESSION, OLD_LOGIN, QUIET_LOGIN, Session, put, quiet_world, served, store_of,
 };
 use crate::shown::{put_effect, put_effects, put_words};
-use checkpoint_records::{Book, Entry};
+use checkpoint_records::{Book, Entry, Named};
 use checkpoint_slots::Steady;
 use owned_lists::{NoMemory, Octets};
 use sm_world::{Choice, Disk, Effect, MemWorld};
@@ -24,11 +24,27 @@ fn put_entry(alloc: Global, out: &mut Octets, entry: &Entry) -> Result<(), Fail>
     Ok(())
 }
 
-/// A book in brackets: its epoch, and by what each client is started again.
+fn put_entries(alloc: Global, out: &mut Octets, entries: &[Entry]) -> Result<(), Fail> {
+    for entry in entries {
+        put_entry(alloc, out, entry)?;
+    }
+    Ok(())
+}
+
+/// The name of another session, and by what each of its clients is started again.
+fn put_other(alloc: Global, out: &mut Octets, session: &Named) -> Result<(), Fail> {
+    out.append(session.name.as_slice())?;
+    out.append(b": ")?;
+    put_entries(alloc, out, session.entries.as_slice())
+}
+
+/// A book in brackets: its epoch, and by what each client is started again, behind those of `default`
+/// with the names of their sessions.
 fn put_book(alloc: Global, out: &mut Octets, book: &Book) -> Result<(), Fail> {
     out.append(&[b'[', b'0' + (book.epoch % 10) as u8, b' '])?;
-    for entry in book.entries.as_slice() {
-        put_entry(alloc, out, entry)?;
+    put_entries(alloc, out, book.entries.as_slice())?;
+    for session in book.others.as_slice() {
+        put_other(alloc, out, session)?;
     }
     out.append(b"] ")?;
     Ok(())
@@ -174,6 +190,8 @@ fn crashes_shown(alloc: Global, session: &Session, choice: Choice) -> Result<Oct
 #[derive(Clone, Copy)]
 struct Want {
     quiet_login: &'static str,
+    old_login: &'static str,
+    new_session: &'static str,
     full_slot: &'static str,
     first_save: &'static str,
     login: &'static str,
@@ -182,9 +200,12 @@ struct Want {
 /// A gate counts as open once it was written.
 const AT_THE_WRITE: Want = Want {
     quiet_login: "[1 ] amend . open [2 ] . ",
+    old_login: "[1 c1 ] close . slot . open [2 c1 ] . start c1 ",
+    new_session: "[1 c1 work: c2 ] amend . open [2 c1 work: c2 ] . 1 reply 1 save \
+        amend . open [2 c1 games: c1 work: c2 ] . 1 complete ",
     full_slot: "[1 ] close . slot . open [2 ] . 1 reply 1 save amend . open [2 c1 ] . 1 complete ",
     first_save: "[0 ] close . slot . open [1 ] . 1 reply 1 save amend . open [1 c1 ] . 1 complete ",
-    login: "[1 c1 c2 c3 c4 c5 c6 ] amend . open [2 c1 c2 c3 c4 c5 c6 ] . \
+    login: "[1 c1 c2 c3 c4 c5 c6 ] close . slot . open [2 c1 c2 c3 c4 c5 c6 ] . \
         start c1 start c2 start c3 start c4 start c5 start c6 \
         1 reply 2 reply 3 reply 4 reply 5 reply 7 reply 7 save \
         amend . open [2 c1 c2 c3 c4 c5 c6 c7 ] . 7 complete \
@@ -196,9 +217,12 @@ const AT_THE_WRITE: Want = Want {
 /// A gate counts as open once it was synced.
 const AT_THE_SYNC: Want = Want {
     quiet_login: "[1 ] amend . open . [2 ] ",
+    old_login: "[1 c1 ] close . slot . open . [2 c1 ] start c1 ",
+    new_session: "[1 c1 work: c2 ] amend . open . [2 c1 work: c2 ] 1 reply 1 save \
+        amend . open . [2 c1 games: c1 work: c2 ] 1 complete ",
     full_slot: "[1 ] close . slot . open . [2 ] 1 reply 1 save amend . open . [2 c1 ] 1 complete ",
     first_save: "[0 ] close . slot . open . [1 ] 1 reply 1 save amend . open . [1 c1 ] 1 complete ",
-    login: "[1 c1 c2 c3 c4 c5 c6 ] amend . open . [2 c1 c2 c3 c4 c5 c6 ] \
+    login: "[1 c1 c2 c3 c4 c5 c6 ] close . slot . open . [2 c1 c2 c3 c4 c5 c6 ] \
         start c1 start c2 start c3 start c4 start c5 start c6 \
         1 reply 2 reply 3 reply 4 reply 5 reply 7 reply 7 save \
         amend . open . [2 c1 c2 c3 c4 c5 c6 c7 ] 7 complete \
@@ -224,21 +248,41 @@ fn expect_crashes(
     want: Want,
 ) -> Result<(), Fail> {
     expect_shown(rt, &QUIET_LOGIN, choice, want.quiet_login)?;
+    expect_shown(rt, &OLD_LOGIN, choice, want.old_login)?;
+    expect_shown(rt, &NEW_SESSION, choice, want.new_session)?;
     expect_shown(rt, &FULL_SLOT, choice, want.full_slot)?;
     expect_shown(rt, &FIRST_SAVE, choice, want.first_save)?;
     expect_shown(rt, &LOGIN, choice, want.login)
 }
 
-#[test]
-fn a_slot_that_is_full_to_its_end_is_written_whole_once(rt: HostRuntime) -> Result<(), Fail> {
-    let world = served(rt.alloc(), &FULL_TO_THE_END)?;
+/// What is done in a session, without the books.
+fn expect_done(
+    rt: &(impl Abort + Alloc<A = Global>),
+    session: &Session,
+    want: &str,
+) -> Result<(), Fail> {
+    let world = served(rt.alloc(), session)?;
     let mut text = Octets::new(rt.alloc());
     put_effects(&mut text, world.effects())?;
-    assert_eq!(rt;
-        str::from_utf8(text.as_slice())?,
-        "close . slot . open . 1 reply 1 save amend . open . 1 complete "
-    );
+    assert_eq!(rt; str::from_utf8(text.as_slice())?, want);
     Ok(())
+}
+
+#[test]
+fn a_slot_that_is_full_to_its_end_is_written_whole_once(rt: HostRuntime) -> Result<(), Fail> {
+    let want = "close . slot . open . 1 reply 1 save amend . open . 1 complete ";
+    expect_done(&rt, &FULL_TO_THE_END, want)
+}
+
+/// What a session discards by that another one has, too, isn't started; what no other has is, and then
+/// the book is written without it.
+#[test]
+fn what_another_session_discards_by_stays(rt: HostRuntime) -> Result<(), Fail> {
+    let kept = "amend . open . start c1 1 reply line 1 save amend . open . 1 complete ";
+    expect_done(&rt, &DISCARD_OF_ANOTHER, kept)?;
+    let gone = "amend . open . start c1 1 reply line 1 save amend . open . 1 complete \
+        start d1 amend . open . ";
+    expect_done(&rt, &DISCARD_OF_ITS_OWN, gone)
 }
 
 #[test]

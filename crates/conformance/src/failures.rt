@@ -3,7 +3,7 @@
 //! that fails changes nothing but that it failed.
 
 use crate::crashes::recovered;
-use crate::sessions::{CONFIG, FIRST_SAVE, LOGIN, Session, TURNS, served, world_of};
+use crate::sessions::{FIRST_SAVE, LOGIN, Session, TURNS, config, served, world_of};
 use crate::shown::{put_effects, put_start};
 use owned_lists::{NoMemory, Octets};
 use session_engine::{ServeFault, serve};
@@ -95,7 +95,7 @@ fn failed(
     around: (&[Effect], &[Effect]),
 ) -> Result<Octets, Fail> {
     let mut world = world_of(alloc, session, number)?;
-    let answer = serve(alloc, &mut world, CONFIG, TURNS);
+    let answer = serve(alloc, &mut world, config(alloc, session)?, TURNS);
     if !stand_around(alloc, around.0, around.1, world.effects())? {
         return Err("something else was done".into());
     }
@@ -231,7 +231,7 @@ fn no_other_call_may_fail(rt: HostRuntime) -> Result<(), Fail> {
 /// written, and with open gates; and what is answered.
 fn books_left(alloc: Global, number: u64) -> Result<Octets, Fail> {
     let mut world = world_of(alloc, &FIRST_SAVE, number)?;
-    let answer = serve(alloc, &mut world, CONFIG, TURNS);
+    let answer = serve(alloc, &mut world, config(alloc, &FIRST_SAVE)?, TURNS);
     let all = world.effects().len();
     let mut text = recovered(alloc, world.crash_file(all, Choice::AsWritten)?)?;
     let opened = recovered(alloc, world.crash_file(all, Choice::Filled(0xa5))?)?;

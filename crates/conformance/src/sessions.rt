@@ -3,8 +3,10 @@
 ghost use Rattle.std.specs.Prelude.{IfOk};
 ghost use Rattle.std.specs.List.{AllByRecursion};
 ghost use Rattle.sm_world.specs.Events.{HasPieceSize};
+ghost use Rattle.checkpoint_records.specs.Rules.{IsName};
 
 use crate::words::{bytes_of, digits_of};
+use checkpoint_records::{default_name, is_name};
 use event_script::{ScriptFault, Taken, read_script};
 use owned_lists::{NoMemory, NumberList, Octets};
 use session_engine::{Config, serve};
@@ -13,11 +15,28 @@ use sm_world::{EventList, MemWorld};
 use std::alloc::Global;
 use std::test::Fail;
 
-/// The cookie that the names know, and no end of patience.
-pub const CONFIG: Config = Config {
-    cookie: REHEARSAL_COOKIE,
-    patience: 0,
-};
+/// The name of a session, which is `default` where none is said.
+fn name_of(alloc: Global, name: &str) -> Result<Octets, NoMemory>
+    ensures { IfOk result IsName }
+{
+    if is_name(name.as_bytes()) {
+        Octets::from_slice(alloc, name.as_bytes())
+    } else {
+        default_name(alloc)
+    }
+}
+
+/// The cookie that the names know, no end of patience, and the name of a session.
+pub fn config(alloc: Global, session: &Session) -> Result<Config, NoMemory>
+    ensures { IfOk result (λ config. IsName config.session) }
+{
+    let name = name_of(alloc, session.name)?;
+    Ok(Config {
+        cookie: REHEARSAL_COOKIE,
+        patience: 0,
+        session: name,
+    })
+}
 
 /// More events than any of these sessions has.
 pub const TURNS: u64 = 99;
@@ -25,6 +44,8 @@ pub const TURNS: u64 = 99;
 /// A session over a store.
 #[derive(Clone, Copy)]
 pub struct Session {
+    /// What it is called; nothing for `default`.
+    pub name: &'static str,
     /// The book of the first slot, of the first generation, in words; a blank store has none.
     pub book: &'static str,
     /// How many bytes of changes stand behind the book, in one amendment that changes nothing.
@@ -42,6 +63,7 @@ piece 1: ORDER CONNECT PROOF PROTOCOL PROOF REGISTER SET RESTART 310000 SAVED";
 
 /// It does so over a blank store.
 pub const FIRST_SAVE: Session = Session {
+    name: "",
     book: "",
     changes: 0,
     events: SAVES_FIRST,
@@ -51,6 +73,7 @@ pub const FIRST_SAVE: Session = Session {
 /// Five of six clients come back, of which the fifth is never to be started again. A new one saves,
 /// and then all do for the last time. The sixth has the hint Anyway and the ShutdownCommand `s6`.
 pub const LOGIN: Session = Session {
+    name: "",
     book: "01000000 01000000 06000000 00000000 \
         ID 31 ID_END 0100000000000000 RESTART 310000 \
         ID 32 ID_END 0100000000000000 RESTART 320000 \
@@ -98,18 +121,71 @@ piece 7: CLOSE",
 };
 
 /// A book without entries, of sixteen bytes.
-const EMPTY_BOOK: &str = "01000000 01000000 00000000 00000000";
+const EMPTY_BOOK: &str = "02000000 01000000 00000000 00000000";
 
 /// A login over a book without entries, at which nobody joins.
 pub const QUIET_LOGIN: Session = Session {
+    name: "",
     book: EMPTY_BOOK,
     changes: 0,
     events: "",
     reads: 6,
 };
 
+/// The same over one as it was written before sessions had names, with a client and a change behind it.
+pub const OLD_LOGIN: Session = Session {
+    name: "",
+    book: "01000000 01000000 01000000 00000000 ID 31 ID_END 0100000000000000 RESTART 310000",
+    changes: 8,
+    events: "",
+    reads: 6,
+};
+
+/// Two sessions whose clients have the same DiscardCommand.
+const SHARED_DISCARD: &str = "02000000 01000000 02000000 00000000 \
+    DEFAULT 0100000000000000 ID 31 ID_END 0200000000000000 RESTART 310000 DISCARD 310000 \
+    WORK 0100000000000000 ID 32 ID_END 0200000000000000 RESTART 320000 DISCARD 310000";
+
+/// A client comes back, says how else its state is discarded, and saves.
+const DISCARDS_OTHERWISE: &str = "\
+join 1
+piece 1: ORDER CONNECT PROOF PROTOCOL PROOF
+piece 1: RETURN ID 31 ID_END
+piece 1: SET DISCARD 320000
+order checkpoint
+piece 1: SAVED";
+
+/// What it discarded by before is what another session discards by: that isn't started.
+pub const DISCARD_OF_ANOTHER: Session = Session {
+    name: "default",
+    book: SHARED_DISCARD,
+    changes: 0,
+    events: DISCARDS_OTHERWISE,
+    reads: 6,
+};
+
+/// Where no other session has it, it is.
+pub const DISCARD_OF_ITS_OWN: Session = Session {
+    name: "",
+    book: "02000000 01000000 01000000 00000000 \
+        DEFAULT 0100000000000000 ID 31 ID_END 0200000000000000 RESTART 310000 DISCARD 310000",
+    changes: 0,
+    events: DISCARDS_OTHERWISE,
+    reads: 6,
+};
+
+/// A client of a session that is new joins and saves beside two others.
+pub const NEW_SESSION: Session = Session {
+    name: "games",
+    book: SHARED_DISCARD,
+    changes: 0,
+    events: SAVES_FIRST,
+    reads: 6,
+};
+
 /// A client joins and saves over a slot that has room for one gate and no more.
 pub const FULL_SLOT: Session = Session {
+    name: "",
     book: EMPTY_BOOK,
     changes: 8_388_560,
     events: SAVES_FIRST,
@@ -118,6 +194,7 @@ pub const FULL_SLOT: Session = Session {
 
 /// The same, where the changes reach the end of the slot.
 pub const FULL_TO_THE_END: Session = Session {
+    name: "",
     book: EMPTY_BOOK,
     changes: 8_388_568,
     events: SAVES_FIRST,
@@ -218,6 +295,6 @@ pub fn world_of(alloc: Global, session: &Session, failing: u64) -> Result<MemWor
 /// A world in which a session has happened.
 pub fn served(alloc: Global, session: &Session) -> Result<MemWorld, Fail> {
     let mut world = world_of(alloc, session, 0)?;
-    serve(alloc, &mut world, CONFIG, TURNS)?;
+    serve(alloc, &mut world, config(alloc, session)?, TURNS)?;
     Ok(world)
 }

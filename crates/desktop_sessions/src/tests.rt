@@ -1,6 +1,6 @@
 use desktop_world::{DesktopWorld, host_name};
 use ice_cookie::Cookie;
-use session_engine::{Config, ServeFault, serve};
+use session_engine::{ServeFault, config_of_default, serve};
 use sm_world::{Disk, Failure, Links};
 use std::io::{ErrorKind, Read, Write};
 use std::os::unix::net::UnixStream;
@@ -77,10 +77,7 @@ fn run(rt: HostRuntime, room: &Room) -> io::Result<Option<ServeFault>> {
     if open(&mut world, room).is_err() {
         return Err(io::Error::from(ErrorKind::AddrInUse));
     }
-    let config = Config {
-        cookie: Cookie([7; 16]),
-        patience: PATIENCE,
-    };
+    let config = config_of_default(rt.alloc(), Cookie([7; 16]), PATIENCE)?;
     let ended = serve(rt.alloc(), &mut world, config, u64::MAX);
     world.close();
     Ok(ended.err())

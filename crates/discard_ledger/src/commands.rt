@@ -1,30 +1,15 @@
 ghost use Rattle.std.specs.Prelude.{◌≡◌, ◌++◌, IfOk, OnOk};
-ghost use Rattle.checkpoint_records.specs.Books.{discards};
 ghost use Rattle.discard_ledger.specs.Discards.{is_among as stands_in, with_commands, without_commands, each_once as all_once};
 
-use checkpoint_records::{Entry, same_command};
+use checkpoint_records::same_command;
 use owned_lists::{Command, CommandList, Duplicate, NoMemory};
 use std::alloc::Global;
-use xsmp_properties::command_of;
 
 /// Whether the same command is in the list.
 pub(crate) fn is_among(command: &Command, commands: &[Command]) -> bool
     ensures { result ≡ stands_in command.now commands.now }
 {
     commands.iter().any(|other| same_command(command, other))
-}
-
-/// The DiscardCommands of these entries, in order.
-pub(crate) fn discards_of(alloc: Global, entries: &[Entry]) -> Result<CommandList, NoMemory>
-    ensures { IfOk result (λ commands. commands ≡ discards entries.now) }
-{
-    let mut commands = CommandList::new(alloc);
-    for entry in entries {
-        if let Some(command) = command_of(alloc, &entry.table, b"DiscardCommand")? {
-            commands.push(command)?;
-        }
-    }
-    Ok(commands)
 }
 
 /// Adds copies of those commands that aren't gone and don't stand in the list yet.

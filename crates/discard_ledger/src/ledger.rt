@@ -1,8 +1,9 @@
 ghost use Rattle.std.specs.Prelude.{◌≡◌, ◌||◌, [], IfOk, OnOk, OnErr};
+ghost use Rattle.checkpoint_records.specs.Books.{all_entries};
 ghost use Rattle.discard_ledger.specs.Discards.{next_pending, with_stray, is_among as stands_in, issuable as may_run, without_commands};
 
-use crate::commands::{copy_without, discards_of, each_once, is_among};
-use checkpoint_records::{Book, names};
+use crate::commands::{copy_without, each_once, is_among};
+use checkpoint_records::{Book, all_discards, discards_of, names};
 use owned_lists::{Command, CommandList, NoMemory};
 use std::alloc::Global;
 use std::marker::Model;
@@ -59,11 +60,12 @@ impl Ledger {
     }
 
     /// Makes the pending list the one of a new book: what was pending, then the DiscardCommands
-    /// of the old book's entries, then the strays, each once, and without what the new book names.
+    /// of the old book's chosen entries, then the strays, each once, and without what the new book
+    /// names, in whichever session.
     /// There are no strays then. A refused call changes nothing.
     pub fn retire(&mut self, old: &Book, new: &Book) -> Result<(), NoMemory>
         ensures pending { OnOk result (self.new.pending
-            ≡ next_pending self.old.pending old.now.entries self.old.strays new.now.entries) }
+            ≡ next_pending self.old.pending old.now.entries self.old.strays (all_entries new.now)) }
         ensures strays { OnOk result (self.new.strays ≡ []) }
         ensures err { OnErr result (self.new ≡ self.old) }
     {
@@ -109,11 +111,11 @@ impl Ledger {
 
     fn next_pending(&self, old: &Book, new: &Book) -> Result<CommandList, NoMemory>
         ensures { IfOk result (λ commands. commands
-            ≡ next_pending self.now.pending old.now.entries self.now.strays new.now.entries) }
+            ≡ next_pending self.now.pending old.now.entries self.now.strays (all_entries new.now)) }
     {
         let alloc = *self.strays.allocator();
         let discards = discards_of(alloc, old.entries.as_slice())?;
-        let named = discards_of(alloc, new.entries.as_slice())?;
+        let named = all_discards(alloc, new)?;
         let kept = self.pending.as_slice();
         let told = discards.as_slice();
         each_once(alloc, kept, told, &self.strays, named.as_slice())

@@ -26,7 +26,6 @@ use Rattle.session_model.proofs.Level.{Good}
 use Rattle.session_model.proofs.Lists.{Once}
 use Rattle.session_model.proofs.Ruled.{and-left, and-right, any-in, closing, conns-rows, denied, differ, nobody-level, others, round_now, rows_now, wanted-alone}
 use Rattle.session_model.proofs.Sound.{is_wanted_alone}
-use Rattle.session_model.specs.Waits.{is_only}
 use Rattle.end_agreement.specs.Sides.{is_at_work, may_begin_two, may_complete, may_die, may_give, may_save}
 use Rattle.session_model.proofs.Whole.{once-for}
 use Rattle.end_schedules.proofs.Steady.{AllNeed, Needs, NeedsGiven, Steady}

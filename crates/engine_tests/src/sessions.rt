@@ -1,10 +1,12 @@
 ghost use Rattle.std.specs.Prelude.{◌≡◌, IfOk, ◌≤◌, length};
 ghost use Rattle.std.specs.List.{AllByRecursion};
 ghost use Rattle.sm_world.specs.Events.{HasPieceSize};
+ghost use Rattle.checkpoint_records.specs.Rules.{IsName};
 
+use checkpoint_records::is_name;
 use ice_cookie::Cookie;
 use owned_lists::{NoMemory, Octets};
-use session_engine::{Config, ServeFault, at_most_64_live, serve};
+use session_engine::{Config, ServeFault, at_most_64_live, config_of_default, serve};
 use sm_world::{Effect, Event, EventList, Order, SteadyWorld};
 use std::alloc::Global;
 use std::fmt::Write;
@@ -12,10 +14,26 @@ use std::process::Abort;
 use std::test::Fail;
 
 /// A cookie, and no end of patience.
-pub const CONFIG: Config = Config {
-    cookie: Cookie([7; 16]),
-    patience: 0,
-};
+pub fn config(alloc: Global) -> Result<Config, NoMemory>
+    ensures { IfOk result (λ config. IsName config.session) }
+{
+    config_of_default(alloc, Cookie([7; 16]), 0)
+}
+
+/// The same for a session of this name, or for `default` where it is none.
+pub fn config_called(alloc: Global, name: &[u8]) -> Result<Config, NoMemory>
+    ensures { IfOk result (λ config. IsName config.session) }
+{
+    if !is_name(name) {
+        return config(alloc);
+    }
+    let session = Octets::from_slice(alloc, name)?;
+    Ok(Config {
+        cookie: Cookie([7; 16]),
+        patience: 0,
+        session,
+    })
+}
 
 /// How many bytes a store has.
 const STORE_LEN: usize = 16_777_280;
@@ -116,14 +134,16 @@ fn expect_served(
     requires { AllByRecursion HasPieceSize events }
 {
     let mut world = steady_world(rt.alloc(), events)?;
-    assert_eq!(rt; serve(rt.alloc(), &mut world, CONFIG, 40), Ok(()));
+    let config = config(rt.alloc())?;
+    assert_eq!(rt; serve(rt.alloc(), &mut world, config, 40), Ok(()));
     expect_done(rt, world.effects(), want)
 }
 
 /// Serves until the turns are spent.
 fn expect_spent(rt: &(impl Abort + Alloc<A = Global>), turns: u64, want: &str) -> Result<(), Fail> {
     let mut world = steady_world(rt.alloc(), at_once(rt.alloc(), &CLIENT)?)?;
-    let served = serve(rt.alloc(), &mut world, CONFIG, turns);
+    let config = config(rt.alloc())?;
+    let served = serve(rt.alloc(), &mut world, config, turns);
     assert_eq!(rt; served, Err(ServeFault::Spent));
     expect_done(rt, world.effects(), want)
 }
@@ -159,7 +179,7 @@ fn what_follows_a_wrong_first_frame_is_dropped(rt: HostRuntime) -> Result<(), Fa
 
 #[test]
 fn turns_are_spent(rt: HostRuntime) -> Result<(), Fail> {
-    at_most_64_live(CONFIG);
+    at_most_64_live(config(rt.alloc())?);
     expect_spent(&rt, 0, "")?;
     expect_spent(&rt, 1, ORDER_SENT)?;
     expect_spent(&rt, 2, PING_ANSWERED)

@@ -3,7 +3,7 @@ ghost use Rattle.std.specs.Prelude.{IfOk};
 ghost use Rattle.std.specs.List.{AllByRecursion};
 ghost use Rattle.sm_world.specs.Events.{HasPieceSize};
 
-use crate::sessions::{CONFIG, at_once, blank_store};
+use crate::sessions::{at_once, blank_store, config, config_called};
 use owned_lists::{NoMemory, NumberList, Octets};
 use session_engine::{ServeFault, Session, Stepped, serve};
 use sm_world::{Effect, Event, EventList, MemWorld, PIECE_LIMIT};
@@ -80,9 +80,9 @@ const FIRST: &[u8] = &[1, 0, 0, 0, 0, 0, 0, 0];
 const LAST: &[u8] = &[0xff; 8];
 
 /// Books without entries, of the epoch 1 and of the last one.
-const EMPTY_BOOK: &[u8] = &[1, 0, 0, 0, 1, 0, 0, 0, 0, 0, 0, 0, 0, 0, 0, 0];
+const EMPTY_BOOK: &[u8] = &[2, 0, 0, 0, 1, 0, 0, 0, 0, 0, 0, 0, 0, 0, 0, 0];
 
-const LAST_BOOK: &[u8] = &[1, 0, 0, 0, 0xff, 0xff, 0xff, 0xff, 0, 0, 0, 0, 0, 0, 0, 0];
+const LAST_BOOK: &[u8] = &[2, 0, 0, 0, 0xff, 0xff, 0xff, 0xff, 0, 0, 0, 0, 0, 0, 0, 0];
 
 /// Puts bytes at a place of the store, where there is room for them.
 fn put(store: &mut Octets, at: usize, bytes: &[u8]) {
@@ -101,9 +101,15 @@ fn store_of(alloc: Global, generation: &[u8], book: &[u8]) -> Result<Octets, NoM
     Ok(store)
 }
 
-/// The head of a book of epoch 1 with so many entries.
-fn begin_book(alloc: Global, count: u8) -> Result<Octets, NoMemory> {
-    Octets::from_slice(alloc, &[1, 0, 0, 0, 1, 0, 0, 0, count, 0, 0, 0, 0, 0, 0, 0])
+/// An empty book of epoch 1 in the format of before sessions had names.
+const OLD_BOOK: &[u8] = &[1, 0, 0, 0, 1, 0, 0, 0, 0, 0, 0, 0, 0, 0, 0, 0];
+
+/// The head of a book of epoch 1 with eight sessions.
+const EIGHT_SESSIONS: &[u8] = &[2, 0, 0, 0, 1, 0, 0, 0, 8, 0, 0, 0, 0, 0, 0, 0];
+
+/// Appends the head of a session with this letter as its name and so many entries.
+fn put_head(book: &mut Octets, letter: u8, count: u8) -> Result<(), NoMemory> {
+    book.append(&[1, 0, 0, 0, letter, 0, 0, 0, count, 0, 0, 0, 0, 0, 0, 0])
 }
 
 /// Appends an entry of the ID of this number, without properties.
@@ -114,11 +120,14 @@ fn put_entry(book: &mut Octets, number: u8) -> Result<(), NoMemory> {
     book.append(&[0; 8])
 }
 
-/// As many entries as there can be, each without properties.
-fn all_entries(alloc: Global) -> Result<Octets, NoMemory> {
-    let mut book = begin_book(alloc, 128)?;
-    for number in 1..129 {
-        put_entry(&mut book, number)?;
+/// The sessions `a` to `h` with so many entries each, which have no properties.
+fn eight_sessions(alloc: Global, each: u8) -> Result<Octets, NoMemory> {
+    let mut book = Octets::from_slice(alloc, EIGHT_SESSIONS)?;
+    for place in 0..8u8 {
+        put_head(&mut book, b'a' + place, each)?;
+        for number in 0..each {
+            put_entry(&mut book, (place * 16).saturating_add(number))?;
+        }
     }
     Ok(book)
 }
@@ -146,19 +155,37 @@ fn quiet(alloc: Global, store: Octets) -> Result<MemWorld, NoMemory> {
 /// What opens a blank store, and then the end of the events.
 const OPENING: &str = "Wrote(0, Octets { bytes: [0] }) Synced \
     Wrote(64, Octets { bytes: [1, 0, 0, 0, 0, 0, 0, 0, 16, 0, 0, 0, 0, 0, 0, 0, \
-    1, 0, 0, 0, 1, 0, 0, 0, 0, 0, 0, 0, 0, 0, 0, 0, 0, 0, 0, 0, 0, 0, 0, 0] }) Synced \
+    2, 0, 0, 0, 1, 0, 0, 0, 0, 0, 0, 0, 0, 0, 0, 0, 0, 0, 0, 0, 0, 0, 0, 0] }) Synced \
     Wrote(0, Octets { bytes: [165] }) Synced Heard(End) ";
 
-#[test]
-fn a_blank_store_is_opened_before_anything_is_heard(rt: HostRuntime) -> Result<(), Fail> {
-    let mut world = quiet(rt.alloc(), blank_store(rt.alloc())?)?;
-    assert_eq!(rt; serve(rt.alloc(), &mut world, CONFIG, 99), Ok(()));
+/// What opens a store of before sessions had names: its book is written anew, into the other slot.
+const TAKEN_OVER: &str = "Wrote(32, Octets { bytes: [0] }) Synced \
+    Wrote(8388672, Octets { bytes: [2, 0, 0, 0, 0, 0, 0, 0, 16, 0, 0, 0, 0, 0, 0, 0, \
+    2, 0, 0, 0, 2, 0, 0, 0, 0, 0, 0, 0, 0, 0, 0, 0, 0, 0, 0, 0, 0, 0, 0, 0] }) Synced \
+    Wrote(32, Octets { bytes: [165] }) Synced Heard(End) ";
+
+/// Expects that a session over this store does this, and no more.
+fn expect_opened(
+    rt: &(impl Abort + Alloc<A = Global>),
+    store: Octets,
+    want: &str,
+) -> Result<(), Fail> {
+    let mut world = quiet(rt.alloc(), store)?;
+    let config = config(rt.alloc())?;
+    assert_eq!(rt; serve(rt.alloc(), &mut world, config, 99), Ok(()));
     let mut text = String::new(rt.alloc());
     for effect in world.effects() {
         write!(text, "{effect:?} ")?;
     }
-    assert_eq!(rt; text.as_str(), OPENING);
+    assert_eq!(rt; text.as_str(), want);
     Ok(())
+}
+
+#[test]
+fn a_store_is_opened_before_anything_is_heard(rt: HostRuntime) -> Result<(), Fail> {
+    expect_opened(&rt, blank_store(rt.alloc())?, OPENING)?;
+    let old = store_of(rt.alloc(), FIRST, OLD_BOOK)?;
+    expect_opened(&rt, old, TAKEN_OVER)
 }
 
 // Stores that aren't blank
@@ -170,7 +197,8 @@ fn expect_refused(
     fault: ServeFault,
 ) -> Result<(), Fail> {
     let mut world = quiet(rt.alloc(), store)?;
-    assert_eq!(rt; serve(rt.alloc(), &mut world, CONFIG, 99), Err(fault));
+    let config = config(rt.alloc())?;
+    assert_eq!(rt; serve(rt.alloc(), &mut world, config, 99), Err(fault));
     assert_eq!(rt; world.effects().len(), 0);
     Ok(())
 }
@@ -184,7 +212,9 @@ fn a_store_that_cannot_be_opened_is_left_as_it_is(rt: HostRuntime) -> Result<(),
     let last_generation = store_of(alloc, LAST, EMPTY_BOOK)?;
     expect_refused(&rt, last_generation, ServeFault::Worn)?;
     let last_epoch = store_of(alloc, FIRST, LAST_BOOK)?;
-    expect_refused(&rt, last_epoch, ServeFault::Worn)
+    expect_refused(&rt, last_epoch, ServeFault::Worn)?;
+    let eight = store_of(alloc, FIRST, eight_sessions(alloc, 1)?.as_slice())?;
+    expect_refused(&rt, eight, ServeFault::TooManySessions)
 }
 
 /// The last message that was sent.
@@ -206,9 +236,12 @@ const NO_ROOM: &[u8] =
 #[test]
 fn a_full_book_takes_no_new_client(rt: HostRuntime) -> Result<(), Fail> {
     let alloc = rt.alloc();
-    let store = store_of(alloc, FIRST, all_entries(alloc)?.as_slice())?;
+    let store = store_of(alloc, FIRST, eight_sessions(alloc, 16)?.as_slice())?;
     let mut world = world_of(alloc, registering(alloc)?, store)?;
-    assert_eq!(rt; serve(alloc, &mut world, CONFIG, 99), Ok(()));
+    assert_eq!(rt;
+        serve(alloc, &mut world, config_called(alloc, b"h")?, 99),
+        Ok(())
+    );
     assert_eq!(rt; last_sent(&world), Some(NO_ROOM));
     Ok(())
 }
@@ -217,7 +250,11 @@ fn a_full_book_takes_no_new_client(rt: HostRuntime) -> Result<(), Fail> {
 
 /// What a session over the world's store is after somebody joined and this event came.
 fn stepped(alloc: Global, world: &mut MemWorld, event: Event) -> Result<Stepped, ServeFault> {
-    let session = match Session::start(alloc, world, CONFIG) {
+    let config = match config(alloc) {
+        Ok(config) => config,
+        Err(NoMemory) => return Err(ServeFault::NoMemory),
+    };
+    let session = match Session::start(alloc, world, config) {
         Ok(session) => session,
         Err(fault) => return Err(fault),
     };

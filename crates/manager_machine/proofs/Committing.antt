@@ -1,13 +1,17 @@
 -- Books that are written, and commands that are tried before one is.
-use Rattle.std.proofs.Common.{◌≡◌, refl, ◌<◌, length, arith, List, [], ◌∷◌, ◌++◌, ap, sym, ◌∙◌, map-id}
+use Rattle.std.proofs.Common.{◌≡◌, refl, ◌<◌, length, arith, List, Option, None, Some, [], ◌∷◌, ◌++◌, codes, ap, sym, ◌∙◌, map-id}
 use Rattle.owned_lists.specs.declared.commands.Command.{Command}
 use Rattle.checkpoint_records.specs.declared.records.Book.{Book}
 use Rattle.discard_ledger.specs.Discards.{without_commands}
 use Rattle.session_model.specs.declared.events.Act.TheVariants.{Commit}
 use Rattle.restart_plan.specs.Restarts.{opening_restarts}
-use Rattle.session_model.specs.Books.{issue, opening_moves, raised}
-use Rattle.session_model.specs.Moves.{Committed, Discard, Move, Restart, tried_each}
-use Rattle.session_state.specs.Session.{Session, moved, moved_all}
+use Rattle.session_model.specs.Books.{issue, opening_moves, raised, with_entries}
+use Rattle.session_model.specs.Moves.{Committed, Discard, Move, Printed, Restart, tried_each}
+use Rattle.session_model.specs.Replies.{resigned}
+use Rattle.session_state.specs.Session.{Session, moved, moved_all, reading_in}
+use Rattle.manager_machine.specs.Agreeing.{discarding}
+use Rattle.manager_machine.specs.Answers.{forget_moves}
+use Rattle.manager_machine.specs.declared.replies.Forgetting.{Forgetting}
 
 pub committed-by : (book told : Book) (strays : List Command) (s : Session) → told ≡ book → strays ≡ [] → record s { book = book; strays = strays; acts = s.acts ++ Commit told ∷ [] } ≡ moved (Committed book) s
 committed-by book told strays s e k = λ i. record s { clients = record { rows = sym (map-id s.clients.rows) i; registered = s.clients.registered }; book = book; strays = k i; acts = s.acts ++ Commit (e i) ∷ [] }
@@ -33,3 +37,23 @@ begun-by s t u v book pending restarts b p r e f g =
     ∙ (λ i. moved_all (tried_each Restart (r i)) (f i))
     ∙ (λ i. moved_all (tried_each Restart (opening_restarts s.book.entries)) (moved_all (issue (first i).book (p i)) (first i)))
     ∙ sym (all-append (issue (raised s.book) s.book.pending) (tried_each Restart (opening_restarts s.book.entries)) (moved (Committed (raised s.book)) s))
+
+-- a client is forgotten, and then the commands that its book has pending are tried
+
+resigned-keeps : (standing : List Command) (resign : Option Command) (book : Book) (s : Session) → s.book ≡ book → moved_all (discarding standing (moved_all (resigned resign) s).book) (moved_all (resigned resign) s) ≡ moved_all (resigned resign ++ discarding standing book) s
+resigned-keeps standing resign book s e =
+    same resign ∙ ap (λ (b : Book). moved_all (discarding standing b) (moved_all (resigned resign) s)) e ∙ sym (all-append (resigned resign) (discarding standing book) s)
+  where
+    same : (o : Option Command) → moved_all (discarding standing (moved_all (resigned o) s).book) (moved_all (resigned o) s) ≡ moved_all (discarding standing s.book) (moved_all (resigned o) s)
+    same None = refl
+    same (Some command) = refl
+
+pub forgotten-by : (plan : Forgetting) (s t u v w : Session) → t ≡ moved (Printed (codes "ok")) s → u ≡ moved (Committed (with_entries (reading_in t).store plan.entries)) t → v ≡ moved_all (resigned plan.resign) u → w ≡ moved_all (discarding plan.standing v.book) v
+    → w ≡ moved_all (forget_moves plan (with_entries (reading_in s).store plan.entries)) s
+forgotten-by plan s t u v w printed committed resigns discards =
+    let book : Book = with_entries (reading_in s).store plan.entries in
+    let written : Session = moved (Committed book) (moved (Printed (codes "ok")) s) in
+    let is_written : u ≡ written = committed ∙ ap (λ (x : Session). moved (Committed (with_entries (reading_in x).store plan.entries)) x) printed in
+    discards
+    ∙ ap (λ (x : Session). moved_all (discarding plan.standing x.book) x) (resigns ∙ ap (λ (x : Session). moved_all (resigned plan.resign) x) is_written)
+    ∙ resigned-keeps plan.standing plan.resign book written refl

@@ -1,5 +1,5 @@
 -- What is done in a run fits: messages and Errors into a frame, and books into the store.
-use Rattle.std.proofs.Common.{◌≡◌, ◌<◌, List, [], ◌∷◌, ◌++◌, arith, subst, sym}
+use Rattle.std.proofs.Common.{◌≡◌, ◌<◌, ◌≤◌, length, List, [], ◌∷◌, ◌++◌, arith, subst, sym}
 use Rattle.checkpoint_records.specs.Rules.{KeepsRules}
 use Rattle.session_model.specs.declared.events.Act.{Act}
 use Rattle.session_model.specs.declared.events.SessionEvent.{SessionEvent}
@@ -27,7 +27,7 @@ each-fit (m ▷ h) a b = all-append IsFit (all_acts h) (acts_of m) (each-fit h a
 pub fit-made : (h : History) → IsMade h → AreFit (all_acts h)
 fit-made h m =
     each-fit h (subst (λ (g : History). EachMove IsShort g) (sym m.is) (messages-fit m.opening m.events m.rules))
-    (subst (λ (g : History). EachMove IsWritten g) (sym m.is) (books-keep m.opening m.events m.rules m.below m.takes))
+    (subst (λ (g : History). EachMove IsWritten g) (sym m.is) (books-keep m.opening m.events m.rules m.few m.below m.takes))
 
 fit-end : (xs ys : List Act) → AreFit (xs ++ ys) → AreFit ys
 fit-end [] ys a = a
@@ -38,5 +38,5 @@ pub fit-taken : (event : SessionEvent) (acts : List Act) (h : History) → IsMad
 fit-taken event acts h m t e = fit-end (all_acts h) acts (subst (λ (xs : List Act). AreFit xs) e (fit-made (taken event h) (made-taken event h m t)))
 
 -- what is done at the start
-pub fit-opened : (opening : Opening) (acts : List Act) → KeepsRules opening.book → opening.book.epoch < 4294967295 → acts ≡ all_acts (opened opening) → AreFit acts
-fit-opened opening acts k l e = subst (λ (xs : List Act). AreFit xs) (sym e) (fit-made (opened opening) (made-opened opening k l))
+pub fit-opened : (opening : Opening) (acts : List Act) → KeepsRules opening.book → length opening.book.others ≤ 7 → opening.book.epoch < 4294967295 → acts ≡ all_acts (opened opening) → AreFit acts
+fit-opened opening acts k f l e = subst (λ (xs : List Act). AreFit xs) (sym e) (fit-made (opened opening) (made-opened opening k f l))

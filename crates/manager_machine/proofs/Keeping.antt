@@ -1,6 +1,6 @@
 -- A session that is of a run goes on being of one: it is in order while it answers and settles, and stands for the history after
 -- the event.
-use Rattle.std.proofs.Common.{◌≡◌, refl, ◌<◌, false, List, [], ◌∷◌, ◌++◌, ap, subst, sym, ◌∙◌}
+use Rattle.std.proofs.Common.{◌≡◌, refl, ◌<◌, ◌≤◌, length, false, List, [], ◌∷◌, ◌++◌, ap, subst, sym, ◌∙◌}
 use Rattle.std.proofs.Math.Bool.{Bool-set}
 use Rattle.std.proofs.Math.Logic.{∥∥₁_elim, ∥∥₁_map}
 use Rattle.std.specs.Coded.{Coded-set, coded_list, coded_ℕ}
@@ -97,16 +97,16 @@ acts-taken event k acts h f takes e =
 
 -- a book is opened
 
-pub keeper-opened : (opening : Opening) (t : Session) → KeepsRules opening.book → opening.book.epoch < 4294967295 → t ≡ record (opened_in opening) { acts = [] } → StandsFor (record { session = t; stopped = false }) (opened opening)
-keeper-opened opening t k l e = record {
+pub keeper-opened : (opening : Opening) (t : Session) → KeepsRules opening.book → length opening.book.others ≤ 7 → opening.book.epoch < 4294967295 → t ≡ record (opened_in opening) { acts = [] } → StandsFor (record { session = t; stopped = false }) (opened opening)
+keeper-opened opening t k f l e = record {
   running = refl;
-  made = made-opened opening k l;
+  made = made-opened opening k f l;
   stands = subst (λ (x : Session). Stands x (opened opening)) (sym e) (stands-quiet (opened_in opening) (opened opening) (openings-stand opening).0);
 }
 
-pub run-opened : (opening : Opening) (t : Session) → KeepsRules opening.book → opening.book.epoch < 4294967295 → t ≡ record (opened_in opening) { acts = [] } → (t.acts ≡ []) × IsOfRun t
-run-opened opening t k l e =
-    let f : StandsFor (record { session = t; stopped = false }) (opened opening) = keeper-opened opening t k l e in
+pub run-opened : (opening : Opening) (t : Session) → KeepsRules opening.book → length opening.book.others ≤ 7 → opening.book.epoch < 4294967295 → t ≡ record (opened_in opening) { acts = [] } → (t.acts ≡ []) × IsOfRun t
+run-opened opening t k few l e =
+    let f : StandsFor (record { session = t; stopped = false }) (opened opening) = keeper-opened opening t k few l e in
     (ap (λ (x : Session). x.acts) e, ∣ (opened opening, f.made, f.stands) ∣₁)
 
 pub acts-opened : (opening : Opening) (acts : List Act) → acts ≡ (opened_in opening).acts → acts ≡ all_acts (opened opening)

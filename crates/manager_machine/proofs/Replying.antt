@@ -1,7 +1,7 @@
 -- Answers by what they rest on.
 use Rattle.std.proofs.Common.{◌≡◌, ℕ, Bool, true, false, cond, ◌||◌, List, [], ◌∷◌, sym, ap, ◌∙◌, ◌<◌, ◌≤◌, arith}
 use Rattle.std.proofs.lemmas.Bool.Decides.{nat_tests}
-use Rattle.std.specs.Prelude.{Option, nat_le}
+use Rattle.std.specs.Prelude.{Option, min, nat_le}
 use Rattle.ice_values.specs.Fields.{ErrorFields}
 use Rattle.xsmp_messages.specs.declared.message.XsmpMessage.{XsmpMessage}
 use Rattle.session_model.specs.declared.phase.Phase.{Phase}
@@ -29,11 +29,11 @@ at_least n k = grind (arith, nat_tests)
 below : (n : ℕ) → n < 128 → nat_le 128 n ≡ false
 below n k = grind (arith, nat_tests)
 
-pub full-by_ids : (r : Reading) (n : ℕ) → n ≡ known_ids r → 128 ≤ n → nat_le 128 n ≡ has_no_room r
-full-by_ids r n e t = at_least n t ∙ sym (ap (λ (b : Bool). b || nat_le 4294967295 r.run.given) (sym (ap (λ (m : ℕ). nat_le 128 m) e) ∙ at_least n t))
+pub full-by_ids : (r : Reading) (n : ℕ) → n ≡ min (known_ids r) 18446744073709551615 → 128 ≤ n → nat_le 128 n ≡ has_no_room r
+full-by_ids r n e t = at_least n t ∙ sym (ap (λ (b : Bool). b || nat_le 4294967295 r.run.given) (at_least (known_ids r) (omega (arith, e, t))))
 
-pub full-by_number : (r : Reading) (n g : ℕ) → n ≡ known_ids r → g ≡ r.run.given → n < 128 → nat_le 4294967295 g ≡ has_no_room r
-full-by_number r n g e k f = ap (λ (m : ℕ). nat_le 4294967295 m) k ∙ sym (ap (λ (b : Bool). b || nat_le 4294967295 r.run.given) (sym (ap (λ (m : ℕ). nat_le 128 m) e) ∙ below n f))
+pub full-by_number : (r : Reading) (n g : ℕ) → n ≡ min (known_ids r) 18446744073709551615 → g ≡ r.run.given → n < 128 → nat_le 4294967295 g ≡ has_no_room r
+full-by_number r n g e k f = ap (λ (m : ℕ). nat_le 4294967295 m) k ∙ sym (ap (λ (b : Bool). b || nat_le 4294967295 r.run.given) (below (known_ids r) (omega (arith, e, f))))
 
 -- Messages
 

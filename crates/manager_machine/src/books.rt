@@ -37,6 +37,21 @@ impl Core {
         Ok(())
     }
 
+    /// The book with these entries in the chosen session and these pending commands; its epoch, its
+    /// name and the other sessions stay.
+    fn with(&self, entries: SharedEntries, pending: CommandList) -> Result<Book, NoMemory>
+        ensures { IfOk result (λ book. book
+            ≡ record self.now.book { entries = entries; pending = pending }) }
+    {
+        Ok(Book {
+            entries,
+            pending,
+            epoch: self.book.epoch,
+            name: self.book.name.copy()?,
+            others: self.book.others.copy()?,
+        })
+    }
+
     /// The book of these entries, for which the pending commands of the ledger are made anew. A
     /// refused call loses the strays.
     fn next_book(&mut self, entries: EntryList) -> Result<Book, NoMemory>
@@ -47,11 +62,8 @@ impl Core {
         let alloc = *self.acts.allocator();
         let fresh = Ledger::new(alloc, self.book.pending.copy()?);
         let mut ledger = mem::replace(&mut self.ledger, fresh);
-        let mut book = Book {
-            entries: SharedEntries::new(alloc, entries)?,
-            pending: CommandList::new(alloc),
-            epoch: self.book.epoch,
-        };
+        let entries = SharedEntries::new(alloc, entries)?;
+        let mut book = self.with(entries, CommandList::new(alloc))?;
         ledger.retire(&self.book, &book)?;
         book.pending = ledger.pending().copy()?;
         Ok(book)
@@ -63,11 +75,8 @@ impl Core {
             book ≡ record self.now.book
             { pending = without_commands commands.now self.now.book.pending }) }
     {
-        Ok(Book {
-            entries: self.book.entries.copy()?,
-            pending: self.ledger.issuable(commands)?,
-            epoch: self.book.epoch,
-        })
+        let pending = self.ledger.issuable(commands)?;
+        self.with(self.book.entries.copy()?, pending)
     }
 
     /// Writes a book.

@@ -1,4 +1,4 @@
-ghost use Rattle.std.specs.Prelude.{◌≡◌, ◌++◌, ◌<◌, ◌↔◌, true, is_err, Err, IfOk, OnOk};
+ghost use Rattle.std.specs.Prelude.{◌≡◌, ◌++◌, ◌<◌, ◌≤◌, ◌↔◌, true, is_err, length, Err, IfOk, OnOk};
 ghost use Rattle.checkpoint_records.specs.Rules.{KeepsRules};
 ghost use Rattle.interact_queue.specs.Queue.{is_in};
 ghost use Rattle.session_clients.specs.Clients.{conns_in, phase_in};
@@ -45,6 +45,7 @@ impl Manager {
     /// client that is waited for may be silent for `patience` milliseconds; 0 is for ever.
     pub fn begin(alloc: Global, book: Book, patience: u64) -> Result<(Manager, Acts), NoMemory>
         requires rules { KeepsRules book }
+        requires few { length book.others ≤ 7 }
         requires epoch { book.epoch < 4294967295 }
         ensures stands { IfOk result (λ begun.
             StandsFor begun.0 (opened (waits_for patience book))) }

@@ -18,7 +18,7 @@ use Rattle.session_engine.specs.Machine.{Item, Machine}
 use Rattle.session_engine.specs.Session.{IsCut}
 use Rattle.session_engine.specs.declared.config.Config.{Config}
 use Rattle.session_engine.specs.declared.fault.ServeFault.{ServeFault}
-use Rattle.session_engine.specs.declared.fault.ServeFault.TheVariants.{ConsoleFault, Damaged, DiskFault, LinkFault, NoMemory, Spent, Worn, WrongSize}
+use Rattle.session_engine.specs.declared.fault.ServeFault.TheVariants.{ConsoleFault, Damaged, DiskFault, LinkFault, NoMemory, Spent, TooManySessions, Worn, WrongSize}
 use Rattle.session_model.specs.Readings as of
 use Rattle.nested_session.specs.Nesting.{Nested, closed_for, ended_for, ended_said, outcome, outcome_for, sent, tells_end, closes, chain}
 use Rattle.nested_session.specs.Nests.{IsBacked, IsCurrentAt, success}
@@ -85,6 +85,7 @@ module _ (config : Config) (opening : Book) (current : Option Current) (base : O
   cut_ended : (fault : ServeFault) (effects : List Effect) → IsOfOuter fault → Runs config opening current (Ok tt) effects → IsCut config opening current fault effects
   cut_ended (Damaged at) effects of_outer runs = absurd of_outer
   cut_ended (WrongSize size) effects of_outer runs = absurd of_outer
+  cut_ended TooManySessions effects of_outer runs = absurd of_outer
   cut_ended DiskFault effects of_outer runs = absurd of_outer
   cut_ended LinkFault effects of_outer runs = record { runs = links_cut effects runs; in_time = λ e. cc }
   cut_ended ConsoleFault effects of_outer runs = absurd of_outer

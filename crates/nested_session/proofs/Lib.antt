@@ -18,3 +18,4 @@ pub mod OffMoves
 pub mod OffSteps
 pub mod OffNests
 pub mod AwaitedLaws
+pub mod CauseLaws

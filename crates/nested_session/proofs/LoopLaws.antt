@@ -27,7 +27,7 @@ use Rattle.session_engine.specs.Session.{IsCut, StandsFor, Starts}
 use Rattle.session_engine.specs.declared.acts.Act.{Act}
 use Rattle.session_engine.specs.declared.config.Config.{Config}
 use Rattle.session_engine.specs.declared.fault.ServeFault.{ServeFault}
-use Rattle.session_engine.specs.declared.fault.ServeFault.TheVariants.{ConsoleFault, Damaged, DiskFault, LinkFault, NoMemory, Spent, Worn, WrongSize}
+use Rattle.session_engine.specs.declared.fault.ServeFault.TheVariants.{ConsoleFault, Damaged, DiskFault, LinkFault, NoMemory, Spent, TooManySessions, Worn, WrongSize}
 use Rattle.session_engine.specs.declared.session.Session.{Session}
 use Rattle.session_engine.proofs.Sessions.{ok_is_no_fault, runs_over, the_fault}
 use Rattle.nested_session.specs.Nesting.{Nested, Shows, all_taken, begun, chain, nested, opens, sent, taken}
@@ -71,7 +71,7 @@ module _ (config : Config) (turns : ℕ) (agent : Run Keeper) (first : List ℕ)
     pub brought : BroughtSoFar coming left (heard effects)
 
   abbrev pub InLoop : Outside → Outside → ℕ → Nest → Type 0
-  InLoop old now n nest = Opens old now (Holds old.coming now.coming old.told now.told n nest)
+  InLoop old now n nest = Opens config.session old now (Holds old.coming now.coming old.told now.told n nest)
 
   -- The opening
 
@@ -121,8 +121,10 @@ module _ (config : Config) (turns : ℕ) (agent : Run Keeper) (first : List ℕ)
         book = starts.book;
         current = starts.current;
         recovered = starts.recovered;
+        called = starts.called;
         size = sized ∙ starts.size;
         below = starts.below;
+        few = starts.few;
         rules = starts.rules;
         adds = record {
           effects = effects_of all;
@@ -142,6 +144,7 @@ module _ (config : Config) (turns : ℕ) (agent : Run Keeper) (first : List ℕ)
   never_whole : (fault : ServeFault) → fault ≢ Spent → is_whole (Err fault) ≡ true → ⊥
   never_whole (Damaged at) other e = false≢true e
   never_whole (WrongSize size) other e = false≢true e
+  never_whole TooManySessions other e = false≢true e
   never_whole DiskFault other e = false≢true e
   never_whole LinkFault other e = false≢true e
   never_whole ConsoleFault other e = false≢true e
@@ -195,8 +198,10 @@ module _ (config : Config) (turns : ℕ) (agent : Run Keeper) (first : List ℕ)
     book = opened.book;
     current = opened.current;
     recovered = opened.recovered;
+    called = opened.called;
     size = opened.size;
     below = opened.below;
+    few = opened.few;
     rules = opened.rules;
     adds = opening_weaves old new opened.book opened.current fault opened.adds.effects opened.adds.holds.1 opened.adds.added opened.adds.holds.0;
   })
@@ -206,8 +211,10 @@ module _ (config : Config) (turns : ℕ) (agent : Run Keeper) (first : List ℕ)
     book = starts.book;
     current = starts.current;
     recovered = starts.recovered;
+    called = starts.called;
     size = sized ∙ starts.size;
     below = starts.below;
+    few = starts.few;
     rules = starts.rules;
     adds = opening_weaves old new starts.book starts.current fault starts.adds.effects starts.adds.holds.1 (quiet ∙ adds-none mid.told ∙ starts.adds.added)
         (cut_outer config starts.book starts.current old.told [] session fault starts.adds.effects of_outer starts.adds.holds.0);
@@ -246,8 +253,10 @@ module _ (config : Config) (turns : ℕ) (agent : Run Keeper) (first : List ℕ)
         book = held.book;
         current = held.current;
         recovered = held.recovered;
+        called = held.called;
         size = sized;
         below = held.below;
+        few = held.few;
         rules = held.rules;
         adds = record {
           effects = effects_of made.0;
@@ -284,8 +293,10 @@ module _ (config : Config) (turns : ℕ) (agent : Run Keeper) (first : List ℕ)
         book = held.book;
         current = held.current;
         recovered = held.recovered;
+        called = held.called;
         size = sized;
         below = held.below;
+        few = held.few;
         rules = held.rules;
         adds = record {
           effects = effects_of made.0;
@@ -321,8 +332,10 @@ module _ (config : Config) (turns : ℕ) (agent : Run Keeper) (first : List ℕ)
         book = held.book;
         current = held.current;
         recovered = held.recovered;
+        called = held.called;
         size = sized;
         below = held.below;
+        few = held.few;
         rules = held.rules;
         adds = record {
           effects = effects_of made.0;
@@ -346,8 +359,10 @@ module _ (config : Config) (turns : ℕ) (agent : Run Keeper) (first : List ℕ)
         book = held.book;
         current = held.current;
         recovered = held.recovered;
+        called = held.called;
         size = sized ∙ held.size;
         below = held.below;
+        few = held.few;
         rules = held.rules;
         adds = record {
           effects = effects_of at.all;
@@ -368,8 +383,10 @@ module _ (config : Config) (turns : ℕ) (agent : Run Keeper) (first : List ℕ)
         book = held.book;
         current = held.current;
         recovered = held.recovered;
+        called = held.called;
         size = held.size;
         below = held.below;
+        few = held.few;
         rules = held.rules;
         adds = record {
           effects = effects_of at.all;

@@ -11,12 +11,15 @@ use Rattle.sm_world.specs.declared.effects.Effect.TheVariants.{Heard, Sent}
 use Rattle.sm_world.specs.declared.events.Event.{Event}
 use Rattle.sm_world.proofs.Adding.{adds-none}
 use Rattle.heard_events.specs.Brought.{IsPrefix}
+use Rattle.checkpoint_records.specs.Books.{choose}
+use Rattle.checkpoint_records.specs.Rules.{IsName, KeepsRules}
 use Rattle.checkpoint_records.specs.declared.records.Book.{Book}
+use Rattle.checkpoint_records.proofs.ChoiceLaws.{choices_keep_rules}
 use Rattle.checkpoint_slots.specs.Causes.{IsSettled}
 use Rattle.checkpoint_slots.specs.Recovery.{Recovers}
 use Rattle.checkpoint_slots.specs.Turns.{SteadyStands}
 use Rattle.checkpoint_slots.specs.declared.turn.Current.{Current}
-use Rattle.checkpoint_slots.proofs.Leading.{book-rules}
+use Rattle.checkpoint_slots.proofs.Leading.{book-chosen, book-rules}
 use Rattle.checkpoint_slots.proofs.Once.{only-file, recovers-once, settled-stands}
 use Rattle.client_engine.specs.Driving.{Run}
 use Rattle.outer_agent.specs.Script.{Keeper}
@@ -24,12 +27,14 @@ use Rattle.session_engine.specs.Acts.{deeds_in}
 use Rattle.session_engine.specs.Carries.{IsCutShort, IsReady, IsUnopened, KeepsItsWord, Opens, Rests, is_whole, script}
 use Rattle.session_engine.specs.Saved.{IsSaved}
 use Rattle.session_engine.specs.Settled.{Settle}
+use Rattle.session_engine.specs.Standing.{as_stored}
 use Rattle.session_engine.specs.Stops.{Stops, StopsAt}
 use Rattle.session_engine.specs.declared.config.Config.{Config}
 use Rattle.session_engine.specs.declared.fault.ServeFault.{ServeFault}
-use Rattle.session_engine.specs.declared.fault.ServeFault.TheVariants.{ConsoleFault, Damaged, DiskFault, LinkFault, NoMemory, Spent, Worn, WrongSize}
+use Rattle.session_engine.specs.declared.fault.ServeFault.TheVariants.{ConsoleFault, Damaged, DiskFault, LinkFault, NoMemory, Spent, TooManySessions, Worn, WrongSize}
 use Rattle.session_engine.proofs.Performing.{err_map}
 use Rattle.session_engine.proofs.Settling.{is_ready, settle_none}
+use Rattle.session_engine.proofs.Standing.{chosen_stands, stands_chosen}
 use Rattle.nested_session.specs.Nesting.{nested}
 use Rattle.nested_session.specs.Nests.{IsApart, SuccessIsBacked, success}
 use Rattle.nested_session.specs.Promise.{IsOnDisk, NestKeepsItsWord}
@@ -75,7 +80,7 @@ module _ (config : Config) (book : Book) (file : List ℕ) where
     told = told;
   }
 
-  told_by : (current : Option Current) (all : List (Woven Effect)) → SteadyStands current book file [] → SuccessIsBacked config book current all → (front rest : List (Woven Effect)) → front ++ Outer (Sent 0 success) ∷ rest ≡ all → IsOnDisk config book file front
+  told_by : (current : Option Current) (all : List (Woven Effect)) → SteadyStands current (as_stored book) file [] → SuccessIsBacked config book current all → (front rest : List (Woven Effect)) → front ++ Outer (Sent 0 success) ∷ rest ≡ all → IsOnDisk config book file front
   told_by current all stands backed front rest parts =
       let is = backed front rest parts in
       record {
@@ -89,7 +94,7 @@ module _ (config : Config) (book : Book) (file : List ℕ) where
   -- ---- a run that was opened
 
   -- what a run promises of where a fault stopped it, for the file that it began with
-  stopped_by : (current : Option Current) (answer : Result (Unit {0}) ServeFault) (effects : List Effect) → SteadyStands current book file [] → IfErr answer (λ fault. Stops current book (script config book (heard effects)) fault (StopsAt fault) effects)
+  stopped_by : (current : Option Current) (answer : Result (Unit {0}) ServeFault) (effects : List Effect) → SteadyStands current (as_stored book) file [] → IfErr answer (λ fault. Stops current book (script config book (heard effects)) fault (StopsAt fault) effects)
       → IfErr answer (λ fault. IsCutShort config book file fault effects)
   stopped_by current answer effects stands stopped = err_map (λ fault. Stops current book (script config book (heard effects)) fault (StopsAt fault) effects) (λ fault. IsCutShort config book file fault effects) answer (λ fault stops. record {
     front = stops.front;
@@ -120,19 +125,20 @@ module _ (config : Config) (book : Book) (file : List ℕ) where
   never_woven [] it rest e = cc
   never_woven (f ∷ front) it rest e = cc
 
-  unopened_cuts : (outside : Outside) (size : ℕ) (fault : ServeFault) → IsUnopened outside size fault → is_whole (Err fault) ≡ true → ⊥
-  unopened_cuts outside size (Damaged at) cause e = false≢true e
-  unopened_cuts outside size (WrongSize n) cause e = false≢true e
-  unopened_cuts outside size DiskFault cause e = false≢true e
-  unopened_cuts outside size LinkFault cause e = false≢true e
-  unopened_cuts outside size ConsoleFault cause e = false≢true e
-  unopened_cuts outside size Worn cause e = false≢true e
-  unopened_cuts outside size Spent cause e = cause
-  unopened_cuts outside size NoMemory cause e = false≢true e
+  unopened_cuts : (session : List ℕ) (outside : Outside) (size : ℕ) (fault : ServeFault) → IsUnopened session outside size fault → is_whole (Err fault) ≡ true → ⊥
+  unopened_cuts session outside size (Damaged at) cause e = false≢true e
+  unopened_cuts session outside size (WrongSize n) cause e = false≢true e
+  unopened_cuts session outside size TooManySessions cause e = false≢true e
+  unopened_cuts session outside size DiskFault cause e = false≢true e
+  unopened_cuts session outside size LinkFault cause e = false≢true e
+  unopened_cuts session outside size ConsoleFault cause e = false≢true e
+  unopened_cuts session outside size Worn cause e = false≢true e
+  unopened_cuts session outside size Spent cause e = cause
+  unopened_cuts session outside size NoMemory cause e = false≢true e
 
   -- where nothing was done the file is as it was
-  word_unopened : (old new : Outside) (fault : ServeFault) → Recovers file (Ok book) → Rests old new fault → KeepsItsWord config book file (Err fault) []
-  word_unopened old new fault recovers rests = record {
+  word_unopened : (old new : Outside) (fault : ServeFault) → KeepsRules book → book.name ≡ config.session → Recovers file (Ok (as_stored book)) → Rests config.session old new fault → KeepsItsWord config book file (Err fault) []
+  word_unopened old new fault rules called recovers rests = record {
     carries = record {
       on_script = record {
         no_other_deed = λ n. rw (take_none n) (deeds_in (script config book []), refl);
@@ -140,7 +146,7 @@ module _ (config : Config) (book : Book) (file : List ℕ) where
         heard_in_time = λ n event more e. absurd (none_behind n event more e);
         none_published = refl;
       };
-      all_done = λ e. absurd (unopened_cuts old new.size fault rests.cause e);
+      all_done = λ e. absurd (unopened_cuts config.session old new.size fault rests.cause e);
       ended = λ e. absurd (false≢true e);
     };
     keeps = record {
@@ -149,11 +155,11 @@ module _ (config : Config) (book : Book) (file : List ℕ) where
         rest = script config book [];
         parts = refl;
         same = refl;
-        recovers = subst (λ (f : List ℕ). Recovers f (Ok book)) (sym (only-file file left (rw (take_none n) at image))) recovers;
+        recovers = subst (λ (f : List ℕ). Recovers f (Ok (as_stored book))) (sym (only-file file left (rw (take_none n) at image))) recovers;
       });
       none_behind = λ n event more e. absurd (none_behind n event more e);
     };
-    is_current = λ e. absurd (unopened_cuts old new.size fault rests.cause e);
+    is_current = λ e. absurd (unopened_cuts config.session old new.size fault rests.cause e);
     stopped = record {
       front = [];
       rest = script config book [];
@@ -161,9 +167,10 @@ module _ (config : Config) (book : Book) (file : List ℕ) where
       same = refl;
       at = inl refl;
       opens = inr refl;
-      leaves = λ left image. inl (subst (λ (f : List ℕ). Recovers f (Ok book)) (sym (only-file file left image)) recovers);
+      leaves = λ left image. inl (subst (λ (f : List ℕ). Recovers f (Ok (as_stored book))) (sym (only-file file left image)) recovers);
     };
-    rules = book-rules file book recovers;
+    rules = rules;
+    called = called;
   }
 
 ok_book : (one two : Book) → ◌≡◌ {A = Result Book ℕ} (Ok one) (Ok two) → one ≡ two
@@ -175,15 +182,15 @@ module _ (config : Config) (turns : ℕ) (agent : Run Keeper) (first : List ℕ)
   abbrev Words : List ℕ → Book → Result (Unit {0}) ServeFault → Type 0
   Words file book answer = Added old.told new.told (NestKeepsItsWord config book file agent first answer)
 
-  words_unopened : (file : List ℕ) (book : Book) (fault : ServeFault) → Recovers file (Ok book) → Rests old new fault → Words file book (Err fault)
-  words_unopened file book fault recovers rests = record {
+  words_unopened : (file : List ℕ) (book : Book) (fault : ServeFault) → KeepsRules book → book.name ≡ config.session → Recovers file (Ok (as_stored book)) → Rests config.session old new fault → Words file book (Err fault)
+  words_unopened file book fault rules called recovers rests = record {
     effects = [];
     added = rests.told ∙ sym (adds-none old.told);
-    holds = words_of config book file agent first (Err fault) [] tt ((nested config book agent first []).line, refl) (word_unopened config book file old new fault recovers rests) (λ front rest e. absurd (never_woven config book file front (Outer (Sent 0 success)) rest e));
+    holds = words_of config book file agent first (Err fault) [] tt ((nested config book agent first []).line, refl) (word_unopened config book file old new fault rules called recovers rests) (λ front rest e. absurd (never_woven config book file front (Outer (Sent 0 success)) rest e));
   }
 
   -- of the book that was opened
-  words_with : (file : List ℕ) (answer : Result (Unit {0}) ServeFault) (opens : Opens old new (Weaves config turns agent first old answer)) → SteadyStands opens.current opens.book file [] → NestKeepsItsWord config opens.book file agent first answer (effects_of opens.adds.holds.all)
+  words_with : (file : List ℕ) (answer : Result (Unit {0}) ServeFault) (opens : Opens config.session old new (Weaves config turns agent first old answer)) → SteadyStands opens.current (as_stored opens.book) file [] → NestKeepsItsWord config opens.book file agent first answer (effects_of opens.adds.holds.all)
   words_with file answer opens stands =
       let nests = opens.adds.holds.nests in
       words_of config opens.book file agent first answer opens.adds.holds.all nests.apart nests.on_script
@@ -193,24 +200,37 @@ module _ (config : Config) (turns : ℕ) (agent : Run Keeper) (first : List ℕ)
         is_current = λ e left image. nests.inner.is_current e file [] stands left image;
         stopped = stopped_by config opens.book file opens.current answer (all_inner opens.adds.holds.all) stands nests.inner.stopped;
         rules = opens.rules;
+        called = opens.called;
       })
       (told_by config opens.book file opens.current opens.adds.holds.all stands nests.backed)
 
-  words_opened : (file : List ℕ) (book : Book) (answer : Result (Unit {0}) ServeFault) → IsSettled old file → Recovers file (Ok book) → Opens old new (Weaves config turns agent first old answer) → Words file book answer
-  words_opened file book answer settled recovers opens =
+  words_opened : (file : List ℕ) (book : Book) (answer : Result (Unit {0}) ServeFault) → IsSettled old file → Recovers file (Ok (as_stored book)) → choose config.session (as_stored book) ≡ book → Opens config.session old new (Weaves config turns agent first old answer) → Words file book answer
+  words_opened file book answer settled recovers chosen opens =
       let found = opens.recovered file settled in
-      let same : opens.book ≡ book = ok_book opens.book book (recovers-once file (Ok opens.book) (Ok book) found.1.recovers recovers) in
-      let stands : SteadyStands opens.current opens.book file [] = settled-stands opens.current opens.book file found.0 found.1 in
+      let stored : as_stored opens.book ≡ as_stored book = ok_book (as_stored opens.book) (as_stored book) (recovers-once file (Ok (as_stored opens.book)) (Ok (as_stored book)) found.1.recovers recovers) in
+      let same : opens.book ≡ book = sym (stands_chosen config.session opens.book opens.rules opens.called) ∙ (ap (choose config.session) stored ∙ chosen) in
+      let stands : SteadyStands opens.current (as_stored opens.book) file [] = settled-stands opens.current (as_stored opens.book) file found.0 found.1 in
       subst (λ (b : Book). Words file b answer) same (record {
         effects = opens.adds.effects;
         added = opens.adds.added;
         holds = subst (λ (es : List Effect). NestKeepsItsWord config opens.book file agent first answer es) opens.adds.holds.are (words_with file answer opens stands);
       })
 
-  pub nest_keeps_word : (answer : Result (Unit {0}) ServeFault) → Nesting config turns agent first old new answer → (file : List ℕ) (book : Book) → IsSettled old file → Recovers file (Ok book) → Words file book answer
-  nest_keeps_word (Ok x) opens file book settled recovers = words_opened file book (Ok x) settled recovers opens
-  nest_keeps_word (Err fault) (inl rests) file book settled recovers = words_unopened file book fault recovers rests
-  nest_keeps_word (Err fault) (inr opens) file book settled recovers = words_opened file book (Err fault) settled recovers opens
+  words_by : (answer : Result (Unit {0}) ServeFault) → Nesting config turns agent first old new answer → (file : List ℕ) (book : Book) → IsSettled old file → KeepsRules book → book.name ≡ config.session → Recovers file (Ok (as_stored book)) → choose config.session (as_stored book) ≡ book → Words file book answer
+  words_by (Ok x) opens file book settled rules called recovers chosen = words_opened file book (Ok x) settled recovers chosen opens
+  words_by (Err fault) (inl rests) file book settled rules called recovers chosen = words_unopened file book fault rules called recovers rests
+  words_by (Err fault) (inr opens) file book settled rules called recovers chosen = words_opened file book (Err fault) settled recovers chosen opens
+
+  -- of the session that is chosen in what stands in the store
+  pub nest_keeps_word : (answer : Result (Unit {0}) ServeFault) → IsName config.session → Nesting config turns agent first old new answer → (file : List ℕ) (stored : Book) → IsSettled old file → Recovers file (Ok stored) → Words file (choose config.session stored) answer
+  nest_keeps_word answer may nests file stored settled recovers =
+      let rules : KeepsRules stored = book-rules file stored recovers in
+      let stands : as_stored (choose config.session stored) ≡ stored = chosen_stands config.session stored rules (book-chosen file stored recovers) in
+      words_by answer nests file (choose config.session stored) settled
+      (choices_keep_rules config.session stored may rules)
+      refl
+      (subst (λ (b : Book). Recovers file (Ok b)) (sym stands) recovers)
+      (ap (choose config.session) stands)
 
   -- ---- the next run on the same world
 
@@ -226,7 +246,7 @@ module _ (config : Config) (turns : ℕ) (agent : Run Keeper) (first : List ℕ)
   abbrev ReadyAgain : List ℕ → Type 0
   ReadyAgain file = Added old.told new.told (IsReady file new)
 
-  ready_opened : (answer : Result (Unit {0}) ServeFault) (file : List ℕ) → new.first ≡ old.first → IsSettled old file → answer ≢ Err DiskFault → Opens old new (Weaves config turns agent first old answer) → ReadyAgain file
+  ready_opened : (answer : Result (Unit {0}) ServeFault) (file : List ℕ) → new.first ≡ old.first → IsSettled old file → answer ≢ Err DiskFault → Opens config.session old new (Weaves config turns agent first old answer) → ReadyAgain file
   ready_opened answer file same settled able opens =
       let nests = opens.adds.holds.nests in
       let settle : Settle opens.adds.effects = subst (λ (es : List Effect). Settle es) opens.adds.holds.are (settle_woven opens.adds.holds.all nests.apart (nests.inner.settles able)) in

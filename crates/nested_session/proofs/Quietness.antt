@@ -5,7 +5,7 @@ use Rattle.sm_world.specs.declared.failures.Faults.{Faults}
 use Rattle.sm_world.proofs.Adding.{fallen_never}
 use Rattle.session_engine.specs.Causes.{HasCause}
 use Rattle.session_engine.specs.declared.fault.ServeFault.{ServeFault}
-use Rattle.session_engine.specs.declared.fault.ServeFault.TheVariants.{ConsoleFault, Damaged, DiskFault, LinkFault, NoMemory, Spent, Worn, WrongSize}
+use Rattle.session_engine.specs.declared.fault.ServeFault.TheVariants.{ConsoleFault, Damaged, DiskFault, LinkFault, NoMemory, Spent, TooManySessions, Worn, WrongSize}
 use Rattle.nested_session.specs.Standing.{Quiet}
 
 rose_later : (a b c : ℕ) → a ≤ b → Rose b c → Rose a c
@@ -15,6 +15,7 @@ rose_later a b c k (inr most) = inr most
 pub cause_later : (old between new : Faults) (fault : ServeFault) → NotFallen old between → HasCause between new fault → HasCause old new fault
 cause_later old between new (Damaged at) kept cause = tt
 cause_later old between new (WrongSize size) kept cause = tt
+cause_later old between new TooManySessions kept cause = tt
 cause_later old between new DiskFault kept cause = rose_later old.disk between.disk new.disk kept.disk cause
 cause_later old between new LinkFault kept cause = rose_later old.links between.links new.links kept.links cause
 cause_later old between new ConsoleFault kept cause = rose_later old.console between.console new.console kept.console cause

@@ -21,7 +21,7 @@ use Rattle.session_engine.specs.Machine.{Item, Machine, after_all, start}
 use Rattle.session_engine.specs.Session.{IsCut, StandsFor}
 use Rattle.session_engine.specs.declared.config.Config.{Config}
 use Rattle.session_engine.specs.declared.fault.ServeFault.{ServeFault}
-use Rattle.session_engine.specs.declared.fault.ServeFault.TheVariants.{ConsoleFault, Damaged, DiskFault, LinkFault, NoMemory, Spent, Worn, WrongSize}
+use Rattle.session_engine.specs.declared.fault.ServeFault.TheVariants.{ConsoleFault, Damaged, DiskFault, LinkFault, NoMemory, Spent, TooManySessions, Worn, WrongSize}
 use Rattle.session_engine.specs.declared.session.Session.{Session}
 use Rattle.session_engine.specs.Stops.{StopsAt}
 use Rattle.session_engine.specs.Causes.{IsOfRun}
@@ -81,6 +81,7 @@ sent_is b bytes e = sent_both success (b ∷ bytes) e
 pub stops_outer : (fault : ServeFault) → IsOfOuter fault → StopsAt fault []
 stops_outer (Damaged at) of_outer = absurd of_outer
 stops_outer (WrongSize size) of_outer = absurd of_outer
+stops_outer TooManySessions of_outer = absurd of_outer
 stops_outer DiskFault of_outer = absurd of_outer
 stops_outer LinkFault of_outer = inl refl
 stops_outer ConsoleFault of_outer = absurd of_outer
@@ -91,6 +92,7 @@ stops_outer NoMemory of_outer = tt
 outer_run : (fault : ServeFault) → IsOfOuter fault → IsOfRun fault
 outer_run (Damaged at) of_outer = absurd of_outer
 outer_run (WrongSize size) of_outer = absurd of_outer
+outer_run TooManySessions of_outer = absurd of_outer
 outer_run DiskFault of_outer = absurd of_outer
 outer_run LinkFault of_outer = tt
 outer_run ConsoleFault of_outer = absurd of_outer

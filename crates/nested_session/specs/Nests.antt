@@ -19,6 +19,7 @@ use Rattle.outer_agent.specs.Script.{Keeper}
 use Rattle.protocol_messages.specs.declared.message.Message.TheVariants.{Xsmp}
 use Rattle.session_engine.specs.Carries.{IsCurrent, Runs, is_whole}
 use Rattle.session_engine.specs.Machine.{after_all, start}
+use Rattle.session_engine.specs.Standing.{as_stored}
 use Rattle.session_engine.specs.declared.config.Config.{Config}
 use Rattle.session_engine.specs.declared.fault.ServeFault.{ServeFault}
 use Rattle.session_engine.specs.declared.fault.ServeFault.TheVariants.{Spent}
@@ -62,7 +63,7 @@ module _ (config : Config) (opening : Book) where
     pub moves : List Move
     pub since : onto (session_of save.early) moves ≡ session_of all
     pub saved : HasSaved moves
-    pub files : (first : List ℕ) (before : List Effect) → SteadyStands current opening first before → (file : List ℕ) → Image first (before ++ effects_of all) file → IsCurrent config opening (all_inner all) file
+    pub files : (first : List ℕ) (before : List Effect) → SteadyStands current (as_stored opening) first before → (file : List ℕ) → Image first (before ++ effects_of all) file → IsCurrent config opening (all_inner all) file
 
   -- Where the end of a save is awaited: the last order to save, and how many rounds had begun before it.
   pub record Since (begun : ℕ) (all : List (Woven Effect)) : Type 0 where
@@ -72,7 +73,7 @@ module _ (config : Config) (opening : Book) where
   -- each file that a crash could leave of the inner session alone recovers to the last book
   abbrev pub IsCurrentAt : Option Current → List (Woven Effect) → Type 0
   IsCurrentAt current all =
-      (first : List ℕ) (before : List Effect) → SteadyStands current opening first before → (file : List ℕ) → Image first (before ++ all_inner all) file → IsCurrent config opening (all_inner all) file
+      (first : List ℕ) (before : List Effect) → SteadyStands current (as_stored opening) first before → (file : List ℕ) → Image first (before ++ all_inner all) file → IsCurrent config opening (all_inner all) file
 
   -- Wherever a success was told, the save was backed.
   abbrev pub SuccessIsBacked : Option Current → List (Woven Effect) → Type 0

@@ -25,5 +25,5 @@ pub record Weaves (config : Config) (turns : ℕ) (agent : Run Keeper) (first : 
 
 -- a run over the recovered book; or nothing was done
 abbrev pub Nesting : Config → ℕ → Run Keeper → List ℕ → Outside → Outside → Result (Unit {0}) ServeFault → Type 0
-Nesting config turns agent first old new (Ok x) = Opens old new (Weaves config turns agent first old (Ok x))
-Nesting config turns agent first old new (Err fault) = FailsOr old new (Weaves config turns agent first old (Err fault)) fault
+Nesting config turns agent first old new (Ok x) = Opens config.session old new (Weaves config turns agent first old (Ok x))
+Nesting config turns agent first old new (Err fault) = FailsOr config.session old new (Weaves config turns agent first old (Err fault)) fault

@@ -23,7 +23,7 @@ use Rattle.session_engine.specs.Session.{IsCut, StandsFor}
 use Rattle.session_engine.specs.Shown.{IsShown, all_cut}
 use Rattle.session_engine.specs.declared.config.Config.{Config}
 use Rattle.session_engine.specs.declared.fault.ServeFault.{ServeFault}
-use Rattle.session_engine.specs.declared.fault.ServeFault.TheVariants.{ConsoleFault, Damaged, DiskFault, LinkFault, NoMemory, Spent, Worn, WrongSize}
+use Rattle.session_engine.specs.declared.fault.ServeFault.TheVariants.{ConsoleFault, Damaged, DiskFault, LinkFault, NoMemory, Spent, TooManySessions, Worn, WrongSize}
 use Rattle.session_model.specs.Readings as of
 use Rattle.nested_session.specs.Nesting.{Nested, Shows}
 use Rattle.nested_session.specs.Nests.{IsApart, Since, SuccessIsBacked, success}
@@ -58,6 +58,7 @@ fault_of OutOfMemory = NoMemory
 abbrev pub IsOfOuter : ServeFault → Type 0
 IsOfOuter (Damaged at) = ⊥
 IsOfOuter (WrongSize size) = ⊥
+IsOfOuter TooManySessions = ⊥
 IsOfOuter DiskFault = ⊥
 IsOfOuter LinkFault = Unit {0}
 IsOfOuter ConsoleFault = ⊥

@@ -1,6 +1,8 @@
 ghost use Rattle.std.specs.Prelude.{◌≡◌, ◌≢◌, ℕ, List, Ok, Err, IfErr};
 ghost use Rattle.sm_world.specs.Outside.{Added, NotFallen, TakesNext, adds, of_ok};
 ghost use Rattle.sm_world.specs.declared.effects.Effect.TheVariants.{Heard};
+ghost use Rattle.checkpoint_records.specs.Books.{choose};
+ghost use Rattle.checkpoint_records.specs.Rules.{IsName};
 ghost use Rattle.checkpoint_records.specs.declared.records.Book.{Book as AnyBook};
 ghost use Rattle.checkpoint_slots.specs.Causes.{IsSettled};
 ghost use Rattle.checkpoint_slots.specs.Recovery.{Recovers};
@@ -52,6 +54,7 @@ fn run_nested<W: Disk + Links + Spawner + Console + Outer>(
     first: Octets,
     turns: u64,
 ) -> Result<(), ServeFault>
+    requires named { IsName config.session }
     requires first { first ≡ spelled (Ice (ByteOrder Lsb)) }
     ensures nests { Nesting config turns (run_of agent) first (W.outside world.old)
         (W.outside world.new) result }
@@ -100,14 +103,15 @@ pub fn serve_nested<W: Disk + Links + Spawner + Console + Outer>(
     first: Octets,
     turns: u64,
 ) -> Result<(), ServeFault>
+    requires named { IsName config.session }
     requires first { first ≡ spelled (Ice (ByteOrder Lsb)) }
     ensures nests { Nesting config turns (run_of agent) first (W.outside world.old)
         (W.outside world.new) result }
     // For a store of which no byte was in doubt: at every point each file that a crash could leave has a
     // whole checkpoint of the inner session, and the last one wherever a save was told to have succeeded.
-    ensures headline { (file : List ℕ) (book : AnyBook) → IsSettled (W.outside world.old) file →
-        Recovers file (Ok book) → Added (W.outside world.old).told (W.outside world.new).told
-        (NestKeepsItsWord config book file (run_of agent) first result) }
+    ensures headline { (file : List ℕ) (stored : AnyBook) → IsSettled (W.outside world.old) file →
+        Recovers file (Ok stored) → Added (W.outside world.old).told (W.outside world.new).told
+        (NestKeepsItsWord config (choose config.session stored) file (run_of agent) first result) }
     // Where the disk didn't fail the same world can be served again, with the headline.
     ensures ready { (file : List ℕ) → IsSettled (W.outside world.old) file →
         result ≢ Err ServeFault.DiskFault → Added (W.outside world.old).told

@@ -1,4 +1,4 @@
-ghost use Rattle.std.specs.Prelude.{◌≡◌, [], ℕ, List, Bool, false, filter, is_some, length, not, option_copied, unwrap_or, IfOk, OnOk};
+ghost use Rattle.std.specs.Prelude.{◌≡◌, ◌-◌, ◌^◌, [], ℕ, List, Bool, false, filter, is_some, length, min, not, option_copied, unwrap_or, IfOk, OnOk};
 ghost use Rattle.std.specs.List.{list_any};
 ghost use Rattle.ice_values.specs.declared.property.Property.{Property};
 ghost use Rattle.xsmp_messages.specs.declared.message.XsmpMessage.TheVariants.{RegisterClientReply, SetProperties};
@@ -24,7 +24,7 @@ use crate::summaries::{
 };
 use crate::tables::{is_over_by, would_be_full};
 use crate::{Client, RegisteredIds};
-use checkpoint_records::Book;
+use checkpoint_records::{Book, count_entries};
 use ice_values::{Array8, PropertyList, PropertyWalk};
 use owned_lists::{Command, CommandList, Duplicate, NoMemory};
 use round_agreement::Wanted;
@@ -144,13 +144,14 @@ impl Clients {
         is_any_owing(&self.rows, &self.registered)
     }
 
-    /// How many IDs are known: those that the book has entries for, and those of registered
-    /// connections that it hasn't.
+    /// How many IDs are known: those that the book has entries for, in all its sessions, and those
+    /// of registered connections that it hasn't; no number passes 18,446,744,073,709,551,615.
     pub fn known_ids(&self, book: &Book) -> usize
         ensures { (r : Reading) → r.clients ≡ clients_in self.now → r.store.book ≡ book.now →
-            result ≡ known_ids r }
+            result ≡ min (known_ids r) (2 ^ 64 - 1) }
     {
-        book.entries.as_slice().len() + count_new_ids(&self.rows, &self.registered, book)
+        let new = count_new_ids(&self.rows, &self.registered, book);
+        count_entries(book).saturating_add(new)
     }
 
     /// The DiscardCommands of the registered clients, in the order in which they registered.

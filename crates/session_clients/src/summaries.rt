@@ -3,13 +3,13 @@ ghost use Rattle.std.specs.List.{list_any};
 ghost use Rattle.interact_queue.specs.Queue.{is_in};
 ghost use Rattle.discard_ledger.specs.Discards.{discard_of};
 ghost use Rattle.session_model.specs.Phases.{is_owing};
-ghost use Rattle.session_model.specs.Tables.{is_recorded};
+ghost use Rattle.session_model.specs.Tables.{is_kept_id as is_kept_at};
 ghost use Rattle.session_model.specs.Reading.{has_that_id};
 ghost use Rattle.session_clients.specs.Clients.{conns_in, id_in, phase_in, quiet_in, table_in};
 ghost use Rattle.session_model.specs.Replies.{is_late};
 
 use crate::Client;
-use crate::entries::is_recorded;
+use crate::entries::is_kept_id;
 use crate::live_rows::LiveRows;
 use crate::phases::{is_late, is_owing};
 use crate::rows::{has_id, id_in, phase_in, quiet_in, table_in};
@@ -123,16 +123,16 @@ pub(crate) fn is_any_owing(rows: &LiveRows, conns: &[Conn]) -> bool
     is_any_row_owing(rows.as_slice()) && conns.iter().any(|conn| is_owing(phase_in(rows, *conn)))
 }
 
-/// How many of these connections have an ID which the book has no entry for.
+/// How many of these connections have an ID which no session of the book has an entry for.
 pub(crate) fn count_new_ids(rows: &LiveRows, conns: &[Conn], book: &Book) -> usize
     ensures count { result
-        ≡ length (filter (λ id. not (is_recorded id book.now))
+        ≡ length (filter (λ id. not (is_kept_at id book.now))
         (filter_map (λ c. id_in c rows.now) conns.now)) }
     ensures within { result ≤ length conns.now }
 {
     let mut count = 0;
     for conn in conns {
-        if id_in(rows, *conn).is_some_and(|id| !is_recorded(book, id.as_slice())) {
+        if id_in(rows, *conn).is_some_and(|id| !is_kept_id(book, id.as_slice())) {
             count += 1;
         }
     }

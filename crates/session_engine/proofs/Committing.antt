@@ -17,6 +17,7 @@ use Rattle.session_engine.specs.Acts.{book_after, book_in, books_in, commits_in,
 use Rattle.session_engine.specs.Commits.{AllWritten, AreCommits, DoPuts, HasWritten, WritesBook, of_store, store_effects}
 use Rattle.session_engine.specs.declared.acts.Act.{Act}
 use Rattle.session_engine.specs.declared.acts.Act.TheVariants.{Commit, Finish, Print, Say, Shut as ShutsConn, Start}
+use Rattle.session_engine.specs.Standing.{as_stored}
 
 -- Books
 
@@ -103,7 +104,7 @@ deed_written current old act es none does quiet = record {
 }
 
 -- one commit, whole
-pub book_written : (current next : Option Current) (old book : Book) (es : List Effect) → deeds es ≡ [] → store_effects es ≡ es → WritesBook current old book (Ok next) es → AllWritten current old (Commit book ∷ []) es next
+pub book_written : (current next : Option Current) (old book : Book) (es : List Effect) → deeds es ≡ [] → store_effects es ≡ es → WritesBook current (as_stored old) (as_stored book) (Ok next) es → AllWritten current old (Commit book ∷ []) es next
 book_written current next old book es still all (puts, commit, done) = record {
   has = record {
     front = Commit book ∷ [];
@@ -120,7 +121,7 @@ book_written current next old book es still all (puts, commit, done) = record {
 }
 
 -- and one at which the disk failed
-pub cut_written : (current : Option Current) (old book : Book) (es : List Effect) → deeds es ≡ [] → store_effects es ≡ es → WritesBook current old book (Err DiskFault) es → HasWritten current old (Commit book ∷ []) false true es
+pub cut_written : (current : Option Current) (old book : Book) (es : List Effect) → deeds es ≡ [] → store_effects es ≡ es → WritesBook current (as_stored old) (as_stored book) (Err DiskFault) es → HasWritten current old (Commit book ∷ []) false true es
 cut_written current old book es still all (puts, next, commit, cut) = record {
   front = Commit book ∷ [];
   rest = [];

@@ -6,6 +6,7 @@ use Rattle.checkpoint_slots.specs.Recovery.{Recovers}
 use Rattle.session_engine.specs.Acts.{Hidden, Kind, Saved, Shown, book_after, book_by, books_by, books_in, commits_by, commits_in, deeds_by, deeds_in, kind_of}
 use Rattle.session_engine.specs.Counted.{SavedIsPlaced, before_last, book_at, until, until_by}
 use Rattle.session_engine.specs.declared.acts.Act.{Act}
+use Rattle.session_engine.specs.Standing.{as_stored}
 
 one_more : (n : ℕ) → 1 + n ≡ suc n
 one_more n = omega arith
@@ -60,5 +61,5 @@ saved_placed opening acts done file saved =
       place = commits_in saved.front;
       at_least = subst (λ (xs : List Act). before_last xs (length done) ≤ commits_in saved.front) saved.parts (late_by saved.front saved.rest (length done) (sym count));
       at_most = subst (λ (xs : List Act). commits_in saved.front ≤ until xs (length done)) saved.parts (subst (λ (n : ℕ). commits_in saved.front ≤ until (saved.front ++ saved.rest) n) count (most saved.front saved.rest));
-      recovers = subst (λ (b : Book). Recovers file (Ok b)) (sym (subst (λ (xs : List Act). book_at opening (books_in xs) (commits_in saved.front) ≡ book_after opening saved.front) saved.parts (placed opening saved.front saved.rest))) saved.recovers;
+      recovers = subst (λ (b : Book). Recovers file (Ok (as_stored b))) (sym (subst (λ (xs : List Act). book_at opening (books_in xs) (commits_in saved.front) ≡ book_after opening saved.front) saved.parts (placed opening saved.front saved.rest))) saved.recovers;
     }

@@ -4,6 +4,7 @@ pub mod Adding
 pub mod Committing
 pub mod Neighbours
 pub mod Performing
+pub mod Standing
 pub mod Storing
 pub mod Writing
 pub mod Counting

@@ -3,16 +3,19 @@ use Rattle.std.proofs.Common.{◌≡◌, ◌≢◌, inl, inr, ℕ, zero, suc, �
 use Rattle.std.proofs.lemmas.Bool.{false≢true}
 use Rattle.sm_world.specs.Disk.{HasToldSize}
 use Rattle.sm_world.specs.Effects.{heard}
-use Rattle.sm_world.specs.Outside.{Added, Outside, TakesNext, adds}
+use Rattle.sm_world.specs.Outside.{Added, NotFallen, Outside, Rose, TakesNext, adds}
+use Rattle.sm_world.specs.declared.failures.Faults.{Faults}
 use Rattle.sm_world.specs.declared.effects.Effect.{Effect}
 use Rattle.sm_world.specs.declared.effects.Effect.TheVariants.{Heard}
 use Rattle.sm_world.specs.declared.events.Event.{Event}
 use Rattle.sm_world.proofs.Adding.{adds-adds, adds-none}
-use Rattle.checkpoint_records.specs.Rules.{KeepsRules}
+use Rattle.checkpoint_records.specs.Books.{choose}
+use Rattle.checkpoint_records.specs.Rules.{IsName, KeepsRules}
 use Rattle.checkpoint_records.specs.declared.records.Book.{Book}
+use Rattle.checkpoint_records.proofs.ChoiceLaws.{choices_keep_rules}
 use Rattle.checkpoint_slots.specs.Causes.{IsRecoveryFault, IsSettled}
 use Rattle.checkpoint_slots.specs.Recovery.{Recovers}
-use Rattle.checkpoint_slots.proofs.Leading.{book-rules}
+use Rattle.checkpoint_slots.proofs.Leading.{book-chosen, book-rules}
 use Rattle.checkpoint_slots.specs.Turns.{SteadyFile, SteadyStands}
 use Rattle.checkpoint_slots.specs.declared.fault.StoreFault.{StoreFault}
 use Rattle.checkpoint_slots.specs.declared.fault.StoreFault.TheVariants.{WrongSize as HasWrongSize, Damaged as IsDamaged, DiskFault as FailsOnDisk, Worn as IsWorn, NoMemory as LacksMemory}
@@ -23,9 +26,10 @@ use Rattle.session_model.specs.Readings as of
 use Rattle.session_model.specs.declared.marks.Marks.{Marks}
 use Rattle.session_engine.specs.Acts.{deeds_in, has_finish}
 use Rattle.session_engine.specs.Carries.{IsCutShort, IsReady, IsRecovered, IsUnopened, KeepsItsWord, Opens, Rests, Serves, is_whole, script}
-use Rattle.session_engine.specs.Causes.{IsOfHearing, IsOfRun, fault_of, opening_fault_of}
+use Rattle.session_engine.specs.Causes.{HasCause, IsCaused, IsOfHearing, IsOfRun, fault_of, opening_fault_of}
 use Rattle.session_engine.specs.Machine.{Machine, acts_of, after_all, opening_acts, start, step}
 use Rattle.session_engine.specs.Saved.{Performs}
+use Rattle.session_engine.specs.Standing.{as_stored}
 use Rattle.session_engine.specs.Stops.{Stops, StopsAt}
 use Rattle.session_engine.specs.Session.{Serving, StandsFor, Starts, StepsTo}
 use Rattle.session_engine.specs.Store.{Stored, store_of}
@@ -34,7 +38,7 @@ use Rattle.session_engine.specs.declared.engine.Engine.{Engine}
 use Rattle.session_engine.specs.declared.fault.Halt.{Halt}
 use Rattle.session_engine.specs.declared.fault.Halt.TheVariants.{Links, Console, Disk, Worn as WearsIt, NoMemory as WantsMemory}
 use Rattle.session_engine.specs.declared.fault.ServeFault.{ServeFault}
-use Rattle.session_engine.specs.declared.fault.ServeFault.TheVariants.{Damaged, WrongSize, DiskFault, LinkFault, ConsoleFault, Worn, Spent, NoMemory}
+use Rattle.session_engine.specs.declared.fault.ServeFault.TheVariants.{Damaged, WrongSize, TooManySessions, DiskFault, LinkFault, ConsoleFault, Worn, Spent, NoMemory}
 use Rattle.session_engine.specs.declared.session.Session.{Session}
 use Rattle.session_engine.specs.declared.shell.Shell.{Shell}
 use Rattle.session_engine.specs.declared.session.Stepped.{Stepped}
@@ -43,6 +47,7 @@ use Rattle.session_engine.proofs.Adding.{never_spent}
 use Rattle.heard_events.specs.Brought.{BroughtSoFar}
 use Rattle.heard_events.proofs.Bringing.{brought_is, brought_more, brought_none, brought_nothing, length-more}
 use Rattle.session_engine.proofs.Performing.{err_map}
+use Rattle.session_engine.proofs.Standing.{chosen_stands, stands_chosen}
 use Rattle.session_engine.proofs.Settling.{is_ready, settle_none}
 use Rattle.session_engine.proofs.Running.{after_all-more, heard-more, none_is_heard}
 use Rattle.session_engine.proofs.Sessions.{halt_of_run, ok_is_no_fault, runs_cut_short, runs_end, runs_over, runs_unopened, stands_begin, stands_more, the_fault}
@@ -61,15 +66,17 @@ together engine shell store = record { engine = engine; shell = shell; store = s
 
 -- what holds as a turn of the loop begins
 abbrev pub InLoop : Config → Outside → Outside → ℕ → Session → Type 0
-InLoop config old now n session = Opens old now (Holds config old.coming now.coming n session)
+InLoop config old now n session = Opens config.session old now (Holds config old.coming now.coming n session)
 
 pub loop_begins : (config : Config) (old now : Outside) (session : Session) → now.coming ≡ old.coming → Starts config old now (Ok session) → InLoop config old now 0 session
 loop_begins config old now session same starts = record {
   book = starts.book;
   current = starts.current;
   recovered = starts.recovered;
+  called = starts.called;
   size = starts.size;
   below = starts.below;
+  few = starts.few;
   rules = starts.rules;
   adds = record {
     effects = starts.adds.effects;
@@ -93,8 +100,10 @@ loop_unopened config turns old new fault (inr opens) = inr (record {
   book = opens.book;
   current = opens.current;
   recovered = opens.recovered;
+  called = opens.called;
   size = opens.size;
   below = opens.below;
+  few = opens.few;
   rules = opens.rules;
   adds = record {
     effects = opens.adds.effects;
@@ -123,14 +132,31 @@ not_worn Disk able e = cc
 not_worn WearsIt able e = able
 not_worn WantsMemory able e = cc
 
+-- a halt's cause is the fault's, also where no count of faults fell before
+rose_since : (first before after : ℕ) → first ≤ before → Rose before after → Rose first after
+rose_since first before after kept (inl rose) = inl (omega (arith, kept, rose))
+rose_since first before after kept (inr most) = inr most
+
+pub caused_since : (halt : Halt) (old now new : Faults) → NotFallen old now → IsCaused now new halt → HasCause old new (fault_of halt)
+caused_since Links old now new kept cause = rose_since old.links now.links new.links kept.links cause
+caused_since Console old now new kept cause = rose_since old.console now.console new.console kept.console cause
+caused_since Disk old now new kept cause = rose_since old.disk now.disk new.disk kept.disk cause
+caused_since WearsIt old now new kept cause = tt
+caused_since WantsMemory old now new kept cause = tt
+
+pub spent_is_not_worn : Spent ≡ Worn → ⊥
+spent_is_not_worn e = cc
+
 -- no more came
 pub loop_over : (config : Config) (turns n : ℕ) (old now new : Outside) (session : Session) (fault : ServeFault) → n ≤ turns → (fault ≡ Worn → ⊥) → StopsAt fault [] → IsOfRun fault → (fault ≡ Spent → n ≡ turns) → new.told ≡ now.told → new.size ≡ now.size → InLoop config old now n session → Serving config turns old new (Err fault)
 loop_over config turns n old now new session fault in_turns able stops opened at_end quiet sized held = inr (record {
   book = held.book;
   current = held.current;
   recovered = held.recovered;
+  called = held.called;
   size = sized ∙ held.size;
   below = held.below;
+  few = held.few;
   rules = held.rules;
   adds = record {
     effects = held.adds.effects;
@@ -169,8 +195,10 @@ loop_goes_on config n more old now between later session next event is_more held
       book = held.book;
       current = held.current;
       recovered = held.recovered;
+      called = held.called;
       size = sized;
       below = held.below;
+      few = held.few;
       rules = held.rules;
       adds = record {
         effects = es ++ Heard event ∷ step.effects;
@@ -193,8 +221,10 @@ loop_ends config turns n old now between later session event stepped marks is in
       book = held.book;
       current = held.current;
       recovered = held.recovered;
+      called = held.called;
       size = sized;
       below = held.below;
+      few = held.few;
       rules = held.rules;
       adds = record {
         effects = es ++ Heard event ∷ step.effects;
@@ -217,8 +247,10 @@ loop_cut_short config turns n old now between later session event fault in_turns
       book = held.book;
       current = held.current;
       recovered = held.recovered;
+      called = held.called;
       size = sized;
       below = held.below;
+      few = held.few;
       rules = held.rules;
       adds = record {
         effects = es ++ Heard event ∷ step.effects;
@@ -280,27 +312,29 @@ step_cut_short old new session event core halt fault is_fault carried config ope
 -- The opening
 
 -- why the store wasn't opened
-pub unopened_by : (outside : Outside) (size : ℕ) (fault : StoreFault) → IsRecoveryFault outside size fault → IsUnopened outside size (opening_fault_of fault)
-unopened_by outside size (HasWrongSize n) cause = cause
-unopened_by outside size (IsDamaged at) cause = cause
-unopened_by outside size FailsOnDisk cause = tt
-unopened_by outside size IsWorn cause = absurd cause
-unopened_by outside size LacksMemory cause = tt
+pub unopened_by : (session : List ℕ) (outside : Outside) (size : ℕ) (fault : StoreFault) → IsRecoveryFault outside size fault → IsUnopened session outside size (opening_fault_of fault)
+unopened_by session outside size (HasWrongSize n) cause = cause
+unopened_by session outside size (IsDamaged at) cause = cause
+unopened_by session outside size FailsOnDisk cause = tt
+unopened_by session outside size IsWorn cause = absurd cause
+unopened_by session outside size LacksMemory cause = tt
 
-pub recovered_by : (old new : Outside) (opening : Book) (current : Option Current) → HasToldSize new → new.first ≡ old.first → new.size ≡ 16777280 → ((file : List ℕ) → IsSettled old file → SteadyFile current opening file) → IsRecovered old opening current
+pub recovered_by : (old new : Outside) (opening : Book) (current : Option Current) → HasToldSize new → new.first ≡ old.first → new.size ≡ 16777280 → ((file : List ℕ) → IsSettled old file → SteadyFile current (as_stored opening) file) → IsRecovered old opening current
 recovered_by old new opening current sized same is_size recovers file settled = (settled.size ∙ (sized settled.began (same ∙ settled.first) ∙ is_size), recovers file settled)
 
 -- the store's turn has the book that was opened
 as_opened : (store : Stored) (opening : Book) (P : Stored → Type 0) → store.book ≡ opening → P store → P (store_of store.journal opening)
 as_opened store opening P same p = subst (λ (book : Book). P (store_of store.journal book)) same p
 
-pub opens : (config : Config) (old between new : Outside) (opening : Book) (store : Stored) (session : Session) → store.book ≡ opening → IsRecovered old opening store.journal → new.size ≡ 16777280 → opening.epoch < 4294967295 → KeepsRules opening → between.told ≡ old.told → Added between.told new.told (Performs store (opening_acts opening) (Ok session.store)) → Shows all_cut session.engine (start config opening) → Starts config old new (Ok session)
-opens config old between new opening store session same recovered sized below rules quiet done shows = record {
+pub opens : (config : Config) (old between new : Outside) (opening : Book) (store : Stored) (session : Session) → store.book ≡ opening → IsRecovered old opening store.journal → opening.name ≡ config.session → length opening.others ≤ 7 → new.size ≡ 16777280 → opening.epoch < 4294967295 → KeepsRules opening → between.told ≡ old.told → Added between.told new.told (Performs store (opening_acts opening) (Ok session.store)) → Shows all_cut session.engine (start config opening) → Starts config old new (Ok session)
+opens config old between new opening store session same recovered called few sized below rules quiet done shows = record {
   book = opening;
   current = store.journal;
   recovered = recovered;
+  called = called;
   size = sized;
   below = below;
+  few = few;
   rules = rules;
   adds = record {
     effects = done.effects;
@@ -309,13 +343,15 @@ opens config old between new opening store session same recovered sized below ru
   };
 }
 
-pub opens_not : (config : Config) (old between new : Outside) (opening : Book) (store : Stored) (halt : Halt) (fault : ServeFault) → store.book ≡ opening → fault ≡ fault_of halt → IsRecovered old opening store.journal → new.size ≡ 16777280 → opening.epoch < 4294967295 → KeepsRules opening → between.told ≡ old.told → Added between.told new.told (Performs store (opening_acts opening) (Err halt)) → Starts config old new (Err fault)
-opens_not config old between new opening store halt fault same is_fault recovered sized below rules quiet done = rw is_fault (inr (record {
+pub opens_not : (config : Config) (old between new : Outside) (opening : Book) (store : Stored) (halt : Halt) (fault : ServeFault) → store.book ≡ opening → fault ≡ fault_of halt → IsRecovered old opening store.journal → opening.name ≡ config.session → length opening.others ≤ 7 → new.size ≡ 16777280 → opening.epoch < 4294967295 → KeepsRules opening → between.told ≡ old.told → Added between.told new.told (Performs store (opening_acts opening) (Err halt)) → Starts config old new (Err fault)
+opens_not config old between new opening store halt fault same is_fault recovered called few sized below rules quiet done = rw is_fault (inr (record {
   book = opening;
   current = store.journal;
   recovered = recovered;
+  called = called;
   size = sized;
   below = below;
+  few = few;
   rules = rules;
   adds = record {
     effects = done.effects;
@@ -337,19 +373,20 @@ drop_none (suc n) = refl
 none_heard_yet : (n : ℕ) (event : Event) (more : List Effect) → ◌≡◌ {A = List Effect} (drop n []) (Heard event ∷ more) → ⊥
 none_heard_yet n event more e = none_is_heard event (heard more) (sym (ap heard (sym (drop_none n) ∙ e)))
 
-unopened_cuts : (outside : Outside) (size : ℕ) (fault : ServeFault) → IsUnopened outside size fault → is_whole (Err fault) ≡ true → ⊥
-unopened_cuts outside size (Damaged at) cause e = false≢true e
-unopened_cuts outside size (WrongSize n) cause e = false≢true e
-unopened_cuts outside size DiskFault cause e = false≢true e
-unopened_cuts outside size LinkFault cause e = false≢true e
-unopened_cuts outside size ConsoleFault cause e = false≢true e
-unopened_cuts outside size Worn cause e = false≢true e
-unopened_cuts outside size Spent cause e = cause
-unopened_cuts outside size NoMemory cause e = false≢true e
+unopened_cuts : (session : List ℕ) (outside : Outside) (size : ℕ) (fault : ServeFault) → IsUnopened session outside size fault → is_whole (Err fault) ≡ true → ⊥
+unopened_cuts session outside size (Damaged at) cause e = false≢true e
+unopened_cuts session outside size (WrongSize n) cause e = false≢true e
+unopened_cuts session outside size TooManySessions cause e = false≢true e
+unopened_cuts session outside size DiskFault cause e = false≢true e
+unopened_cuts session outside size LinkFault cause e = false≢true e
+unopened_cuts session outside size ConsoleFault cause e = false≢true e
+unopened_cuts session outside size Worn cause e = false≢true e
+unopened_cuts session outside size Spent cause e = cause
+unopened_cuts session outside size NoMemory cause e = false≢true e
 
 -- where nothing was done the file is as it was
-word_unopened : (config : Config) (book : Book) (file : List ℕ) (old new : Outside) (fault : ServeFault) → Recovers file (Ok book) → Rests old new fault → Added old.told new.told (KeepsItsWord config book file (Err fault))
-word_unopened config book file old new fault recovers rests = record {
+word_unopened : (config : Config) (book : Book) (file : List ℕ) (old new : Outside) (fault : ServeFault) → KeepsRules book → book.name ≡ config.session → Recovers file (Ok (as_stored book)) → Rests config.session old new fault → Added old.told new.told (KeepsItsWord config book file (Err fault))
+word_unopened config book file old new fault rules called recovers rests = record {
   effects = [];
   added = rests.told ∙ sym (adds-none old.told);
   holds = record {
@@ -360,7 +397,7 @@ word_unopened config book file old new fault recovers rests = record {
         heard_in_time = λ n event more e. absurd (none_heard_yet n event more e);
         none_published = refl;
       };
-      all_done = λ e. absurd (unopened_cuts old new.size fault rests.cause e);
+      all_done = λ e. absurd (unopened_cuts config.session old new.size fault rests.cause e);
       ended = λ e. absurd (false≢true e);
     };
     keeps = record {
@@ -369,11 +406,11 @@ word_unopened config book file old new fault recovers rests = record {
         rest = script config book [];
         parts = refl;
         same = refl;
-        recovers = subst (λ (f : List ℕ). Recovers f (Ok book)) (sym (only-file file left (rw (take_none n) at image))) recovers;
+        recovers = subst (λ (f : List ℕ). Recovers f (Ok (as_stored book))) (sym (only-file file left (rw (take_none n) at image))) recovers;
       });
       none_behind = λ n event more e. absurd (none_heard_yet n event more e);
     };
-    is_current = λ e. absurd (unopened_cuts old new.size fault rests.cause e);
+    is_current = λ e. absurd (unopened_cuts config.session old new.size fault rests.cause e);
     stopped = record {
       front = [];
       rest = script config book [];
@@ -381,14 +418,15 @@ word_unopened config book file old new fault recovers rests = record {
       same = refl;
       at = inl refl;
       opens = inr refl;
-      leaves = λ left image. inl (subst (λ (f : List ℕ). Recovers f (Ok book)) (sym (only-file file left image)) recovers);
+      leaves = λ left image. inl (subst (λ (f : List ℕ). Recovers f (Ok (as_stored book))) (sym (only-file file left image)) recovers);
     };
-    rules = book-rules file book recovers;
+    rules = rules;
+    called = called;
   };
 }
 
 -- what a run promises of where a fault stopped it, for the file that it began with
-word_stopped : (config : Config) (book : Book) (file : List ℕ) (current : Option Current) (answer : Result (Unit {0}) ServeFault) (effects : List Effect) → SteadyStands current book file [] → IfErr answer (λ fault. Stops current book (script config book (heard effects)) fault (StopsAt fault) effects) → IfErr answer (λ fault. IsCutShort config book file fault effects)
+word_stopped : (config : Config) (book : Book) (file : List ℕ) (current : Option Current) (answer : Result (Unit {0}) ServeFault) (effects : List Effect) → SteadyStands current (as_stored book) file [] → IfErr answer (λ fault. Stops current book (script config book (heard effects)) fault (StopsAt fault) effects) → IfErr answer (λ fault. IsCutShort config book file fault effects)
 word_stopped config book file current answer effects stands stopped = err_map (λ fault. Stops current book (script config book (heard effects)) fault (StopsAt fault) effects) (λ fault. IsCutShort config book file fault effects) answer (λ fault stops. record {
   front = stops.front;
   rest = stops.rest;
@@ -402,11 +440,12 @@ word_stopped config book file current answer effects stands stopped = err_map (�
 ok_book : (one two : Book) → ◌≡◌ {A = Result Book ℕ} (Ok one) (Ok two) → one ≡ two
 ok_book one two e = cc
 
-word_opened : (config : Config) (turns : ℕ) (book : Book) (file : List ℕ) (old new : Outside) (answer : Result (Unit {0}) ServeFault) → IsSettled old file → Recovers file (Ok book) → Opens old new (λ opening current effects. Serves config opening current old.coming turns answer effects) → Added old.told new.told (KeepsItsWord config book file answer)
-word_opened config turns book file old new answer settled recovers opens =
+word_opened : (config : Config) (turns : ℕ) (book : Book) (file : List ℕ) (old new : Outside) (answer : Result (Unit {0}) ServeFault) → IsSettled old file → Recovers file (Ok (as_stored book)) → choose config.session (as_stored book) ≡ book → Opens config.session old new (λ opening current effects. Serves config opening current old.coming turns answer effects) → Added old.told new.told (KeepsItsWord config book file answer)
+word_opened config turns book file old new answer settled recovers chosen opens =
     let found = opens.recovered file settled in
-    let same : opens.book ≡ book = ok_book opens.book book (recovers-once file (Ok opens.book) (Ok book) found.1.recovers recovers) in
-    let stands : SteadyStands opens.current opens.book file [] = settled-stands opens.current opens.book file found.0 found.1 in
+    let stored : as_stored opens.book ≡ as_stored book = ok_book (as_stored opens.book) (as_stored book) (recovers-once file (Ok (as_stored opens.book)) (Ok (as_stored book)) found.1.recovers recovers) in
+    let same : opens.book ≡ book = sym (stands_chosen config.session opens.book opens.rules opens.called) ∙ (ap (choose config.session) stored ∙ chosen) in
+    let stands : SteadyStands opens.current (as_stored opens.book) file [] = settled-stands opens.current (as_stored opens.book) file found.0 found.1 in
     rw (sym same) (record {
       effects = opens.adds.effects;
       added = opens.adds.added;
@@ -416,17 +455,28 @@ word_opened config turns book file old new answer settled recovers opens =
         is_current = λ e left image. opens.adds.holds.runs.is_current e file [] stands left image;
         stopped = word_stopped config opens.book file opens.current answer opens.adds.effects stands opens.adds.holds.runs.stopped;
         rules = opens.rules;
+        called = opens.called;
       };
     })
 
-pub keeps_word : (config : Config) (turns : ℕ) (old new : Outside) (answer : Result (Unit {0}) ServeFault) → Serving config turns old new answer → (file : List ℕ) (book : Book) → IsSettled old file → Recovers file (Ok book) → Added old.told new.told (KeepsItsWord config book file answer)
-keeps_word config turns old new (Ok x) opens file book settled recovers = word_opened config turns book file old new (Ok x) settled recovers opens
-keeps_word config turns old new (Err fault) (inl rests) file book settled recovers = word_unopened config book file old new fault recovers rests
-keeps_word config turns old new (Err fault) (inr opens) file book settled recovers = word_opened config turns book file old new (Err fault) settled recovers opens
+word_by : (config : Config) (turns : ℕ) (old new : Outside) (answer : Result (Unit {0}) ServeFault) → Serving config turns old new answer → (file : List ℕ) (book : Book) → IsSettled old file → KeepsRules book → book.name ≡ config.session → Recovers file (Ok (as_stored book)) → choose config.session (as_stored book) ≡ book → Added old.told new.told (KeepsItsWord config book file answer)
+word_by config turns old new (Ok x) opens file book settled rules called recovers chosen = word_opened config turns book file old new (Ok x) settled recovers chosen opens
+word_by config turns old new (Err fault) (inl rests) file book settled rules called recovers chosen = word_unopened config book file old new fault rules called recovers rests
+word_by config turns old new (Err fault) (inr opens) file book settled rules called recovers chosen = word_opened config turns book file old new (Err fault) settled recovers chosen opens
+
+pub keeps_word : (config : Config) (turns : ℕ) (old new : Outside) (answer : Result (Unit {0}) ServeFault) → IsName config.session → Serving config turns old new answer → (file : List ℕ) (stored : Book) → IsSettled old file → Recovers file (Ok stored) → Added old.told new.told (KeepsItsWord config (choose config.session stored) file answer)
+keeps_word config turns old new answer may serving file stored settled recovers =
+    let rules : KeepsRules stored = book-rules file stored recovers in
+    let stands : as_stored (choose config.session stored) ≡ stored = chosen_stands config.session stored rules (book-chosen file stored recovers) in
+    word_by config turns old new answer serving file (choose config.session stored) settled
+    (choices_keep_rules config.session stored may rules)
+    refl
+    (subst (λ (b : Book). Recovers file (Ok b)) (sym stands) recovers)
+    (ap (choose config.session) stands)
 
 -- The next run on the same world
 
-ready_opened : (config : Config) (turns : ℕ) (old new : Outside) (answer : Result (Unit {0}) ServeFault) (file : List ℕ) → new.first ≡ old.first → IsSettled old file → answer ≢ Err DiskFault → Opens old new (λ opening current effects. Serves config opening current old.coming turns answer effects) → Added old.told new.told (IsReady file new)
+ready_opened : (config : Config) (turns : ℕ) (old new : Outside) (answer : Result (Unit {0}) ServeFault) (file : List ℕ) → new.first ≡ old.first → IsSettled old file → answer ≢ Err DiskFault → Opens config.session old new (λ opening current effects. Serves config opening current old.coming turns answer effects) → Added old.told new.told (IsReady file new)
 ready_opened config turns old new answer file first settled able opens = record {
   effects = opens.adds.effects;
   added = opens.adds.added;

@@ -18,13 +18,13 @@ use Rattle.session_model.specs.declared.events.Act.{Act as SessionAct}
 use Rattle.session_model.specs.declared.events.Act.TheVariants.{Blame, Commit as Commits, Finish as Finishes, Print as Prints, Say as Says, Shut as Shuts, Start as Starts, Unset as Unsets}
 use Rattle.session_model.specs.declared.events.SessionEvent.{SessionEvent}
 use Rattle.session_model.specs.declared.events.SessionEvent.TheVariants.{Joined as HasJoined, Ready, Said, Left, Operator as Ordered, Tick as Ticked}
-use Rattle.session_engine.specs.Acts.{acts_for_all, book_in, books_in, has_finish, says}
+use Rattle.session_engine.specs.Acts.{acts_for_all, book_after, book_in, books_in, has_finish, says}
 use Rattle.session_engine.specs.Answers.{outcome, sequence_after}
 use Rattle.session_engine.specs.Machine.{Connection, Does, Entry, Machine, Step, act_in, acts_of, acts_since, after_all, answered, asked, behind, brought, connection_of, departs, does, fed_on, gone_for, greeted, greeting, join_for, joining, noted, opening_acts, part_for, part_taken, parted, parts_taken, piece_for, script_from, script_of, start, stays, step, told}
 use Rattle.session_engine.specs.declared.acts.Act.{Act}
 use Rattle.session_engine.specs.Outcomes.{Answer, Stays, Begins, Closes, Speaks, Asks, Outcome}
 use Rattle.protocol_messages.specs.declared.message.Message.{Message}
-use Rattle.session_engine.proofs.Committing.{books_in-append}
+use Rattle.session_engine.proofs.Committing.{books_in-append, last_book, order_two}
 use Rattle.session_engine.proofs.Following.{since-is}
 use Rattle.session_engine.proofs.Opening.{opened_acts}
 use Rattle.session_engine.proofs.Showing.{acts_noted}
@@ -189,3 +189,16 @@ order_script config opening events =
     subst (λ (bs : List Book). InOrder opening bs) (sym (books_in-append (opening_acts opening) (script_from (start config opening) events)))
     (order-append opening (books_in (opening_acts opening)) (books_in (script_from (start config opening) events)) (subst (λ (bs : List Book). InOrder opening bs) (sym books) goes.in_order)
     (subst (λ (b : Book). InOrder b (books_in (script_from (start config opening) events))) (sym (ap (last_of opening) books ∙ goes.last)) (order_from (start config opening) events)))
+
+-- every book that is written is of the session that was opened, and has the others as they were
+
+beside_last : (book : Book) (books : List Book) → InOrder book books → ((last_of book books).name ≡ book.name) × ((last_of book books).others ≡ book.others)
+beside_last book [] order = (refl, refl)
+beside_last book (next ∷ books) order = let rest = beside_last next books order.1 in (rest.0 ∙ order.0.name, rest.1 ∙ order.0.others)
+
+pub beside_after : (config : Config) (opening : Book) (events : List Event) (front rest : List Act) → front ++ rest ≡ script_of config opening events → ((book_after opening front).name ≡ opening.name) × ((book_after opening front).others ≡ opening.others)
+beside_after config opening events front rest parts =
+    let order : InOrder opening (books_in front) = (order_two opening front rest (subst (λ (acts : List Act). InOrder opening (books_in acts)) (sym parts) (order_script config opening events))).0 in
+    let beside = beside_last opening (books_in front) order in
+    let last : last_of opening (books_in front) ≡ book_after opening front = last_book opening front in
+    (ap (λ (b : Book). b.name) (sym last) ∙ beside.0, ap (λ (b : Book). b.others) (sym last) ∙ beside.1)

@@ -30,12 +30,14 @@ use Rattle.session_model.specs.declared.events.Act.{Act as SessionAct}
 use Rattle.session_model.specs.declared.events.Reason.{Reason}
 use Rattle.session_engine.specs.declared.acts.Act.TheVariants.{Commit, Finish, Print, Say, Shut as ShutsConn, Start}
 use Rattle.session_engine.specs.declared.fault.ServeFault.{ServeFault}
-use Rattle.session_engine.specs.declared.fault.ServeFault.TheVariants.{Damaged, WrongSize, DiskFault, LinkFault, ConsoleFault, Spent, Worn as WornFault, NoMemory as MemoryFault}
+use Rattle.session_engine.specs.declared.fault.ServeFault.TheVariants.{Damaged, WrongSize, TooManySessions, DiskFault, LinkFault, ConsoleFault, Spent, Worn as WornFault, NoMemory as MemoryFault}
 use Rattle.session_engine.specs.declared.fault.Halt.{Halt}
 use Rattle.session_engine.specs.declared.fault.Halt.TheVariants.{Links, Console, Disk, Worn, NoMemory}
 use Rattle.session_engine.proofs.Adding.{IsDoneBy, going_on, one_going, still}
 use Rattle.session_engine.proofs.Committing.{all_then, deed_written, none_written, nothing_written, order_two, written_before, written_then}
 use Rattle.session_engine.proofs.Settling.{settle_none, settle_quiet, settle_then}
+use Rattle.session_engine.proofs.Writing.{take_nothing}
+use Rattle.session_engine.specs.Standing.{as_stored}
 
 pub book_after-append : (b : Book) (xs ys : List Act) → book_after b (xs ++ ys) ≡ book_after (book_after b xs) ys
 book_after-append b [] ys = refl
@@ -189,7 +191,7 @@ disk_next NoMemory xs e next = absurd cc
 left_more : (halt : Halt) (b : Book) (front rest ys : List Act) (file : List ℕ) → IsRefused halt rest → IsLeft (fault_of halt) b front rest file → IsLeft (fault_of halt) b front (rest ++ ys) file
 left_more halt b front rest ys file refused (inl recovers) = inl recovers
 left_more halt b front rest ys file refused (inr torn) =
-    inr (torn.0, subst (λ (xs : List Act). Recovers file (Ok (book_after b (front ++ xs)))) (sym (first_more is_commit rest ys (disk_next halt rest torn.0 refused))) torn.1)
+    inr (torn.0, subst (λ (xs : List Act). Recovers file (Ok (as_stored (book_after b (front ++ xs))))) (sym (first_more is_commit rest ys (disk_next halt rest torn.0 refused))) torn.1)
 
 left_behind : (fault : ServeFault) (b : Book) (xs front rest : List Act) (file : List ℕ) → IsLeft fault (book_after b xs) front rest file → IsLeft fault b (xs ++ front) rest file
 left_behind fault b xs front rest file (inl recovers) = inl (rw (book_after-append b xs front) recovers)
@@ -253,6 +255,7 @@ numbered_then store next xs ys es ds leaves one two front rest book parts = elim
 numbers_behind : (fault : ServeFault) (store next : Stored) (xs ys : List Act) (es ds : List Effect) → Leaves store xs es next → IsRaised (commits_in xs) (next_generation store.journal) (next_generation next.journal) → IsNumbered store xs es → HasNumbers next fault ys ds → HasNumbers store fault (xs ++ ys) (es ++ ds)
 numbers_behind (Damaged at) store next xs ys es ds leaves raised one two = numbered_then store next xs ys es ds leaves one two
 numbers_behind (WrongSize size) store next xs ys es ds leaves raised one two = numbered_then store next xs ys es ds leaves one two
+numbers_behind TooManySessions store next xs ys es ds leaves raised one two = numbered_then store next xs ys es ds leaves one two
 numbers_behind DiskFault store next xs ys es ds leaves raised one two = (numbered_then store next xs ys es ds leaves one two.0, found_behind store next xs ys es ds leaves two.1)
 numbers_behind LinkFault store next xs ys es ds leaves raised one two = numbered_then store next xs ys es ds leaves one two
 numbers_behind ConsoleFault store next xs ys es ds leaves raised one two = numbered_then store next xs ys es ds leaves one two
@@ -282,7 +285,7 @@ stops_before current b xs ys halt es stops = record {
 
 -- and behind others that were done
 pub stops_behind : (current next : Option Current) (b : Book) (xs ys : List Act) (fault : ServeFault) (At : List Act → Type 0) (es ds : List Effect) → deeds es ≡ deeds_in xs → IsRaised (commits_in xs) (next_generation current) (next_generation next) → opened_in es ≡ commits_in xs → IsNumbered (store_of current b) xs es
-    → ((first : List ℕ) (before : List Effect) → SteadyStands current b first before → SteadyStands next (book_after b xs) first (before ++ es)) → Stops next (book_after b xs) ys fault At ds → Stops current b (xs ++ ys) fault At (es ++ ds)
+    → ((first : List ℕ) (before : List Effect) → SteadyStands current (as_stored b) first before → SteadyStands next (as_stored (book_after b xs)) first (before ++ es)) → Stops next (book_after b xs) ys fault At ds → Stops current b (xs ++ ys) fault At (es ++ ds)
 stops_behind current next b xs ys fault At es ds done raised opened numbered leaves stops = record {
   front = xs ++ stops.front;
   rest = stops.rest;
@@ -338,10 +341,6 @@ performs_stopped store xs ys halt es one = record {
   writes = λ order. written_before store.journal store.book xs ys (is_of_disk halt) es (one.writes (order_two store.book xs ys order).0);
   stopped = stops_before store.journal store.book xs ys halt es one.stopped;
 }
-
-take_nothing : {A : Type 0} (n : ℕ) → ◌≡◌ {A = List A} (take n []) []
-take_nothing zero = refl
-take_nothing (suc n) = refl
 
 -- at no effect the store has what it had
 pub saved_still : (store : Stored) (acts : List Act) → Saves store acts []
@@ -462,9 +461,9 @@ performs_deed store effect act deed = record {
         rest = [];
         parts = refl;
         same = rw deed.done.does refl;
-        recovers = rw (deed.keeps store.book) ((stands_quiet store.journal store.book first before effect deed.quiet stands).images file image).recovers;
+        recovers = rw (deed.keeps store.book) ((stands_quiet store.journal (as_stored store.book) first before effect deed.quiet stands).images file image).recovers;
       });
-  leaves = (sym (deed.keeps store.book), λ first before stands. stands_quiet store.journal store.book first before effect deed.quiet stands);
+  leaves = (sym (deed.keeps store.book), λ first before stands. stands_quiet store.journal (as_stored store.book) first before effect deed.quiet stands);
   counts = record { at_least = omega arith; at_most = omega arith };
   opens = omega (arith, unopened effect deed.quiet, deed.uncounted);
   worn = λ e. absurd cc;

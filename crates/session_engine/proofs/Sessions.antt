@@ -28,7 +28,7 @@ use Rattle.session_engine.specs.declared.acts.Act.TheVariants.{Commit}
 use Rattle.session_engine.specs.declared.fault.Halt.{Halt}
 use Rattle.session_engine.specs.declared.fault.Halt.TheVariants.{Links, Console, Disk, Worn as WearsIt, NoMemory as WantsMemory}
 use Rattle.session_engine.specs.declared.fault.ServeFault.{ServeFault}
-use Rattle.session_engine.specs.declared.fault.ServeFault.TheVariants.{Damaged, WrongSize, DiskFault, LinkFault, ConsoleFault, Worn, Spent, NoMemory}
+use Rattle.session_engine.specs.declared.fault.ServeFault.TheVariants.{Damaged, WrongSize, TooManySessions, DiskFault, LinkFault, ConsoleFault, Worn, Spent, NoMemory}
 use Rattle.session_engine.specs.declared.session.Session.{Session}
 use Rattle.session_engine.proofs.Committing.{all_then, order_two, written_heard, written_then}
 use Rattle.session_engine.proofs.Neighbours.{order_script}
@@ -37,6 +37,7 @@ use Rattle.checkpoint_journal.proofs.Swapping.{opened_in-append}
 use Rattle.session_engine.proofs.Settling.{settle_more}
 use Rattle.session_engine.proofs.Performing.{book_after-append, commits_in-append, found_more, numbered_then, raised_then, saved_behind, stands_quiet, stops_behind, whole_done}
 use Rattle.session_engine.proofs.Running as of
+use Rattle.session_engine.specs.Standing.{as_stored}
 
 -- a halt cuts the run short
 halt_cuts : (halt : Halt) → is_whole (Err (fault_of halt)) ≡ true → ⊥
@@ -107,6 +108,7 @@ run_writes current b acts WantsMemory es has = has
 calm_over : (fault : ServeFault) → StopsAt fault [] → is_disk_fault fault ≡ false
 calm_over (Damaged at) stops = refl
 calm_over (WrongSize size) stops = refl
+calm_over TooManySessions stops = refl
 calm_over DiskFault stops = absurd stops
 calm_over LinkFault stops = refl
 calm_over ConsoleFault stops = refl
@@ -123,6 +125,7 @@ over_writes current b acts whole fault es stops has =
 all_numbered : (fault : ServeFault) (store : Stored) (acts : List Act) (es : List Effect) → StopsAt fault [] → IsNumbered store acts es → HasNumbers store fault acts es
 all_numbered (Damaged at) store acts es stops numbered = numbered
 all_numbered (WrongSize size) store acts es stops numbered = numbered
+all_numbered TooManySessions store acts es stops numbered = numbered
 all_numbered DiskFault store acts es stops numbered = absurd stops
 all_numbered LinkFault store acts es stops numbered = numbered
 all_numbered ConsoleFault store acts es stops numbered = numbered
@@ -165,7 +168,7 @@ module _ (config : Config) (opening : Book) where
   opening_script : (zs : List Effect) → heard zs ≡ [] → script (heard zs) ≡ of.opening_acts config opening
   opening_script zs deaf = ap script deaf ∙ append-nil (of.opening_acts config opening)
 
-  opening_keeps : (current : Option Current) (answer : Result Stored Halt) (es : List Effect) → Performs (store_of current opening) (of.opening_acts config opening) answer es → (first : List ℕ) (before : List Effect) → SteadyStands current opening first before → Keeps first before es
+  opening_keeps : (current : Option Current) (answer : Result Stored Halt) (es : List Effect) → Performs (store_of current opening) (of.opening_acts config opening) answer es → (first : List ℕ) (before : List Effect) → SteadyStands current (as_stored opening) first before → Keeps first before es
   opening_keeps current answer es performs first before stands = record {
     saved = λ n file image. rw (opening_script (take n es) (deaf_take n es performs.out.going.deaf)) (performs.saves first before stands n file image);
     none_behind = λ n event more is_heard. absurd (of.none_is_heard event (heard more) (sym (ap heard is_heard) ∙ of.deaf_back (heard (take n es)) (heard (drop n es)) (of.heard_parts n es performs.out.going.deaf)));
@@ -222,21 +225,21 @@ module _ (config : Config) (opening : Book) where
   acts_at es event = acts_of (step (after_all start (heard es)) event)
 
   -- the store as the event was heard
-  stands_heard : (current : Option Current) (session : Session) (es : List Effect) (event : Event) → StandsFor current session es → (first : List ℕ) (before : List Effect) → SteadyStands current opening first before → SteadyStands session.store.journal (book_after opening (script (heard es))) first ((before ++ es) ++ Heard event ∷ [])
+  stands_heard : (current : Option Current) (session : Session) (es : List Effect) (event : Event) → StandsFor current session es → (first : List ℕ) (before : List Effect) → SteadyStands current (as_stored opening) first before → SteadyStands session.store.journal (as_stored (book_after opening (script (heard es)))) first ((before ++ es) ++ Heard event ∷ [])
   stands_heard current session es event held first before stands =
-      stands_quiet session.store.journal (book_after opening (script (heard es))) first (before ++ es) (Heard event) tt (held.store first before stands)
+      stands_quiet session.store.journal (as_stored (book_after opening (script (heard es)))) first (before ++ es) (Heard event) tt (held.store first before stands)
 
   -- and the turn of the store for the book that it has
-  turn_heard : (current : Option Current) (session : Session) (es : List Effect) (event : Event) → StandsFor current session es → (first : List ℕ) (before : List Effect) → SteadyStands current opening first before → SteadyStands session.store.journal session.store.book first ((before ++ es) ++ Heard event ∷ [])
+  turn_heard : (current : Option Current) (session : Session) (es : List Effect) (event : Event) → StandsFor current session es → (first : List ℕ) (before : List Effect) → SteadyStands current (as_stored opening) first before → SteadyStands session.store.journal (as_stored session.store.book) first ((before ++ es) ++ Heard event ∷ [])
   turn_heard current session es event held first before stands = rw held.saved (stands_heard current session es event held first before stands)
 
-  saved_more : (current : Option Current) (session : Session) (es ds : List Effect) (event : Event) (answer : Result Stored Halt) → StandsFor current session es → Performs session.store (acts_at es event) answer ds → (first : List ℕ) (before : List Effect) → SteadyStands current opening first before → (k : ℕ) (file : List ℕ) → Image first (before ++ (es ++ Heard event ∷ take k ds)) file → IsSaved opening (script (heard (es ++ Heard event ∷ take k ds))) (deeds (es ++ Heard event ∷ take k ds)) file
+  saved_more : (current : Option Current) (session : Session) (es ds : List Effect) (event : Event) (answer : Result Stored Halt) → StandsFor current session es → Performs session.store (acts_at es event) answer ds → (first : List ℕ) (before : List Effect) → SteadyStands current (as_stored opening) first before → (k : ℕ) (file : List ℕ) → Image first (before ++ (es ++ Heard event ∷ take k ds)) file → IsSaved opening (script (heard (es ++ Heard event ∷ take k ds))) (deeds (es ++ Heard event ∷ take k ds)) file
   saved_more current session es ds event answer held performs first before stands k file image =
       let later = performs.saves first ((before ++ es) ++ Heard event ∷ []) (turn_heard current session es event held first before stands) k file (rw (places before es (take k ds) event) at image) in
       rw (of.script-more config opening es (take k ds) event (deaf_take k ds performs.out.going.deaf) held.unfinished, of.deeds-more es (take k ds) event, held.all_done)
       (saved_behind opening (script (heard es)) (acts_at es event) (deeds (take k ds)) file (rw held.saved at later))
 
-  keeps_more : (current : Option Current) (session : Session) (es ds : List Effect) (event : Event) (answer : Result Stored Halt) → StandsFor current session es → Performs session.store (acts_at es event) answer ds → (first : List ℕ) (before : List Effect) → SteadyStands current opening first before → Keeps first before (es ++ Heard event ∷ ds)
+  keeps_more : (current : Option Current) (session : Session) (es ds : List Effect) (event : Event) (answer : Result Stored Halt) → StandsFor current session es → Performs session.store (acts_at es event) answer ds → (first : List ℕ) (before : List Effect) → SteadyStands current (as_stored opening) first before → Keeps first before (es ++ Heard event ∷ ds)
   keeps_more current session es ds event answer held performs first before stands = record {
     saved = of.each_front (λ zs. (file : List ℕ) → Image first (before ++ zs) file → IsSaved opening (script (heard zs)) (deeds zs) file) es ds event
         ((held.keeps first before stands).saved)
@@ -251,7 +254,7 @@ module _ (config : Config) (opening : Book) where
       rw (of.script-more config opening es ds event performs.out.going.deaf held.unfinished, book_after-append opening (script (heard es)) (acts_at es event))
       (performs.leaves.0 ∙ ap (λ b. book_after b (acts_at es event)) held.saved)
 
-  store_more : (current : Option Current) (session : Session) (next : Stored) (es ds : List Effect) (event : Event) → StandsFor current session es → Performs session.store (acts_at es event) (Ok next) ds → (first : List ℕ) (before : List Effect) → SteadyStands current opening first before → SteadyStands next.journal (book_after opening (script (heard (es ++ Heard event ∷ ds)))) first (before ++ (es ++ Heard event ∷ ds))
+  store_more : (current : Option Current) (session : Session) (next : Stored) (es ds : List Effect) (event : Event) → StandsFor current session es → Performs session.store (acts_at es event) (Ok next) ds → (first : List ℕ) (before : List Effect) → SteadyStands current (as_stored opening) first before → SteadyStands next.journal (as_stored (book_after opening (script (heard (es ++ Heard event ∷ ds))))) first (before ++ (es ++ Heard event ∷ ds))
   store_more current session next es ds event held performs first before stands =
       rw (places before es ds event)
       (rw (saved_next current session next es ds event held performs) at (performs.leaves.1 first ((before ++ es) ++ Heard event ∷ []) (turn_heard current session es event held first before stands)))

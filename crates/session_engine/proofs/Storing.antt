@@ -30,6 +30,8 @@ use Rattle.session_engine.proofs.Adding.{still}
 use Rattle.session_engine.proofs.Committing.{book_written, cut_written, none_written}
 use Rattle.session_engine.proofs.Performing.{found_now, none_numbered, performs_none, saved_still}
 use Rattle.session_engine.proofs.Settling.{settle_none}
+use Rattle.session_engine.proofs.Standing.{stored_order}
+use Rattle.session_engine.specs.Standing.{as_stored}
 
 -- The store's effects are nothing to anyone else.
 record IsSilent (es : List Effect) : Type 0 where
@@ -76,20 +78,20 @@ either_book current old book answer es writes first before stands =
     any_front (λ zs. (file : List ℕ) → Image first (before ++ zs) file → Recovers file (Ok old) ⊎ Recovers file (Ok book)) es (writes.swap first before stands)
 
 -- either checkpoint stands behind a front of the commit, none of which is a deed
-saved_by : (opening book : Book) (file : List ℕ) → Recovers file (Ok opening) ⊎ Recovers file (Ok book) → IsSaved opening (Commit book ∷ []) [] file
+saved_by : (opening book : Book) (file : List ℕ) → Recovers file (Ok (as_stored opening)) ⊎ Recovers file (Ok (as_stored book)) → IsSaved opening (Commit book ∷ []) [] file
 saved_by opening book file (inl old) = record { front = []; rest = Commit book ∷ []; parts = refl; same = refl; recovers = old }
 saved_by opening book file (inr new) = record { front = Commit book ∷ []; rest = []; parts = refl; same = refl; recovers = new }
 
-saves_book : (store : Stored) (book : Book) (answer : Result (Option Current) StoreFault) (es : List Effect) → Writes store.journal store.book book answer es → Saves store (Commit book ∷ []) es
+saves_book : (store : Stored) (book : Book) (answer : Result (Option Current) StoreFault) (es : List Effect) → Writes store.journal (as_stored store.book) (as_stored book) answer es → Saves store (Commit book ∷ []) es
 saves_book store book answer es writes first before stands n file image =
-    rw ((silent (take n es) (store_front n es writes.store)).still) (saved_by store.book book file (either_book store.journal store.book book answer es writes first before stands n file image))
+    rw ((silent (take n es) (store_front n es writes.store)).still) (saved_by store.book book file (either_book store.journal (as_stored store.book) (as_stored book) answer es writes first before stands n file image))
 
-left_by : (opening book : Book) (file : List ℕ) → Recovers file (Ok opening) ⊎ Recovers file (Ok book) → IsLeft FailsOnDisk opening [] (Commit book ∷ []) file
+left_by : (opening book : Book) (file : List ℕ) → Recovers file (Ok (as_stored opening)) ⊎ Recovers file (Ok (as_stored book)) → IsLeft FailsOnDisk opening [] (Commit book ∷ []) file
 left_by opening book file (inl old) = inl old
 left_by opening book file (inr new) = inr (refl, new)
 
 -- a commit that the disk refused
-performs_refused : (store : Stored) (book : Book) (es : List Effect) → KeepsRules store.book → KeepsRules book → Writes store.journal store.book book (Err DiskFault) es → Performs store (Commit book ∷ []) (Err Disk) es
+performs_refused : (store : Stored) (book : Book) (es : List Effect) → KeepsRules store.book → KeepsRules book → Writes store.journal (as_stored store.book) (as_stored book) (Err DiskFault) es → Performs store (Commit book ∷ []) (Err Disk) es
 performs_refused store book es old_rules rules writes =
     let s = silent es writes.store in
     record {
@@ -105,7 +107,7 @@ performs_refused store book es old_rules rules writes =
       worn = λ e. absurd cc;
       numbered = tt;
       settles = λ not. absurd (not refl);
-      writes = λ order. cut_written store.journal store.book book es s.still (silent_store es writes.store) (writes.commits (order.0 old_rules rules));
+      writes = λ order. cut_written store.journal store.book book es s.still (silent_store es writes.store) (writes.commits (stored_order store.book book old_rules rules (order.0.order old_rules rules)));
       stopped = record {
         front = [];
         rest = Commit book ∷ [];
@@ -114,7 +116,7 @@ performs_refused store book es old_rules rules writes =
         at = refl;
         opens = inl refl;
         numbers = (none_numbered store es, found_now store es writes.why_not);
-        leaves = λ first before stands file image. left_by store.book book file (either_book store.journal store.book book (Err DiskFault) es writes first before stands (length es) file (rw (take_all (length es) es (omega arith)) image));
+        leaves = λ first before stands file image. left_by store.book book file (either_book store.journal (as_stored store.book) (as_stored book) (Err DiskFault) es writes first before stands (length es) file (rw (take_all (length es) es (omega arith)) image));
       };
     }
 
@@ -130,7 +132,7 @@ one_numbered store book es number [] rest other parts = found_now store es numbe
 one_numbered store book es number (x ∷ front) rest other parts = absurd (no_commit front rest other (behind_first x (Commit book) (front ++ Commit other ∷ rest) [] parts))
 
 -- a commit that stands in the store
-performs_commit : (store next : Stored) (book : Book) (es : List Effect) → KeepsRules store.book → KeepsRules book → next.book ≡ book → Writes store.journal store.book book (Ok next.journal) es → Performs store (Commit book ∷ []) (Ok next) es
+performs_commit : (store next : Stored) (book : Book) (es : List Effect) → KeepsRules store.book → KeepsRules book → next.book ≡ book → Writes store.journal (as_stored store.book) (as_stored book) (Ok next.journal) es → Performs store (Commit book ∷ []) (Ok next) es
 performs_commit store next book es old_rules rules same writes =
     let s = silent es writes.store in
     record {
@@ -146,7 +148,7 @@ performs_commit store next book es old_rules rules same writes =
       worn = λ e. absurd cc;
       numbered = one_numbered store book es writes.numbered;
       settles = λ not. writes.settles (λ e. absurd cc);
-      writes = λ order. book_written store.journal next.journal store.book book es s.still (silent_store es writes.store) (writes.commits (order.0 old_rules rules));
+      writes = λ order. book_written store.journal next.journal store.book book es s.still (silent_store es writes.store) (writes.commits (stored_order store.book book old_rules rules (order.0.order old_rules rules)));
       stopped = tt;
     }
 
@@ -186,10 +188,10 @@ performs_worn store book last = record {
 
 -- Calls of the disk, whether the world tells its effects or not
 
-pub told_commit : (store next : Stored) (book : Book) (old new : Option (List Effect)) → KeepsRules store.book → KeepsRules book → next.book ≡ book → Added old new (Writes store.journal store.book book (Ok next.journal)) → Added old new (Performs store (Commit book ∷ []) (Ok next))
+pub told_commit : (store next : Stored) (book : Book) (old new : Option (List Effect)) → KeepsRules store.book → KeepsRules book → next.book ≡ book → Added old new (Writes store.journal (as_stored store.book) (as_stored book) (Ok next.journal)) → Added old new (Performs store (Commit book ∷ []) (Ok next))
 told_commit store next book old new old_rules rules same did = record { effects = did.effects; added = did.added; holds = performs_commit store next book did.effects old_rules rules same did.holds }
 
-pub told_uncommitted : (store : Stored) (book : Book) (fault : StoreFault) (old new : Option (List Effect)) → KeepsRules store.book → KeepsRules book → Added old new (Writes store.journal store.book book (Err fault)) → Added old new (Performs store (Commit book ∷ []) (Err (commit_halt_of fault)))
+pub told_uncommitted : (store : Stored) (book : Book) (fault : StoreFault) (old new : Option (List Effect)) → KeepsRules store.book → KeepsRules book → Added old new (Writes store.journal (as_stored store.book) (as_stored book) (Err fault)) → Added old new (Performs store (Commit book ∷ []) (Err (commit_halt_of fault)))
 told_uncommitted store book (WrongSize size) old new old_rules rules did = absurd did.holds.why_not
 told_uncommitted store book (Damaged at) old new old_rules rules did = absurd did.holds.why_not
 told_uncommitted store book DiskFault old new old_rules rules did = record { effects = did.effects; added = did.added; holds = performs_refused store book did.effects old_rules rules did.holds }

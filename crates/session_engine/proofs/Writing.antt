@@ -1,8 +1,10 @@
 -- A commit by the journal: an append or a compaction.
-use Rattle.std.proofs.Common.{◌≡◌, arith, ℕ, ◌+◌, ◌<◌, ◌^◌, List, [], ◌∷◌, length, Option, None, Some, Ok, Err, refl, sym, subst, inl, inr}
+use Rattle.std.proofs.Common.{◌≡◌, arith, ℕ, zero, suc, ◌+◌, ◌<◌, ◌^◌, List, [], ◌∷◌, length, take, Option, None, Some, Ok, Err, refl, sym, subst, inl, inr}
+use Rattle.std.proofs.lemmas.List.{append-nil}
 use Rattle.std.specs.List.{AllByRecursion}
 use Rattle.sm_world.specs.declared.effects.Effect.{Effect}
 use Rattle.checkpoint_records.specs.Rules.{KeepsRules}
+use Rattle.checkpoint_records.specs.declared.head.Format.TheVariants.{Several}
 use Rattle.checkpoint_records.specs.declared.records.Book.{Book}
 use Rattle.checkpoint_changes.specs.Amendments.{Amended}
 use Rattle.checkpoint_changes.specs.Changes.{IsChange, change_cells}
@@ -22,6 +24,24 @@ use Rattle.session_engine.specs.Commits.{IsCommit, WritesBook}
 use Rattle.session_engine.specs.Settled.{Settle}
 use Rattle.session_engine.specs.Store.{Makes, WhyUnwritten, Writes}
 use Rattle.session_engine.proofs.Settling.{settle_all, settle_none}
+
+pub take_nothing : {A : Type 0} (n : ℕ) → ◌≡◌ {A = List A} (take n []) []
+take_nothing zero = refl
+take_nothing (suc n) = refl
+
+-- where nothing was done for want of memory
+pub nothing_writes : (current : Option Current) (old book : Book) → Writes current old book (Err NoMemory) []
+nothing_writes current old book = record {
+  store = tt;
+  swap = λ first before stands n few file image. inl (stands.images file (rw (take_nothing {A = Effect} n, append-nil before) at image)).recovers;
+  turn = λ first before stands. tt;
+  raised = tt;
+  numbered = tt;
+  opens = tt;
+  settles = λ not. settle_none;
+  why_not = refl;
+  commits = λ order. tt;
+}
 
 -- puts leave no byte in doubt
 settle_puts : (puts : List (ℕ × List ℕ)) (es : List Effect) → es ≡ all_put puts → Settle es
@@ -83,7 +103,7 @@ writes_not current old book (Some journal) fault es store swap had commits why =
 -- An append
 
 module _ (current : Option Current) (old book : Book) (delta : List Change) (room : HasRoomFor current (size_of delta)) (rules : KeepsRules book) (epoch : book.epoch < 2 ^ 32) (makes : Makes old delta book) where
-  amends : Amended change_cells IsChange old delta book
+  amends : Amended (change_cells Several) (IsChange Several) old delta book
   amends = record { changes = makes.changes; size = small current (size_of delta) room; applied = makes.applied; rules = rules; epoch = epoch }
 
   end_is : (gate : ℕ) × (end_in current ≡ Some gate)

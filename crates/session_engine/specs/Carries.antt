@@ -22,11 +22,12 @@ use Rattle.session_engine.specs.Doing.{items}
 use Rattle.session_engine.specs.Machine.{Item, script_of, run_of}
 use Rattle.session_engine.specs.Saved.{IsSaved, WearsOut}
 use Rattle.session_engine.specs.Settled.{Settle}
+use Rattle.session_engine.specs.Standing.{as_stored}
 use Rattle.session_engine.specs.Stops.{HasOpened, IsLeft, IsNumbered, Stops, StopsAt}
 use Rattle.session_engine.specs.Store.{store_of}
 use Rattle.session_engine.specs.declared.acts.Act.{Act}
 use Rattle.session_engine.specs.declared.fault.ServeFault.{ServeFault}
-use Rattle.session_engine.specs.declared.fault.ServeFault.TheVariants.{Damaged, WrongSize, DiskFault, LinkFault, ConsoleFault, Worn, Spent, NoMemory}
+use Rattle.session_engine.specs.declared.fault.ServeFault.TheVariants.{Damaged, WrongSize, TooManySessions, DiskFault, LinkFault, ConsoleFault, Worn, Spent, NoMemory}
 use Rattle.checkpoint_slots.specs.Layout.{store_size}
 
 -- a run that wasn't cut short by a fault
@@ -35,13 +36,14 @@ is_whole (Ok x) = true
 is_whole (Err Spent) = true
 is_whole (Err (Damaged at)) = false
 is_whole (Err (WrongSize size)) = false
+is_whole (Err TooManySessions) = false
 is_whole (Err DiskFault) = false
 is_whole (Err LinkFault) = false
 is_whole (Err ConsoleFault) = false
 is_whole (Err Worn) = false
 is_whole (Err NoMemory) = false
 
--- All that follows is said of a session with this cookie that opens this book.
+-- All that follows is said of a session with this cookie that opens this book of its own.
 module _ (config : Config) (opening : Book) where
   -- the acts of the session machine for these events
   abbrev pub script : List Event → List Act
@@ -64,7 +66,7 @@ module _ (config : Config) (opening : Book) where
 
   -- a file recovers to the last checkpoint that the machine decided
   abbrev pub IsCurrent : List Effect → List ℕ → Type 0
-  IsCurrent effects file = Recovers file (Ok (book_after opening (script (heard effects))))
+  IsCurrent effects file = Recovers file (Ok (as_stored (book_after opening (script (heard effects)))))
 
   -- What a crash leaves, where the store began with the bytes `first` and had these effects before the run.
   pub record Keeps (first : List ℕ) (before effects : List Effect) : Type 0 where
@@ -87,9 +89,9 @@ module _ (config : Config) (opening : Book) where
     pub carries : Carries effects answer
     -- events and deeds stand in the machine's order
     pub in_order : is_whole answer ≡ true → items effects ≡ run (heard effects)
-    pub keeps : (first : List ℕ) (before : List Effect) → SteadyStands current opening first before → Keeps first before effects
+    pub keeps : (first : List ℕ) (before : List Effect) → SteadyStands current (as_stored opening) first before → Keeps first before effects
     -- where no fault cut the run short, the last checkpoint is in the store
-    pub is_current : is_whole answer ≡ true → (first : List ℕ) (before : List Effect) → SteadyStands current opening first before → (file : List ℕ) → Image first (before ++ effects) file → IsCurrent effects file
+    pub is_current : is_whole answer ≡ true → (first : List ℕ) (before : List Effect) → SteadyStands current (as_stored opening) first before → (file : List ℕ) → Image first (before ++ effects) file → IsCurrent effects file
     -- and a gate of the store was opened for each of the machine's commits
     pub opens : is_whole answer ≡ true → opened_in effects ≡ commits_in (script (heard effects))
     -- no fault of the recovery comes any more
@@ -133,45 +135,56 @@ module _ (config : Config) (opening : Book) where
     pub keeps : Keeps file [] effects
     pub is_current : is_whole answer ≡ true → (left : List ℕ) → Image file effects left → IsCurrent effects left
     pub stopped : IfErr answer (λ fault. IsCutShort file fault effects)
-    -- the book that was opened keeps the rules
+    -- the book that was opened keeps the rules, and is the session's
     pub rules : KeepsRules opening
+    pub called : opening.name ≡ config.session
 
 -- The beginning of a run
 
--- What recovery found is what each file stands for of which no byte is in doubt. It has the size of a store.
+-- What recovery found is what each file stands for of which no byte is in doubt: this book, as it stands in a store. It has the size of one.
 abbrev pub IsRecovered : Outside → Book → Option Current → Type 0
-IsRecovered outside book current = (file : List ℕ) → IsSettled outside file → (length file ≡ store_size) × SteadyFile current book file
+IsRecovered outside book current = (file : List ℕ) → IsSettled outside file → (length file ≡ store_size) × SteadyFile current (as_stored book) file
 
--- Why no run was begun, where the disk tells this size: in this order, the size, a damage, and an epoch that can't be raised.
-abbrev pub IsUnopened : Outside → ℕ → ServeFault → Type 0
-IsUnopened outside told (WrongSize size) = (size ≡ told) × (size ≢ store_size)
-IsUnopened outside told (Damaged at) = (told ≡ store_size) × ((file : List ℕ) → IsSettled outside file → Recovers file (Err at))
-IsUnopened outside told Worn = (told ≡ store_size) × ((book : Book) × (current : Option Current) × IsRecovered outside book current × (book.epoch ≡ 4294967295))
-IsUnopened outside told DiskFault = Unit {0}
-IsUnopened outside told NoMemory = Unit {0}
-IsUnopened outside told LinkFault = ⊥
-IsUnopened outside told ConsoleFault = ⊥
-IsUnopened outside told Spent = ⊥
+-- It is the book of this session.
+pub record IsOpened (session : List ℕ) (outside : Outside) (book : Book) (current : Option Current) : Type 0 where
+  pub recovered : IsRecovered outside book current
+  pub called : book.name ≡ session
+  pub rules : KeepsRules book
+
+-- Why no run was begun, where the disk tells this size: in this order, the size, a damage, as many other sessions as a store may have, and
+-- where there is room for this one an epoch that can't be raised.
+abbrev pub IsUnopened : List ℕ → Outside → ℕ → ServeFault → Type 0
+IsUnopened session outside told (WrongSize size) = (size ≡ told) × (size ≢ store_size)
+IsUnopened session outside told (Damaged at) = (told ≡ store_size) × ((file : List ℕ) → IsSettled outside file → Recovers file (Err at))
+IsUnopened session outside told TooManySessions = (told ≡ store_size) × ((book : Book) × (current : Option Current) × IsOpened session outside book current × (length book.others ≡ 8))
+IsUnopened session outside told Worn = (told ≡ store_size) × ((book : Book) × (current : Option Current) × IsOpened session outside book current × (length book.others ≤ 7) × (book.epoch ≡ 4294967295))
+IsUnopened session outside told DiskFault = Unit {0}
+IsUnopened session outside told NoMemory = Unit {0}
+IsUnopened session outside told LinkFault = ⊥
+IsUnopened session outside told ConsoleFault = ⊥
+IsUnopened session outside told Spent = ⊥
 
 -- nothing was done, and the store has its size still
-pub record Rests (old new : Outside) (fault : ServeFault) : Type 0 where
+pub record Rests (session : List ℕ) (old new : Outside) (fault : ServeFault) : Type 0 where
   pub told : new.told ≡ old.told
   pub kept : KeepsToldSize old new
-  pub cause : IsUnopened old new.size fault
+  pub cause : IsUnopened session old new.size fault
 
--- The store was recovered, its epoch can be raised, and these effects were added over its book.
-pub record Opens (old new : Outside) (P : Book → Option Current → List Effect → Type 0) : Type 0 where
+-- The store was recovered, its epoch can be raised, there is room for this session, and these effects were added over its book.
+pub record Opens (session : List ℕ) (old new : Outside) (P : Book → Option Current → List Effect → Type 0) : Type 0 where
   pub book : Book
   pub current : Option Current
   pub recovered : IsRecovered old book current
+  pub called : book.name ≡ session
   pub size : new.size ≡ store_size
   pub below : book.epoch < 4294967295
+  pub few : length book.others ≤ 7
   pub rules : KeepsRules book
   pub adds : Added old.told new.told (P book current)
 
 -- what a call that opens a store may do at a fault
-abbrev pub FailsOr : Outside → Outside → (Book → Option Current → List Effect → Type 0) → ServeFault → Type 0
-FailsOr old new P fault = Rests old new fault ⊎ Opens old new P
+abbrev pub FailsOr : List ℕ → Outside → Outside → (Book → Option Current → List Effect → Type 0) → ServeFault → Type 0
+FailsOr session old new P fault = Rests session old new fault ⊎ Opens session old new P
 
 -- After these effects of a store that began with this file the same world can be served again: no byte of it is in doubt, and it is one of
 -- the files that a crash could leave, so that it has the checkpoint that each of those has.

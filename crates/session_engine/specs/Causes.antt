@@ -9,7 +9,7 @@ use Rattle.checkpoint_slots.specs.declared.fault.StoreFault.TheVariants.{WrongSi
 use Rattle.session_engine.specs.declared.fault.Halt.{Halt}
 use Rattle.session_engine.specs.declared.fault.Halt.TheVariants.{Links, Console, Disk, Worn as WearsOut, NoMemory as WantsMemory}
 use Rattle.session_engine.specs.declared.fault.ServeFault.{ServeFault}
-use Rattle.session_engine.specs.declared.fault.ServeFault.TheVariants.{Damaged, WrongSize, DiskFault, LinkFault, ConsoleFault, Worn, Spent, NoMemory}
+use Rattle.session_engine.specs.declared.fault.ServeFault.TheVariants.{Damaged, WrongSize, TooManySessions, DiskFault, LinkFault, ConsoleFault, Worn, Spent, NoMemory}
 
 -- why a call on the links did nothing
 abbrev pub halt_of : Failure → Halt
@@ -74,6 +74,7 @@ IsNotWorn (Err WantsMemory) = Unit {0}
 abbrev pub HasCause : Faults → Faults → ServeFault → Type 0
 HasCause old new (Damaged at) = Unit {0}
 HasCause old new (WrongSize size) = Unit {0}
+HasCause old new TooManySessions = Unit {0}
 HasCause old new DiskFault = Rose old.disk new.disk
 HasCause old new LinkFault = Rose old.links new.links
 HasCause old new ConsoleFault = Rose old.console new.console
@@ -85,6 +86,7 @@ HasCause old new NoMemory = Unit {0}
 abbrev pub IsOfRun : ServeFault → Type 0
 IsOfRun (Damaged at) = ⊥
 IsOfRun (WrongSize size) = ⊥
+IsOfRun TooManySessions = ⊥
 IsOfRun DiskFault = Unit {0}
 IsOfRun LinkFault = Unit {0}
 IsOfRun ConsoleFault = Unit {0}

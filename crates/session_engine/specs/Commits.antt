@@ -17,11 +17,12 @@ use Rattle.checkpoint_slots.specs.declared.fault.StoreFault.{StoreFault}
 use Rattle.checkpoint_slots.specs.declared.fault.StoreFault.TheVariants.{WrongSize, Damaged, DiskFault, Worn, NoMemory}
 use Rattle.checkpoint_slots.specs.declared.turn.Current.{Current}
 use Rattle.session_engine.specs.Acts.{books_in, deeds_in}
+use Rattle.session_engine.specs.Standing.{as_stored}
 use Rattle.session_engine.specs.declared.acts.Act.{Act}
 use Rattle.session_engine.specs.declared.fault.Halt.{Halt}
 use Rattle.session_engine.specs.declared.fault.Halt.TheVariants.{Links, Console, Disk, Worn as WearsOut, NoMemory as WantsMemory}
 use Rattle.session_engine.specs.declared.fault.ServeFault.{ServeFault}
-use Rattle.session_engine.specs.declared.fault.ServeFault.TheVariants.{Damaged as IsDamaged, WrongSize as HasWrongSize, DiskFault as FailsOnDisk, LinkFault, ConsoleFault, Worn as IsWorn, Spent, NoMemory as LacksMemory}
+use Rattle.session_engine.specs.declared.fault.ServeFault.TheVariants.{Damaged as IsDamaged, WrongSize as HasWrongSize, TooManySessions, DiskFault as FailsOnDisk, LinkFault, ConsoleFault, Worn as IsWorn, Spent, NoMemory as LacksMemory}
 
 -- There is room for what changed, and for the next gate, behind the current book: it is appended there.
 pub record IsAppended (current : Option Current) (delta : List Change) (puts : List (ℕ × List ℕ)) (next : Option Current) : Type 0 where
@@ -44,11 +45,11 @@ pub record IsCommit (current : Option Current) (old book : Book) (puts : List (�
   pub leads : apply old delta ≡ Some book
   pub way : IsAppended current delta puts next ⊎ IsCompacted current delta book puts next
 
--- the commits of these books, one after the other
+-- the commits of these books as they stand in the store, one after the other
 abbrev pub AreCommits : Option Current → Book → List Book → List (ℕ × List ℕ) → Option Current → Type 0
 AreCommits current old [] puts last = (puts ≡ []) × (last ≡ current)
 AreCommits current old (book ∷ books) puts last =
-    (next : Option Current) × (first : List (ℕ × List ℕ)) × (rest : List (ℕ × List ℕ)) × IsCommit current old book first next × AreCommits next book books rest last × (puts ≡ first ++ rest)
+    (next : Option Current) × (first : List (ℕ × List ℕ)) × (rest : List (ℕ × List ℕ)) × IsCommit current (as_stored old) (as_stored book) first next × AreCommits next book books rest last × (puts ≡ first ++ rest)
 
 -- the effects on the store's file
 abbrev pub of_store : Effect → List Effect
@@ -109,6 +110,7 @@ is_of_disk WantsMemory = false
 abbrev pub is_disk_fault : ServeFault → Bool
 is_disk_fault (IsDamaged at) = false
 is_disk_fault (HasWrongSize size) = false
+is_disk_fault TooManySessions = false
 is_disk_fault FailsOnDisk = true
 is_disk_fault LinkFault = false
 is_disk_fault ConsoleFault = false

@@ -5,6 +5,7 @@ use Rattle.checkpoint_records.specs.declared.records.Book.{Book}
 use Rattle.checkpoint_slots.specs.Recovery.{Recovers}
 use Rattle.session_engine.specs.Acts.{Kind, Shown, Saved, Hidden, books_in, kind_of}
 use Rattle.session_engine.specs.Saved.{IsSaved}
+use Rattle.session_engine.specs.Standing.{as_stored}
 use Rattle.session_engine.specs.declared.acts.Act.{Act}
 
 -- the checkpoint at a place, where the opened book stands at 0 and the committed ones behind it; past the end the last one
@@ -35,7 +36,7 @@ pub record IsPlaced (opening : Book) (acts : List Act) (done : ℕ) (file : List
   pub place : ℕ
   pub at_least : before_last acts done ≤ place
   pub at_most : place ≤ until acts done
-  pub recovers : Recovers file (Ok (book_at opening (books_in acts) place))
+  pub recovers : Recovers file (Ok (as_stored (book_at opening (books_in acts) place)))
 
 -- what was said without counting, counted
 abbrev pub SavedIsPlaced : Type 0

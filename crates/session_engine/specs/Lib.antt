@@ -12,6 +12,7 @@ pub mod Counted
 pub mod Carries
 pub mod Session
 pub mod Settled
+pub mod Standing
 pub mod Commits
 pub mod Store
 pub mod Places

@@ -12,6 +12,7 @@ use Rattle.session_engine.specs.Causes.{fault_of}
 use Rattle.session_engine.specs.Commits.{AllWritten, HasWritten, is_of_disk}
 use Rattle.session_engine.specs.Doing.{CarriesOut}
 use Rattle.session_engine.specs.Settled.{Settle}
+use Rattle.session_engine.specs.Standing.{as_stored}
 use Rattle.session_engine.specs.Store.{IsRaised, Leaves, Stored}
 use Rattle.session_engine.specs.Stops.{IsNumbered, IsRefused, Stops}
 use Rattle.session_engine.specs.declared.acts.Act.{Act}
@@ -25,12 +26,12 @@ pub record IsSaved (opening : Book) (acts : List Act) (done : List Deed) (file :
   pub rest : List Act
   pub parts : front ++ rest ≡ acts
   pub same : deeds_in front ≡ done
-  pub recovers : Recovers file (Ok (book_after opening front))
+  pub recovers : Recovers file (Ok (as_stored (book_after opening front)))
 
 -- Where the store's turn stood for its book, at each of these effects each file that a crash may leave has a checkpoint of the acts.
 abbrev pub Saves : Stored → List Act → List Effect → Type 0
 Saves store acts effects =
-    (first : List ℕ) (before : List Effect) → SteadyStands store.journal store.book first before
+    (first : List ℕ) (before : List Effect) → SteadyStands store.journal (as_stored store.book) first before
     → (n : ℕ) (file : List ℕ) → Image first (before ++ take n effects) file → IsSaved store.book acts (deeds (take n effects)) file
 
 -- All before a commit was done, which found a turn whose generations are used up. A commit uses up one of them at most.

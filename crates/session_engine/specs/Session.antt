@@ -13,6 +13,7 @@ use Rattle.session_engine.specs.Carries.{FailsOr, IsOnScript, Keeps, Opens, Runs
 use Rattle.session_engine.specs.Commits.{AllWritten}
 use Rattle.session_engine.specs.Doing.{items}
 use Rattle.session_engine.specs.Settled.{Settle}
+use Rattle.session_engine.specs.Standing.{as_stored}
 use Rattle.session_engine.specs.Machine.{after_all, start}
 use Rattle.session_engine.specs.Stops.{IsNumbered}
 use Rattle.session_engine.specs.Store.{IsRaised, Stored, store_of}
@@ -32,8 +33,8 @@ pub record StandsFor (config : Config) (opening : Book) (current : Option Curren
   pub all_done : deeds effects ≡ deeds_in (script config opening (heard effects))
   pub in_order : items effects ≡ run config opening (heard effects)
   pub on_script : IsOnScript config opening effects
-  pub keeps : (first : List ℕ) (before : List Effect) → SteadyStands current opening first before → Keeps config opening first before effects
-  pub store : (first : List ℕ) (before : List Effect) → SteadyStands current opening first before → SteadyStands session.store.journal (book_after opening (script config opening (heard effects))) first (before ++ effects)
+  pub keeps : (first : List ℕ) (before : List Effect) → SteadyStands current (as_stored opening) first before → Keeps config opening first before effects
+  pub store : (first : List ℕ) (before : List Effect) → SteadyStands current (as_stored opening) first before → SteadyStands session.store.journal (as_stored (book_after opening (script config opening (heard effects)))) first (before ++ effects)
   pub saved : session.store.book ≡ book_after opening (script config opening (heard effects))
   pub counts : IsRaised (commits_in (script config opening (heard effects))) (next_generation current) (next_generation session.store.journal)
   pub opens : opened_in effects ≡ commits_in (script config opening (heard effects))
@@ -53,8 +54,8 @@ kept (Err halt) = Err halt
 
 -- a start hears nothing, and hands out a session that stands for what it added; or it did nothing, or its opening was cut short
 abbrev pub Starts : Config → Outside → Outside → Result Session ServeFault → Type 0
-Starts config old new (Ok session) = Opens old new (λ opening current effects. StandsFor config opening current session effects × (heard effects ≡ []))
-Starts config old new (Err fault) = FailsOr old new (λ opening current effects. IsCut config opening current fault effects × (heard effects ≡ [])) fault
+Starts config old new (Ok session) = Opens config.session old new (λ opening current effects. StandsFor config opening current session effects × (heard effects ≡ []))
+Starts config old new (Err fault) = FailsOr config.session old new (λ opening current effects. IsCut config opening current fault effects × (heard effects ≡ [])) fault
 
 -- a session that goes on shows a machine
 abbrev pub ShowsOn : Stepped → Type 0
@@ -69,5 +70,5 @@ StepsTo config opening current (Err fault) effects = IsCut config opening curren
 
 -- a run over the recovered book; or nothing was done
 abbrev pub Serving : Config → ℕ → Outside → Outside → Result (Unit {0}) ServeFault → Type 0
-Serving config turns old new (Ok x) = Opens old new (λ opening current effects. Serves config opening current old.coming turns (Ok x) effects)
-Serving config turns old new (Err fault) = FailsOr old new (λ opening current effects. Serves config opening current old.coming turns (Err fault) effects) fault
+Serving config turns old new (Ok x) = Opens config.session old new (λ opening current effects. Serves config opening current old.coming turns (Ok x) effects)
+Serving config turns old new (Err fault) = FailsOr config.session old new (λ opening current effects. Serves config opening current old.coming turns (Err fault) effects) fault

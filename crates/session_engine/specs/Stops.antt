@@ -8,13 +8,14 @@ use Rattle.checkpoint_slots.specs.Recovery.{Recovers}
 use Rattle.checkpoint_slots.specs.Turns.{SteadyStands, next_generation, opened_in}
 use Rattle.checkpoint_slots.specs.declared.turn.Current.{Current}
 use Rattle.session_engine.specs.Acts.{book_after, commits_in, deeds_in}
+use Rattle.session_engine.specs.Standing.{as_stored}
 use Rattle.session_engine.specs.Store.{IsRaised, Leaves, Stored, store_of}
 use Rattle.session_engine.specs.declared.acts.Act.{Act}
 use Rattle.session_engine.specs.declared.acts.Act.TheVariants.{Say, Shut, Start, Commit, Print, Finish}
 use Rattle.session_engine.specs.declared.fault.Halt.{Halt}
 use Rattle.session_engine.specs.declared.fault.Halt.TheVariants.{Links, Console, Disk, Worn as WearsOut, NoMemory as WantsMemory}
 use Rattle.session_engine.specs.declared.fault.ServeFault.{ServeFault}
-use Rattle.session_engine.specs.declared.fault.ServeFault.TheVariants.{Damaged, WrongSize, DiskFault, LinkFault, ConsoleFault, Worn, Spent, NoMemory}
+use Rattle.session_engine.specs.declared.fault.ServeFault.TheVariants.{Damaged, WrongSize, TooManySessions, DiskFault, LinkFault, ConsoleFault, Worn, Spent, NoMemory}
 
 abbrev pub is_of_links : Act → Bool
 is_of_links (Say conn message) = true
@@ -57,6 +58,7 @@ IsRefused WantsMemory left = Unit {0}
 abbrev pub StopsAt : ServeFault → List Act → Type 0
 StopsAt (Damaged at) left = Unit {0}
 StopsAt (WrongSize size) left = Unit {0}
+StopsAt TooManySessions left = Unit {0}
 StopsAt DiskFault left = NextIs is_commit left
 StopsAt LinkFault left = (left ≡ []) ⊎ NextIs is_of_links left
 StopsAt ConsoleFault left = NextIs is_print left
@@ -82,6 +84,7 @@ IsNumbered store acts effects = (front rest : List Act) (book : Book) → front 
 abbrev pub HasNumbers : Stored → ServeFault → List Act → List Effect → Type 0
 HasNumbers store (Damaged at) front effects = IsNumbered store front effects
 HasNumbers store (WrongSize size) front effects = IsNumbered store front effects
+HasNumbers store TooManySessions front effects = IsNumbered store front effects
 HasNumbers store DiskFault front effects = IsNumbered store front effects × HasFound store front effects
 HasNumbers store LinkFault front effects = IsNumbered store front effects
 HasNumbers store ConsoleFault front effects = IsNumbered store front effects
@@ -91,7 +94,7 @@ HasNumbers store NoMemory front effects = IsNumbered store front effects
 
 -- A file recovers to the checkpoint behind these acts. Only where the disk failed at the next one may it have that.
 abbrev pub IsLeft : ServeFault → Book → List Act → List Act → List ℕ → Type 0
-IsLeft fault opening front rest file = Recovers file (Ok (book_after opening front)) ⊎ ((fault ≡ DiskFault) × Recovers file (Ok (book_after opening (front ++ take 1 rest))))
+IsLeft fault opening front rest file = Recovers file (Ok (as_stored (book_after opening front))) ⊎ ((fault ≡ DiskFault) × Recovers file (Ok (as_stored (book_after opening (front ++ take 1 rest)))))
 
 -- for each checkpoint among these acts a gate of the store was opened
 abbrev pub HasOpened : ServeFault → List Act → List Effect → Type 0
@@ -107,4 +110,4 @@ pub record Stops (current : Option Current) (opening : Book) (acts : List Act) (
   pub at : At rest
   pub opens : HasOpened fault front effects
   pub numbers : HasNumbers (store_of current opening) fault front effects
-  pub leaves : (first : List ℕ) (before : List Effect) → SteadyStands current opening first before → (file : List ℕ) → Image first (before ++ effects) file → IsLeft fault opening front rest file
+  pub leaves : (first : List ℕ) (before : List Effect) → SteadyStands current (as_stored opening) first before → (file : List ℕ) → Image first (before ++ effects) file → IsLeft fault opening front rest file

@@ -2,6 +2,7 @@
 use Rattle.std.specs.Prelude.{◌≡◌, ◌≢◌, ℕ, ◌+◌, ◌<◌, ◌≤◌, ◌^◌, List, [], ◌++◌, Option, Some, Result, Ok, Err, IfErr, IfOk}
 use Rattle.std.specs.List.{AllByRecursion}
 use Rattle.sm_world.specs.declared.effects.Effect.{Effect}
+use Rattle.checkpoint_records.specs.declared.head.Format.TheVariants.{Several}
 use Rattle.checkpoint_records.specs.declared.records.Book.{Book}
 use Rattle.checkpoint_changes.specs.Changes.{IsChange, apply}
 use Rattle.checkpoint_changes.specs.Plain.{IsPlain, KeepOrder}
@@ -13,9 +14,10 @@ use Rattle.checkpoint_slots.specs.declared.turn.Current.{Current}
 use Rattle.session_engine.specs.Acts.{book_after}
 use Rattle.session_engine.specs.Commits.{WritesBook}
 use Rattle.session_engine.specs.Settled.{Settle}
+use Rattle.session_engine.specs.Standing.{as_stored}
 use Rattle.session_engine.specs.declared.acts.Act.{Act}
 
--- The turn of the journal, and the book that it stands for.
+-- The turn of the journal, and the book of the session that stands in it.
 pub record Stored : Type 0 where
   pub journal : Option Current
   pub book : Book
@@ -25,7 +27,7 @@ store_of current book = record { journal = current; book = book }
 
 -- these changes make the one book of the other
 pub record Makes (old : Book) (delta : List Change) (book : Book) : Type 0 where
-  pub changes : AllByRecursion IsChange delta
+  pub changes : AllByRecursion (IsChange Several) delta
   pub applied : apply old delta ≡ Some book
   pub plain : KeepOrder old book → IsPlain old book delta
 
@@ -61,8 +63,8 @@ abbrev pub journal_of : Result Stored StoreFault → Result (Option Current) Sto
 journal_of (Ok store) = Ok store.journal
 journal_of (Err fault) = Err fault
 
--- the store's turn has the checkpoint behind the acts, and stands for it
+-- the store has the checkpoint behind the acts, and its turn stands for that
 abbrev pub Leaves : Stored → List Act → List Effect → Stored → Type 0
 Leaves store acts effects next =
     (next.book ≡ book_after store.book acts)
-    × ((first : List ℕ) (before : List Effect) → SteadyStands store.journal store.book first before → SteadyStands next.journal next.book first (before ++ effects))
+    × ((first : List ℕ) (before : List Effect) → SteadyStands store.journal (as_stored store.book) first before → SteadyStands next.journal (as_stored next.book) first (before ++ effects))

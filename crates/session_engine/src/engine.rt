@@ -47,6 +47,7 @@ impl Engine {
     /// A session over a book, before anything came. It gives what opens the book.
     pub fn new(alloc: Global, config: Config, book: Book) -> Result<Engine, NoMemory>
         requires rules { KeepsRules book }
+        requires few { length book.others ≤ 7 }
         requires below { book.epoch < 4294967295 }
         ensures shows { IfOk result (λ engine. Shows all_cut engine (start config book)) }
         ensures acts { IfOk result (λ engine. engine.acts ≡ opening_acts book) }

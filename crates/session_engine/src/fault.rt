@@ -14,6 +14,9 @@ pub enum ServeFault {
     /// The store has this size, which is no store's.
     #[error("wrong store size")]
     WrongSize { size: u64 },
+    /// The store has as many other sessions as a store may have.
+    #[error("too many sessions")]
+    TooManySessions,
     /// The disk refused.
     #[error("disk fault")]
     DiskFault,

@@ -17,7 +17,7 @@ mod shell;
 mod store;
 
 pub use acts::Act;
-pub use config::Config;
+pub use config::{Config, config_of_default};
 pub use fault::ServeFault;
 pub use laws::{at_most_64_live, checkpoints_are_in_their_place};
 pub use session::{Session, Stepped, serve};

@@ -1,15 +1,16 @@
-ghost use Rattle.std.specs.Prelude.{◌≡◌, ◌≢◌, ◌<◌, [], ◌∷◌, ◌++◌, ℕ, List, Option, Ok, Err, IfOk, IfErr};
+ghost use Rattle.std.specs.Prelude.{◌≡◌, ◌≢◌, ◌<◌, ◌≤◌, length, [], ◌∷◌, ◌++◌, ℕ, List, Option, Ok, Err, IfOk, IfErr};
 ghost use Rattle.checkpoint_slots.specs.Layout.{store_size};
 ghost use Rattle.sm_world.specs.Effects.{heard};
 ghost use Rattle.sm_world.specs.Outside.{Added, NotFallen};
 ghost use Rattle.sm_world.specs.declared.effects.Effect.{Effect};
 ghost use Rattle.sm_world.specs.declared.effects.Effect.TheVariants.{Heard};
+ghost use Rattle.checkpoint_records.specs.Books.{choose};
 ghost use Rattle.checkpoint_records.specs.declared.records.Book.{Book as AnyBook};
 ghost use Rattle.checkpoint_slots.specs.Causes.{IsSettled};
 ghost use Rattle.checkpoint_slots.specs.Recovery.{Recovers};
 ghost use Rattle.checkpoint_slots.specs.declared.turn.Current.{Current};
 ghost use Rattle.session_engine.specs.Carries.{IsReady, KeepsItsWord};
-ghost use Rattle.checkpoint_records.specs.Rules.{KeepsRules};
+ghost use Rattle.checkpoint_records.specs.Rules.{IsName, KeepsRules};
 ghost use Rattle.session_model.specs.Readings as of;
 ghost use Rattle.session_engine.specs.Causes.{HasCause, HearsNone};
 ghost use Rattle.session_engine.specs.Machine.{Machine, opening_acts, start as begun};
@@ -28,6 +29,9 @@ use owned_lists::NoMemory;
 use session_model::Marks;
 use sm_world::{Console, Disk, Event, Links, Spawner};
 use std::alloc::Global;
+
+/// So many sessions may stand in a store beside the one that runs.
+const OTHERS_LIMIT: usize = 7;
 
 /// A session that is held between events: what is in memory, and the turn of the store.
 #[derive(Drop)]
@@ -48,13 +52,15 @@ pub enum Stepped {
 
 impl Session {
     /// Recovers the store, and does what opens its book. In this order: a file of another size than
-    /// a store is WrongSize, then it is Damaged where it stands for no book, then it is Worn where
-    /// its epoch can't be raised. Nothing was written then.
+    /// a store is WrongSize, then it is Damaged where it stands for no book, then there are
+    /// TooManySessions where it has as many others as a store may have, then it is Worn where its
+    /// epoch can't be raised. Nothing was written then.
     pub fn start<W: Disk + Links + Spawner + Console>(
         alloc: Global,
         world: &mut W,
         config: Config,
     ) -> Result<Session, ServeFault>
+        requires named { IsName config.session }
         ensures starts { Starts config (W.outside world.old) (W.outside world.new) result }
         ensures coming { (W.outside world.new).coming ≡ (W.outside world.old).coming }
         ensures input { (W.outside world.new).input ≡ (W.outside world.old).input }
@@ -66,10 +72,13 @@ impl Session {
         ensures cause { IfErr result
             (HasCause (W.outside world.old).faults (W.outside world.new).faults) }
     {
-        let (store, book) = match Store::recover_from(alloc, world) {
+        let (store, book) = match Store::recover_from(alloc, world, config.session.as_slice()) {
             Ok(recovered) => recovered,
             Err(fault) => return Err(opening_fault(fault)),
         };
+        if book.others.as_slice().len() > OTHERS_LIMIT {
+            return Err(ServeFault::TooManySessions);
+        }
         if book.epoch == u32::MAX {
             return Err(ServeFault::Worn);
         }
@@ -146,6 +155,7 @@ fn open<W: Disk + Links + Spawner + Console>(
 ) -> Result<Session, Halt>
     requires size { (W.outside world.old).size ≡ store_size }
     requires rules { KeepsRules book }
+    requires few { length book.others ≤ 7 }
     requires below { book.epoch < 4294967295 }
     ensures done { Added (W.outside world.old).told (W.outside world.new).told
         (Performs store (opening_acts book) (kept result)) }
@@ -176,12 +186,13 @@ pub fn serve<W: Disk + Links + Spawner + Console>(
     config: Config,
     turns: u64,
 ) -> Result<(), ServeFault>
+    requires named { IsName config.session }
     // What it adds to the effects is a run of the session machine over the events that it was brought.
     ensures serves { Serving config turns (W.outside world.old) (W.outside world.new) result }
     // The same for a store of which no byte was in doubt: at every point of the run each file that a crash could leave has a whole checkpoint.
-    ensures headline { (file : List ℕ) (book : AnyBook) → IsSettled (W.outside world.old) file →
-        Recovers file (Ok book) → Added (W.outside world.old).told (W.outside world.new).told
-        (KeepsItsWord config book file result) }
+    ensures headline { (file : List ℕ) (stored : AnyBook) → IsSettled (W.outside world.old) file →
+        Recovers file (Ok stored) → Added (W.outside world.old).told (W.outside world.new).told
+        (KeepsItsWord config (choose config.session stored) file result) }
     // Where the disk didn't fail the same world can be served again, with the headline.
     ensures ready { (file : List ℕ) → IsSettled (W.outside world.old) file →
         result ≢ Err ServeFault.DiskFault → Added (W.outside world.old).told

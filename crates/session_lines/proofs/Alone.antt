@@ -14,7 +14,7 @@ use Rattle.session_model.specs.declared.events.Act.{Act as SessionAct}
 use Rattle.session_model.specs.declared.events.SessionEvent.{SessionEvent}
 use Rattle.session_model.specs.declared.events.SessionEvent.TheVariants.{Joined as HasJoined, Left, Ready, Said}
 use Rattle.session_model.specs.Moves.{Agreed, Began, Blamed, Cancelled, Closed, Committed, Finished, Gave, History, Move, Outside, Over, Printed, Tried, Unset, acts_of as acts_by_one, all_acts, onto, ◌▷◌}
-use Rattle.session_model.specs.Phases.{is_bound, is_shutdown}
+use Rattle.session_model.specs.Phases.{is_bound}
 use Rattle.session_model.specs.Readings as of
 use Rattle.session_model.specs.Rules.{taken}
 use Rattle.session_model.proofs.Lists.{in-append, in-without}

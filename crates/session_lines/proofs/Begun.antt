@@ -7,7 +7,7 @@ use Rattle.owned_lists.specs.declared.commands.Command.{Command}
 use Rattle.checkpoint_records.specs.declared.records.Book.{Book}
 use Rattle.restart_plan.specs.Restarts.{opening_restarts}
 use Rattle.session_model.specs.declared.events.Act.{Act as SessionAct}
-use Rattle.session_model.specs.Books.{issue, opening_moves, raised}
+use Rattle.session_model.specs.Books.{issue, raised}
 use Rattle.session_model.specs.Moves.{Committed, Move, Restart, acts_of, tried_each}
 use Rattle.session_engine.specs.Acts.{acts_for, acts_for_all}
 use Rattle.session_engine.specs.Machine.{opening_acts, start}

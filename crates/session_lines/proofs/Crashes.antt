@@ -8,12 +8,11 @@ use Rattle.sm_world.specs.declared.events.Event.{Event}
 use Rattle.sm_world.specs.declared.events.Event.TheVariants.{Gone as HasGone, Operator}
 use Rattle.ice_values.specs.declared.refusals.DecodeRefusal.{DecodeRefusal}
 use Rattle.checkpoint_records.specs.declared.records.Book.{Book}
-use Rattle.checkpoint_records.specs.Books.{names}
+use Rattle.checkpoint_records.specs.Books.{choose, names}
 use Rattle.checkpoint_slots.proofs.Once.{recovers-once}
 use Rattle.xsmp_messages.specs.Reading.{decode_at}
 use Rattle.xsmp_messages.specs.declared.message.XsmpMessage.{XsmpMessage}
 use Rattle.xsmp_messages.specs.declared.message.XsmpMessage.TheVariants.{Error as XsmpError}
-use Rattle.checkpoint_slots.specs.Recovery.{Recovers}
 use Rattle.session_engine.specs.declared.config.Config.{Config}
 use Rattle.session_engine.specs.Acts.{book_after, book_with, deeds_in}
 use Rattle.session_engine.specs.Machine.{script_of}
@@ -27,13 +26,18 @@ use Rattle.session_notes.specs.Keeping.{IsOfRun, book_in, is_discarded, new_ids}
 use Rattle.session_notes.specs.Kept.{kept_in}
 use Rattle.session_notes.specs.Notes.{Gone, Note}
 use Rattle.session_notes.proofs.Standing.{Holding, holds-gone, holds-heard, holds-ordered}
-use Rattle.session_lines.specs.Files.{EveryFileIsSafe, FilesForgetDiscards, FilesKeepUp, FilesKeepWhatWasSaved}
+use Rattle.session_lines.specs.Files.{HasSaved, EveryFileIsSafe, FilesForgetDiscards, FilesKeepOtherSessions, FilesKeepUp, FilesKeepWhatWasSaved, OtherSessionsBeginAlike}
 use Rattle.session_lines.specs.Lines.{Comes, Does, Seen, Took, act_of, acts_in, given_in, heard_as, heard_in, is_error, is_open, line, noted, notes}
+use Rattle.session_lines.proofs.Besides.{has-alike}
 use Rattle.session_lines.proofs.Fronts.{laws-hold, turned-is}
 use Rattle.session_lines.specs.Runs.{IsDone, IsNextDeed}
 use Rattle.session_lines.proofs.Passing.{deeds_seen, done-is, left-same, none-done, seen-more}
 use Rattle.session_lines.proofs.Points.{along, discarded-before}
 use Rattle.session_lines.proofs.Script.{acts-line}
+use Rattle.checkpoint_records.specs.Rules.{KeepsRules}
+use Rattle.session_engine.specs.Standing.{as_stored}
+use Rattle.session_engine.proofs.Neighbours.{beside_after}
+use Rattle.session_engine.proofs.Standing.{beside_chosen, stored_epoch}
 
 -- Notes that change neither the book that stands nor the new IDs
 
@@ -268,7 +272,7 @@ with-one : (Holds : List ℕ → Type 0) (Claim : Type 0) (ids : List (List ℕ)
 with-one Holds Claim [] some all = absurd (some refl)
 with-one Holds Claim (id ∷ ids) some all = all.0.1
 
-same-book : (one two : Book) (r s : Result Book ℕ) → r ≡ s → r ≡ Ok one → s ≡ Ok two → one ≡ two
+pub same-book : (one two : Book) (r s : Result Book ℕ) → r ≡ s → r ≡ Ok one → s ≡ Ok two → one ≡ two
 same-book one two r s e f g = cc
 
 book-turned : (book : Book) (front : List Seen) → book_in book (notes front) ≡ book_after book (acts_in front)
@@ -289,18 +293,30 @@ record SavedAt (config : Config) (book saved : Book) (events : List Event) (done
   later : List Seen
   parts : front ++ later ≡ line config book events
   same : deeds_seen front ≡ done
-  is : saved ≡ book_in book (notes front)
+  epoch : saved.epoch ≡ (book_in book (notes front)).epoch
+  is : KeepsRules book → book.name ≡ config.session → saved ≡ book_in book (notes front)
+  beside : KeepsRules book → book.name ≡ config.session → (saved.name ≡ book.name) × (saved.others ≡ book.others)
 
-saved-at : (config : Config) (book saved : Book) (events : List Event) (done : List Deed) (file : List ℕ) → IsSaved book (script_of config book events) done file → Recovers file (Ok saved) → SavedAt config book saved events done
+saved-at : (config : Config) (book saved : Book) (events : List Event) (done : List Deed) (file : List ℕ) → IsSaved book (script_of config book events) done file → HasSaved config file saved → SavedAt config book saved events done
 saved-at config book saved events done file s recovered =
     let at : ActsAt (line config book events) s.front = acts-at (line config book events) s.front s.rest (s.parts ∙ sym (acts-line config book events)) in
+    let stored : Book = recovered.0 in
+    let after : Book = book_after book s.front in
+    let stands : stored ≡ as_stored after = same-book stored (as_stored after) (Ok stored) (Ok (as_stored after)) (recovers-once file (Ok stored) (Ok (as_stored after)) recovered.1 s.recovers) refl refl in
+    let there : after ≡ book_in book (notes at.front) = ap (λ (acts : List Act). book_after book acts) (sym at.same) ∙ sym (book-turned book at.front) in
     record {
       front = at.front;
       later = at.later;
       parts = at.parts;
       same = ap (λ (acts : List Act). deeds_in acts) at.same ∙ s.same;
-      is = same-book saved (book_after book s.front) (Ok saved) (Ok (book_after book s.front)) (recovers-once file (Ok saved) (Ok (book_after book s.front)) recovered s.recovers) refl refl
-          ∙ ap (λ (acts : List Act). book_after book acts) (sym at.same) ∙ sym (book-turned book at.front);
+      epoch = ap (λ (b : Book). b.epoch) (sym recovered.2) ∙ (ap (λ (b : Book). b.epoch) stands ∙ (stored_epoch after ∙ ap (λ (b : Book). b.epoch) there));
+      is = λ rules called.
+          let beside = beside_after config book events s.front s.rest s.parts in
+          sym recovered.2 ∙ (ap (choose config.session) stands ∙ (beside_chosen config.session book after rules called beside.0 beside.1 ∙ there));
+      beside = λ rules called.
+          let beside = beside_after config book events s.front s.rest s.parts in
+          let same : saved ≡ after = sym recovered.2 ∙ (ap (choose config.session) stands ∙ beside_chosen config.session book after rules called beside.0 beside.1) in
+          (ap (λ (b : Book). b.name) same ∙ beside.0, ap (λ (b : Book). b.others) same ∙ beside.1);
     }
 
 pub files-keep-up : FilesKeepUp
@@ -310,20 +326,23 @@ files-keep-up config book saved events done file s recovered seen later parts sa
     let epoch : (book_in book (notes at.front)).epoch ≡ book.epoch + 1 =
     with-one (IsOfRun (book.epoch + 1)) ((book_in book (notes at.front)).epoch ≡ book.epoch + 1) (new_ids (notes at.front)) (λ none. some (ids ∙ none))
     (laws-hold config book at.front (record { events = events; later = at.later; parts = at.parts })).new_ids_are_of_the_run in
-    ap (λ (b : Book). b.epoch) at.is ∙ epoch
+    at.epoch ∙ epoch
 
 pub files-forget : FilesForgetDiscards
-files-forget config book saved events done file rules s recovered seen later parts same next command is =
+files-forget config book saved events done file rules called s recovered seen later parts same next command is =
     let at : SavedAt config book saved events done = saved-at config book saved events done file s recovered in
     let there : is_discarded command (notes at.front) ≡ true = discarded-turned command at.front seen at.later later (at.parts ∙ sym parts) (at.same ∙ sym same) next is in
-    ap (λ (b : Book). names b command) at.is ∙ (laws-hold config book at.front (record { events = events; later = at.later; parts = at.parts })).discarded_states_are_not_named rules command there
+    ap (λ (b : Book). names b command) (at.is rules called) ∙ (laws-hold config book at.front (record { events = events; later = at.later; parts = at.parts })).discarded_states_are_not_named rules command there
 
 pub files-keep : FilesKeepWhatWasSaved
-files-keep config book saved events done file o s recovered seen later parts same next id some =
+files-keep config book saved events done file o called s recovered seen later parts same next id some =
     let at : SavedAt config book saved events done = saved-at config book saved events done file s recovered in
     let there : Holding saved id (kept_in book id (notes at.front)) =
-    subst (λ (b : Book). Holding b id (kept_in book id (notes at.front))) (sym at.is) (λ k. (laws-hold config book at.front (record { events = events; later = at.later; parts = at.parts })).saves_are_kept o id k) in
+    subst (λ (b : Book). Holding b id (kept_in book id (notes at.front))) (sym (at.is o.rules called)) (λ k. (laws-hold config book at.front (record { events = events; later = at.later; parts = at.parts })).saves_are_kept o id k) in
     kept-turned book saved id at.front seen at.later later (at.parts ∙ sym parts) (at.same ∙ sym same) next there some
+
+pub files-keep-others : FilesKeepOtherSessions
+files-keep-others config book saved events done file rules called s recovered = (saved-at config book saved events done file s recovered).beside rules called
 
 pub every-file : EveryFileIsSafe
 every-file config book saved first left answer effects word n image recovered =
@@ -331,7 +350,12 @@ every-file config book saved first left answer effects word n image recovered =
     let s : IsSaved book (script_of config book (heard (take n effects))) (deeds (take n effects)) left = word.keeps.saved n left image in
     record {
       done = done;
+      others = files-keep-others config book saved (heard (take n effects)) (deeds (take n effects)) left word.rules word.called s recovered;
       ids = λ some. files-keep-up config book saved (heard (take n effects)) (deeds (take n effects)) left s recovered done.front done.later done.parts done.same some;
-      discards = λ rules command is. files-forget config book saved (heard (take n effects)) (deeds (take n effects)) left rules s recovered done.front done.later done.parts done.same done.next command is;
-      saves = λ o id some. files-keep config book saved (heard (take n effects)) (deeds (take n effects)) left o s recovered done.front done.later done.parts done.same done.next id some;
+      discards = λ rules command is. files-forget config book saved (heard (take n effects)) (deeds (take n effects)) left rules word.called s recovered done.front done.later done.parts done.same done.next command is;
+      saves = λ o id some. files-keep config book saved (heard (take n effects)) (deeds (take n effects)) left o word.called s recovered done.front done.later done.parts done.same done.next id some;
     }
+
+pub others-begin : OtherSessionsBeginAlike
+others-begin config was is first left answer effects word n image recovered other differ =
+    has-alike config.session other is was differ (every-file config (choose config.session was) (choose config.session is) first left answer effects word n image (is, recovered, refl)).others.1

@@ -22,6 +22,7 @@ use Rattle.session_notes.proofs.Settled.{complete-stands, none-named-by_rules}
 use Rattle.session_notes.proofs.Standing.{Holding}
 use Rattle.session_lines.specs.Laws.{IsSeen, KeepsLaws}
 use Rattle.session_lines.specs.Lines.{Comes, Does, Seen, line, line_from, noted, notes, seen_of}
+use Rattle.session_lines.proofs.Besides.{others-stay}
 use Rattle.session_lines.proofs.Points.{Due, Holds, along, along-append, along-is, holds-front, kept-top}
 use Rattle.session_lines.proofs.Steps.{AtMachine, step-at}
 use Rattle.session_lines.proofs.Told.{noted-given, opened-at}
@@ -89,6 +90,7 @@ laws-hold config book seen s =
       new_ids_differ = k.1.0.1;
       new_ids_are_fresh = λ o c id before after e w. (due-at book seen before after (Does (Say c (Xsmp (RegisterClientReply id)))) e h).1.1 o w;
       old_ids_are_recorded = λ c id before after e. (due-at book seen before after (Does (Say c (Xsmp (RegisterClientReply id)))) e h).1.0;
+      others_stay = λ written before after e. others-stay config book seen s written before after e;
       entries_were_saved = λ written before after e. (due-at book seen before after (Does (Commit written)) e h).0;
       discarded_states_are_not_named = λ rules command e. k.1.1.0 (none-named-by_rules book rules) command e;
       saves_are_kept = λ o id some. k.1.1.1 o id some;

@@ -3,6 +3,7 @@ pub mod Frames
 pub mod Points
 pub mod Told
 pub mod Steps
+pub mod Besides
 pub mod Fronts
 pub mod Script
 pub mod Begun

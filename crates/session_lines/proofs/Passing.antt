@@ -203,14 +203,16 @@ lawful config book effects on n =
     let done : IsDone config book (heard (take n effects)) (deeds (take n effects)) = done-is config book effects on n in
     record { done = done; laws = laws-hold config book done.front (record { events = heard (take n effects); later = done.later; parts = done.parts }) }
 
-opens-lawfully : (config : Config) (turns : ℕ) (old new : Outside) (answer : Result (Unit {0}) ServeFault) → Opens old new (λ opening current effects. Serves config opening current old.coming turns answer effects)
-    → Opens old new (λ book current effects. IsAlwaysLawful config book effects)
+opens-lawfully : (config : Config) (turns : ℕ) (old new : Outside) (answer : Result (Unit {0}) ServeFault) → Opens config.session old new (λ opening current effects. Serves config opening current old.coming turns answer effects)
+    → Opens config.session old new (λ book current effects. IsAlwaysLawful config book effects)
 opens-lawfully config turns old new answer o = record {
   book = o.book;
   current = o.current;
   recovered = o.recovered;
+  called = o.called;
   size = o.size;
   below = o.below;
+  few = o.few;
   rules = o.rules;
   adds = record { effects = o.adds.effects; added = o.adds.added; holds = lawful config o.book o.adds.effects o.adds.holds.runs.carries.on_script };
 }

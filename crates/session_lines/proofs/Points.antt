@@ -12,7 +12,7 @@ use Rattle.ice_messages.specs.declared.message.IceMessage.{IceMessage}
 use Rattle.checkpoint_records.specs.declared.records.Book.{Book}
 use Rattle.xsmp_messages.specs.Reading.{decode_at}
 use Rattle.xsmp_messages.specs.declared.message.XsmpMessage.{XsmpMessage}
-use Rattle.xsmp_messages.specs.declared.message.XsmpMessage.TheVariants.{Error as XsmpError, InteractDone, SetProperties}
+use Rattle.xsmp_messages.specs.declared.message.XsmpMessage.TheVariants.{Error as XsmpError, SetProperties}
 use Rattle.ice_framing.specs.Parts.{Part, TooMuch, Whole}
 use Rattle.session_engine.specs.declared.acts.Act.TheVariants.{Commit, Finish, Print, Say, Shut}
 use Rattle.protocol_messages.specs.declared.message.Message.{Message}

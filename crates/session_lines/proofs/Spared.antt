@@ -1,5 +1,5 @@
 -- What the session does about something that came on one connection spares every other.
-use Rattle.std.proofs.Common.{◌≡◌, refl, sym, ap, subst, ◌∙◌, ℕ, zero, suc, ◌+◌, ◌*◌, Bool, true, false, cond, not, ◌&&◌, ◌||◌, List, [], ◌∷◌, ◌++◌, map, filter, length, eqb}
+use Rattle.std.proofs.Common.{◌≡◌, refl, sym, ap, subst, ◌∙◌, ℕ, ◌+◌, Bool, true, false, cond, not, ◌&&◌, ◌||◌, List, [], ◌∷◌, ◌++◌, map, filter, eqb}
 use Rattle.std.specs.Prelude.{Option, Some, None, filter_map}
 use Rattle.std.specs.List.{AllByRecursion}
 use Rattle.std.proofs.lemmas.Bool.{not-true}
@@ -7,7 +7,7 @@ use Rattle.owned_lists.specs.declared.commands.Command.{Command}
 use Rattle.checkpoint_records.specs.declared.records.Book.{Book}
 use Rattle.checkpoint_records.specs.declared.records.Entry.{Entry}
 use Rattle.checkpoint_records.specs.Rules.{client_id}
-use Rattle.round_agreement.specs.Agreement.{Agreement, two_ready, agreed, deserted, conns_of, is_nil}
+use Rattle.round_agreement.specs.Agreement.{Agreement, two_ready, agreed, deserted, conns_of}
 use Rattle.interact_queue.specs.Queue.{is_in, next_holder}
 use Rattle.restart_plan.specs.Restarts.{respawn}
 use Rattle.discard_ledger.specs.Discards.{issuable}
@@ -28,13 +28,12 @@ use Rattle.session_model.specs.Readings as of
 use Rattle.session_model.specs.Reading.{Clients, Reading, reading, wanted_in}
 use Rattle.session_model.specs.Books.{next_book, standing, issue, discarded}
 use Rattle.session_model.specs.Replies.{or_bad_state, respawn_moves, entry_respawn, id_respawn, respawned, has_no_room, may_rejoin, register, called_off, want_cancel, answered, unless_dying, said, has_no_place, reply}
-use Rattle.session_model.specs.Rules.{last_command, ended, completed, agreement, wanting_two, over_rule, agreed_rule, running_rule, save_yourself, members_for, begin_first, is_free, idle_rule, round_rule, token_rule, rule, go_on, settle, settled, taken}
+use Rattle.session_model.specs.Rules.{last_command, ended, completed, agreement, wanting_two, over_rule, agreed_rule, running_rule, save_yourself, members_for, begin_first, is_free, idle_rule, round_rule, token_rule, rule, taken}
 use Rattle.session_model.proofs.Driven.{taken-keeps}
 use Rattle.session_model.proofs.Level.{onto-append}
 use Rattle.session_model.proofs.Lists.{in-without}
 use Rattle.session_model.proofs.Pending.{all-more}
 use Rattle.session_model.proofs.Ruled.{others, rows_now, round_now}
-use Rattle.session_model.proofs.Sound.{or-true}
 use Rattle.protocol_messages.specs.declared.message.Message.TheVariants.{Xsmp}
 use Rattle.session_notes.proofs.Settled.{ends-session}
 use Rattle.session_lines.specs.Others.{is_of_round}

@@ -70,11 +70,16 @@ abbrev pub OldIdsAreRecorded : Book → List Seen → Type 0
 OldIdsAreRecorded book seen =
     (c : ℕ) (id : List ℕ) (before after : List Seen) → before ++ Does (Say c (Xsmp (RegisterClientReply id))) ∷ after ≡ seen → is_newcomer c (notes before) ≡ false → is_recorded id (book_in book (notes before)) ≡ true
 
--- each entry of a book that was written stood in the book before, or a client had saved it with success
+-- each entry of the session that runs stood in the book before, in a book that was written, or a client had saved it with success
 abbrev pub EntriesWereSaved : Book → List Seen → Type 0
 EntriesWereSaved book seen =
     (written : Book) (before after : List Seen) → before ++ Does (Commit written) ∷ after ≡ seen
     → AllByRecursion (λ entry. Contains (book_in book (notes before)).entries entry ⊎ IsSaved book (notes before) entry) written.entries
+
+-- Each book that was written is of the session that runs, and has the other sessions as they were opened: each with its name and its
+-- entries, and none besides.
+abbrev pub OthersStay : Book → List Seen → Type 0
+OthersStay book seen = (written : Book) (before after : List Seen) → before ++ Does (Commit written) ∷ after ≡ seen → (written.name ≡ book.name) × (written.others ≡ book.others)
 
 -- Once a command was started to discard a state, the book that stands doesn't name it, until somebody sets it as his DiscardCommand
 -- again. This asks that the opened book keeps the rules.
@@ -111,6 +116,7 @@ pub record KeepsLaws (book : Book) (seen : List Seen) : Type 0 where
   pub new_ids_are_fresh : NewIdsAreFresh book seen
   pub old_ids_are_recorded : OldIdsAreRecorded book seen
   pub entries_were_saved : EntriesWereSaved book seen
+  pub others_stay : OthersStay book seen
   pub discarded_states_are_not_named : DiscardedStatesAreNotNamed book seen
   pub pending_is_not_lost : PendingIsNotLost book seen
   pub saves_are_kept : SavesAreKept book seen

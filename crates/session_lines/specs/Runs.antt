@@ -42,8 +42,8 @@ IsAlwaysLawful config book effects = (n : ℕ) → IsLawful config book (take n 
 
 -- what a call of the engine added is lawful; or it did nothing
 abbrev pub ServesLawfully : Config → Outside → Outside → Result (Unit {0}) ServeFault → Type 0
-ServesLawfully config old new (Ok x) = Opens old new (λ book current effects. IsAlwaysLawful config book effects)
-ServesLawfully config old new (Err fault) = FailsOr old new (λ book current effects. IsAlwaysLawful config book effects) fault
+ServesLawfully config old new (Ok x) = Opens config.session old new (λ book current effects. IsAlwaysLawful config book effects)
+ServesLawfully config old new (Err fault) = FailsOr config.session old new (λ book current effects. IsAlwaysLawful config book effects) fault
 
 -- So every call of the engine that serves keeps the laws.
 abbrev pub EveryRunKeepsTheLaws : Type 0

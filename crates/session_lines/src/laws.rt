@@ -1,8 +1,8 @@
-ghost use Rattle.session_lines.specs.Laws.{AllActsAreSeen, AllEventsAreSeen, Always, OneHasTheToken, TheFirstIsServed, TheSecondPhaseWaits, NewIdsAreOfTheRun, NewIdsDiffer, NewIdsAreFresh, EntriesWereSaved, DiscardedStatesAreNotNamed, PendingIsNotLost, SavesAreKept, CompletedSavesStand, OldIdsAreRecorded};
+ghost use Rattle.session_lines.specs.Laws.{AllActsAreSeen, AllEventsAreSeen, Always, OneHasTheToken, TheFirstIsServed, TheSecondPhaseWaits, NewIdsAreOfTheRun, NewIdsDiffer, NewIdsAreFresh, EntriesWereSaved, OthersStay, DiscardedStatesAreNotNamed, PendingIsNotLost, SavesAreKept, CompletedSavesStand, OldIdsAreRecorded};
 ghost use Rattle.session_lines.specs.Runs.{WhatWasDoneIsAFront, EveryRunKeepsTheLaws};
 ghost use Rattle.session_lines.specs.Opening.{LinesBeginAgain};
 ghost use Rattle.session_lines.specs.Others.{NotesOfOthersStay, OthersAreLeftAlone};
-ghost use Rattle.session_lines.specs.Files.{EveryFileIsSafe, FilesForgetDiscards, FilesKeepUp, FilesKeepWhatWasSaved, LaterRunsGiveOtherIds};
+ghost use Rattle.session_lines.specs.Files.{EveryFileIsSafe, FilesForgetDiscards, FilesKeepOtherSessions, FilesKeepUp, FilesKeepWhatWasSaved, LaterRunsGiveOtherIds, OtherSessionsBeginAlike};
 
 /// Does nothing: its contract is a law of every line. All that the manager does is seen.
 pub fn all_acts_are_seen()
@@ -55,6 +55,12 @@ pub fn entries_were_saved()
     ensures { Always EntriesWereSaved }
 {}
 
+/// Does nothing: its contract is a law of each front of every line. Each book that is written is of the session that runs, and has
+/// the other sessions as they were opened.
+pub fn others_stay()
+    ensures { Always OthersStay }
+{}
+
 /// Does nothing: its contract is a law of each front of every line. A state that was discarded isn't named by the book that stands,
 /// until somebody names it again.
 pub fn discarded_states_are_not_named()
@@ -89,10 +95,21 @@ pub fn files_forget_discarded_states()
     ensures { FilesForgetDiscards }
 {}
 
-/// Does nothing: its contract is a law of every run that keeps its word. At each point both laws of files hold of each file that a
+/// Does nothing: its contract is a law of every run. Each file that a crash could leave has the other sessions as they were opened.
+pub fn files_keep_other_sessions()
+    ensures { FilesKeepOtherSessions }
+{}
+
+/// Does nothing: its contract is a law of every run that keeps its word. At each point the laws of files hold of each file that a
 /// crash could leave.
 pub fn every_file_is_safe()
     ensures { EveryFileIsSafe }
+{}
+
+/// Does nothing: its contract is a law of every run that keeps its word. A session of another name has in each file that a crash
+/// could leave the entries that it had in the store that was opened.
+pub fn other_sessions_begin_alike()
+    ensures { OtherSessionsBeginAlike }
 {}
 
 /// Does nothing: its contract is a law of every two runs. The later one, over a book of a later epoch, gives none of the IDs

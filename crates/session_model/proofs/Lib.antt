@@ -31,4 +31,5 @@ pub mod Whole
 pub mod WholeReply
 pub mod Own
 pub mod Inner
+pub mod Besides
 pub mod Silent

@@ -1,7 +1,7 @@
 -- The pending commands of a book that is made keep the rules.
-use Rattle.std.proofs.Common.{◌≡◌, refl, ℕ, suc, ◌+◌, ◌≤◌, Bool, true, false, cond, not, List, [], ◌∷◌, ◌++◌, map, filter, length, sym, arith, length-append}
+use Rattle.std.proofs.Common.{◌≡◌, refl, ℕ, suc, ◌+◌, ◌≤◌, Bool, true, false, cond, not, List, [], ◌∷◌, ◌++◌, filter, length, sym, arith, length-append}
 use Rattle.std.specs.Prelude.{Option, Some, None, filter_map, if◌then◌else◌}
-use Rattle.std.specs.List.{AllByRecursion, IsDistinct, cons_option}
+use Rattle.std.specs.List.{AllByRecursion, IsDistinct, cons_option, list_any}
 use Rattle.std.specs.Str.{bytes_eq}
 use Rattle.std.specs.Cmp.{IsEquivalence, nat_eq_equiv}
 use Rattle.std.specs.Cmp.Lexicographic.{pointwise, lists_equiv}
@@ -9,10 +9,13 @@ use Rattle.std.proofs.lemmas.Map.Keys.{IsDistinct-push}
 use Rattle.owned_lists.specs.declared.commands.Command.{Command}
 use Rattle.checkpoint_records.specs.declared.records.Book.{Book}
 use Rattle.checkpoint_records.specs.declared.records.Entry.{Entry}
-use Rattle.checkpoint_records.specs.Books.{same_command, discards, names}
-use Rattle.checkpoint_records.specs.Rules.{IsEntry, IsCommand, KeepsRules}
+use Rattle.checkpoint_records.specs.declared.records.Named.{Named}
+use Rattle.checkpoint_records.specs.Books.{same_command, discards, entries_in, names, names_of, stored}
+use Rattle.checkpoint_records.specs.Rules.{AreRising, IsEntry, IsCommand, IsName, IsStored, KeepsRules, ids_of}
 use Rattle.discard_ledger.specs.Discards.{is_among, discard_of, without_commands, with_command, with_commands, next_pending}
+use Rattle.checkpoint_records.proofs.PlaceLaws.{one_counted}
 use Rattle.session_model.proofs.Commands.{IsMaybeCommand, discard-command}
+use Rattle.session_model.proofs.Names.{IsBefore}
 
 -- Commands are the same by their words
 
@@ -157,18 +160,40 @@ next-few epoch pending old strays new s =
       s.few,
     )
 
--- a book of these entries, whose pending commands come from a book of the same epoch
-pub rules-next : (epoch : ℕ) (pending : List Command) (old : List Entry) (strays : List Command) (new : List Entry) → Sources epoch pending old strays → AllByRecursion (IsEntry epoch) new → IsDistinct bytes_eq (map (λ (entry : Entry). entry.id) new) → length new ≤ 128
-    → KeepsRules (record { entries = new; pending = next_pending pending old strays new; epoch = epoch })
-rules-next epoch pending old strays new s a d n = record {
-  few_entries = n;
-  few_pending = next-few epoch pending old strays new s;
-  entries = a;
-  commands = next-commands epoch pending old strays new s;
-  ids_differ = d;
-  commands_differ = distinct-with (without_commands (discards new) (pending ++ discards old ++ strays)) [] (distinct-none same_command);
-  none_named = next-none_named pending old strays new;
-}
+-- The sessions beside the chosen one: they have entries, stand in the order of their names, and there are seven at most. An ID of this run is
+-- none of theirs.
+pub record AreBeside (epoch : ℕ) (name : List ℕ) (others : List Named) : Type 0 where
+  pub called : IsName name
+  pub stored : AllByRecursion IsStored others
+  pub rising : AreRising (names_of others)
+  pub apart : list_any (λ (other : Named). bytes_eq name other.name) others ≡ false
+  pub few : length others ≤ 7
+  pub earlier : AllByRecursion (λ (entry : Entry). IsBefore epoch 0 entry.id) (entries_in others)
+
+few-stored : (name : List ℕ) (entries : List Entry) (others : List Named) → length others ≤ 7 → length (stored name entries others) ≤ 8
+few-stored name [] others few = omega (arith, few)
+few-stored name (entry ∷ entries) others few = omega (arith, few, one_counted name (entry ∷ entries) (entry ∷ entries) others others refl refl (λ none. omega (arith, none)))
+
+-- a book of these entries beside these sessions, whose pending commands come from a book of the same epoch
+pub rules-next : (run epoch : ℕ) (pending : List Command) (old : List Entry) (strays : List Command) (new : List Entry) (name : List ℕ) (others : List Named) → Sources epoch pending old strays → AllByRecursion (IsEntry epoch) (new ++ entries_in others)
+    → IsDistinct bytes_eq (ids_of (new ++ entries_in others)) → length (new ++ entries_in others) ≤ 128 → AreBeside run name others
+    → KeepsRules (record { entries = new; pending = next_pending pending old strays (new ++ entries_in others); epoch = epoch; name = name; others = others })
+rules-next run epoch pending old strays new name others s a d n b =
+    let all : List Entry = new ++ entries_in others in
+    record {
+      few_entries = n;
+      few_pending = next-few epoch pending old strays all s;
+      entries = a;
+      commands = next-commands epoch pending old strays all s;
+      ids_differ = d;
+      commands_differ = distinct-with (without_commands (discards all) (pending ++ discards old ++ strays)) [] (distinct-none same_command);
+      none_named = next-none_named pending old strays all;
+      called = b.called;
+      stored = b.stored;
+      rising = b.rising;
+      apart = b.apart;
+      few_sessions = few-stored name new others b.few;
+    }
 
 -- commands that were started are taken out of a book
 pub rules-without : (book : Book) (gone : List Command) → KeepsRules book → KeepsRules (record book { pending = without_commands gone book.pending })
@@ -180,4 +205,9 @@ rules-without book gone k = record {
   ids_differ = k.ids_differ;
   commands_differ = distinct-filter same_command (λ c. not (is_among c gone)) book.pending k.commands_differ;
   none_named = all-filter (λ c. names book c ≡ false) (λ c. not (is_among c gone)) book.pending k.none_named;
+  called = k.called;
+  stored = k.stored;
+  rising = k.rising;
+  apart = k.apart;
+  few_sessions = k.few_sessions;
 }

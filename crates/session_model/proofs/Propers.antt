@@ -9,6 +9,7 @@ use Rattle.sm_world.specs.declared.events.Order.{Order}
 use Rattle.sm_world.specs.declared.events.Order.TheVariants.{Cancel, Forget}
 use Rattle.ice_values.specs.declared.property.Property.{Property}
 use Rattle.checkpoint_records.specs.declared.records.Book.{Book}
+use Rattle.checkpoint_records.specs.Books.{all_entries, entries_in}
 use Rattle.checkpoint_records.specs.declared.records.Entry.{Entry}
 use Rattle.checkpoint_records.specs.Rules.{client_id, IsClientId, IsTable, IsEntry}
 use Rattle.round_agreement.specs.Agreement.{Agreement, conns_of}
@@ -28,10 +29,10 @@ use Rattle.session_model.specs.declared.events.Arrival.{Arrival}
 use Rattle.session_model.specs.Moves.{Gave, Blamed, Unset, Closed, History}
 use Rattle.session_model.specs.Readings as of
 use Rattle.session_model.specs.Reading.{Reading, reading, wanted_in, client_of}
-use Rattle.session_model.specs.Books.{is_eligible, recorded, is_kept, snapshot, entry_saved, entry_for, next_entry, new_saved, new_entry, next_book, book_forgetting, standing, issue}
+use Rattle.session_model.specs.Books.{is_eligible, recorded, is_kept, snapshot, entry_saved, entry_for, next_entry, next_entries, new_saved, new_entry, next_book, book_forgetting, standing, issue}
 use Rattle.session_model.specs.Replies.{has_no_room, known_ids, may_rejoin, register, called_off, want_cancel, has_place, placed, answered, unless_dying, said, has_no_place, reply, is_overdue}
 use Rattle.session_model.specs.Rules.{rule}
-use Rattle.session_model.proofs.Tidy.{either, IsSnapshot, HasId, Tidy, Proper, AllProper}
+use Rattle.session_model.proofs.Tidy.{either, IsSnapshot, HasId, Tidy, Proper, AllProper, chosen-tidy, others-tidy}
 use Rattle.session_model.proofs.MoveKinds.{IsRuled, IsWide, Suffices, every-cond, every-depart, every-departs, every-issue, every-off, every-or-bad, every-ordered, every-respawned, every-rule, is_ruled}
 use Rattle.session_model.proofs.Short.{error-state, error-id, error-room, error-full, error-lone}
 use Rattle.session_model.proofs.Ruled.{and-left}
@@ -44,7 +45,7 @@ proper-wide epoch = record { respawned = λ id command. tt; resigned = λ comman
 
 -- the entries of a book keep the rules, in the run of this epoch
 abbrev pub IsOf : ℕ → Book → Type 0
-IsOf epoch book = (book.epoch ≡ epoch) × AllByRecursion (IsEntry epoch) book.entries
+IsOf epoch book = (book.epoch ≡ epoch) × AllByRecursion (IsEntry epoch) (all_entries book)
 
 pub proper-issue : (epoch : ℕ) (book : Book) (commands : List Command) → IsOf epoch book → AllProper epoch (issue book commands)
 proper-issue epoch book commands b = every-issue (Proper epoch) book commands (λ command. tt) b
@@ -85,11 +86,19 @@ all-new epoch h [] t = tt
 all-new epoch h (c ∷ conns) t = maybe-cons epoch (new_entry (reading h) c) (filter_map (new_entry (reading h)) conns) (maybe-new epoch (of.book h) (of.id_of c h) (of.saved_of c h) (t.ids c) (t.snapshots c)) (all-new epoch h conns t)
 
 pub is-next : (epoch : ℕ) (h : History) (round : Agreement) → (of.book h).epoch ≡ epoch → Tidy epoch h → IsOf epoch (next_book (reading h) round)
-is-next epoch h round e t =
-    (e, all-append (IsEntry epoch) (filter_map (next_entry (reading h) round) (of.book h).entries) (filter_map (new_entry (reading h)) (conns_of round.members)) (all-next epoch h round (of.book h).entries t t.entries) (all-new epoch h (conns_of round.members) t))
+is-next epoch h round e t = (
+  e,
+  all-append (IsEntry epoch) (next_entries (reading h) round) (entries_in (of.book h).others)
+      (all-append (IsEntry epoch) (filter_map (next_entry (reading h) round) (of.book h).entries) (filter_map (new_entry (reading h)) (conns_of round.members)) (all-next epoch h round (of.book h).entries t (chosen-tidy epoch h t)) (all-new epoch h (conns_of round.members) t))
+      (others-tidy epoch h t),
+)
 
 pub is-forgetting : (epoch : ℕ) (h : History) (id : List ℕ) → (of.book h).epoch ≡ epoch → Tidy epoch h → IsOf epoch (book_forgetting (reading h).store id)
-is-forgetting epoch h id e t = (e, all-filter (IsEntry epoch) (λ entry. not (is_of id entry)) (of.book h).entries t.entries)
+is-forgetting epoch h id e t = (
+  e,
+  all-append (IsEntry epoch) (filter (λ entry. not (is_of id entry)) (of.book h).entries) (entries_in (of.book h).others)
+      (all-filter (IsEntry epoch) (λ entry. not (is_of id entry)) (of.book h).entries (chosen-tidy epoch h t)) (others-tidy epoch h t),
+)
 
 -- The rules
 
@@ -146,7 +155,7 @@ found-id epoch id [] a s = absurd (grind arith)
 found-id epoch id (entry ∷ entries) a s = found-at (is_of id entry) epoch id entry (find (is_of id) entries) refl a.0 (found-id epoch id entries a.1) s
 
 proper-rejoin-at : (b : Bool) (epoch : ℕ) (h : History) (x : Arrival) (id : List ℕ) → may_rejoin (reading h) id ≡ b → Tidy epoch h → AllProper epoch (cond b (Gave x.conn (RegisterClientReply id) ∷ []) (Blamed x.conn (bad_id x) ∷ []))
-proper-rejoin-at true epoch h x id m t = (found-id epoch id (of.book h).entries t.entries (and-left (is_recorded id (of.book h)) (is_none (client_of id (reading h).clients)) m), tt)
+proper-rejoin-at true epoch h x id m t = (found-id epoch id (of.book h).entries (chosen-tidy epoch h t) (and-left (is_recorded id (of.book h)) (is_none (client_of id (reading h).clients)) m), tt)
 proper-rejoin-at false epoch h x id m t = (error-id x, tt)
 
 proper-register : (epoch : ℕ) (h : History) (x : Arrival) (previous : List ℕ) → 1 ≤ epoch → (of.book h).epoch ≡ epoch → Tidy epoch h → AllProper epoch (register (reading h) x previous)

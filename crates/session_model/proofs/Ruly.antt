@@ -5,13 +5,15 @@ use Rattle.std.specs.List.{AllByRecursion, IsDistinct, cons_option}
 use Rattle.std.specs.Str.{bytes_eq}
 use Rattle.std.specs.Cmp.Lexicographic.{same_text}
 use Rattle.std.proofs.lemmas.Bool.Decides.{nat_tests}
+use Rattle.std.proofs.lemmas.List.{map-append}
 use Rattle.owned_lists.specs.declared.commands.Command.{Command}
 use Rattle.ice_values.specs.declared.property.Property.{Property}
 use Rattle.xsmp_messages.specs.declared.message.XsmpMessage.{XsmpMessage}
 use Rattle.xsmp_messages.specs.declared.message.XsmpMessage.TheVariants.{RegisterClientReply, SetProperties, DeleteProperties, InteractRequest, InteractDone}
 use Rattle.checkpoint_records.specs.declared.records.Book.{Book}
 use Rattle.checkpoint_records.specs.declared.records.Entry.{Entry}
-use Rattle.checkpoint_records.specs.Books.{same_command}
+use Rattle.checkpoint_records.specs.declared.records.Named.{Named}
+use Rattle.checkpoint_records.specs.Books.{all_entries, entries_in, same_command}
 use Rattle.checkpoint_records.specs.Rules.{client_id, ids_of, IsCommand, KeepsRules}
 use Rattle.interact_queue.specs.Queue.{is_in, without}
 use Rattle.discard_ledger.specs.Discards.{discard_of, is_stray}
@@ -28,27 +30,27 @@ use Rattle.session_model.proofs.Lists.{Once, once-without, in-without, in-append
 use Rattle.session_model.proofs.Sound.{or-true, or-either}
 use Rattle.session_model.proofs.Tidy.{Tidy}
 use Rattle.session_model.proofs.Commands.{IsMaybeCommand, discard-command}
-use Rattle.session_model.proofs.Pending.{all-append}
+use Rattle.session_model.proofs.Pending.{AreBeside, all-append}
 use Rattle.session_model.proofs.Names.{AreOwn, IsFree, IsNew, IsBefore, IsNumbered, Numbered, have-ids, own-step, own-case, gone-had, numbered-step, before-own}
 use Rattle.session_model.proofs.Known.{distinct-conns}
-use Rattle.session_model.proofs.Room.{within, held_ids, known_with, known-in, in-known, known-distinct, recorded-has, room-kept}
+use Rattle.session_model.proofs.Room.{within, has-append, held_ids, known_with, known-in, in-known, known-distinct, recorded-has, room-kept}
 
 -- What a move asks
 
 abbrev pub Lawful : ℕ → Move → History → Type 0
 Lawful epoch (Gave c (RegisterClientReply id)) h =
     (of.phase_of c h ≡ Some Unregistered) × IsFree id h
-    × (of.asks_anew c h ≡ true → (id ≡ client_id epoch (of.given h + 1)) × (of.given h + 1 < 4294967296) × (length (known_with (of.book h).entries (held_ids h)) < 128))
+    × (of.asks_anew c h ≡ true → (id ≡ client_id epoch (of.given h + 1)) × (of.given h + 1 < 4294967296) × (length (known_with (all_entries (of.book h)) (held_ids h)) < 128))
     × (of.asks_anew c h ≡ false → is_recorded id (of.book h) ≡ true)
 Lawful epoch (Committed written) h =
-    KeepsRules written × ((q : List ℕ) → has_id q (ids_of written.entries) ≡ true → (has_id q (ids_of (of.book h).entries) || has_id q (held_ids h)) ≡ true)
+    KeepsRules written × ((q : List ℕ) → has_id q (ids_of written.entries) ≡ true → (has_id q (ids_of (of.book h).entries) || has_id q (held_ids h)) ≡ true) × (written.name ≡ (of.book h).name) × (written.others ≡ (of.book h).others)
 Lawful epoch (Began conns wanted) h = Once conns
 Lawful epoch (Outside (Ready c)) h = is_in c (of.live h) ≡ true
 Lawful epoch m h = Unit {0}
 
 -- What is held is known
 
--- who is recorded or held
+-- who is recorded in the chosen session, or held
 abbrev pub IsKnown : List ℕ → History → Type 0
 IsKnown q h = (has_id q (ids_of (of.book h).entries) || has_id q (held_ids h)) ≡ true
 
@@ -92,8 +94,11 @@ pub record Ruly (epoch : ℕ) (h : History) : Type 0 where
   pub own : AreOwn h
   pub numbered : Numbered epoch h
   pub once_members : Once (of.members h)
-  pub ids_differ : IsDistinct bytes_eq (ids_of (of.book h).entries)
-  pub room : length (known_with (of.book h).entries (held_ids h)) ≤ 128
+  pub beside : AreBeside epoch (of.book h).name (of.book h).others
+  -- who is recorded or held is none of those of the other sessions
+  pub apart : (q : List ℕ) → IsKnown q h → has_id q (ids_of (entries_in (of.book h).others)) ≡ false
+  pub ids_differ : IsDistinct bytes_eq (ids_of (all_entries (of.book h)))
+  pub room : length (known_with (all_entries (of.book h)) (held_ids h)) ≤ 128
   pub commands : AllByRecursion IsCommand (of.book h).pending
   pub commands_differ : IsDistinct same_command (of.book h).pending
   pub strays : AllByRecursion IsCommand (of.strays h)
@@ -257,6 +262,27 @@ few-step : (epoch : ℕ) (m : Move) (h : History) → Tidy epoch h → AreFew (o
 few-step epoch (Committed written) h t f = (tt, omega arith)
 few-step epoch m h t f = few-with (of.book h) (of.stopped_by m (λ c. of.phase_of c h) (λ c. of.table_of c h)) (of.strays h) (maybe-by epoch m h t) f
 
+-- IDs of all sessions
+
+has-parts : (q : List ℕ) (entries others : List Entry) → has_id q (ids_of (entries ++ others)) ≡ (has_id q (ids_of entries) || has_id q (ids_of others))
+has-parts q entries others = ap (λ (ids : List (List ℕ)). has_id q ids) (map-append (λ (entry : Entry). entry.id) entries others) ∙ has-append q (ids_of entries) (ids_of others)
+
+chosen-has : (q : List ℕ) (entries others : List Entry) → has_id q (ids_of entries) ≡ true → has_id q (ids_of (entries ++ others)) ≡ true
+chosen-has q entries others e = has-parts q entries others ∙ ap (λ (b : Bool). b || has_id q (ids_of others)) e
+
+others-have : (q : List ℕ) (entries others : List Entry) → has_id q (ids_of others) ≡ true → has_id q (ids_of (entries ++ others)) ≡ true
+others-have q entries others e = has-parts q entries others ∙ ap (λ (b : Bool). has_id q (ids_of entries) || b) e ∙ or-true (has_id q (ids_of entries))
+
+-- who is known of the chosen session, or stands in another one, is known
+pub all-known : (written : Book) (h : History) → ((q : List ℕ) → has_id q (ids_of written.entries) ≡ true → IsKnown q h) → written.others ≡ (of.book h).others
+    → (q : List ℕ) → has_id q (ids_of (all_entries written)) ≡ true → (has_id q (ids_of (all_entries (of.book h))) || has_id q (held_ids h)) ≡ true
+all-known written h known same q e =
+    or-either (has_id q (ids_of written.entries)) (has_id q (ids_of (entries_in written.others)))
+    (λ s. or-either (has_id q (ids_of (of.book h).entries)) (has_id q (held_ids h)) (λ t. ap (λ (b : Bool). b || has_id q (held_ids h)) (chosen-has q (of.book h).entries (entries_in (of.book h).others) t))
+    (λ t. ap (λ (b : Bool). has_id q (ids_of (all_entries (of.book h))) || b) t ∙ or-true (has_id q (ids_of (all_entries (of.book h))))) (known q s))
+    (λ s. ap (λ (b : Bool). b || has_id q (held_ids h)) (others-have q (of.book h).entries (entries_in (of.book h).others) (ap (λ (os : List Named). has_id q (ids_of (entries_in os))) (sym same) ∙ s)))
+    (sym (has-parts q written.entries (entries_in written.others)) ∙ e)
+
 -- Room for IDs
 
 room-less : (entries : List Entry) (held less : List (List ℕ)) → IsDistinct bytes_eq (ids_of entries) → IsDistinct bytes_eq less → ((q : List ℕ) → has_id q less ≡ true → (has_id q (ids_of entries) || has_id q held) ≡ true)
@@ -283,12 +309,12 @@ pub held-distinct : (h : History) → AreOwn h → Once (of.registered h) → Is
 held-distinct h o n = distinct-conns h (λ c. of.id_of c h) (of.registered h) (λ c id e. e) o n
 
 -- after c left
-room-left : (m : Move) (d : ℕ) (h : History) → ((c : ℕ) → of.id_of c (m ▷ h) ≡ cond (eqb d c) None (of.id_of c h)) → (of.book (m ▷ h)).entries ≡ (of.book h).entries → IsDistinct bytes_eq (ids_of (of.book h).entries) → IsDistinct bytes_eq (held_ids (m ▷ h))
-    → length (known_with (of.book h).entries (held_ids (m ▷ h))) ≤ length (known_with (of.book h).entries (held_ids h))
+room-left : (m : Move) (d : ℕ) (h : History) → ((c : ℕ) → of.id_of c (m ▷ h) ≡ cond (eqb d c) None (of.id_of c h)) → (all_entries (of.book (m ▷ h))) ≡ (all_entries (of.book h)) → IsDistinct bytes_eq (ids_of (all_entries (of.book h))) → IsDistinct bytes_eq (held_ids (m ▷ h))
+    → length (known_with (all_entries (of.book h)) (held_ids (m ▷ h))) ≤ length (known_with (all_entries (of.book h)) (held_ids h))
 room-left m d h f b i e =
-    room-less (of.book h).entries (held_ids h) (held_ids (m ▷ h)) i e
+    room-less (all_entries (of.book h)) (held_ids h) (held_ids (m ▷ h)) i e
     (λ q s. let c : (c : ℕ) × (of.id_of c (m ▷ h) ≡ Some q) = held-by (λ x. of.id_of x (m ▷ h)) q (of.registered (m ▷ h)) s in
-    ap (λ (b : Bool). has_id q (ids_of (of.book h).entries) || b) (held-in c.0 q h (gone-had (eqb d c.0) q (of.id_of c.0 h) (sym (f c.0) ∙ c.1))) ∙ or-true (has_id q (ids_of (of.book h).entries)))
+    ap (λ (b : Bool). has_id q (ids_of (all_entries (of.book h))) || b) (held-in c.0 q h (gone-had (eqb d c.0) q (of.id_of c.0 h) (sym (f c.0) ∙ c.1))) ∙ or-true (has_id q (ids_of (all_entries (of.book h)))))
 
 given-case : (d : ℕ) (id q : List ℕ) (h : History) → has_id q (held_ids (Gave d (RegisterClientReply id) ▷ h)) ≡ true → (q ≡ id) ⊎ (has_id q (held_ids h) ≡ true)
 given-case d id q h s =
@@ -298,36 +324,91 @@ given-case d id q h s =
       of-case c (inl x) = inl (sym x.1)
       of-case c (inr x) = inr (held-in c q h x)
 
-room-reply : (b : Bool) (d : ℕ) (id : List ℕ) (h : History) → (b ≡ false → is_recorded id (of.book h) ≡ true) → (b ≡ true → length (known_with (of.book h).entries (held_ids h)) < 128) → IsDistinct bytes_eq (ids_of (of.book h).entries)
-    → IsDistinct bytes_eq (held_ids (Gave d (RegisterClientReply id) ▷ h)) → length (known_with (of.book h).entries (held_ids h)) ≤ 128 → length (known_with (of.book h).entries (held_ids (Gave d (RegisterClientReply id) ▷ h))) ≤ 128
+room-reply : (b : Bool) (d : ℕ) (id : List ℕ) (h : History) → (b ≡ false → is_recorded id (of.book h) ≡ true) → (b ≡ true → length (known_with (all_entries (of.book h)) (held_ids h)) < 128) → IsDistinct bytes_eq (ids_of (all_entries (of.book h)))
+    → IsDistinct bytes_eq (held_ids (Gave d (RegisterClientReply id) ▷ h)) → length (known_with (all_entries (of.book h)) (held_ids h)) ≤ 128 → length (known_with (all_entries (of.book h)) (held_ids (Gave d (RegisterClientReply id) ▷ h))) ≤ 128
 room-reply false d id h r l i e k =
-    let w : length (known_with (of.book h).entries (held_ids (Gave d (RegisterClientReply id) ▷ h))) ≤ length (known_with (of.book h).entries (held_ids h)) =
-    room-less (of.book h).entries (held_ids h) (held_ids (Gave d (RegisterClientReply id) ▷ h)) i e (λ q s. known-case q (given-case d id q h s)) in
+    let w : length (known_with (all_entries (of.book h)) (held_ids (Gave d (RegisterClientReply id) ▷ h))) ≤ length (known_with (all_entries (of.book h)) (held_ids h)) =
+    room-less (all_entries (of.book h)) (held_ids h) (held_ids (Gave d (RegisterClientReply id) ▷ h)) i e (λ q s. known-case q (given-case d id q h s)) in
     omega (arith, w, k) where
-      known-case : (q : List ℕ) → (q ≡ id) ⊎ (has_id q (held_ids h) ≡ true) → (has_id q (ids_of (of.book h).entries) || has_id q (held_ids h)) ≡ true
-      known-case q (inl s) = ap (λ (b : Bool). b || has_id q (held_ids h)) (ap (λ (x : List ℕ). has_id x (ids_of (of.book h).entries)) s ∙ sym (recorded-has id (of.book h).entries) ∙ r refl)
-      known-case q (inr s) = ap (λ (b : Bool). has_id q (ids_of (of.book h).entries) || b) s ∙ or-true (has_id q (ids_of (of.book h).entries))
+      known-case : (q : List ℕ) → (q ≡ id) ⊎ (has_id q (held_ids h) ≡ true) → (has_id q (ids_of (all_entries (of.book h))) || has_id q (held_ids h)) ≡ true
+      known-case q (inl s) = ap (λ (b : Bool). b || has_id q (held_ids h)) (ap (λ (x : List ℕ). has_id x (ids_of (all_entries (of.book h)))) s ∙ chosen-has id (of.book h).entries (entries_in (of.book h).others) (sym (recorded-has id (of.book h).entries) ∙ r refl))
+      known-case q (inr s) = ap (λ (b : Bool). has_id q (ids_of (all_entries (of.book h))) || b) s ∙ or-true (has_id q (ids_of (all_entries (of.book h))))
 room-reply true d id h r l i e k =
-    omega (arith, room-more (of.book h).entries (held_ids h) (held_ids (Gave d (RegisterClientReply id) ▷ h)) id i e (λ q s. given-case d id q h s), l refl)
+    omega (arith, room-more (all_entries (of.book h)) (held_ids h) (held_ids (Gave d (RegisterClientReply id) ▷ h)) id i e (λ q s. given-case d id q h s), l refl)
 
-room-given : (epoch d : ℕ) (m : XsmpMessage) (h : History) → Lawful epoch (Gave d m) h → IsDistinct bytes_eq (held_ids (Gave d m ▷ h)) → Ruly epoch h → length (known_with (of.book h).entries (held_ids (Gave d m ▷ h))) ≤ 128
+room-given : (epoch d : ℕ) (m : XsmpMessage) (h : History) → Lawful epoch (Gave d m) h → IsDistinct bytes_eq (held_ids (Gave d m ▷ h)) → Ruly epoch h → length (known_with (all_entries (of.book h)) (held_ids (Gave d m ▷ h))) ≤ 128
 room-given epoch d (RegisterClientReply id) h l e r = room-reply (of.asks_anew d h) d id h l.3 (λ n. (l.2 n).2) r.ids_differ e r.room
 room-given epoch d m h l e r = r.room
 
-room-heard : (epoch : ℕ) (event : SessionEvent) (h : History) → IsDistinct bytes_eq (held_ids (Outside event ▷ h)) → Ruly epoch h → length (known_with (of.book h).entries (held_ids (Outside event ▷ h))) ≤ 128
+room-heard : (epoch : ℕ) (event : SessionEvent) (h : History) → IsDistinct bytes_eq (held_ids (Outside event ▷ h)) → Ruly epoch h → length (known_with (all_entries (of.book h)) (held_ids (Outside event ▷ h))) ≤ 128
 room-heard epoch (Left d) h e r = omega (arith, room-left (Outside (Left d)) d h (λ c. refl) refl r.ids_differ e, r.room)
 room-heard epoch event h e r = r.room
 
-room-step : (epoch : ℕ) (m : Move) (h : History) → Lawful epoch m h → IsDistinct bytes_eq (held_ids (m ▷ h)) → Ruly epoch h → length (known_with (of.book (m ▷ h)).entries (held_ids (m ▷ h))) ≤ 128
+room-step : (epoch : ℕ) (m : Move) (h : History) → Lawful epoch m h → IsDistinct bytes_eq (held_ids (m ▷ h)) → Ruly epoch h → length (known_with (all_entries (of.book (m ▷ h))) (held_ids (m ▷ h))) ≤ 128
 room-step epoch (Outside event) h l e r = room-heard epoch event h e r
 room-step epoch (Gave d m) h l e r = room-given epoch d m h l e r
 room-step epoch (Closed d) h l e r = omega (arith, room-left (Closed d) d h (λ c. refl) refl r.ids_differ e, r.room)
-room-step epoch (Committed written) h l e r = omega (arith, room-kept (of.book h).entries written.entries (held_ids h) (l.0).ids_differ e l.1, r.room)
+room-step epoch (Committed written) h l e r = omega (arith, room-kept (all_entries (of.book h)) (all_entries written) (held_ids h) (l.0).ids_differ e (all-known written h l.1 l.3), r.room)
 room-step epoch m h l e r = r.room
+
+-- Nobody who is known stands in another session
+
+-- the next new ID is none of theirs
+next-absent : (epoch n : ℕ) (entries : List Entry) → 0 < n → n < 4294967296 → AllByRecursion (λ (entry : Entry). IsBefore epoch 0 entry.id) entries → has_id (client_id epoch n) (ids_of entries) ≡ false
+next-absent epoch n [] some fits a = refl
+next-absent epoch n (entry ∷ entries) some fits a = absent-at (bytes_eq (client_id epoch n) entry.id) refl (next-absent epoch n entries some fits a.1) where
+  absent-at : (b : Bool) → bytes_eq (client_id epoch n) entry.id ≡ b → has_id (client_id epoch n) (ids_of entries) ≡ false → (b || has_id (client_id epoch n) (ids_of entries)) ≡ false
+  absent-at true s k = absurd (a.0 n some fits (sym (same_text (client_id epoch n) entry.id (sym s))))
+  absent-at false s k = k
+
+abbrev AreApart : History → Type 0
+AreApart h = (q : List ℕ) → IsKnown q h → has_id q (ids_of (entries_in (of.book h).others)) ≡ false
+
+apart-less : (m : Move) (d : ℕ) (h : History) → ((c : ℕ) → of.id_of c (m ▷ h) ≡ cond (eqb d c) None (of.id_of c h)) → (q : List ℕ) → (has_id q (ids_of (of.book h).entries) || has_id q (held_ids (m ▷ h))) ≡ true → IsKnown q h
+apart-less m d h f q e =
+    or-either (has_id q (ids_of (of.book h).entries)) (has_id q (held_ids (m ▷ h))) (λ s. ap (λ (b : Bool). b || has_id q (held_ids h)) s)
+    (λ s. let c : (c : ℕ) × (of.id_of c (m ▷ h) ≡ Some q) = held-by (λ x. of.id_of x (m ▷ h)) q (of.registered (m ▷ h)) s in
+    ap (λ (b : Bool). has_id q (ids_of (of.book h).entries) || b) (held-in c.0 q h (gone-had (eqb d c.0) q (of.id_of c.0 h) (sym (f c.0) ∙ c.1))) ∙ or-true (has_id q (ids_of (of.book h).entries))) e
+
+apart-reply : (b : Bool) (epoch d : ℕ) (id : List ℕ) (h : History) → (b ≡ false → is_recorded id (of.book h) ≡ true) → (b ≡ true → (id ≡ client_id epoch (of.given h + 1)) × (of.given h + 1 < 4294967296)) → Ruly epoch h → AreApart (Gave d (RegisterClientReply id) ▷ h)
+apart-reply b epoch d id h again anew r q e =
+    or-either (has_id q (ids_of (of.book h).entries)) (has_id q (held_ids (Gave d (RegisterClientReply id) ▷ h))) (λ s. r.apart q (ap (λ (x : Bool). x || has_id q (held_ids h)) s)) (λ s. of-case (given-case d id q h s)) e where
+      own-apart : (b : Bool) → (b ≡ false → is_recorded id (of.book h) ≡ true) → (b ≡ true → (id ≡ client_id epoch (of.given h + 1)) × (of.given h + 1 < 4294967296)) → has_id id (ids_of (entries_in (of.book h).others)) ≡ false
+      own-apart false again anew = r.apart id (ap (λ (x : Bool). x || has_id id (held_ids h)) (sym (recorded-has id (of.book h).entries) ∙ again refl))
+      own-apart true again anew =
+          ap (λ (x : List ℕ). has_id x (ids_of (entries_in (of.book h).others))) (anew refl).0 ∙ next-absent epoch (of.given h + 1) (entries_in (of.book h).others) (omega arith) (anew refl).1 r.beside.earlier
+
+      of-case : (q ≡ id) ⊎ (has_id q (held_ids h) ≡ true) → has_id q (ids_of (entries_in (of.book h).others)) ≡ false
+      of-case (inl s) = ap (λ (x : List ℕ). has_id x (ids_of (entries_in (of.book h).others))) s ∙ own-apart b again anew
+      of-case (inr s) = r.apart q (ap (λ (x : Bool). has_id q (ids_of (of.book h).entries) || x) s ∙ or-true (has_id q (ids_of (of.book h).entries)))
+
+apart-given : (epoch d : ℕ) (m : XsmpMessage) (h : History) → Lawful epoch (Gave d m) h → Ruly epoch h → AreApart (Gave d m ▷ h)
+apart-given epoch d (RegisterClientReply id) h l r = apart-reply (of.asks_anew d h) epoch d id h l.3 (λ n. ((l.2 n).0, (l.2 n).1)) r
+apart-given epoch d m h l r = r.apart
+
+apart-heard : (epoch : ℕ) (event : SessionEvent) (h : History) → Ruly epoch h → AreApart (Outside event ▷ h)
+apart-heard epoch (Left d) h r q e = r.apart q (apart-less (Outside (Left d)) d h (λ c. refl) q e)
+apart-heard epoch event h r q e = r.apart q e
+
+apart-written : (epoch : ℕ) (written : Book) (h : History) → Lawful epoch (Committed written) h → Ruly epoch h → AreApart (Committed written ▷ h)
+apart-written epoch written h l r q e =
+    ap (λ (os : List Named). has_id q (ids_of (entries_in os))) l.3
+    ∙ r.apart q (or-either (has_id q (ids_of written.entries)) (has_id q (held_ids h)) (l.1 q) (λ s. ap (λ (b : Bool). has_id q (ids_of (of.book h).entries) || b) s ∙ or-true (has_id q (ids_of (of.book h).entries))) e)
+
+apart-step : (epoch : ℕ) (m : Move) (h : History) → Lawful epoch m h → Ruly epoch h → AreApart (m ▷ h)
+apart-step epoch (Outside event) h l r = apart-heard epoch event h r
+apart-step epoch (Gave d m) h l r = apart-given epoch d m h l r
+apart-step epoch (Closed d) h l r = λ q e. r.apart q (apart-less (Closed d) d h (λ c. refl) q e)
+apart-step epoch (Committed written) h l r = apart-written epoch written h l r
+apart-step epoch m h l r = r.apart
+
+beside-step : (epoch : ℕ) (m : Move) (h : History) → Lawful epoch m h → Ruly epoch h → AreBeside epoch (of.book (m ▷ h)).name (of.book (m ▷ h)).others
+beside-step epoch (Committed written) h l r = subst (λ (name : List ℕ). AreBeside epoch name written.others) (sym l.2) (subst (λ (others : List Named). AreBeside epoch (of.book h).name others) (sym l.3) r.beside)
+beside-step epoch m h l r = r.beside
 
 -- The book
 
-differ-step : (epoch : ℕ) (m : Move) (h : History) → Lawful epoch m h → Ruly epoch h → IsDistinct bytes_eq (ids_of (of.book (m ▷ h)).entries)
+differ-step : (epoch : ℕ) (m : Move) (h : History) → Lawful epoch m h → Ruly epoch h → IsDistinct bytes_eq (ids_of (all_entries (of.book (m ▷ h))))
 differ-step epoch (Committed written) h l r = (l.0).ids_differ
 differ-step epoch m h l r = r.ids_differ
 
@@ -347,6 +428,8 @@ ruly-step epoch m h l t o r =
       own = own;
       numbered = numbered-step epoch m h (lawful-numbered epoch m h l r.numbered) r.numbered;
       once_members = members-step epoch m h l r.once_members;
+      beside = beside-step epoch m h l r;
+      apart = apart-step epoch m h l r;
       ids_differ = differ-step epoch m h l r;
       room = room-step epoch m h l (held-distinct (m ▷ h) own o) r;
       commands = commands-step epoch m h l r;

@@ -3,6 +3,7 @@ use Rattle.std.proofs.Common.{◌≡◌, ℕ, ◌≤◌, Bool, true, false, cond
 use Rattle.std.specs.Prelude.{Option, Some, None, find}
 use Rattle.std.specs.List.{AllByRecursion}
 use Rattle.ice_values.specs.declared.property.Property.{Property}
+use Rattle.checkpoint_records.specs.Books.{all_entries, entries_in}
 use Rattle.checkpoint_records.specs.declared.records.Entry.{Entry}
 use Rattle.checkpoint_records.specs.Rules.{IsClientId, IsTable, IsEntry}
 use Rattle.xsmp_properties.specs.Tables.{without_names}
@@ -15,6 +16,7 @@ use Rattle.session_model.specs.Phases.{is_bound, is_saving}
 use Rattle.session_model.specs.Tables.{set_table, table_said, is_of, table_in, first_table}
 use Rattle.session_model.specs.Moves.{Move, Outside, Gave, Blamed, Closed, Committed, History, ◌▷◌}
 use Rattle.session_model.specs.Readings as of
+use Rattle.checkpoint_records.proofs.DistinctLaws.{all_behind, all_front}
 use Rattle.session_model.proofs.Kept.{empty-table, table-set, table-without}
 
 pub either : {A : Type 0} (P : A → Type 0) (b : Bool) (x y : A) → P x → P y → P (cond b x y)
@@ -35,7 +37,14 @@ pub record Tidy (epoch : ℕ) (h : History) : Type 0 where
   pub tables : (c : ℕ) → IsTable (of.table_of c h)
   pub snapshots : (c : ℕ) → IsSnapshot (of.saved_of c h)
   pub ids : (c : ℕ) → HasId epoch (of.id_of c h)
-  pub entries : AllByRecursion (IsEntry epoch) (of.book h).entries
+  pub entries : AllByRecursion (IsEntry epoch) (all_entries (of.book h))
+
+-- those of the chosen session, and those of the others
+pub chosen-tidy : (epoch : ℕ) (h : History) → Tidy epoch h → AllByRecursion (IsEntry epoch) (of.book h).entries
+chosen-tidy epoch h t = all_front (IsEntry epoch) (of.book h).entries (entries_in (of.book h).others) t.entries
+
+pub others-tidy : (epoch : ℕ) (h : History) → Tidy epoch h → AllByRecursion (IsEntry epoch) (entries_in (of.book h).others)
+others-tidy epoch h t = all_behind (IsEntry epoch) (of.book h).entries (entries_in (of.book h).others) t.entries
 
 -- the messages that are as short as can be
 abbrev pub is_small : XsmpMessage → Bool
@@ -53,7 +62,7 @@ Proper epoch (Gave c (RegisterClientReply id)) = IsClientId epoch id
 Proper epoch (Gave c (GetPropertiesReply table)) = IsTable table
 Proper epoch (Gave c m) = is_small m ≡ true
 Proper epoch (Blamed c error) = length error.values ≤ 65528
-Proper epoch (Committed book) = (book.epoch ≡ epoch) × AllByRecursion (IsEntry epoch) book.entries
+Proper epoch (Committed book) = (book.epoch ≡ epoch) × AllByRecursion (IsEntry epoch) (all_entries book)
 Proper epoch m = Unit {0}
 
 -- Tables
@@ -76,7 +85,7 @@ tables-heard epoch (Operator order) h t c = t.tables c
 tables-heard epoch (Tick milliseconds) h t c = t.tables c
 
 tables-given : (epoch d : ℕ) (m : XsmpMessage) (h : History) → Tidy epoch h → (c : ℕ) → IsTable (of.table_of c (Gave d m ▷ h))
-tables-given epoch d (RegisterClientReply id) h t c = either IsTable (eqb d c) (first_table (of.book h) id) (of.table_of c h) (found-table epoch (is_of id) (of.book h).entries t.entries) (t.tables c)
+tables-given epoch d (RegisterClientReply id) h t c = either IsTable (eqb d c) (first_table (of.book h) id) (of.table_of c h) (found-table epoch (is_of id) (of.book h).entries (chosen-tidy epoch h t)) (t.tables c)
 tables-given epoch d m h t c = t.tables c
 
 tables-step : (epoch : ℕ) (m : Move) (h : History) → Tidy epoch h → (c : ℕ) → IsTable (of.table_of c (m ▷ h))
@@ -136,7 +145,7 @@ ids-step epoch m h p t c = t.ids c
 
 -- Entries
 
-entries-step : (epoch : ℕ) (m : Move) (h : History) → Proper epoch m → Tidy epoch h → AllByRecursion (IsEntry epoch) (of.book (m ▷ h)).entries
+entries-step : (epoch : ℕ) (m : Move) (h : History) → Proper epoch m → Tidy epoch h → AllByRecursion (IsEntry epoch) (all_entries (of.book (m ▷ h)))
 entries-step epoch (Committed book) h p t = p.1
 entries-step epoch m h p t = t.entries
 

@@ -1,6 +1,7 @@
 -- Whatever is kept and sent in a run keeps the rules for it.
 use Rattle.std.proofs.Common.{◌≡◌, refl, ℕ, ◌+◌, ◌≤◌, List, [], ◌∷◌, ◌++◌, arith}
 use Rattle.std.specs.List.{AllByRecursion}
+use Rattle.checkpoint_records.specs.Books.{all_entries}
 use Rattle.checkpoint_records.specs.declared.records.Entry.{Entry}
 use Rattle.checkpoint_records.specs.Rules.{IsClientId, IsEntry, KeepsRules}
 use Rattle.restart_plan.specs.Restarts.{opening_restarts}
@@ -55,19 +56,19 @@ pub later-entries : (epoch : ℕ) (entries : List Entry) → AllByRecursion (IsE
 later-entries epoch [] a = tt
 later-entries epoch (entry ∷ entries) a = (record { id = later-id epoch entry.id a.0.id; table = a.0.table }, later-entries epoch entries a.1)
 
-pub tidy-start : (opening : Opening) → AllByRecursion (IsEntry opening.book.epoch) opening.book.entries → Tidy (opening.book.epoch + 1) (Opened opening)
-tidy-start opening a = record { tables = λ c. empty-table; snapshots = λ c. tt; ids = λ c. tt; entries = later-entries opening.book.epoch opening.book.entries a }
+pub tidy-start : (opening : Opening) → AllByRecursion (IsEntry opening.book.epoch) (all_entries opening.book) → Tidy (opening.book.epoch + 1) (Opened opening)
+tidy-start opening a = record { tables = λ c. empty-table; snapshots = λ c. tt; ids = λ c. tt; entries = later-entries opening.book.epoch (all_entries opening.book) a }
 
-orderly-raised : (opening : Opening) → AllByRecursion (IsEntry opening.book.epoch) opening.book.entries → Orderly (opening.book.epoch + 1) (Committed (raised opening.book) ▷ Opened opening)
+orderly-raised : (opening : Opening) → AllByRecursion (IsEntry opening.book.epoch) (all_entries opening.book) → Orderly (opening.book.epoch + 1) (Committed (raised opening.book) ▷ Opened opening)
 orderly-raised opening a =
-    let p : Proper (opening.book.epoch + 1) (Committed (raised opening.book)) = (refl, later-entries opening.book.epoch opening.book.entries a) in
+    let p : Proper (opening.book.epoch + 1) (Committed (raised opening.book)) = (refl, later-entries opening.book.epoch (all_entries opening.book) a) in
     record { is_of = refl; tidy = tidy-step (opening.book.epoch + 1) (Committed (raised opening.book)) (Opened opening) p (tidy-start opening a); each = (p, tt) }
 
-pub orderly-opened : (opening : Opening) → AllByRecursion (IsEntry opening.book.epoch) opening.book.entries → Orderly (opening.book.epoch + 1) (opened opening)
+pub orderly-opened : (opening : Opening) → AllByRecursion (IsEntry opening.book.epoch) (all_entries opening.book) → Orderly (opening.book.epoch + 1) (opened opening)
 orderly-opened opening a =
     orderly-onto (opening.book.epoch + 1) (issue (raised opening.book) opening.book.pending ++ tried_each Restart (opening_restarts opening.book.entries)) (Committed (raised opening.book) ▷ Opened opening)
     (every-append (Proper (opening.book.epoch + 1)) (issue (raised opening.book) opening.book.pending) (tried_each Restart (opening_restarts opening.book.entries))
-    (proper-issue (opening.book.epoch + 1) (raised opening.book) opening.book.pending (refl, later-entries opening.book.epoch opening.book.entries a)) (every-tried (Proper (opening.book.epoch + 1)) Restart (opening_restarts opening.book.entries) (λ command. tt)))
+    (proper-issue (opening.book.epoch + 1) (raised opening.book) opening.book.pending (refl, later-entries opening.book.epoch (all_entries opening.book) a)) (every-tried (Proper (opening.book.epoch + 1)) Restart (opening_restarts opening.book.entries) (λ command. tt)))
     (orderly-raised opening a)
 
 pub orderly : (opening : Opening) (events : List SessionEvent) → KeepsRules opening.book → Orderly (opening.book.epoch + 1) (run (opened opening) events)

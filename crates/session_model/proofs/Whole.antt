@@ -4,6 +4,7 @@ use Rattle.std.specs.Prelude.{Option, Some, None, is_some}
 use Rattle.std.specs.List.{AllByRecursion, IsDistinct}
 use Rattle.std.specs.Str.{bytes_eq}
 use Rattle.owned_lists.specs.declared.commands.Command.{Command}
+use Rattle.checkpoint_records.specs.Books.{all_entries}
 use Rattle.checkpoint_records.specs.declared.records.Book.{Book}
 use Rattle.checkpoint_records.specs.Rules.{ids_of, KeepsRules}
 use Rattle.round_agreement.specs.declared.wanted.Wanted.{Wanted}
@@ -19,7 +20,7 @@ use Rattle.session_model.specs.Tables.{has_id}
 use Rattle.session_model.specs.Moves.{Move, Cause, Outside, Gave, Closed, Began, Over, Agreed, Committed, Discard, History, ◌▷◌, onto, gave_each, tried_each}
 use Rattle.session_model.specs.Readings as of
 use Rattle.session_model.specs.Reading.{reading}
-use Rattle.session_model.specs.Books.{next_book, next_entries, issue, discarded, standing}
+use Rattle.session_model.specs.Books.{next_book, issue, discarded, standing}
 use Rattle.session_model.specs.Rules.{completed, agreement, wanting_two, over_rule, agreed_rule, running_rule, save_yourself, members_for, begin, begin_first, is_free, idle_rule, round_rule, token_rule, rule}
 use Rattle.session_model.specs.Laws.{EachMove, IsWritten}
 use Rattle.session_model.proofs.Lists.{Once, once-without}
@@ -31,10 +32,9 @@ use Rattle.session_model.proofs.MoveKinds.{IsWide, every-completed, every-gave, 
 use Rattle.session_model.proofs.Propers.{proper-rule, proper-given, proper-wide, IsOf, is-next}
 use Rattle.session_model.proofs.TidyRun.{Orderly, orderly-onto}
 use Rattle.session_model.proofs.Pending.{filter-len, rules-without}
-use Rattle.session_model.proofs.NextIds.{next-distinct}
 use Rattle.session_model.proofs.Room.{held_ids, known_with, room-kept}
-use Rattle.session_model.proofs.Ruly.{Lawful, Ruly, ruly-step, IsKnown, held-distinct}
-use Rattle.session_model.proofs.Lawfuls.{next-known, rules-next_book}
+use Rattle.session_model.proofs.Ruly.{Lawful, Ruly, ruly-step, IsKnown, all-known, held-distinct}
+use Rattle.session_model.proofs.Lawfuls.{next-differ, next-known, rules-next_book}
 use Rattle.session_model.proofs.Left.{left-few, without-none, fewer-conns, few-standing}
 
 -- Moves that write no book, begin no round and give no ID
@@ -119,8 +119,8 @@ book-mild (m ∷ moves) h e = book-mild moves (m ▷ h) e.1 ∙ mild-book m h e.
 
 -- A book that is written
 
-committed : (epoch : ℕ) (book : Book) (h : History) → KeepsRules book → IsOf epoch book → ((q : List ℕ) → has_id q (ids_of book.entries) ≡ true → IsKnown q h) → Carried epoch h → Carried epoch (Committed book ▷ h)
-committed epoch book h k i n c = carried-step epoch (Committed book) h (k, n) i c.once c
+committed : (epoch : ℕ) (book : Book) (h : History) → KeepsRules book → IsOf epoch book → ((q : List ℕ) → has_id q (ids_of book.entries) ≡ true → IsKnown q h) → book.name ≡ (of.book h).name → book.others ≡ (of.book h).others → Carried epoch h → Carried epoch (Committed book ▷ h)
+committed epoch book h k i n name others c = carried-step epoch (Committed book) h (k, n, name, others) i c.once c
 
 known-same : (book : Book) (h : History) → of.book h ≡ book → (q : List ℕ) → has_id q (ids_of book.entries) ≡ true → IsKnown q h
 known-same book h e q s = ap (λ (b : Bool). b || has_id q (held_ids h)) (ap (λ (x : Book). has_id q (ids_of x.entries)) e ∙ s)
@@ -135,7 +135,7 @@ carried-issue epoch book (command ∷ commands) h k i e c =
     let g : History = onto h tried in
     let same : of.book g ≡ book = book-mild tried h (mild-tried Discard (command ∷ commands)) ∙ e in
     subst (λ (x : History). Carried epoch x) (sym (onto-append h tried (Committed left ∷ [])))
-    (committed epoch left g (rules-without book (command ∷ commands) k) i (λ q s. known-same book g same q s) (carried-mild epoch tried h (mild-tried Discard (command ∷ commands)) (every-tried (Proper epoch) Discard (command ∷ commands) (λ tried. tt)) c))
+    (committed epoch left g (rules-without book (command ∷ commands) k) i (λ q s. known-same book g same q s) (sym (ap (λ (b : Book). b.name) same)) (sym (ap (λ (b : Book). b.others) same)) (carried-mild epoch tried h (mild-tried Discard (command ∷ commands)) (every-tried (Proper epoch) Discard (command ∷ commands) (λ tried. tt)) c))
 
 pub pending-issue : (book : Book) (commands : List Command) (h : History) → of.book h ≡ book → (of.book (onto h (issue book commands))).pending ≡ without_commands commands book.pending
 pending-issue book [] h e = ap (λ (x : Book). x.pending) e ∙ sym (without-none book.pending)
@@ -184,13 +184,13 @@ few-registered epoch h g c = fewer-conns (of.registered h) (of.live h) c.once (�
 
 -- a book is written, moves that are mild follow, and then the discards
 pub part-written : (epoch : ℕ) (book : Book) (moves : List Move) (h g : History) → g ≡ onto (Committed book ▷ h) (moves ++ discarded (reading h).clients book) → KeepsRules book → IsOf epoch book → ((q : List ℕ) → has_id q (ids_of book.entries) ≡ true → IsKnown q h)
-    → AllMild moves → AllProper epoch moves → Whole epoch h → Part epoch g
-part-written epoch book moves h g is k i n e p w =
+    → book.name ≡ (of.book h).name → book.others ≡ (of.book h).others → AllMild moves → AllProper epoch moves → Whole epoch h → Part epoch g
+part-written epoch book moves h g is k i n name others e p w =
     let after : History = onto (Committed book ▷ h) moves in
     let commands : List Command = issuable (standing (reading h).clients) book.pending in
     let same : of.book after ≡ book = book-mild moves (Committed book ▷ h) e in
     let split : g ≡ onto after (issue book commands) = is ∙ onto-append (Committed book ▷ h) moves (issue book commands) in
-    let c : Carried epoch after = carried-mild epoch moves (Committed book ▷ h) e p (committed epoch book h k i n w.carried) in
+    let c : Carried epoch after = carried-mild epoch moves (Committed book ▷ h) e p (committed epoch book h k i n name others w.carried) in
     let pending : length (of.book (onto after (issue book commands))).pending ≡ length (without_commands commands book.pending) = ap (λ (xs : List Command). length xs) (pending-issue book commands after same) in
     subst (λ (x : History). Part epoch x) (sym split) (record {
       carried = carried-issue epoch book commands after k i same c;
@@ -200,16 +200,17 @@ part-written epoch book moves h g is k i n e p w =
 
 -- The rules
 
-room-next : (epoch : ℕ) (h : History) (round : Agreement) → Carried epoch h → Once (conns_of round.members) → length (known_with (next_entries (reading h) round) (held_ids h)) ≤ 128
+room-next : (epoch : ℕ) (h : History) (round : Agreement) → Carried epoch h → Once (conns_of round.members) → length (known_with (all_entries (next_book (reading h) round)) (held_ids h)) ≤ 128
 room-next epoch h round c o =
-    let d : IsDistinct bytes_eq (ids_of (next_entries (reading h) round)) = next-distinct h round (c.ruly).own o (c.ruly).ids_differ in
-    omega (arith, room-kept (of.book h).entries (next_entries (reading h) round) (held_ids h) d (held-distinct h (c.ruly).own c.once) (next-known h round), (c.ruly).room)
+    let book : Book = next_book (reading h) round in
+    let d : IsDistinct bytes_eq (ids_of (all_entries book)) = next-differ epoch h round c.ruly o in
+    omega (arith, room-kept (all_entries (of.book h)) (all_entries book) (held_ids h) d (held-distinct h (c.ruly).own c.once) (all-known book h (next-known h round) refl), (c.ruly).room)
 
 part-agreement : (epoch : ℕ) (h : History) (round : Agreement) → Once (conns_of round.members) → Whole epoch h → Part epoch (onto h (agreement (reading h) round))
 part-agreement epoch h round o w =
     part-written epoch (next_book (reading h) round) (Agreed ∷ completed round.wanted.shutdown (reading h).clients round (next_book (reading h) round)) h (onto h (agreement (reading h) round)) refl
     (rules-next_book epoch h round w.orderly.is_of w.carried.tidy w.carried.ruly w.few_pending o (room-next epoch h round w.carried o))
-    (is-next epoch h round w.orderly.is_of w.carried.tidy) (next-known h round)
+    (is-next epoch h round w.orderly.is_of w.carried.tidy) (next-known h round) refl refl
     (tt, every-completed IsMild round.wanted.shutdown (reading h) round (next_book (reading h) round) mild-wide (λ command. tt) mild-given-ruled) (tt, every-completed (Proper epoch) round.wanted.shutdown (reading h) round (next_book (reading h) round) (proper-wide epoch) (λ command. tt) (proper-given epoch)) w
 
 once-now : (epoch : ℕ) (r : of.Begun) (h : History) → Carried epoch h → Once (conns_of (rows_now h))

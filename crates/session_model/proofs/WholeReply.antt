@@ -9,7 +9,7 @@ use Rattle.sm_world.specs.declared.events.Order.TheVariants.{Cancel, Forget}
 use Rattle.xsmp_properties.specs.Tables.{set_all}
 use Rattle.checkpoint_records.specs.declared.records.Book.{Book}
 use Rattle.checkpoint_records.specs.declared.records.Entry.{Entry}
-use Rattle.checkpoint_records.specs.Books.{same_command}
+use Rattle.checkpoint_records.specs.Books.{all_entries, entries_in, same_command}
 use Rattle.checkpoint_records.specs.Rules.{client_id, ids_of, IsEntry, KeepsRules}
 use Rattle.round_agreement.specs.Agreement.{Agreement, is_nil}
 use Rattle.interact_queue.specs.Queue.{is_in, without}
@@ -22,7 +22,7 @@ use Rattle.session_model.specs.declared.phase.Phase.TheVariants.{Unregistered, D
 use Rattle.session_model.specs.declared.events.SessionEvent.{SessionEvent}
 use Rattle.session_model.specs.declared.events.SessionEvent.TheVariants.{Joined, Ready, Said, Left, Operator, Tick}
 use Rattle.session_model.specs.Phases.{is_registered, is_unregistered, is_owing, is_shutdown}
-use Rattle.session_model.specs.Tables.{is_full, entry_of, is_recorded}
+use Rattle.session_model.specs.Tables.{is_full, entry_of, has_id, is_kept_id, is_recorded}
 use Rattle.session_model.specs.Errors.{no_room, bad_id, full_table, lone_shutdown}
 use Rattle.session_model.specs.declared.events.Arrival.{Arrival}
 use Rattle.session_model.specs.Moves.{Move, Outside, Gave, Blamed, Unset, Closed, Committed, Printed, Finished, Restart, History, Opened, ◌▷◌, onto, tried_each, Opening}
@@ -45,7 +45,9 @@ use Rattle.session_model.proofs.Pending.{filter-len}
 use Rattle.session_model.proofs.Names.{asks-heard, have-ids}
 use Rattle.session_model.proofs.Room.{held_ids, known_with}
 use Rattle.session_model.proofs.Ruly.{Lawful, Ruly, own_text}
-use Rattle.session_model.proofs.Lawfuls.{rules-forgetting, forgetting-known, length-ids}
+use Rattle.checkpoint_records.proofs.DistinctLaws.{all_behind, all_front}
+use Rattle.session_model.proofs.Sound.{or-either}
+use Rattle.session_model.proofs.Lawfuls.{apart-of, rules-forgetting, forgetting-known, length-ids}
 use Rattle.session_model.proofs.Left.{left-few, without-none}
 use Rattle.session_model.proofs.Ruled.{any-in}
 use Rattle.session_model.proofs.Names.{IsFree, IsBefore, before-earlier}
@@ -87,8 +89,8 @@ part-replied epoch c id h l p g w =
     let free : is_in c (of.registered h) ≡ false = g.sound.registered_are c ∙ ap (λ (q : Option Phase). is_registered q) l.0 in
     record { carried = carried-step epoch (Gave c (RegisterClientReply id)) h l p (once-push c (of.registered h) w.carried.once free) w.carried; few_live = w.few_live; few_pending = w.few_pending }
 
-known-len : (h : History) → length (known_with (of.book h).entries (held_ids h)) ≡ known_ids (reading h)
-known-len h = omega (arith, length-append (ids_of (of.book h).entries) (filter (λ id. not (is_recorded id (of.book h))) (held_ids h)), length-ids (of.book h).entries)
+known-len : (h : History) → length (known_with (all_entries (of.book h)) (held_ids h)) ≡ known_ids (reading h)
+known-len h = omega (arith, length-append (ids_of (all_entries (of.book h))) (filter (λ id. not (is_kept_id id (of.book h))) (held_ids h)), length-ids (all_entries (of.book h)))
 
 no-room : (h : History) (k n : ℕ) → (nat_le 128 k || nat_le 4294967295 n) ≡ false → (k < 128) × (n + 1 < 4294967296)
 no-room h k n e = room-at (nat_le 128 k) refl e where
@@ -212,7 +214,7 @@ part-forgotten epoch id entry h w =
     let v : Whole epoch g = whole-asked epoch id h w in
     let book : Book = book_forgetting (reading h).store id in
     part-written epoch book (resigned (command_anyway (codes "ResignCommand") entry)) g (onto (Outside (Operator (Forget id)) ▷ h) (forgotten (reading h) entry book)) refl
-    (rules-forgetting epoch g id v.orderly.is_of v.carried.tidy v.carried.ruly v.few_pending) (is-forgetting epoch g id v.orderly.is_of v.carried.tidy) (forgetting-known g id)
+    (rules-forgetting epoch g id v.orderly.is_of v.carried.tidy v.carried.ruly v.few_pending) (is-forgetting epoch g id v.orderly.is_of v.carried.tidy) (forgetting-known g id) refl refl
     (every-resigned IsMild (command_anyway (codes "ResignCommand") entry) mild-wide) (every-resigned (Proper epoch) (command_anyway (codes "ResignCommand") entry) (proper-wide epoch)) v
 
 part-forget_one : (epoch : ℕ) (id : List ℕ) (entry : Option Entry) (h : History) → Whole epoch h → Part epoch (onto (Outside (Operator (Forget id)) ▷ h) (forget_one (reading h) id entry))
@@ -294,27 +296,41 @@ rules-raised : (book : Book) → KeepsRules book → KeepsRules (raised book)
 rules-raised book k = record {
   few_entries = k.few_entries;
   few_pending = k.few_pending;
-  entries = later-entries book.epoch book.entries k.entries;
+  entries = later-entries book.epoch (all_entries book) k.entries;
   commands = k.commands;
   ids_differ = k.ids_differ;
   commands_differ = k.commands_differ;
   none_named = k.none_named;
+  called = k.called;
+  stored = k.stored;
+  rising = k.rising;
+  apart = k.apart;
+  few_sessions = k.few_sessions;
 }
 
 all-earlier : (epoch : ℕ) (entries : List Entry) → epoch + 1 < 4294967296 → AllByRecursion (IsEntry epoch) entries → AllByRecursion (λ (entry : Entry). IsBefore (epoch + 1) 0 entry.id) entries
 all-earlier epoch [] l a = tt
 all-earlier epoch (entry ∷ entries) l a = (before-earlier epoch entry.id l a.0.id, all-earlier epoch entries l a.1)
 
-carried-start : (opening : Opening) → KeepsRules opening.book → opening.book.epoch < 4294967295 → Carried (opening.book.epoch + 1) (Opened opening)
-carried-start opening k l = record {
+carried-start : (opening : Opening) → KeepsRules opening.book → length opening.book.others ≤ 7 → opening.book.epoch < 4294967295 → Carried (opening.book.epoch + 1) (Opened opening)
+carried-start opening k f l = record {
   tidy = tidy-start opening k.entries;
   once = tt;
   ruly = record {
     own = λ c d id e f. absurd (grind arith);
-    numbered = record { held = λ c id e. absurd (grind arith); entries = all-earlier opening.book.epoch opening.book.entries (omega arith) k.entries };
+    numbered = record { held = λ c id e. absurd (grind arith); entries = all-earlier opening.book.epoch opening.book.entries (omega arith) (all_front (IsEntry opening.book.epoch) opening.book.entries (entries_in opening.book.others) k.entries) };
     once_members = tt;
+    beside = record {
+      called = k.called;
+      stored = k.stored;
+      rising = k.rising;
+      apart = k.apart;
+      few = f;
+      earlier = all-earlier opening.book.epoch (entries_in opening.book.others) (omega arith) (all_behind (IsEntry opening.book.epoch) opening.book.entries (entries_in opening.book.others) k.entries);
+    };
+    apart = λ q e. or-either (has_id q (ids_of opening.book.entries)) false (apart-of opening.book.entries (entries_in opening.book.others) q k.ids_differ) (λ s. absurd (grind arith)) e;
     ids_differ = k.ids_differ;
-    room = omega (arith, length-append (ids_of opening.book.entries) [], length-ids opening.book.entries, k.few_entries);
+    room = omega (arith, length-append (ids_of (all_entries opening.book)) [], length-ids (all_entries opening.book), k.few_entries);
     commands = k.commands;
     commands_differ = k.commands_differ;
     strays = tt;
@@ -324,28 +340,28 @@ carried-start opening k l = record {
   written = tt;
 }
 
-carried-raised : (opening : Opening) → KeepsRules opening.book → opening.book.epoch < 4294967295 → Carried (opening.book.epoch + 1) (Committed (raised opening.book) ▷ Opened opening)
-carried-raised opening k l =
-    carried-step (opening.book.epoch + 1) (Committed (raised opening.book)) (Opened opening) (rules-raised opening.book k, λ q e. ap (λ (b : Bool). b || false) e) (refl, later-entries opening.book.epoch opening.book.entries k.entries) tt (carried-start opening k l)
+carried-raised : (opening : Opening) → KeepsRules opening.book → length opening.book.others ≤ 7 → opening.book.epoch < 4294967295 → Carried (opening.book.epoch + 1) (Committed (raised opening.book) ▷ Opened opening)
+carried-raised opening k f l =
+    carried-step (opening.book.epoch + 1) (Committed (raised opening.book)) (Opened opening) (rules-raised opening.book k, (λ q e. ap (λ (b : Bool). b || false) e), refl, refl) (refl, later-entries opening.book.epoch (all_entries opening.book) k.entries) tt (carried-start opening k f l)
 
 none-left : (pending : List Command) → IsDistinct same_command pending → length (without_commands pending pending) ≤ 0
 none-left pending d = subst (λ (xs : List Command). length (without_commands xs pending) ≤ 0) (without-none pending) (left-few [] pending d)
 
-part-opened : (opening : Opening) → KeepsRules opening.book → opening.book.epoch < 4294967295 → Part (opening.book.epoch + 1) (opened opening)
-part-opened opening k l =
+part-opened : (opening : Opening) → KeepsRules opening.book → length opening.book.others ≤ 7 → opening.book.epoch < 4294967295 → Part (opening.book.epoch + 1) (opened opening)
+part-opened opening k f l =
     let epoch : ℕ = opening.book.epoch + 1 in
     let start : History = Committed (raised opening.book) ▷ Opened opening in
-    let i : IsOf epoch (raised opening.book) = (refl, later-entries opening.book.epoch opening.book.entries k.entries) in
+    let i : IsOf epoch (raised opening.book) = (refl, later-entries opening.book.epoch (all_entries opening.book) k.entries) in
     let issued : History = onto start (issue (raised opening.book) opening.book.pending) in
     let n : length (of.book issued).pending ≡ length (without_commands opening.book.pending opening.book.pending) = ap (λ (xs : List Command). length xs) (pending-issue (raised opening.book) opening.book.pending start refl) in
     let p : Part epoch issued = record {
-      carried = carried-issue epoch (raised opening.book) opening.book.pending start (rules-raised opening.book k) i refl (carried-raised opening k l);
+      carried = carried-issue epoch (raised opening.book) opening.book.pending start (rules-raised opening.book k) i refl (carried-raised opening k f l);
       few_live = omega (arith, live-issue (raised opening.book) opening.book.pending start);
       few_pending = omega (arith, n, none-left opening.book.pending k.commands_differ);
     } in
     subst (λ (x : History). Part epoch x) (sym (onto-append start (issue (raised opening.book) opening.book.pending) (tried_each Restart (opening_restarts opening.book.entries))))
     (part-mild epoch (tried_each Restart (opening_restarts opening.book.entries)) issued (mild-tried Restart (opening_restarts opening.book.entries)) (every-tried (Proper epoch) Restart (opening_restarts opening.book.entries) (λ command. tt)) p)
 
-pub books-keep : (opening : Opening) (events : List SessionEvent) → KeepsRules opening.book → opening.book.epoch < 4294967295 → AllTake (opened opening) events → EachMove IsWritten (run (opened opening) events)
-books-keep opening events k l a =
-    (whole-run (opening.book.epoch + 1) events (opened opening) (omega arith) a (whole-with (opening.book.epoch + 1) (opened opening) (good-opened opening) (orderly-opened opening k.entries) (part-opened opening k l))).carried.written
+pub books-keep : (opening : Opening) (events : List SessionEvent) → KeepsRules opening.book → length opening.book.others ≤ 7 → opening.book.epoch < 4294967295 → AllTake (opened opening) events → EachMove IsWritten (run (opened opening) events)
+books-keep opening events k f l a =
+    (whole-run (opening.book.epoch + 1) events (opened opening) (omega arith) a (whole-with (opening.book.epoch + 1) (opened opening) (good-opened opening) (orderly-opened opening k.entries) (part-opened opening k f l))).carried.written

@@ -5,6 +5,7 @@ use Rattle.ice_values.specs.declared.property.Property.{Property}
 use Rattle.xsmp_properties.specs.Readers.{command_of, hint_of}
 use Rattle.xsmp_properties.specs.declared.hints.Hint.{Hint}
 use Rattle.xsmp_properties.specs.declared.hints.Hint.TheVariants.{Anyway, IfRunning, Immediately, Never}
+use Rattle.checkpoint_records.specs.Books.{entries_in}
 use Rattle.checkpoint_records.specs.declared.records.Entry.{Entry}
 use Rattle.checkpoint_records.specs.declared.records.Book.{Book}
 use Rattle.round_agreement.specs.Agreement.{Agreement, conns_of}
@@ -66,11 +67,14 @@ next_entries r round = filter_map (next_entry r round) r.store.book.entries ++ f
 
 -- The books
 
+-- the other sessions stay
 abbrev pub with_entries : Store → List Entry → Book
 with_entries store entries = record {
   entries = entries;
-  pending = next_pending store.book.pending store.book.entries store.strays entries;
+  pending = next_pending store.book.pending store.book.entries store.strays (entries ++ entries_in store.book.others);
   epoch = store.book.epoch;
+  name = store.book.name;
+  others = store.book.others;
 }
 
 -- the book of an agreement

@@ -8,7 +8,7 @@ use Rattle.ice_values.specs.declared.saves.Dialog.TheVariants.{Normal}
 use Rattle.ice_values.specs.declared.numbers.Endian.TheVariants.{Lsb}
 use Rattle.ice_values.specs.declared.property.Property.{Property}
 use Rattle.ice_values.specs.declared.severity.Severity.TheVariants.{CanContinue}
-use Rattle.checkpoint_records.specs.Books.{empty_book}
+use Rattle.checkpoint_records.specs.Books.{default_name, empty_book}
 use Rattle.checkpoint_records.specs.declared.records.Entry.{Entry}
 use Rattle.checkpoint_records.specs.declared.records.Book.{Book}
 use Rattle.xsmp_messages.specs.Messages.{canon}
@@ -100,7 +100,7 @@ prints text = Print text
 
 -- a book of epoch 1 with these entries and pending commands
 abbrev pub first_book : List Entry → List Command → Book
-first_book entries pending = record { entries = entries; pending = pending; epoch = 1 }
+first_book entries pending = record { entries = entries; pending = pending; epoch = 1; name = default_name; others = [] }
 
 abbrev pub no_entries : Book
 no_entries = first_book [] []
@@ -258,7 +258,7 @@ come_back = flat_map (λ n. logs_in_as n (client_id 1 n)) (up_to 5)
 
 -- the same book, opened once more
 abbrev pub second_book : List Entry → Book
-second_book entries = record { entries = entries; pending = []; epoch = 2 }
+second_book entries = record { entries = entries; pending = []; epoch = 2; name = default_name; others = [] }
 
 -- what a new client of the second run says of itself
 abbrev pub entry_7 : Entry
@@ -279,7 +279,7 @@ ExpectedEntriesStay =
 -- its client is asked to save as each new one is.
 abbrev pub TheRequestTellsWhoIsNew : Type 0
 TheRequestTellsWhoIsNew =
-    all_acts (run (opened (waits_forever (record { entries = entry_of_run 1 1 (codes "c1") ∷ []; pending = []; epoch = 0 }))) (logs_in 1))
+    all_acts (run (opened (waits_forever (record { entries = entry_of_run 1 1 (codes "c1") ∷ []; pending = []; epoch = 0; name = default_name; others = [] }))) (logs_in 1))
     ≡ Commit (first_book (entry_of_run 1 1 (codes "c1") ∷ []) []) ∷ Start Restart (plain (codes "c1" ∷ [])) ∷ Say 1 (RegisterClientReply (codes "smd-00000001-00000001")) ∷ asks_for_save 1 ∷ []
 
 -- Each client of the last run is started again. Those that come back get their IDs and aren't asked to save; a new one is, and gets an

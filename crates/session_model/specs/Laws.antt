@@ -1,5 +1,5 @@
 -- Laws of the session, whatever comes from outside.
-use Rattle.std.specs.Prelude.{Bool, List, [], ◌∷◌, cond, false, min, true, ℕ, ◌≡◌, ◌==◌, ◌+◌, ◌<◌}
+use Rattle.std.specs.Prelude.{Bool, List, [], ◌∷◌, cond, false, length, min, true, ℕ, ◌≡◌, ◌==◌, ◌+◌, ◌<◌, ◌≤◌}
 use Rattle.std.specs.List.{AllByRecursion, list_any}
 use Rattle.session_model.specs.declared.events.SessionEvent.{SessionEvent}
 use Rattle.session_model.specs.declared.events.SessionEvent.TheVariants.{Said, Tick}
@@ -9,7 +9,9 @@ use Rattle.session_model.specs.Phases.{is_asked, is_dying, is_interacting, is_me
 use Rattle.session_model.specs.Moves.{Move, Outside, Gave, Blamed, Committed, History, Opened, Opening, ◌▷◌}
 use Rattle.session_model.specs.Waits.{is_only}
 use Rattle.session_model.specs.Reading.{reading}
+use Rattle.checkpoint_records.specs.Books.{all_entries}
 use Rattle.checkpoint_records.specs.Rules.{KeepsRules, IsEntry}
+use Rattle.checkpoint_records.specs.declared.records.Book.{Book}
 use Rattle.ice_values.specs.declared.numbers.Endian.TheVariants.{Lsb}
 use Rattle.xsmp_messages.specs.Messages.{IsTooLong}
 use Rattle.xsmp_messages.specs.declared.message.XsmpMessage.TheVariants.{Error}
@@ -71,9 +73,9 @@ IsShort m = Unit {0}
 abbrev pub MessagesFit : Type 0
 MessagesFit = (opening : Opening) (events : List SessionEvent) → KeepsRules opening.book → EachMove IsShort (run (opened opening) events)
 
--- the entries of a book that is written
+-- the entries of a book that is written, in all sessions
 abbrev pub HasEntries : ℕ → Move → Type 0
-HasEntries epoch (Committed written) = (written.epoch ≡ epoch) × AllByRecursion (IsEntry epoch) written.entries
+HasEntries epoch (Committed written) = (written.epoch ≡ epoch) × AllByRecursion (IsEntry epoch) (all_entries written)
 HasEntries epoch m = Unit {0}
 
 -- Every book that is written is of the run's epoch, and each of its entries keeps the rules, where the opened book does.
@@ -90,9 +92,19 @@ abbrev pub AllTake : History → List SessionEvent → Type 0
 AllTake h [] = Unit {0}
 AllTake h (event ∷ events) = Takes event (reading h) × AllTake (taken event h) events
 
--- Every book that is written keeps the rules of the store, where the opened book does and has an epoch below the largest.
+-- Every book that is written keeps the rules of the store, where the opened book does, has seven other sessions at most, and an epoch below
+-- the largest.
 abbrev pub BooksKeepRules : Type 0
-BooksKeepRules = (opening : Opening) (events : List SessionEvent) → KeepsRules opening.book → opening.book.epoch < 4294967295 → AllTake (opened opening) events → EachMove IsWritten (run (opened opening) events)
+BooksKeepRules = (opening : Opening) (events : List SessionEvent) → KeepsRules opening.book → length opening.book.others ≤ 7 → opening.book.epoch < 4294967295 → AllTake (opened opening) events → EachMove IsWritten (run (opened opening) events)
+
+-- a book that is written has the other sessions of this one, and the name of its session
+abbrev pub IsBeside : Book → Move → Type 0
+IsBeside book (Committed written) = (written.name ≡ book.name) × (written.others ≡ book.others)
+IsBeside book m = Unit {0}
+
+-- Every book that is written is of the session that runs, and leaves the others as they were.
+abbrev pub OthersStay : Type 0
+OthersStay = (opening : Opening) (events : List SessionEvent) → EachMove (IsBeside opening.book) (run (opened opening) events)
 
 -- Silence
 

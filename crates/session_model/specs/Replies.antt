@@ -4,6 +4,7 @@ use Rattle.owned_lists.specs.declared.commands.Command.{Command}
 use Rattle.sm_world.specs.declared.events.Order.{Order}
 use Rattle.sm_world.specs.declared.events.Order.TheVariants.{Cancel, Checkpoint, DropConn, Forget, Shutdown, Status}
 use Rattle.xsmp_properties.specs.Tables.{set_all}
+use Rattle.checkpoint_records.specs.Books.{all_entries}
 use Rattle.checkpoint_records.specs.declared.records.Entry.{Entry}
 use Rattle.checkpoint_records.specs.declared.records.Book.{Book}
 use Rattle.xsmp_messages.specs.declared.message.XsmpMessage.{XsmpMessage}
@@ -17,7 +18,7 @@ use Rattle.round_agreement.specs.Agreement.{Agreement, conns_of}
 use Rattle.interact_queue.specs.Queue.{is_in}
 use Rattle.restart_plan.specs.Restarts.{respawn}
 use Rattle.session_model.specs.Phases.{is_awaited, is_bound, is_dying, is_first_saving, is_interacting, is_owing, is_saving, is_shutdown, is_unregistered, may_interact}
-use Rattle.session_model.specs.Tables.{entry_of, is_full, is_recorded}
+use Rattle.session_model.specs.Tables.{entry_of, is_full, is_kept_id, is_recorded}
 use Rattle.checkpoint_records.specs.Rules.{client_id}
 use Rattle.session_model.specs.Errors.{bad_id, bad_state, full_table, lone_shutdown, no_room}
 use Rattle.session_model.specs.declared.events.Arrival.{Arrival}
@@ -60,9 +61,9 @@ depart r c = Closed c ∷ respawned r c
 
 -- Registration
 
--- how many IDs are known: those of the book, and those of registered connections that the book doesn't have
+-- how many IDs are known: those of the book, in all sessions, and those of registered connections that the book doesn't have
 abbrev pub known_ids : Reading → ℕ
-known_ids r = length r.store.book.entries + length (filter (λ id. not (is_recorded id r.store.book)) (filter_map r.clients.id r.clients.registered))
+known_ids r = length (all_entries r.store.book) + length (filter (λ id. not (is_kept_id id r.store.book)) (filter_map r.clients.id r.clients.registered))
 
 abbrev pub has_no_room : Reading → Bool
 has_no_room r = nat_le 128 (known_ids r) || nat_le 4294967295 r.run.given

@@ -5,7 +5,7 @@ use Rattle.std.specs.Str.{bytes_eq}
 use Rattle.owned_lists.specs.declared.commands.Command.{Command}
 use Rattle.ice_values.specs.declared.property.Property.{Property}
 use Rattle.xsmp_properties.specs.Tables.{encoded_len, set_all, without_names}
-use Rattle.checkpoint_records.specs.Books.{same_command}
+use Rattle.checkpoint_records.specs.Books.{all_entries, same_command}
 use Rattle.checkpoint_records.specs.declared.records.Entry.{Entry}
 use Rattle.checkpoint_records.specs.declared.records.Book.{Book}
 use Rattle.xsmp_messages.specs.declared.message.XsmpMessage.{XsmpMessage}
@@ -58,12 +58,16 @@ has_id id ids = list_any (bytes_eq id) ids
 abbrev pub is_of : List ℕ → Entry → Bool
 is_of id entry = bytes_eq id entry.id
 
--- the entry under an ID
+-- the entry of the chosen session under an ID
 abbrev pub entry_of : List ℕ → Book → Option Entry
 entry_of id book = find (is_of id) book.entries
 
 abbrev pub is_recorded : List ℕ → Book → Bool
 is_recorded id book = is_some (entry_of id book)
+
+-- the book has the ID, in whichever session
+abbrev pub is_kept_id : List ℕ → Book → Bool
+is_kept_id id book = is_some (find (is_of id) (all_entries book))
 
 abbrev pub table_in : Option Entry → List Property
 table_in None = []

@@ -1,4 +1,4 @@
-ghost use Rattle.session_model.specs.Laws.{NobodyRegistersTwice, PhasesTellWhoIsRegistered, OneHasTheToken, MembersAreAskedToSave, RoundsWaitForRegistered, DeathIsOfShutdown, PhasesTellWhoWaits, NobodyWaitsTwice, SettlingComesToRest, BooksKeepRules, MessagesFit, EntriesKeepRules, SilenceIsCounted};
+ghost use Rattle.session_model.specs.Laws.{NobodyRegistersTwice, PhasesTellWhoIsRegistered, OneHasTheToken, MembersAreAskedToSave, RoundsWaitForRegistered, DeathIsOfShutdown, PhasesTellWhoWaits, NobodyWaitsTwice, SettlingComesToRest, BooksKeepRules, MessagesFit, EntriesKeepRules, OthersStay, SilenceIsCounted};
 
 /// Does nothing: its contract is a law of every history. Nobody is registered twice.
 pub fn nobody_registers_twice()
@@ -43,6 +43,11 @@ pub fn nobody_waits_twice()
 /// Does nothing: its contract is a law of every history. Between events no rule holds.
 pub fn settling_comes_to_rest()
     ensures { SettlingComesToRest }
+{}
+
+/// Does nothing: its contract is a law of every history. Every book that is written is of the session that runs, and leaves the others as they were.
+pub fn others_stay()
+    ensures { OthersStay }
 {}
 
 /// Does nothing: its contract is a law of every history. Every book that is written keeps the rules of the store, where the opened book does.

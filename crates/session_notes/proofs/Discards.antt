@@ -1,16 +1,16 @@
 -- Which DiscardCommand a table has.
-use Rattle.std.proofs.Common.{◌≡◌, refl, ℕ, Bool, true, false, cond, not, ◌&&◌, ◌||◌, List, [], ◌∷◌, filter, sym, ap, subst, ◌∙◌, arith, inl, inr}
-use Rattle.std.specs.Prelude.{Option, Some, None, codes, find, option_and_then, if◌then◌else◌, ◌⊎◌}
+use Rattle.std.proofs.Common.{◌≡◌, refl, ℕ, Bool, true, false, cond, not, ◌||◌, List, [], ◌∷◌, filter, sym, ap, ◌∙◌, arith, inl, inr}
+use Rattle.std.specs.Prelude.{Option, Some, None, codes, find, ◌⊎◌}
 use Rattle.std.specs.List.{AllByRecursion, list_any, cons_option}
 use Rattle.std.specs.Str.{bytes_eq}
 use Rattle.std.specs.Cmp.Lexicographic.{same_text}
 use Rattle.owned_lists.specs.declared.commands.Command.{Command}
 use Rattle.ice_values.specs.declared.property.Property.{Property}
-use Rattle.xsmp_properties.specs.Tables.{is_named, find_property, set_one, set_all, without_names}
-use Rattle.xsmp_properties.specs.Readers.{values_of_kind, values_of, are_words, command_with, directory_of, environment_of}
+use Rattle.xsmp_properties.specs.Tables.{is_named, find_property, set_all, without_names}
 use Rattle.checkpoint_records.specs.declared.records.Book.{Book}
 use Rattle.checkpoint_records.specs.declared.records.Entry.{Entry}
-use Rattle.checkpoint_records.specs.Books.{same_command, discards, names}
+use Rattle.checkpoint_records.specs.Books.{all_entries, same_command, discards, entries_in, names}
+use Rattle.checkpoint_records.proofs.DistinctLaws.{all_front}
 use Rattle.discard_ledger.specs.Discards.{discard_of, is_among}
 use Rattle.session_model.specs.Tables.{is_full, is_same, is_of, first_table, set_table, table_in}
 use Rattle.session_model.proofs.Sound.{or-true, or-either}
@@ -103,7 +103,7 @@ none-names command (entry ∷ entries) e =
 
 -- the table with which an ID begins
 pub first-clear : (command : Command) (book : Book) (id : List ℕ) → names book command ≡ false → is_same command (discard_of (first_table book id)) ≡ false
-first-clear command book id e = found book.entries (none-names command book.entries e) where
+first-clear command book id e = found book.entries (all_front (λ (entry : Entry). is_same command (discard_of entry.table) ≡ false) book.entries (entries_in book.others) (none-names command (all_entries book) e)) where
   found : (entries : List Entry) → AllByRecursion (λ entry. is_same command (discard_of entry.table) ≡ false) entries → is_same command (discard_of (table_in (find (is_of id) entries))) ≡ false
   found [] a = same-tells command []
   found (entry ∷ entries) a = found-at (is_of id entry) (found entries a.1) where

@@ -8,15 +8,18 @@ use Rattle.xsmp_messages.specs.declared.message.XsmpMessage.TheVariants.{Registe
 use Rattle.ice_values.specs.Fields.{ErrorFields}
 use Rattle.checkpoint_records.specs.declared.records.Book.{Book}
 use Rattle.checkpoint_records.specs.declared.records.Entry.{Entry}
+use Rattle.checkpoint_records.specs.declared.records.Named.{Named}
+use Rattle.checkpoint_records.specs.Books.{all_entries, entries_in}
 use Rattle.checkpoint_records.specs.Rules.{IsEntry, client_id}
+use Rattle.checkpoint_records.proofs.DistinctLaws.{all_behind, all_front}
 use Rattle.session_model.specs.declared.events.SessionEvent.{SessionEvent}
 use Rattle.session_model.specs.declared.events.SessionEvent.TheVariants.{Left, Said}
-use Rattle.session_model.specs.Tables.{is_of, is_recorded}
+use Rattle.session_model.specs.Tables.{is_kept_id, is_of}
 use Rattle.session_model.specs.Books.{raised}
 use Rattle.session_model.specs.Moves.{Move, Outside, Gave, Blamed, Committed, History, Opened, ◌▷◌, Opening}
 use Rattle.session_model.specs.Readings as of
 use Rattle.session_model.proofs.Names.{IsBefore, Numbered, before-earlier, before-own, numbered-step}
-use Rattle.session_model.proofs.Pending.{all-more}
+use Rattle.session_model.proofs.Pending.{all-append, all-more}
 use Rattle.session_model.proofs.Ruled.{denied}
 use Rattle.session_notes.specs.Notes.{Note, Given}
 use Rattle.session_notes.specs.Keeping.{book_in, given_ids, is_newcomer, new_ids}
@@ -28,10 +31,11 @@ use Rattle.session_notes.proofs.Tests.{contains-all}
 
 -- IDs that are known are no later ones
 
--- each ID that a client has, that the book has or that was given is none of the run with a later number, and the new IDs are all
--- up to that number
+-- Each ID that a client has, that the book has or that was given is none of the run with a later number, those of the other sessions
+-- are none of the run, and the new IDs are all up to that number.
 pub record Aged (h : History) (n : List Note) : Type 0 where
   pub before : Numbered (run_epoch h) h
+  pub others : AllByRecursion (λ (entry : Entry). IsBefore (run_epoch h) 0 entry.id) (entries_in (of.book h).others)
   pub given : AllByRecursion (IsBefore (run_epoch h) (of.given h)) (given_ids n)
   pub new : new_ids n ≡ numbered (run_epoch h) (of.given h)
 
@@ -43,9 +47,18 @@ recorded-before epoch g id (entry ∷ entries) a e = found-at (is_of id entry) r
   found-at true s k f = subst (λ (x : List ℕ). IsBefore epoch g x) (sym (same_text id entry.id (sym s))) a.0
   found-at false s k f = f k
 
+-- what is before the first is before the next
+before-any : (epoch g : ℕ) (id : List ℕ) → IsBefore epoch 0 id → IsBefore epoch g id
+before-any epoch g id b k lt fits e = b k (omega (arith, lt)) fits e
+
+all-before : (h : History) (n : List Note) → Aged h n → AllByRecursion (λ (entry : Entry). IsBefore (run_epoch h) (of.given h) entry.id) (all_entries (of.book h))
+all-before h n o =
+    all-append (λ (entry : Entry). IsBefore (run_epoch h) (of.given h) entry.id) (of.book h).entries (entries_in (of.book h).others) o.before.entries
+    (all-more (λ (entry : Entry). IsBefore (run_epoch h) 0 entry.id) (λ (entry : Entry). IsBefore (run_epoch h) (of.given h) entry.id) (λ entry b. before-any (run_epoch h) (of.given h) entry.id b) (entries_in (of.book h).others) o.others)
+
 -- the book has no entry of the next new ID
-pub next-unrecorded : (h : History) (id : List ℕ) → Numbered (run_epoch h) h → id ≡ client_id (run_epoch h) (of.given h + 1) → of.given h + 1 < 4294967296 → is_recorded id (of.book h) ≡ false
-next-unrecorded h id n s l = denied (is_recorded id (of.book h)) (λ e. recorded-before (run_epoch h) (of.given h) id (of.book h).entries n.entries e (of.given h + 1) (omega arith) l s)
+next-unrecorded : (h : History) (n : List Note) (id : List ℕ) → Aged h n → id ≡ client_id (run_epoch h) (of.given h + 1) → of.given h + 1 < 4294967296 → is_kept_id id (of.book h) ≡ false
+next-unrecorded h n id o s l = denied (is_kept_id id (of.book h)) (λ e. recorded-before (run_epoch h) (of.given h) id (all_entries (of.book h)) (all-before h n o) e (of.given h + 1) (omega arith) l s)
 
 -- An ID is given
 
@@ -79,17 +92,18 @@ aged-reply d id h n g s e o =
     (λ k. recorded-before (run_epoch h) (of.given h) id (of.book h).entries o.before.entries (g.again (sym s ∙ k))) o.given o.new in
     record {
       before = numbered-step (run_epoch h) (Gave d (RegisterClientReply id)) h r.before o.before;
+      others = o.others;
       given = (r.before, r.given);
       new = ap (λ (b : Bool). cond b (id ∷ new_ids n) (new_ids n)) (sym s) ∙ r.new;
     }
 
 aged-given : (d : ℕ) (m : XsmpMessage) (h : History) → Suits (Gave d m) h → (of.book h).epoch ≡ run_epoch h → Aged h (noted_of h) → Aged (Gave d m ▷ h) (noted_of (Gave d m ▷ h))
 aged-given d (RegisterClientReply id) h s e o = aged-reply d id h (noted_of h) s.1 s.2 e o
-aged-given d m h s e o = record { before = numbered-step (run_epoch h) (Gave d m) h tt o.before; given = o.given; new = o.new }
+aged-given d m h s e o = record { before = numbered-step (run_epoch h) (Gave d m) h tt o.before; others = o.others; given = o.given; new = o.new }
 
 aged-heard : (event : SessionEvent) (h : History) → Aged h (noted_of h) → Aged (Outside event ▷ h) (noted_of (Outside event ▷ h))
-aged-heard (Left d) h o = record { before = numbered-step (run_epoch h) (Outside (Left d)) h tt o.before; given = o.given; new = o.new }
-aged-heard event h o = record { before = numbered-step (run_epoch h) (Outside event) h tt o.before; given = o.given; new = o.new }
+aged-heard (Left d) h o = record { before = numbered-step (run_epoch h) (Outside (Left d)) h tt o.before; others = o.others; given = o.given; new = o.new }
+aged-heard event h o = record { before = numbered-step (run_epoch h) (Outside event) h tt o.before; others = o.others; given = o.given; new = o.new }
 
 -- the entries of a book that is written stood in the book before, or are of clients that have their IDs
 entries-before : (h : History) (entries : List Entry) → Numbered (run_epoch h) h → AllByRecursion (λ entry. Contains (of.book h).entries entry ⊎ Saves entry h) entries → AllByRecursion (λ (entry : Entry). IsBefore (run_epoch h) (of.given h) entry.id) entries
@@ -102,24 +116,31 @@ pub aged-step : (m : Move) (h : History) → Suits m h → (of.book h).epoch ≡
 aged-step (Outside event) h s e o = aged-heard event h o
 aged-step (Gave d m) h s e o = aged-given d m h s e o
 aged-step (Blamed d error) h s e o = absurd s
-aged-step (Committed written) h s e o = record { before = numbered-step (run_epoch h) (Committed written) h (entries-before h written.entries o.before s.entries) o.before; given = o.given; new = o.new }
-aged-step m h s e o = record { before = numbered-step (run_epoch h) m h tt o.before; given = o.given; new = o.new }
+aged-step (Committed written) h s e o = record { before = numbered-step (run_epoch h) (Committed written) h (entries-before h written.entries o.before s.entries) o.before; others = subst (λ (others : List Named). AllByRecursion (λ (entry : Entry). IsBefore (run_epoch h) 0 entry.id) (entries_in others)) (sym s.others) o.others; given = o.given; new = o.new }
+aged-step m h s e o = record { before = numbered-step (run_epoch h) m h tt o.before; others = o.others; given = o.given; new = o.new }
 
 -- a message that is refused changes none of it
 pub aged-refused : (c : ℕ) (m : XsmpMessage) (sequence : ℕ) (frame : List ℕ) (error : ErrorFields) (h : History) (n : List Note) → Aged h n → Aged (Blamed c error ▷ Outside (Said c m sequence frame) ▷ h) n
-aged-refused c m sequence frame error h n o = record { before = record { held = o.before.held; entries = o.before.entries }; given = o.given; new = o.new }
+aged-refused c m sequence frame error h n o = record { before = record { held = o.before.held; entries = o.before.entries }; others = o.others; given = o.given; new = o.new }
 
 -- A book is opened
 
 no-id : (id : List ℕ) → None ≡ Some id → ⊥
 no-id id e = grind arith
 
+earlier-before : (opening : Opening) → IsOpenable opening.book → (entry : Entry) → IsEntry opening.book.epoch entry → IsBefore (opening.book.epoch + 1) 0 entry.id
+earlier-before opening o entry i = before-earlier opening.book.epoch entry.id (omega (arith, o.room)) i.id
+
+earlier-all : (opening : Opening) → IsOpenable opening.book → (entries : List Entry) → AllByRecursion (IsEntry opening.book.epoch) entries → AllByRecursion (λ (entry : Entry). IsBefore (opening.book.epoch + 1) 0 entry.id) entries
+earlier-all opening o entries a = all-more (IsEntry opening.book.epoch) (λ (entry : Entry). IsBefore (opening.book.epoch + 1) 0 entry.id) (earlier-before opening o) entries a
+
 pub aged-opening : (opening : Opening) → IsOpenable opening.book → Aged (Committed (raised opening.book) ▷ Opened opening) (noted_of (Committed (raised opening.book) ▷ Opened opening))
 aged-opening opening o = record {
   before = record {
     held = λ c id e. absurd (no-id id e);
-    entries = all-more (IsEntry opening.book.epoch) (λ (entry : Entry). IsBefore (opening.book.epoch + 1) 0 entry.id) (λ entry i. before-earlier opening.book.epoch entry.id (omega (arith, o.room)) i.id) opening.book.entries o.rules.entries;
+    entries = earlier-all opening o opening.book.entries (all_front (IsEntry opening.book.epoch) opening.book.entries (entries_in opening.book.others) o.rules.entries);
   };
+  others = earlier-all opening o (entries_in opening.book.others) (all_behind (IsEntry opening.book.epoch) opening.book.entries (entries_in opening.book.others) o.rules.entries);
   given = tt;
   new = refl;
 }
@@ -130,7 +151,7 @@ pub next-fresh : (c : ℕ) (id : List ℕ) (h : History) (n : List Note) → IsG
 next-fresh c id h n g e b i o w =
     let s : id ≡ client_id (run_epoch h) (of.given h + 1) = (g.anew w).0 ∙ ap (λ (x : ℕ). client_id x (of.given h + 1)) e in
     record {
-      unrecorded = ap (λ (book : Book). is_recorded id book) b ∙ next-unrecorded h id o.before s (g.anew w).1;
+      unrecorded = ap (λ (book : Book). is_kept_id id book) b ∙ next-unrecorded h n id o s (g.anew w).1;
       free = λ d k. o.before.held d id (sym (i d) ∙ k) (of.given h + 1) (omega arith) (g.anew w).1 s;
       unused = λ has. contains-all (IsBefore (run_epoch h) (of.given h)) id (given_ids n) has o.given (of.given h + 1) (omega arith) (g.anew w).1 s;
     }

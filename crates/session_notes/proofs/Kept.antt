@@ -9,7 +9,10 @@ use Rattle.xsmp_messages.specs.declared.message.XsmpMessage.{XsmpMessage}
 use Rattle.xsmp_messages.specs.declared.message.XsmpMessage.TheVariants.{DeleteProperties, RegisterClientReply, SaveYourself, SaveYourselfDone, SetProperties, ShutdownCancelled}
 use Rattle.checkpoint_records.specs.declared.records.Book.{Book}
 use Rattle.checkpoint_records.specs.declared.records.Entry.{Entry}
-use Rattle.checkpoint_records.specs.Books.{same_command, discards, names}
+use Rattle.checkpoint_records.specs.Books.{all_entries, same_command, discards, entries_in, names}
+use Rattle.checkpoint_records.specs.declared.records.Named.{Named}
+use Rattle.checkpoint_records.proofs.DistinctLaws.{all_behind, all_front}
+use Rattle.session_model.proofs.Pending.{all-append}
 use Rattle.checkpoint_records.specs.Rules.{client_id}
 use Rattle.discard_ledger.specs.Discards.{discard_of, is_among}
 use Rattle.session_model.specs.declared.phase.Phase.{Phase}
@@ -67,6 +70,7 @@ pub record Saves (entry : Entry) (h : History) : Type 0 where
 -- the book may come next, where this was noted
 pub record IsNext (written : Book) (h : History) (n : List Note) : Type 0 where
   pub epoch : written.epoch ≡ (of.book h).epoch
+  pub others : written.others ≡ (of.book h).others
   pub entries : AllByRecursion (λ entry. Contains (of.book h).entries entry ⊎ Saves entry h) written.entries
   pub pending : (command : Command) → is_among command (of.book h).pending ≡ true → (is_among command written.pending || names written command || is_started command n) ≡ true
   pub unnamed : NoneNamed (of.book h) → NoneNamed written
@@ -331,11 +335,18 @@ clear-entries : (command : Command) (h : History) (entries : List Entry) → Cle
 clear-entries command h [] k a = tt
 clear-entries command h (entry ∷ entries) k a = (entry-at a.0, clear-entries command h entries k a.1) where
   entry-at : Contains (of.book h).entries entry ⊎ Saves entry h → is_same command (discard_of entry.table) ≡ false
-  entry-at (inl s) = contains-all (λ (other : Entry). is_same command (discard_of other.table) ≡ false) entry (of.book h).entries s (none-names command (of.book h).entries k.book)
+  entry-at (inl s) = contains-all (λ (other : Entry). is_same command (discard_of other.table) ≡ false) entry (of.book h).entries s (all_front (λ (entry : Entry). is_same command (discard_of entry.table) ≡ false) (of.book h).entries (entries_in (of.book h).others) (none-names command (all_entries (of.book h)) k.book))
   entry-at (inr s) = subst (λ (o : Option (List Property)). IsClearSaved command o) s.table (k.saved s.conn s.member)
 
 pub clear-committed : (command : Command) (written : Book) (h : History) (n : List Note) → IsNext written h n → Clear command h → Clear command (Committed written ▷ h)
-clear-committed command written h n w k = record { book = names-none command written.entries (clear-entries command h written.entries k w.entries); tables = k.tables; saved = k.saved }
+clear-committed command written h n w k = record {
+  book = names-none command (all_entries written)
+      (all-append (λ (entry : Entry). is_same command (discard_of entry.table) ≡ false) written.entries (entries_in written.others) (clear-entries command h written.entries k w.entries)
+      (subst (λ (others : List Named). AllByRecursion (λ (entry : Entry). is_same command (discard_of entry.table) ≡ false) (entries_in others)) (sym w.others)
+      (all_behind (λ (entry : Entry). is_same command (discard_of entry.table) ≡ false) (of.book h).entries (entries_in (of.book h).others) (none-names command (all_entries (of.book h)) k.book))));
+  tables = k.tables;
+  saved = k.saved;
+}
 
 pub clear-step : (command : Command) (m : Move) (h : History) → Leaves command m → Clear command h → Clear command (m ▷ h)
 clear-step command (Outside event) h s k = clear-outside command event h s k
@@ -361,4 +372,4 @@ clear-needless command other h s n u = record {
   saved = λ c e. absurd (differ e (n.alone c));
 } where
   named-by : (a b : Command) (book : Book) → same_command a b ≡ true → names book a ≡ names book b
-  named-by a b book s = among-by a b (discards book.entries) s
+  named-by a b book s = among-by a b (discards (all_entries book)) s

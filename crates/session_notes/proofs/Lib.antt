@@ -20,4 +20,5 @@ pub mod Calm
 pub mod Entries
 pub mod Heard
 pub mod Settled
+pub mod Besides
 pub mod Computed

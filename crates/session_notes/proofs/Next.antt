@@ -1,5 +1,5 @@
 -- The books that are written come from those before.
-use Rattle.std.proofs.Common.{◌≡◌, refl, ℕ, Bool, true, false, cond, not, ◌||◌, List, [], ◌∷◌, ◌++◌, filter, eqb, sym, ap, subst, ◌∙◌, arith, inl, inr}
+use Rattle.std.proofs.Common.{◌≡◌, refl, ℕ, Bool, true, false, cond, not, ◌||◌, List, [], ◌∷◌, ◌++◌, eqb, sym, ap, subst, ◌∙◌, arith, inl, inr}
 use Rattle.std.specs.Prelude.{Option, Some, None, find, filter_map, if◌then◌else◌, ◌⊎◌}
 use Rattle.std.specs.List.{AllByRecursion, Contains, cons_option}
 use Rattle.std.specs.Cmp.Lexicographic.{same_text}
@@ -7,7 +7,7 @@ use Rattle.owned_lists.specs.declared.commands.Command.{Command}
 use Rattle.ice_values.specs.declared.property.Property.{Property}
 use Rattle.checkpoint_records.specs.declared.records.Book.{Book}
 use Rattle.checkpoint_records.specs.declared.records.Entry.{Entry}
-use Rattle.checkpoint_records.specs.Books.{same_command, discards, names}
+use Rattle.checkpoint_records.specs.Books.{all_entries, same_command, discards, names}
 use Rattle.discard_ledger.specs.Discards.{discard_of, is_among, without_commands, with_command, with_commands, next_pending, issuable}
 use Rattle.round_agreement.specs.Agreement.{conns_of}
 use Rattle.interact_queue.specs.Queue.{is_in}
@@ -200,18 +200,20 @@ none-named book strays entries command e = (kept-among (discards entries) (sourc
 pub next-is : (r : of.Begun) (h : History) (n : List Note) → Agreeing r h → (IsOpenable (opened_of h) → Fates (opened_of h) (next_book (reading h) (round_now r h)) n) → IsNext (next_book (reading h) (round_now r h)) h n
 next-is r h n a f = record {
   epoch = refl;
+  others = refl;
   entries = next-come r h a;
-  pending = λ command e. pending-kept (of.book h) (of.strays h) (next_entries (reading h) (round_now r h)) command n e;
-  unnamed = λ u command e. none-named (of.book h) (of.strays h) (next_entries (reading h) (round_now r h)) command e;
+  pending = λ command e. pending-kept (of.book h) (of.strays h) (all_entries (next_book (reading h) (round_now r h))) command n e;
+  unnamed = λ u command e. none-named (of.book h) (of.strays h) (all_entries (next_book (reading h) (round_now r h))) command e;
   fates = f;
 }
 
 pub forgetting-is : (h : History) (id : List ℕ) (n : List Note) → (IsOpenable (opened_of h) → Fates (opened_of h) (book_forgetting (reading h).store id) n) → IsNext (book_forgetting (reading h).store id) h n
 forgetting-is h id n f = record {
   epoch = refl;
+  others = refl;
   entries = all-filter (Comes h) (λ entry. not (is_of id entry)) (of.book h).entries (same-come h (of.book h).entries refl);
-  pending = λ command e. pending-kept (of.book h) (of.strays h) (filter (λ entry. not (is_of id entry)) (of.book h).entries) command n e;
-  unnamed = λ u command e. none-named (of.book h) (of.strays h) (filter (λ entry. not (is_of id entry)) (of.book h).entries) command e;
+  pending = λ command e. pending-kept (of.book h) (of.strays h) (all_entries (book_forgetting (reading h).store id)) command n e;
+  unnamed = λ u command e. none-named (of.book h) (of.strays h) (all_entries (book_forgetting (reading h).store id)) command e;
   fates = f;
 }
 
@@ -220,16 +222,17 @@ pub issued-is : (book : Book) (commands : List Command) (h : History) (n : List 
     → IsNext (record book { pending = without_commands commands book.pending }) h n
 issued-is book commands h n e i s = record {
   epoch = sym (ap (λ (b : Book). b.epoch) e);
+  others = sym (ap (λ (b : Book). b.others) e);
   entries = same-come h book.entries (ap (λ (b : Book). b.entries) e);
   pending = λ command k. pending-at command (is_among command commands) refl (sym (ap (λ (b : Book). is_among command b.pending) e) ∙ k);
   unnamed = λ u command k. sym (ap (λ (b : Book). names b command) e) ∙ u command (ap (λ (b : Book). is_among command b.pending) e ∙ (kept-among commands book.pending command k).0);
   fates = λ o. fates-same (opened_of h) (record book { pending = without_commands commands book.pending }) n (ap (λ (b : Book). b.entries) (i ∙ e));
 } where
-  pending-at : (command : Command) (b : Bool) → is_among command commands ≡ b → is_among command book.pending ≡ true → (is_among command (without_commands commands book.pending) || is_among command (discards book.entries) || is_started command n) ≡ true
-  pending-at command true a k = or-second (is_among command (without_commands commands book.pending) || is_among command (discards book.entries)) (is_started command n) (s command a)
+  pending-at : (command : Command) (b : Bool) → is_among command commands ≡ b → is_among command book.pending ≡ true → (is_among command (without_commands commands book.pending) || is_among command (discards (all_entries book)) || is_started command n) ≡ true
+  pending-at command true a k = or-second (is_among command (without_commands commands book.pending) || is_among command (discards (all_entries book))) (is_started command n) (s command a)
   pending-at command false a k =
-      or-first (is_among command (without_commands commands book.pending) || is_among command (discards book.entries)) (is_started command n)
-      (or-first (is_among command (without_commands commands book.pending)) (is_among command (discards book.entries)) (among-kept commands book.pending command a k))
+      or-first (is_among command (without_commands commands book.pending) || is_among command (discards (all_entries book))) (is_started command n)
+      (or-first (is_among command (without_commands commands book.pending)) (is_among command (discards (all_entries book))) (among-kept commands book.pending command a k))
 
 -- Commands that are started
 

@@ -8,7 +8,7 @@ use Rattle.std.proofs.lemmas.List.{reverse-append}
 use Rattle.owned_lists.specs.declared.commands.Command.{Command}
 use Rattle.ice_values.specs.declared.property.Property.{Property}
 use Rattle.checkpoint_records.specs.declared.records.Book.{Book}
-use Rattle.checkpoint_records.specs.Books.{same_command, discards, names}
+use Rattle.checkpoint_records.specs.Books.{all_entries, same_command, discards, names}
 use Rattle.checkpoint_records.specs.Rules.{KeepsRules}
 use Rattle.round_agreement.specs.declared.wanted.Wanted.{Wanted}
 use Rattle.round_agreement.specs.declared.round.Member.{Member}
@@ -20,20 +20,20 @@ use Rattle.xsmp_messages.specs.declared.message.XsmpMessage.{XsmpMessage}
 use Rattle.xsmp_messages.specs.declared.message.XsmpMessage.TheVariants.{Interact, SaveComplete, Die, SaveYourselfPhase2}
 use Rattle.interact_queue.specs.Queue.{is_in, next_holder}
 use Rattle.session_model.specs.declared.phase.Phase.{Phase}
-use Rattle.session_model.specs.declared.phase.Phase.TheVariants.{Done, Unregistered, WantsTwo}
+use Rattle.session_model.specs.declared.phase.Phase.TheVariants.{Done, WantsTwo}
 use Rattle.session_model.specs.declared.waits.Wait.{Wait}
 use Rattle.session_model.specs.declared.events.SessionEvent.{SessionEvent}
 use Rattle.session_model.specs.declared.events.Act.TheVariants.{Say}
-use Rattle.session_model.specs.Phases.{is_interacting, is_first_saving, is_member, is_shutdown, step_of, begun_phase, completed_phase, dying_phase, second_begun_phase}
+use Rattle.session_model.specs.Phases.{is_first_saving, is_member, is_shutdown, step_of, begun_phase, completed_phase, dying_phase, second_begun_phase}
 use Rattle.session_model.specs.Moves.{Move, Gave, Closed, Began, Over, Agreed, Tried, Committed, Finished, End, Restart, History, Opened, ◌▷◌, onto, gave_each, tried_each, Opening, waits_for}
 use Rattle.session_model.specs.Readings as of
 use Rattle.session_model.specs.Reading.{Clients, has_that_id, reading}
 use Rattle.session_model.specs.Books.{is_eligible, next_book, issue, discarded, raised}
 use Rattle.session_model.specs.Rules.{last_command, ended, completed, agreement, wanting_two, over_rule, agreed_rule, running_rule, save_yourself, members_for, begin, begin_first, is_free, idle_rule, round_rule, token_rule, rule, taken, opened, run}
-use Rattle.session_model.proofs.Sound.{AreRegistered, or-true, or-either}
+use Rattle.session_model.proofs.Sound.{or-true, or-either}
 use Rattle.session_model.proofs.Pending.{all-more, command_equiv}
 use Rattle.session_model.proofs.Level.{Good, good-plain, onto-append, phase-each, members-each, once-begun, once-completed, once-dying}
-use Rattle.session_model.proofs.Ruled.{and-left, and-right, any-in, conns-rows, denied, differ, dying-no-member, good-rule, interacting-registered, member-by, member-registered, nobody-holds, nobody-level, none-any, others, round_now, rows_now}
+use Rattle.session_model.proofs.Ruled.{and-left, and-right, conns-rows, denied, differ, dying-no-member, good-rule, member-by, member-registered, nobody-holds, nobody-level, none-any, others, round_now, rows_now}
 use Rattle.session_model.proofs.Replied.{good-reply, good-opened, good-run}
 use Rattle.session_model.proofs.Asked.{is_at_work}
 use Rattle.session_notes.specs.Notes.{Did, Entry, Given, Note, Wrote, noted, notes}
@@ -462,7 +462,7 @@ kept-holds book seen s =
 -- a book that keeps the rules names none of its pending commands
 all-unnamed : (book : Book) (pending : List Command) → AllByRecursion (λ command. names book command ≡ false) pending → (command : Command) → is_among command pending ≡ true → names book command ≡ false
 all-unnamed book [] a command e = absurd (grind arith)
-all-unnamed book (other ∷ pending) a command e = or-either (same_command command other) (is_among command pending) (λ s. among-by command other (discards book.entries) s ∙ a.0) (λ i. all-unnamed book pending a.1 command i) e
+all-unnamed book (other ∷ pending) a command e = or-either (same_command command other) (is_among command pending) (λ s. among-by command other (discards (all_entries book)) s ∙ a.0) (λ i. all-unnamed book pending a.1 command i) e
 
 pub none-named-by_rules : (book : Book) → KeepsRules book → NoneNamed book
 none-named-by_rules book k command e = all-unnamed book book.pending k.none_named command e

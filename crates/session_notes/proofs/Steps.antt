@@ -6,7 +6,7 @@ use Rattle.xsmp_messages.specs.declared.message.XsmpMessage.{XsmpMessage}
 use Rattle.xsmp_messages.specs.declared.message.XsmpMessage.TheVariants.{RegisterClientReply, SaveYourself, InteractRequest, Interact, InteractDone, SaveYourselfDone, Die, ShutdownCancelled, SaveYourselfPhase2Request, SaveYourselfPhase2, SaveComplete}
 use Rattle.session_model.specs.declared.phase.Phase.{Phase}
 use Rattle.session_model.specs.declared.phase.Phase.TheVariants.{Unregistered, Idle, Saving, Asked, Interacting, WantsTwo, SavingTwo, AskedTwo, InteractingTwo, Done, Owing, Dying}
-use Rattle.session_model.specs.Phases.{is_asked, is_dying, is_first_saving, is_interacting, is_member, is_owing, is_saving, asked_phase, phase_given, phase_said, ready_phase, begun_phase, cancelled_phase, dying_phase, held_phase}
+use Rattle.session_model.specs.Phases.{is_asked, is_dying, is_first_saving, is_interacting, is_member, is_owing, is_saving, asked_phase, phase_given, phase_said, ready_phase, begun_phase, cancelled_phase, dying_phase}
 use Rattle.session_model.proofs.Asked.{is_at_work}
 
 -- it has answered its SaveYourself, and its round still runs

@@ -15,7 +15,7 @@ use Rattle.session_model.specs.declared.events.SessionEvent.{SessionEvent}
 use Rattle.session_model.specs.declared.events.Act.TheVariants.{Commit, Say}
 use Rattle.session_model.specs.Moves.{History, Opening, all_acts, waits_for}
 use Rattle.session_model.specs.Rules.{opened, run}
-use Rattle.session_model.specs.Tables.{is_recorded}
+use Rattle.session_model.specs.Tables.{is_kept_id, is_recorded}
 use Rattle.session_notes.specs.Notes.{Did, Entry, Note, acts_in, came_in, entries, notes}
 use Rattle.session_notes.specs.Keeping.{IsOfRun, book_in, given_ids, id_in, is_discarded, is_newcomer, is_started, new_ids, snapshot_in}
 use Rattle.session_notes.specs.Watching.{has_answered, has_token, is_to_save, requests}
@@ -62,9 +62,9 @@ pub record IsOpenable (book : Book) : Type 0 where
 abbrev pub NewIdsDiffer : Type 0
 NewIdsDiffer = (book : Book) (seen : List Entry) → IsOpenable book → IsSeen book seen → IsDistinct bytes_eq (new_ids (notes seen))
 
--- The book that stands has no entry of this ID, no connection has it, and it was given to nobody before in the run.
+-- The book that stands has no entry of this ID in any session, no connection has it, and it was given to nobody before in the run.
 pub record IsFresh (book : Book) (notes : List Note) (id : List ℕ) : Type 0 where
-  pub unrecorded : is_recorded id (book_in book notes) ≡ false
+  pub unrecorded : is_kept_id id (book_in book notes) ≡ false
   pub free : (conn : ℕ) → id_in conn notes ≢ Some id
   pub unused : ¬ (Contains (given_ids notes) id)
 
@@ -73,7 +73,8 @@ abbrev pub NewIdsAreFresh : Type 0
 NewIdsAreFresh =
     (book : Book) (seen : List Entry) (c : ℕ) (id : List ℕ) → IsOpenable book → IsSeen book (seen ++ Did (Say c (RegisterClientReply id)) ∷ []) → is_newcomer c (notes seen) ≡ true → IsFresh book (notes seen) id
 
--- Everybody else gets a recorded ID. So an ID is new exactly where the book that stands has no entry of it, as the history counts.
+-- Everybody else gets an ID that is recorded in the session that runs. So an ID is new exactly where the book that stands has no entry of
+-- it, as the history counts.
 abbrev pub OldIdsAreRecorded : Type 0
 OldIdsAreRecorded =
     (book : Book) (seen : List Entry) (c : ℕ) (id : List ℕ) → IsSeen book (seen ++ Did (Say c (RegisterClientReply id)) ∷ []) → is_newcomer c (notes seen) ≡ false → is_recorded id (book_in book (notes seen)) ≡ true
@@ -84,10 +85,14 @@ pub record IsSaved (book : Book) (notes : List Note) (entry : Kept) : Type 0 whe
   pub id : id_in conn notes ≡ Some entry.id
   pub table : snapshot_in book conn notes ≡ Some entry.table
 
--- each entry of a book that is written stood in the book before, or a client has saved it with success
+-- each entry of the session that runs stood in the book before, in a book that is written, or a client has saved it with success
 abbrev pub EntriesWereSaved : Type 0
 EntriesWereSaved =
     (book written : Book) (seen : List Entry) → IsSeen book (seen ++ Did (Commit written) ∷ []) → AllByRecursion (λ entry. Contains (book_in book (notes seen)).entries entry ⊎ IsSaved book (notes seen) entry) written.entries
+
+-- every book that is written is of the session that runs, and has the other sessions as they were opened
+abbrev pub OthersStay : Type 0
+OthersStay = (book written : Book) (seen : List Entry) → IsSeen book (seen ++ Did (Commit written) ∷ []) → (written.name ≡ book.name) × (written.others ≡ book.others)
 
 -- Once a command was started to discard a state, the book that stands doesn't name it, until somebody sets it as his DiscardCommand
 -- again. This asks that the opened book keeps the rules.

@@ -1,4 +1,4 @@
-ghost use Rattle.session_notes.specs.Laws.{AllActsAreSeen, AllEventsAreSeen, OneHasTheToken, TheFirstIsServed, TheSecondPhaseWaits, NewIdsAreOfTheRun, NewIdsDiffer, NewIdsAreFresh, EntriesWereSaved, DiscardedStatesAreNotNamed, PendingIsNotLost, OldIdsAreRecorded};
+ghost use Rattle.session_notes.specs.Laws.{AllActsAreSeen, AllEventsAreSeen, OneHasTheToken, TheFirstIsServed, TheSecondPhaseWaits, NewIdsAreOfTheRun, NewIdsDiffer, NewIdsAreFresh, EntriesWereSaved, OthersStay, DiscardedStatesAreNotNamed, PendingIsNotLost, OldIdsAreRecorded};
 ghost use Rattle.session_notes.specs.Kept.{CompletedSavesStand, SavesAreKept};
 ghost use Rattle.session_notes.specs.Opening.{RunsBeginAgain};
 
@@ -50,6 +50,11 @@ pub fn old_ids_are_recorded()
 /// Does nothing: its contract is a law of all that is seen of a run. Each entry of a book that is written stood in the book before, or was saved by its client.
 pub fn entries_were_saved()
     ensures { EntriesWereSaved }
+{}
+
+/// Does nothing: its contract is a law of all that is seen of a run. Every book that is written is of the session that runs, and has the other sessions as they were opened.
+pub fn others_stay()
+    ensures { OthersStay }
 {}
 
 /// Does nothing: its contract is a law of all that is seen of a run. The book that stands doesn't name a command that was started to discard a state.

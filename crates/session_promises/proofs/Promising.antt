@@ -1,19 +1,24 @@
 -- A session keeps the laws, by what the top call promises of its headline.
 use Rattle.std.proofs.Common.{◌≡◌, inl, inr, ℕ, List, [], ◌∷◌, ◌++◌, Option, Some, Result, Ok, Err, refl, sym, ◌∙◌, ap, subst}
 use Rattle.std.proofs.lemmas.List.{append-nil}
-use Rattle.sm_world.specs.Outside.{Outside, adds}
+use Rattle.sm_world.specs.Outside.{Added, Outside, adds}
 use Rattle.sm_world.specs.declared.effects.Effect.{Effect}
 use Rattle.checkpoint_records.specs.declared.records.Book.{Book}
 use Rattle.checkpoint_slots.specs.Causes.{IsSettled}
 use Rattle.checkpoint_slots.specs.Recovery.{Recovers}
+use Rattle.checkpoint_slots.proofs.Once.{recovers-once}
+use Rattle.checkpoint_records.specs.Books.{choose}
+use Rattle.checkpoint_records.specs.Rules.{IsName}
 use Rattle.session_engine.specs.declared.config.Config.{Config}
 use Rattle.program_frame.specs.Printing.{Tries}
 use Rattle.heard_events.specs.Brought.{IsPrefix}
 use Rattle.session_engine.specs.Carries.{KeepsItsWord}
+use Rattle.session_engine.specs.Session.{Serving}
 use Rattle.session_engine.specs.declared.fault.ServeFault.{ServeFault}
 use Rattle.session_engine.specs.declared.fault.ServeFault.TheVariants.{NoMemory}
 use Rattle.session_engine.proofs.Loop.{keeps_word}
-use Rattle.session_lines.proofs.Crashes.{every-file}
+use Rattle.session_lines.specs.Files.{HasSaved}
+use Rattle.session_lines.proofs.Crashes.{every-file, others-begin, same-book}
 use Rattle.session_lines.proofs.Fronts.{laws-hold}
 use Rattle.session_lines.proofs.Passing.{done-is}
 use Rattle.smd_app.specs.Sessions.{HasServed, RunsSession, WasCutShort, announcing, config_of, handing_out}
@@ -21,14 +26,21 @@ use Rattle.smd_app.specs.Statuses.{Ending, Runs, RunsTask}
 use Rattle.smd_app.specs.Words.{Means, Places, Serve, Task}
 use Rattle.smd_app.specs.declared.identity.Identity.{Identity}
 use Rattle.smd_app.proofs.Completing.{mean_one}
+use Rattle.smd_app.proofs.Wording.{session_fits}
 use Rattle.session_promises.specs.Promises.{EverySessionKeepsTheLaws, HasSession, KeepsAllLaws}
 
-word-laws : (config : Config) (book : Book) (file : List ℕ) (answer : Result (Unit {0}) ServeFault) (own : List Effect) → KeepsItsWord config book file answer own → KeepsAllLaws config book file own
-word-laws config book file answer own word = record {
+-- the opened book is that of the one store for which the file stands
+opened-in : (config : Config) (book was : Book) (file : List ℕ) → HasSaved config file book → Recovers file (Ok was) → choose config.session was ≡ book
+opened-in config book was file saved recovers = ap (choose config.session) (same-book was saved.0 (Ok was) (Ok saved.0) (recovers-once file (Ok was) (Ok saved.0) recovers saved.1) refl refl) ∙ saved.2
+
+word-laws : (config : Config) (book : Book) (file : List ℕ) (answer : Result (Unit {0}) ServeFault) (own : List Effect) → HasSaved config file book → KeepsItsWord config book file answer own → KeepsAllLaws config book file own
+word-laws config book file answer own saved word = record {
   lawful = λ n.
       let done = done-is config book own word.carries.on_script n in
       record { done = done; laws = laws-hold config book done.front (record { events = _; later = done.later; parts = done.parts }) };
-  safe = λ n left saved image recovers. every-file config book saved file left answer own word n image recovers;
+  safe = λ n left kept image recovers. every-file config book kept file left answer own word n image recovers;
+  others = λ n left was is first image recovers other differ.
+      others-begin config was is file left answer own (subst (λ (b : Book). KeepsItsWord config b file answer own) (sym (opened-in config book was file saved first)) word) n image recovers other differ;
 }
 
 abbrev tail-of : List Effect → List Effect
@@ -42,14 +54,19 @@ none-added (t ∷ told) es e = none-added told es (ap tail-of e)
 same-told : (xs ys : List Effect) → Some xs ≡ Some ys → xs ≡ ys
 same-told xs ys e = cc
 
--- where nothing was done
-no-laws : (config : Config) (book : Book) (file : List ℕ) (old : Outside) → IsSettled old file → Recovers file (Ok book) → KeepsAllLaws config book file []
-no-laws config book file old settled recovers =
-    let word = keeps_word config 0 old old (Err NoMemory) (inl (record { told = refl; kept = λ first told. refl; cause = tt })) file book settled recovers in
-    let none : word.effects ≡ [] = none-added settled.effects word.effects (same-told (settled.effects ++ word.effects) settled.effects (sym (ap (λ (told : Option (List Effect)). adds told word.effects) settled.told) ∙ (sym word.added ∙ settled.told))) in
-    word-laws config book file (Err NoMemory) [] (subst (KeepsItsWord config book file (Err NoMemory)) none word.holds)
+-- the word of a run, for the book of its session
+word_for : (config : Config) (turns : ℕ) (old new : Outside) (answer : Result (Unit {0}) ServeFault) → IsName config.session → Serving config turns old new answer → (file : List ℕ) (book : Book) → IsSettled old file → HasSaved config file book → Added old.told new.told (KeepsItsWord config book file answer)
+word_for config turns old new answer may serving file book settled saved =
+    subst (λ (b : Book). Added old.told new.told (KeepsItsWord config b file answer)) saved.2 (keeps_word config turns old new answer may serving file saved.0 settled saved.1)
 
-module _ (identity : Identity) (places : Places) (turns : ℕ) (old new : Outside) (file : List ℕ) (book : Book) (settled : IsSettled old file) (recovers : Recovers file (Ok book)) where
+-- where nothing was done
+no-laws : (config : Config) (book : Book) (file : List ℕ) (old : Outside) → IsName config.session → IsSettled old file → HasSaved config file book → KeepsAllLaws config book file []
+no-laws config book file old may settled recovers =
+    let word = word_for config 0 old old (Err NoMemory) may (inl (record { told = refl; kept = λ first told. refl; cause = tt })) file book settled recovers in
+    let none : word.effects ≡ [] = none-added settled.effects word.effects (same-told (settled.effects ++ word.effects) settled.effects (sym (ap (λ (told : Option (List Effect)). adds told word.effects) settled.told) ∙ (sym word.added ∙ settled.told))) in
+    word-laws config book file (Err NoMemory) [] recovers (subst (KeepsItsWord config book file (Err NoMemory)) none word.holds)
+
+module _ (identity : Identity) (places : Places) (may : IsName places.session) (turns : ℕ) (old new : Outside) (file : List ℕ) (book : Book) (settled : IsSettled old file) (recovers : HasSaved (config_of identity places) file book) where
   -- nothing of the session was done
   unserved : (effects before last : List Effect) (text : Option (List ℕ)) → effects ≡ before ++ last → IsPrefix before (handing_out identity places ++ announcing identity places) → Tries text last → HasSession identity places book file effects
   unserved effects before last text parts begins tried = record {
@@ -59,7 +76,7 @@ module _ (identity : Identity) (places : Places) (turns : ℕ) (old new : Outsid
     parts = parts;
     begins = begins;
     ends = (text, tried);
-    laws = no-laws (config_of identity places) book file old settled recovers;
+    laws = no-laws (config_of identity places) book file old may settled recovers;
   }
 
   cut : (ending : Ending) (effects first last : List Effect) (text : Option (List ℕ)) → effects ≡ first ++ last → Tries text last → WasCutShort identity places old new ending first → HasSession identity places book file effects
@@ -75,7 +92,7 @@ module _ (identity : Identity) (places : Places) (turns : ℕ) (old new : Outsid
     parts = parts ∙ ap (λ es. es ++ last) session.parts;
     begins = ([], append-nil (handing_out identity places ++ announcing identity places));
     ends = (text, tried);
-    laws = word-laws (config_of identity places) book file session.answer session.own (session.session.headline file book settled recovers);
+    laws = word-laws (config_of identity places) book file session.answer session.own recovers (subst (λ (b : Book). KeepsItsWord (config_of identity places) b file session.answer session.own) recovers.2 (session.session.headline file recovers.0 settled recovers.1));
   }
 
   ran : (ending : Ending) (effects first last : List Effect) (text : Option (List ℕ)) → effects ≡ first ++ last → Tries text last → RunsSession identity places turns old new ending first → HasSession identity places book file effects
@@ -89,4 +106,4 @@ module _ (identity : Identity) (places : Places) (turns : ℕ) (old new : Outsid
 
 pub keeps-all : EverySessionKeepsTheLaws
 keeps-all words places identity old new turns status effects means answers file book settled recovers =
-    all identity places turns old new file book settled recovers words answers.ending effects answers.first answers.last _ means answers.parts answers.tried answers.ran
+    all identity places (session_fits _ places.session means.session) turns old new file book settled recovers words answers.ending effects answers.first answers.last _ means answers.parts answers.tried answers.ran

@@ -1,15 +1,16 @@
 -- The laws of what is seen of a session, said of the top call.
-use Rattle.std.specs.Prelude.{◌≡◌, ℕ, List, ◌++◌, take, Option, Ok}
+use Rattle.std.specs.Prelude.{◌≡◌, ◌≢◌, ℕ, List, ◌++◌, take, Ok, Option}
 use Rattle.sm_world.specs.Crash.{Image}
 use Rattle.sm_world.specs.Outside.{Outside}
 use Rattle.sm_world.specs.declared.effects.Effect.{Effect}
+use Rattle.checkpoint_records.specs.Books.{choose}
 use Rattle.checkpoint_records.specs.declared.records.Book.{Book}
 use Rattle.checkpoint_slots.specs.Causes.{IsSettled}
 use Rattle.checkpoint_slots.specs.Recovery.{Recovers}
 use Rattle.session_engine.specs.declared.config.Config.{Config}
 use Rattle.program_frame.specs.Printing.{Tries}
 use Rattle.heard_events.specs.Brought.{IsPrefix}
-use Rattle.session_lines.specs.Files.{IsSafe}
+use Rattle.session_lines.specs.Files.{HasSaved, IsSafe}
 use Rattle.session_lines.specs.Runs.{IsAlwaysLawful}
 use Rattle.smd_app.specs.Sessions.{announcing, config_of, handing_out}
 use Rattle.smd_app.specs.Statuses.{Answers}
@@ -17,10 +18,12 @@ use Rattle.smd_app.specs.Words.{Means, Places, Serve}
 use Rattle.smd_app.specs.declared.identity.Identity.{Identity}
 
 -- At each point of these effects of a session that opens this book, what was done keeps the laws; and each file that a crash could
--- leave then, of a store that began with this one, is safe.
+-- leave then, of a store that began with this one, is safe. In each such file every session of another name has the entries that it had
+-- in this one: so a later run of it begins with them.
 pub record KeepsAllLaws (config : Config) (book : Book) (file : List ℕ) (own : List Effect) : Type 0 where
   pub lawful : IsAlwaysLawful config book own
-  pub safe : (n : ℕ) (left : List ℕ) (saved : Book) → Image file (take n own) left → Recovers left (Ok saved) → IsSafe config book (take n own) saved
+  pub safe : (n : ℕ) (left : List ℕ) (saved : Book) → Image file (take n own) left → HasSaved config left saved → IsSafe config book (take n own) saved
+  pub others : (n : ℕ) (left : List ℕ) (was is : Book) → Recovers file (Ok was) → Image file (take n own) left → Recovers left (Ok is) → (other : List ℕ) → other ≢ config.session → (choose other is).entries ≡ (choose other was).entries
 
 -- The effects of a call are those before a session, as far as they go, the session's own, which keep all laws, and a line that was
 -- tried once.
@@ -33,8 +36,8 @@ pub record HasSession (identity : Identity) (places : Places) (book : Book) (fil
   pub ends : (text : Option (List ℕ)) × Tries text last
   pub laws : KeepsAllLaws (config_of identity places) book file own
 
--- So it is of every call with the words of a session, over a store of which no byte is in doubt and that stands for a book.
+-- So it is of every call with the words of a session, over a store of which no byte is in doubt and that has a book for it.
 abbrev pub EverySessionKeepsTheLaws : Type 0
 EverySessionKeepsTheLaws =
     (words : List (List ℕ)) (places : Places) (identity : Identity) (old new : Outside) (turns status : ℕ) (effects : List Effect) → Means words (Serve places) → Answers words identity old new turns status effects
-    → (file : List ℕ) (book : Book) → IsSettled old file → Recovers file (Ok book) → HasSession identity places book file effects
+    → (file : List ℕ) (book : Book) → IsSettled old file → HasSaved (config_of identity places) file book → HasSession identity places book file effects

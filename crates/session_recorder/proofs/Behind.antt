@@ -4,7 +4,6 @@ use Rattle.std.proofs.Common.{refl, ap, sym, ◌∙◌}
 use Rattle.std.proofs.lemmas.Bool.{false≢true}
 use Rattle.std.proofs.lemmas.Grind.{flat_map-append}
 use Rattle.std.proofs.lemmas.List.{append_assoc, append-nil}
-use Rattle.std.specs.List.{flat_map, list_any}
 use Rattle.sm_world.specs.declared.effects.Effect.{Effect}
 use Rattle.control_lines.specs.Traces.{effect_text, effects_text, whole_line}
 use Rattle.session_recorder.specs.Recorded.{is_announced, is_printed, behind_announcement, record_text}

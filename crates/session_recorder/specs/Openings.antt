@@ -1,6 +1,8 @@
 -- What the record of a session opens with.
 use Rattle.std.specs.Prelude.{◌≡◌, ℕ, ◌==◌, if◌then◌else◌, List, [], ◌∷◌, ◌++◌, codes}
 use Rattle.std.specs.Fmt.{decimal}
+use Rattle.std.specs.Str.{bytes_eq}
+use Rattle.checkpoint_records.specs.Books.{default_name}
 use Rattle.checkpoint_records.specs.Spelling.{book_bytes}
 use Rattle.ice_cookie.specs.declared.cookies.Cookie.{Cookie}
 use Rattle.control_lines.specs.Fields.{hex_text}
@@ -25,8 +27,12 @@ book_line (WrongSize size) = []
 abbrev pub patience_line : ℕ → List ℕ
 patience_line patience = if patience == 0 then [] else word_line (codes "patience ") (decimal patience)
 
--- The three lines in their order, for the store as it stands when the session begins.
-pub record IsOpening (store : List ℕ) (cookie : Cookie) (patience : ℕ) (text : List ℕ) : Type 0 where
+-- the name of the session, where it isn't the one that is meant where none is said
+abbrev pub session_line : List ℕ → List ℕ
+session_line name = if bytes_eq name default_name then [] else word_line (codes "session ") name
+
+-- The four lines in their order, for the store as it stands when the session begins.
+pub record IsOpening (store : List ℕ) (cookie : Cookie) (patience : ℕ) (session text : List ℕ) : Type 0 where
   pub finding : Finding
   pub stands : StandsFor store finding
-  pub text_is : text ≡ cookie_line cookie ++ (book_line finding ++ patience_line patience)
+  pub text_is : text ≡ cookie_line cookie ++ (book_line finding ++ (patience_line patience ++ session_line session))

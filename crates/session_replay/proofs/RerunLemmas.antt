@@ -33,6 +33,9 @@ use Rattle.session_in_memory.specs.Stores.{IsFresh}
 use Rattle.session_in_memory.proofs.Blank.{fresh_settled, ok_book}
 use Rattle.session_in_memory.proofs.Stopping.{run_stops}
 use Rattle.session_replay.specs.Running.{HasRun, HoldsBook, IsAlike}
+use Rattle.checkpoint_records.specs.Books.{choose}
+use Rattle.session_engine.specs.Standing.{as_stored}
+use Rattle.session_engine.proofs.Standing.{stands_chosen}
 
 -- ---- the book
 
@@ -90,8 +93,11 @@ spent_all : (events hs : List Event) → hs ≡ next_events (length hs) events �
 spent_all events hs brought all =
     brought ∙ (next_front (length hs) events (omega (arith, all)) ∙ take_all (length hs) events (omega (arith, all)))
 
--- the run is one over the book that the store has
-module _ (config : Config) (book : Book) (events : List Event) (turns : ℕ) (old new : Outside) (holds : HoldsBook book old) (coming : old.coming ≡ Some events) (all : turns ≡ length events) where
+-- the run is one over the session's book in the store
+module _ (config : Config) (stored : Book) (events : List Event) (turns : ℕ) (old new : Outside) (holds : HoldsBook stored old) (coming : old.coming ≡ Some events) (all : turns ≡ length events) where
+  abbrev book : Book
+  book = choose config.session stored
+
   has_run : (shown : List Effect) → new.told ≡ adds old.told shown → items shown ≡ run config book events → HasRun config book events new
   has_run shown added in_order = record {
     effects = holds.effects ++ shown;
@@ -99,10 +105,12 @@ module _ (config : Config) (book : Book) (events : List Event) (turns : ℕ) (ol
     in_order = flat_map-append item_of holds.effects shown ∙ (ap (λ before. before ++ items shown) holds.hidden ∙ in_order);
   }
 
-  same_book : (answer : Result (Unit {0}) ServeFault) → (opens : Opens old new (λ opening current effects. Serves config opening current old.coming turns answer effects)) → opens.book ≡ book
-  same_book answer opens = ok_book opens.book book (recovers-once holds.file (Ok opens.book) (Ok book) (opens.recovered holds.file holds.settled).1.recovers holds.recovers)
+  same_book : (answer : Result (Unit {0}) ServeFault) → (opens : Opens config.session old new (λ opening current effects. Serves config opening current old.coming turns answer effects)) → opens.book ≡ book
+  same_book answer opens =
+      let is : as_stored opens.book ≡ stored = ok_book (as_stored opens.book) stored (recovers-once holds.file (Ok (as_stored opens.book)) (Ok stored) (opens.recovered holds.file holds.settled).1.recovers holds.recovers) in
+      sym (stands_chosen config.session opens.book opens.rules opens.called) ∙ ap (choose config.session) is
 
-  over_book : (answer : Result (Unit {0}) ServeFault) → (opens : Opens old new (λ opening current effects. Serves config opening current old.coming turns answer effects)) → Serves config book opens.current (Some events) turns answer opens.adds.effects
+  over_book : (answer : Result (Unit {0}) ServeFault) → (opens : Opens config.session old new (λ opening current effects. Serves config opening current old.coming turns answer effects)) → Serves config book opens.current (Some events) turns answer opens.adds.effects
   over_book answer opens =
       subst (λ (c : Option (List Event)). Serves config book opens.current c turns answer opens.adds.effects) coming
       (subst (λ (b : Book). Serves config b opens.current old.coming turns answer opens.adds.effects) (same_book answer opens) opens.adds.holds)

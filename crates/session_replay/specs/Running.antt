@@ -3,7 +3,7 @@ use Rattle.std.specs.Prelude.{◌≡◌, ℕ, List, [], Option, None, Some, Ok}
 use Rattle.sm_world.specs.Outside.{Outside}
 use Rattle.sm_world.specs.declared.effects.Effect.{Effect}
 use Rattle.sm_world.specs.declared.events.Event.{Event}
-use Rattle.checkpoint_records.specs.Books.{empty_book}
+use Rattle.checkpoint_records.specs.Books.{choose, empty_book}
 use Rattle.checkpoint_records.specs.declared.records.Book.{Book}
 use Rattle.checkpoint_slots.specs.Causes.{IsSettled}
 use Rattle.checkpoint_slots.specs.Recovery.{Recovers}
@@ -12,18 +12,24 @@ use Rattle.session_engine.specs.Carries.{run}
 use Rattle.session_engine.specs.Doing.{items}
 use Rattle.session_engine.specs.declared.config.Config.{Config}
 use Rattle.session_in_memory.specs.Stores.{rehearsal_cookie}
+use Rattle.trace_replay.specs.Openings.{session_of}
 use Rattle.trace_replay.specs.declared.opening.Opening.{Opening}
 
 abbrev pub or_else : {A : Type 0} → A → Option A → A
 or_else absent None = absent
 or_else absent (Some value) = value
 
--- what a trace opens with, and else what a rehearsal has: its cookie, no patience and the empty book
+-- what a trace opens with, and else what a rehearsal has: its cookie, no patience, the session `default`,
 abbrev pub config_of : Opening → Config
-config_of opening = record { cookie = or_else rehearsal_cookie opening.cookie; patience = or_else 0 opening.patience }
+config_of opening = record { cookie = or_else rehearsal_cookie opening.cookie; patience = or_else 0 opening.patience; session = session_of opening }
 
+-- and the empty book, as it stands in a store
+abbrev pub stored_of : Opening → Book
+stored_of opening = or_else empty_book opening.book
+
+-- the book of the trace's session
 abbrev pub book_of : Opening → Book
-book_of opening = or_else empty_book opening.book
+book_of opening = choose (session_of opening) (stored_of opening)
 
 -- A world after a look at its store: nothing was done, and no event came.
 pub record IsAlike (old new : Outside) : Type 0 where

@@ -3,14 +3,14 @@ ghost use Rattle.std.specs.List.{AllByRecursion};
 ghost use Rattle.checkpoint_records.specs.Rules.{KeepsRules};
 ghost use Rattle.control_lines.specs.Lines.{lines_of};
 ghost use Rattle.sm_world.specs.Events.{HasPieceSize};
-ghost use Rattle.session_replay.specs.Running.{book_of, config_of};
+ghost use Rattle.session_replay.specs.Running.{config_of, stored_of};
 ghost use Rattle.session_replay.specs.Verdicts.{Judges, Replays, ReplaysWithin};
 ghost use Rattle.trace_replay.specs.Openings.{Open};
 
 use crate::comparing::{count_lines, parting};
 use crate::rerun::rerun;
 use checkpoint_records::Book;
-use owned_lists::NoMemory;
+use owned_lists::{NoMemory, Octets};
 use session_engine::Config;
 use session_in_memory::REHEARSAL_COOKIE;
 use sm_world::EventList;
@@ -29,21 +29,27 @@ pub enum Verdict {
     Malformed { at: u64 },
 }
 
-/// The cookie that a trace opens with, or that of a rehearsal, and its patience, or none.
-fn config_by(opening: &Opening) -> Config
-    ensures { result ≡ config_of opening.now }
+/// The cookie that a trace opens with, or that of a rehearsal, its patience, or none, and its session,
+/// or `default`.
+fn config_by(alloc: Global, opening: &Opening) -> Result<Config, NoMemory>
+    ensures { IfOk result (λ config. config ≡ config_of opening.now) }
 {
-    Config {
-        cookie: opening.cookie.unwrap_or(REHEARSAL_COOKIE),
-        patience: opening.patience.unwrap_or(0),
-    }
+    let cookie = opening.cookie.unwrap_or(REHEARSAL_COOKIE);
+    let patience = opening.patience.unwrap_or(0);
+    let session = Octets::from_slice(alloc, opening.session_name())?;
+    Ok(Config {
+        cookie,
+        patience,
+        session,
+    })
 }
 
 /// The book that a trace opens with, or the empty one.
 fn book_by(alloc: Global, opening: Opening) -> Result<Book, NoMemory>
-    ensures { IfOk result (λ book. book ≡ book_of opening) }
+    ensures { IfOk result (λ book. book ≡ stored_of opening) }
 {
-    match opening.book {
+    let Opening { book, .. } = opening;
+    match book {
         Some(book) => Ok(book),
         None => Book::empty(alloc),
     }
@@ -61,7 +67,7 @@ fn judge(
     ensures { IfOk result (Judges trace.now opening events) }
 {
     let lines = opening.behind(trace);
-    let config = config_by(&opening);
+    let config = config_by(alloc, &opening)?;
     let book = book_by(alloc, opening)?;
     let world = rerun(alloc, config, &book, events)?;
     match parting(alloc, world.effects(), lines)? {
@@ -86,8 +92,8 @@ pub fn replay_within(alloc: Global, trace: &[u8], limit: usize) -> Result<Verdic
 /// of this run, to the byte; `started` and `unstarted` of the same command are one. A trace may stop
 /// without `end`, but not with a deed missing. Each line is tested for the grammar first.
 ///
-/// The cookie, the book and the patience of the session are those with which the trace opens. A
-/// trace that opens with none is taken as one of a rehearsal.
+/// The cookie, the book, the patience and the name of the session are those with which the trace
+/// opens. A trace that opens with none is taken as one of a rehearsal.
 pub fn replay(alloc: Global, trace: &[u8]) -> Result<Verdict, NoMemory>
     ensures { IfOk result (Replays trace.now) }
 {

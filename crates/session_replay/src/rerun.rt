@@ -2,7 +2,8 @@ ghost use Rattle.std.specs.Prelude.{◌≡◌, ℕ, List, IfOk, OnOk};
 ghost use Rattle.std.specs.List.{AllByRecursion};
 ghost use Rattle.sm_world.specs.Events.{HasPieceSize};
 ghost use Rattle.sm_world.specs.Worlds.{steady_outside};
-ghost use Rattle.checkpoint_records.specs.Rules.{KeepsRules};
+ghost use Rattle.checkpoint_records.specs.Books.{choose, default_name};
+ghost use Rattle.checkpoint_records.specs.Rules.{IsName, KeepsRules};
 ghost use Rattle.session_in_memory.specs.Stores.{IsFresh};
 ghost use Rattle.checkpoint_records.specs.declared.records.Book.{Book as AnyBook};
 ghost use Rattle.checkpoint_slots.specs.Causes.{IsSettled};
@@ -39,6 +40,7 @@ fn journal_of(alloc: Global, world: &mut SteadyWorld) -> Result<Journal, NoMemor
 fn write_book(alloc: Global, world: &mut SteadyWorld, book: &Book) -> Result<(), NoMemory>
     requires fresh { (file : List ℕ) × IsFresh (steady_outside world.old) file }
     requires rules { KeepsRules book.now }
+    requires chosen { book.now.name ≡ default_name }
     ensures holds { OnOk result (HoldsBook book.now (steady_outside world.new)) }
     ensures coming { (steady_outside world.new).coming ≡ (steady_outside world.old).coming }
 {
@@ -55,8 +57,8 @@ fn write_book(alloc: Global, world: &mut SteadyWorld, book: &Book) -> Result<(),
     }
 }
 
-/// A world in memory in which the machine has run over these events, in a session that opened this
-/// book.
+/// A world in memory in which the machine has run over these events, in the session of the wishes,
+/// over a store with this book.
 pub fn rerun(
     alloc: Global,
     config: Config,
@@ -64,8 +66,11 @@ pub fn rerun(
     events: EventList,
 ) -> Result<SteadyWorld, NoMemory>
     requires rules { KeepsRules book.now }
+    requires chosen { book.now.name ≡ default_name }
+    requires named { IsName config.session }
     requires sized { AllByRecursion HasPieceSize events }
-    ensures { IfOk result (λ world. HasRun config book.now events (steady_outside world)) }
+    ensures { IfOk result (λ world.
+        HasRun config (choose config.session book.now) events (steady_outside world)) }
 {
     let turns = events.as_slice().len() as u64;
     let store = blank_store(alloc)?;

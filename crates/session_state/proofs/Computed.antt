@@ -4,7 +4,7 @@ use Rattle.std.specs.Str.{is_utf8, chars}
 use Rattle.std.specs.Fmt.{digits}
 use Rattle.hex.specs.Hex.{encode_with}
 use lib.Utf8.{encode}
-use Rattle.session_state.specs.Examples.{ASnapshotIsHeld, TheOthersAreHeld, MembersGoOn, TheSecondPhaseIsNoted, AnAgreedRoundIsGone, ACheckpointWaits, TheTokenIsPassedOn, TheTokenIsGivenBack, ACancelledQueueIsEmpty, AStrayIsHeld, ABookTakesStraysUp, ARespawnIsCounted, ActsAreInOrder}
+use Rattle.session_state.specs.Examples.{ASnapshotIsHeld, TheOthersAreHeld, MembersGoOn, TheSecondPhaseIsNoted, AnAgreedRoundIsGone, ACheckpointWaits, TheTokenIsPassedOn, TheTokenIsGivenBack, ACancelledQueueIsEmpty, AStrayIsHeld, ABookTakesStraysUp, ARespawnIsCounted, ActsAreInOrder, AnIdOfAnotherSessionIsRefused, IdsOfAnotherSessionAreKnown, EntriesOfAnotherSessionAreNotCounted, WhatAnotherSessionNeedsIsKept}
 
 pub a_snapshot_is_held : ASnapshotIsHeld
 unfolding encode_with is_utf8 chars encode digits
@@ -57,3 +57,19 @@ a_respawn_is_counted = refl
 pub acts_are_in_order : ActsAreInOrder
 unfolding encode_with is_utf8 chars encode digits
 acts_are_in_order = refl
+
+pub an_id_of_another_session_is_refused : AnIdOfAnotherSessionIsRefused
+unfolding encode_with is_utf8 chars encode digits
+an_id_of_another_session_is_refused = refl
+
+pub ids_of_another_session_are_known : IdsOfAnotherSessionAreKnown
+unfolding encode_with is_utf8 chars encode digits
+ids_of_another_session_are_known = (refl, refl)
+
+pub entries_of_another_session_are_not_counted : EntriesOfAnotherSessionAreNotCounted
+unfolding encode_with is_utf8 chars encode digits
+entries_of_another_session_are_not_counted = refl
+
+pub what_another_session_needs_is_kept : WhatAnotherSessionNeedsIsKept
+unfolding encode_with is_utf8 chars encode digits
+what_another_session_needs_is_kept = refl

@@ -1,5 +1,5 @@
 -- A made history goes on, and what is held reads as it does.
-use Rattle.std.proofs.Common.{◌≡◌, refl, ◌<◌, List, [], ◌∷◌, ◌++◌, sym, ap, subst, ◌∙◌}
+use Rattle.std.proofs.Common.{◌≡◌, refl, ◌<◌, ◌≤◌, length, List, [], ◌∷◌, ◌++◌, sym, ap, subst, ◌∙◌}
 use Rattle.checkpoint_records.specs.Rules.{KeepsRules}
 use Rattle.session_model.specs.declared.events.SessionEvent.{SessionEvent}
 use Rattle.session_model.specs.Moves.{History, Opening}
@@ -22,8 +22,8 @@ take-append h [] ys p q = q
 take-append h (x ∷ xs) ys p q = (p.0, take-append (taken x h) xs ys p.1 q)
 
 -- an opening makes one, over a book that keeps the rules
-pub made-opened : (opening : Opening) → KeepsRules opening.book → opening.book.epoch < 4294967295 → IsMade (opened opening)
-made-opened opening k l = record { opening = opening; events = []; rules = k; below = l; takes = tt; is = refl }
+pub made-opened : (opening : Opening) → KeepsRules opening.book → length opening.book.others ≤ 7 → opening.book.epoch < 4294967295 → IsMade (opened opening)
+made-opened opening k f l = record { opening = opening; events = []; rules = k; few = f; below = l; takes = tt; is = refl }
 
 -- and each event that it allows
 pub made-taken : (event : SessionEvent) (h : History) → IsMade h → Takes event (reading h) → IsMade (taken event h)
@@ -31,6 +31,7 @@ made-taken event h m t = record {
   opening = m.opening;
   events = m.events ++ event ∷ [];
   rules = m.rules;
+  few = m.few;
   below = m.below;
   takes = take-append (opened m.opening) m.events (event ∷ []) m.takes (subst (λ (g : History). Takes event (reading g)) m.is t, tt);
   is = ap (λ (g : History). taken event g) m.is ∙ sym (run-append (opened m.opening) m.events (event ∷ []));

@@ -1,5 +1,5 @@
 -- The moves of each rule suit the history that it is told from.
-use Rattle.std.proofs.Common.{◌≡◌, refl, ℕ, Bool, true, false, cond, not, ◌||◌, List, [], ◌∷◌, ◌++◌, map, filter, eqb, sym, ap, subst, ◌∙◌, arith}
+use Rattle.std.proofs.Common.{◌≡◌, refl, ℕ, Bool, true, false, cond, not, List, [], ◌∷◌, ◌++◌, map, filter, eqb, sym, ap, ◌∙◌, arith}
 use Rattle.std.specs.Prelude.{Option, Some, None, filter_map, is_some}
 use Rattle.std.proofs.lemmas.Bool.Decides.{nat_tests}
 use Rattle.checkpoint_records.specs.declared.records.Book.{Book}
@@ -11,16 +11,15 @@ use Rattle.xsmp_messages.specs.declared.message.XsmpMessage.TheVariants.{Die, Sa
 use Rattle.session_model.specs.declared.phase.Phase.{Phase}
 use Rattle.session_model.specs.declared.phase.Phase.TheVariants.{Idle}
 use Rattle.session_model.specs.declared.waits.Wait.{Wait}
-use Rattle.session_model.specs.Phases.{begun_phase, is_asked, is_dying, is_interacting, is_member, is_owing, is_registered}
+use Rattle.session_model.specs.Phases.{begun_phase, is_asked, is_dying, is_member, is_owing, is_registered}
 use Rattle.session_model.specs.Moves.{Agreed, Began, Closed, Committed, End, Gave, History, Move, gave_each, onto, tried_each, ◌▷◌}
-use Rattle.session_model.specs.Waits.{is_only}
 use Rattle.session_model.specs.Readings as of
 use Rattle.session_model.specs.Reading.{Clients, Reading, reading}
 use Rattle.session_model.specs.Books.{discarded, next_book, standing}
 use Rattle.session_model.specs.Rules.{agreed_rule, agreement_with, begin, begin_first, completed, ended, idle_rule, is_free, last_command, members_for, over_rule, round_rule, rule, running_rule, save_yourself, token_rule, wanting_two}
-use Rattle.session_model.proofs.Sound.{AreRegistered, Sound, is_wanted_alone}
+use Rattle.session_model.proofs.Sound.{is_wanted_alone}
 use Rattle.session_model.proofs.Level.{Good}
-use Rattle.session_model.proofs.Ruled.{and-left, and-right, any-in, denied, differ, interacting-registered, members-registered, nobody-holds, nobody-level, none-in, round_now, rows_now, wanted-alone}
+use Rattle.session_model.proofs.Ruled.{and-left, and-right, denied, differ, members-registered, nobody-holds, nobody-level, none-in, round_now, rows_now, wanted-alone}
 use Rattle.session_model.proofs.Asked.{phases-tell}
 use Rattle.session_state.proofs.Known.{head-in, or-later}
 use Rattle.session_state.proofs.Suits.{AllLight, AllSuit, IsLight, is_done, suit-append, suit-light}

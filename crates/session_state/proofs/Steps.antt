@@ -1,8 +1,6 @@
 -- What is held stands for the history after each move that suits it, and reads as it does.
-use Rattle.std.proofs.Common.{◌≡◌, refl, ℕ, Bool, true, false, ◌||◌, List, [], ◌∷◌, ◌++◌, sym, ap, subst, ◌∙◌, append_assoc}
+use Rattle.std.proofs.Common.{◌≡◌, ℕ, true, List, [], ◌∷◌, ◌++◌, sym, ap, subst, ◌∙◌, append_assoc}
 use Rattle.std.specs.Prelude.{Option, Some, None, is_some}
-use Rattle.std.specs.List.{list_any}
-use Rattle.round_agreement.specs.declared.round.Member.{Member}
 use Rattle.round_agreement.specs.Agreement.{Agreement}
 use Rattle.interact_queue.specs.Queue.{is_holder}
 use Rattle.session_model.specs.declared.events.Act.{Act}

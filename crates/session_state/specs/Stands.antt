@@ -1,5 +1,5 @@
 -- That what is held is what a history says, part by part; and that this goes on through every event.
-use Rattle.std.specs.Prelude.{List, ℕ, ◌++◌, ◌≡◌, ◌<◌}
+use Rattle.std.specs.Prelude.{List, length, ℕ, ◌++◌, ◌≡◌, ◌<◌, ◌≤◌}
 use Rattle.checkpoint_records.specs.Rules.{KeepsRules}
 use Rattle.session_model.specs.declared.events.SessionEvent.{SessionEvent}
 use Rattle.interact_queue.specs.Queue.{is_holder}
@@ -39,6 +39,7 @@ pub record IsMade (h : History) : Type 0 where
   pub opening : Opening
   pub events : List SessionEvent
   pub rules : KeepsRules opening.book
+  pub few : length opening.book.others ≤ 7
   pub below : opening.book.epoch < 4294967295
   pub takes : AllTake (opened opening) events
   pub is : h ≡ run (opened opening) events

@@ -1,4 +1,4 @@
-ghost use Rattle.session_state.specs.Examples.{ASnapshotIsHeld, TheOthersAreHeld, MembersGoOn, TheSecondPhaseIsNoted, AnAgreedRoundIsGone, ACheckpointWaits, TheTokenIsPassedOn, TheTokenIsGivenBack, ACancelledQueueIsEmpty, AStrayIsHeld, ABookTakesStraysUp, ARespawnIsCounted, ActsAreInOrder};
+ghost use Rattle.session_state.specs.Examples.{ASnapshotIsHeld, TheOthersAreHeld, MembersGoOn, TheSecondPhaseIsNoted, AnAgreedRoundIsGone, ACheckpointWaits, TheTokenIsPassedOn, TheTokenIsGivenBack, ACancelledQueueIsEmpty, AStrayIsHeld, ABookTakesStraysUp, ARespawnIsCounted, ActsAreInOrder, AnIdOfAnotherSessionIsRefused, IdsOfAnotherSessionAreKnown, EntriesOfAnotherSessionAreNotCounted, WhatAnotherSessionNeedsIsKept};
 
 /// Does nothing: its contract is a list of worked sessions with what is held after each, which the
 /// definitions compute.
@@ -16,4 +16,8 @@ pub fn sessions_are_held()
     ensures a_book_takes_strays_up { ABookTakesStraysUp }
     ensures a_respawn_is_counted { ARespawnIsCounted }
     ensures acts_are_in_order { ActsAreInOrder }
+    ensures an_id_of_another_session_is_refused { AnIdOfAnotherSessionIsRefused }
+    ensures ids_of_another_session_are_known { IdsOfAnotherSessionAreKnown }
+    ensures entries_of_another_session_are_not_counted { EntriesOfAnotherSessionAreNotCounted }
+    ensures what_another_session_needs_is_kept { WhatAnotherSessionNeedsIsKept }
 {}

@@ -2,7 +2,7 @@
 ghost use Rattle.std.specs.Prelude.{◌≡◌, false};
 ghost use Rattle.session_clients.specs.Clients.{is_reply as is_reply_message};
 
-use crate::written::{book_of, entry, removal, words};
+use crate::written::{book_beside, book_of, entry, removal, words};
 use checkpoint_records::{Book, EntryList};
 use ice_values::{
     Dialog, Endian, PropertyList, PropertyWalk, SaveKind, SaveStyle, walk_properties,
@@ -23,11 +23,21 @@ use test_tables::{expect_rows, text_of};
 use xsmp_messages::{XsmpMessage, encode_xsmp};
 use xsmp_properties::{PropertyTable, SetRefusal};
 
-/// A book with an entry under this ID.
-fn book(alloc: Global, id: &[u8]) -> Result<Book, SetRefusal> {
+/// An entry under this ID.
+fn one_entry(alloc: Global, id: &[u8]) -> Result<EntryList, SetRefusal> {
     let mut entries = EntryList::new(alloc);
     entries.push(entry(alloc, id, &removal(alloc, b"DiscardCommand", b"a")?)?)?;
-    Ok(book_of(alloc, entries)?)
+    Ok(entries)
+}
+
+/// A book with an entry under this ID.
+fn book(alloc: Global, id: &[u8]) -> Result<Book, SetRefusal> {
+    Ok(book_of(alloc, one_entry(alloc, id)?)?)
+}
+
+/// A book without entries, beside another session with an entry under this ID.
+fn elsewhere(alloc: Global, id: &[u8]) -> Result<Book, SetRefusal> {
+    Ok(book_beside(alloc, EntryList::new(alloc), one_entry(alloc, id)?)?)
 }
 
 fn shutdown(style: SaveStyle) -> Option<Wanted> {
@@ -291,13 +301,27 @@ fn known_shown(alloc: Global, id: &str) -> Result<String, Fail> {
     text_of(alloc, &clients.known_ids(&book))
 }
 
+/// The same where another session has it.
+fn known_elsewhere(alloc: Global, id: &str) -> Result<String, Fail> {
+    let clients = three(alloc)?;
+    let book = elsewhere(alloc, id.as_bytes())?;
+    text_of(alloc, &clients.known_ids(&book))
+}
+
 /// Whether a book has an entry with this ID, finds it, and a client begins with it.
-fn entry_shown(alloc: Global, id: &str) -> Result<String, Fail> {
-    let id = id.as_bytes();
-    let book = book(alloc, b"one")?;
-    let (is, found) = (is_recorded(&book, id), entry_of(&book, id).is_some());
-    let begins = has_discard(Some(&first_table(alloc, &book, id)?));
+fn entry_in(alloc: Global, book: &Book, id: &[u8]) -> Result<String, Fail> {
+    let (is, found) = (is_recorded(book, id), entry_of(book, id).is_some());
+    let begins = has_discard(Some(&first_table(alloc, book, id)?));
     Ok(format!(in alloc; "{is} {found} {begins}")?)
+}
+
+fn entry_shown(alloc: Global, id: &str) -> Result<String, Fail> {
+    entry_in(alloc, &book(alloc, b"one")?, id.as_bytes())
+}
+
+/// The same where another session has the entry.
+fn elsewhere_shown(alloc: Global, id: &str) -> Result<String, Fail> {
+    entry_in(alloc, &elsewhere(alloc, b"one")?, id.as_bytes())
 }
 
 #[test]
@@ -305,6 +329,12 @@ fn a_client_begins_with_its_entry(rt: HostRuntime) -> Result<(), Fail> {
     expect_rows(&rt, "one => 1\ntwo => 2", known_shown)?;
     let rows = "one => true true true\ntwo => false false false";
     expect_rows(&rt, rows, entry_shown)
+}
+
+#[test]
+fn an_id_of_another_session_is_known_alone(rt: HostRuntime) -> Result<(), Fail> {
+    expect_rows(&rt, "one => 1\ntwo => 2", known_elsewhere)?;
+    expect_rows(&rt, "one => false false false", elsewhere_shown)
 }
 
 fn asks(dialog: Dialog, style: SaveStyle) -> Option<Phase> {

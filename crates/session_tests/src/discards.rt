@@ -1,6 +1,6 @@
 //! Books and ledgers written down by hand.
 
-use crate::written::{book_of, entry, removal, words};
+use crate::written::{book_beside, book_of, entry, removal, words};
 use checkpoint_records::{Book, EntryList};
 use discard_ledger::Ledger;
 use owned_lists::{Command, CommandList, NoMemory, Octets, PairList};
@@ -27,14 +27,23 @@ fn commands(alloc: Global, files: &[u8]) -> Result<CommandList, NoMemory> {
     Ok(list)
 }
 
-/// A book with an entry for each byte, of a client with this DiscardCommand.
-fn book(alloc: Global, files: &[u8]) -> Result<Book, SetRefusal> {
+/// An entry for each byte, of a client with this DiscardCommand.
+fn entries(alloc: Global, files: &[u8]) -> Result<EntryList, SetRefusal> {
     let mut entries = EntryList::new(alloc);
     for file in files {
         let list = removal(alloc, b"DiscardCommand", &[*file])?;
         entries.push(entry(alloc, b"smd-00000001-00000001", &list)?)?;
     }
-    Ok(book_of(alloc, entries)?)
+    Ok(entries)
+}
+
+fn book(alloc: Global, files: &[u8]) -> Result<Book, SetRefusal> {
+    Ok(book_of(alloc, entries(alloc, files)?)?)
+}
+
+/// The same beside another session.
+fn beside(alloc: Global, files: &[u8], other: &[u8]) -> Result<Book, SetRefusal> {
+    Ok(book_beside(alloc, entries(alloc, files)?, entries(alloc, other)?)?)
 }
 
 /// The second words of commands.
@@ -94,6 +103,19 @@ fn a_state_is_discarded_after_the_next_book(rt: HostRuntime) -> Result<(), Fail>
     shows(&rt, &ledger, b"a", b"b", b"a")?;
     ledger.note(&commands(alloc, b"a")?);
     shows(&rt, &ledger, b"", b"b", b"")
+}
+
+/// Other sessions stay, and what they discard by is neither pending nor a stray.
+#[test]
+fn what_another_session_discards_by_stays(rt: HostRuntime) -> Result<(), Fail> {
+    let alloc = rt.alloc();
+    let mut ledger = Ledger::new(alloc, CommandList::new(alloc));
+    ledger.retire(&beside(alloc, b"ab", b"a")?, &beside(alloc, b"c", b"a")?)?;
+    shows(&rt, &ledger, b"b", b"", b"b")?;
+    ledger.stray(command(alloc, b"a")?, &beside(alloc, b"c", b"a")?)?;
+    ledger.stray(command(alloc, b"d")?, &beside(alloc, b"c", b"a")?)?;
+    retire(alloc, &mut ledger, b"", b"")?;
+    shows(&rt, &ledger, b"bd", b"", b"bd")
 }
 
 #[test]

@@ -1,6 +1,6 @@
 //! Properties, tables and entries as clients write them, and books of them.
 
-use checkpoint_records::{Book, Entry, EntryList, SharedEntries};
+use checkpoint_records::{Book, Entry, EntryList, Named, NamedList, SharedEntries, default_name};
 use ice_values::{Array8List, Property, PropertyList};
 use owned_lists::{CommandList, NoMemory, Octets};
 use std::alloc::Global;
@@ -58,11 +58,27 @@ pub fn entry(alloc: Global, id: &[u8], list: &PropertyList) -> Result<Entry, Set
     })
 }
 
-/// A book of these entries.
-pub fn book_of(alloc: Global, entries: EntryList) -> Result<Book, NoMemory> {
+fn book_with(alloc: Global, entries: EntryList, others: NamedList) -> Result<Book, NoMemory> {
     Ok(Book {
         entries: SharedEntries::new(alloc, entries)?,
         pending: CommandList::new(alloc),
         epoch: 0,
+        name: default_name(alloc)?,
+        others,
     })
+}
+
+/// A book of these entries.
+pub fn book_of(alloc: Global, entries: EntryList) -> Result<Book, NoMemory> {
+    book_with(alloc, entries, NamedList::new(alloc))
+}
+
+/// A book of these entries, beside another session of those.
+pub fn book_beside(alloc: Global, entries: EntryList, other: EntryList) -> Result<Book, NoMemory> {
+    let mut others = NamedList::new(alloc);
+    others.push(Named {
+        name: Octets::from_slice(alloc, b"other")?,
+        entries: SharedEntries::new(alloc, other)?,
+    })?;
+    book_with(alloc, entries, others)
 }

@@ -16,14 +16,15 @@ use smd_app::{Identity, Paths, read_paths, smd_main};
 use std::io;
 use std::io::ErrorKind;
 use std::process::ExitCode;
-use store_report::read_check;
-use store_view::{check_store, store_bytes};
+use store_report::{read_check, read_sessions};
+use store_view::{check_store, list_sessions, store_bytes};
 use unix_links::LinkOptions;
 
 const TEXTS: OwnTexts = OwnTexts {
     help: "smd, the session manager\n\n\
         usage: smd serve --socket P --control C --store F --authority A [--patience MS]\n\
         \x20                               runs the session of a desktop\n\
+        \x20          --session NAME       the one of this name; without it: default\n\
         \x20          --private            nobody can connect but the owner's programs\n\
         \x20          --last-wait MS       closes whoever was told to die so long ago\n\
         \x20          --quirks             takes programs on Xt, Qt and twm for what they mean\n\
@@ -37,6 +38,8 @@ const TEXTS: OwnTexts = OwnTexts {
         \x20      smd store-check --store F [--json]\n\
         \x20                               shows what stands in a store, reading only\n\
         \x20                               as: smd store-check --store ~/.local/state/smd/store\n\
+        \x20      smd sessions --store F  lists the sessions of a store, reading only\n\
+        \x20                               as: smd sessions --store ~/.local/state/smd/store\n\
         \x20      smd --help              shows this\n\
         \x20      smd --version           shows the version\n\n\
         With a patience of MS milliseconds a client is shut that is silent for so long\n\
@@ -87,7 +90,8 @@ fn record_in(
     identity: &Identity,
 ) -> io::Result<Record> {
     let store = store_bytes(rt, paths.store).unwrap_or(Octets::new(rt.alloc()));
-    let opening = opening_of(rt.alloc(), store, &identity.cookie, paths.patience).map_err(
+    let session = paths.session.as_bytes();
+    let opening = opening_of(rt.alloc(), store, &identity.cookie, paths.patience, session).map_err(
         no_memory,
     )?;
     Ok(Record { path, opening })
@@ -168,6 +172,9 @@ fn run(rt: HostRuntime, mut words: Vec<String>) -> io::Result<u8> {
     if let Some(check) = read_check(words.as_slice()) {
         return Ok(check_store(rt, check));
     }
+    if let Some(store) = read_sessions(words.as_slice()) {
+        return Ok(list_sessions(rt, store));
+    }
     let has_quirks = take_quirks(&mut words);
     let options = LinkOptions::take(&mut words).map_err(no_memory)?;
     let file = take_record(&mut words);
@@ -207,16 +214,18 @@ fn run_or_tell(rt: HostRuntime, words: Vec<String>, console: &mut StandardConsol
 }
 
 /// The words that it knows, of which one may be meant by one that it doesn't know.
-const KNOWN: [&str; 16] = [
+const KNOWN: [&str; 18] = [
     "serve",
     "rehearse",
     "exercise",
     "store-check",
+    "sessions",
     "--socket",
     "--control",
     "--store",
     "--authority",
     "--patience",
+    "--session",
     "--private",
     "--last-wait",
     "--quirks",

@@ -22,7 +22,7 @@ use Rattle.session_engine.specs.Store.{store_of}
 use Rattle.session_engine.specs.declared.acts.Act.{Act}
 use Rattle.session_engine.specs.declared.acts.Act.TheVariants.{Commit}
 use Rattle.session_engine.specs.declared.fault.ServeFault.{ServeFault}
-use Rattle.session_engine.specs.declared.fault.ServeFault.TheVariants.{Damaged as IsDamaged, WrongSize as HasWrongSize, DiskFault, LinkFault, ConsoleFault, Worn as IsWorn, Spent as HasSpent, NoMemory as WantsMemory}
+use Rattle.session_engine.specs.declared.fault.ServeFault.TheVariants.{Damaged as IsDamaged, WrongSize as HasWrongSize, TooManySessions as HasTooMany, DiskFault, LinkFault, ConsoleFault, Worn as IsWorn, Spent as HasSpent, NoMemory as WantsMemory}
 use Rattle.smd_app.specs.Completeness.{NoneRose, CanServe, EndsWith, HasDoneAll, RehearsesWell, ExercisesWell, ServesWell, Completes, CallsComplete, WordsMeanOne}
 use Rattle.smd_app.specs.Exercises.{exercise_events}
 use Rattle.smd_app.specs.FaultLines.{fault_line, fault_status, served}
@@ -30,55 +30,53 @@ use Rattle.smd_app.specs.Rehearsals.{script_of, Finishes, Outlasts, whole_trace,
 use Rattle.smd_app.specs.Script.{ScriptSays}
 use Rattle.smd_app.specs.Sessions.{config_of, handing_out, announcing, Opened, IsSession, HasServed, WasCutShort, IsOfDisk, IsOfEdge}
 use Rattle.smd_app.specs.Statuses.{Ending, HasRehearsed, HasExercised, RunsTask}
-use Rattle.smd_app.specs.Words.{Places, Task, Rehearse, Exercise, Serve, HavePaths, GivePatience, AreServe, AreRehearse, AreExercise, pairs_of, value_in}
+use Rattle.word_pairs.specs.Words.{HasPath, option_in, options_of}
+use Rattle.smd_app.specs.Words.{Places, Task, Rehearse, Exercise, Serve, IsPatienceOf, IsSessionOf, AreServe, AreRehearse, AreExercise}
 use Rattle.smd_app.specs.declared.fault.Fault.{Fault}
-use Rattle.smd_app.specs.declared.fault.Fault.TheVariants.{BadWords, Damaged, WrongSize, Disk, Links, Console, BadLine, Worn, Spent, NoMemory}
+use Rattle.smd_app.specs.declared.fault.Fault.TheVariants.{BadWords, Damaged, WrongSize, TooManySessions, Disk, Links, Console, BadLine, Worn, Spent, NoMemory}
 use Rattle.smd_app.specs.declared.identity.Identity.{Identity}
 use Rattle.smd_app.proofs.Excluding.{fits_once}
+use Rattle.checkpoint_records.specs.Books.{choose}
+use Rattle.checkpoint_records.specs.Rules.{KeepsRules}
+use Rattle.session_engine.specs.Standing.{as_stored}
+use Rattle.session_engine.proofs.Standing.{stands_chosen}
 
 -- What words mean
 
-abbrev or_empty : Option (List ℕ) → List ℕ
-or_empty (Some value) = value
-or_empty None = []
+some_is : (x y : List ℕ) → ◌≡◌ {A = Option (List ℕ)} (Some x) (Some y) → x ≡ y
+some_is x y same = cc
 
-same_value : (pairs others : List (List ℕ)) (name one two : List ℕ) → pairs ≡ others → value_in (pairs_of pairs) name ≡ Some one → value_in (pairs_of others) name ≡ Some two → one ≡ two
-same_value pairs others name one two same first second =
-    ap or_empty (sym first ∙ (ap (λ ws. value_in (pairs_of ws) name) same ∙ second))
+pub same_path : (pairs : List (List ℕ × List ℕ)) (name one two : List ℕ) → HasPath pairs name one → HasPath pairs name two → one ≡ two
+same_path pairs name one two first second = some_is one two (sym first.found ∙ second.found)
 
-same_pairs : (words : List (List ℕ)) (one two : Places) → (first : AreServe words one) → (second : AreServe words two) → first.pairs ≡ second.pairs
-same_pairs words one two first second = ap (λ ws. drop 1 ws) (sym first.begins ∙ second.begins)
+pub same_patience : (named : Option (List ℕ)) (one two : ℕ) → IsPatienceOf named one → IsPatienceOf named two → one ≡ two
+same_patience None one two first second = first ∙ sym second
+same_patience (Some word) one two first second = decimal_injective one two first.0.small second.0.small (sym first.1 ∙ second.1)
 
-same_paths : (pairs others : List (List ℕ)) (one two : Places) → pairs ≡ others → one.patience ≡ two.patience → HavePaths (pairs_of pairs) one → HavePaths (pairs_of others) two → one ≡ two
-same_paths pairs others one two same patience first second =
-    let socket = same_value pairs others (codes "--socket") one.socket two.socket same first.socket.found second.socket.found in
-    let control = same_value pairs others (codes "--control") one.control two.control same first.control.found second.control.found in
-    let store = same_value pairs others (codes "--store") one.store two.store same first.store.found second.store.found in
-    let authority = same_value pairs others (codes "--authority") one.authority two.authority same first.authority.found second.authority.found in
-    ap (λ (path : List ℕ). record { socket = path; control = one.control; store = one.store; authority = one.authority; patience = one.patience }) socket
-    ∙ (ap (λ (path : List ℕ). record { socket = two.socket; control = path; store = one.store; authority = one.authority; patience = one.patience }) control
-    ∙ (ap (λ (path : List ℕ). record { socket = two.socket; control = two.control; store = path; authority = one.authority; patience = one.patience }) store
-    ∙ (ap (λ (path : List ℕ). record { socket = two.socket; control = two.control; store = two.store; authority = path; patience = one.patience }) authority
-    ∙ ap (λ (n : ℕ). record { socket = two.socket; control = two.control; store = two.store; authority = two.authority; patience = n }) patience)))
+same_session : (named : Option (List ℕ)) (one two : List ℕ) → IsSessionOf named one → IsSessionOf named two → one ≡ two
+same_session None one two first second = first ∙ sym second
+same_session (Some word) one two first second = sym first.1 ∙ second.1
 
-same_patience : (pairs others : List (List ℕ)) (n k : ℕ) → pairs ≡ others → GivePatience pairs n → GivePatience others k → n ≡ k
-same_patience pairs others n k same (inl first) (inl second) = first.1 ∙ sym second.1
-same_patience pairs others n k same (inl first) (inr second) = absurd (omega (arith, first.0, second.0, ap length same))
-same_patience pairs others n k same (inr first) (inl second) = absurd (omega (arith, first.0, second.0, ap length same))
-same_patience pairs others n k same (inr first) (inr second) =
-    decimal_injective n k first.1.is.small second.1.is.small (same_value pairs others (codes "--patience") (decimal n) (decimal k) same first.1.found second.1.found)
+abbrev made : List ℕ → List ℕ → List ℕ → List ℕ → ℕ → List ℕ → Places
+made socket control store authority patience session = record { socket = socket; control = control; store = store; authority = authority; patience = patience; session = session }
+
+same_made : (a b c d e r s t u v : List ℕ) (p q : ℕ) → a ≡ r → b ≡ s → c ≡ t → d ≡ u → p ≡ q → e ≡ v → made a b c d p e ≡ made r s t u q v
+same_made a b c d e r s t u v p q first second third fourth fifth sixth = rw (first, second, third, fourth, fifth, sixth) refl
 
 same_places : (words : List (List ℕ)) (one two : Places) → AreServe words one → AreServe words two → one ≡ two
 same_places words one two first second =
-    let same = same_pairs words one two first second in
-    same_paths first.pairs second.pairs one two same (same_patience first.pairs second.pairs one.patience two.patience same first.patience second.patience) first.paths second.paths
+    let pairs : List (List ℕ × List ℕ) = options_of words in
+    let socket : one.socket ≡ two.socket = same_path pairs (codes "--socket") _ _ first.paths.socket second.paths.socket in
+    let control : one.control ≡ two.control = same_path pairs (codes "--control") _ _ first.paths.control second.paths.control in
+    let store : one.store ≡ two.store = same_path pairs (codes "--store") _ _ first.paths.store second.paths.store in
+    let authority : one.authority ≡ two.authority = same_path pairs (codes "--authority") _ _ first.paths.authority second.paths.authority in
+    let patience : one.patience ≡ two.patience = same_patience (option_in words (codes "--patience")) _ _ first.patience second.patience in
+    let session : one.session ≡ two.session = same_session (option_in words (codes "--session")) _ _ first.session second.session in
+    same_made one.socket one.control one.store one.authority one.session two.socket two.control two.store two.authority two.session one.patience two.patience socket control store authority patience session
 
 -- there are more words than an exercise has
 serve_length : (words : List (List ℕ)) (places : Places) → AreServe words places → 4 ≤ length words
-serve_length words places are = elim are.patience [
-  | inl four ↦ omega (arith, ap length are.begins, four.0)
-  | inr five ↦ omega (arith, ap length are.begins, five.0)
-]
+serve_length words places are = omega (arith, are.count)
 
 exercise_length : (words : List (List ℕ)) (pattern rounds : ℕ) → AreExercise words pattern rounds → length words ≡ 3
 exercise_length words pattern rounds are = ap length are.are
@@ -144,6 +142,7 @@ rehearsed patience bytes events before after turns status texts first effects (E
 rehearsed patience bytes events before after turns status texts first effects (Err BadWords) says calm printed has closing = absurd has
 rehearsed patience bytes events before after turns status texts first effects (Err (Damaged at)) says calm printed has closing = absurd has
 rehearsed patience bytes events before after turns status texts first effects (Err (WrongSize size)) says calm printed has closing = absurd has
+rehearsed patience bytes events before after turns status texts first effects (Err TooManySessions) says calm printed has closing = absurd has
 rehearsed patience bytes events before after turns status texts first effects (Err Disk) says calm printed has closing = absurd has
 rehearsed patience bytes events before after turns status texts first effects (Err Links) says calm printed has closing = absurd has
 rehearsed patience bytes events before after turns status texts first effects (Err Worn) says calm printed has closing = absurd has
@@ -161,6 +160,7 @@ exercised events before after turns status texts first effects (Err (BadLine n))
 exercised events before after turns status texts first effects (Err BadWords) calm printed has closing = absurd has
 exercised events before after turns status texts first effects (Err (Damaged at)) calm printed has closing = absurd has
 exercised events before after turns status texts first effects (Err (WrongSize size)) calm printed has closing = absurd has
+exercised events before after turns status texts first effects (Err TooManySessions) calm printed has closing = absurd has
 exercised events before after turns status texts first effects (Err Disk) calm printed has closing = absurd has
 exercised events before after turns status texts first effects (Err Links) calm printed has closing = absurd has
 exercised events before after turns status texts first effects (Err Worn) calm printed has closing = absurd has
@@ -199,8 +199,13 @@ module _ (identity : Identity) (places : Places) (old new : Outside) (turns stat
   abbrev begun : List Effect
   begun = handing_out identity places ++ (announcing identity places ++ own)
 
+  -- a book of this session that stands in the store is the one that is served
+  the_same : (found : Book) → KeepsRules found → found.name ≡ places.session → Recovers file (Ok (as_stored found)) → found ≡ book
+  the_same found rules called recovers =
+      sym (stands_chosen places.session found rules called) ∙ (ap (choose places.session) (one_book file (as_stored found) can.stored recovers can.recovers) ∙ can.chosen)
+
   same_book : (answer : Result (Unit {0}) ServeFault) → (opened : Opened (config_of identity places) turns old new answer own) → opened.book ≡ book
-  same_book answer opened = one_book file opened.book book (opened.recovered file can.settled).1.recovers can.recovers
+  same_book answer opened = the_same opened.book opened.rules opened.called (opened.recovered file can.settled).1.recovers
 
   done_all : (answer : Result (Unit {0}) ServeFault) (ending : Ending) → (opened : Opened (config_of identity places) turns old new answer own) → is_whole answer ≡ true → has_finish (script (config_of identity places) opened.book (heard own)) ≡ is_ok ending → EndsWith begun ending effects → HasDoneAll identity places old.coming book turns ending effects
   done_all answer ending opened whole finish all =
@@ -235,17 +240,23 @@ module _ (identity : Identity) (places : Places) (old new : Outside) (turns stat
   session_ends (Err LinkFault) calm session closing = absurd (calm.links session.cause)
   session_ends (Err ConsoleFault) calm session closing = absurd (calm.console session.cause)
   session_ends (Err (IsDamaged at)) calm session closing = elim session.serves [
-    | inl unopened ↦ absurd (not_damaged file book at can.recovers (unopened.cause.1 file can.settled))
+    | inl unopened ↦ absurd (not_damaged file can.stored at can.recovers (unopened.cause.1 file can.settled))
     | inr opened ↦ absurd opened.serves.runs.opened
   ]
   session_ends (Err (HasWrongSize size)) calm session closing = elim session.serves [
     | inl unopened ↦ absurd (unopened.cause.1 (unopened.cause.0 ∙ (unopened.kept can.settled.began can.settled.first ∙ can.size)))
     | inr opened ↦ absurd opened.serves.runs.opened
   ]
+  session_ends (Err HasTooMany) calm session closing = elim session.serves [
+    | inl unopened ↦
+        let same = the_same unopened.cause.1.0 unopened.cause.1.2.rules unopened.cause.1.2.called (unopened.cause.1.2.recovered file can.settled).1.recovers in
+        absurd (omega (arith, can.few, ap (λ (b : Book). length b.others) same, unopened.cause.1.3))
+    | inr opened ↦ absurd opened.serves.runs.opened
+  ]
   session_ends (Err IsWorn) calm session closing = elim session.serves [
     | inl unopened ↦
-        let same = one_book file unopened.cause.1.0 book (unopened.cause.1.2 file can.settled).1.recovers can.recovers in
-        absurd (omega (arith, can.epoch, ap (λ (b : Book). b.epoch) same, unopened.cause.1.3))
+        let same = the_same unopened.cause.1.0 unopened.cause.1.2.rules unopened.cause.1.2.called (unopened.cause.1.2.recovered file can.settled).1.recovers in
+        absurd (omega (arith, can.epoch, ap (λ (b : Book). b.epoch) same, unopened.cause.1.4))
     | inr opened ↦ absurd (not_worn (Err IsWorn) (Err Worn) opened (ends_with begun begun effects (Err Worn) status refl closing) (opened.serves.runs.worn refl))
   ]
 
@@ -278,7 +289,7 @@ has_served identity places old new turns status file book first effects ending c
 
 some_input : (input bytes : List ℕ) (told : Option (List ℕ)) → told ≡ Some bytes → IfSome told (λ b. b ≡ input) → input ≡ bytes
 some_input input bytes None e is = absurd (false≢true (ap is_some e))
-some_input input bytes (Some other) e is = sym is ∙ ap or_empty e
+some_input input bytes (Some other) e is = sym is ∙ some_is other bytes e
 
 completes : (task : Task) (identity : Identity) (old new : Outside) (turns status : ℕ) (first effects : List Effect) (ending : Ending) → NoneRose old.faults new.faults → RunsTask task identity turns old new ending first → Closing ending first effects status → Completes task identity old turns status effects
 completes (Rehearse patience) identity old new turns status first effects ending calm runs closing = λ input events told says.

@@ -10,7 +10,7 @@ use Rattle.session_engine.specs.declared.config.Config.{Config}
 use Rattle.session_engine.specs.Carries.{IsUnopened}
 use Rattle.session_engine.specs.Causes.{HasCause}
 use Rattle.session_engine.specs.declared.fault.ServeFault.{ServeFault}
-use Rattle.session_engine.specs.declared.fault.ServeFault.TheVariants.{Damaged as IsDamaged, WrongSize as HasWrongSize, DiskFault, LinkFault, ConsoleFault, Worn as IsWorn, Spent as HasSpent, NoMemory as WantsMemory}
+use Rattle.session_engine.specs.declared.fault.ServeFault.TheVariants.{Damaged as IsDamaged, WrongSize as HasWrongSize, TooManySessions as HasTooMany, DiskFault, LinkFault, ConsoleFault, Worn as IsWorn, Spent as HasSpent, NoMemory as WantsMemory}
 use Rattle.sm_world.specs.declared.events.Event.{Event}
 use Rattle.smd_app.specs.Exercises.{exercise_events}
 use Rattle.smd_app.specs.FaultLines.{fault_line, fault_status, served}
@@ -19,7 +19,7 @@ use Rattle.smd_app.specs.Sessions.{config_of, IsOfDisk, IsOfEdge, Opened, OpensO
 use Rattle.smd_app.specs.Statuses.{Ending, HasRehearsed, HasExercised, RunsTask, Runs, Answers}
 use Rattle.smd_app.specs.Words.{Places, Task, Rehearse, Exercise, Serve, AreServe, AreRehearse, AreExercise, Means}
 use Rattle.smd_app.specs.declared.fault.Fault.{Fault}
-use Rattle.smd_app.specs.declared.fault.Fault.TheVariants.{BadWords, Damaged, WrongSize, Disk, Links, Console, BadLine, Worn, Spent, NoMemory}
+use Rattle.smd_app.specs.declared.fault.Fault.TheVariants.{BadWords, Damaged, WrongSize, TooManySessions, Disk, Links, Console, BadLine, Worn, Spent, NoMemory}
 use Rattle.smd_app.specs.declared.identity.Identity.{Identity}
 
 -- Behind a run the line of its ending was tried, where it has one.
@@ -39,6 +39,7 @@ rehearsed_still before mid new patience bytes turns texts (Err NoMemory) later h
 rehearsed_still before mid new patience bytes turns texts (Err BadWords) later holds = holds
 rehearsed_still before mid new patience bytes turns texts (Err (Damaged at)) later holds = holds
 rehearsed_still before mid new patience bytes turns texts (Err (WrongSize size)) later holds = holds
+rehearsed_still before mid new patience bytes turns texts (Err TooManySessions) later holds = holds
 rehearsed_still before mid new patience bytes turns texts (Err Disk) later holds = holds
 rehearsed_still before mid new patience bytes turns texts (Err Links) later holds = holds
 rehearsed_still before mid new patience bytes turns texts (Err Worn) later holds = holds
@@ -52,6 +53,7 @@ exercised_still before mid new events turns texts (Err NoMemory) later holds = h
 exercised_still before mid new events turns texts (Err BadWords) later holds = holds
 exercised_still before mid new events turns texts (Err (Damaged at)) later holds = holds
 exercised_still before mid new events turns texts (Err (WrongSize size)) later holds = holds
+exercised_still before mid new events turns texts (Err TooManySessions) later holds = holds
 exercised_still before mid new events turns texts (Err Disk) later holds = holds
 exercised_still before mid new events turns texts (Err Links) later holds = holds
 exercised_still before mid new events turns texts (Err Worn) later holds = holds
@@ -81,8 +83,11 @@ opened_still config turns old mid new answer own prints opened = record {
   book = opened.book;
   current = opened.current;
   recovered = opened.recovered;
+  called = opened.called;
   size = prints.uses.kept.size ∙ opened.size;
   below = opened.below;
+  few = opened.few;
+  rules = opened.rules;
   serves = opened.serves;
 }
 
@@ -91,7 +96,7 @@ opens_still config turns old mid new (Ok x) own prints opened = opened_still con
 opens_still config turns old mid new (Err fault) own prints (inl rests) = inl (record {
   none = rests.none;
   kept = λ first told. prints.uses.kept.size ∙ rests.kept first told;
-  cause = subst (λ (size : ℕ). IsUnopened old size fault) (sym prints.uses.kept.size) rests.cause;
+  cause = subst (λ (size : ℕ). IsUnopened config.session old size fault) (sym prints.uses.kept.size) rests.cause;
 })
 opens_still config turns old mid new (Err fault) own prints (inr opened) = inr (opened_still config turns old mid new (Err fault) own prints opened)
 
@@ -99,6 +104,7 @@ cause_still : (old mid new : Outside) (answer : Result (Unit {0}) ServeFault) �
 cause_still old mid new (Ok x) later cause = cause
 cause_still old mid new (Err (IsDamaged at)) later cause = cause
 cause_still old mid new (Err (HasWrongSize size)) later cause = cause
+cause_still old mid new (Err HasTooMany) later cause = cause
 cause_still old mid new (Err DiskFault) later cause = disk_still old.faults.disk mid new later.prints cause
 cause_still old mid new (Err LinkFault) later cause = links_still old.faults.links mid new later.prints cause
 cause_still old mid new (Err ConsoleFault) later cause = console_still old.faults.console mid new (later.silent refl) cause

@@ -1,42 +1,68 @@
 -- A run on a world in memory, and its trace.
-use Rattle.std.proofs.Common.{◌≡◌, inl, inr, ℕ, true, false, List, Option, Some, Result, Ok, Err, refl, sym, ◌∙◌, ap, subst}
+use Rattle.std.proofs.Common.{◌≡◌, inl, inr, ℕ, length, arith, true, false, List, Option, Some, Result, Ok, Err, refl, sym, ◌∙◌, ap, subst}
 use Rattle.std.proofs.lemmas.Bool.{false≢true}
 use Rattle.sm_world.specs.Effects.{heard}
 use Rattle.sm_world.specs.Worlds.{steady_outside}
 use Rattle.sm_world.specs.declared.steady.SteadyWorld.{SteadyWorld}
 use Rattle.sm_world.specs.Outside.{adds, Added, Outside}
 use Rattle.sm_world.specs.declared.events.Event.{Event}
-use Rattle.checkpoint_records.specs.Books.{empty_book}
 use Rattle.checkpoint_records.specs.declared.records.Book.{Book}
 use Rattle.checkpoint_slots.proofs.Once.{recovers-once}
 use Rattle.session_engine.specs.Acts.{commits_in}
 use Rattle.session_engine.specs.Carries.{Opens, Serves}
 use Rattle.session_engine.specs.Session.{Serving}
 use Rattle.session_engine.specs.declared.fault.ServeFault.{ServeFault}
-use Rattle.session_engine.specs.declared.fault.ServeFault.TheVariants.{Damaged, Spent, WrongSize}
-use Rattle.session_in_memory.specs.Stores.{IsFresh}
+use Rattle.session_engine.specs.declared.fault.ServeFault.TheVariants.{Damaged, Spent, TooManySessions, WrongSize}
+use Rattle.session_engine.specs.declared.config.Config.{Config}
+use Rattle.ice_cookie.specs.declared.cookies.Cookie.{Cookie}
+use Rattle.session_in_memory.specs.Stores.{IsFresh, rehearsal_cookie}
 use Rattle.session_in_memory.proofs.Blank.{blank_recovers, fresh_settled, ok_book}
 use Rattle.smd_app.specs.Rehearsals.{Rehearses, rehearsal_config}
 use Rattle.smd_app.proofs.Heard.{run, ended_run, spent_run}
+use Rattle.checkpoint_records.specs.Books.{choose, default_name, empty_book}
+use Rattle.session_engine.specs.Standing.{as_stored}
+use Rattle.session_engine.proofs.Standing.{stands_chosen}
 
 -- a run over it is one over the book of nobody
-opens_blank : (old new : Outside) (file : List ℕ) (patience turns : ℕ) (answer : Result (Unit {0}) ServeFault) → IsFresh old file → (opens : Opens old new (λ opening current effects. Serves (rehearsal_config patience) opening current old.coming turns answer effects)) → Added old.told new.told (Serves (rehearsal_config patience) empty_book opens.current old.coming turns answer)
+opens_blank : (old new : Outside) (file : List ℕ) (patience turns : ℕ) (answer : Result (Unit {0}) ServeFault) → IsFresh old file → (opens : Opens default_name old new (λ opening current effects. Serves (rehearsal_config patience) opening current old.coming turns answer effects)) → Added old.told new.told (Serves (rehearsal_config patience) empty_book opens.current old.coming turns answer)
 opens_blank old new file patience turns answer fresh opens =
     let found = opens.recovered file (fresh_settled old file fresh) in
-    let same : opens.book ≡ empty_book = ok_book opens.book empty_book (recovers-once file (Ok opens.book) (Ok empty_book) found.1.recovers (blank_recovers file fresh.blank)) in
+    let same : opens.book ≡ empty_book = sym (stands_chosen default_name opens.book opens.rules opens.called) ∙ ap (choose default_name) (ok_book (as_stored opens.book) empty_book (recovers-once file (Ok (as_stored opens.book)) (Ok empty_book) found.1.recovers (blank_recovers file fresh.blank))) in
     rw (sym same) opens.adds
 
 -- what the recovery of it can't answer
-pub never_wrong : (old new : Outside) (file : List ℕ) (patience turns size : ℕ) → IsFresh old file → Serving (rehearsal_config patience) turns old new (Err (WrongSize size)) → ⊥
-never_wrong old new file patience turns size fresh (inl rests) = rests.cause.1 (rests.cause.0 ∙ (rests.kept file fresh.first ∙ fresh.size))
-never_wrong old new file patience turns size fresh (inr opens) = opens.adds.holds.runs.opened
+pub never_wrong : (config : Config) (old new : Outside) (file : List ℕ) (turns size : ℕ) → IsFresh old file → Serving config turns old new (Err (WrongSize size)) → ⊥
+never_wrong config old new file turns size fresh (inl rests) = rests.cause.1 (rests.cause.0 ∙ (rests.kept file fresh.first ∙ fresh.size))
+never_wrong config old new file turns size fresh (inr opens) = opens.adds.holds.runs.opened
 
-pub never_damaged : (old new : Outside) (file : List ℕ) (patience turns at : ℕ) → IsFresh old file → Serving (rehearsal_config patience) turns old new (Err (Damaged at)) → ⊥
-never_damaged old new file patience turns at fresh (inl rests) = no_damage (recovers-once file (Err at) (Ok empty_book) (rests.cause.1 file (fresh_settled old file fresh)) (blank_recovers file fresh.blank))
+pub never_full : (config : Config) (old new : Outside) (file : List ℕ) (turns : ℕ) → config.session ≡ default_name → IsFresh old file → Serving config turns old new (Err TooManySessions) → ⊥
+never_full config old new file turns session fresh (inl rests) =
+    let found = rests.cause.1.2 in
+    let same = sym (stands_chosen default_name rests.cause.1.0 found.rules (found.called ∙ session)) ∙ ap (choose default_name) (ok_book (as_stored rests.cause.1.0) empty_book (recovers-once file (Ok (as_stored rests.cause.1.0)) (Ok empty_book) (found.recovered file (fresh_settled old file fresh)).1.recovers (blank_recovers file fresh.blank))) in
+    omega (arith, ap (λ (b : Book). length b.others) same, rests.cause.1.3)
+never_full config old new file turns session fresh (inr opens) = opens.adds.holds.runs.opened
+
+pub never_damaged : (config : Config) (old new : Outside) (file : List ℕ) (turns at : ℕ) → IsFresh old file → Serving config turns old new (Err (Damaged at)) → ⊥
+never_damaged config old new file turns at fresh (inl rests) = no_damage (recovers-once file (Err at) (Ok empty_book) (rests.cause.1 file (fresh_settled old file fresh)) (blank_recovers file fresh.blank))
   where
     no_damage : ◌≡◌ {A = Result Book ℕ} (Err at) (Ok empty_book) → ⊥
     no_damage e = cc
-never_damaged old new file patience turns at fresh (inr opens) = opens.adds.holds.runs.opened
+never_damaged config old new file turns at fresh (inr opens) = opens.adds.holds.runs.opened
+
+abbrev made : Cookie → ℕ → List ℕ → Config
+made cookie patience session = record { cookie = cookie; patience = patience; session = session }
+
+-- the wishes for a rehearsal, by their parts
+set_so : (config : Config) (patience : ℕ) → config.cookie ≡ rehearsal_cookie → config.patience ≡ patience → config.session ≡ default_name → config ≡ rehearsal_config patience
+set_so config patience is_cookie is_patience is_session =
+    ap (λ (cookie : Cookie). made cookie config.patience config.session) is_cookie
+    ∙ (ap (λ (n : ℕ). made rehearsal_cookie n config.session) is_patience
+    ∙ ap (λ (name : List ℕ). made rehearsal_cookie patience name) is_session)
+
+-- A run with such wishes is a rehearsal's.
+pub rehearsed : (config : Config) (patience turns : ℕ) (old new : Outside) (answer : Result (Unit {0}) ServeFault) → config.cookie ≡ rehearsal_cookie → config.patience ≡ patience → config.session ≡ default_name → Serving config turns old new answer → Serving (rehearsal_config patience) turns old new answer
+rehearsed config patience turns old new answer is_cookie is_patience is_session serving =
+    subst (λ (set : Config). Serving set turns old new answer) (set_so config patience is_cookie is_patience is_session) serving
 
 pub finished_run : (old : Outside) (world : SteadyWorld) (events : List Event) (patience turns : ℕ) (file : List ℕ) → IsFresh old file → old.coming ≡ Some events → Serving (rehearsal_config patience) turns old (steady_outside world) (Ok tt) → Rehearses patience events turns (record { world = world; finished = true })
 finished_run old world events patience turns file fresh is_coming opens =

@@ -15,15 +15,17 @@ use Rattle.checkpoint_records.specs.declared.records.Book.{Book}
 use Rattle.checkpoint_slots.specs.Causes.{IsSettled}
 use Rattle.checkpoint_slots.specs.Recovery.{Recovers}
 use Rattle.program_frame.proofs.InputLemmas.{rose_since}
-use Rattle.session_engine.specs.Carries.{IsUnopened, KeepsItsWord, Opens, Serves}
+use Rattle.session_engine.specs.Carries.{IsOpened, IsUnopened, KeepsItsWord, Opens, Serves}
 use Rattle.session_engine.specs.Causes.{HasCause}
 use Rattle.session_engine.specs.Session.{Serving}
 use Rattle.session_engine.specs.declared.fault.ServeFault.{ServeFault}
-use Rattle.session_engine.specs.declared.fault.ServeFault.TheVariants.{Damaged, WrongSize, DiskFault, LinkFault, ConsoleFault, Worn, Spent, NoMemory}
+use Rattle.session_engine.specs.declared.fault.ServeFault.TheVariants.{Damaged, WrongSize, TooManySessions, DiskFault, LinkFault, ConsoleFault, Worn, Spent, NoMemory}
 use Rattle.smd_app.specs.FaultLines.{served}
 use Rattle.smd_app.specs.Sessions.{config_of, network, session_entry, handing_out, announcing, SetsUp, Opened, OpensOr, RunsSession}
 use Rattle.smd_app.specs.Words.{Places}
 use Rattle.smd_app.specs.declared.identity.Identity.{Identity}
+use Rattle.checkpoint_records.specs.Books.{choose}
+use Rattle.checkpoint_slots.specs.declared.turn.Current.{Current}
 
 -- The authority file
 
@@ -77,23 +79,30 @@ still_settled identity places old mid behind file settled =
 pub kept_since : (identity : Identity) (places : Places) (old mid new : Outside) → Behind identity places old mid → KeepsToldSize mid new → KeepsToldSize old new
 kept_since identity places old mid new behind kept = λ first told. kept first (behind.first ∙ told) ∙ behind.size first told
 
-pub unopened_since : (identity : Identity) (places : Places) (old mid : Outside) (size : ℕ) (fault : ServeFault) → Behind identity places old mid → IsUnopened mid size fault → IsUnopened old size fault
-unopened_since identity places old mid size (WrongSize n) behind cause = cause
-unopened_since identity places old mid size (Damaged at) behind cause = (cause.0, (λ file settled. cause.1 file (still_settled identity places old mid behind file settled)))
-unopened_since identity places old mid size Worn behind cause = (cause.0, (cause.1.0, cause.1.1, (λ file settled. cause.1.2 file (still_settled identity places old mid behind file settled)), cause.1.3))
-unopened_since identity places old mid size DiskFault behind cause = cause
-unopened_since identity places old mid size NoMemory behind cause = cause
-unopened_since identity places old mid size LinkFault behind cause = cause
-unopened_since identity places old mid size ConsoleFault behind cause = cause
-unopened_since identity places old mid size Spent behind cause = cause
+found_since : (identity : Identity) (places : Places) (session : List ℕ) (old mid : Outside) (book : Book) (current : Option Current) → Behind identity places old mid → IsOpened session mid book current → IsOpened session old book current
+found_since identity places session old mid book current behind is = record { recovered = λ file settled. is.recovered file (still_settled identity places old mid behind file settled); called = is.called; rules = is.rules }
 
-opened_since : (identity : Identity) (places : Places) (config : Config) (turns : ℕ) (old mid new : Outside) (answer : Result (Unit {0}) ServeFault) → Behind identity places old mid → (opens : Opens mid new (λ opening current effects. Serves config opening current mid.coming turns answer effects)) → Opened config turns old new answer opens.adds.effects
+pub unopened_since : (identity : Identity) (places : Places) (session : List ℕ) (old mid : Outside) (size : ℕ) (fault : ServeFault) → Behind identity places old mid → IsUnopened session mid size fault → IsUnopened session old size fault
+unopened_since identity places session old mid size (WrongSize n) behind cause = cause
+unopened_since identity places session old mid size (Damaged at) behind cause = (cause.0, (λ file settled. cause.1 file (still_settled identity places old mid behind file settled)))
+unopened_since identity places session old mid size TooManySessions behind cause = (cause.0, (cause.1.0, cause.1.1, found_since identity places session old mid cause.1.0 cause.1.1 behind cause.1.2, cause.1.3))
+unopened_since identity places session old mid size Worn behind cause = (cause.0, (cause.1.0, cause.1.1, found_since identity places session old mid cause.1.0 cause.1.1 behind cause.1.2, cause.1.3, cause.1.4))
+unopened_since identity places session old mid size DiskFault behind cause = cause
+unopened_since identity places session old mid size NoMemory behind cause = cause
+unopened_since identity places session old mid size LinkFault behind cause = cause
+unopened_since identity places session old mid size ConsoleFault behind cause = cause
+unopened_since identity places session old mid size Spent behind cause = cause
+
+opened_since : (identity : Identity) (places : Places) (config : Config) (turns : ℕ) (old mid new : Outside) (answer : Result (Unit {0}) ServeFault) → Behind identity places old mid → (opens : Opens config.session mid new (λ opening current effects. Serves config opening current mid.coming turns answer effects)) → Opened config turns old new answer opens.adds.effects
 opened_since identity places config turns old mid new answer behind opens = record {
   book = opens.book;
   current = opens.current;
   recovered = λ file settled. opens.recovered file (still_settled identity places old mid behind file settled);
+  called = opens.called;
   size = opens.size;
   below = opens.below;
+  few = opens.few;
+  rules = opens.rules;
   serves = subst (λ (coming : Option _). Serves config opens.book opens.current coming turns answer opens.adds.effects) behind.coming opens.adds.holds;
 }
 
@@ -107,7 +116,7 @@ own identity places config turns old mid new (Ok x) behind opens = record {
 own identity places config turns old mid new (Err fault) behind (inl rests) = record {
   effects = [];
   added = rests.told ∙ sym (adds-none mid.told);
-  holds = inl (record { none = refl; kept = kept_since identity places old mid new behind rests.kept; cause = unopened_since identity places old mid new.size fault behind rests.cause });
+  holds = inl (record { none = refl; kept = kept_since identity places old mid new behind rests.kept; cause = unopened_since identity places config.session old mid new.size fault behind rests.cause });
 }
 own identity places config turns old mid new (Err fault) behind (inr opens) = record {
   effects = opens.adds.effects;
@@ -119,6 +128,7 @@ pub caused_since : (old mid new : Faults) (answer : Result (Unit {0}) ServeFault
 caused_since old mid new (Ok x) counts cause = cause
 caused_since old mid new (Err (Damaged at)) counts cause = cause
 caused_since old mid new (Err (WrongSize size)) counts cause = cause
+caused_since old mid new (Err TooManySessions) counts cause = cause
 caused_since old mid new (Err DiskFault) counts cause = rose_since old.disk mid.disk new.disk counts.disk cause
 caused_since old mid new (Err LinkFault) counts cause = rose_since old.links mid.links new.links counts.links cause
 caused_since old mid new (Err ConsoleFault) counts cause = rose_since old.console mid.console new.console counts.console cause
@@ -147,7 +157,7 @@ pub served_behind : (identity : Identity) (places : Places) (turns : ℕ) (old f
     → first.told ≡ adds old.told (handing_out identity places) → SetsUp old first
     → mid.told ≡ adds first.told (announcing identity places) → SetsUp first mid
     → Serving (config_of identity places) turns mid new answer
-    → ((file : List ℕ) (book : Book) → IsSettled mid file → Recovers file (Ok book) → Added mid.told new.told (KeepsItsWord (config_of identity places) book file answer))
+    → ((file : List ℕ) (stored : Book) → IsSettled mid file → Recovers file (Ok stored) → Added mid.told new.told (KeepsItsWord (config_of identity places) (choose places.session stored) file answer))
     → IfErr answer (HasCause mid.faults new.faults)
     → Added old.told new.told (RunsSession identity places turns old new (served answer))
 served_behind identity places turns old first mid new answer handed one announced two serving headline cause =
@@ -176,11 +186,25 @@ served_behind identity places turns old first mid new answer handed one announce
         parts = refl;
         session = record {
           serves = added.holds;
-          headline = λ file book settled recovers.
+          headline = λ file stored settled recovers.
               let there = still_settled identity places old mid behind file settled in
-              let word = headline file book there recovers in
-              subst (KeepsItsWord (config_of identity places) book file answer) (same_added mid.told new.told there.effects word.effects added.effects there.told word.added added.added) word.holds;
+              let word = headline file stored there recovers in
+              subst (KeepsItsWord (config_of identity places) (choose places.session stored) file answer) (same_added mid.told new.told there.effects word.effects added.effects there.told word.added added.added) word.holds;
           cause = caused_since old.faults mid.faults new.faults answer behind.counts cause;
         };
       });
     }
+
+-- The same of a session with these wishes.
+pub served_so : (identity : Identity) (places : Places) (turns : ℕ) (old first mid new : Outside) (config : Config) (answer : Result (Unit {0}) ServeFault) → config ≡ config_of identity places
+    → first.told ≡ adds old.told (handing_out identity places) → SetsUp old first
+    → mid.told ≡ adds first.told (announcing identity places) → SetsUp first mid
+    → Serving config turns mid new answer
+    → ((file : List ℕ) (stored : Book) → IsSettled mid file → Recovers file (Ok stored) → Added mid.told new.told (KeepsItsWord config (choose config.session stored) file answer))
+    → IfErr answer (HasCause mid.faults new.faults)
+    → Added old.told new.told (RunsSession identity places turns old new (served answer))
+served_so identity places turns old first mid new config answer wished handed one announced two serving headline cause =
+    served_behind identity places turns old first mid new answer handed one announced two
+    (subst (λ (made : Config). Serving made turns mid new answer) wished serving)
+    (subst (λ (made : Config). (file : List ℕ) (stored : Book) → IsSettled mid file → Recovers file (Ok stored) → Added mid.told new.told (KeepsItsWord made (choose made.session stored) file answer)) wished headline)
+    cause

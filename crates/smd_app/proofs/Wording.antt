@@ -1,11 +1,14 @@
 -- What the words of a command line are.
-use Rattle.std.proofs.Common.{◌≡◌, inl, inr, IfOk, MatchOption, Option, Some, None, Result, Ok, Err, ℕ, ◌<◌, ◌≤◌, ◌^◌, true, List, [], ◌∷◌, drop, length, get_or, refl, sym, ◌∙◌, ap, subst, arith, codes}
+use Rattle.std.proofs.Common.{◌≡◌, inl, inr, IfOk, MatchOption, Option, Some, None, Result, Ok, Err, ℕ, ◌<◌, ◌≤◌, ◌^◌, true, List, [], ◌∷◌, length, get_or, refl, sym, ◌∙◌, ap, subst, arith, codes}
 use Rattle.std.specs.Fmt.{decimal}
 use Rattle.std.specs.Str.{bytes_eq}
 use Rattle.std.specs.Str.Parse.{digits_value}
 use Rattle.std.proofs.lemmas.Fmt.{decimal_is_IsNumeral}
 use Rattle.std.proofs.lemmas.Slice.Eq.{bytes_eq-Decides}
-use Rattle.smd_app.specs.Words.{Places, IsPatience, GivePatience, AreServe, AreRehearse, AreExercise}
+use Rattle.checkpoint_records.specs.Books.{default_name}
+use Rattle.checkpoint_records.specs.Rules.{IsName}
+use Rattle.checkpoint_records.proofs.NameLaws.{default_fits}
+use Rattle.smd_app.specs.Words.{IsPatience, IsPatienceOf, IsSessionOf, AreRehearse, AreExercise}
 
 -- a list of three words, by its words
 three : (ws : List (List ℕ)) → length ws ≡ 3 → ws ≡ get_or ws 0 [] ∷ get_or ws 1 [] ∷ get_or ws 2 [] ∷ []
@@ -56,6 +59,33 @@ rehearse_with ws word (Ok None) size first is stated = λ patience are. elim are
   | inr both ↦ stated patience both.1 (is ∙ ap (λ words. get_or words 1 []) both.0)
 ]
 
--- Words whose pairs give no patience aren't those of a session.
-pub no_serve : (ws rest : List (List ℕ)) (word : List ℕ) → ws ≡ word ∷ rest → ((patience : ℕ) → GivePatience rest patience → ⊥) → (places : Places) → AreServe ws places → ⊥
-no_serve ws rest word is none places are = none places.patience (subst (λ (pairs : List (List ℕ)). GivePatience pairs places.patience) (ap (λ words. drop 1 words) (sym are.begins ∙ is)) are.patience)
+-- The pairs name a patience, or a word that is none.
+pub patience_named : {E : Type 0} (named : Option (List ℕ)) (word : List ℕ) (result : Result (Option ℕ) E) → named ≡ Some word
+    → IfOk result (λ found. MatchOption found ((patience : ℕ) → IsPatience patience → word ≡ decimal patience → ⊥) (λ patience. IsPatience patience × (word ≡ decimal patience)))
+    → IfOk result (λ found. MatchOption found ((patience : ℕ) → IsPatienceOf named patience → ⊥) (IsPatienceOf named))
+patience_named named word (Err e) is read = tt
+patience_named named word (Ok None) is read = λ patience has. by (subst (λ (o : Option (List ℕ)). IsPatienceOf o patience) is has)
+  where
+    by : {patience : ℕ} → IsPatience patience × (word ≡ decimal patience) → ⊥
+    by {patience} both = read patience both.0 both.1
+patience_named named word (Ok (Some patience)) is read = subst (λ (o : Option (List ℕ)). IsPatienceOf o patience) (sym is) read
+
+-- They name a session,
+pub session_named : (named : Option (List ℕ)) (word : List ℕ) → named ≡ Some word → IsName word → IsSessionOf named word
+session_named named word is name = subst (λ (o : Option (List ℕ)). IsSessionOf o word) (sym is) (name, refl)
+
+-- or a word that is none,
+pub no_session : (named : Option (List ℕ)) (word : List ℕ) → named ≡ Some word → (IsName word → ⊥) → (session : List ℕ) → IsSessionOf named session → ⊥
+no_session named word is none session has = by (subst (λ (o : Option (List ℕ)). IsSessionOf o session) is has)
+  where
+    by : IsName session × (word ≡ session) → ⊥
+    by both = none (subst (λ (name : List ℕ). IsName name) (sym both.1) both.0)
+
+-- or nothing, which is `default`.
+pub session_meant : (named : Option (List ℕ)) (session : List ℕ) → named ≡ None → session ≡ default_name → IsSessionOf named session
+session_meant named session is same = subst (λ (o : Option (List ℕ)). IsSessionOf o session) (sym is) same
+
+-- What words mean as a session has a name.
+pub session_fits : (named : Option (List ℕ)) (session : List ℕ) → IsSessionOf named session → IsName session
+session_fits None session is = subst (λ (name : List ℕ). IsName name) (sym is) default_fits
+session_fits (Some word) session is = is.0

@@ -7,6 +7,7 @@ use Rattle.sm_world.specs.declared.effects.Effect.TheVariants.{Printed}
 use Rattle.sm_world.specs.declared.events.Event.{Event}
 use Rattle.sm_world.specs.declared.failures.Faults.{Faults}
 use Rattle.session_engine.specs.declared.config.Config.{Config}
+use Rattle.checkpoint_records.specs.Books.{choose}
 use Rattle.checkpoint_records.specs.declared.records.Book.{Book}
 use Rattle.checkpoint_slots.specs.Causes.{IsSettled}
 use Rattle.checkpoint_slots.specs.Recovery.{Recovers}
@@ -35,11 +36,14 @@ pub record NoneRose (old new : Faults) : Type 0 where
   pub links : ¬ (Rose old.links new.links)
   pub console : ¬ (Rose old.console new.console)
 
--- The store of a world recovers to this book. Its epoch can be raised, and there is a generation for each checkpoint that the machine decides over what is heard.
+-- The store of a world recovers to one in which this is the session's book. It has room for this session, its epoch can be raised, and there is a generation for each checkpoint that the machine decides over what is heard.
 pub record CanServe (config : Config) (old : Outside) (file : List ℕ) (book : Book) (events : List Event) : Type 0 where
   pub settled : IsSettled old file
   pub size : old.size ≡ store_size
-  pub recovers : Recovers file (Ok book)
+  pub stored : Book
+  pub recovers : Recovers file (Ok stored)
+  pub chosen : choose config.session stored ≡ book
+  pub few : length book.others ≤ 7
   pub epoch : book.epoch < 4294967295
   pub generations : (current : Option Current) → HasCurrent current file → next_generation current + commits_in (script config book events) ≤ 2 ^ 64
 

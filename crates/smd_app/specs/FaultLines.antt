@@ -5,11 +5,11 @@ use Rattle.sm_world.specs.declared.failures.Failure.{Failure}
 use Rattle.sm_world.specs.declared.failures.Failure.TheVariants.{Failed, NoMemory as DeviceMemory}
 use Rattle.program_frame.specs.Printing.{line}
 use Rattle.session_engine.specs.declared.fault.ServeFault.{ServeFault}
-use Rattle.session_engine.specs.declared.fault.ServeFault.TheVariants.{Damaged as IsDamaged, WrongSize as HasWrongSize, DiskFault, LinkFault, ConsoleFault, Worn as IsWorn, Spent as HasSpent, NoMemory as WantsMemory}
+use Rattle.session_engine.specs.declared.fault.ServeFault.TheVariants.{Damaged as IsDamaged, WrongSize as HasWrongSize, TooManySessions as HasTooMany, DiskFault, LinkFault, ConsoleFault, Worn as IsWorn, Spent as HasSpent, NoMemory as WantsMemory}
 use Rattle.smd_app.specs.declared.script.ScriptFault.{ScriptFault}
 use Rattle.smd_app.specs.declared.script.ScriptFault.TheVariants.{BadLine as FirstBadLine, NoMemory as ScriptMemory}
 use Rattle.smd_app.specs.declared.fault.Fault.{Fault}
-use Rattle.smd_app.specs.declared.fault.Fault.TheVariants.{BadWords, Damaged, WrongSize, Disk, Links, Console, BadLine, Worn, Spent, NoMemory}
+use Rattle.smd_app.specs.declared.fault.Fault.TheVariants.{BadWords, Damaged, WrongSize, TooManySessions, Disk, Links, Console, BadLine, Worn, Spent, NoMemory}
 
 -- why a call on the disk did nothing
 abbrev pub disk_fault : Failure → Fault
@@ -34,6 +34,7 @@ script_fault ScriptMemory = NoMemory
 abbrev pub served_fault : ServeFault → Fault
 served_fault (IsDamaged at) = Damaged at
 served_fault (HasWrongSize size) = WrongSize size
+served_fault HasTooMany = TooManySessions
 served_fault DiskFault = Disk
 served_fault LinkFault = Links
 served_fault ConsoleFault = Console
@@ -50,6 +51,7 @@ abbrev pub fault_status : Fault → ℕ
 fault_status BadWords = 1
 fault_status (Damaged at) = 2
 fault_status (WrongSize size) = 3
+fault_status TooManySessions = 12
 fault_status Disk = 4
 fault_status Links = 5
 fault_status Console = 6
@@ -63,6 +65,7 @@ abbrev pub fault_line : Fault → Option (List ℕ)
 fault_line BadWords = Some (line (codes "smd: bad words"))
 fault_line (Damaged at) = Some (line (codes "smd: store damaged at " ++ decimal at))
 fault_line (WrongSize size) = Some (line (codes "smd: store has size " ++ decimal size))
+fault_line TooManySessions = Some (line (codes "smd: too many sessions"))
 fault_line Disk = Some (line (codes "smd: disk fault"))
 fault_line Links = Some (line (codes "smd: link fault"))
 fault_line Console = None

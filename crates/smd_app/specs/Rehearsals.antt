@@ -4,7 +4,7 @@ use Rattle.sm_world.specs.Worlds.{steady_outside}
 use Rattle.sm_world.specs.declared.effects.Effect.{Effect}
 use Rattle.sm_world.specs.declared.events.Event.{Event}
 use Rattle.sm_world.specs.declared.events.Event.TheVariants.{End}
-use Rattle.checkpoint_records.specs.Books.{empty_book}
+use Rattle.checkpoint_records.specs.Books.{default_name, empty_book}
 use Rattle.checkpoint_slots.specs.Turns.{opened_in}
 use Rattle.session_engine.specs.declared.config.Config.{Config}
 use Rattle.session_engine.specs.Carries.{script, run}
@@ -21,7 +21,7 @@ use Rattle.smd_app.specs.declared.rehearsal.Rehearsal.{Rehearsal}
 
 -- the cookie of each rehearsal, and the patience of this one
 abbrev pub rehearsal_config : ℕ → Config
-rehearsal_config patience = record { cookie = rehearsal_cookie; patience = patience }
+rehearsal_config patience = record { cookie = rehearsal_cookie; patience = patience; session = default_name }
 
 -- what is read as the script: of one that is too long, one byte more than it can have
 abbrev pub script_of : List ℕ → List ℕ

@@ -1,5 +1,5 @@
 -- What a call with the words of a session does: it hands out the cookie, says where it listens, and then serves.
-use Rattle.std.specs.Prelude.{◌≡◌, ◌⊎◌, ℕ, ◌<◌, List, [], ◌∷◌, ◌++◌, codes, Option, Result, Ok, Err, IfErr}
+use Rattle.std.specs.Prelude.{length, ◌≤◌, ◌≡◌, ◌⊎◌, ℕ, ◌<◌, List, [], ◌∷◌, ◌++◌, codes, Option, Result, Ok, Err, IfErr}
 use Rattle.sm_world.specs.Disk.{KeepsToldSize}
 use Rattle.sm_world.specs.Outside.{Outside, Rose, NotFallen}
 use Rattle.sm_world.specs.declared.effects.Effect.{Effect}
@@ -7,6 +7,8 @@ use Rattle.sm_world.specs.declared.effects.Effect.TheVariants.{Published, Printe
 use Rattle.ice_cookie.specs.Spelling.{list_bytes}
 use Rattle.ice_cookie.specs.declared.authority.AuthorityEntry.{AuthorityEntry}
 use Rattle.session_engine.specs.declared.config.Config.{Config}
+use Rattle.checkpoint_records.specs.Books.{choose}
+use Rattle.checkpoint_records.specs.Rules.{KeepsRules}
 use Rattle.checkpoint_records.specs.declared.records.Book.{Book}
 use Rattle.checkpoint_slots.specs.Causes.{IsSettled}
 use Rattle.checkpoint_slots.specs.Recovery.{Recovers}
@@ -51,9 +53,9 @@ handing_out identity places = Published places.authority (authority_file identit
 abbrev pub announcing : Identity → Places → List Effect
 announcing identity places = Printed (session_line identity places.socket) ∷ []
 
--- the cookie that clients must show, and how long they may be silent
+-- the cookie that clients must show, how long they may be silent, and what the session is called
 abbrev pub config_of : Identity → Places → Config
-config_of identity places = record { cookie = identity.cookie; patience = places.patience }
+config_of identity places = record { cookie = identity.cookie; patience = places.patience; session = places.session }
 
 -- A call on the disk failed, or memory was wanting.
 abbrev pub IsOfDisk : Outside → Outside → Fault → Type 0
@@ -75,26 +77,29 @@ pub record Opened (config : Config) (turns : ℕ) (old new : Outside) (answer : 
   pub book : Book
   pub current : Option Current
   pub recovered : IsRecovered old book current
+  pub called : book.name ≡ config.session
   pub size : new.size ≡ store_size
   pub below : book.epoch < 4294967295
+  pub few : length book.others ≤ 7
+  pub rules : KeepsRules book
   pub serves : Serves config book current old.coming turns answer effects
 
 -- Nothing was done, and the store has its size still.
-pub record Unopened (old new : Outside) (fault : ServeFault) (effects : List Effect) : Type 0 where
+pub record Unopened (config : Config) (old new : Outside) (fault : ServeFault) (effects : List Effect) : Type 0 where
   pub none : effects ≡ []
   pub kept : KeepsToldSize old new
-  pub cause : IsUnopened old new.size fault
+  pub cause : IsUnopened config.session old new.size fault
 
 abbrev pub OpensOr : Config → ℕ → Outside → Outside → Result (Unit {0}) ServeFault → List Effect → Type 0
 OpensOr config turns old new (Ok x) effects = Opened config turns old new (Ok x) effects
-OpensOr config turns old new (Err fault) effects = Unopened old new fault effects ⊎ Opened config turns old new (Err fault) effects
+OpensOr config turns old new (Err fault) effects = Unopened config old new fault effects ⊎ Opened config turns old new (Err fault) effects
 
 -- The session ended with this answer, and these are its own effects. The store is that of the world when the call began.
 pub record IsSession (config : Config) (turns : ℕ) (old new : Outside) (answer : Result (Unit {0}) ServeFault) (effects : List Effect) : Type 0 where
   -- they are a run of the session machine
   pub serves : OpensOr config turns old new answer effects
   -- at every point of it each file that a crash could leave has a whole checkpoint, where no byte of the store was in doubt
-  pub headline : (file : List ℕ) (book : Book) → IsSettled old file → Recovers file (Ok book) → KeepsItsWord config book file answer effects
+  pub headline : (file : List ℕ) (stored : Book) → IsSettled old file → Recovers file (Ok stored) → KeepsItsWord config (choose config.session stored) file answer effects
   -- a device ended it only where its count rose
   pub cause : IfErr answer (HasCause old.faults new.faults)
 

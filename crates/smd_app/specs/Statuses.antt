@@ -13,7 +13,7 @@ use Rattle.smd_app.specs.Sessions.{RunsSession}
 use Rattle.smd_app.specs.Summaries.{IsSummary}
 use Rattle.smd_app.specs.Words.{Task, Rehearse, Exercise, Serve, Means}
 use Rattle.smd_app.specs.declared.fault.Fault.{Fault}
-use Rattle.smd_app.specs.declared.fault.Fault.TheVariants.{BadWords, Damaged, WrongSize, Disk, Links, Console, BadLine, Worn, Spent, NoMemory}
+use Rattle.smd_app.specs.declared.fault.Fault.TheVariants.{BadWords, Damaged, WrongSize, TooManySessions, Disk, Links, Console, BadLine, Worn, Spent, NoMemory}
 use Rattle.smd_app.specs.declared.identity.Identity.{Identity}
 
 -- how a call of `smd` ended
@@ -38,6 +38,7 @@ HasRehearsed before after patience bytes turns texts (Err NoMemory) = texts ≡ 
 HasRehearsed before after patience bytes turns texts (Err BadWords) = ⊥
 HasRehearsed before after patience bytes turns texts (Err (Damaged at)) = ⊥
 HasRehearsed before after patience bytes turns texts (Err (WrongSize size)) = ⊥
+HasRehearsed before after patience bytes turns texts (Err TooManySessions) = ⊥
 HasRehearsed before after patience bytes turns texts (Err Disk) = ⊥
 HasRehearsed before after patience bytes turns texts (Err Links) = ⊥
 HasRehearsed before after patience bytes turns texts (Err Worn) = ⊥
@@ -52,6 +53,7 @@ HasExercised before after events turns texts (Err BadWords) = ⊥
 HasExercised before after events turns texts (Err (BadLine n)) = ⊥
 HasExercised before after events turns texts (Err (Damaged at)) = ⊥
 HasExercised before after events turns texts (Err (WrongSize size)) = ⊥
+HasExercised before after events turns texts (Err TooManySessions) = ⊥
 HasExercised before after events turns texts (Err Disk) = ⊥
 HasExercised before after events turns texts (Err Links) = ⊥
 HasExercised before after events turns texts (Err Worn) = ⊥

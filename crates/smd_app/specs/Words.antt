@@ -1,15 +1,30 @@
 -- What the words of `smd` mean.
-use Rattle.std.specs.Prelude.{◌≡◌, ◌⊎◌, ℕ, ◌<◌, ◌≤◌, ◌^◌, List, [], ◌∷◌, length, codes, Option, Some, None, if◌then◌else◌}
-use Rattle.std.specs.Str.{bytes_eq}
+use Rattle.std.specs.Prelude.{◌≡◌, ◌⊎◌, ℕ, ◌+◌, ◌<◌, ◌≤◌, ◌^◌, List, [], ◌∷◌, drop, length, codes, Option, Some, None}
 use Rattle.std.specs.Fmt.{decimal}
+use Rattle.checkpoint_records.specs.Books.{default_name}
+use Rattle.checkpoint_records.specs.Rules.{IsName}
+use Rattle.word_pairs.specs.Words.{HasPath, option_in, options_of, words_taken}
+use Rattle.smd_app.specs.declared.words.Paths.{Paths}
 
--- the paths of a session, as four words have them, and its patience
+-- what the words of a session name: four paths, how long a client may be silent that is waited for, and what the session is called
 pub record Places : Type 0 where
   pub socket : List ℕ
   pub control : List ℕ
   pub store : List ℕ
   pub authority : List ℕ
   pub patience : ℕ
+  pub session : List ℕ
+
+-- the same as values of the program
+abbrev pub places_of : Paths → Places
+places_of paths = record {
+  socket = paths.socket.now;
+  control = paths.control.now;
+  store = paths.store.now;
+  authority = paths.authority.now;
+  patience = paths.patience;
+  session = paths.session.now;
+}
 
 -- what the words of a command line ask for
 pub data Task : Type 0 where
@@ -17,54 +32,36 @@ pub data Task : Type 0 where
   Exercise : ℕ → ℕ → Task
   Serve : Places → Task
 
--- some words, two by two
-abbrev pub pairs_of : List (List ℕ) → List (List ℕ × List ℕ)
-pairs_of [] = []
-pairs_of (name ∷ []) = []
-pairs_of (name ∷ value ∷ words) = (name, value) ∷ pairs_of words
-
--- the value of the first pair with this name
-abbrev pub value_in : List (List ℕ × List ℕ) → List ℕ → Option (List ℕ)
-value_in [] name = None
-value_in (pair ∷ pairs) name = if bytes_eq pair.0 name then Some pair.1 else value_in pairs name
-
--- a path has 1 to 4,096 bytes
-pub record IsPath (path : List ℕ) : Type 0 where
-  pub some : 1 ≤ length path
-  pub few : length path ≤ 4096
-
--- The pairs have a value with this name, and it is a path.
-pub record HasPath (pairs : List (List ℕ × List ℕ)) (name value : List ℕ) : Type 0 where
-  pub found : value_in pairs name ≡ Some value
-  pub path : IsPath value
-
 -- The pairs have a path with each of the four names.
-pub record HavePaths (pairs : List (List ℕ × List ℕ)) (places : Places) : Type 0 where
-  pub socket : HasPath pairs (codes "--socket") places.socket
-  pub control : HasPath pairs (codes "--control") places.control
-  pub store : HasPath pairs (codes "--store") places.store
-  pub authority : HasPath pairs (codes "--authority") places.authority
+pub record HavePaths (words : List (List ℕ)) (places : Places) : Type 0 where
+  pub socket : HasPath (options_of words) (codes "--socket") places.socket
+  pub control : HasPath (options_of words) (codes "--control") places.control
+  pub store : HasPath (options_of words) (codes "--store") places.store
+  pub authority : HasPath (options_of words) (codes "--authority") places.authority
 
 -- a patience that is stated: a number from 1 below 2^64
 pub record IsPatience (patience : ℕ) : Type 0 where
   pub some : 1 ≤ patience
   pub small : patience < 2 ^ 64
 
--- The pairs have it, in decimal and without leading zeros.
-pub record HasPatience (pairs : List (List ℕ × List ℕ)) (patience : ℕ) : Type 0 where
-  pub found : value_in pairs (codes "--patience") ≡ Some (decimal patience)
-  pub is : IsPatience patience
+-- in decimal and without leading zeros; one that isn't named is 0
+abbrev pub IsPatienceOf : Option (List ℕ) → ℕ → Type 0
+IsPatienceOf None patience = patience ≡ 0
+IsPatienceOf (Some word) patience = IsPatience patience × (word ≡ decimal patience)
 
--- There are four pairs of words and the patience is 0, or there are five and one of them is the patience's.
-abbrev pub GivePatience : List (List ℕ) → ℕ → Type 0
-GivePatience words patience = ((length words ≡ 8) × (patience ≡ 0)) ⊎ ((length words ≡ 10) × HasPatience (pairs_of words) patience)
+-- a session that isn't named is `default`
+abbrev pub IsSessionOf : Option (List ℕ) → List ℕ → Type 0
+IsSessionOf None session = session ≡ default_name
+IsSessionOf (Some word) session = IsName session × (word ≡ session)
 
--- `serve`, and four or five pairs of words behind it, in any order: one with the name of each path, and one with that of the patience, where there is one
+-- `serve`, and four to six pairs of words behind it, in any order: one with the name of each path, and one with that of the patience and one
+-- with that of the session, where there are such. So each name stands once.
 pub record AreServe (words : List (List ℕ)) (places : Places) : Type 0 where
-  pub pairs : List (List ℕ)
-  pub begins : words ≡ codes "serve" ∷ pairs
-  pub paths : HavePaths (pairs_of pairs) places
-  pub patience : GivePatience pairs places.patience
+  pub begins : words ≡ codes "serve" ∷ drop 1 words
+  pub count : length words ≡ 9 + (words_taken (option_in words (codes "--patience")) + words_taken (option_in words (codes "--session")))
+  pub paths : HavePaths words places
+  pub patience : IsPatienceOf (option_in words (codes "--patience")) places.patience
+  pub session : IsSessionOf (option_in words (codes "--session")) places.session
 
 -- `rehearse`, whose patience is 0; or `rehearse` and a patience, in decimal and without leading zeros
 abbrev pub AreRehearse : List (List ℕ) → ℕ → Type 0

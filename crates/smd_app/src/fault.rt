@@ -18,6 +18,8 @@ pub enum Fault {
     Damaged(u64),
     /// The store has this size, which is no store's.
     WrongSize(u64),
+    /// The store has as many other sessions as a store may have.
+    TooManySessions,
     Disk,
     Links,
     Console,
@@ -67,6 +69,7 @@ impl From<ServeFault> for Fault {
         match fault {
             ServeFault::Damaged { at } => Fault::Damaged(at),
             ServeFault::WrongSize { size } => Fault::WrongSize(size),
+            ServeFault::TooManySessions => Fault::TooManySessions,
             ServeFault::DiskFault => Fault::Disk,
             ServeFault::LinkFault => Fault::Links,
             ServeFault::ConsoleFault => Fault::Console,
@@ -116,6 +119,7 @@ impl ProgramFault for Fault {
             Fault::Worn => 8,
             Fault::Spent => 9,
             Fault::NoMemory => 10,
+            Fault::TooManySessions => 12,
         }
     }
 
@@ -133,6 +137,7 @@ impl ProgramFault for Fault {
             Fault::Worn => try_line(world, b"smd: store worn\n"),
             Fault::Spent => try_line(world, b"smd: turns spent\n"),
             Fault::NoMemory => try_line(world, b"smd: no memory\n"),
+            Fault::TooManySessions => try_line(world, b"smd: too many sessions\n"),
         }
     }
 }

@@ -18,6 +18,6 @@ pub use identity::Identity;
 pub use laws::{calls_are_complete, statuses_exclude_each_other, words_mean_one_task};
 pub use program::smd_main;
 pub use rehearsal::Rehearsal;
-pub use serving::{announce, hand_out};
+pub use serving::{announce, config_for, hand_out};
 pub use trace::trace_text;
-pub use words::{Paths, read_paths, read_patience};
+pub use words::{Paths, paths_of, patience_of, read_paths, read_patience};

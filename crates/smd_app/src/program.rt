@@ -96,7 +96,9 @@ fn run_words<W: Disk + Links + Spawner + Console>(
 /// - `serve` and `--socket P`, `--control C`, `--store F` and `--authority A`, in any order, each
 ///   value of 1 to 4,096 bytes: the session is served on these sockets, over this store, and shows
 ///   itself by this identity, whose cookie clients find in the file A. With `--patience MS` too a
-///   client is shut that is waited for and silent for MS milliseconds; without it nobody is.
+///   client is shut that is waited for and silent for MS milliseconds; without it nobody is. With
+///   `--session NAME` the session of this name is served, and without it `default`; the other sessions
+///   of the store stay as they are.
 /// - `rehearse`, or `rehearse MS` with such a patience: a script is read from the console, and the
 ///   trace of its run is printed, behind the line `patience MS`.
 /// - `exercise A N`: eight clients log in, save N times, and leave; a summary is printed.

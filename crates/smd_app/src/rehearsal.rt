@@ -4,7 +4,7 @@ ghost use Rattle.sm_world.specs.Events.{HasPieceSize};
 ghost use Rattle.smd_app.specs.Rehearsals.{Rehearses};
 
 use owned_lists::{NoMemory, Octets};
-use session_engine::{Config, ServeFault, serve};
+use session_engine::{ServeFault, config_of_default, serve};
 use session_in_memory::{REHEARSAL_COOKIE, blank_store};
 use sm_world::{EventList, SteadyWorld};
 use std::alloc::Global;
@@ -31,10 +31,7 @@ pub fn run_in_memory(
 {
     let store = blank_store(alloc)?;
     let mut world = SteadyWorld::new(alloc, events, Octets::new(alloc), store)?;
-    let config = Config {
-        cookie: REHEARSAL_COOKIE,
-        patience,
-    };
+    let config = config_of_default(alloc, REHEARSAL_COOKIE, patience)?;
     let finished = match serve(alloc, &mut world, config, turns) {
         Ok(()) => true,
         Err(ServeFault::Spent) => false,
@@ -45,6 +42,7 @@ pub fn run_in_memory(
         Err(ServeFault::Worn) => return Err(NoMemory),
         Err(ServeFault::WrongSize { .. }) => unreachable!(),
         Err(ServeFault::Damaged { .. }) => unreachable!(),
+        Err(ServeFault::TooManySessions) => unreachable!(),
         Err(ServeFault::LinkFault) => unreachable!(),
         Err(ServeFault::ConsoleFault) => unreachable!(),
     };

@@ -1,8 +1,9 @@
 ghost use Rattle.std.specs.Prelude.{◌≡◌, ◌≤◌, ◌++◌, codes, length, Result, IfOk, IfErr, OnOk, OnErr, List, ℕ};
 ghost use Rattle.sm_world.specs.Outside.{Added, adds, NotFallen};
 ghost use Rattle.ice_cookie.specs.Spelling.{list_bytes};
-ghost use Rattle.smd_app.specs.Sessions.{network, session_entry, authority_file, session_line, handing_out, announcing, IsOfDisk, IsOfEdge, SetsUp, RunsSession};
-ghost use Rattle.smd_app.specs.Words.{Places, IsPath};
+ghost use Rattle.smd_app.specs.Sessions.{network, session_entry, authority_file, session_line, config_of, handing_out, announcing, IsOfDisk, IsOfEdge, SetsUp, RunsSession};
+ghost use Rattle.checkpoint_records.specs.Rules.{IsName};
+ghost use Rattle.smd_app.specs.Words.{places_of};
 
 use crate::fault::Fault;
 use crate::identity::Identity;
@@ -91,13 +92,7 @@ pub fn hand_out<W: Disk>(
     requires socket { length paths.now.socket.now ≤ 4096 }
     ensures ok { OnOk result ((W.outside world.new).told
         ≡ adds (W.outside world.old).told (handing_out identity.now
-        (record {
-          socket = paths.now.socket.now;
-          control = paths.now.control.now;
-          store = paths.now.store.now;
-          authority = paths.now.authority.now;
-          patience = paths.now.patience;
-        }))) }
+        (places_of paths.now))) }
     ensures err { OnErr result ((W.outside world.new).told ≡ (W.outside world.old).told) }
     ensures cause { IfErr result (IsOfDisk (W.outside world.old) (W.outside world.new)) }
     ensures kept { SetsUp (W.outside world.old) (W.outside world.new) }
@@ -124,13 +119,7 @@ pub fn announce<W: Links + Console>(
 ) -> Result<(), Fault>
     ensures ok { OnOk result ((W.outside world.new).told
         ≡ adds (W.outside world.old).told (announcing identity.now
-        (record {
-          socket = paths.now.socket.now;
-          control = paths.now.control.now;
-          store = paths.now.store.now;
-          authority = paths.now.authority.now;
-          patience = paths.now.patience;
-        }))) }
+        (places_of paths.now))) }
     ensures err { OnErr result ((W.outside world.new).told ≡ (W.outside world.old).told) }
     ensures cause { IfErr result (IsOfEdge (W.outside world.old) (W.outside world.new)) }
     ensures kept { SetsUp (W.outside world.old) (W.outside world.new) }
@@ -148,6 +137,18 @@ pub fn announce<W: Links + Console>(
     }
 }
 
+/// The wishes for the session.
+pub fn config_for(alloc: Global, identity: &Identity, paths: &Paths<'_>) -> Result<Config, NoMemory>
+    ensures { IfOk result (λ config. config ≡ config_of identity.now (places_of paths.now)) }
+{
+    let session = Octets::from_slice(alloc, paths.session.as_bytes())?;
+    Ok(Config {
+        cookie: identity.cookie,
+        patience: paths.patience,
+        session,
+    })
+}
+
 /// Hands out the cookie, says where the session is, and serves it on the world's own links and store.
 pub fn serve_session<W: Disk + Links + Spawner + Console>(
     alloc: Global,
@@ -158,27 +159,22 @@ pub fn serve_session<W: Disk + Links + Spawner + Console>(
 ) -> Result<(), Fault>
     requires host { length identity.now.host ≤ 255 }
     requires socket { length paths.now.socket.now ≤ 4096 }
+    requires session { IsName paths.now.session.now }
     ensures runs { Added (W.outside world.old).told (W.outside world.new).told
         (RunsSession identity.now
-        (record {
-          socket = paths.now.socket.now;
-          control = paths.now.control.now;
-          store = paths.now.store.now;
-          authority = paths.now.authority.now;
-          patience = paths.now.patience;
-        }) turns (W.outside world.old) (W.outside world.new) result) }
+        (places_of paths.now) turns (W.outside world.old) (W.outside world.new) result) }
     ensures counts { NotFallen (W.outside world.old).faults (W.outside world.new).faults }
 {
+    let config = match config_for(alloc, identity, paths) {
+        Ok(config) => config,
+        Err(NoMemory) => return Err(Fault::NoMemory),
+    };
     if let Err(fault) = hand_out(alloc, world, identity, paths) {
         return Err(fault);
     }
     if let Err(fault) = announce(alloc, world, identity, paths) {
         return Err(fault);
     }
-    let config = Config {
-        cookie: identity.cookie,
-        patience: paths.patience,
-    };
     match serve(alloc, world, config, turns) {
         Ok(()) => Ok(()),
         Err(fault) => Err(Fault::from(fault)),

@@ -1,15 +1,14 @@
-ghost use Rattle.std.specs.Prelude.{◌≡◌, ◌↔◌, ◌≢◌, ◌<◌, ◌^◌, ℕ, IsTrue, IfOk, List, [], get_or, length, map, string_bytes, MatchOption, Some, None};
-ghost use Rattle.std.specs.Str.{bytes_eq};
+ghost use Rattle.std.specs.Prelude.{◌≡◌, ◌≢◌, ◌+◌, ◌∷◌, ◌<◌, ◌^◌, ℕ, IfOk, List, [], codes, drop, get_or, length, map, string_bytes, MatchOption};
 ghost use Rattle.std.specs.Fmt.{decimal};
-ghost use Rattle.smd_app.specs.Words.{Places, IsPath, IsPatience, HasPath, HavePaths, GivePatience, AreServe, AreRehearse, AreExercise, pairs_of, value_in};
+ghost use Rattle.word_pairs.specs.Words.{option_in, words_taken};
+ghost use Rattle.smd_app.specs.Words.{Places, IsPatience, IsPatienceOf, IsSessionOf, HavePaths, AreServe, AreRehearse, AreExercise, places_of};
 
+use checkpoint_records::is_name;
 use control_lines::read_number;
 use owned_lists::NoMemory;
 use program_frame::are_one_word;
 use std::alloc::Global;
-
-/// The most bytes that a path may have.
-const PATH_LIMIT: usize = 4096;
+use word_pairs::{begin_with, is_word, path_of, value_of, word_at, words_of_option};
 
 /// The most rounds of an exercise.
 const ROUND_LIMIT: u64 = 1000;
@@ -27,6 +26,8 @@ pub struct Paths<'a> {
     pub authority: &'a str,
     /// For how many milliseconds a client may be silent that is waited for; 0 is for ever.
     pub patience: u64,
+    /// What the session is called among those of its store: 1 to 64 bytes from `!` to `~`.
+    pub session: &'a str,
 }
 
 /// What the words of an exercise ask for.
@@ -37,56 +38,6 @@ pub struct Exercise {
     pub pattern: u64,
     /// How many checkpoints there are.
     pub rounds: u64,
-}
-
-/// One of the words.
-fn word_at(words: &[String], at: usize) -> &str
-    requires { at < length words.now }
-    ensures { result.now ≡ get_or (map string_bytes words.now) at [] }
-{
-    words[at].as_str()
-}
-
-/// Whether one of the words is this one.
-fn is_word(words: &[String], at: usize, word: &str) -> bool
-    requires { at < length words.now }
-    ensures { result ≡ bytes_eq (get_or (map string_bytes words.now) at []) word.now }
-{
-    word_at(words, at) == word
-}
-
-/// The value of the first of some pairs of words that has this name.
-fn value_of<'a>(pairs: &'a [String], name: &str) -> Option<&'a str>
-    ensures { MatchOption result (value_in (pairs_of (map string_bytes pairs.now)) name.now ≡ None)
-        (λ value. value_in (pairs_of (map string_bytes pairs.now)) name.now ≡ Some value.now) }
-{
-    let mut left = pairs;
-    while let Some((first, others)) = left.split_first() {
-        let (value, rest) = others.split_first()?;
-        if first.as_str() == name {
-            return Some(value.as_str());
-        }
-        left = rest;
-    }
-    None
-}
-
-fn is_path(path: &str) -> bool
-    ensures { IsTrue result ↔ IsPath path.now }
-{
-    1 <= path.len() && path.len() <= PATH_LIMIT
-}
-
-/// The path that the pairs have with this name.
-fn path_of<'a>(pairs: &'a [String], name: &str) -> Option<&'a str>
-    ensures { MatchOption result ((value : List ℕ) →
-        ¬ (HasPath (pairs_of (map string_bytes pairs.now)) name.now value)) (λ value.
-        HasPath (pairs_of (map string_bytes pairs.now)) name.now value.now) }
-{
-    match value_of(pairs, name) {
-        Some(value) => { if is_path(value) { Some(value) } else { None } }
-        None => None,
-    }
 }
 
 /// The patience that a word states.
@@ -107,73 +58,95 @@ pub fn read_patience(alloc: Global, word: &str) -> Result<Option<u64>, NoMemory>
     }
 }
 
-/// The patience that the pairs of words behind `serve` give.
-fn patience_of(alloc: Global, pairs: &[String]) -> Result<Option<u64>, NoMemory>
+/// The patience that the words name, or 0 where they name none.
+pub fn patience_of(alloc: Global, words: &[String]) -> Result<Option<u64>, NoMemory>
     ensures { IfOk result (λ found.
-        MatchOption found ((patience : ℕ) → ¬ (GivePatience (map string_bytes pairs.now) patience))
-        (λ patience. GivePatience (map string_bytes pairs.now) patience)) }
+        MatchOption found ((patience : ℕ) →
+        ¬ (IsPatienceOf (option_in (map string_bytes words.now) (codes "--patience")) patience))
+        (IsPatienceOf (option_in (map string_bytes words.now) (codes "--patience")))) }
 {
-    if pairs.len() == 8 {
-        return Ok(Some(0));
-    }
-    if pairs.len() != 10 {
-        return Ok(None);
-    }
-    match value_of(pairs, "--patience") {
+    match value_of(words, "--patience") {
         Some(word) => read_patience(alloc, word),
-        None => Ok(None),
+        None => Ok(Some(0)),
     }
 }
 
-/// What the words of a session name, with this patience.
-fn paths_of(pairs: &[String], patience: u64) -> Option<Paths<'_>>
-    ensures { MatchOption result ((places : Places) →
-        ¬ (HavePaths (pairs_of (map string_bytes pairs.now)) places)) (λ paths.
-        HavePaths (pairs_of (map string_bytes pairs.now))
-        (record {
-          socket = paths.socket.now;
-          control = paths.control.now;
-          store = paths.store.now;
-          authority = paths.authority.now;
-          patience = paths.patience;
-        })
-        × (paths.patience ≡ patience)) }
+/// The session that the words name, or `default` where they name none.
+fn session_of(words: &[String]) -> Option<&str>
+    ensures { MatchOption result ((session : List ℕ) →
+        ¬ (IsSessionOf (option_in (map string_bytes words.now) (codes "--session")) session))
+        (λ session. IsSessionOf (option_in (map string_bytes words.now) (codes "--session"))
+        session.now) }
 {
-    let socket = path_of(pairs, "--socket")?;
-    let control = path_of(pairs, "--control")?;
-    let store = path_of(pairs, "--store")?;
-    let authority = path_of(pairs, "--authority")?;
+    match value_of(words, "--session") {
+        Some(word) => {
+            if is_name(word.as_bytes()) {
+                Some(word)
+            } else {
+                None
+            }
+        }
+        None => Some("default"),
+    }
+}
+
+/// What the words name, with this patience and this session.
+pub fn paths_of<'a>(words: &'a [String], patience: u64, session: &'a str) -> Option<Paths<'a>>
+    ensures { MatchOption result ((places : Places) →
+        ¬ (HavePaths (map string_bytes words.now) places)) (λ paths.
+        HavePaths (map string_bytes words.now) (places_of paths)
+        × (paths.patience ≡ patience) × (paths.session.now ≡ session.now)) }
+{
+    let socket = path_of(words, "--socket")?;
+    let control = path_of(words, "--control")?;
+    let store = path_of(words, "--store")?;
+    let authority = path_of(words, "--authority")?;
     Some(Paths {
         socket,
         control,
         store,
         authority,
         patience,
+        session,
     })
 }
 
-/// What the words of a session name, where they are `serve` and four or five pairs in any order: one
-/// with the name of each path, and one with that of the patience, where there is one.
+/// What the words name, with this patience, where so many of them stand behind the right first one.
+fn places_in(words: &[String], patience: u64) -> Option<Paths<'_>>
+    requires begins { map string_bytes words.now ≡ codes "serve" ∷ drop 1
+        (map string_bytes words.now) }
+    requires count { length (map string_bytes words.now)
+        ≡ 9 + (words_taken (option_in (map string_bytes words.now) (codes "--patience"))
+        + words_taken (option_in (map string_bytes words.now) (codes "--session"))) }
+    requires patience { IsPatienceOf (option_in (map string_bytes words.now) (codes "--patience"))
+        patience }
+    ensures { MatchOption result ((places : Places) →
+        ¬ (AreServe (map string_bytes words.now) places)) (λ paths.
+        AreServe (map string_bytes words.now) (places_of paths)) }
+{
+    match session_of(words) {
+        Some(session) => paths_of(words, patience, session),
+        None => None,
+    }
+}
+
+/// What the words of a session name, where they are `serve` and four to six pairs in any order: one
+/// with the name of each path, and one with that of the patience and one with that of the session,
+/// where there are such.
 pub fn read_paths(alloc: Global, words: &[String]) -> Result<Option<Paths<'_>>, NoMemory>
     ensures { IfOk result (λ found.
         MatchOption found ((places : Places) → ¬ (AreServe (map string_bytes words.now) places))
-        (λ paths. AreServe (map string_bytes words.now)
-        (record {
-          socket = paths.socket.now;
-          control = paths.control.now;
-          store = paths.store.now;
-          authority = paths.authority.now;
-          patience = paths.patience;
-        }))) }
+        (λ paths. AreServe (map string_bytes words.now) (places_of paths))) }
 {
-    let Some((first, pairs)) = words.split_first() else {
-        return Ok(None);
-    };
-    if first.as_str() != "serve" {
+    if !begin_with(words, "serve") {
         return Ok(None);
     }
-    match patience_of(alloc, pairs)? {
-        Some(patience) => Ok(paths_of(pairs, patience)),
+    let options = words_of_option(words, "--patience") + words_of_option(words, "--session");
+    if words.len() != 9 + options {
+        return Ok(None);
+    }
+    match patience_of(alloc, words)? {
+        Some(patience) => Ok(places_in(words, patience)),
         None => Ok(None),
     }
 }

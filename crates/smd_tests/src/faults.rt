@@ -18,6 +18,7 @@ links => 5 \"smd: link fault\\n|\"
 console => 6 \"\"
 bad line => 7 \"smd: bad script line 3\\n|\"
 worn => 8 \"smd: store worn\\n|\"
+too many sessions => 12 \"smd: too many sessions\\n|\"
 spent => 9 \"smd: turns spent\\n|\"
 no memory => 10 \"smd: no memory\\n|\"";
 
@@ -30,6 +31,7 @@ fn fault_of_a_device(name: &str) -> Option<Fault> {
         "links" => Some(Fault::Links),
         "console" => Some(Fault::Console),
         "worn" => Some(Fault::Worn),
+        "too many sessions" => Some(Fault::TooManySessions),
         _ => None,
     }
 }

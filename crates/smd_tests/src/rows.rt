@@ -48,17 +48,35 @@ fn sessions_say_where_they_are_and_serve(rt: HostRuntime) -> Result<(), Fail> {
 const REFUSED_STORES: &str = "\
 serve; nothing; damaged; 99; 0 => 2 \"SESSION_MANAGER=local/h:/s\\n|smd: store damaged at 80\\n|\"
 serve; nothing; none; 99; 0 => 3 \"SESSION_MANAGER=local/h:/s\\n|smd: store has size 0\\n|\"
-serve; nothing; worn; 99; 0 => 8 \"SESSION_MANAGER=local/h:/s\\n|smd: store worn\\n|\"";
+serve; nothing; worn; 99; 0 => 8 \"SESSION_MANAGER=local/h:/s\\n|smd: store worn\\n|\"
+serve; nothing; eight; 99; 0 => 12 \"SESSION_MANAGER=local/h:/s\\n|smd: too many sessions\\n|\"
+serve --session i --socket /s --control /c --store /f --authority /a; nothing; eight; 99; 0 => 12 \"SESSION_MANAGER=local/h:/s\\n|smd: too many sessions\\n|\"";
 
 #[test]
 fn a_store_that_is_none_is_refused(rt: HostRuntime) -> Result<(), Fail> {
     expect_rows(&rt, REFUSED_STORES, told)
 }
 
-/// The pairs in another order, and the longest path.
+/// The session of a store that has eight: one of them, and a ninth, before which nothing is written.
+const NAMED: &str = "\
+serve --session h --socket /s --control /c --store /f --authority /a; orders; eight; 99; 0 => 0 \"SESSION_MANAGER=local/h:/s\\n|connections 0, records 1, pending 0, epoch 2, idle\\n|no shutdown\\n|no connection\\n|unknown\\n|ok\\n|\"
+serve --session work --socket /s --control /c --store /f --authority /a; orders; blank; 99; 0 => 0 \"SESSION_MANAGER=local/h:/s\\n|connections 0, records 0, pending 0, epoch 1, idle\\n|no shutdown\\n|no connection\\n|unknown\\n|ok\\n|\"";
+
+#[test]
+fn a_session_is_run_by_its_name(rt: HostRuntime) -> Result<(), Fail> {
+    expect_rows(&rt, NAMED, told)
+}
+
+/// Words of a session: the pairs in another order, the longest path, and a name in front or behind. A
+/// name of 65 bytes, two names, and a pair that none knows are no words.
 const WORDS: &str = "\
 serve --authority /a --store /f --control /c --socket /s; nothing; none; 0; 0 => 3/3
-serve --control /c --store /f --authority /a --socket LONGEST; nothing; none; 0; 0 => 3/3";
+serve --control /c --store /f --authority /a --socket LONGEST; nothing; none; 0; 0 => 3/3
+serve --session work --control /c --store /f --authority /a --socket /s; nothing; none; 0; 0 => 3/3
+serve --patience 5 --control /c --store /f --authority /a --socket /s --session !~; nothing; none; 0; 0 => 3/3
+serve --session 12345678901234567890123456789012345678901234567890123456789012345 --control /c --store /f --authority /a --socket /s; nothing; none; 0; 0 => 1/1
+serve --session a --session b --control /c --store /f --authority /a --socket /s; nothing; none; 0; 0 => 1/1
+serve --name a --control /c --store /f --authority /a --socket /s; nothing; none; 0; 0 => 1/1";
 
 #[test]
 fn words_of_a_session(rt: HostRuntime) -> Result<(), Fail> {

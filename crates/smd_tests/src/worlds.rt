@@ -75,8 +75,30 @@ fn put_last_book(store: &mut Octets) {
     put(store, 72, b"\x10\0\0\0\0\0\0\0\x01\0\0\0\x01\0\0\0");
 }
 
+/// Puts a book of eight sessions, `a` to `h`, with an entry each, into the first slot.
+fn put_eight(store: &mut Octets) {
+    put(store, 64, &[1]);
+    put(
+        store,
+        72,
+        b"\xd0\x01\0\0\0\0\0\0\x02\0\0\0\x01\0\0\0\x08\0\0\0",
+    );
+    let mut at: usize = 96;
+    for letter in b'a'..b'i' {
+        put(store, at, b"\x01\0\0\0");
+        put(store, at.saturating_add(4), &[letter]);
+        put(
+            store,
+            at.saturating_add(8),
+            b"\x01\0\0\0\0\0\0\0\x15\0\0\0smd-00000001-0000000",
+        );
+        put(store, at.saturating_add(40), &[letter.saturating_sub(48)]);
+        at = at.saturating_add(56);
+    }
+}
+
 /// A store by its name: one that is blank, one whose first gate is open over nothing, one that has no
-/// number for a further book, and one without a byte.
+/// number for a further book, one with eight sessions, and one without a byte.
 fn store_of(alloc: Global, name: &str) -> Result<Octets, NoMemory> {
     if name == "none" {
         return Ok(Octets::new(alloc));
@@ -87,6 +109,9 @@ fn store_of(alloc: Global, name: &str) -> Result<Octets, NoMemory> {
     }
     if name == "worn" {
         put_last_book(&mut store);
+    }
+    if name == "eight" {
+        put_eight(&mut store);
     }
     Ok(store)
 }

@@ -13,11 +13,11 @@ use Rattle.session_engine.specs.Carries.{IsUnopened}
 use Rattle.session_engine.specs.Causes.{HasCause}
 use Rattle.session_engine.specs.declared.config.Config.{Config}
 use Rattle.session_engine.specs.declared.fault.ServeFault.{ServeFault}
-use Rattle.session_engine.specs.declared.fault.ServeFault.TheVariants.{Damaged as IsDamaged, WrongSize as HasWrongSize, DiskFault, LinkFault, ConsoleFault, Worn as IsWorn, Spent as HasSpent, NoMemory as WantsMemory}
+use Rattle.session_engine.specs.declared.fault.ServeFault.TheVariants.{Damaged as IsDamaged, WrongSize as HasWrongSize, TooManySessions as HasTooMany, DiskFault, LinkFault, ConsoleFault, Worn as IsWorn, Spent as HasSpent, NoMemory as WantsMemory}
 use Rattle.smd_app.specs.Rehearsals.{script_of}
 use Rattle.smd_app.specs.Sessions.{IsOfDisk, IsOfEdge, config_of}
 use Rattle.smd_app.specs.declared.fault.Fault.{Fault as SessionFault}
-use Rattle.smd_app.specs.declared.fault.Fault.TheVariants.{BadWords, Damaged, WrongSize, Disk, Links, Console, BadLine, Worn, Spent, NoMemory}
+use Rattle.smd_app.specs.declared.fault.Fault.TheVariants.{BadWords, Damaged, WrongSize, TooManySessions, Disk, Links, Console, BadLine, Worn, Spent, NoMemory}
 use Rattle.smd_app.specs.declared.identity.Identity.{Identity}
 use Rattle.smnest_app.specs.FaultLines.{Ending, fault_line, fault_status, served, session_line}
 use Rattle.smnest_app.specs.Sessions.{HasServed, IsCutShort, IsLeftOut, IsOfLinks, Opened, OpensOr, RunsSession, WasCutShort}
@@ -50,6 +50,7 @@ failed_still words id before mid new bytes turns texts NoMemory later holds = ho
 failed_still words id before mid new bytes turns texts BadWords later holds = holds
 failed_still words id before mid new bytes turns texts (Damaged at) later holds = holds
 failed_still words id before mid new bytes turns texts (WrongSize size) later holds = holds
+failed_still words id before mid new bytes turns texts TooManySessions later holds = holds
 failed_still words id before mid new bytes turns texts Disk later holds = holds
 failed_still words id before mid new bytes turns texts Links later holds = holds
 failed_still words id before mid new bytes turns texts Worn later holds = holds
@@ -79,8 +80,11 @@ opened_still config turns agent old mid new answer own prints opened = record {
   book = opened.book;
   current = opened.current;
   recovered = opened.recovered;
+  called = opened.called;
   size = prints.uses.kept.size ∙ opened.size;
   below = opened.below;
+  few = opened.few;
+  rules = opened.rules;
   weaves = opened.weaves;
 }
 
@@ -89,7 +93,7 @@ opens_still config turns agent old mid new (Ok x) own prints opened = opened_sti
 opens_still config turns agent old mid new (Err fault) own prints (inl rests) = inl (record {
   none = rests.none;
   kept = λ first told. prints.uses.kept.size ∙ rests.kept first told;
-  cause = subst (λ (size : ℕ). IsUnopened old size fault) (sym prints.uses.kept.size) rests.cause;
+  cause = subst (λ (size : ℕ). IsUnopened config.session old size fault) (sym prints.uses.kept.size) rests.cause;
 })
 opens_still config turns agent old mid new (Err fault) own prints (inr opened) = inr (opened_still config turns agent old mid new (Err fault) own prints opened)
 
@@ -97,6 +101,7 @@ cause_still : (old mid new : Outside) (answer : Result (Unit {0}) ServeFault) �
 cause_still old mid new (Ok x) later cause = cause
 cause_still old mid new (Err (IsDamaged at)) later cause = cause
 cause_still old mid new (Err (HasWrongSize size)) later cause = cause
+cause_still old mid new (Err HasTooMany) later cause = cause
 cause_still old mid new (Err DiskFault) later cause = disk_still old.faults.disk mid new later.prints cause
 cause_still old mid new (Err LinkFault) later cause = links_still old.faults.links mid new later.prints cause
 cause_still old mid new (Err ConsoleFault) later cause = console_still old.faults.console mid new (later.silent refl) cause

@@ -5,10 +5,11 @@ use Rattle.std.proofs.lemmas.Fmt.{decimal_injective}
 use Rattle.sm_world.specs.declared.events.Event.{Event}
 use Rattle.event_script.proofs.Excluding.{means_once}
 use Rattle.event_script.specs.declared.script.Taken.TheVariants.{All}
-use Rattle.word_pairs.specs.Words.{HasPath}
+use Rattle.word_pairs.specs.Words.{option_in, options_of}
 use Rattle.smnest_app.specs.Exclusions.{FitsOnce, WordsMeanOne}
 use Rattle.smnest_app.specs.Rehearsals.{ends_within}
-use Rattle.smnest_app.specs.Words.{AreServe, IsIdOf, IsPatienceOf, NestPlaces, Rehearse, Serve, option_in, options_of}
+use Rattle.smd_app.proofs.Completing.{same_path, same_patience}
+use Rattle.smnest_app.specs.Words.{AreServe, IsIdOf, NestPlaces, Rehearse, Serve}
 
 pub fits_once : (id : List ℕ) (words : List (List ℕ)) (bytes : List ℕ) (turns : ℕ) → FitsOnce id words bytes turns
 fits_once id words bytes turns = record {
@@ -22,22 +23,12 @@ same_id : (named : Option (List ℕ)) (one two : List ℕ) → IsIdOf named one 
 same_id None one two first second = first ∙ sym second
 same_id (Some word) one two first second = first.1 ∙ sym second.1
 
-same_patience : (named : Option (List ℕ)) (one two : ℕ) → IsPatienceOf named one → IsPatienceOf named two → one ≡ two
-same_patience None one two first second = first ∙ sym second
-same_patience (Some word) one two first second = decimal_injective one two first.0.small second.0.small (sym first.1 ∙ second.1)
+abbrev made : List ℕ → List ℕ → List ℕ → List ℕ → ℕ → List ℕ → List ℕ → List ℕ → List ℕ → NestPlaces
+made socket control store authority patience session outer outer_authority id =
+    record { own = record { socket = socket; control = control; store = store; authority = authority; patience = patience; session = session }; outer = outer; authority = outer_authority; id = id }
 
-some_is : (x y : List ℕ) → ◌≡◌ {A = Option (List ℕ)} (Some x) (Some y) → x ≡ y
-some_is x y same = cc
-
-same_path : (pairs : List (List ℕ × List ℕ)) (name one two : List ℕ) → HasPath pairs name one → HasPath pairs name two → one ≡ two
-same_path pairs name one two first second = some_is one two (sym first.found ∙ second.found)
-
-abbrev made : List ℕ → List ℕ → List ℕ → List ℕ → ℕ → List ℕ → List ℕ → List ℕ → NestPlaces
-made socket control store authority patience outer outer_authority id =
-    record { own = record { socket = socket; control = control; store = store; authority = authority; patience = patience }; outer = outer; authority = outer_authority; id = id }
-
-same_made : (a b c d e f g r s t u v w x : List ℕ) (p q : ℕ) → a ≡ r → b ≡ s → c ≡ t → d ≡ u → p ≡ q → e ≡ v → f ≡ w → g ≡ x → made a b c d p e f g ≡ made r s t u q v w x
-same_made a b c d e f g r s t u v w x p q first second third fourth fifth sixth seventh eighth = rw (first, second, third, fourth, fifth, sixth, seventh, eighth) refl
+same_made : (a b c d e f g h r s t u v w x y : List ℕ) (p q : ℕ) → a ≡ r → b ≡ s → c ≡ t → d ≡ u → p ≡ q → h ≡ y → e ≡ v → f ≡ w → g ≡ x → made a b c d p h e f g ≡ made r s t u q y v w x
+same_made a b c d e f g h r s t u v w x y p q first second third fourth fifth last sixth seventh eighth = rw (first, second, third, fourth, fifth, last, sixth, seventh, eighth) refl
 
 same_places : (words : List (List ℕ)) (one two : NestPlaces) → AreServe words one → AreServe words two → one ≡ two
 same_places words one two first second =
@@ -50,8 +41,9 @@ same_places words one two first second =
     let outer : one.outer ≡ two.outer = same_path pairs (codes "--outer") _ _ first.outer second.outer in
     let outer_authority : one.authority ≡ two.authority = same_path pairs (codes "--outer-authority") _ _ first.outer_authority second.outer_authority in
     let id : one.id ≡ two.id = same_id (option_in words (codes "--outer-id")) _ _ first.id second.id in
-    same_made one.own.socket one.own.control one.own.store one.own.authority one.outer one.authority one.id two.own.socket two.own.control two.own.store two.own.authority two.outer two.authority two.id one.own.patience two.own.patience
-    socket control store authority patience outer outer_authority id
+    let session : one.own.session ≡ two.own.session = first.session ∙ sym second.session in
+    same_made one.own.socket one.own.control one.own.store one.own.authority one.outer one.authority one.id one.own.session two.own.socket two.own.control two.own.store two.own.authority two.outer two.authority two.id two.own.session one.own.patience two.own.patience
+    socket control store authority patience session outer outer_authority id
 
 serve_or_rehearse : (words rest other : List (List ℕ)) → words ≡ codes "rehearse" ∷ rest → words ≡ codes "serve" ∷ other → ⊥
 serve_or_rehearse words rest other one two = omega (arith, ap (λ (ws : List (List ℕ)). length (get_or ws 0 [])) (sym one ∙ two))

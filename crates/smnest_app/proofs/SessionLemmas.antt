@@ -8,6 +8,7 @@ use Rattle.sm_world.specs.declared.failures.Failure.TheVariants.{Failed, NoMemor
 use Rattle.sm_world.proofs.Adding.{adds-adds, adds-none}
 use Rattle.client_engine.specs.Driving.{Run}
 use Rattle.ice_cookie.specs.declared.cookies.Cookie.{Cookie}
+use Rattle.checkpoint_records.specs.Books.{choose}
 use Rattle.checkpoint_records.specs.declared.records.Book.{Book}
 use Rattle.checkpoint_slots.specs.Causes.{IsSettled}
 use Rattle.checkpoint_slots.specs.Recovery.{Recovers}
@@ -103,15 +104,18 @@ module _ (identity : Identity) (places : NestPlaces) (turns : ℕ) (agent : Run 
   abbrev config : Config
   config = config_of identity places.own
 
-  opened_since : (old mid new : Outside) (answer : Result (Unit {0}) ServeFault) → Behind identity places.own old mid → (opens : Opens mid new (Weaves config turns agent greeting mid answer)) → Opened config turns agent old new answer opens.adds.effects
+  opened_since : (old mid new : Outside) (answer : Result (Unit {0}) ServeFault) → Behind identity places.own old mid → (opens : Opens config.session mid new (Weaves config turns agent greeting mid answer)) → Opened config turns agent old new answer opens.adds.effects
   opened_since old mid new answer behind opens =
       let woven = opens.adds.holds in
       record {
         book = opens.book;
         current = opens.current;
         recovered = λ file settled. opens.recovered file (still_settled identity places.own old mid behind file settled);
+        called = opens.called;
         size = opens.size;
         below = opens.below;
+        few = opens.few;
+        rules = opens.rules;
         weaves = record {
           all = woven.all;
           are = woven.are;
@@ -129,7 +133,7 @@ module _ (identity : Identity) (places : NestPlaces) (turns : ℕ) (agent : Run 
   own old mid new (Err fault) behind (inl rests) = record {
     effects = [];
     added = rests.told ∙ sym (adds-none mid.told);
-    holds = inl (record { none = refl; kept = kept_since identity places.own old mid new behind rests.kept; cause = unopened_since identity places.own old mid new.size fault behind rests.cause });
+    holds = inl (record { none = refl; kept = kept_since identity places.own old mid new behind rests.kept; cause = unopened_since identity places.own config.session old mid new.size fault behind rests.cause });
   }
   own old mid new (Err fault) behind (inr opens) = record {
     effects = opens.adds.effects;
@@ -156,11 +160,11 @@ stands_behind identity places old one mid same first said second = record {
 }
 
 -- What the headline says of a run of the session.
-abbrev pub Promised : Identity → NestPlaces → Outside → Outside → Result (Unit {0}) ServeFault → Run Keeper → List ℕ → Type 0
-Promised identity places mid new answer agent first = (file : List ℕ) (book : Book) → IsSettled mid file → Recovers file (Ok book) → Added mid.told new.told (NestKeepsItsWord (config_of identity places.own) book file agent first answer)
+abbrev pub Promised : Config → Outside → Outside → Result (Unit {0}) ServeFault → Run Keeper → List ℕ → Type 0
+Promised config mid new answer agent first = (file : List ℕ) (stored : Book) → IsSettled mid file → Recovers file (Ok stored) → Added mid.told new.told (NestKeepsItsWord config (choose config.session stored) file agent first answer)
 
 pub served_behind : (words : List (List ℕ)) (identity : Identity) (places : NestPlaces) (turns : ℕ) (cookie : Cookie) (old one mid new : Outside) (answer : Result (Unit {0}) ServeFault) → FileIs old.files places.authority (λ bytes. HasCookie places.outer bytes cookie) → one.told ≡ old.told → SetsUp old one
-    → mid.told ≡ adds (adds one.told (handing_out identity places.own)) (announcing identity places.own) → SetsUp one mid → Nesting (config_of identity places.own) turns (start cookie places.id words) greeting mid new answer → Promised identity places mid new answer (start cookie places.id words) greeting
+    → mid.told ≡ adds (adds one.told (handing_out identity places.own)) (announcing identity places.own) → SetsUp one mid → Nesting (config_of identity places.own) turns (start cookie places.id words) greeting mid new answer → Promised (config_of identity places.own) mid new answer (start cookie places.id words) greeting
     → IfErr answer (HasCause mid.faults new.faults)
     → Added old.told new.told (RunsSession words identity places turns old new (served answer))
 served_behind words identity places turns cookie old one mid new answer file same first said second nesting headline cause =
@@ -180,10 +184,10 @@ served_behind words identity places turns cookie old one mid new answer file sam
           parts = refl;
           session = record {
             serves = added.holds;
-            headline = λ file book settled recovers.
+            headline = λ file stored settled recovers.
                 let there = still_settled identity places.own old mid behind file settled in
-                let word = headline file book there recovers in
-                subst (NestKeepsItsWord (config_of identity places.own) book file (start cookie places.id words) greeting answer) (same_added mid.told new.told there.effects word.effects added.effects there.told word.added added.added) word.holds;
+                let word = headline file stored there recovers in
+                subst (NestKeepsItsWord (config_of identity places.own) (choose places.own.session stored) file (start cookie places.id words) greeting answer) (same_added mid.told new.told there.effects word.effects added.effects there.told word.added added.added) word.holds;
             cause = caused_since old.faults mid.faults new.faults answer behind.counts cause;
           };
         });

@@ -8,7 +8,7 @@ use Rattle.program_frame.specs.Printing.{line}
 use Rattle.session_engine.specs.declared.fault.ServeFault.{ServeFault}
 use Rattle.smd_app.specs.FaultLines.{console_fault as session_console, fault_status as session_status, link_fault as session_link, served as session_served}
 use Rattle.smd_app.specs.declared.fault.Fault.{Fault as SessionFault}
-use Rattle.smd_app.specs.declared.fault.Fault.TheVariants.{BadWords, Damaged, WrongSize, Disk, Links, Console, BadLine, Worn, Spent, NoMemory}
+use Rattle.smd_app.specs.declared.fault.Fault.TheVariants.{BadWords, Damaged, WrongSize, TooManySessions, Disk, Links, Console, BadLine, Worn, Spent, NoMemory}
 use Rattle.smnest_app.specs.declared.fault.Fault.{Fault}
 use Rattle.smnest_app.specs.declared.fault.Fault.TheVariants.{Session, NoCookie}
 
@@ -46,6 +46,7 @@ abbrev pub session_line : SessionFault → Option (List ℕ)
 session_line BadWords = Some (line (codes "smnest: bad words"))
 session_line (Damaged at) = Some (line (codes "smnest: store damaged at " ++ decimal at))
 session_line (WrongSize size) = Some (line (codes "smnest: store has size " ++ decimal size))
+session_line TooManySessions = Some (line (codes "smnest: too many sessions"))
 session_line Disk = Some (line (codes "smnest: disk fault"))
 session_line Links = Some (line (codes "smnest: link fault"))
 session_line Console = None

@@ -1,7 +1,9 @@
 -- What a call with the words of a session inside another does: it finds the outer cookie, hands out its own and says where it listens, connects to the outer manager, and then serves.
-use Rattle.std.specs.Prelude.{◌≡◌, ◌⊎◌, ℕ, ◌<◌, List, [], ◌++◌, Option, Result, Ok, Err, IfErr}
+use Rattle.std.specs.Prelude.{◌≡◌, ◌⊎◌, ℕ, ◌<◌, ◌≤◌, List, [], ◌++◌, length, Option, Result, Ok, Err, IfErr}
 use Rattle.sm_world.specs.Outside.{Outside, Rose}
 use Rattle.sm_world.specs.declared.effects.Effect.{Effect}
+use Rattle.checkpoint_records.specs.Books.{choose}
+use Rattle.checkpoint_records.specs.Rules.{KeepsRules}
 use Rattle.checkpoint_records.specs.declared.records.Book.{Book}
 use Rattle.checkpoint_slots.specs.Causes.{IsSettled}
 use Rattle.checkpoint_slots.specs.Layout.{store_size}
@@ -41,20 +43,23 @@ pub record Opened (config : Config) (turns : ℕ) (agent : Run Keeper) (old new 
   pub book : Book
   pub current : Option Current
   pub recovered : IsRecovered old book current
+  pub called : book.name ≡ config.session
   pub size : new.size ≡ store_size
   pub below : book.epoch < 4294967295
+  pub few : length book.others ≤ 7
+  pub rules : KeepsRules book
   -- The inner session is the session machine's, the outer connection the agent's script, and what was told as saved is on the disk.
   pub weaves : Weaves config turns agent greeting old answer book current effects
 
 abbrev pub OpensOr : Config → ℕ → Run Keeper → Outside → Outside → Result (Unit {0}) ServeFault → List Effect → Type 0
 OpensOr config turns agent old new (Ok x) effects = Opened config turns agent old new (Ok x) effects
-OpensOr config turns agent old new (Err fault) effects = Unopened old new fault effects ⊎ Opened config turns agent old new (Err fault) effects
+OpensOr config turns agent old new (Err fault) effects = Unopened config old new fault effects ⊎ Opened config turns agent old new (Err fault) effects
 
 -- The session ended with this answer, and these are its own effects. The store is that of the world when the call began.
 pub record IsSession (config : Config) (turns : ℕ) (agent : Run Keeper) (old new : Outside) (answer : Result (Unit {0}) ServeFault) (effects : List Effect) : Type 0 where
   pub serves : OpensOr config turns agent old new answer effects
   -- at every point of it each file that a crash could leave has a whole checkpoint of the inner session, and the last one wherever a save was told to have succeeded, where no byte of the store was in doubt
-  pub headline : (file : List ℕ) (book : Book) → IsSettled old file → Recovers file (Ok book) → NestKeepsItsWord config book file agent greeting answer effects
+  pub headline : (file : List ℕ) (stored : Book) → IsSettled old file → Recovers file (Ok stored) → NestKeepsItsWord config (choose config.session stored) file agent greeting answer effects
   -- a device ended it only where its count rose
   pub cause : IfErr answer (HasCause old.faults new.faults)
 

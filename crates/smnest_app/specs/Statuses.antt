@@ -8,7 +8,7 @@ use Rattle.sm_world.specs.declared.effects.Effect.{Effect}
 use Rattle.sm_world.specs.declared.events.Event.{Event}
 use Rattle.smd_app.specs.Rehearsals.{script_of}
 use Rattle.smd_app.specs.declared.fault.Fault.{Fault as SessionFault}
-use Rattle.smd_app.specs.declared.fault.Fault.TheVariants.{BadWords, Damaged, WrongSize, Disk, Links, Console, BadLine, Worn, Spent, NoMemory}
+use Rattle.smd_app.specs.declared.fault.Fault.TheVariants.{BadWords, Damaged, WrongSize, TooManySessions, Disk, Links, Console, BadLine, Worn, Spent, NoMemory}
 use Rattle.smd_app.specs.declared.identity.Identity.{Identity}
 use Rattle.smnest_app.specs.FaultLines.{Ending, fault_line, fault_status}
 use Rattle.smnest_app.specs.Rehearsals.{Finishes, Outlasts, first_trace, whole_trace}
@@ -34,6 +34,7 @@ module _ (words : List (List ℕ)) (id : List ℕ) where
   HasFailed before after bytes turns texts BadWords = ⊥
   HasFailed before after bytes turns texts (Damaged at) = ⊥
   HasFailed before after bytes turns texts (WrongSize size) = ⊥
+  HasFailed before after bytes turns texts TooManySessions = ⊥
   HasFailed before after bytes turns texts Disk = ⊥
   HasFailed before after bytes turns texts Links = ⊥
   HasFailed before after bytes turns texts Worn = ⊥

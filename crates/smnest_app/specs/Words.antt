@@ -1,10 +1,10 @@
 -- What the words of `smnest` mean.
 use Rattle.std.specs.Prelude.{◌≡◌, ◌==◌, ◌&&◌, ◌+◌, ℕ, Bool, true, not, nat_le, List, [], ◌∷◌, codes, drop, length, Option, None, Some}
-use Rattle.std.specs.Fmt.{decimal}
 use Rattle.std.specs.List.{list_all}
 use Rattle.outer_agent.specs.Words.{AreFew}
-use Rattle.smd_app.specs.Words.{IsPatience, Places}
-use Rattle.word_pairs.specs.Words.{HasPath, pairs_of, value_in}
+use Rattle.checkpoint_records.specs.Books.{default_name}
+use Rattle.smd_app.specs.Words.{HavePaths, IsPatienceOf, Places, places_of as own_places}
+use Rattle.word_pairs.specs.Words.{HasPath, option_in, options_of, words_taken}
 use Rattle.smnest_app.specs.declared.words.NestPaths.{NestPaths}
 
 -- what the words of a session inside another name: the paths and the patience of the session itself, the outer manager's socket, the file with the outer cookie, and the ID of an earlier session, or an empty one
@@ -17,7 +17,7 @@ pub record NestPlaces : Type 0 where
 -- the same as values of the program
 abbrev pub places_of : NestPaths → NestPlaces
 places_of paths = record {
-  own = record { socket = paths.own.socket.now; control = paths.own.control.now; store = paths.own.store.now; authority = paths.own.authority.now; patience = paths.own.patience };
+  own = own_places paths.own;
   outer = paths.outer.now;
   authority = paths.authority.now;
   id = paths.id.now;
@@ -36,40 +36,18 @@ is_id_byte b = nat_le 33 b && nat_le b 126
 abbrev pub is_id : List ℕ → Bool
 is_id id = not (length id == 0) && (nat_le (length id) 512 && list_all is_id_byte id)
 
--- the pairs of words behind the first
-abbrev pub options_of : List (List ℕ) → List (List ℕ × List ℕ)
-options_of words = pairs_of (drop 1 words)
-
-abbrev pub option_in : List (List ℕ) → List ℕ → Option (List ℕ)
-option_in words name = value_in (options_of words) name
-
--- an option that is named takes two words
-abbrev pub words_taken : Option (List ℕ) → ℕ
-words_taken None = 0
-words_taken (Some value) = 2
-
--- a patience that isn't named is 0
-abbrev pub IsPatienceOf : Option (List ℕ) → ℕ → Type 0
-IsPatienceOf None patience = patience ≡ 0
-IsPatienceOf (Some word) patience = IsPatience patience × (word ≡ decimal patience)
-
 -- an ID that isn't named is empty
 abbrev pub IsIdOf : Option (List ℕ) → List ℕ → Type 0
 IsIdOf None id = id ≡ []
 IsIdOf (Some word) id = (is_id word ≡ true) × (id ≡ word)
 
--- The pairs have the paths of the session itself, with this patience.
-pub record HaveOwn (words : List (List ℕ)) (own : Places) : Type 0 where
-  pub socket : HasPath (options_of words) (codes "--socket") own.socket
-  pub control : HasPath (options_of words) (codes "--control") own.control
-  pub store : HasPath (options_of words) (codes "--store") own.store
-  pub authority : HasPath (options_of words) (codes "--authority") own.authority
-
 -- `serve`, and six to eight pairs of words behind it, in any order: one with each of six names, and one with that of the patience and one with that of the ID, where there are such. So each name stands once.
 pub record AreServe (words : List (List ℕ)) (places : NestPlaces) : Type 0 where
   pub begins : words ≡ codes "serve" ∷ drop 1 words
   pub count : length words ≡ 13 + (words_taken (option_in words (codes "--patience")) + words_taken (option_in words (codes "--outer-id")))
-  pub own : HaveOwn words places.own
+  pub own : HavePaths words places.own
+  -- the session itself is the one that is meant where none is named
+  pub session : places.own.session ≡ default_name
   pub outer : HasPath (options_of words) (codes "--outer") places.outer
   pub outer_authority : HasPath (options_of words) (codes "--outer-authority") places.authority
   pub patience : IsPatienceOf (option_in words (codes "--patience")) places.own.patience

@@ -79,6 +79,7 @@ fn report_session<W: Console>(fault: SessionFault, alloc: Global, world: &mut W)
         SessionFault::Worn => try_line(world, b"smnest: store worn\n"),
         SessionFault::Spent => try_line(world, b"smnest: turns spent\n"),
         SessionFault::NoMemory => try_line(world, b"smnest: no memory\n"),
+        SessionFault::TooManySessions => try_line(world, b"smnest: too many sessions\n"),
     }
 }
 

@@ -8,7 +8,7 @@ use ice_values::Array8;
 use nested_session::serve_nested;
 use outer_agent::Agent;
 use owned_lists::{NoMemory, Octets, OctetsList};
-use session_engine::{Config, ServeFault};
+use session_engine::{ServeFault, config_of_default};
 use session_in_memory::{REHEARSAL_COOKIE, blank_store};
 use sm_world::{EventList, SteadyWorld};
 use smd_app::Rehearsal;
@@ -35,10 +35,7 @@ pub fn run_in_memory(
         Ok(begun) => begun,
         Err(NoMemory) => return Err(NoMemory),
     };
-    let config = Config {
-        cookie: REHEARSAL_COOKIE,
-        patience: 0,
-    };
+    let config = config_of_default(alloc, REHEARSAL_COOKIE, 0)?;
     let finished = match serve_nested(alloc, &mut world, config, agent, first, turns) {
         Ok(()) => true,
         Err(ServeFault::Spent) => false,
@@ -49,6 +46,7 @@ pub fn run_in_memory(
         Err(ServeFault::Worn) => return Err(NoMemory),
         Err(ServeFault::WrongSize { .. }) => unreachable!(),
         Err(ServeFault::Damaged { .. }) => unreachable!(),
+        Err(ServeFault::TooManySessions) => unreachable!(),
         Err(ServeFault::LinkFault) => unreachable!(),
         Err(ServeFault::ConsoleFault) => unreachable!(),
     };

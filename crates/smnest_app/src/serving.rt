@@ -1,5 +1,6 @@
 ghost use Rattle.std.specs.Prelude.{◌≡◌, ◌≤◌, length, IfErr, IfOk, OnOk};
 ghost use Rattle.sm_world.specs.Outside.{Added, NotFallen, adds};
+ghost use Rattle.checkpoint_records.specs.Rules.{IsName};
 ghost use Rattle.outer_agent.specs.Standing.{start_stand};
 ghost use Rattle.outer_agent.specs.Words.{AreFew};
 ghost use Rattle.smclient_app.specs.Entries.{HasCookie};
@@ -17,10 +18,9 @@ use nested_session::serve_nested;
 use outer_agent::Agent;
 use outer_world::Outer;
 use owned_lists::{NoMemory, Octets, OctetsList};
-use session_engine::Config;
 use sm_world::{Console, Disk, Links, Spawner};
 use smclient_app::{EntryRefusal, read_cookie};
-use smd_app::{Fault as SessionFault, Identity, announce, hand_out};
+use smd_app::{Fault as SessionFault, Identity, announce, config_for, hand_out};
 use std::alloc::Global;
 
 /// Fetches the file with the outer cookie and finds that in it.
@@ -104,6 +104,7 @@ pub fn serve_inside<W: Disk + Links + Spawner + Console + Outer>(
 ) -> Result<(), Fault>
     requires host { length identity.now.host ≤ 255 }
     requires socket { length paths.now.own.socket.now ≤ 4096 }
+    requires session { IsName paths.now.own.session.now }
     requires id { length paths.now.id.now ≤ 512 }
     requires few { AreFew words }
     ensures runs { Added (W.outside world.old).told (W.outside world.new).told
@@ -123,9 +124,9 @@ pub fn serve_inside<W: Disk + Links + Spawner + Console + Outer>(
         Ok(begun) => begun,
         Err(NoMemory) => return Err(Fault::Session(SessionFault::NoMemory)),
     };
-    let config = Config {
-        cookie: identity.cookie,
-        patience: paths.own.patience,
+    let config = match config_for(alloc, identity, &paths.own) {
+        Ok(config) => config,
+        Err(NoMemory) => return Err(Fault::Session(SessionFault::NoMemory)),
     };
     match serve_nested(alloc, world, config, agent, first, turns) {
         Ok(()) => Ok(()),

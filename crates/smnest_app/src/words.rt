@@ -1,12 +1,13 @@
 ghost use Rattle.std.specs.Prelude.{◌≡◌, ◌↔◌, ◌≤◌, ◌∷◌, ◌+◌, ℕ, List, IsTrue, IfOk, MatchOption, codes, drop, length, map, string_bytes};
 ghost use Rattle.std.specs.List.{list_all};
-ghost use Rattle.smd_app.specs.Words.{Places as OwnPlaces};
-ghost use Rattle.smnest_app.specs.Words.{AreRehearse, AreServe, HaveOwn, IsIdOf, IsPatienceOf, NestPlaces, is_id as is_id_spec, is_id_byte as is_id_byte_spec, option_in, places_of as places_by, words_taken};
+ghost use Rattle.word_pairs.specs.Words.{option_in, words_taken};
+ghost use Rattle.smd_app.specs.Words.{IsPatienceOf};
+ghost use Rattle.smnest_app.specs.Words.{AreRehearse, AreServe, IsIdOf, NestPlaces, is_id as is_id_spec, is_id_byte as is_id_byte_spec, places_of as places_by};
 
 use owned_lists::{NoMemory, Octets, OctetsList};
-use smd_app::{Paths, read_patience};
+use smd_app::{Paths, paths_of, patience_of};
 use std::alloc::Global;
-use word_pairs::{is_word, path_of, value_of};
+use word_pairs::{begin_with, path_of, value_of, words_of_option};
 
 /// The most bytes of an ID.
 const ID_LIMIT: usize = 512;
@@ -68,52 +69,6 @@ fn id_of(words: &[String]) -> Option<&str>
     }
 }
 
-/// The patience that the words name, or 0 where they name none.
-fn patience_of(alloc: Global, words: &[String]) -> Result<Option<u64>, NoMemory>
-    ensures { IfOk result (λ found. MatchOption found
-        ((patience : ℕ) → ¬ (IsPatienceOf (option_in (map string_bytes words.now) (codes "--patience")) patience))
-        (IsPatienceOf (option_in (map string_bytes words.now) (codes "--patience")))) }
-{
-    match value_of(words, "--patience") {
-        Some(word) => read_patience(alloc, word),
-        None => Ok(Some(0)),
-    }
-}
-
-/// How many words an option takes: two where it is named, and else none.
-fn words_of_option(words: &[String], name: &str) -> usize
-    ensures count { result ≡ words_taken (option_in (map string_bytes words.now) name.now) }
-    ensures few { result ≤ 2 }
-{
-    match value_of(words, name) {
-        Some(_) => 2,
-        None => 0,
-    }
-}
-
-/// Whether this is the first word.
-fn begin_with(words: &[String], first: &str) -> bool
-    ensures { IsTrue result ↔ (map string_bytes words.now ≡ first.now ∷ drop 1
-        (map string_bytes words.now)) }
-{
-    !words.is_empty() && is_word(words, 0, first)
-}
-
-/// The paths that the words name for the session itself, with this patience.
-fn own_paths(words: &[String], patience: u64) -> Option<Paths<'_>>
-    ensures { MatchOption result
-        ((own : OwnPlaces) → ¬ (HaveOwn (map string_bytes words.now) own))
-        (λ paths. HaveOwn (map string_bytes words.now) (record { socket = paths.socket.now; control = paths.control.now; store = paths.store.now; authority = paths.authority.now; patience = paths.patience }) × (paths.patience ≡ patience)) }
-{
-    Some(Paths {
-        socket: path_of(words, "--socket")?,
-        control: path_of(words, "--control")?,
-        store: path_of(words, "--store")?,
-        authority: path_of(words, "--authority")?,
-        patience,
-    })
-}
-
 /// What the words name, with this patience, where so many of them stand behind the right first one.
 fn places_of(words: &[String], patience: u64) -> Option<NestPaths<'_>>
     requires begins { map string_bytes words.now ≡ codes "serve" ∷ drop 1
@@ -128,7 +83,7 @@ fn places_of(words: &[String], patience: u64) -> Option<NestPaths<'_>>
         (λ paths. AreServe (map string_bytes words.now) (places_by paths)) }
 {
     Some(NestPaths {
-        own: own_paths(words, patience)?,
+        own: paths_of(words, patience, "default")?,
         outer: path_of(words, "--outer")?,
         authority: path_of(words, "--outer-authority")?,
         id: id_of(words)?,

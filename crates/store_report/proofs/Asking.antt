@@ -2,7 +2,7 @@
 use Rattle.std.proofs.Common.{◌≡◌, ℕ, true, false, List, [], ◌∷◌, length, get_or, refl, sym, ◌∙◌, ap, arith, codes}
 use Rattle.std.specs.Str.{bytes_eq}
 use Rattle.std.proofs.lemmas.Slice.Eq.{bytes_eq-Decides}
-use Rattle.store_report.specs.Words.{check_words}
+use Rattle.store_report.specs.Words.{check_words, sessions_words}
 
 same_word : (xs ys : List ℕ) → bytes_eq xs ys ≡ true → xs ≡ ys
 same_word xs ys e = (bytes_eq-Decides xs ys).0 e
@@ -32,3 +32,8 @@ pub are_four : (ws : List (List ℕ)) (store : List ℕ) → length ws ≡ 4 →
 are_four ws store size first second fourth third =
     four ws size ∙ (ap (λ w. w ∷ get_or ws 1 [] ∷ get_or ws 2 [] ∷ get_or ws 3 [] ∷ []) (same_word _ _ first) ∙ (ap (λ w. codes "store-check" ∷ w ∷ get_or ws 2 [] ∷ get_or ws 3 [] ∷ []) (same_word _ _ second)
     ∙ (ap (λ w. codes "store-check" ∷ codes "--store" ∷ w ∷ get_or ws 3 [] ∷ []) (sym third) ∙ ap (λ w. codes "store-check" ∷ codes "--store" ∷ store ∷ w ∷ []) (same_word _ _ fourth))))
+
+pub are_sessions : (ws : List (List ℕ)) (store : List ℕ) → length ws ≡ 3 → bytes_eq (get_or ws 0 []) (codes "sessions") ≡ true → bytes_eq (get_or ws 1 []) (codes "--store") ≡ true → store ≡ get_or ws 2 [] → ws ≡ sessions_words store
+are_sessions ws store size first second third =
+    three ws size ∙ (ap (λ w. w ∷ get_or ws 1 [] ∷ get_or ws 2 [] ∷ []) (same_word _ _ first) ∙ (ap (λ w. codes "sessions" ∷ w ∷ get_or ws 2 [] ∷ []) (same_word _ _ second)
+    ∙ ap (λ w. codes "sessions" ∷ codes "--store" ∷ w ∷ []) (sym third)))

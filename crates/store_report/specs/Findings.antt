@@ -1,5 +1,6 @@
 -- What the bytes of a store's file stand for.
 use Rattle.std.specs.Prelude.{◌≡◌, ◌≢◌, ℕ, List, length, Ok, Err}
+use Rattle.checkpoint_records.specs.Books.{default_name}
 use Rattle.checkpoint_records.specs.Rules.{KeepsRules}
 use Rattle.checkpoint_slots.specs.Recovery.{Recovers}
 use Rattle.store_report.specs.declared.finding.Finding.{Finding}
@@ -12,8 +13,8 @@ StandsFor file (Opens book) = (length file ≡ store_size) × Recovers file (Ok 
 StandsFor file (Damaged at) = (length file ≡ store_size) × Recovers file (Err at)
 StandsFor file (WrongSize size) = (size ≡ length file) × (size ≢ store_size)
 
--- A book that opens keeps the rules of books.
+-- A book that opens keeps the rules of books, and the session is chosen in it that is called where no name is said.
 abbrev pub OpensByRules : Finding → Type 0
-OpensByRules (Opens book) = KeepsRules book
+OpensByRules (Opens book) = KeepsRules book × (book.name ≡ default_name)
 OpensByRules (Damaged at) = Unit {0}
 OpensByRules (WrongSize size) = Unit {0}

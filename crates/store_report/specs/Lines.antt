@@ -9,6 +9,7 @@ use Rattle.xsmp_properties.specs.declared.hints.Hint.{Hint}
 use Rattle.xsmp_properties.specs.declared.hints.Hint.TheVariants.{IfRunning, Anyway, Immediately, Never}
 use Rattle.checkpoint_records.specs.declared.records.Book.{Book}
 use Rattle.checkpoint_records.specs.declared.records.Entry.{Entry}
+use Rattle.checkpoint_records.specs.declared.records.Named.{Named}
 use Rattle.restart_plan.specs.Restarts.{opening_restarts}
 use Rattle.store_report.specs.Shown.{word_text, words_text}
 use Rattle.store_report.specs.declared.finding.Finding.{Finding}
@@ -51,8 +52,13 @@ unfoldable pub counts_line : Book → List ℕ
 counts_line book =
     codes "store opens: epoch " ++ decimal book.epoch ++ codes ", entries " ++ decimal (length book.entries) ++ codes ", starts " ++ decimal (length (opening_restarts book.entries)) ++ codes ", pending " ++ decimal (length book.pending) ++ 10 ∷ []
 
+-- another session than the chosen one
+abbrev pub other_lines : Named → List ℕ
+other_lines session = named_line (codes "session") (session.name ∷ []) ++ flat_map entry_lines session.entries
+
 abbrev pub book_lines : Book → List ℕ
-book_lines book = counts_line book ++ (flat_map entry_lines book.entries ++ flat_map (λ command. named_line (codes "pending") command.words) book.pending)
+book_lines book =
+    counts_line book ++ (flat_map entry_lines book.entries ++ (flat_map other_lines book.others ++ flat_map (λ command. named_line (codes "pending") command.words) book.pending))
 
 -- a damage and another size have the lines of a session that doesn't start
 abbrev pub finding_lines : Finding → List ℕ
@@ -61,8 +67,11 @@ finding_lines (Damaged at) = codes "smd: store damaged at " ++ (decimal at ++ 10
 finding_lines (WrongSize size) = codes "smd: store has size " ++ (decimal size ++ 10 ∷ [])
 
 -- a store that a manager has is told as such
+abbrev pub living_line : Bool → List ℕ
+living_line living = if living then codes "store in use: a copy of a living store\n" else []
+
 abbrev pub report_lines : Bool → Finding → List ℕ
-report_lines living finding = (if living then codes "store in use: a copy of a living store\n" else []) ++ finding_lines finding
+report_lines living finding = living_line living ++ finding_lines finding
 
 -- as a session that doesn't start
 abbrev pub status_of : Finding → ℕ

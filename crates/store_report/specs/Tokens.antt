@@ -9,6 +9,7 @@ use Rattle.ice_values.specs.declared.property.Property.{Property}
 use Rattle.xsmp_properties.specs.Readers.{command_of, hint_of}
 use Rattle.checkpoint_records.specs.declared.records.Book.{Book}
 use Rattle.checkpoint_records.specs.declared.records.Entry.{Entry}
+use Rattle.checkpoint_records.specs.declared.records.Named.{Named}
 use Rattle.restart_plan.specs.Restarts.{opening_restarts}
 use Rattle.store_report.specs.Lines.{hint_text, program_of}
 use Rattle.store_report.specs.declared.finding.Finding.{Finding}
@@ -56,10 +57,15 @@ unfoldable pub entry_tokens : Entry → List Token
 entry_tokens entry =
     begin_object ∷ (names_tokens entry ++ (start_tokens entry ++ (key (codes "properties") ∷ (listed property_tokens entry.table ++ end_object ∷ []))))
 
+-- another session than the chosen one
+unfoldable pub other_tokens : Named → List Token
+other_tokens session =
+    begin_object ∷ key (codes "name") ∷ (bytes_tokens session.name ++ (key (codes "entries") ∷ (listed entry_tokens session.entries ++ end_object ∷ [])))
+
 abbrev pub book_tokens : Book → List Token
 book_tokens book =
     key (codes "epoch") ∷ number (decimal book.epoch) ∷ key (codes "starts") ∷ number (decimal (length (opening_restarts book.entries)))
-    ∷ key (codes "entries") ∷ (listed entry_tokens book.entries ++ (key (codes "pending") ∷ listed command_tokens book.pending))
+    ∷ key (codes "entries") ∷ (listed entry_tokens book.entries ++ (key (codes "others") ∷ (listed other_tokens book.others ++ (key (codes "pending") ∷ listed command_tokens book.pending))))
 
 abbrev pub finding_tokens : Finding → List Token
 finding_tokens (Opens book) = book_tokens book

@@ -4,12 +4,12 @@ ghost use Rattle.std.specs.List.{flat_map};
 ghost use Rattle.json.specs.Layout.{pretty};
 ghost use Rattle.json.specs.Reads.{token_of};
 ghost use Rattle.json.specs.Token.{Token as JsonToken, begin_array, begin_object, end_array, end_object, key, number, string};
-ghost use Rattle.store_report.specs.Tokens.{book_tokens, byte_number, bytes_tokens, command_tokens, entry_tokens, finding_tokens, if_any, listed, names_tokens, pair_tokens, property_tokens, report_tokens, start_tokens, call_tokens};
+ghost use Rattle.store_report.specs.Tokens.{book_tokens, byte_number, bytes_tokens, command_tokens, entry_tokens, finding_tokens, if_any, listed, names_tokens, other_tokens, pair_tokens, property_tokens, report_tokens, start_tokens, call_tokens};
 
 use crate::Finding;
 use crate::lines::{hint_text, program_of, starts_of};
 use crate::shown::is_utf8;
-use checkpoint_records::{Book, Entry, SharedEntries};
+use checkpoint_records::{Book, Entry, Named, SharedEntries};
 use ice_values::Property;
 use json::{Pretty, Token};
 use owned_lists::{Command, ListOf, NoMemory, Octets};
@@ -282,6 +282,18 @@ impl Shown for Entry {
     }
 }
 
+impl Shown for Named {
+    ghost tokens = { other_tokens };
+
+    #[tactic(auto, unfolding(crate::specs::Tokens::other_tokens))]
+    fn put(&self, alloc: Global, out: &mut Pretty) -> Result<(), NoMemory> {
+        begin_object(out)?;
+        put_member(alloc, out, "name", &self.name)?;
+        put_member(alloc, out, "entries", &self.entries)?;
+        end_object(out)
+    }
+}
+
 fn put_book(alloc: Global, out: &mut Pretty, book: &Book) -> Result<(), NoMemory>
     ensures { OnOk result (out.new ≡ out.old ++ book_tokens book.now) }
 {
@@ -289,6 +301,7 @@ fn put_book(alloc: Global, out: &mut Pretty, book: &Book) -> Result<(), NoMemory
     put_count(alloc, out, "epoch", book.epoch.into())?;
     put_count(alloc, out, "starts", starts)?;
     put_member(alloc, out, "entries", &book.entries)?;
+    put_member(alloc, out, "others", &book.others)?;
     put_member(alloc, out, "pending", &book.pending)?;
     Ok(())
 }

@@ -4,6 +4,7 @@
 mod finding;
 mod json_text;
 mod lines;
+mod sessions;
 mod shown;
 #[cfg(test)]
 mod tests;
@@ -12,4 +13,5 @@ mod words;
 pub use finding::{Finding, look_into};
 pub use json_text::report_json;
 pub use lines::report_lines;
-pub use words::{Check, read_check};
+pub use sessions::sessions_report;
+pub use words::{Check, read_check, read_sessions};

@@ -2,11 +2,11 @@ ghost use Rattle.std.specs.Prelude.{◌≡◌, ◌++◌, ◌∷◌, [], IfOk, On
 ghost use Rattle.std.specs.List.{flat_map};
 ghost use Rattle.restart_plan.specs.Restarts.{opening_restarts};
 ghost use Rattle.xsmp_properties.specs.Readers.{command_of as command_in};
-ghost use Rattle.store_report.specs.Lines.{book_lines, command_line, counts_line, entry_lines, finding_lines, hint_text, named_line, program_in, program_line, program_of, report_lines};
+ghost use Rattle.store_report.specs.Lines.{book_lines, command_line, counts_line, entry_lines, finding_lines, hint_text, living_line, named_line, other_lines, program_in, program_line, program_of, report_lines};
 
 use crate::Finding;
 use crate::shown::put_words;
-use checkpoint_records::{Book, Entry};
+use checkpoint_records::{Book, Entry, Named};
 use owned_lists::{Command, NoMemory, Octets};
 use restart_plan::plan;
 use std::alloc::Global;
@@ -47,7 +47,12 @@ pub(crate) fn program_of(table: &PropertyTable) -> Option<&Octets>
 }
 
 /// Appends a line: a name, and words behind it.
-fn put_line(alloc: Global, out: &mut Octets, name: &[u8], words: &[Octets]) -> Result<(), NoMemory>
+pub(crate) fn put_line(
+    alloc: Global,
+    out: &mut Octets,
+    name: &[u8],
+    words: &[Octets],
+) -> Result<(), NoMemory>
     ensures { OnOk result (out.new ≡ out.old ++ named_line name.now words.now) }
 {
     out.append(name)?;
@@ -103,6 +108,23 @@ fn put_entries(alloc: Global, out: &mut Octets, entries: &[Entry]) -> Result<(),
 {
     for entry in entries {
         put_entry(alloc, out, entry)?;
+    }
+    Ok(())
+}
+
+/// Appends the lines of another session than the chosen one.
+fn put_other(alloc: Global, out: &mut Octets, session: &Named) -> Result<(), NoMemory>
+    ensures { OnOk result (out.new ≡ out.old ++ other_lines session.now) }
+{
+    put_line(alloc, out, b"session", slice::from_ref(&session.name))?;
+    put_entries(alloc, out, session.entries.as_slice())
+}
+
+fn put_others(alloc: Global, out: &mut Octets, others: &[Named]) -> Result<(), NoMemory>
+    ensures { OnOk result (out.new ≡ out.old ++ flat_map other_lines others.now) }
+{
+    for session in others {
+        put_other(alloc, out, session)?;
     }
     Ok(())
 }
@@ -165,10 +187,15 @@ fn put_book(alloc: Global, out: &mut Octets, book: &Book) -> Result<(), NoMemory
     let counts = counts_of(alloc, book)?;
     out.append(counts.as_slice())?;
     put_entries(alloc, out, book.entries.as_slice())?;
+    put_others(alloc, out, book.others.as_slice())?;
     put_pending(alloc, out, book.pending.as_slice())
 }
 
-fn put_finding(alloc: Global, out: &mut Octets, finding: &Finding) -> Result<(), NoMemory>
+pub(crate) fn put_finding(
+    alloc: Global,
+    out: &mut Octets,
+    finding: &Finding,
+) -> Result<(), NoMemory>
     ensures { OnOk result (out.new ≡ out.old ++ finding_lines finding.now) }
 {
     match finding {
@@ -184,15 +211,24 @@ fn put_finding(alloc: Global, out: &mut Octets, finding: &Finding) -> Result<(),
     }
 }
 
-/// What was found in a store, line by line: its counts, what is kept of each client, and the
-/// commands that are pending. `is_living` tells that a manager has the store.
+/// Appends the line of a store that a manager has.
+pub(crate) fn put_living(out: &mut Octets, is_living: bool) -> Result<(), NoMemory>
+    ensures { OnOk result (out.new ≡ out.old ++ living_line is_living) }
+{
+    if is_living {
+        out.append(b"store in use: a copy of a living store\n")?;
+    }
+    Ok(())
+}
+
+/// What was found in a store, line by line: its counts, what is kept of each client of the session
+/// `default`, the other sessions with what is kept of theirs, and the commands that are pending.
+/// `is_living` tells that a manager has the store.
 pub fn report_lines(alloc: Global, finding: &Finding, is_living: bool) -> Result<Octets, NoMemory>
     ensures { IfOk result (λ text. text ≡ report_lines is_living finding.now) }
 {
     let mut out = Octets::new(alloc);
-    if is_living {
-        out.append(b"store in use: a copy of a living store\n")?;
-    }
+    put_living(&mut out, is_living)?;
     put_finding(alloc, &mut out, finding)?;
     Ok(out)
 }

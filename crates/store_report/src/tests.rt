@@ -1,6 +1,8 @@
 //! Each call once: what a book and a store of another size are told as, and the words.
 
-use crate::{Finding, look_into, read_check, report_json, report_lines};
+use crate::{
+    Finding, look_into, read_check, read_sessions, report_json, report_lines, sessions_report,
+};
 use checkpoint_records::{Book, read_book};
 use owned_lists::Octets;
 use std::alloc::{Alloc, Global};
@@ -35,7 +37,24 @@ const LINES: &str = "\
 
 const EMPTY: &str =
     "{\n  \"living\": true,\n  \"epoch\": 0,\n  \"starts\": 0,\n  \"entries\": [],\n  \
-    \"pending\": []\n}";
+    \"others\": [],\n  \"pending\": []\n}";
+
+/// A book of two sessions: one whose name has a quotation mark, with an entry, and `default` with two
+/// that start programs.
+const SESSIONS: &str = "\
+    020000000100000002000000000000000300000061226200010000000000000015000000736d642d30303030\
+    303030312d30303030303030330000000000000000000000000000000700000064656661756c740000000000\
+    020000000000000015000000736d642d30303030303030312d30303030303030310000000000000001000000\
+    000000000e00000052657374617274436f6d6d616e640000000000000c0000004c4953546f66415252415938\
+    020000000000000005000000787465726d00000000000000020000002d65000015000000736d642d30303030\
+    303030312d30303030303030320000000000000001000000000000000e00000052657374617274436f6d6d61\
+    6e640000000000000c0000004c4953546f6641525241593801000000000000000900000074776f20776f7264\
+    73000000";
+
+const SESSION_LINES: &str = "\
+    store in use: a copy of a living store\n\
+    session \"a\\x22b\" entries 1 starts\n\
+    session default entries 2 starts xterm \"two words\"\n";
 
 fn expect_text(rt: &impl Abort, text: &Octets, wanted: &str) -> Result<(), Fail> {
     assert_eq!(rt; str::from_utf8(text.as_slice()), Ok(wanted));
@@ -90,5 +109,25 @@ fn the_words_ask_for_lines_or_json(rt: HostRuntime) -> Result<(), Fail> {
     assert_eq!(rt; read_check(&words).map(|check| check.is_json), Some(true));
     words.push("more".to_string(alloc)?)?;
     assert_eq!(rt; read_check(&words).is_none(), true);
+    Ok(())
+}
+
+#[test]
+fn sessions_are_listed(rt: HostRuntime) -> Result<(), Fail> {
+    let alloc = rt.alloc();
+    let finding = Finding::Opens(book_of(alloc, SESSIONS)?);
+    let text = sessions_report(alloc, &finding, true)?;
+    expect_text(&rt, &text, SESSION_LINES)
+}
+
+#[test]
+fn the_words_ask_for_sessions(rt: HostRuntime) -> Result<(), Fail> {
+    let alloc = rt.alloc();
+    let mut words = Vec::new(alloc);
+    words.push("sessions".to_string(alloc)?)?;
+    words.push("--store".to_string(alloc)?)?;
+    assert_eq!(rt; read_sessions(&words), None);
+    words.push("f".to_string(alloc)?)?;
+    assert_eq!(rt; read_sessions(&words), Some("f"));
     Ok(())
 }

@@ -1,6 +1,6 @@
 ghost use Rattle.std.specs.Prelude.{◌≡◌, ◌≢◌, ◌<◌, ℕ, List, [], Bool, get_or, length, map, string_bytes, MatchOption};
 ghost use Rattle.std.specs.Str.{bytes_eq};
-ghost use Rattle.store_report.specs.Words.{check_words};
+ghost use Rattle.store_report.specs.Words.{check_words, sessions_words};
 
 /// What is asked of a store.
 #[derive(Clone, Copy, Debug)]
@@ -57,4 +57,17 @@ pub fn read_check(words: &[String]) -> Option<Check<'_>>
         store,
         is_json: true,
     })
+}
+
+/// The path of the store whose sessions the words ask for, where they are `sessions`, `--store` and
+/// this path.
+pub fn read_sessions(words: &[String]) -> Option<&str>
+    ensures { MatchOption result ((store : List ℕ) →
+        map string_bytes words.now ≢ sessions_words store) (λ store.
+        map string_bytes words.now ≡ sessions_words store.now) }
+{
+    if words.len() != 3 || !is_word(words, 0, "sessions") || !is_word(words, 1, "--store") {
+        return None;
+    }
+    Some(store_of(words))
 }

@@ -1,7 +1,10 @@
 //! Books written down by hand. Words have a bar behind each.
 
 use crate::table::{expect_rows, text_of};
-use checkpoint_records::{Book, Entry, EntryList, SharedEntries, copy_book, names, same_command};
+use checkpoint_records::{
+    Book, Entry, EntryList, Named, NamedList, SharedEntries, copy_book, default_name, names,
+    same_command,
+};
 use ice_values::{Array8List, Property, PropertyList};
 use owned_lists::{Command, CommandList, NoMemory, Octets, OctetsList, PairList};
 use std::alloc::{Alloc, Global};
@@ -50,7 +53,17 @@ fn entry(alloc: Global, id: &str, name: &str, text: &str) -> Result<Entry, Fail>
     })
 }
 
-/// A copy of a book of two clients, of which the second has a DiscardCommand.
+/// A session of one client, which has a DiscardCommand.
+fn another(alloc: Global) -> Result<Named, Fail> {
+    let mut entries = EntryList::new(alloc);
+    entries.push(entry(alloc, "three", "DiscardCommand", "rm|d|")?)?;
+    Ok(Named {
+        name: Octets::from_slice(alloc, b"work")?,
+        entries: SharedEntries::new(alloc, entries)?,
+    })
+}
+
+/// A copy of a book of two clients, of which the second has a DiscardCommand, and of another session.
 fn example(alloc: Global) -> Result<Book, Fail> {
     let first = entry(alloc, "one", "RestartCommand", "rm|a|")?;
     let second = entry(alloc, "two", "DiscardCommand", "rm|b|")?;
@@ -59,19 +72,24 @@ fn example(alloc: Global) -> Result<Book, Fail> {
     entries.push(second)?;
     let mut pending = CommandList::new(alloc);
     pending.push(command(alloc, "rm|c| ")?)?;
+    let mut others = NamedList::new(alloc);
+    others.push(another(alloc)?)?;
     let book = Book {
         entries: SharedEntries::new(alloc, entries)?,
         pending,
         epoch: 7,
+        name: default_name(alloc)?,
+        others,
     };
     Ok(copy_book(&book)?)
 }
 
-/// How many entries and pending commands there are, and the epoch.
+/// How many entries and pending commands there are, the epoch, and how many other sessions there are.
 fn counts_shown(alloc: Global, book: &Book) -> Result<String, Fail> {
     let entries = book.entries.as_slice().len();
     let pending = book.pending.as_slice().len();
-    Ok(format!(in alloc; "{entries} {pending} {}", book.epoch)?)
+    let others = book.others.as_slice().len();
+    Ok(format!(in alloc; "{entries} {pending} {} {others}", book.epoch)?)
 }
 
 fn empty_shown(alloc: Global, _input: &str) -> Result<String, Fail> {
@@ -84,8 +102,8 @@ fn copy_shown(alloc: Global, _input: &str) -> Result<String, Fail> {
 
 #[test]
 fn a_copy_has_all_of_a_book(rt: HostRuntime) -> Result<(), Fail> {
-    expect_rows(&rt, " => 0 0 0", empty_shown)?;
-    expect_rows(&rt, " => 2 1 7", copy_shown)
+    expect_rows(&rt, " => 0 0 0 0", empty_shown)?;
+    expect_rows(&rt, " => 2 1 7 1", copy_shown)
 }
 
 /// Whether the example names a command.
@@ -97,6 +115,7 @@ fn named_shown(alloc: Global, input: &str) -> Result<String, Fail> {
 const NAMED: &str = "\
 rm|b|  => true
 rm|b| /home => true
+rm|d|  => true
 rm|a|  => false
 rm|c|  => false
 rm|  => false

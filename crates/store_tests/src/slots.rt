@@ -1,7 +1,8 @@
 //! The store over a world in memory: what a commit writes, what a crash leaves of it after each
 //! effect, and each call of the disk failing in turn.
 
-ghost use Rattle.std.specs.Prelude.{IfOk};
+ghost use Rattle.std.specs.Prelude.{◌≡◌, IfOk};
+ghost use Rattle.checkpoint_records.specs.Books.{default_name};
 ghost use Rattle.checkpoint_records.specs.Rules.{KeepsRules};
 
 use crate::table::{bytes_of, expect_rows, text_of};
@@ -71,7 +72,7 @@ pub fn world_of(alloc: Global, store: Octets, failing: &[u64]) -> Result<MemWorl
 
 /// A book without entries, of an epoch below 256.
 pub fn book_of(alloc: Global, epoch: u8) -> Result<Book, BookRefusal>
-    ensures { IfOk result (λ book. KeepsRules book) }
+    ensures { IfOk result (λ book. KeepsRules book × (book.name ≡ default_name)) }
 {
     read_book(alloc, &[1, 0, 0, 0, epoch, 0, 0, 0, 0, 0, 0, 0, 0, 0, 0, 0])
 }
@@ -155,10 +156,11 @@ fn commit_shown(alloc: Global, _input: &str) -> Result<String, Fail> {
     committed(alloc, &mut world)
 }
 
-/// The slot of the first commit has the generation 1, sixteen bytes of book, the book of epoch 1, zeros.
+/// The slot of the first commit has the generation 1, sixteen bytes of book, the book of epoch 1 in
+/// format 2, and zeros.
 const COMMITTED: &str = " => [Wrote(0, Octets { bytes: [0] }), Synced, \
     Wrote(64, Octets { bytes: [1, 0, 0, 0, 0, 0, 0, 0, 16, 0, 0, 0, 0, 0, 0, 0, \
-    1, 0, 0, 0, 1, 0, 0, 0, 0, 0, 0, 0, 0, 0, 0, 0, 0, 0, 0, 0, 0, 0, 0, 0] }), Synced, \
+    2, 0, 0, 0, 1, 0, 0, 0, 0, 0, 0, 0, 0, 0, 0, 0, 0, 0, 0, 0, 0, 0, 0, 0] }), Synced, \
     Wrote(0, Octets { bytes: [165] }), Synced]";
 
 #[test]
@@ -213,13 +215,15 @@ fn recovered_shown(alloc: Global, parts: &str) -> Result<String, Fail> {
 }
 
 /// A book that isn't there, a length that is none, an amendment that is none, two slots of one
-/// generation, and a blank store.
+/// generation, a blank store, and a book of each format.
 const RECOVERED: &str = "\
 0 a5 => Err(Damaged { at: 80 })
 0 a5, 72 09 => Err(Damaged { at: 72 })
 0 a5, 64 01000000000000001000000000000000010000000100000000000000000000000000000000000000, 96 a501 => Err(Damaged { at: 96 })
 0 a5, 32 a5 => Err(Damaged { at: 64 })
-0 00 => Ok(0)";
+0 00 => Ok(0)
+0 a5, 64 01000000000000001000000000000000010000000300000000000000000000000000000000000000 => Ok(3)
+0 a5, 64 01000000000000001000000000000000020000000300000000000000000000000000000000000000 => Ok(3)";
 
 #[test]
 fn a_store_is_damaged_at_its_place(rt: HostRuntime) -> Result<(), Fail> {
@@ -308,7 +312,7 @@ fn survived(alloc: Global, world: &mut MemWorld) -> Result<bool, Fail> {
 
 /// A store of epoch 1: an open gate, and the slot of the first commit.
 pub const FIRST_STORE: &str = "\
-    0 a5, 64 01000000000000001000000000000000010000000100000000000000000000000000000000000000";
+    0 a5, 64 01000000000000001000000000000000020000000100000000000000000000000000000000000000";
 
 /// The same while the call of a number fails.
 fn survived_shown(alloc: Global, number: &str) -> Result<String, Fail> {

@@ -6,7 +6,7 @@ use std::fs::{File, OpenOptions, TryLockError};
 use std::io::ErrorKind;
 use std::os::unix::fs::FileExt;
 use std::{fs, io};
-use store_report::{Check, Finding, look_into, report_json, report_lines};
+use store_report::{Check, Finding, look_into, report_json, report_lines, sessions_report};
 
 /// How often the store of a living manager is read again until it stays as it was read.
 const TRIES: u32 = 20;
@@ -127,6 +127,16 @@ fn report_on(rt: HostRuntime, check: Check<'_>) -> io::Result<Report> {
     })
 }
 
+fn sessions_in(rt: HostRuntime, path: &str) -> io::Result<Report> {
+    let reading = read_store(rt, path)?;
+    let finding = find(rt, reading.contents).map_err(no_memory)?;
+    let text = sessions_report(rt.alloc(), &finding, reading.is_living).map_err(no_memory)?;
+    Ok(Report {
+        text,
+        status: finding.status(),
+    })
+}
+
 /// Prints a text, and gives the status where that succeeds.
 fn printed(rt: HostRuntime, text: &[u8], status: u8) -> u8 {
     match StandardConsole::new(rt).print(text) {
@@ -136,19 +146,31 @@ fn printed(rt: HostRuntime, text: &[u8], status: u8) -> u8 {
     }
 }
 
-/// Prints what stands in a store. The answer is the program's status: that of a session over this
-/// store for one that is damaged, has another size or can't be read.
-pub fn check_store(rt: HostRuntime, check: Check<'_>) -> u8 {
-    match report_on(rt, check) {
+/// Prints a report on the store at a path, and gives the program's status.
+fn told(rt: HostRuntime, path: &str, report: io::Result<Report>) -> u8 {
+    match report {
         Ok(report) => printed(rt, report.text.as_slice(), report.status),
         Err(error) if error.kind() == ErrorKind::OutOfMemory => {
             printed(rt, b"smd: no memory\n", 10)
         }
         Err(error) => {
-            let _ = eprintln!(rt; "smd: cannot use {}: {error}", check.store);
+            let _ = eprintln!(rt; "smd: cannot use {path}: {error}");
             printed(rt, b"smd: disk fault\n", 4)
         }
     }
+}
+
+/// Prints what stands in a store. The answer is the program's status: that of a session over this
+/// store for one that is damaged, has another size or can't be read.
+pub fn check_store(rt: HostRuntime, check: Check<'_>) -> u8 {
+    let report = report_on(rt, check);
+    told(rt, check.store, report)
+}
+
+/// Prints the sessions of a store, a line each, and gives the same status.
+pub fn list_sessions(rt: HostRuntime, store: &str) -> u8 {
+    let report = sessions_in(rt, store);
+    told(rt, store, report)
 }
 
 /// The bytes of a store's file, and none where it has another size.

@@ -5,11 +5,12 @@ use crate::lanes::{Arrow, Lane, LaneEnd, Moment, Note, Round, Save};
 use crate::sketch::{Sketch, command_words};
 use crate::style::put_style;
 use crate::svg::{put_box, put_label, put_stroke, put_tag, put_text, put_title};
+use checkpoint_records::Book;
 use message_text::{put_number, put_plain};
 use owned_lists::{NoMemory, Octets};
 use std::alloc::Global;
 use trace_reading::put_stamp;
-use trace_replay::{Direction, LineReading, Opening, ShowAnswer, TraceLine, Watch, read_lines};
+use trace_replay::{Direction, LineReading, ShowAnswer, TraceLine, Watch, read_lines};
 
 /// How wide the column of the time is.
 const LEFT: u64 = 80;
@@ -359,12 +360,12 @@ fn picture(alloc: Global, sketch: &Sketch) -> Result<Octets, NoMemory> {
     Ok(out)
 }
 
-/// The sketch of lines behind this opening.
-fn sketched(alloc: Global, opening: &Opening, lines: &[TraceLine]) -> Result<Sketch, NoMemory> {
+/// The sketch of lines over the book that the session opened.
+fn sketched(alloc: Global, book: Option<&Book>, lines: &[TraceLine]) -> Result<Sketch, NoMemory> {
     let mut watch = Watch::new(alloc);
     let mut sketch = Sketch::new(alloc);
     for said in lines {
-        sketch.take(alloc, &mut watch, opening, said)?;
+        sketch.take(alloc, &mut watch, book, said)?;
     }
     Ok(sketch)
 }
@@ -375,7 +376,8 @@ pub fn draw_within(alloc: Global, trace: &[u8], limit: usize) -> Result<ShowAnsw
 {
     match read_lines(alloc, trace, limit)? {
         LineReading::Whole(opening, lines) => {
-            let sketch = sketched(alloc, &opening, lines.as_slice())?;
+            let book = opening.book_opened(alloc)?;
+            let sketch = sketched(alloc, book.as_ref(), lines.as_slice())?;
             let text = picture(alloc, &sketch)?;
             Ok(ShowAnswer::Text(text))
         }

@@ -13,7 +13,7 @@ use sm_world::{Conn, Event, Order};
 use std::alloc::Global;
 use std::collections::BTreeMap;
 use trace_reading::put_command;
-use trace_replay::{Brought, Direction, Opening, TraceLine, Watch, frame_text, xsmp_in};
+use trace_replay::{Brought, Direction, TraceLine, Watch, frame_text, xsmp_in};
 use xsmp_messages::XsmpMessage;
 use xsmp_properties::command_of;
 
@@ -238,10 +238,10 @@ impl Sketch {
         &mut self,
         alloc: Global,
         place: usize,
-        opening: &Opening,
+        book: Option<&Book>,
         id: &[u8],
     ) -> Result<(), NoMemory> {
-        let Some(book) = &opening.book else {
+        let Some(book) = book else {
             return Ok(());
         };
         let Some(fields) = restart_fields(alloc, book, id)? else {
@@ -266,7 +266,7 @@ impl Sketch {
         alloc: Global,
         place: usize,
         row: u64,
-        opening: &Opening,
+        book: Option<&Book>,
         message: &XsmpMessage,
     ) -> Result<(), NoMemory> {
         match message {
@@ -274,7 +274,7 @@ impl Sketch {
                 self.name_lane(alloc, place, properties.as_slice())?;
             }
             XsmpMessage::RegisterClient { previous } => {
-                self.claim(alloc, place, opening, previous.as_slice())?;
+                self.claim(alloc, place, book, previous.as_slice())?;
             }
             _ => {}
         }
@@ -360,7 +360,7 @@ impl Sketch {
     fn take_frame(
         &mut self,
         alloc: Global,
-        opening: &Opening,
+        book: Option<&Book>,
         place: usize,
         direction: Direction,
         frame: &WholeFrame,
@@ -380,7 +380,7 @@ impl Sketch {
             arrow_name(alloc, line.as_slice(), message.as_ref())?
         };
         if let Some(message) = &message {
-            self.take_message(alloc, place, row, opening, message)?;
+            self.take_message(alloc, place, row, book, message)?;
         }
         self.push_arrow(place, row, direction, name, line)
     }
@@ -389,7 +389,7 @@ impl Sketch {
     fn take_frames(
         &mut self,
         alloc: Global,
-        opening: &Opening,
+        book: Option<&Book>,
         place: usize,
         direction: Direction,
         frames: &[WholeFrame],
@@ -397,7 +397,7 @@ impl Sketch {
         requires { AllByRecursion IsHeaded frames.now }
     {
         for frame in frames {
-            self.take_frame(alloc, opening, place, direction, frame)?;
+            self.take_frame(alloc, book, place, direction, frame)?;
         }
         Ok(())
     }
@@ -406,7 +406,7 @@ impl Sketch {
     fn take_parts(
         &mut self,
         alloc: Global,
-        opening: &Opening,
+        book: Option<&Book>,
         conn: Conn,
         direction: Direction,
         brought: &Brought,
@@ -414,7 +414,7 @@ impl Sketch {
         requires { AllByRecursion IsHeaded brought.now.frames }
     {
         let place = self.place_of(alloc, conn)?;
-        self.take_frames(alloc, opening, place, direction, brought.frames.as_slice())?;
+        self.take_frames(alloc, book, place, direction, brought.frames.as_slice())?;
         if brought.ended {
             let row = self.message_row(place, direction);
             let name = Octets::from_slice(alloc, b"Oversize")?;
@@ -434,7 +434,7 @@ impl Sketch {
     fn take_event(
         &mut self,
         alloc: Global,
-        opening: &Opening,
+        book: Option<&Book>,
         event: &Event,
         brought: &Brought,
     ) -> Result<(), NoMemory>
@@ -448,7 +448,7 @@ impl Sketch {
             }
             Event::Piece(conn, _) => {
                 self.begin_event()?;
-                self.take_parts(alloc, opening, *conn, Direction::In, brought)
+                self.take_parts(alloc, book, *conn, Direction::In, brought)
             }
             Event::Gone(conn) => {
                 self.begin_event()?;
@@ -487,12 +487,12 @@ impl Sketch {
         &mut self,
         alloc: Global,
         watch: &mut Watch,
-        opening: &Opening,
+        book: Option<&Book>,
         said: &TraceLine,
     ) -> Result<(), NoMemory> {
         let brought = watch.take(alloc, said)?;
         match said {
-            TraceLine::Heard(event) => self.take_event(alloc, opening, event, &brought),
+            TraceLine::Heard(event) => self.take_event(alloc, book, event, &brought),
             TraceLine::End => {
                 self.begin_event()?;
                 let row = self.event_row();
@@ -500,7 +500,7 @@ impl Sketch {
                 self.push_note(row, note)
             }
             TraceLine::Sent(conn, _) => {
-                self.take_parts(alloc, opening, *conn, Direction::Out, &brought)
+                self.take_parts(alloc, book, *conn, Direction::Out, &brought)
             }
             TraceLine::Shut(conn) => {
                 let row = self.deed_row(0);

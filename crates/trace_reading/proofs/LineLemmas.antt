@@ -2,7 +2,8 @@
 use Rattle.std.proofs.Common.{◌≡◌, ℕ, List, ◌++◌, length, codes, sym, ◌∙◌, ap, append_assoc}
 use Rattle.checkpoint_records.specs.declared.records.Book.{Book}
 use Rattle.message_text.proofs.Joining.{joined}
-use Rattle.trace_reading.specs.Lines.{book_words, counted, patience_told, stamp}
+use Rattle.message_text.specs.Words.{plain_text}
+use Rattle.trace_reading.specs.Lines.{book_words, counted, patience_told, session_told, stamp}
 
 pub three : (old one two new a b c : List ℕ) → one ≡ old ++ a → two ≡ one ++ b → new ≡ two ++ c → new ≡ old ++ (a ++ (b ++ c))
 three old one two new a b c first second third = joined old a (b ++ c) one new first (joined one b c two new second third)
@@ -16,3 +17,8 @@ patience_line n old one two new first second third =
     let words : List ℕ = counted (codes "smd has a patience of ") n in
     three old one two new (stamp 0) words (codes " ms\n") first second third
     ∙ ap (λ (ls : List ℕ). old ++ (stamp 0 ++ ls)) (sym (append_assoc words (codes " ms") (codes "\n")))
+
+pub session_line : (name old one two named new : List ℕ) → one ≡ old ++ stamp 0 → two ≡ one ++ codes "smd runs the session " → named ≡ two ++ plain_text name → new ≡ named ++ codes "\n" → new ≡ old ++ session_told name
+session_line name old one two named new first second third last =
+    let words : named ≡ one ++ (codes "smd runs the session " ++ plain_text name) = joined one (codes "smd runs the session ") (plain_text name) two named second third in
+    three old one named new (stamp 0) (codes "smd runs the session " ++ plain_text name) (codes "\n") first words last

@@ -6,6 +6,7 @@ use Rattle.ice_framing.specs.Parts.{Part, Whole, TooMuch}
 use Rattle.message_text.specs.Words.{plain_text}
 use Rattle.message_text.specs.declared.words.Writing.TheVariants.{Words}
 use Rattle.trace_replay.specs.Frames.{frame_text}
+use Rattle.trace_replay.specs.Openings.{book_opened}
 use Rattle.trace_replay.specs.declared.opening.Opening.{Opening}
 use Rattle.trace_replay.specs.declared.parts.Direction.{Direction}
 use Rattle.trace_replay.specs.declared.parts.Direction.TheVariants.{In, Out}
@@ -67,7 +68,7 @@ started_told clock succeeded text = line_at clock (start_words succeeded ++ comm
 abbrev pub counted : List ℕ → ℕ → List ℕ
 counted words n = words ++ decimal n
 
--- what the session begins with: the book, and the patience
+-- what the session begins with: its part of the book, the patience, and its name
 abbrev pub book_words : Book → List ℕ
 book_words book =
     counted (codes "smd opens the book of epoch ") book.epoch ++ (counted (codes ": clients ") (length book.entries) ++ counted (codes ", pending commands ") (length book.pending))
@@ -78,10 +79,13 @@ book_told book = line_at 0 (book_words book)
 abbrev pub patience_told : ℕ → List ℕ
 patience_told milliseconds = line_at 0 (counted (codes "smd has a patience of ") milliseconds ++ codes " ms")
 
+abbrev pub session_told : List ℕ → List ℕ
+session_told name = line_at 0 (codes "smd runs the session " ++ plain_text name)
+
 -- a line, where there is something to tell
 abbrev pub if_said : {A : Type 0} → (A → List ℕ) → Option A → List ℕ
 if_said line None = []
 if_said line (Some value) = line value
 
 abbrev pub opening_told : Opening → List ℕ
-opening_told opening = if_said book_told opening.book ++ if_said patience_told opening.patience
+opening_told opening = if_said book_told (book_opened opening) ++ (if_said patience_told opening.patience ++ if_said session_told opening.session)

@@ -23,6 +23,7 @@ fn opens(line: &[u8]) -> bool
     line.strip_prefix(b"cookie ").is_some()
         || line.strip_prefix(b"book ").is_some()
         || line.strip_prefix(b"patience ").is_some()
+        || line.strip_prefix(b"session ").is_some()
 }
 
 impl Follower {
@@ -37,11 +38,14 @@ impl Follower {
     }
 
     /// Appends what is told of the opening, which is at its end.
-    fn end_opening(&mut self, alloc: Global, out: &mut Octets) -> Result<(), NoMemory>
+    fn end_opening(&mut self, alloc: Global, out: &mut Octets) -> Result<(), OrderRefusal>
         ensures { OnOk result (EndsOpening self.old self.new out.old out.new) }
     {
         if let Some(text) = self.opening.take() {
             let opening = read_opening(alloc, text.as_slice())?;
+            if opening.crowded_at(alloc)?.is_some() {
+                return Err(OrderRefusal::BadLine);
+            }
             put_opening(alloc, out, &opening)?;
         }
         Ok(())

@@ -1,7 +1,8 @@
 ghost use Rattle.std.specs.Prelude.{◌≡◌, ◌+◌, ◌%◌, ◌++◌, codes, OnOk, option_copied};
 ghost use Rattle.message_text.specs.Words.{quoted};
 ghost use Rattle.control_lines.specs.Orders.{order_text};
-ghost use Rattle.trace_reading.specs.Lines.{book_told, book_words, counted, deed_told, if_said, line_at, opening_told, part_told, patience_told, stamp, started_told, who};
+ghost use Rattle.trace_replay.specs.Openings.{book_opened};
+ghost use Rattle.trace_reading.specs.Lines.{book_told, book_words, counted, deed_told, if_said, line_at, opening_told, part_told, patience_told, session_told, stamp, started_told, who};
 
 use crate::commands::put_command;
 use checkpoint_records::Book;
@@ -207,16 +208,23 @@ fn put_book_words(alloc: Global, out: &mut Octets, book: &Book) -> Result<(), No
     put_counted(alloc, out, ", pending commands ", commands)
 }
 
-/// Appends which book the session opened, where it opened one.
-fn put_book(alloc: Global, out: &mut Octets, opening: &Opening) -> Result<(), NoMemory>
-    ensures { OnOk result (out.new ≡ out.old ++ if_said book_told opening.now.book) }
+/// Appends the line of a book.
+fn put_book(alloc: Global, out: &mut Octets, book: &Book) -> Result<(), NoMemory>
+    ensures { OnOk result (out.new ≡ out.old ++ book_told book.now) }
 {
-    let Some(book) = &opening.book else {
-        return Ok(());
-    };
     put_stamp(alloc, out, 0)?;
     put_book_words(alloc, out, book)?;
     out.append(b"\n")
+}
+
+/// Appends which book the session opened, where it opened one.
+fn put_opened(alloc: Global, out: &mut Octets, opening: &Opening) -> Result<(), NoMemory>
+    ensures { OnOk result (out.new ≡ out.old ++ if_said book_told (book_opened opening.now)) }
+{
+    match opening.book_opened(alloc)? {
+        Some(book) => put_book(alloc, out, &book),
+        None => Ok(()),
+    }
 }
 
 /// Appends which patience it has, where one is said.
@@ -231,10 +239,24 @@ fn put_patience(alloc: Global, out: &mut Octets, opening: &Opening) -> Result<()
     out.append(b" ms\n")
 }
 
+/// Appends what it is called, where that is said.
+fn put_session(alloc: Global, out: &mut Octets, opening: &Opening) -> Result<(), NoMemory>
+    ensures { OnOk result (out.new ≡ out.old ++ if_said session_told opening.now.session) }
+{
+    let Some(name) = &opening.session else {
+        return Ok(());
+    };
+    put_stamp(alloc, out, 0)?;
+    out.append(b"smd runs the session ")?;
+    put_plain(alloc, out, name.as_slice())?;
+    out.append(b"\n")
+}
+
 /// Appends what a session begins with.
 pub fn put_opening(alloc: Global, out: &mut Octets, opening: &Opening) -> Result<(), NoMemory>
     ensures { OnOk result (out.new ≡ out.old ++ opening_told opening.now) }
 {
-    put_book(alloc, out, opening)?;
-    put_patience(alloc, out, opening)
+    put_opened(alloc, out, opening)?;
+    put_patience(alloc, out, opening)?;
+    put_session(alloc, out, opening)
 }

@@ -1,18 +1,18 @@
 -- What a text opens with, and that it opens with one thing at most.
-use Rattle.std.proofs.Common.{◌≡◌, ◌≢◌, inl, inr, ℕ, zero, suc, ◌+◌, ◌<◌, ◌≤◌, List, [], ◌∷◌, ◌++◌, length, drop, take, Option, Some, None, Result, Ok, refl, sym, ◌∙◌, ap, subst, arith, codes, append_assoc}
+use Rattle.std.proofs.Common.{◌≡◌, ◌≢◌, inl, inr, ℕ, zero, suc, ◌+◌, ◌<◌, ◌≤◌, List, [], ◌∷◌, ◌++◌, length, drop, take, Option, Some, None, Result, Ok, Err, IfOk, refl, sym, ◌∙◌, ap, subst, arith, codes, append_assoc}
 use denote.Ref.{Bor}
-use Rattle.std.specs.Prelude.{MatchOption}
+use Rattle.std.specs.Prelude.{MatchOption, unwrap_or}
 use Rattle.std.proofs.lemmas.List.{drop-append-le, drop-drop, length-drop, length-take-le, take-append-drop}
 use Rattle.std.specs.Fmt.{decimal}
 use Rattle.std.proofs.lemmas.Fmt.{decimal_injective}
+use Rattle.checkpoint_records.specs.Books.{default_name}
 use Rattle.checkpoint_records.specs.Damage.{StandFor}
-use Rattle.checkpoint_records.specs.Spelling.{Spells}
 use Rattle.checkpoint_records.specs.declared.records.Book.{Book}
 use Rattle.checkpoint_records.proofs.BookLaws.{stands_for_one}
 use Rattle.ice_cookie.specs.declared.cookies.Cookie.{Cookie}
 use Rattle.control_lines.specs.Fields.{IsHex}
 use Rattle.control_lines.specs.Laws.{MeansOne}
-use Rattle.trace_replay.specs.Openings.{BeginWith, FirstIs, IsBook, IsCookie, IsPatience, Open, SaysBehind, SaysBook, SaysCookie, SaysPatience, behind_opening, count_of, size_of}
+use Rattle.trace_replay.specs.Openings.{BeginWith, FirstIs, IsBook, IsCookie, IsPatience, IsSession, Open, SaysBehind, SaysBook, SaysCookie, SaysPatience, SaysSession, SpellsBook, behind_book, behind_cookie, behind_opening, behind_patience, count_of, session_of, size_of}
 use Rattle.trace_replay.specs.declared.opening.Opening.{Opening}
 
 -- ---- the first line
@@ -96,19 +96,24 @@ open_front xs ys opening opens few =
     let c = count_of opening.cookie in
     let b = count_of opening.book in
     let p = count_of opening.patience in
+    let s = count_of opening.session in
     let first : drop c (xs ++ ys) ≡ drop c xs ++ ys = drop_front c xs ys (omega (arith, few)) in
     let size : length (drop c xs) + c ≡ length xs = length-drop_one opening.cookie xs (omega (arith, few)) in
     let second : drop b (drop c xs ++ ys) ≡ drop b (drop c xs) ++ ys = drop_front b (drop c xs) ys (omega (arith, few, size)) in
     let size' : length (drop b (drop c xs)) + b ≡ length (drop c xs) = length-drop_one opening.book (drop c xs) (omega (arith, few, size)) in
     let third : drop p (drop b (drop c xs) ++ ys) ≡ drop p (drop b (drop c xs)) ++ ys = drop_front p (drop b (drop c xs)) ys (omega (arith, few, size, size')) in
+    let size'' : length (drop p (drop b (drop c xs))) + p ≡ length (drop b (drop c xs)) = length-drop_one opening.patience (drop b (drop c xs)) (omega (arith, few, size, size')) in
+    let fourth : drop s (drop p (drop b (drop c xs)) ++ ys) ≡ drop s (drop p (drop b (drop c xs))) ++ ys = drop_front s (drop p (drop b (drop c xs))) ys (omega (arith, few, size, size', size'')) in
     let both : drop b (drop c (xs ++ ys)) ≡ drop b (drop c xs) ++ ys = ap (drop b) first ∙ second in
+    let all : drop p (drop b (drop c (xs ++ ys))) ≡ drop p (drop b (drop c xs)) ++ ys = ap (drop p) both ∙ third in
     record {
       opens = record {
         cookie = begin_front SaysCookie xs ys opening.cookie opens.cookie (omega (arith, few));
         book = begin_front SaysBook (drop c xs) ys opening.book (subst (λ (ls : List (List ℕ)). BeginWith SaysBook ls opening.book) first opens.book) (omega (arith, few, size));
         patience = begin_front SaysPatience (drop b (drop c xs)) ys opening.patience (subst (λ (ls : List (List ℕ)). BeginWith SaysPatience ls opening.patience) both opens.patience) (omega (arith, few, size, size'));
+        session = begin_front SaysSession (drop p (drop b (drop c xs))) ys opening.session (subst (λ (ls : List (List ℕ)). BeginWith SaysSession ls opening.session) all opens.session) (omega (arith, few, size, size', size''));
       };
-      behind = ap (drop p) both ∙ third;
+      behind = ap (drop s) all ∙ fourth;
     }
 
 -- what a front of the lines opens with, and what stands behind that
@@ -124,11 +129,13 @@ open_cut xs ys opening opens =
     let two = begin_cut SaysBook (drop (count_of one.0) xs) one.2.0 opening.book (subst (λ (ls : List (List ℕ)). BeginWith SaysBook ls opening.book) one.2.1 opens.book) in
     let both : drop (count_of opening.book) (drop (count_of opening.cookie) (xs ++ ys)) ≡ drop (count_of two.0) (drop (count_of one.0) xs) ++ two.2.0 = ap (drop (count_of opening.book)) one.2.1 ∙ two.2.1 in
     let three = begin_cut SaysPatience (drop (count_of two.0) (drop (count_of one.0) xs)) two.2.0 opening.patience (subst (λ (ls : List (List ℕ)). BeginWith SaysPatience ls opening.patience) both opens.patience) in
+    let all : behind_patience opening (xs ++ ys) ≡ drop (count_of three.0) (drop (count_of two.0) (drop (count_of one.0) xs)) ++ three.2.0 = ap (drop (count_of opening.patience)) both ∙ three.2.1 in
+    let four = begin_cut SaysSession (drop (count_of three.0) (drop (count_of two.0) (drop (count_of one.0) xs))) three.2.0 opening.session (subst (λ (ls : List (List ℕ)). BeginWith SaysSession ls opening.session) all opens.session) in
     record {
-      less = record { cookie = one.0; book = two.0; patience = three.0 };
-      opens = record { cookie = one.1; book = two.1; patience = three.1 };
-      others = three.2.0;
-      behind = ap (drop (count_of opening.patience)) both ∙ three.2.1;
+      less = record { cookie = one.0; book = two.0; patience = three.0; session = four.0 };
+      opens = record { cookie = one.1; book = two.1; patience = three.1; session = four.1 };
+      others = four.2.0;
+      behind = ap (drop (count_of opening.session)) all ∙ four.2.1;
     }
 
 -- ---- one opening
@@ -144,13 +151,16 @@ one_cookie field one other is is' = ap (λ (bytes : List ℕ). record { 0 = byte
 
 one_book : (field : List ℕ) → MeansOne (IsBook field)
 one_book field one other is is' =
-    ok_is one other (stands_for_one is.bytes (Ok one) (Ok other) is.spells (subst (λ (bytes : List ℕ). Spells bytes other) (same_hex field is'.bytes is.bytes is'.hex is.hex) is'.spells))
+    ok_is one other (stands_for_one is.bytes (Ok one) (Ok other) is.spells (subst (λ (bytes : List ℕ). SpellsBook bytes other) (same_hex field is'.bytes is.bytes is'.hex is.hex) is'.spells))
 
 one_patience : (field : List ℕ) → MeansOne (IsPatience field)
 one_patience field one other is is' = decimal_injective one other is.2 is'.2 (sym is.0 ∙ is'.0)
 
-abbrev opening_of : Option Cookie → Option Book → Option ℕ → Opening
-opening_of cookie book patience = record { cookie = cookie; book = book; patience = patience }
+one_session : (field : List ℕ) → MeansOne (IsSession field)
+one_session field one other is is' = sym is.0 ∙ is'.0
+
+abbrev opening_of : Option Cookie → Option Book → Option ℕ → Option (List ℕ) → Opening
+opening_of cookie book patience session = record { cookie = cookie; book = book; patience = patience; session = session }
 
 pub one_opening : (lines : List (List ℕ)) → MeansOne (Open lines)
 one_opening lines one other opens opens' =
@@ -159,7 +169,9 @@ one_opening lines one other opens opens' =
     let b : one.book ≡ other.book = one_begin (codes "book ") IsBook one_book (drop (count_of one.cookie) lines) one.book other.book opens.book also in
     let later = rw (sym c, sym b) at opens'.patience in
     let p : one.patience ≡ other.patience = one_begin (codes "patience ") IsPatience one_patience (drop (count_of one.book) (drop (count_of one.cookie) lines)) one.patience other.patience opens.patience later in
-    ap (λ x. opening_of x one.book one.patience) c ∙ (ap (λ x. opening_of other.cookie x one.patience) b ∙ ap (opening_of other.cookie other.book) p)
+    let last = rw (sym c, sym b, sym p) at opens'.session in
+    let s : one.session ≡ other.session = one_begin (codes "session ") IsSession one_session (behind_patience one lines) one.session other.session opens.session last in
+    ap (λ x. opening_of x one.book one.patience one.session) c ∙ (ap (λ x. opening_of other.cookie x one.patience one.session) b ∙ (ap (λ x. opening_of other.cookie other.book x one.session) p ∙ ap (opening_of other.cookie other.book other.patience) s))
 
 -- ---- how many lines an opening has
 
@@ -174,7 +186,8 @@ behind_is opening lines =
     let c = count_of opening.cookie in
     let b = count_of opening.book in
     let p = count_of opening.patience in
-    ap (drop p) (drop-drop b c lines) ∙ drop-drop p (c + b) lines
+    let s = count_of opening.session in
+    ap (drop s) (ap (drop p) (drop-drop b c lines) ∙ drop-drop p (c + b) lines) ∙ drop-drop s (c + b + p) lines
 
 pub opening_parts : (opening : Opening) (lines : List (List ℕ)) → lines ≡ take (size_of opening) lines ++ behind_opening opening lines
 opening_parts opening lines = sym (ap (λ behind. take (size_of opening) lines ++ behind) (behind_is opening lines) ∙ take-append-drop (size_of opening) lines)
@@ -186,8 +199,10 @@ opening_fits opening lines opens =
     let b = count_of opening.book in
     let one = begin_count SaysCookie lines opening.cookie opens.cookie in
     let two = begin_count SaysBook (drop c lines) opening.book opens.book in
+    let p = count_of opening.patience in
     let three = begin_count SaysPatience (drop b (drop c lines)) opening.patience opens.patience in
-    omega (arith, one, two, three, length-drop c lines, length-drop b (drop c lines))
+    let four = begin_count SaysSession (drop p (drop b (drop c lines))) opening.session opens.session in
+    omega (arith, one, two, three, four, length-drop c lines, length-drop b (drop c lines), length-drop p (drop b (drop c lines)))
 
 pub opening_length : (opening : Opening) (lines : List (List ℕ)) → Open lines opening → length (take (size_of opening) lines) ≡ size_of opening
 opening_length opening lines opens = length-take-le (size_of opening) lines (opening_fits opening lines opens)
@@ -196,3 +211,17 @@ opening_length opening lines opens = length-take-le (size_of opening) lines (ope
 pub no_patience : (field : List ℕ) (n : ℕ) → field ≡ decimal n → n ≡ 0 → (value : ℕ) → IsPatience field value → ⊥
 no_patience field n spelled none value is =
     let same : value ≡ n = decimal_injective value n is.2 (omega (arith, none)) (sym is.0 ∙ spelled) in omega (arith, same, none, is.1)
+
+-- the book that the bytes of a field spell
+pub book_by : {E : Type 0} (lines : List (List ℕ)) (field bytes : List ℕ) (result : Result (Option Book) E) → FirstIs lines (codes "book ") field → IsHex field bytes
+    → IfOk result (λ found. MatchOption found ((book : Book) → SpellsBook bytes book → book.epoch < 4294967295 → ⊥) (λ book. SpellsBook bytes book × (book.epoch < 4294967295)))
+    → IfOk result (BeginWith SaysBook lines)
+book_by lines field bytes (Err e) first hex read = tt
+book_by lines field bytes (Ok None) first hex read =
+    begins_none (codes "book ") IsBook lines field first (λ book is. read book (subst (λ (b : List ℕ). SpellsBook b book) (same_hex field is.bytes bytes is.hex hex) is.spells) is.below)
+book_by lines field bytes (Ok (Some book)) first hex read = begins_so (codes "book ") IsBook lines field book first (record { bytes = bytes; hex = hex; spells = read.0; below = read.1 })
+
+-- a trace that names no session has the one that is meant then
+pub session_meant : (opening : Opening) → opening.session ≡ None → codes "default" ≡ session_of opening
+unfolding default_name
+session_meant opening none = ap (λ (o : Option (List ℕ)). unwrap_or o (codes "default")) (sym none)

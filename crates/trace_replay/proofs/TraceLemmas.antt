@@ -13,8 +13,8 @@ use Rattle.ice_framing.proofs.Cuts.{cond-both}
 use Rattle.control_lines.specs.Laws.{MeansOne}
 use Rattle.control_lines.specs.Lines.{before_lines, lines_of}
 use Rattle.trace_replay.specs.Grammar.{SaysLine, SayLines}
-use Rattle.trace_replay.specs.Openings.{Open, behind_opening, count_of, size_of}
-use Rattle.trace_replay.specs.Traces.{IsMalformed, IsNone, IsTrace, ReadsAs, SaysTrace, event_in, events_in}
+use Rattle.trace_replay.specs.Openings.{HasRoom, Open, behind_opening, count_of, line_of_book, size_of}
+use Rattle.trace_replay.specs.Traces.{IsFirstBad, IsMalformed, IsNone, IsTrace, ReadsAs, SaysTrace, event_in, events_in}
 use Rattle.trace_replay.specs.declared.lines.TraceLine.{TraceLine}
 use Rattle.trace_replay.specs.declared.lines.TraceLine.TheVariants.{Heard, End, Sent, Shut, Started, Printed}
 use Rattle.trace_replay.specs.declared.opening.Opening.{Opening}
@@ -108,10 +108,15 @@ pub record ReadTo (limit : ℕ) (text left : List ℕ) (opening : Opening) (n : 
   pub say : SayLines body said
   pub number : n ≡ length front
   pub within : left ≡ [] → length text ≤ limit
+  pub room : HasRoom opening
+
+-- the book of a text has room for its session, if that of one opening of it has
+pub roomy : (text : List ℕ) (opening : Opening) → Open (lines_of text) opening → HasRoom opening → (other : Opening) → Open (lines_of text) other → HasRoom other
+roomy text opening opens room other opens' = subst (λ (o : Opening). HasRoom o) (one_opening (lines_of text) opening other opens opens') room
 
 -- behind the opening
-pub begins : (limit : ℕ) (text left : List ℕ) (opening : Opening) (n : ℕ) → Open (lines_of text) opening → lines_of left ≡ behind_opening opening (lines_of text) → n ≡ size_of opening → (left ≡ [] → length text ≤ limit) → ReadTo limit text left opening n []
-begins limit text left opening n opens behind number within =
+pub begins : (limit : ℕ) (text left : List ℕ) (opening : Opening) (n : ℕ) → Open (lines_of text) opening → lines_of left ≡ behind_opening opening (lines_of text) → n ≡ size_of opening → (left ≡ [] → length text ≤ limit) → HasRoom opening → ReadTo limit text left opening n []
+begins limit text left opening n opens behind number within room =
     let size = opening_length opening (lines_of text) opens in
     record {
       opens = opens;
@@ -123,6 +128,7 @@ begins limit text left opening n opens behind number within =
       say = tt;
       number = number ∙ sym size;
       within = within;
+      room = room;
     }
 
 -- one more line was read
@@ -137,6 +143,7 @@ goes_on limit text left line rest opening n said one read first says within = re
   say = say_one_more read.body said line one read.say says;
   number = omega (arith, read.number, length-append read.front (line ∷ []));
   within = within;
+  room = read.room;
 }
 
 -- there is a number for the next line
@@ -148,7 +155,7 @@ counts limit text left line rest opening n said read first =
 pub ends : (limit : ℕ) (text left : List ℕ) (opening : Opening) (n : ℕ) (said : List TraceLine) → ReadTo limit text left opening n said → left ≡ [] → SaysTrace limit text opening said
 ends limit text left opening n said read none =
     let all : behind_opening opening (lines_of text) ≡ read.body = read.behind ∙ (ap (λ (bytes : List ℕ). read.body ++ lines_of bytes) none ∙ append-nil read.body) in
-    record { within = read.within none; all = record { opens = read.opens; say = subst (λ (ls : List (List ℕ)). SayLines ls said) (sym all) read.say } }
+    record { within = read.within none; all = record { opens = read.opens; say = subst (λ (ls : List (List ℕ)). SayLines ls said) (sym all) read.say }; room = read.room }
 
 -- the lines that were read are a trace, and so it is known what stands behind their opening and one line more
 front_is : (limit : ℕ) (text left : List ℕ) (opening : Opening) (n : ℕ) (said : List TraceLine) → (read : ReadTo limit text left opening n said) → IsTrace read.front opening said
@@ -167,39 +174,45 @@ says_none limit text left line rest opening n said read first none =
     let same : behind_opening opening more ≡ read.body ++ line ∷ [] =
     same_back (behind_opening opening more) (read.body ++ line ∷ []) (lines_of rest)
     (sym stays.behind ∙ (ap (behind_opening opening) (sym all) ∙ (read.behind ∙ (ap (λ lines. read.body ++ lines) first ∙ sym (append_assoc read.body (line ∷ []) (lines_of rest)))))) in
-    record {
-      good = read.front;
-      line = line;
-      others = lines_of rest;
-      lines = read.lines ∙ ap (λ lines. read.front ++ lines) first;
-      number = ap (λ k. k + 1) read.number;
-      opening = opening;
-      said = said;
-      all_good = good;
-      bad = inl (λ other others trace.
-          let is : other ≡ opening = one_opening more other opening trace.opens stays.opens in
-          let says = last_says read.body line others (subst (λ (ls : List (List ℕ)). SayLines ls others) (ap (λ o. behind_opening o more) is ∙ same) trace.say) in
-          none says.0 says.1);
-    }
+    inr (
+      roomy text opening read.opens read.room,
+      record {
+        good = read.front;
+        line = line;
+        others = lines_of rest;
+        lines = read.lines ∙ ap (λ lines. read.front ++ lines) first;
+        number = ap (λ k. k + 1) read.number;
+        opening = opening;
+        said = said;
+        all_good = good;
+        bad = inl (λ other others trace.
+            let is : other ≡ opening = one_opening more other opening trace.opens stays.opens in
+            let says = last_says read.body line others (subst (λ (ls : List (List ℕ)). SayLines ls others) (ap (λ o. behind_opening o more) is ∙ same) trace.say) in
+            none says.0 says.1);
+      },
+    )
 
 -- the last line of a text that is too long
 pub too_long : (limit : ℕ) (text left line rest : List ℕ) (opening : Opening) (n : ℕ) (said : List TraceLine) → ReadTo limit text left opening n said → lines_of left ≡ line ∷ lines_of rest → rest ≡ [] → limit < length text → IsMalformed limit text (n + 1)
-too_long limit text left line rest opening n said read first none long = record {
-  good = read.front;
-  line = line;
-  others = lines_of rest;
-  lines = read.lines ∙ ap (λ lines. read.front ++ lines) first;
-  number = ap (λ k. k + 1) read.number;
-  opening = opening;
-  said = said;
-  all_good = front_is limit text left opening n said read;
-  bad = inr (long, ap lines_of none);
-}
+too_long limit text left line rest opening n said read first none long = inr (
+  roomy text opening read.opens read.room,
+  record {
+    good = read.front;
+    line = line;
+    others = lines_of rest;
+    lines = read.lines ∙ ap (λ lines. read.front ++ lines) first;
+    number = ap (λ k. k + 1) read.number;
+    opening = opening;
+    said = said;
+    all_good = front_is limit text left opening n said read;
+    bad = inr (long, ap lines_of none);
+  },
+)
 
 -- the same where that line belongs to the opening
-pub opens_too_long : (limit : ℕ) (text left : List ℕ) (opening : Opening) (n : ℕ) → Open (lines_of text) opening → lines_of left ≡ behind_opening opening (lines_of text) → n ≡ size_of opening → left ≡ [] → limit < length text → IsMalformed limit text n
-opens_too_long limit [] left opening n opens behind number none long = absurd (omega (arith, long))
-opens_too_long limit (b ∷ bytes) left opening n opens behind number none long =
+pub opens_too_long : (limit : ℕ) (text left : List ℕ) (opening : Opening) (n : ℕ) → Open (lines_of text) opening → lines_of left ≡ behind_opening opening (lines_of text) → n ≡ size_of opening → left ≡ [] → limit < length text → HasRoom opening → IsMalformed limit text n
+opens_too_long limit [] left opening n opens behind number none long room = absurd (omega (arith, long))
+opens_too_long limit (b ∷ bytes) left opening n opens behind number none long room =
     let lines = lines_of (b ∷ bytes) in
     let some = some_line b bytes in
     let last = last_of some.0 some.1.0 in
@@ -208,22 +221,29 @@ opens_too_long limit (b ∷ bytes) left opening n opens behind number none long 
     let count : length lines ≡ size_of opening = ap length all ∙ opening_length opening lines opens in
     let silent : IsTrace lines opening [] = record { opens = opens; say = subst (λ (ls : List (List ℕ)). SayLines ls []) (ap lines_of (sym none) ∙ behind) tt } in
     let less = trace_front last.0 (last.1.0 ∷ []) opening [] (subst (λ (ls : List (List ℕ)). IsTrace ls opening []) parts silent) in
-    record {
-      good = last.0;
-      line = last.1.0;
-      others = [];
-      lines = parts;
-      number = omega (arith, number, count, ap length parts, length-append last.0 (last.1.0 ∷ []));
-      opening = less.0;
-      said = less.1.0;
-      all_good = less.1.1;
-      bad = inr (long, refl);
-    }
+    inr (
+      roomy (b ∷ bytes) opening opens room,
+      record {
+        good = last.0;
+        line = last.1.0;
+        others = [];
+        lines = parts;
+        number = omega (arith, number, count, ap length parts, length-append last.0 (last.1.0 ∷ []));
+        opening = less.0;
+        said = less.1.0;
+        all_good = less.1.1;
+        bad = inr (long, refl);
+      },
+    )
+
+-- the book has no room
+pub crowds : (limit : ℕ) (text : List ℕ) (opening : Opening) (n : ℕ) → Open (lines_of text) opening → ¬ (HasRoom opening) → n ≡ line_of_book opening → IsMalformed limit text n
+crowds limit text opening n opens full number = inl (record { opening = opening; opens = opens; full = full; number = number })
 
 -- ---- one reading
 
 -- no line before the first that isn't of the grammar is another such
-none_before : (limit : ℕ) (text : List ℕ) (n k : ℕ) → (one : IsMalformed limit text n) → (other : IsMalformed limit text k) → length one.good < length other.good → ⊥
+none_before : (limit : ℕ) (text : List ℕ) (n k : ℕ) → (one : IsFirstBad limit text n) → (other : IsFirstBad limit text k) → length one.good < length other.good → ⊥
 none_before limit text n k one other short =
     let same : one.good ++ one.line ∷ one.others ≡ other.good ++ other.line ∷ other.others = sym one.lines ∙ other.lines in
     let more = longer one.good one.line one.others other.good (other.line ∷ other.others) same short in
@@ -232,8 +252,8 @@ none_before limit text n k one other short =
       | inr last ↦ omega (arith, ap length same, length-append one.good (one.line ∷ one.others), length-append other.good (other.line ∷ other.others), ap length last.1, short)
     ]
 
-pub same_place : (limit : ℕ) (text : List ℕ) (n k : ℕ) → IsMalformed limit text n → IsMalformed limit text k → n ≡ k
-same_place limit text n k one other = elim (cases_lt (length one.good) (length other.good)) [
+same_first : (limit : ℕ) (text : List ℕ) (n k : ℕ) → IsFirstBad limit text n → IsFirstBad limit text k → n ≡ k
+same_first limit text n k one other = elim (cases_lt (length one.good) (length other.good)) [
   | inl h ↦ absurd (none_before limit text n k one other h)
   | inr h ↦ elim (cases_lt (length other.good) (length one.good)) [
     | inl h' ↦ absurd (none_before limit text k n other one h')
@@ -241,15 +261,27 @@ same_place limit text n k one other = elim (cases_lt (length one.good) (length o
   ]
 ]
 
--- a text that is a trace isn't malformed
-pub never_both : (limit : ℕ) (text : List ℕ) (n : ℕ) (opening : Opening) (said : List TraceLine) → SaysTrace limit text opening said → IsMalformed limit text n → ⊥
-never_both limit text n opening said says bad = elim bad.bad [
+pub same_place : (limit : ℕ) (text : List ℕ) (n k : ℕ) → IsMalformed limit text n → IsMalformed limit text k → n ≡ k
+same_place limit text n k (inl one) (inl other) =
+    one.number ∙ ap line_of_book (one_opening (lines_of text) one.opening other.opening one.opens other.opens) ∙ sym other.number
+same_place limit text n k (inl one) (inr other) = absurd (one.full (other.0 one.opening one.opens))
+same_place limit text n k (inr one) (inl other) = absurd (other.full (one.0 other.opening other.opens))
+same_place limit text n k (inr one) (inr other) = same_first limit text n k one.1 other.1
+
+-- a text that is a trace has no line that isn't of the grammar
+never_bad : (limit : ℕ) (text : List ℕ) (n : ℕ) (opening : Opening) (said : List TraceLine) → SaysTrace limit text opening said → IsFirstBad limit text n → ⊥
+never_bad limit text n opening said says bad = elim bad.bad [
   | inl none ↦
       let parts : lines_of text ≡ (bad.good ++ bad.line ∷ []) ++ bad.others = bad.lines ∙ sym (append_assoc bad.good (bad.line ∷ []) bad.others) in
       let front = trace_front (bad.good ++ bad.line ∷ []) bad.others opening said (subst (λ (ls : List (List ℕ)). IsTrace ls opening said) parts says.all) in
       none front.0 front.1.0 front.1.1
   | inr last ↦ omega (arith, last.0, says.within)
 ]
+
+-- and isn't malformed
+pub never_both : (limit : ℕ) (text : List ℕ) (n : ℕ) (opening : Opening) (said : List TraceLine) → SaysTrace limit text opening said → IsMalformed limit text n → ⊥
+never_both limit text n opening said says (inl bad) = bad.full (roomy text opening says.all.opens says.room bad.opening bad.opens)
+never_both limit text n opening said says (inr bad) = never_bad limit text n opening said says bad.1
 
 -- ---- the events
 

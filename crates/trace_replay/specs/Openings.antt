@@ -1,7 +1,10 @@
--- What a trace opens with: the cookie, the book and the patience of its session, each in a line of its own.
-use Rattle.std.specs.Prelude.{◌≡◌, ℕ, ◌+◌, ◌<◌, ◌≤◌, ◌^◌, List, [], ◌∷◌, ◌++◌, length, drop, codes, Option, Some, None}
+-- What a trace opens with: the cookie, the book, the patience and the name of its session, each in a line of its own.
+use Rattle.std.specs.Prelude.{◌≡◌, ℕ, ◌+◌, ◌<◌, ◌≤◌, ◌^◌, List, [], ◌∷◌, ◌++◌, length, drop, codes, Option, Some, None, option_map, unwrap_or}
 use Rattle.std.specs.Fmt.{decimal}
+use Rattle.checkpoint_records.specs.Books.{choose, default_name}
+use Rattle.checkpoint_records.specs.Rules.{IsName}
 use Rattle.checkpoint_records.specs.Spelling.{Spells}
+use Rattle.checkpoint_records.specs.declared.head.Format.{Format}
 use Rattle.checkpoint_records.specs.declared.records.Book.{Book}
 use Rattle.ice_cookie.specs.declared.cookies.Cookie.{Cookie}
 use Rattle.control_lines.specs.Fields.{IsHex}
@@ -11,16 +14,24 @@ use Rattle.trace_replay.specs.declared.opening.Opening.{Opening}
 abbrev pub IsCookie : List ℕ → Cookie → Type 0
 IsCookie field cookie = IsHex field cookie.0 × (length cookie.0 ≡ 16)
 
+-- the bytes spell a book, in either format
+abbrev pub SpellsBook : List ℕ → Book → Type 0
+SpellsBook bytes book = (format : Format) × Spells format bytes book
+
 -- the bytes that spell a book, in hex of either case. A session can open it: its epoch isn't the last one.
 pub record IsBook (field : List ℕ) (book : Book) : Type 0 where
   pub bytes : List ℕ
   pub hex : IsHex field bytes
-  pub spells : Spells bytes book
+  pub spells : SpellsBook bytes book
   pub below : book.epoch < 4294967295
 
 -- a number from 1 below 2^64, in decimal and without leading zeros
 abbrev pub IsPatience : List ℕ → ℕ → Type 0
 IsPatience field n = (field ≡ decimal n) × (1 ≤ n) × (n < 2 ^ 64)
+
+-- the name of a session, as it is
+abbrev pub IsSession : List ℕ → List ℕ → Type 0
+IsSession field name = (field ≡ name) × IsName name
 
 -- The line is a word, with its space, and behind it what means this.
 abbrev pub SaysBehind : {A : Type 0} → List ℕ → (List ℕ → A → Type 0) → List ℕ → A → Type 0
@@ -34,6 +45,9 @@ SaysBook line book = SaysBehind (codes "book ") IsBook line book
 
 abbrev pub SaysPatience : List ℕ → ℕ → Type 0
 SaysPatience line n = SaysBehind (codes "patience ") IsPatience line n
+
+abbrev pub SaysSession : List ℕ → List ℕ → Type 0
+SaysSession line name = SaysBehind (codes "session ") IsSession line name
 
 -- The first of these lines is the word and this field.
 abbrev pub FirstIs : List (List ℕ) → List ℕ → List ℕ → Type 0
@@ -51,16 +65,49 @@ abbrev pub count_of : {A : Type 0} → Option A → ℕ
 count_of None = 0
 count_of (Some value) = 1
 
--- The lines open with these: the cookie first, then the book, then the patience, as far as they are there.
+-- the lines behind the cookie, behind the book, and behind the patience, as far as they are there
+abbrev pub behind_cookie : Opening → List (List ℕ) → List (List ℕ)
+behind_cookie opening lines = drop (count_of opening.cookie) lines
+
+abbrev pub behind_book : Opening → List (List ℕ) → List (List ℕ)
+behind_book opening lines = drop (count_of opening.book) (behind_cookie opening lines)
+
+abbrev pub behind_patience : Opening → List (List ℕ) → List (List ℕ)
+behind_patience opening lines = drop (count_of opening.patience) (behind_book opening lines)
+
+-- The lines open with these: the cookie first, then the book, then the patience, then the session, as far as they are there.
 pub record Open (lines : List (List ℕ)) (opening : Opening) : Type 0 where
   pub cookie : BeginWith SaysCookie lines opening.cookie
-  pub book : BeginWith SaysBook (drop (count_of opening.cookie) lines) opening.book
-  pub patience : BeginWith SaysPatience (drop (count_of opening.book) (drop (count_of opening.cookie) lines)) opening.patience
+  pub book : BeginWith SaysBook (behind_cookie opening lines) opening.book
+  pub patience : BeginWith SaysPatience (behind_book opening lines) opening.patience
+  pub session : BeginWith SaysSession (behind_patience opening lines) opening.session
 
 -- how many lines an opening has
 abbrev pub size_of : Opening → ℕ
-size_of opening = count_of opening.cookie + count_of opening.book + count_of opening.patience
+size_of opening = count_of opening.cookie + count_of opening.book + count_of opening.patience + count_of opening.session
 
 -- the lines behind an opening
 abbrev pub behind_opening : Opening → List (List ℕ) → List (List ℕ)
-behind_opening opening lines = drop (count_of opening.patience) (drop (count_of opening.book) (drop (count_of opening.cookie) lines))
+behind_opening opening lines = drop (count_of opening.session) (behind_patience opening lines)
+
+-- The session
+
+-- the session of a trace: the one that it says, and else `default`
+abbrev pub session_of : Opening → List ℕ
+session_of opening = unwrap_or opening.session default_name
+
+-- the book of a trace, in which its session is chosen
+abbrev pub book_opened : Opening → Option Book
+book_opened opening = option_map (choose (session_of opening)) opening.book
+
+-- A book has room for its session unless it has eight others.
+abbrev pub AreFewOthers : Option Book → Type 0
+AreFewOthers None = Unit {0}
+AreFewOthers (Some book) = length book.others ≤ 7
+
+abbrev pub HasRoom : Opening → Type 0
+HasRoom opening = AreFewOthers (book_opened opening)
+
+-- which line has the book
+abbrev pub line_of_book : Opening → ℕ
+line_of_book opening = count_of opening.cookie + 1

@@ -6,7 +6,7 @@ use Rattle.sm_world.specs.Events.{HasPieceSize}
 use Rattle.sm_world.specs.declared.events.Event.{Event}
 use Rattle.sm_world.specs.declared.events.Event.TheVariants.{End as AtEnd}
 use Rattle.trace_replay.specs.Grammar.{SayLines}
-use Rattle.trace_replay.specs.Openings.{Open, behind_opening}
+use Rattle.trace_replay.specs.Openings.{HasRoom, Open, behind_opening, line_of_book}
 use Rattle.trace_replay.specs.declared.lines.TraceLine.{TraceLine}
 use Rattle.trace_replay.specs.declared.lines.TraceLine.TheVariants.{Heard, End, Sent, Shut, Started, Printed}
 use Rattle.trace_replay.specs.declared.opening.Opening.{Opening}
@@ -24,9 +24,17 @@ pub record IsTrace (lines : List (List ℕ)) (opening : Opening) (said : List Tr
 abbrev pub IsNone : List (List ℕ) → Type 0
 IsNone lines = (opening : Opening) (said : List TraceLine) → ¬ (IsTrace lines opening said)
 
+-- The book that a text opens with has no room for the session of the trace, which a later line may name. The line of the book, the n-th,
+-- is wrong then.
+pub record IsCrowded (text : List ℕ) (n : ℕ) : Type 0 where
+  pub opening : Opening
+  pub opens : Open (lines_of text) opening
+  pub full : ¬ (HasRoom opening)
+  pub number : n ≡ line_of_book opening
+
 -- The n-th line, counted from 1, is the first that isn't of the grammar: those before it are a trace, and with it they are none. Or it is
 -- the last of a text that is too long.
-pub record IsMalformed (limit : ℕ) (text : List ℕ) (n : ℕ) : Type 0 where
+pub record IsFirstBad (limit : ℕ) (text : List ℕ) (n : ℕ) : Type 0 where
   pub good : List (List ℕ)
   pub line : List ℕ
   pub others : List (List ℕ)
@@ -37,10 +45,15 @@ pub record IsMalformed (limit : ℕ) (text : List ℕ) (n : ℕ) : Type 0 where
   pub all_good : IsTrace good opening said
   pub bad : IsNone (good ++ line ∷ []) ⊎ ((limit < length text) × (others ≡ []))
 
--- A text of at most so many bytes is a trace that says this.
+-- The n-th line is wrong: that of a book without room, whatever else is wrong; and else the first that isn't of the grammar.
+abbrev pub IsMalformed : ℕ → List ℕ → ℕ → Type 0
+IsMalformed limit text n = IsCrowded text n ⊎ (((opening : Opening) → Open (lines_of text) opening → HasRoom opening) × IsFirstBad limit text n)
+
+-- A text of at most so many bytes is a trace that says this, whose book has room for its session.
 pub record SaysTrace (limit : ℕ) (text : List ℕ) (opening : Opening) (said : List TraceLine) : Type 0 where
   pub within : length text ≤ limit
   pub all : IsTrace (lines_of text) opening said
+  pub room : HasRoom opening
 
 -- what the lines of a text are read as, which may have so many bytes
 abbrev pub ReadsLines : ℕ → List ℕ → LineReading → Type 0

@@ -1,14 +1,17 @@
 ghost use Rattle.std.specs.Prelude.{◌≡◌, ◌≢◌, ◌<◌, drop, ℕ, List, length, IfOk, MatchOption};
+ghost use Rattle.checkpoint_records.specs.Books.{choose as choose_of};
 ghost use Rattle.control_lines.specs.Lines.{lines_of};
-ghost use Rattle.checkpoint_records.specs.Spelling.{Spells};
 ghost use Rattle.checkpoint_records.specs.declared.records.Book.{Book as AnyBook};
-ghost use Rattle.trace_replay.specs.Openings.{BeginWith, FirstIs, Open, SaysBook, SaysCookie, SaysPatience, behind_opening, count_of, size_of};
+ghost use Rattle.trace_replay.specs.Openings.{BeginWith, FirstIs, HasRoom, Open, SaysBook, SpellsBook, SaysCookie, SaysPatience, SaysSession, behind_opening, book_opened as opened_by, count_of, line_of_book, session_of, size_of};
 
-use checkpoint_records::{Book, BookRefusal, read_book};
+use checkpoint_records::{Book, BookRefusal, choose, copy_book, is_name, read_book};
 use control_lines::{next_line, read_hex, read_number};
 use ice_cookie::Cookie;
-use owned_lists::NoMemory;
+use owned_lists::{NoMemory, Octets};
 use std::alloc::Global;
+
+/// So many sessions may stand in a book beside the one that runs.
+const OTHERS_LIMIT: usize = 7;
 
 /// What a trace says in front of its session. What it doesn't say is as in a rehearsal.
 #[derive(Drop)]
@@ -19,6 +22,8 @@ pub struct Opening {
     pub book: Option<Book>,
     /// `patience MS`, from 1.
     pub patience: Option<u64>,
+    /// `session NAME`, of 1 to 64 bytes from `!` to `~`.
+    pub session: Option<Octets>,
 }
 
 /// What stands behind a word in the first line of a text, where that line begins with it.
@@ -73,8 +78,8 @@ fn read_cookie(alloc: Global, text: &[u8]) -> Result<Option<Cookie>, NoMemory>
 /// The book that these bytes spell, if a session can open it.
 fn book_of(alloc: Global, bytes: &[u8]) -> Result<Option<Book>, NoMemory>
     ensures { IfOk result (λ found.
-        MatchOption found ((book : AnyBook) → Spells bytes.now book → ¬ (book.epoch < 4294967295))
-        (λ book. Spells bytes.now book × (book.epoch < 4294967295))) }
+        MatchOption found ((book : AnyBook) → SpellsBook bytes.now book → ¬ (book.epoch < 4294967295))
+        (λ book. SpellsBook bytes.now book × (book.epoch < 4294967295))) }
 {
     match read_book(alloc, bytes) {
         Ok(book) => {
@@ -119,8 +124,22 @@ fn read_patience(alloc: Global, text: &[u8]) -> Result<Option<u64>, NoMemory>
     }
 }
 
-/// What a text opens with: the cookie first, then the book, then the patience, as far as they are
-/// there.
+/// The name of the session that a text opens with.
+fn read_session(alloc: Global, text: &[u8]) -> Result<Option<Octets>, NoMemory>
+    ensures { IfOk result (BeginWith SaysSession (lines_of text.now)) }
+{
+    let Some(field) = first_field(text, b"session ") else {
+        return Ok(None);
+    };
+    if !is_name(field) {
+        return Ok(None);
+    }
+    let name = Octets::from_slice(alloc, field)?;
+    Ok(Some(name))
+}
+
+/// What a text opens with: the cookie first, then the book, then the patience, then the session, as
+/// far as they are there.
 pub fn read_opening(alloc: Global, text: &[u8]) -> Result<Opening, NoMemory>
     ensures { IfOk result (Open (lines_of text.now)) }
 {
@@ -129,11 +148,22 @@ pub fn read_opening(alloc: Global, text: &[u8]) -> Result<Opening, NoMemory>
     let book = read_opened_book(alloc, behind_cookie)?;
     let behind_book = behind(behind_cookie, &book);
     let patience = read_patience(alloc, behind_book)?;
+    let behind_patience = behind(behind_book, &patience);
+    let session = read_session(alloc, behind_patience)?;
     Ok(Opening {
         cookie,
         book,
         patience,
+        session,
     })
+}
+
+/// The same book, in which the session of this name is chosen.
+fn chosen_in(alloc: Global, book: &Book, name: &[u8]) -> Result<Book, NoMemory>
+    ensures { IfOk result (λ chosen. chosen ≡ choose_of name.now book.now) }
+{
+    let twin = copy_book(book)?;
+    choose(alloc, twin, name)
 }
 
 impl Opening {
@@ -144,6 +174,48 @@ impl Opening {
         u64::from(self.cookie.is_some())
             + u64::from(self.book.is_some())
             + u64::from(self.patience.is_some())
+            + u64::from(self.session.is_some())
+    }
+
+    /// The name of its session: `default` where it says none.
+    pub fn session_name(&self) -> &[u8]
+        ensures { result.now ≡ session_of self.now }
+    {
+        match &self.session {
+            Some(name) => name.as_slice(),
+            None => b"default",
+        }
+    }
+
+    /// Its book, in which its session is chosen.
+    pub fn book_opened(&self, alloc: Global) -> Result<Option<Book>, NoMemory>
+        ensures { IfOk result (λ book. book ≡ opened_by self.now) }
+    {
+        match &self.book {
+            Some(book) => {
+                let chosen = chosen_in(alloc, book, self.session_name())?;
+                Ok(Some(chosen))
+            }
+            None => Ok(None),
+        }
+    }
+
+    /// The number of the line with the book, where that has no room for the session.
+    pub fn crowded_at(&self, alloc: Global) -> Result<Option<u64>, NoMemory>
+        ensures { IfOk result (λ found.
+            MatchOption found (HasRoom self.now) (λ at. (¬ (HasRoom self.now))
+            × (at ≡ line_of_book self.now))) }
+    {
+        match self.book_opened(alloc)? {
+            Some(book) => {
+                if book.others.as_slice().len() <= OTHERS_LIMIT {
+                    Ok(None)
+                } else {
+                    Ok(Some(u64::from(self.cookie.is_some()) + 1))
+                }
+            }
+            None => Ok(None),
+        }
     }
 
     /// The text behind it.
@@ -152,6 +224,7 @@ impl Opening {
     {
         let behind_cookie = behind(text, &self.cookie);
         let behind_book = behind(behind_cookie, &self.book);
-        behind(behind_book, &self.patience)
+        let behind_patience = behind(behind_book, &self.patience);
+        behind(behind_patience, &self.session)
     }
 }

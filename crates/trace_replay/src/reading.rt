@@ -48,6 +48,11 @@ pub fn read_lines(alloc: Global, text: &[u8], limit: usize) -> Result<LineReadin
     ensures reads { IfOk result (ReadsLines limit text.now) }
 {
     let opening = read_opening(alloc, text)?;
+    let crowded = opening.crowded_at(alloc)?;
+    match crowded {
+        Some(at) => return Ok(LineReading::Malformed { at }),
+        None => {}
+    }
     let mut lines = TraceLineList::new(alloc);
     let mut left = opening.behind(text);
     let mut number = opening.size();

@@ -100,6 +100,11 @@ pub fn show_within(alloc: Global, trace: &[u8], limit: usize) -> Result<ShowAnsw
     ensures { IfOk result (ShowsWithin limit trace.now) }
 {
     let opening = read_opening(alloc, trace)?;
+    let crowded = opening.crowded_at(alloc)?;
+    match crowded {
+        Some(at) => return Ok(ShowAnswer::Malformed { at }),
+        None => {}
+    }
     let mut watch = Watch::new(alloc);
     let mut text = Octets::new(alloc);
     let mut left = opening.behind(trace);
@@ -130,7 +135,7 @@ pub fn show_within(alloc: Global, trace: &[u8], limit: usize) -> Result<ShowAnsw
 ///
 /// The lines of a trace are those of a script that say an event, `end`, `sent N HEX`, `shut N`,
 /// `started` and `unstarted` with a command, and `printed` with any text. In front of them may stand
-/// `cookie HEX`, `book HEX` and `patience MS`, in this order, of which nothing is shown.
+/// `cookie HEX`, `book HEX`, `patience MS` and `session NAME`, in this order, of which nothing is shown.
 pub fn show(alloc: Global, trace: &[u8]) -> Result<ShowAnswer, NoMemory>
     ensures { IfOk result (Shows trace.now) }
 {

@@ -1,5 +1,5 @@
 -- What words say that stand in pairs.
-use Rattle.std.specs.Prelude.{◌≡◌, ℕ, ◌≤◌, List, [], ◌∷◌, length, Option, Some, None, if◌then◌else◌}
+use Rattle.std.specs.Prelude.{◌≡◌, ℕ, ◌≤◌, List, [], ◌∷◌, drop, length, Option, Some, None, if◌then◌else◌}
 use Rattle.std.specs.Str.{bytes_eq}
 
 -- some words, two by two
@@ -12,6 +12,18 @@ pairs_of (name ∷ value ∷ words) = (name, value) ∷ pairs_of words
 abbrev pub value_in : List (List ℕ × List ℕ) → List ℕ → Option (List ℕ)
 value_in [] name = None
 value_in (pair ∷ pairs) name = if bytes_eq pair.0 name then Some pair.1 else value_in pairs name
+
+-- the pairs of words behind the first
+abbrev pub options_of : List (List ℕ) → List (List ℕ × List ℕ)
+options_of words = pairs_of (drop 1 words)
+
+abbrev pub option_in : List (List ℕ) → List ℕ → Option (List ℕ)
+option_in words name = value_in (options_of words) name
+
+-- an option that is named takes two words
+abbrev pub words_taken : Option (List ℕ) → ℕ
+words_taken None = 0
+words_taken (Some value) = 2
 
 -- a path has 1 to 4,096 bytes
 pub record IsPath (path : List ℕ) : Type 0 where

@@ -3,4 +3,4 @@
 
 mod words;
 
-pub use words::{is_word, path_of, value_from, value_of, word_at};
+pub use words::{begin_with, is_word, path_of, value_from, value_of, word_at, words_of_option};

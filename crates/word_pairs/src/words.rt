@@ -1,6 +1,6 @@
-ghost use Rattle.std.specs.Prelude.{◌≡◌, ◌↔◌, ◌<◌, ℕ, IsTrue, List, [], get_or, drop, length, map, string_bytes, MatchOption, Some, None};
+ghost use Rattle.std.specs.Prelude.{◌≡◌, ◌↔◌, ◌<◌, ◌≤◌, ◌∷◌, ℕ, IsTrue, List, [], get_or, drop, length, map, string_bytes, MatchOption, Some, None};
 ghost use Rattle.std.specs.Str.{bytes_eq};
-ghost use Rattle.word_pairs.specs.Words.{IsPath, HasPath, pairs_of, value_in};
+ghost use Rattle.word_pairs.specs.Words.{IsPath, HasPath, option_in, options_of, pairs_of, value_in, words_taken};
 
 /// The most bytes that a path may have.
 const PATH_LIMIT: usize = 4096;
@@ -39,11 +39,29 @@ pub fn value_from<'a>(words: &'a [String], from: usize, name: &str) -> Option<&'
 
 /// The value of the first pair with this name, of the pairs behind the first word.
 pub fn value_of<'a>(words: &'a [String], name: &str) -> Option<&'a str>
-    ensures { MatchOption result (value_in (pairs_of (drop 1 (map string_bytes words.now))) name.now
-        ≡ None) (λ value. value_in (pairs_of (drop 1 (map string_bytes words.now))) name.now
-        ≡ Some value.now) }
+    ensures { MatchOption result (option_in (map string_bytes words.now) name.now ≡ None) (λ value.
+        option_in (map string_bytes words.now) name.now ≡ Some value.now) }
 {
     value_from(words, 1, name)
+}
+
+/// How many words an option takes: two where it is named, and else none.
+pub fn words_of_option(words: &[String], name: &str) -> usize
+    ensures count { result ≡ words_taken (option_in (map string_bytes words.now) name.now) }
+    ensures few { result ≤ 2 }
+{
+    match value_of(words, name) {
+        Some(_) => 2,
+        None => 0,
+    }
+}
+
+/// Whether this is the first word.
+pub fn begin_with(words: &[String], first: &str) -> bool
+    ensures { IsTrue result ↔ (map string_bytes words.now ≡ first.now ∷ drop 1
+        (map string_bytes words.now)) }
+{
+    !words.is_empty() && is_word(words, 0, first)
 }
 
 /// Whether a path can be named: it has 1 to 4,096 bytes.
@@ -56,8 +74,8 @@ fn is_path(path: &str) -> bool
 /// The path that the pairs behind the first word have with this name.
 pub fn path_of<'a>(words: &'a [String], name: &str) -> Option<&'a str>
     ensures { MatchOption result ((value : List ℕ) →
-        ¬ (HasPath (pairs_of (drop 1 (map string_bytes words.now))) name.now value)) (λ value.
-        HasPath (pairs_of (drop 1 (map string_bytes words.now))) name.now value.now) }
+        ¬ (HasPath (options_of (map string_bytes words.now)) name.now value)) (λ value.
+        HasPath (options_of (map string_bytes words.now)) name.now value.now) }
 {
     match value_of(words, name) {
         Some(value) => { if is_path(value) { Some(value) } else { None } }

@@ -10,10 +10,10 @@ returns-in-Err-clause-exact c =
 
 pub returns-in-Ok-read_on-clause-exact : goal.returns-in-Ok-read_on-clause-exact
 returns-in-Ok-read_on-clause-exact c =
-    exact_book c.args.bytes.now c.args.n c.split_at.result.0.now c.split_at.result.1.now c.split_at.ensures.front c.split_at.ensures.back c.in-Ok.first c.in-Ok-read_on.book c.in-Ok-read_on.more c.in-Ok.ensures.book c.in-Ok-read_on.ensures.book
+    exact_book c.args.bytes.now c.args.n c.split_at.result.0.now c.split_at.result.1.now c.split_at.ensures.front c.split_at.ensures.back c.in-Ok.first.format c.in-Ok.first.book c.in-Ok-read_on.book c.in-Ok-read_on.more c.in-Ok.ensures.book c.in-Ok-read_on.ensures.book c.told_length.result c.told_length.ensures
 
 pub returns-in-Err-Damaged-clause-exact : goal.returns-in-Err-Damaged-clause-exact
 returns-in-Err-Damaged-clause-exact c =
     let stops = rw c.in-Err-Damaged.field-0-is at c.in-Err-Damaged.ensures.damaged in
-    exact_refusal c.args.bytes.now c.args.n (Damaged (c.args.n + c.in-Err-Damaged.at))
-    (slot_stops c.args.bytes.now c.args.n c.split_at.result.0.now c.split_at.result.1.now c.split_at.ensures.front c.split_at.ensures.back c.in-Ok.first c.in-Err-Damaged.at c.in-Ok.ensures.book stops)
+    rw c.in-Err-Damaged.field-0-is (exact_refusal c.args.bytes.now c.args.n (Damaged (c.args.n + c.in-Err-Damaged.at))
+    (slot_stops c.args.bytes.now c.args.n c.split_at.result.0.now c.split_at.result.1.now c.split_at.ensures.front c.split_at.ensures.back c.in-Ok.first.format c.in-Ok.first.book c.in-Err-Damaged.at c.in-Ok.ensures.book stops))

@@ -1,6 +1,6 @@
-use Rattle.std.proofs.Common.{◌≡◌, ◌+◌, ◌≤◌, ℕ, List, length, take, drop, ap, sym, ◌∙◌, arith}
+use Rattle.std.proofs.Common.{◌+◌, ℕ, List, length, ap, ◌∙◌, arith}
 use Rattle.checkpoint_slots.specs.Causes.{Never}
-use Rattle.checkpoint_slots.proofs.Leading.{rules-of}
+use Rattle.checkpoint_slots.proofs.Leading.{chosen-of, rules-of}
 use Rattle.checkpoint_slots.proofs.Looking.{bad-length, found-or-damaged, no-damage, settled-on}
 use Rattle.checkpoint_slots.proofs.recovery.read_chosen.Goals as goal
 
@@ -26,3 +26,6 @@ returns-clause-found g c =
 
 pub returns-clause-rules : goal.returns-clause-rules
 returns-clause-rules g c = rules-of (c.start-at.result + 16) c.in_ok-count.count c.deref.result.now c.whole_book.result c.whole_book.ensures.ok
+
+pub returns-clause-named : goal.returns-clause-named
+returns-clause-named g c = chosen-of (c.start-at.result + 16) c.in_ok-count.count c.deref.result.now c.whole_book.result c.whole_book.ensures.ok

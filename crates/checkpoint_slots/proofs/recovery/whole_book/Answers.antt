@@ -1,4 +1,4 @@
-use Rattle.std.proofs.Common.{◌≡◌, ◌+◌, ◌≤◌, ◌^◌, subst, arith}
+use Rattle.std.proofs.Common.{subst, arith}
 use Rattle.checkpoint_records.specs.declared.refusals.BookRefusal.{BookRefusal}
 use Rattle.checkpoint_changes.specs.Amendments.{IsSlotRefused}
 use Rattle.checkpoint_slots.proofs.Leading.{slot-damaged-within}

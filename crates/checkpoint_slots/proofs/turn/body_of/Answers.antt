@@ -5,7 +5,7 @@ use Rattle.checkpoint_slots.proofs.Room.{book-room}
 use Rattle.checkpoint_slots.proofs.turn.body_of.Goals as goal
 
 pub overflow_cast-len : goal.overflow_cast-len
-overflow_cast-len c = let room = (book-room c.args.book.now c.requires).fits in rw (c.len.ensures, c.in_ok-bytes.ensures) (omega (arith, room))
+overflow_cast-len c = let room = (book-room c.args.book.now c.requires.rules).fits in rw (c.len.ensures, c.in_ok-bytes.ensures) (omega (arith, room))
 
 pub returns : goal.returns
 returns c =

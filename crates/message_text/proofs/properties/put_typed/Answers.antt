@@ -1,6 +1,7 @@
 use Rattle.std.proofs.Common.{◌++◌, ◌∙◌, ap}
 use Rattle.message_text.specs.Properties.{is_number, kind_note, typed_text, values_text}
-use Rattle.message_text.proofs.Joining.{joined, on_ok_by}
+use Rattle.ice_values.proofs.OptionLaws.{on_ok_by}
+use Rattle.message_text.proofs.Joining.{joined}
 use Rattle.message_text.proofs.properties.put_typed.Goals as goal
 
 pub returns : goal.returns

@@ -4,6 +4,7 @@ use Rattle.sm_world.proofs.Adding.{fallen_never}
 use Rattle.nested_session.specs.Nests.{success}
 use Rattle.nested_session.specs.Serving.{run_of}
 use Rattle.nested_session.specs.Standing.{sent_on}
+use Rattle.nested_session.proofs.CauseLaws.{cause_since}
 use Rattle.nested_session.proofs.LoopLaws.{first_other, loop_begins, loop_cut, loop_ends, loop_goes_on, loop_silent, loop_spent, loop_unopened, loop_unsaid}
 use Rattle.nested_session.proofs.serving.run_nested.Goals as goal
 
@@ -51,3 +52,14 @@ loop-preserved g c =
 
 pub returns-clause-nests : goal.returns-clause-nests
 returns-clause-nests g c = loop_spent c.args.config c.args.turns (run_of c.args.agent) c.args.first c.loop.counter (g.W.Told.outside c.args.world.now) (g.W.Told.outside c.loop.world) c.loop.nest (omega (arith, c.loop.auto.counter-end, c.loop-test.false)) c.loop.invariant.held
+
+pub returns-in-Err-send_outer-clause-cause : goal.returns-in-Err-send_outer-clause-cause
+returns-in-Err-send_outer-clause-cause g c = cause_since c.in-Err-send_outer.fault (g.W.Told.outside c.args.world.now).faults (g.W.Told.outside c.start.new.world).faults (g.W.Told.outside c.send_outer.new.world).faults c.in-Ok.ensures.counts c.in-Err-send_outer.ensures.alone.cause
+
+pub returns-in-Err-hear-clause-cause : goal.returns-in-Err-hear-clause-cause
+returns-in-Err-hear-clause-cause g c = cause_since c.in-Err-hear.fault (g.W.Told.outside c.args.world.now).faults (g.W.Told.outside c.loop.world).faults (g.W.Told.outside c.hear.new.world).faults c.loop.invariant.counts c.in-Err-hear.ensures.cause
+
+pub returns-in-Err-take-clause-cause : goal.returns-in-Err-take-clause-cause
+returns-in-Err-take-clause-cause g c =
+    cause_since c.in-Err-take.fault (g.W.Told.outside c.args.world.now).faults (g.W.Told.outside c.hear.new.world).faults (g.W.Told.outside c.take.new.world).faults
+    (fallen_never (g.W.Told.outside c.args.world.now).faults (g.W.Told.outside c.loop.world).faults (g.W.Told.outside c.hear.new.world).faults c.loop.invariant.counts c.in-Ok-hear.ensures.counts) c.in-Err-take.ensures.alone.cause

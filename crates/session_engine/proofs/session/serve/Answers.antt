@@ -1,18 +1,20 @@
-use Rattle.std.proofs.Common.{◌+◌, refl, sym, ◌∙◌, ap, arith}
+use Rattle.std.proofs.Common.{◌+◌, refl, sym, ◌∙◌, ap, arith, subst}
 use Rattle.sm_world.proofs.Adding.{fallen_never}
 use Rattle.session_model.specs.declared.marks.Marks.{Marks}
+use Rattle.session_engine.specs.Causes.{HasCause}
 use Rattle.session_engine.specs.Turns.{is_end}
+use Rattle.session_engine.specs.declared.fault.ServeFault.{ServeFault}
 use Rattle.session_engine.specs.declared.fault.ServeFault.TheVariants.{Spent}
 use Rattle.session_engine.specs.declared.session.Session.{Session}
 use Rattle.session_engine.specs.declared.session.Stepped.TheVariants.{Finished}
-use Rattle.session_engine.proofs.Loop.{keeps_word, loop_begins, loop_cut_short, loop_ends, loop_goes_on, loop_over, loop_silent, loop_unopened, ready, shown_in, step_cut_short, step_ends, step_goes, together}
+use Rattle.session_engine.proofs.Loop.{caused_since, keeps_word, loop_begins, loop_cut_short, loop_ends, loop_goes_on, loop_over, loop_silent, loop_unopened, ready, shown_in, spent_is_not_worn, step_cut_short, step_ends, step_goes, together}
 use Rattle.session_engine.proofs.session.serve.Goals as goal
 
 pub returns-in-Err-clause-serves : goal.returns-in-Err-clause-serves
 returns-in-Err-clause-serves g c = loop_unopened c.args.config c.args.turns (g.W.Told.outside c.args.world.now) (g.W.Told.outside c.start.new.world) c.in-Err.fault c.in-Err.ensures.starts
 
 pub returns-in-Err-clause-headline : goal.returns-in-Err-clause-headline
-returns-in-Err-clause-headline g c = keeps_word c.args.config c.args.turns (g.W.Told.outside c.args.world.now) (g.W.Told.outside c.start.new.world) _ (returns-in-Err-clause-serves g c)
+returns-in-Err-clause-headline g c = keeps_word c.args.config c.args.turns (g.W.Told.outside c.args.world.now) (g.W.Told.outside c.start.new.world) _ c.requires.named (returns-in-Err-clause-serves g c)
 
 pub returns-in-Err-clause-ready : goal.returns-in-Err-clause-ready
 returns-in-Err-clause-ready g c = ready c.args.config c.args.turns (g.W.Told.outside c.args.world.now) (g.W.Told.outside c.start.new.world) _ (returns-in-Err-clause-serves g c) c.in-Err.ensures.first
@@ -21,10 +23,15 @@ pub returns-in-Err-hear-clause-serves : goal.returns-in-Err-hear-clause-serves
 returns-in-Err-hear-clause-serves g c = rw (c.fault.ensures) (loop_silent c.args.config c.args.turns c.loop.counter (g.W.Told.outside c.args.world.now) (g.W.Told.outside c.loop.world) (g.W.Told.outside c.hear.new.world) (together c.loop.engine c.loop.shell c.loop.store) c.in-Err-hear.halt c.loop-test.true c.in-Err-hear.ensures.able c.in-Err-hear.ensures.effects c.in-Err-hear.ensures.store c.loop.invariant.held)
 
 pub returns-in-Err-hear-clause-headline : goal.returns-in-Err-hear-clause-headline
-returns-in-Err-hear-clause-headline g c = keeps_word c.args.config c.args.turns (g.W.Told.outside c.args.world.now) (g.W.Told.outside c.hear.new.world) _ (returns-in-Err-hear-clause-serves g c)
+returns-in-Err-hear-clause-headline g c = keeps_word c.args.config c.args.turns (g.W.Told.outside c.args.world.now) (g.W.Told.outside c.hear.new.world) _ c.requires.named (returns-in-Err-hear-clause-serves g c)
 
 pub returns-in-Err-hear-clause-ready : goal.returns-in-Err-hear-clause-ready
 returns-in-Err-hear-clause-ready g c = ready c.args.config c.args.turns (g.W.Told.outside c.args.world.now) (g.W.Told.outside c.hear.new.world) _ (returns-in-Err-hear-clause-serves g c) (c.in-Err-hear.ensures.first ∙ c.loop.invariant.first)
+
+pub returns-in-Err-hear-clause-cause : goal.returns-in-Err-hear-clause-cause
+returns-in-Err-hear-clause-cause g c =
+    subst (λ (fault : ServeFault). HasCause (g.W.Told.outside c.args.world.now).faults (g.W.Told.outside c.hear.new.world).faults fault) (sym c.fault.ensures)
+    (caused_since c.in-Err-hear.halt (g.W.Told.outside c.args.world.now).faults (g.W.Told.outside c.loop.world).faults (g.W.Told.outside c.hear.new.world).faults c.loop.invariant.counts c.in-Err-hear.ensures.counts.cause)
 
 pub returns-in-Ended-clause-serves : goal.returns-in-Ended-clause-serves
 returns-in-Ended-clause-serves g c =
@@ -34,7 +41,7 @@ returns-in-Ended-clause-serves g c =
     loop_ends c.args.config c.args.turns c.loop.counter (g.W.Told.outside c.args.world.now) (g.W.Told.outside c.loop.world) (g.W.Told.outside c.hear.new.world) (g.W.Told.outside c.take_event.new.world) before c.in-Ok-hear.event (Finished marks) marks refl c.loop-test.true c.loop.invariant.held c.in-Ok-hear.ensures.effects c.in-Ok-hear.ensures.coming (c.in-Ok-take_event.ensures.alone.size ∙ (c.in-Ok-hear.ensures.store ∙ c.loop.invariant.size)) steps
 
 pub returns-in-Ended-clause-headline : goal.returns-in-Ended-clause-headline
-returns-in-Ended-clause-headline g c = keeps_word c.args.config c.args.turns (g.W.Told.outside c.args.world.now) (g.W.Told.outside c.take_event.new.world) _ (returns-in-Ended-clause-serves g c)
+returns-in-Ended-clause-headline g c = keeps_word c.args.config c.args.turns (g.W.Told.outside c.args.world.now) (g.W.Told.outside c.take_event.new.world) _ c.requires.named (returns-in-Ended-clause-serves g c)
 
 pub returns-in-Ended-clause-ready : goal.returns-in-Ended-clause-ready
 returns-in-Ended-clause-ready g c = ready c.args.config c.args.turns (g.W.Told.outside c.args.world.now) (g.W.Told.outside c.take_event.new.world) _ (returns-in-Ended-clause-serves g c) (c.in-Ok-take_event.ensures.alone.first ∙ (c.in-Ok-hear.ensures.first ∙ c.loop.invariant.first))
@@ -46,10 +53,15 @@ returns-in-Err-take_event-clause-serves g c =
     loop_cut_short c.args.config c.args.turns c.loop.counter (g.W.Told.outside c.args.world.now) (g.W.Told.outside c.loop.world) (g.W.Told.outside c.hear.new.world) (g.W.Told.outside c.take_event.new.world) before c.in-Ok-hear.event c.fault-in-Err-take_event.result c.loop-test.true c.loop.invariant.held c.in-Ok-hear.ensures.effects c.in-Ok-hear.ensures.coming (c.in-Err-take_event.ensures.alone.size ∙ (c.in-Ok-hear.ensures.store ∙ c.loop.invariant.size)) steps
 
 pub returns-in-Err-take_event-clause-headline : goal.returns-in-Err-take_event-clause-headline
-returns-in-Err-take_event-clause-headline g c = keeps_word c.args.config c.args.turns (g.W.Told.outside c.args.world.now) (g.W.Told.outside c.take_event.new.world) _ (returns-in-Err-take_event-clause-serves g c)
+returns-in-Err-take_event-clause-headline g c = keeps_word c.args.config c.args.turns (g.W.Told.outside c.args.world.now) (g.W.Told.outside c.take_event.new.world) _ c.requires.named (returns-in-Err-take_event-clause-serves g c)
 
 pub returns-in-Err-take_event-clause-ready : goal.returns-in-Err-take_event-clause-ready
 returns-in-Err-take_event-clause-ready g c = ready c.args.config c.args.turns (g.W.Told.outside c.args.world.now) (g.W.Told.outside c.take_event.new.world) _ (returns-in-Err-take_event-clause-serves g c) (c.in-Err-take_event.ensures.alone.first ∙ (c.in-Ok-hear.ensures.first ∙ c.loop.invariant.first))
+
+pub returns-in-Err-take_event-clause-cause : goal.returns-in-Err-take_event-clause-cause
+returns-in-Err-take_event-clause-cause g c =
+    subst (λ (fault : ServeFault). HasCause (g.W.Told.outside c.args.world.now).faults (g.W.Told.outside c.take_event.new.world).faults fault) (sym c.fault-in-Err-take_event.ensures)
+    (caused_since c.in-Err-take_event.halt (g.W.Told.outside c.args.world.now).faults (g.W.Told.outside c.hear.new.world).faults (g.W.Told.outside c.take_event.new.world).faults (fallen_never (g.W.Told.outside c.args.world.now).faults (g.W.Told.outside c.loop.world).faults (g.W.Told.outside c.hear.new.world).faults c.loop.invariant.counts c.in-Ok-hear.ensures.counts.counts) c.in-Err-take_event.ensures.alone.counts.cause)
 
 pub loop-init : goal.loop-init
 loop-init g c =
@@ -73,10 +85,10 @@ loop-preserved g c =
     }
 
 pub returns-clause-serves : goal.returns-clause-serves
-returns-clause-serves g c = loop_over c.args.config c.args.turns c.loop.counter (g.W.Told.outside c.args.world.now) (g.W.Told.outside c.loop.world) (g.W.Told.outside c.loop.world) (together c.loop.engine c.loop.shell c.loop.store) Spent (omega (arith, c.loop.auto.counter-end)) (λ e. absurd cc) refl tt (λ e. omega (arith, c.loop.auto.counter-end, c.loop-test.false)) refl refl c.loop.invariant.held
+returns-clause-serves g c = loop_over c.args.config c.args.turns c.loop.counter (g.W.Told.outside c.args.world.now) (g.W.Told.outside c.loop.world) (g.W.Told.outside c.loop.world) (together c.loop.engine c.loop.shell c.loop.store) Spent (omega (arith, c.loop.auto.counter-end)) spent_is_not_worn refl tt (λ e. omega (arith, c.loop.auto.counter-end, c.loop-test.false)) refl refl c.loop.invariant.held
 
 pub returns-clause-headline : goal.returns-clause-headline
-returns-clause-headline g c = keeps_word c.args.config c.args.turns (g.W.Told.outside c.args.world.now) (g.W.Told.outside c.loop.world) _ (returns-clause-serves g c)
+returns-clause-headline g c = keeps_word c.args.config c.args.turns (g.W.Told.outside c.args.world.now) (g.W.Told.outside c.loop.world) _ c.requires.named (returns-clause-serves g c)
 
 pub returns-clause-ready : goal.returns-clause-ready
 returns-clause-ready g c = ready c.args.config c.args.turns (g.W.Told.outside c.args.world.now) (g.W.Told.outside c.loop.world) _ (returns-clause-serves g c) c.loop.invariant.first

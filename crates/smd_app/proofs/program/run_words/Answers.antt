@@ -1,7 +1,8 @@
 use Rattle.std.proofs.Common.{map, string_bytes, rules, inl, inr, refl, Err}
 use Rattle.program_frame.proofs.InputLemmas.{err_is}
 use Rattle.smd_app.proofs.Ending.{does, does_nothing, means_none}
-use Rattle.smd_app.specs.Words.{Rehearse, Exercise, Serve}
+use Rattle.smd_app.proofs.Wording.{session_fits}
+use Rattle.smd_app.specs.Words.{AreServe, Rehearse, Exercise, Serve, places_of}
 use Rattle.smd_app.specs.declared.fault.Fault.TheVariants.{BadWords, NoMemory}
 use Rattle.smd_app.proofs.program.run_words.Goals as goal
 
@@ -9,9 +10,14 @@ pub returns-in-Some-clause-runs : goal.returns-in-Some-clause-runs
 returns-in-Some-clause-runs g c =
     does (map string_bytes c.args.words.now) c.args.identity.now c.args.turns (g.W.Told.outside c.args.world.now) (g.W.Told.outside c.rehearse.new.world) c.rehearse.result (Rehearse c.in-Some.patience) (rw c.in-Some.is at c.in_ok-patience.ensures) (c.rehearse.ensures.runs c.args.identity.now)
 
+pub serve_session-requires-clause-session : goal.serve_session-requires-clause-session
+serve_session-requires-clause-session g c =
+    let are : AreServe (map string_bytes c.args.words.now) (places_of c.in-Some-2.paths) = rw c.in-Some-2.is at c.in_ok-paths.ensures in
+    session_fits _ c.in-Some-2.paths.session.now are.session
+
 pub returns-in-Some-2-clause-runs : goal.returns-in-Some-2-clause-runs
 returns-in-Some-2-clause-runs g c =
-    does (map string_bytes c.args.words.now) c.args.identity.now c.args.turns (g.W.Told.outside c.args.world.now) (g.W.Told.outside c.serve_session.new.world) c.serve_session.result (Serve (record { socket = c.in-Some-2.paths.socket.now; control = c.in-Some-2.paths.control.now; store = c.in-Some-2.paths.store.now; authority = c.in-Some-2.paths.authority.now; patience = c.in-Some-2.paths.patience })) (rw c.in-Some-2.is at c.in_ok-paths.ensures) c.serve_session.ensures.runs
+    does (map string_bytes c.args.words.now) c.args.identity.now c.args.turns (g.W.Told.outside c.args.world.now) (g.W.Told.outside c.serve_session.new.world) c.serve_session.result (Serve (places_of c.in-Some-2.paths)) (rw c.in-Some-2.is at c.in_ok-paths.ensures) c.serve_session.ensures.runs
 
 pub returns-in_err-exercise-clause-runs : goal.returns-in_err-exercise-clause-runs
 returns-in_err-exercise-clause-runs g c =

@@ -2,12 +2,15 @@ use Rattle.std.proofs.Common.{◌∙◌, List, ℕ, map, string_bytes, codes, in
 use Rattle.std.proofs.lemmas.Bool.{false≢true}
 use Rattle.program_frame.proofs.InputLemmas.{err_is}
 use Rattle.sm_world.specs.Outside.{Added}
+use Rattle.checkpoint_records.specs.Rules.{IsName}
+use Rattle.checkpoint_records.proofs.NameLaws.{default_fits}
 use Rattle.outer_agent.specs.Words.{AreFew}
 use Rattle.smd_app.specs.declared.fault.Fault.TheVariants.{BadWords, NoMemory}
 use Rattle.smnest_app.proofs.Ending.{does, does_nothing}
 use Rattle.smnest_app.proofs.Wording.{means_none, not_some, short_id, too_many}
 use Rattle.smnest_app.specs.Statuses.{RunsTask}
-use Rattle.smnest_app.specs.Words.{Rehearse, Serve, option_in, places_of}
+use Rattle.word_pairs.specs.Words.{option_in}
+use Rattle.smnest_app.specs.Words.{Rehearse, Serve, places_of}
 use Rattle.smnest_app.specs.declared.fault.Fault.TheVariants.{Session}
 use Rattle.smnest_app.proofs.program.run_words.Goals as goal
 
@@ -50,6 +53,9 @@ returns-in-Some-2-clause-runs g c =
 
 pub serve_inside-requires-clause-socket : goal.serve_inside-requires-clause-socket
 serve_inside-requires-clause-socket g c = (rw c.in-Some-2.is at c.in_ok-paths.ensures).own.socket.path.few
+
+pub serve_inside-requires-clause-session : goal.serve_inside-requires-clause-session
+serve_inside-requires-clause-session g c = subst IsName (sym (rw c.in-Some-2.is at c.in_ok-paths.ensures).session) default_fits
 
 pub serve_inside-requires-clause-id : goal.serve_inside-requires-clause-id
 serve_inside-requires-clause-id g c = short_id (option_in (map string_bytes c.args.words.now) (codes "--outer-id")) c.in-Some-2.paths.id.now (rw c.in-Some-2.is at c.in_ok-paths.ensures).id

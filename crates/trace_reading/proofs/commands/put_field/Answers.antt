@@ -1,6 +1,7 @@
 use Rattle.std.proofs.Common.{◌≡◌, ◌∷◌, [], ◌++◌, false, codes, sym, ◌∙◌, ap, rules}
 use Rattle.std.specs.Str.{bytes_eq}
-use Rattle.message_text.proofs.Joining.{joined, on_ok_by}
+use Rattle.ice_values.proofs.OptionLaws.{on_ok_by}
+use Rattle.message_text.proofs.Joining.{joined}
 use Rattle.trace_reading.specs.Commands.{mark_told}
 use Rattle.trace_reading.proofs.CommandLemmas.{plain_mark}
 use Rattle.trace_reading.proofs.commands.put_field.Goals as goal

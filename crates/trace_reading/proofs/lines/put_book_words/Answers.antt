@@ -1,5 +1,5 @@
 use Rattle.std.proofs.Common.{◌≡◌, rules}
-use Rattle.message_text.proofs.Joining.{on_ok_by}
+use Rattle.ice_values.proofs.OptionLaws.{on_ok_by}
 use Rattle.trace_reading.proofs.LineLemmas.{book_line}
 use Rattle.trace_reading.proofs.lines.put_book_words.Goals as goal
 

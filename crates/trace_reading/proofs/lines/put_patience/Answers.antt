@@ -1,4 +1,4 @@
-use Rattle.message_text.proofs.Joining.{on_ok_by}
+use Rattle.ice_values.proofs.OptionLaws.{on_ok_by}
 use Rattle.trace_reading.proofs.LineLemmas.{patience_line}
 use Rattle.trace_reading.proofs.lines.put_patience.Goals as goal
 

@@ -1,6 +1,6 @@
 use Rattle.std.proofs.Common.{◌≡◌, rules}
 use Rattle.std.specs.Prelude.{option_copied}
-use Rattle.message_text.proofs.Joining.{on_ok_by}
+use Rattle.ice_values.proofs.OptionLaws.{on_ok_by}
 use Rattle.trace_reading.proofs.PartLemmas.{went_header}
 use Rattle.trace_reading.proofs.telling.put_sent.Goals as goal
 

@@ -1,7 +1,7 @@
 use Rattle.std.proofs.Common.{List, map, arith, subst}
 use Rattle.ice_framing.specs.Parts.{Whole}
 use Rattle.ice_framing.specs.declared.cutting.WholeFrame.{WholeFrame}
-use Rattle.message_text.proofs.Joining.{on_ok_by}
+use Rattle.ice_values.proofs.OptionLaws.{on_ok_by}
 use Rattle.trace_replay.specs.Parts.{ShowsParts}
 use Rattle.trace_replay.proofs.PartLemmas.{put_header}
 use Rattle.trace_replay.proofs.parts.put_parts.Goals as goal

@@ -1,12 +1,17 @@
 use Rattle.std.proofs.Common.{inl, inr, arith, rules}
-use Rattle.trace_replay.proofs.TraceLemmas.{begins, counts, empty_by, empty_of, ends, goes_on, opens_too_long, says_none, too_long, within_by}
+use Rattle.trace_replay.proofs.TraceLemmas.{begins, counts, crowds, empty_by, empty_of, ends, goes_on, opens_too_long, says_none, too_long, within_by}
 use Rattle.trace_replay.proofs.reading.read_lines.Goals as goal
 use Rattle.trace_replay.proofs.reading.read_lines.Goals.{else-is_empty-via-then-is_empty+else-text-limit, else-is_empty-via-else-is_empty, else-is_empty-2-via-then-is_empty-2+else-text-limit-2, else-is_empty-2-via-else-is_empty-2}
+
+pub returns-in-Some : goal.returns-in-Some
+returns-in-Some c =
+    let found = rw c.in-Some.is at c.in_ok-crowded.ensures in
+    record { reads = crowds c.args.limit c.args.text.now c.in_ok-opening.opening c.in-Some.at c.in_ok-opening.ensures found.0 found.1 }
 
 pub returns-then-text-limit : goal.returns-then-text-limit
 returns-then-text-limit c = record {
   reads =
-      opens_too_long c.args.limit c.args.text.now c.behind-left.result.now c.in_ok-opening.opening c.size-number.result c.in_ok-opening.ensures c.behind-left.ensures c.size-number.ensures (empty_by c.behind-left.result.now c.if-is_empty.ensures) (omega arith);
+      opens_too_long c.args.limit c.args.text.now c.behind-left.result.now c.in_ok-opening.opening c.size-number.result c.in_ok-opening.ensures c.behind-left.ensures c.size-number.ensures (empty_by c.behind-left.result.now c.if-is_empty.ensures) (omega arith) (rw c.in-None.is at c.in_ok-crowded.ensures);
 }
 
 pub loop-left-init : goal.loop-left-init
@@ -15,7 +20,7 @@ loop-left-init c =
     (within_by c.args.limit c.args.text.now c.behind-left.result.now (elim c.else-is_empty.branch [
       | else-is_empty-via-then-is_empty+else-text-limit w ↦ inr (omega arith)
       | else-is_empty-via-else-is_empty w ↦ inl w.if-is_empty.ensures
-    ])))
+    ])) (rw c.in-None.is at c.in_ok-crowded.ensures))
 
 pub overflow_add-number : goal.overflow_add-number
 overflow_add-number c =

@@ -1,5 +1,5 @@
 use Rattle.trace_replay.proofs.WatchLemmas.{put_came}
-use Rattle.message_text.proofs.Joining.{on_ok_by}
+use Rattle.ice_values.proofs.OptionLaws.{on_ok_by}
 use Rattle.trace_replay.proofs.showing.put_heard.Goals as goal
 
 pub returns-in-Piece : goal.returns-in-Piece

@@ -1,12 +1,17 @@
 use Rattle.std.proofs.Common.{inl, inr, arith, rules}
-use Rattle.trace_replay.proofs.TraceLemmas.{begins, counts, empty_by, empty_of, opens_too_long, says_none, too_long, within_by}
+use Rattle.trace_replay.proofs.TraceLemmas.{begins, counts, crowds, empty_by, empty_of, opens_too_long, says_none, too_long, within_by}
 use Rattle.trace_replay.proofs.ReadingLemmas.{shows_all, shows_none, shows_on}
 use Rattle.trace_replay.proofs.showing.show_within.Goals as goal
 use Rattle.trace_replay.proofs.showing.show_within.Goals.{else-is_empty-via-then-is_empty+else-trace-limit, else-is_empty-via-else-is_empty, else-is_empty-2-via-then-is_empty-2+else-trace-limit-2, else-is_empty-2-via-else-is_empty-2}
 
+pub returns-in-Some : goal.returns-in-Some
+returns-in-Some c =
+    let found = rw c.in-Some.is at c.in_ok-crowded.ensures in
+    crowds c.args.limit c.args.trace.now c.in_ok-opening.opening c.in-Some.at c.in_ok-opening.ensures found.0 found.1
+
 pub returns-then-trace-limit : goal.returns-then-trace-limit
 returns-then-trace-limit c =
-    opens_too_long c.args.limit c.args.trace.now c.behind-left.result.now c.in_ok-opening.opening c.size-number.result c.in_ok-opening.ensures c.behind-left.ensures c.size-number.ensures (empty_by c.behind-left.result.now c.if-is_empty.ensures) (omega arith)
+    opens_too_long c.args.limit c.args.trace.now c.behind-left.result.now c.in_ok-opening.opening c.size-number.result c.in_ok-opening.ensures c.behind-left.ensures c.size-number.ensures (empty_by c.behind-left.result.now c.if-is_empty.ensures) (omega arith) (rw c.in-None.is at c.in_ok-crowded.ensures)
 
 pub loop-left-init : goal.loop-left-init
 loop-left-init c =
@@ -15,7 +20,7 @@ loop-left-init c =
     (within_by c.args.limit c.args.trace.now c.behind-left.result.now (elim c.else-is_empty.branch [
       | else-is_empty-via-then-is_empty+else-trace-limit w ↦ inr (omega arith)
       | else-is_empty-via-else-is_empty w ↦ inl w.if-is_empty.ensures
-    ])))
+    ])) (rw c.in-None.is at c.in_ok-crowded.ensures))
     c.new-text.ensures c.new-watch.ensures (omega arith)
 
 pub overflow_add-number : goal.overflow_add-number

@@ -1,5 +1,5 @@
-use Rattle.std.proofs.Common.{rules, ◌≡◌, ◌+◌, ◌-◌, ◌^◌, ℕ, List, length, ap, subst, sym, refl, ◌∙◌, arith}
-use Rattle.std.specs.Prelude.{Option, Some}
+use Rattle.std.proofs.Common.{◌≡◌, ◌-◌, ◌^◌, ℕ, length, ap, sym, refl, ◌∙◌, arith}
+use Rattle.std.specs.Prelude.{Option}
 use Rattle.checkpoint_slots.specs.Turns.{advanced, end_in, next_generation}
 use Rattle.checkpoint_slots.specs.declared.turn.Current.{Current}
 use Rattle.checkpoint_slots.specs.declared.fault.StoreFault.TheVariants.{NoMemory, Worn}

@@ -1,4 +1,4 @@
-use Rattle.std.proofs.Common.{rules, ◌≡◌, ◌<◌, ◌^◌, ap, subst, ◌∙◌}
+use Rattle.std.proofs.Common.{rules, ◌<◌, ◌^◌, ap, subst, ◌∙◌}
 use Rattle.std.specs.Prelude.{Option}
 use Rattle.checkpoint_slots.specs.Recovery.{slot_bytes}
 use Rattle.checkpoint_slots.specs.Turns.{IsNext, next_generation}
@@ -13,11 +13,11 @@ returns-in-Err-clause-effects g c = compacts-refused c.args.self c.self.inside.s
 pub returns-in-Ok-put_book-clause-effects : goal.returns-in-Ok-put_book-clause-effects
 returns-in-Ok-put_book-clause-effects g c =
     let spelled = c.in-Ok.ensures.body.1 ∙ ap (λ (s : Option Current). slot_bytes (next_generation s) c.args.book.now) c.self.view_is in
-    let is : IsNext c.args.self c.args.book.now = record { rules = c.requires.rules; epoch = search rules; generation = subst (λ (s : Option Current). next_generation s < 2 ^ 64) c.self.view_is c.in-Ok.ensures.fits } in
+    let is : IsNext c.args.self c.args.book.now = record { rules = c.requires.rules; chosen = c.requires.chosen; epoch = search rules; generation = subst (λ (s : Option Current). next_generation s < 2 ^ 64) c.self.view_is c.in-Ok.ensures.fits } in
     added-by (λ added did. compacts-done c.args.self c.in-Ok.spelled.0 c.in-Ok.spelled.1 c.args.book.now (c.in-Ok.ensures.body.0 ∙ c.self.view_is) spelled is c.in-Ok-put_book.steady added did) c.in-Ok-put_book.ensures.effects
 
 pub returns-clause-effects : goal.returns-clause-effects
 returns-clause-effects g c =
     let spelled = c.in-Ok.ensures.body.1 ∙ ap (λ (s : Option Current). slot_bytes (next_generation s) c.args.book.now) c.self.view_is in
-    let is : IsNext c.args.self c.args.book.now = record { rules = c.requires.rules; epoch = search rules; generation = subst (λ (s : Option Current). next_generation s < 2 ^ 64) c.self.view_is c.in-Ok.ensures.fits } in
+    let is : IsNext c.args.self c.args.book.now = record { rules = c.requires.rules; chosen = c.requires.chosen; epoch = search rules; generation = subst (λ (s : Option Current). next_generation s < 2 ^ 64) c.self.view_is c.in-Ok.ensures.fits } in
     added-by (λ added did. compacts-not c.args.self c.in-Ok.spelled.0 c.in-Ok.spelled.1 c.args.book.now (c.in-Ok.ensures.body.0 ∙ c.self.view_is) spelled is c.in-Err-put_book.fault added c.in-Err-put_book.ensures.cause did) c.in-Err-put_book.ensures.effects

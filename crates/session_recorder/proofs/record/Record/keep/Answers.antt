@@ -1,7 +1,7 @@
 use Rattle.std.specs.Prelude.{◌≡◌}
-use Rattle.std.proofs.Common.{rules, ◌∙◌}
+use Rattle.std.proofs.Common.{rules}
 use Rattle.session_recorder.specs.Recorded.{appended, IsCut, IsLineOf}
-use Rattle.session_recorder.specs.declared.progress.Progress.TheVariants.{Recording, Lost}
+use Rattle.session_recorder.specs.declared.progress.Progress.TheVariants.{Recording}
 use Rattle.session_recorder.proofs.Noting.{goes-on-told, cut-told, missed-told}
 use Rattle.session_recorder.proofs.record.Record.keep.Goals as goal
 

@@ -1,5 +1,5 @@
 use Rattle.std.proofs.Common.{refl}
-use Rattle.message_text.proofs.Joining.{on_ok_by}
+use Rattle.ice_values.proofs.OptionLaws.{on_ok_by}
 use Rattle.trace_reading.proofs.FollowLemmas.{keeps_on, tells_on_line}
 use Rattle.trace_reading.proofs.following.Follower.take.Goals as goal
 
