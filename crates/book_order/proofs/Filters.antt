@@ -7,6 +7,7 @@ use Rattle.std.specs.Prelude.{filter}
 use Rattle.std.specs.List.{AllByRecursion, list_any}
 use Rattle.checkpoint_changes.specs.Plain.{KeepsOrder}
 use Rattle.checkpoint_changes.proofs.EqualLaws.{DecidesEqual}
+use Rattle.checkpoint_changes.proofs.PlainLaws.{filter_same}
 use Rattle.session_model.proofs.Pending.{all-append, all-more}
 
 pub either_false : (a b : Bool) → a ≡ false → b ≡ false → (a || b) ≡ false
@@ -15,10 +16,6 @@ either_false a b p q = rw (p, q) refl
 or_true : (b : Bool) → (b || true) ≡ true
 or_true true = refl
 or_true false = refl
-
-pub filters_same : {K : Type 0} (p q : K → Bool) (ks : List K) → AllByRecursion (λ k. p k ≡ q k) ks → filter p ks ≡ filter q ks
-filters_same p q [] h = refl
-filters_same p q (k ∷ ks) h = (let rest = filters_same p q ks h.1 in rw (h.0, rest) refl)
 
 pub filter_all : {K : Type 0} (ks : List K) → filter (λ k. true) ks ≡ ks
 filter_all [] = refl
@@ -76,7 +73,7 @@ module _ {K : Type 0} (same : K → K → Bool) (decides : DecidesEqual same) wh
     pub order_filter : (old added : List K) → AllByRecursion (λ k. p k ≡ true) (filter p old ++ added) → KeepsOrder same old (filter p old ++ added)
     order_filter old added pass = (
       added,
-      ap (λ ks. ks ++ added) (filters_same p (λ x. list_any (same x) (filter p old ++ added)) old
+      ap (λ ks. ks ++ added) (filter_same p (λ x. list_any (same x) (filter p old ++ added)) old
           (all-more (λ x. p x ≡ true → list_any (same x) (filter p old) ≡ true) (λ x. p x ≡ list_any (same x) (filter p old ++ added)) (λ x in_it. tells x old added pass in_it) old (found old))),
     )
 

@@ -1,5 +1,5 @@
 -- One call of the links after another.
-use Rattle.std.proofs.Common.{◌≡◌, ℕ, ◌≤◌, arith, List, [], ◌∷◌, ◌++◌, Option, Result, Ok, Err, refl, sym, ap, ◌∙◌, inl, inr, append_assoc}
+use Rattle.std.proofs.Common.{◌≡◌, ◌≤◌, arith, List, [], ◌∷◌, ◌++◌, Option, Result, Ok, Err, refl, sym, ap, ◌∙◌, append_assoc}
 use Rattle.std.specs.Prelude.{IfErr}
 use Rattle.sm_world.specs.Outside.{Outside, Rose, UsesLinks, adds, on_ok}
 use Rattle.sm_world.specs.declared.effects.Effect.{Effect}
@@ -7,13 +7,10 @@ use Rattle.sm_world.specs.declared.failures.Failure.{Failure}
 use Rattle.sm_world.specs.declared.failures.Failure.TheVariants.{Failed, NoMemory as OutOfMemory}
 use Rattle.sm_world.specs.declared.failures.Faults.{Faults}
 use Rattle.sm_world.proofs.Adding.{adds-adds, never_fallen, fallen_never, nothing_added}
+use Rattle.sm_world.proofs.Counting.{rose_since}
 use Rattle.byte_relay.specs.Serving.{relay_fault_of, HasCause, IsOfLinks, DoesOf, Does}
 use Rattle.byte_relay.specs.declared.fault.RelayFault.{RelayFault}
 use Rattle.byte_relay.specs.declared.fault.RelayFault.TheVariants.{LinkFault, Spent, NoMemory}
-
-rose_since : (first before after : ℕ) → first ≤ before → Rose before after → Rose first after
-rose_since first before after le (inl lt) = inl (omega (arith, le, lt))
-rose_since first before after le (inr most) = inr most
 
 pub cause_since : (first before after : Faults) (fault : RelayFault) → first.links ≤ before.links → HasCause before after fault → HasCause first after fault
 cause_since first before after LinkFault le rose = rose_since first.links before.links after.links le rose

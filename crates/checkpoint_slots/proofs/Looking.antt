@@ -6,7 +6,6 @@ use Rattle.std.proofs.lemmas.List.{get_or-drop, get_or-take, length-drop, length
 use Rattle.sm_world.specs.Outside.{Outside}
 use Rattle.checkpoint_records.specs.Books.{empty_book}
 use Rattle.checkpoint_changes.specs.Amendments.{SlotDamaged}
-use Rattle.checkpoint_records.specs.Rules.{KeepsRules}
 use Rattle.checkpoint_records.specs.declared.records.Book.{Book}
 use Rattle.checkpoint_slots.specs.declared.fault.StoreFault.{StoreFault}
 use Rattle.checkpoint_slots.specs.declared.fault.StoreFault.TheVariants.{Damaged, DiskFault, NoMemory, Worn, WrongSize}

@@ -1,14 +1,10 @@
 -- What caused a fault in the later part of a run caused it in the whole of it.
-use Rattle.std.proofs.Common.{inl, inr, ℕ, ◌≤◌, arith}
-use Rattle.sm_world.specs.Outside.{NotFallen, Rose}
+use Rattle.sm_world.specs.Outside.{NotFallen}
 use Rattle.sm_world.specs.declared.failures.Faults.{Faults}
+use Rattle.sm_world.proofs.Counting.{rose_since}
 use Rattle.session_engine.specs.Causes.{HasCause}
 use Rattle.session_engine.specs.declared.fault.ServeFault.{ServeFault}
 use Rattle.session_engine.specs.declared.fault.ServeFault.TheVariants.{ConsoleFault, Damaged, DiskFault, LinkFault, NoMemory, Spent, TooManySessions, Worn, WrongSize}
-
-rose_since : (first before after : ℕ) → first ≤ before → Rose before after → Rose first after
-rose_since first before after kept (inl rose) = inl (omega (arith, kept, rose))
-rose_since first before after kept (inr most) = inr most
 
 pub cause_since : (fault : ServeFault) (old now new : Faults) → NotFallen old now → HasCause now new fault → HasCause old new fault
 cause_since (Damaged at) old now new kept cause = tt

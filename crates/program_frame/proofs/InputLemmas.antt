@@ -1,9 +1,9 @@
 -- The console's input, read in parts.
-use Rattle.std.proofs.Common.{◌≡◌, ℕ, ◌+◌, List, [], ◌++◌, length, Option, Some, None, Result, Ok, Err, IfSome, IsErrAnd, inl, inr, ◌≤◌, refl, sym, ap, arith}
+use Rattle.std.proofs.Common.{◌≡◌, ℕ, ◌+◌, List, [], ◌++◌, length, Option, Some, None, Result, Ok, Err, IfSome, IsErrAnd, refl, sym, ap}
 use Rattle.std.proofs.lemmas.List.{take_all}
 use Rattle.sm_world.specs.declared.failures.Failure.{Failure}
 use Rattle.program_frame.specs.Input.{front, TakesFront}
-use Rattle.sm_world.specs.Outside.{Outside, Rose, UsesConsole}
+use Rattle.sm_world.specs.Outside.{Outside, UsesConsole}
 
 -- the bytes so far are the front of the input, and the rest is left
 abbrev pub InputSoFar : Option (List ℕ) → Option (List ℕ) → List ℕ → Type 0
@@ -31,8 +31,3 @@ some_input (Some input) = (input, refl)
 pub err_is : {A E : Type 0} (result : Result A E) (fault : E) → IsErrAnd result (λ e. e ≡ fault) → result ≡ Err fault
 err_is (Ok x) fault h = absurd h
 err_is (Err e) fault h = ap Err h
-
--- a count that rose since a later moment rose since an earlier one
-pub rose_since : (first before after : ℕ) → first ≤ before → Rose before after → Rose first after
-rose_since first before after not_fallen (inl rose) = inl (omega arith)
-rose_since first before after not_fallen (inr most) = inr most

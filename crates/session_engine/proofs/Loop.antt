@@ -9,6 +9,7 @@ use Rattle.sm_world.specs.declared.effects.Effect.{Effect}
 use Rattle.sm_world.specs.declared.effects.Effect.TheVariants.{Heard}
 use Rattle.sm_world.specs.declared.events.Event.{Event}
 use Rattle.sm_world.proofs.Adding.{adds-adds, adds-none}
+use Rattle.sm_world.proofs.Counting.{rose_since}
 use Rattle.checkpoint_records.specs.Books.{choose}
 use Rattle.checkpoint_records.specs.Rules.{IsName, KeepsRules}
 use Rattle.checkpoint_records.specs.declared.records.Book.{Book}
@@ -133,10 +134,6 @@ not_worn WearsIt able e = able
 not_worn WantsMemory able e = cc
 
 -- a halt's cause is the fault's, also where no count of faults fell before
-rose_since : (first before after : ℕ) → first ≤ before → Rose before after → Rose first after
-rose_since first before after kept (inl rose) = inl (omega (arith, kept, rose))
-rose_since first before after kept (inr most) = inr most
-
 pub caused_since : (halt : Halt) (old now new : Faults) → NotFallen old now → IsCaused now new halt → HasCause old new (fault_of halt)
 caused_since Links old now new kept cause = rose_since old.links now.links new.links kept.links cause
 caused_since Console old now new kept cause = rose_since old.console now.console new.console kept.console cause

@@ -18,7 +18,7 @@ use Rattle.client_words.specs.Reading.{AreBad, AreChosen}
 use Rattle.client_words.specs.declared.choices.Choices.{Choices}
 use Rattle.program_frame.specs.Printing.{Tries}
 use Rattle.program_frame.specs.Programs.{status_by, line_by}
-use Rattle.program_frame.proofs.InputLemmas.{rose_since}
+use Rattle.sm_world.proofs.Counting.{rose_since}
 use Rattle.program_frame.proofs.ProgramLemmas.{concluded}
 use Rattle.smclient_app.specs.Faults.{Ending, after_printing, end_of, fault_line, fault_status, unprinted_end}
 use Rattle.smclient_app.specs.Joining.{JoinsBy}

@@ -9,7 +9,7 @@ use Rattle.sm_world.specs.declared.failures.Failure.{Failure}
 use Rattle.sm_world.specs.declared.failures.Failure.TheVariants.{Failed, NoMemory as DeviceMemory}
 use Rattle.sm_world.proofs.Adding.{adds-none}
 use Rattle.program_frame.specs.Programs.{RunsAs}
-use Rattle.program_frame.proofs.InputLemmas.{rose_since}
+use Rattle.sm_world.proofs.Counting.{rose_since}
 use Rattle.program_frame.proofs.ProgramLemmas.{Took as TookWithin, ran as ran_with, ran_unread}
 use Rattle.checkpoint_slots.specs.Turns.{opened_in}
 use Rattle.session_engine.specs.Doing.{items}

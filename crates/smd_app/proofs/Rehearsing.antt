@@ -53,7 +53,7 @@ abbrev made : Cookie → ℕ → List ℕ → Config
 made cookie patience session = record { cookie = cookie; patience = patience; session = session }
 
 -- the wishes for a rehearsal, by their parts
-set_so : (config : Config) (patience : ℕ) → config.cookie ≡ rehearsal_cookie → config.patience ≡ patience → config.session ≡ default_name → config ≡ rehearsal_config patience
+pub set_so : (config : Config) (patience : ℕ) → config.cookie ≡ rehearsal_cookie → config.patience ≡ patience → config.session ≡ default_name → config ≡ rehearsal_config patience
 set_so config patience is_cookie is_patience is_session =
     ap (λ (cookie : Cookie). made cookie config.patience config.session) is_cookie
     ∙ (ap (λ (n : ℕ). made rehearsal_cookie n config.session) is_patience

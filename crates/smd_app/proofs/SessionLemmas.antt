@@ -14,7 +14,7 @@ use Rattle.session_engine.specs.declared.config.Config.{Config}
 use Rattle.checkpoint_records.specs.declared.records.Book.{Book}
 use Rattle.checkpoint_slots.specs.Causes.{IsSettled}
 use Rattle.checkpoint_slots.specs.Recovery.{Recovers}
-use Rattle.program_frame.proofs.InputLemmas.{rose_since}
+use Rattle.sm_world.proofs.Counting.{rose_since}
 use Rattle.session_engine.specs.Carries.{IsOpened, IsUnopened, KeepsItsWord, Opens, Serves}
 use Rattle.session_engine.specs.Causes.{HasCause}
 use Rattle.session_engine.specs.Session.{Serving}

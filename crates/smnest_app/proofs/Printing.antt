@@ -14,7 +14,7 @@ use Rattle.event_script.specs.declared.script.ScriptFault.{ScriptFault}
 use Rattle.event_script.specs.declared.script.ScriptFault.TheVariants.{BadLine as FirstBadLine, NoMemory as ScriptMemory}
 use Rattle.event_script.specs.declared.script.Taken.TheVariants.{All}
 use Rattle.event_script.specs.declared.script.TheConstants.{SCRIPT_LIMIT}
-use Rattle.program_frame.proofs.InputLemmas.{rose_since}
+use Rattle.sm_world.proofs.Counting.{rose_since}
 use Rattle.program_frame.proofs.ProgramLemmas.{Took as TookWithin, ran as ran_with, ran_unread}
 use Rattle.session_engine.specs.Doing.{items}
 use Rattle.session_engine.specs.Machine.{Item}

@@ -13,7 +13,6 @@ use Rattle.checkpoint_slots.specs.declared.turn.Current.{Current}
 use Rattle.checkpoint_slots.proofs.Once.{recovers-once}
 use Rattle.client_engine.specs.Driving.{Run}
 use Rattle.heard_events.specs.Brought.{Brought}
-use Rattle.ice_cookie.specs.declared.cookies.Cookie.{Cookie}
 use Rattle.nested_session.specs.Serving.{Nesting, Weaves, run_of}
 use Rattle.nested_session.specs.Woven.{Inner, Outer, Put, Woven, effects_of, shown}
 use Rattle.outer_agent.specs.Script.{Keeper}
@@ -29,6 +28,7 @@ use Rattle.session_engine.proofs.Standing.{stands_chosen}
 use Rattle.session_in_memory.proofs.Blank.{blank_recovers, fresh_settled, ok_book}
 use Rattle.session_in_memory.specs.Stores.{IsFresh, rehearsal_cookie}
 use Rattle.smd_app.specs.Rehearsals.{rehearsal_config}
+use Rattle.smd_app.proofs.Rehearsing.{set_so}
 use Rattle.smnest_app.specs.Rehearsals.{Rehearses, greeting, rehearsal_agent, seen, shows}
 use Rattle.smnest_app.proofs.Heard.{ended_run, spent_run}
 
@@ -92,23 +92,13 @@ module _ (config : Config) (agent : Run Keeper) (first : List ℕ) (turns : ℕ)
 
 -- ---- the run
 
-abbrev made : Cookie → ℕ → List ℕ → Config
-made cookie patience session = record { cookie = cookie; patience = patience; session = session }
-
--- the configuration of a rehearsal, by its parts
-set_so : (config : Config) → config.cookie ≡ rehearsal_cookie → config.patience ≡ 0 → config.session ≡ default_name → config ≡ rehearsal_config 0
-set_so config cookie patience session =
-    ap (λ (c : Cookie). made c config.patience config.session) cookie
-    ∙ (ap (λ (n : ℕ). made rehearsal_cookie n config.session) patience
-    ∙ ap (λ (name : List ℕ). made rehearsal_cookie 0 name) session)
-
 -- The run began as it was configured for a rehearsal, with the agent that was made for it, and with what that says at once.
 pub begun_so : (id : List ℕ) (words : List (List ℕ)) (turns : ℕ) (old new : Outside) (config : Config) (stand : Stand) (first : List ℕ) (answer : Result (Unit {0}) ServeFault) → config.cookie ≡ rehearsal_cookie → config.patience ≡ 0 → config.session ≡ default_name
     → stand ≡ start_stand rehearsal_cookie id words → first ≡ greeting → Nesting config turns (run_of stand) first old new answer → Nesting (rehearsal_config 0) turns (rehearsal_agent id words) greeting old new answer
 begun_so id words turns old new config stand first answer cookie patience session is_agent is_first nesting =
     subst (λ (said : List ℕ). Nesting (rehearsal_config 0) turns (rehearsal_agent id words) said old new answer) is_first
     (subst (λ (at : Stand). Nesting (rehearsal_config 0) turns (run_of at) first old new answer) is_agent
-    (subst (λ (set : Config). Nesting set turns (run_of stand) first old new answer) (set_so config cookie patience session) nesting))
+    (subst (λ (set : Config). Nesting set turns (run_of stand) first old new answer) (set_so config 0 cookie patience session) nesting))
 
 pub finished_run : (id : List ℕ) (words : List (List ℕ)) (old : Outside) (world : SteadyWorld) (events : List Event) (turns : ℕ) (file : List ℕ) → IsFresh old file → old.coming ≡ Some events → Nesting (rehearsal_config 0) turns (rehearsal_agent id words) greeting old (steady_outside world) (Ok tt)
     → Rehearses id words events turns (record { world = world; finished = true })

@@ -17,7 +17,7 @@ use Rattle.nested_session.specs.Promise.{NestKeepsItsWord}
 use Rattle.nested_session.specs.Serving.{Nesting, Weaves, run_of}
 use Rattle.outer_agent.specs.Script.{Keeper, start}
 use Rattle.outer_agent.specs.Standing.{Stand, start_stand}
-use Rattle.program_frame.proofs.InputLemmas.{rose_since}
+use Rattle.sm_world.proofs.Counting.{rose_since}
 use Rattle.session_engine.specs.Carries.{Opens}
 use Rattle.session_engine.specs.Causes.{HasCause}
 use Rattle.session_engine.specs.declared.config.Config.{Config}

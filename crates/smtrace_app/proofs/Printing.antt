@@ -7,7 +7,7 @@ use Rattle.sm_world.specs.declared.failures.Failure.TheVariants.{Failed, NoMemor
 use Rattle.sm_world.proofs.Adding.{adds-none}
 use Rattle.program_frame.specs.Printing.{Tries, line}
 use Rattle.program_frame.specs.Programs.{status_by, line_by}
-use Rattle.program_frame.proofs.InputLemmas.{rose_since}
+use Rattle.sm_world.proofs.Counting.{rose_since}
 use Rattle.program_frame.proofs.ProgramLemmas.{Took as TookWithin, ran as ran_with, ran_unread, runs_still, concluded}
 use Rattle.smtrace_app.specs.Faults.{fault_line, fault_status, console_fault}
 use Rattle.trace_replay.specs.Traces.{IsMalformed}

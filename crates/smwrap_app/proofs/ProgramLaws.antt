@@ -14,7 +14,7 @@ use Rattle.owned_lists.specs.declared.failures.NoMemory.{NoMemory as WantsMemory
 use Rattle.sm_world.proofs.Adding.{adds-adds, adds-none, fallen_never}
 use Rattle.program_frame.specs.Printing.{Tries}
 use Rattle.program_frame.specs.Programs.{line_by, status_by}
-use Rattle.program_frame.proofs.InputLemmas.{rose_since}
+use Rattle.sm_world.proofs.Counting.{rose_since}
 use Rattle.program_frame.proofs.ProgramLemmas.{concluded}
 use Rattle.state_saver.specs.Files.{Holds}
 use Rattle.state_saver.specs.Plans.{IsWord, copy_path}

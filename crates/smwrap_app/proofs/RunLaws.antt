@@ -31,7 +31,7 @@ use Rattle.named_joiner.specs.declared.ends.NamedEnd.{NamedEnd}
 use Rattle.named_joiner.specs.declared.ends.NamedEnd.TheVariants.{Died, Refused as IsRefused, Malformed as IsMalformed}
 use Rattle.named_joiner.specs.declared.ends.NamedReply.{NamedReply}
 use Rattle.named_joiner.proofs.DoingLaws.{follows-append}
-use Rattle.program_frame.proofs.InputLemmas.{rose_since}
+use Rattle.sm_world.proofs.Counting.{rose_since}
 use Rattle.smwrap_app.specs.Faults.{Ending, end_of, peer_fault}
 use Rattle.smwrap_app.specs.Running.{IsCaused, IsEnd, IsPrompt, IsWhole, all_heard, last_receive, sent, stream, wrap_end, wrap_script}
 use Rattle.smwrap_app.specs.Turning.{Amid, BreaksAt, Delivers, Finishes, HearsPiece, Listens, delivery}
