@@ -50,7 +50,7 @@ pub fn others_stay()
     ensures { OthersStay }
 {}
 
-/// Does nothing: its contract is a law of every history. Every book that is written keeps the rules of the store, where the opened book does.
+/// Does nothing: its contract is a law of every history. Every book that is written keeps the rules of the store, where the opened book does, has seven other sessions at most and an epoch below 4,294,967,295, and each event is one that the history allows.
 pub fn books_keep_rules()
     ensures { BooksKeepRules }
 {}
