@@ -6,35 +6,29 @@ ghost use Rattle.sm_world.specs.Events.{HasPieceSize};
 ghost use Rattle.checkpoint_records.specs.Rules.{IsName};
 
 use crate::words::{bytes_of, digits_of};
-use checkpoint_records::{default_name, is_name};
+use checkpoint_records::is_name;
 use event_script::{ScriptFault, Taken, read_script};
 use owned_lists::{NoMemory, NumberList, Octets};
-use session_engine::{Config, serve};
+use session_engine::{Config, config_of_default, serve};
 use session_in_memory::{REHEARSAL_COOKIE, blank_store};
 use sm_world::{EventList, MemWorld};
 use std::alloc::Global;
 use std::test::Fail;
 
-/// The name of a session, which is `default` where none is said.
-fn name_of(alloc: Global, name: &str) -> Result<Octets, NoMemory>
-    ensures { IfOk result IsName }
-{
-    if is_name(name.as_bytes()) {
-        Octets::from_slice(alloc, name.as_bytes())
-    } else {
-        default_name(alloc)
-    }
-}
-
-/// The cookie that the names know, no end of patience, and the name of a session.
+/// The cookie that the names know, no end of patience, and the name of a session, which is `default`
+/// where it has none.
 pub fn config(alloc: Global, session: &Session) -> Result<Config, NoMemory>
     ensures { IfOk result (λ config. IsName config.session) }
 {
-    let name = name_of(alloc, session.name)?;
+    let name = session.name.as_bytes();
+    if !is_name(name) {
+        return config_of_default(alloc, REHEARSAL_COOKIE, 0);
+    }
+    let session = Octets::from_slice(alloc, name)?;
     Ok(Config {
         cookie: REHEARSAL_COOKIE,
         patience: 0,
-        session: name,
+        session,
     })
 }
 
