@@ -1,5 +1,6 @@
 use desktop_world::{DesktopWorld, host_name};
 use ice_cookie::Cookie;
+use owned_lists::NoMemory;
 use session_engine::{ServeFault, config_of_default, serve};
 use sm_world::{Disk, Failure, Links};
 use std::io::{ErrorKind, Read, Write};
@@ -77,7 +78,10 @@ fn run(rt: HostRuntime, room: &Room) -> io::Result<Option<ServeFault>> {
     if open(&mut world, room).is_err() {
         return Err(io::Error::from(ErrorKind::AddrInUse));
     }
-    let config = config_of_default(rt.alloc(), Cookie([7; 16]), PATIENCE)?;
+    let config = match config_of_default(rt.alloc(), Cookie([7; 16]), PATIENCE) {
+        Ok(config) => config,
+        Err(NoMemory) => return Err(io::Error::from(ErrorKind::OutOfMemory)),
+    };
     let ended = serve(rt.alloc(), &mut world, config, u64::MAX);
     world.close();
     Ok(ended.err())
