@@ -6,6 +6,7 @@
 ghost use Rattle.std.specs.Prelude.{◌≡◌, length, IfOk};
 ghost use Rattle.checkpoint_slots.specs.Layout.{store_size};
 ghost use Rattle.sm_world.specs.Worlds.{mem_outside};
+ghost use Rattle.checkpoint_records.specs.Books.{default_name};
 ghost use Rattle.checkpoint_records.specs.Rules.{KeepsRules};
 
 use checkpoint_records::{Book, BookRefusal, read_book};
@@ -63,9 +64,9 @@ fn world_of(alloc: Global, store: Octets) -> Result<MemWorld, NoMemory>
     MemWorld::new(alloc, events, input, store, NumberList::new(alloc))
 }
 
-/// A book of epoch 4 without entries.
+/// A book of epoch 4 without entries, in which `default` is chosen.
 fn next_book(alloc: Global) -> Result<Book, BookRefusal>
-    ensures { IfOk result (λ book. KeepsRules book) }
+    ensures { IfOk result (λ book. KeepsRules book × (book.name ≡ default_name)) }
 {
     read_book(alloc, &[1, 0, 0, 0, 4, 0, 0, 0, 0, 0, 0, 0, 0, 0, 0, 0])
 }
