@@ -82,8 +82,9 @@ read store 8388592 bytes at 80
 # The next epoch, and the end of its session.
 NEXT_SESSION = append(104, 8) + append(120, 0)
 
-# The client is told that its save is complete once it is on the disk. It has gone when the session ends.
-SAVING = append(104, 8) + append(120, 152) + "send SaveComplete\n" + append(280, 40)
+# The client is told that its save is complete once it is on the disk; its entry is put with the name of its session. It has gone when the
+# session ends.
+SAVING = append(104, 8) + append(120, 168) + "send SaveComplete\n" + append(296, 40)
 
 
 class Traced(Manager):
