@@ -4,8 +4,6 @@
 
 mod identity;
 mod places;
-#[cfg(test)]
-mod tests;
 mod world;
 
 pub use identity::{host_name, random_cookie};

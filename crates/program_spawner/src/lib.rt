@@ -2,7 +2,5 @@
 #![tactic(auto)]
 
 mod spawner;
-#[cfg(test)]
-mod tests;
 
 pub use spawner::{ProgramSpawner, prepared, text};

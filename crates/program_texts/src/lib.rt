@@ -3,8 +3,6 @@
 #![tactic(auto)]
 
 mod slips;
-#[cfg(test)]
-mod tests;
 mod versions;
 
 pub use slips::{first_meant, is_slip, meant_word, try_hint};

@@ -4,8 +4,6 @@
 
 mod disk;
 mod files;
-#[cfg(test)]
-mod tests;
 
 pub use disk::FileDisk;
 pub use files::replace;

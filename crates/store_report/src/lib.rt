@@ -6,8 +6,6 @@ mod json_text;
 mod lines;
 mod sessions;
 mod shown;
-#[cfg(test)]
-mod tests;
 mod words;
 
 pub use finding::{Finding, look_into};

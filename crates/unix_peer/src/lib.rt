@@ -4,8 +4,6 @@
 
 mod peer;
 mod reading;
-#[cfg(test)]
-mod tests;
 
 pub use peer::UnixPeer;
 pub use reading::read_file;

@@ -4,8 +4,6 @@
 
 mod files;
 mod starting;
-#[cfg(test)]
-mod tests;
 mod wrapped;
 
 pub use wrapped::WrappedFiles;

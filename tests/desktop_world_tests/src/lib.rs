@@ -1,0 +1,5 @@
+//! Tests of `desktop_world`.
+#![tactic(auto)]
+
+#[cfg(test)]
+mod tests;

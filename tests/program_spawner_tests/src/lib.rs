@@ -1,0 +1,5 @@
+//! Tests of `program_spawner`.
+#![tactic(auto)]
+
+#[cfg(test)]
+mod tests;

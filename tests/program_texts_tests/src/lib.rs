@@ -1,0 +1,5 @@
+//! Tests of `program_texts`.
+#![tactic(auto)]
+
+#[cfg(test)]
+mod tests;

@@ -1,0 +1,5 @@
+//! Tests of `store_file`.
+#![tactic(auto)]
+
+#[cfg(test)]
+mod tests;

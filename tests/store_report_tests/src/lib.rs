@@ -1,0 +1,5 @@
+//! Tests of `store_report`.
+#![tactic(auto)]
+
+#[cfg(test)]
+mod tests;

@@ -1,0 +1,5 @@
+//! Tests of `unix_peer`.
+#![tactic(auto)]
+
+#[cfg(test)]
+mod tests;

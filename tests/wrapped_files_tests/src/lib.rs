@@ -1,0 +1,5 @@
+//! Tests of `wrapped_files`.
+#![tactic(auto)]
+
+#[cfg(test)]
+mod tests;
