@@ -336,14 +336,15 @@ fn heard(
 ) -> io::Result<Vec<u8>> {
     client.set_nonblocking(true)?;
     let mut all = Vec::new(rt.alloc());
-    let mut chunk = [0u8; 4096];
+    // All that a socket holds is read at once: who is shut has a second to take what is left behind it.
+    let mut chunk = vec![in rt.alloc(); 0u8; 1_000_000]?;
     for _ in 0..10_000 {
         if all.len() >= count {
             break;
         }
         match client.read(&mut chunk) {
             Ok(0) => break,
-            Ok(length) => all.extend_from_slice(&chunk[..length.min(4096)])?,
+            Ok(length) => all.extend_from_slice(&chunk[..length.min(1_000_000)])?,
             Err(_) => drop(links.next()),
         }
     }
