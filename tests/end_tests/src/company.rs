@@ -1,11 +1,8 @@
 //! A manager and its clients, with what is under way between them.
-ghost use Rattle.std.specs.Prelude.{IfOk};
-ghost use Rattle.ice_values.specs.declared.numbers.Endian.TheVariants.{Lsb};
-ghost use Rattle.xsmp_messages.specs.Messages.{Spells};
 
 use checkpoint_records::Book;
 use client_machine::{Client, ClientAct, ClientPhase, Request};
-use ice_values::{EncodeRefusal, Endian, ErrorBody, ErrorClass};
+use ice_values::{ErrorBody, ErrorClass};
 use manager_machine::{Act, Acts, Manager, SessionEvent};
 use owned_lists::{NoMemory, Octets};
 use session_model::Phase;
@@ -14,7 +11,8 @@ use std::alloc::{Alloc, Global};
 use std::collections::VecDeque;
 use std::process::Abort;
 use std::test::Fail;
-use xsmp_messages::{XsmpMessage, encode_xsmp};
+use worked_values::frame_of;
+use xsmp_messages::XsmpMessage;
 
 /// A client on its connection, with a queue each way.
 #[derive(Drop)]
@@ -31,15 +29,6 @@ pub(crate) struct Seat {
 pub(crate) struct Company {
     pub(crate) manager: Manager,
     pub(crate) seats: Vec<Seat>,
-}
-
-/// The usual frame of a message.
-fn frame_of(alloc: Global, message: &XsmpMessage) -> Result<Octets, EncodeRefusal>
-    ensures { IfOk result (λ frame. Spells Lsb 1 message.now frame) }
-{
-    let mut frame = Octets::new(alloc);
-    encode_xsmp(Endian::Lsb, 1, message, &mut frame)?;
-    Ok(frame)
 }
 
 /// Whether a client is as far as the manager says.

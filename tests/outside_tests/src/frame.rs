@@ -1,11 +1,6 @@
-ghost use Rattle.std.specs.Prelude.{◌++◌, codes, Some};
-ghost use Rattle.std.specs.Fmt.{decimal};
-ghost use Rattle.program_frame.specs.Printing.{line};
-
 use owned_lists::{NoMemory, NumberList, Octets};
 use program_frame::{
-    OwnTexts, ProgramFault, StandardConsole, are_one_word, conclude, read_input, read_words,
-    try_line, try_numbered,
+    OwnTexts, StandardConsole, are_one_word, conclude, read_input, read_words, try_line,
 };
 use sm_world::{Console, Effect, EventList, MemWorld, SteadyWorld};
 use std::alloc::Global;
@@ -13,6 +8,7 @@ use std::io;
 use std::io::ErrorKind;
 use std::test::Fail;
 use test_tables::{expect_rows, text_of};
+use worked_values::Trouble;
 
 const TEXTS: OwnTexts = OwnTexts {
     help: "help",
@@ -120,24 +116,6 @@ fn one_word_of_a_command_line(rt: HostRuntime) -> Result<(), Fail> {
     words.push("status".to_string(alloc)?)?;
     assert!(rt; !are_one_word(words.as_slice(), "status"));
     Ok(())
-}
-
-/// A fault whose line ends with a number.
-#[derive(Clone, Copy, Debug, PartialEq, Eq)]
-struct Trouble(u64);
-
-impl ProgramFault for Trouble {
-    ghost status_of = { λ _. 2 };
-
-    ghost line_of = { λ fault. Some (line (codes "trouble at " ++ decimal fault.0)) };
-
-    fn status(self) -> u8 {
-        2
-    }
-
-    fn report<W: Console>(self, alloc: Global, world: &mut W) {
-        try_numbered(alloc, world, "trouble at ", self.0);
-    }
 }
 
 /// A world whose calls don't fail.

@@ -4,8 +4,6 @@
 #[cfg(test)]
 mod files;
 #[cfg(test)]
-mod memory_lines;
-#[cfg(test)]
 mod openings;
 #[cfg(test)]
 mod sessions;

@@ -3,7 +3,6 @@ ghost use Rattle.std.specs.List.{AllByRecursion};
 ghost use Rattle.sm_world.specs.Events.{HasPieceSize};
 ghost use Rattle.sm_world.specs.Worlds.{mem_outside};
 
-use crate::memory_lines::Room;
 use owned_lists::{Command, NoMemory, NumberList, Octets, OctetsList, PairList};
 use session_recorder::Recorder;
 use sm_world::{Console, Disk, Event, EventList, Failure, Links, MemWorld, Spawner};
@@ -11,6 +10,7 @@ use std::alloc::{Alloc, Global};
 use std::process::Abort;
 use std::test::Fail;
 use test_tables::expect_rows;
+use worked_values::Room;
 
 /// A client that comes, says something and goes.
 fn visit(alloc: Global) -> Result<EventList, NoMemory>

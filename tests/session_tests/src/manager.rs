@@ -1,11 +1,8 @@
 //! Sessions by hand, through the public calls. A session is a text of steps.
-ghost use Rattle.std.specs.Prelude.{IfOk};
-ghost use Rattle.ice_values.specs.declared.numbers.Endian.TheVariants.{Lsb};
-ghost use Rattle.xsmp_messages.specs.Messages.{IsFrame, Spells};
 
 use crate::written::{LIST, property, words};
 use checkpoint_records::Book;
-use ice_values::{Array8List, Dialog, EncodeRefusal, Endian, Property, PropertyList};
+use ice_values::{Array8List, Dialog, Endian, Property, PropertyList};
 use manager_machine::{Act, Manager, Reason, SessionEvent};
 use owned_lists::{NoMemory, Octets};
 use sm_world::{Conn, Order};
@@ -13,7 +10,8 @@ use std::alloc::{Alloc, Global};
 use std::process::Abort;
 use std::test::Fail;
 use test_tables::expect_rows;
-use xsmp_messages::{XsmpMessage, encode_xsmp, view_xsmp};
+use worked_values::frame_of;
+use xsmp_messages::{XsmpMessage, view_xsmp};
 
 // What is done, as text
 
@@ -201,16 +199,6 @@ fn ordered(alloc: Global, what: &str) -> Result<Order, Fail> {
 struct Desk {
     manager: Manager,
     done: Octets,
-}
-
-/// The usual frame of a message.
-fn frame_of(alloc: Global, message: &XsmpMessage) -> Result<Octets, EncodeRefusal>
-    ensures spells { IfOk result (λ frame. Spells Lsb 1 message.now frame) }
-    ensures frame { IfOk result (λ frame. IsFrame Lsb frame) }
-{
-    let mut frame = Octets::new(alloc);
-    encode_xsmp(Endian::Lsb, 1, message, &mut frame)?;
-    Ok(frame)
 }
 
 /// The manager of a session over an empty book.

@@ -15,6 +15,7 @@ use std::fmt::Debug;
 use std::process::Abort;
 use std::test::Fail;
 use test_tables::{expect_rows, text_of};
+use worked_values::{spelled_list, spelled_properties, spelled_property, spelled_word};
 
 /// A text has its count in front, and padding to 4.
 const TEXTS: &str = "\
@@ -195,6 +196,28 @@ fn properties_turned(alloc: Global, input: &str) -> Result<String, Fail> {
 fn a_list_of_properties_has_them_one_after_the_other(rt: HostRuntime) -> Result<(), Fail> {
     expect_rows(&rt, PROPERTY_LISTS, properties_shown)?;
     expect_rows(&rt, TURNED_PROPERTY_LISTS, properties_turned)
+}
+
+/// Values that are made and written, of whose bytes it is proved that they are these.
+const WORKED: &str = "\
+word => 0200000068690000
+list => 000000020000000000000002686900000000000000000000
+property => 01000000500000000600000041525241593800000000000001000000000000000200000068690000
+properties => 00000001000000000000000150000000000000054341524438000000000000000000000000000000";
+
+fn worked_shown(alloc: Global, name: &str) -> Result<String, Fail> {
+    let bytes = match name {
+        "word" => spelled_word(alloc)?,
+        "list" => spelled_list(alloc)?,
+        "property" => spelled_property(alloc)?,
+        _ => spelled_properties(alloc)?,
+    };
+    digits_of(alloc, bytes.as_slice())
+}
+
+#[test]
+fn worked_values_have_their_bytes(rt: HostRuntime) -> Result<(), Fail> {
+    expect_rows(&rt, WORKED, worked_shown)
 }
 
 const SIZES: &str = "\

@@ -4,63 +4,18 @@ use crate::frames::{
     CLOSES, COMPLETE, CONNECTED, CONNECTS, DEMAND, DIE, DONE, FATAL, OPENED, OPENS, ORDER,
     REGISTERED, REGISTERS, SAVE, UNKNOWN,
 };
-use client_machine::{SaveAnswer, Stage, Step};
 use ice_cookie::Cookie;
-use ice_values::{Array8, Array8List, PropertyList};
+use ice_values::Array8;
 use named_joiner::{
-    HearFault, NamedAsk, NamedDies, NamedEnd, NamedJoiner, NamedSaves, pieces_make_no_difference,
+    HearFault, NamedDies, NamedEnd, NamedJoiner, NamedSaves, pieces_make_no_difference,
 };
 use std::alloc::{Alloc, Global};
 use std::process::Abort;
 use std::test::Fail;
+use worked_values::{Silent, Steady};
 
 /// The ID of the client in these tests.
 const ID: &[u8] = b"smd-00000001-00000001";
-
-/// What saves a client that has this ID, by setting nothing. Under another ID it wants for memory.
-#[derive(Drop)]
-struct Steady<'a> {
-    alloc: Global,
-    id: &'a [u8],
-}
-
-impl NamedSaves for Steady<'_> {
-    ghost lawful = { λ s. Unit {0} };
-
-    ghost answers = { λ s ask answer t. Unit {0} };
-
-    fn answer(&mut self, ask: NamedAsk) -> Option<SaveAnswer> {
-        if ask.id.as_slice() != self.id {
-            return None;
-        }
-        let step = match ask.ask.stage {
-            Stage::First => Step::Done(true),
-            Stage::Second => Step::Done(true),
-            Stage::Talking => Step::Talked(false),
-            Stage::TalkingTwo => Step::Talked(false),
-        };
-        Some(SaveAnswer {
-            set: PropertyList::new(self.alloc),
-            step,
-        })
-    }
-}
-
-/// What gives no reasons.
-#[derive(Drop)]
-struct Silent {
-    alloc: Global,
-}
-
-impl NamedDies for Silent {
-    ghost lawful = { λ s. Unit {0} };
-
-    ghost gives = { λ s reasons t. Unit {0} };
-
-    fn reasons(&mut self) -> Option<Array8List> {
-        Some(Array8List::new(self.alloc))
-    }
-}
 
 /// A client that has said ByteOrder, and saves under this ID.
 fn joiner<'a>(

@@ -1,6 +1,6 @@
 ghost use Rattle.std.specs.Prelude.{◌≡◌, [], Some};
 
-use owned_lists::{NoMemory, Octets};
+use owned_lists::Octets;
 use session_recorder::KeptLines;
 use sm_world::Failed;
 use std::alloc::Global;
@@ -15,8 +15,10 @@ pub struct Room {
 }
 
 impl Room {
+    /// Nothing is kept so far.
     pub fn new(alloc: Global, limit: usize) -> Room
-        ensures { result.bytes ≡ [] }
+        ensures bytes { result.bytes ≡ [] }
+        ensures limit { result.limit ≡ limit }
     {
         Room {
             bytes: Octets::new(alloc),
