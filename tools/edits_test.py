@@ -116,6 +116,12 @@ class Applied(Room):
         self.assertEqual((status, self.rows()), (1, {}))
         self.assertIn("steps/edits/gone: its old text stands 0 times", said)
 
+    def test_a_text_of_two_lines_is_not_taken_for_its_first(self):
+        self.write("crates/steps/edits/two.edit", "file: src/lib.rt\nold: let kept = number;\n    kept\nnew: let kept = number;\n    7\n")
+        status, said = self.run_edits()
+        self.assertEqual((status, self.rows()), (1, {}))
+        self.assertIn("steps/edits/two: it has a line of no kind: kept", said)
+
 
 class Tried(Room):
     def test_only_what_a_clause_refused_gets_a_row(self):

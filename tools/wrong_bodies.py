@@ -112,7 +112,7 @@ class Edit:
     def __init__(self, folder, file):
         self.folder, self.file = folder, file
         self.name = f"{os.path.basename(folder)}/{os.path.basename(os.path.dirname(file))}/{os.path.basename(file)[:-5]}"
-        path, old, self.pairs = "", None, []
+        path, old, self.pairs, self.unread = "", None, [], []
         for line in text_of(file).split("\n"):
             if line.startswith("file: "):
                 path = line[6:].strip()
@@ -121,6 +121,8 @@ class Edit:
             elif line.startswith("new:") and old is not None:
                 self.pairs.append((path, old, line[4:].removeprefix(" ")))
                 old = None
+            elif line.strip():
+                self.unread.append(line.strip())
 
     def changed(self):
         """Returns the functions whose bodies alone the edit changes, or None where it changes more."""
@@ -149,8 +151,8 @@ def applied(edits):
     """Returns the files of one crate that these edits change, as they are then; or raises CannotApply."""
     texts = {}
     for edit in edits:
-        if not edit.pairs:
-            raise CannotApply("it has no old and new text")
+        if edit.unread or not edit.pairs:
+            raise CannotApply(f"it has a line of no kind: {edit.unread[0]}" if edit.unread else "it has no old and new text")
         for path, old, new in edit.pairs:
             if not edit.is_within(path):
                 raise CannotApply(f"it names no text of a file below {', '.join(PARTS)}")
