@@ -212,8 +212,16 @@ class Read(unittest.TestCase):
         from refusals import Span, judged
 
         said = "note: src/lib.rt:12:5: it is not proved that what the function ensures holds when it returns (`returns`)\nfn steps::first: no proof: expected answers\n"
-        self.assertEqual(judged(said, [Span("src/lib.rt", "first", 10, 20)]).clause, "returns")
-        self.assertEqual(judged(said, [Span("src/lib.rt", "same", 1, 9)]).kind, "missed")
+        self.assertEqual(judged(said, [Span("src/lib.rt", "first", "first", 10, 20)]).clause, "returns")
+        self.assertEqual(judged(said, [Span("src/lib.rt", "same", "same", 1, 9)]).kind, "missed")
+
+    def test_a_method_is_known_by_its_type_wherever_it_stands(self):
+        from refusals import judged, spans
+
+        text = "impl Core {\n    fn leave(&mut self) {\n        self.gone();\n    }\n}\n"
+        said = "./proofs/session_core/Core/leave/Answers.antt:19:52: error: `returns`: the two types differ\nfn one::session_core::Core::leave: not proved\n"
+        found = judged(said, spans("src/connections.rt", text))
+        self.assertEqual((found.kind, found.function, found.clause), ("refused", "connections::Core::leave", "returns"))
 
 
 if __name__ == "__main__":

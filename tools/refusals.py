@@ -44,6 +44,7 @@ class Span:
 
     path: str
     name: str
+    called: str
     first: int
     last: int
 
@@ -51,7 +52,7 @@ class Span:
 def spans(path, text, wanted=None):
     """Returns where the functions of a file stand, or those with these numbers."""
     lines = lambda at: text.count("\n", 0, at) + 1
-    return [Span(path, it.name, lines(it.begin), lines(it.end)) for it in functions(path, text) if wanted is None or it.number in wanted]
+    return [Span(path, it.name, it.called(), lines(it.begin), lines(it.end)) for it in functions(path, text) if wanted is None or it.number in wanted]
 
 
 def messages(said):
@@ -70,7 +71,8 @@ def function_of(message, where):
     if it := IN_CODE.match(message):
         return next((span.name for span in where if span.path == it[1] and span.first <= int(it[2]) <= span.last), None)
     if it := IN_ANSWERS.match(message):
-        return next((span.name for span in where if span.name == it[1].replace("/", "::")), None)
+        answered = it[1].replace("/", "::")
+        return next((span.name for span in where if f"::{answered}".endswith(f"::{span.called}")), None)
     return None
 
 
@@ -168,7 +170,7 @@ def try_together(prover, edits, is_only):
     except CannotApply as why:
         return ({}, [([it], is_only) for it in edits]) if len(edits) > 1 else ({edits[0]: Outcome("bad", "", str(why))}, [])
     changed = {edit: edit.changed() for edit in edits}
-    only = sorted({it.name for own in changed.values() for it in own}) if is_only else []
+    only = sorted({it.called() for own in changed.values() for it in own}) if is_only else []
     status, said = prover.try_texts(texts, only, f"{len(edits)} edits in one check")
     if not JUDGED.search(said):
         if is_only and status == 2:
@@ -196,8 +198,8 @@ def try_alone(prover, edit, last):
         return Outcome("bad", "", str(why))
     paths = dict.fromkeys(it.path for it in functions_of(prover.crate.folder))
     where = [span for path in paths for span in spans(path, texts.get(path) or text_of(f"{prover.crate.folder}/{path}"))]
-    is_known = last in {span.name for span in where} and not prover.seed
-    for only in ([last], []) if is_known else ([],):
+    known = [span.called for span in where if span.name == last and not prover.seed]
+    for only in (known, []) if known else ([],):
         status, said = prover.try_texts(texts, only, f"{edit.name.split('/')[-1]} alone{f' on {only[0]}' if only else ''}")
         found = judged(said, where)
         if found.is_refused():

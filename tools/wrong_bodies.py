@@ -25,18 +25,24 @@ class CannotApply(Exception):
 
 @dataclasses.dataclass(frozen=True)
 class Function:
-    """A function with a body that stands in no other one: the file below its crate, which of that file's it is, the name by which
-    the prover calls it, and where in the text it begins, its body begins, and its body ends."""
+    """A function with a body that stands in no other one: the file below its crate, which of that file's it is, its name with the
+    module, the name without that, and where in the text it begins, its body begins, and its body ends. The prover calls a method
+    by the module of its type, which may be another than that of the method."""
 
     path: str
     number: int
     name: str
+    ending: str
     begin: int
     body: int
     end: int
 
     def place(self):
         return self.path, self.number
+
+    def called(self):
+        """Returns a name by which the prover finds the function, or several."""
+        return self.ending if "::" in self.ending else self.name
 
 
 def blanked(text):
@@ -87,7 +93,7 @@ def functions(path, text):
         at = closing(text, body)
         owner = next((f"{name}::" for name, first, last in owners if first <= head.start() < last), "")
         front = "" if module in ("lib", "main") else f"{module}::"
-        found.append(Function(path, len(found), f"{front}{owner}{head[1]}", head.start(), body, at))
+        found.append(Function(path, len(found), f"{front}{owner}{head[1]}", f"{owner}{head[1]}", head.start(), body, at))
     return found
 
 
