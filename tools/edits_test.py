@@ -160,6 +160,14 @@ class Rows(Room):
         self.assertEqual(status, 1)
         self.assertIn("nothing_is_changed: no time was left", said)
 
+    def test_one_that_was_never_tried_is_left_out_until_its_crate_is_named(self):
+        self.edits("nothing_is_changed")
+        self.write("tools/edits.untried", "steps/edits/nothing_is_changed\n")
+        status, said = self.run_edits("--minutes", "0")
+        self.assertEqual(status, 0)
+        self.assertIn("1 were never tried", said)
+        self.assertEqual(self.run_edits("--minutes", "0", "steps")[0], 1)
+
     def test_a_row_whose_own_sum_is_old_may_not_wait(self):
         self.write("crates/steps/src/lib.rt", STEPS.replace("handed on", "given back"))
         status, said = self.run_edits("--minutes", "0")
@@ -214,6 +222,12 @@ class Read(unittest.TestCase):
         said = "note: src/lib.rt:12:5: it is not proved that what the function ensures holds when it returns (`returns`)\nfn steps::first: no proof: expected answers\n"
         self.assertEqual(judged(said, [Span("src/lib.rt", "first", "first", 10, 20)]).clause, "returns")
         self.assertEqual(judged(said, [Span("src/lib.rt", "same", "same", 1, 9)]).kind, "missed")
+
+    def test_a_refusal_at_an_attribute_is_its_function_s(self):
+        from refusals import spans
+
+        found = spans("src/lib.rt", "fn one() {\n}\n\n/// Two.\n#[inline]\npub fn two() {\n}\n")
+        self.assertEqual([(it.name, it.first, it.last) for it in found], [("one", 1, 2), ("two", 4, 7)])
 
     def test_a_method_is_known_by_its_type_wherever_it_stands(self):
         from refusals import judged, spans

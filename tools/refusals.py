@@ -49,10 +49,20 @@ class Span:
     last: int
 
 
+def first_line(text, function):
+    """Returns the line in which a function begins, with the attributes and comments in front of it."""
+    number = text.count("\n", 0, function.begin) + 1
+    for line in reversed(text.split("\n")[: number - 1]):
+        if not line.strip() or line.strip()[-1] in "{}":
+            break
+        number -= 1
+    return number
+
+
 def spans(path, text, wanted=None):
     """Returns where the functions of a file stand, or those with these numbers."""
-    lines = lambda at: text.count("\n", 0, at) + 1
-    return [Span(path, it.name, it.called(), lines(it.begin), lines(it.end)) for it in functions(path, text) if wanted is None or it.number in wanted]
+    last = lambda it: text.count("\n", 0, it.end) + 1
+    return [Span(path, it.name, it.called(), first_line(text, it), last(it)) for it in functions(path, text) if wanted is None or it.number in wanted]
 
 
 def messages(said):
