@@ -121,4 +121,5 @@ who_is_there() {
   done
   check "an answer that is cut is the end" answered_strangely cut 0 ok
   check "a stream of an operator that is reset is the end" answered_strangely reset 0 ok
+  check "a manager that leaves its socket behind hasn't ended well" answered_strangely left 5 "smctl: no answer"
 }

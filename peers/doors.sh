@@ -33,8 +33,8 @@ unharmed() {
 # untouched FILE WORD..: whether the words hold, and the file has the bytes that it had.
 untouched() {
   local before
-  before=$(what_is "$1"; cat "$1")
-  "${@:2}" && [ "$(what_is "$1"; cat "$1")" = "$before" ]
+  before=$(what_is "$1"; cksum < "$1")
+  "${@:2}" && [ "$(what_is "$1"; cksum < "$1")" = "$before" ]
 }
 
 second_managers() {
@@ -70,6 +70,11 @@ bad_paths() {
   truncate -s 16777280 "$room/shared" && chmod 640 "$room/shared"
   check "a store that others may read is refused" refuses_path 4 store "$room/shared"
   check "its mode is told" grep -q 'others may use it: its mode must be 600' "$room/refused"
+  if [ "$(id -u)" -eq 0 ]; then
+    truncate -s 16777280 "$room/others" && chmod 600 "$room/others" && chown 1:1 "$room/others"
+    check "a store of another user is refused" refuses_path 4 store "$room/others"
+    check "its owner is told" grep -q 'its owner is another user' "$room/refused"
+  fi
   check "it keeps its mode" test "$(stat -c %a "$room/shared")" = 640
   check "a folder is no store" refuses_path 4 store "$room/folder"
   check "a store in no folder is refused" refuses_path 4 store "$room/none/store"
@@ -85,10 +90,99 @@ bad_paths() {
 with_words() { refuses "$@" --socket "$room/other/socket" --control "$room/other/control" \
   --store "$room/other/store" --authority "$room/other/authority"; }
 
+# recording FOLDER RECORD: an smd in the folder, whose record lies there; gives back once it listens.
+recording() {
+  at=$1
+  mkdir -p "$at"
+  mapfile -t paths < <(paths_of "$at")
+  : > "$at/lines"
+  "$smd" serve "${paths[@]}" --record "$2" < /dev/null > "$at/lines" 2> "$at/said" &
+  smd_id=$!
+  within 30 grep -qxF "SESSION_MANAGER=local/$HOSTNAME:$at/socket" "$at/lines"
+}
+
+# same FILE WORD..: whether the words hold, and what stands there is the same file, which may have grown.
+same() {
+  local before
+  before=$(stat -c '%d %i %F' "$1")
+  "${@:2}" && [ "$(stat -c '%d %i %F' "$1")" = "$before" ]
+}
+
+# goes_without FILE: whether a session goes on whose record would lie where this file does, and says so.
+goes_without() { recording "$room/recording" "$1" && logs_out && grep -q "isn't recorded in $1: " "$at/said"; }
+
+# makes_way FILE: whether the record of a session takes the place of this file.
+makes_way() {
+  local before
+  before=$(what_is "$1")
+  recording "$room/recording" "$1" && logs_out && [ ! -s "$at/said" ] && replays "$1" && [ "$(what_is "$1")" != "$before" ]
+}
+
+# The record is a fifth place, and takes that of an old record alone.
+records_at() {
+  local other=$room/other
+  check "a store for the records' sake" with_words_ends
+  for path in "$other/store" "$other/../other/store"; do
+    check "the record can't be the store by $path" untouched "$other/store" refuses_path 4 store "$other/store" --record "$path"
+  done
+  ln "$other/store" "$room/twin" && ln -s "$other/store" "$room/way" && ln -s "$room/missing" "$room/dangling"
+  check "the record can't be a second name of the store" untouched "$other/store" \
+    refuses_path 4 store "$other/store" --record "$room/twin"
+  check "the record can't be a link to the store" untouched "$other/store" refuses_path 4 store "$other/store" --record "$room/way"
+  check "the record can't be a link to a store that is missing" refuses_path 4 store "$room/missing" --record "$room/dangling"
+  check "such a store isn't made" test ! -e "$room/missing"
+  rm "$room/twin"
+  check "the record can't be the authority file" refuses_path 4 store "$other/store" --record "$other/authority"
+  check "the record can't be its lock" refuses_path 4 store "$other/store" --record "$other/authority.lock"
+  check "the record can't be the socket" refuses_path 5 store "$other/store" --record "$other/socket"
+  check "the record can't be the control socket" refuses_path 5 store "$other/store" --record "$other/control"
+  check "nothing stands at its sockets" test ! -e "$other/socket" -a ! -e "$other/control"
+  echo "a plain file, longer than the line with which each record begins" > "$room/text"
+  : > "$room/empty"
+  mkfifo "$room/queue"
+  python3 -c 'import socket, sys; socket.socket(socket.AF_UNIX).bind(sys.argv[1])' "$room/door"
+  for path in text empty; do
+    check "what lies at $path stays" untouched "$room/$path" goes_without "$room/$path"
+  done
+  for path in queue door folder dangling; do
+    check "what lies at $path stays" same "$room/$path" goes_without "$room/$path"
+  done
+  if [ "$(id -u)" -eq 0 ] && mknod "$room/device" c 1 3 2> /dev/null; then
+    check "a device stays" same "$room/device" goes_without "$room/device"
+  fi
+  check "a record is made" recording "$room/recording" "$room/recording/record"
+  check "its session ends" logs_out
+  check "the record is its user's alone" is_private record
+  check "an old record makes way" makes_way "$room/recording/record"
+}
+
+# with_words_ends: whether a session at these paths begins and ends.
+with_words_ends() { recording "$room/other" "$room/first-record" && logs_out; }
+
+# A second smd that is refused leaves the record of the first alone, and so does one that isn't.
+records_of_two() {
+  check "a session is recorded" recording "$room/two" "$room/two/record"
+  local first=$at first_id=$smd_id
+  check "a second smd on its store leaves its record" same "$first/record" \
+    refuses_path 4 store "$first/store" --record "$first/record"
+  check "a second smd at its socket leaves its record" same "$first/record" \
+    refuses_path 5 socket "$first/socket" --record "$first/record"
+  check "a second smd with its authority file leaves its record" same "$first/record" \
+    refuses_path 4 authority "$first/authority" --record "$first/record"
+  check "a second smd on all else leaves its record" same "$first/record" goes_without "$first/record"
+  check "a second smd leaves its control socket" same "$first/control" goes_without "$first/control"
+  at=$first smd_id=$first_id
+  check "the first session ends" logs_out
+  check "its record replays" replays "$at/record"
+}
+
 # The options of the links stand among the pairs in any order, each once.
 option_words() {
   check "--private stands once" with_words 1 --private --private
-  check "--last-wait stands once" with_words 1 --last-wait 1 --last-wait 1
+  for waits in '1 1' '0 5' '5 0' '0 0'; do
+    # shellcheck disable=SC2086 # two numbers
+    check "--last-wait stands once, and not with $waits" with_words 1 --last-wait ${waits% *} --private --last-wait ${waits#* }
+  done
   for wait in x 05 -1 '' 18446744073709551616; do
     check "the last wait is no '$wait'" with_words 1 --last-wait "$wait"
   done
@@ -144,6 +238,8 @@ doors() {
   second_managers
   bad_paths
   check "a socket of 107 bytes is taken" longest_path
+  records_at
+  records_of_two
   option_words
   permissions
   taken_over

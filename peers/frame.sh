@@ -125,3 +125,26 @@ stop_recorder() {
   ends "$recorder_id" 0
   "$smtrace" show < "$at/trace" > "$at/shown"
 }
+
+# timed SECONDS WORD..: waits for the words as a job, so that a signal ends the wait.
+timed() {
+  timeout -k 5 "$@" &
+  wait $!
+}
+
+# What runs beside others, by its name.
+declare -A asides
+
+# aside NAME SECONDS WORD..: starts what runs beside others; what it prints is kept until it is looked at.
+aside() {
+  timeout -k 5 "${@:2}" > "$room/$1.printed" 2>&1 &
+  asides[$1]=$!
+}
+
+# came_through NAME: whether it ended well; it shows what was printed.
+came_through() {
+  wait "${asides[$1]}"
+  local status=$?
+  cat "$room/$1.printed"
+  return "$status"
+}

@@ -12,6 +12,7 @@ for word; do echo "\$word"; done >> "$at/questions"
 answer=\$(sed -n 1p "$at/answers")
 sed -i 1d "$at/answers"
 [ -n "\$answer" ] || exec unanswered 60
+[ "\$answer" != close ] || exit 1
 echo "\$answer"
 DIALOG
   chmod +x "$at/bin/zenity"
@@ -39,6 +40,8 @@ is_left() {
 
 asks_about() { within 20 grep -qxF -e "--text=$1" "$at/questions"; }
 
+offers() { grep -qxF -e "$1" "$at/questions"; }
+
 is_idle() { order status | grep -q ' idle$'; }
 
 stays() {
@@ -52,8 +55,25 @@ saves_alone() {
     < /dev/null > "$at/brief" 2>&1 &
   local brief_id=$!
   within 20 has_stages 2 idle || return 1
-  is_left 2
-  ends "$leaving_id" 0 && ends "$brief_id" 0 && is_idle && has_lines 2 saved "$at/brief"
+  is_left '2 1'
+  ends "$leaving_id" 0 && ends "$brief_id" 0 && is_idle && has_lines 2 saved "$at/brief" && asks_about 'All programs are saved.'
+}
+
+# Who closes the question at once isn't asked again by another program.
+is_closed_at_once() {
+  is_left close
+  ends "$leaving_id" 1 && is_idle && has_lines 1 --text= "$at/questions"
+}
+
+# The key is pressed twice, and one question is there.
+asks_once() {
+  is_left ''
+  asks_about 'Log out?' && within 10 runs unanswered || return 1
+  local first_id=$leaving_id
+  is_left ''
+  ends "$leaving_id" 1 && grep -qxF 'smd-logout: the question is there already' "$at/leaving" && [ ! -s "$at/questions" ] || return 1
+  close_dialog
+  ends "$first_id" 1 && is_idle
 }
 
 # Nobody answers, and the save comes to its end.
@@ -72,18 +92,56 @@ stays_when_it_lasts() {
   asks_about 'Waiting for one.' && ends "$leaving_id" 1 && is_idle
 }
 
-# The program still owes its answer to the logout before, and is gone on without.
+# The program still owes its answer to the logout before, and is gone on without. Nobody is left then who could be asked.
 leaves_behind_one_called_off() {
-  is_left 1 --now
-  asks_about 'Waiting for one.' && ends "$leaving_id" 0 && ends "$smd_id" 0
+  is_left 3 --now
+  asks_about 'Waiting for one.' && ends "$leaving_id" 0 && ends_as_saved
 }
+
+# ends_as_saved: smd is ended without a logout, so that the program is kept.
+ends_as_saved() { ends "$smd_id" 143 2> /dev/null && [ "$("$smd" store-check --store "$at/store" | grep -c '^entry ')" = 1 ]; }
 
 # It is the last program that is stopped.
 goes_on_without() {
   kill -STOP "$stopped_id"
-  is_left '1 1'
-  asks_about "Waiting for $1." && ends "$leaving_id" 0 && ends "$smd_id" 0
+  is_left '1 3'
+  asks_about "Waiting for $1." && offers "Close $1: what isn't saved there is lost" && ends "$leaving_id" 0
 }
+
+# close_dialog: closes the one that isn't answered.
+close_dialog() {
+  sleep 2
+  for id in $(marked); do
+    [ "$(cat "/proc/$id/comm" 2> /dev/null)" != unanswered ] || kill "$id"
+  done
+}
+
+# While a program talks with its user nothing else is shown, also where another one is silent, which is shown behind that.
+# Whoever closes that dialog goes on waiting.
+is_quiet_while_somebody_talks() {
+  : > "$at/talker.talks"
+  kill -STOP "$stopped_id"
+  is_left 1
+  within 20 has_lines 1 talks "$at/talker.log" || return 1
+  sleep 5
+  ! grep -q 'Waiting for' "$at/questions" || return 1
+  rm "$at/talker.talks"
+  asks_about 'Waiting for one.' && within 20 runs unanswered && close_dialog
+  kill -CONT "$stopped_id"
+  ends "$leaving_id" 0 && ends "$smd_id" 0
+}
+
+# to_talk: a program that talks with its user, beside one that can be stopped.
+to_talk() {
+  to_leave "$room/leaving_talk" one || return 1
+  SESSION_MANAGER=local/$HOSTNAME:$at/socket ICEAUTHORITY=$at/authority DISPLAY='' \
+    python3 "$here/resident.py" "$at" talker < /dev/null >> "$at/said" 2>&1 &
+  within 20 has_stages 2 idle
+}
+
+goes_on_without_the_only_one() { goes_on_without one && ends_as_saved; }
+
+goes_on_without_two() { goes_on_without two && ends "$smd_id" 0; }
 
 # The operator calls the logout off.
 is_called_off() {
@@ -168,6 +226,8 @@ at_a_display() {
 leaving() {
   check "a session of one program is there to be left" to_leave "$room/leaving" one
   check "who stays is still there" stays
+  check "who closes the question at once stays" is_closed_at_once
+  check "the user is asked once at a time" asks_once
   check "a save alone is made" saves_alone
   check "what is saved needs no answer" shows_until_it_is_saved
   check "who is waited for is named, and the user stays" stays_when_it_lasts
@@ -175,11 +235,13 @@ leaving() {
   is_left ''
   check "nobody is left where no session is" ends "$leaving_id" 5
   check "a session of one program is there again" to_leave "$room/leaving_alone" one
-  check "a logout goes on without the only program" goes_on_without one
+  check "a logout goes on without the only program" goes_on_without_the_only_one
   check "a session of two programs is there to be left" to_leave "$room/leaving_two" one two
   check "a logout that is called off is told" is_called_off
   check "on a terminal the user is asked, and an interrupt is to stay" leaves_by_terminal
-  check "a logout goes on without a program" goes_on_without two
+  check "a logout goes on without a program" goes_on_without_two
+  check "a session with a program that talks is there" to_talk
+  check "nothing is shown while it talks" is_quiet_while_somebody_talks
   check "a session of two programs is there for xmessage" to_leave "$room/leaving_x" one two
   check "xmessage asks, and shows who is waited for" at_a_display leaves_by_xmessage
 }

@@ -52,11 +52,14 @@ class Session(Manager):
         until = time.monotonic() + seconds
         while True:
             try:
-                return self.order("status")
+                status = self.order("status")
             except OSError:
                 if time.monotonic() > until:
                     raise
                 time.sleep(0.05)
+                continue
+            self.socket = xsmp.place_in(self.authority)
+            return status
 
     def words_of(self, name):
         """The words of a program that leaves a file with its name."""

@@ -14,6 +14,7 @@ class Manager:
         """The options stand in front of the four paths."""
         self.made.append(self)
         self.smd, self.options, self.process = smd, options, None
+        self.printed = b""
         self.socket, self.control, self.store, self.authority = [
             os.path.join(room, name) for name in ("socket", "control", "store", "authority")
         ]
@@ -22,6 +23,10 @@ class Manager:
         """The words that start smd."""
         return [self.smd]
 
+    def errors(self):
+        """Where smd's standard error goes."""
+        return None
+
     def begin(self):
         """Starts smd and doesn't wait for anything."""
         paths = ["--socket", self.socket, "--control", self.control, "--store", self.store, "--authority", self.authority]
@@ -29,17 +34,21 @@ class Manager:
             [*self.words(), "serve", *self.options, *paths],
             stdin=subprocess.DEVNULL,
             stdout=subprocess.PIPE,
+            stderr=self.errors(),
             env={**os.environ, "HOSTNAME": os.uname().nodename},
         )
 
     def start(self, seconds=30):
         """Gives back once smd has printed where it listens."""
         self.begin()
+        self.listens(seconds)
+
+    def listens(self, seconds=30):
         if not select.select([self.process.stdout], [], [], seconds)[0]:
             raise TimeoutError("smd printed nothing")
-        line = os.read(self.process.stdout.fileno(), 4096)
-        if line != ("SESSION_MANAGER=local/%s:%s\n" % (os.uname().nodename, self.socket)).encode():
-            raise ValueError("smd printed %r" % line)
+        self.printed = os.read(self.process.stdout.fileno(), 4096)
+        if self.printed != ("SESSION_MANAGER=local/%s:%s\n" % (os.uname().nodename, self.socket)).encode():
+            raise ValueError("smd printed %r" % self.printed)
 
     def order(self, line, seconds=30):
         """The line that smd answers to an order."""

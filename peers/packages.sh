@@ -9,7 +9,8 @@ desktop="$display x11-apps xterm twm gkrellm featherpad tmux"
 editor="$display $compiler tmux nano x11-session-utils"
 xfce="$desktop $qt6 openbox emacs-lucid xfwm4 xfce4-panel xfdesktop4 xfce4-terminal thunar xfce4-settings dbus-daemon"
 packer='lintian binutils'
-needed="$xfce $editor $packer strace $basic"
+greeter="$desktop lightdm lightdm-gtk-greeter dbus-daemon"
+needed="$xfce $editor $packer $greeter dbus-bin strace $basic"
 
 # missing PACKAGE..: those of the packages that aren't installed; where there is no Debian, all of them.
 missing() {

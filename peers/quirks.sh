@@ -55,10 +55,80 @@ with_openbox() {
   come_back openbox featherpad
 }
 
+# stage_of PROGRAM: how far the client is whose program ends so.
+stage_of() { order clients --plain | sed -n "s/.* stage=\([a-z]*\) .* program=[^ ]*$1\$/\1/p"; }
+
+is_at() { [ "$(stage_of "$1")" = "$2" ]; }
+
+# window_of PROGRAM: the window that it shows last.
+window_of() { xdotool search --onlyvisible --class "$1" | tail -n 1; }
+
+# Text that isn't saved.
+types_text() {
+  within 20 window_of featherpad > /dev/null && xdotool windowactivate --sync "$(window_of featherpad)" type unsaved
+}
+
+# A logout, into FeatherPad's dialog about its text.
+logs_out_into_a_dialog() { answers ok shutdown && within 20 is_at featherpad interacting; }
+
+# saves COUNT: whether a checkpoint goes through with so many programs that were asked.
+saves() {
+  within 10 answers ok checkpoint && within 20 all_saved "$1"
+}
+
+all_saved() {
+  [ "$(order clients --plain | grep -c ' asked=save-complete ')" = "$1" ] && order status | grep -q ' idle$'
+}
+
+# answers_dialog KEY: the user answers the dialog, and the program goes on.
+answers_dialog() {
+  xdotool windowactivate --sync "$(window_of featherpad)" key "$1"
+}
+
+# openbox never answers a ShutdownCancelled, nor does Emacs where it waits to talk; FeatherPad talks about its text.
+calls_off_logouts() {
+  check "smd starts for logouts that are called off" start_smd "$room/called_off" --quirks --patience 5000
+  joins openbox 1 openbox
+  joins featherpad 2 featherpad
+  joins emacs 3 emacs -Q
+  sleep 2
+  check "text is written in FeatherPad" types_text
+  for turn in first second; do
+    check "FeatherPad's dialog stands in the $turn logout" logs_out_into_a_dialog
+    check "the $turn logout is called off" answers ok cancel
+    check "openbox and Emacs are saved behind the $turn logout" saves 2
+  done
+  sleep 8
+  for name in openbox emacs featherpad; do check "$name runs on" runs "$name"; done
+  check "a new logout waits for the dialog" answers ok shutdown
+  sleep 8
+  check "FeatherPad isn't closed in the new logout" runs featherpad
+  answers_dialog Escape
+  check "FeatherPad is asked anew" within 20 is_at featherpad interacting
+  answers_dialog Escape
+  check "FeatherPad's dialog calls the new logout off" within 20 order_idle
+  check "all three are saved behind that" saves 3
+  ends_without_a_logout openbox emacs featherpad
+  for name in openbox emacs featherpad; do check "$name has ended" within 20 runs_no "$name"; done
+}
+
+# ends_without_a_logout PROGRAM..: smd and these programs, of which none may be there for the next desktop.
+ends_without_a_logout() {
+  local id
+  kill "$smd_id"
+  wait "$smd_id" 2> /dev/null
+  for id in $(marked); do
+    case " $* " in *" $(cat "/proc/$id/comm" 2> /dev/null) "*) kill -KILL "$id" 2> /dev/null ;; esac
+  done
+}
+
+order_idle() { order status | grep -q ' idle$'; }
+
 quirk_sessions() {
   export HOME=$room/quirk_home
   mkdir "$HOME"
   plain_twm
   with_twm
   with_openbox
+  calls_off_logouts
 }

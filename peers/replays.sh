@@ -25,7 +25,8 @@ record_is_lost() {
   smd_id=$!
   within 30 grep -q '^SESSION_MANAGER=' "$at/lines" || return 1
   [ "$(joined)" = 'id smd-00000001-00000001
-saved' ] && logs_out && [ "$(cat "$at/said")" = "smd: what follows isn't recorded in $at/nowhere/record" ]
+saved' ] && logs_out && [ "$(cat "$at/said")" = \
+    "smd: what follows isn't recorded in $at/nowhere/record: No such file or directory (os error 2)" ]
 }
 
 replays_of_records() {

@@ -111,11 +111,21 @@ def book_of(file):
     return book
 
 
+# What isn't seen, or changes how others are: control characters, blanks and ends of lines beyond ASCII, and marks.
+HIDDEN = [
+    (0x7F, 0xA0), (0xAD, 0xAD), (0x61C, 0x61C), (0x1680, 0x1680), (0x180E, 0x180E), (0x2000, 0x200F), (0x2028, 0x202F),
+    (0x205F, 0x206F), (0x3000, 0x3000), (0xFEFF, 0xFEFF), (0xFFF9, 0xFFFB), (0xE0000, 0xE0FFF),
+]
+
+
 def shown(bytes_):
     try:
-        return bytes_.decode()
+        text = bytes_.decode()
     except UnicodeDecodeError:
         return list(bytes_)
+    if any(first <= ord(it) <= last for it in text for first, last in HIDDEN):
+        return list(bytes_)
+    return text
 
 
 def command_shown(command):

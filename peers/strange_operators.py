@@ -3,7 +3,8 @@
     strange_operators.py CONTROL HOW
 It agrees to the logout of its first operator. To what comes next it says no number of clients (`words`), a client
 that is none (`client`), what the session can't be at (`course`), or something unasked (`unasked`); or it leaves in
-the middle of an answer (`cut`), or with bytes unread, which resets the stream (`reset`).
+the middle of an answer (`cut`), or with bytes unread, which resets the stream (`reset`), and has removed its socket
+before, as a manager that ends well does; or it leaves its socket behind (`left`).
 """
 import os
 import socket
@@ -18,8 +19,10 @@ ANSWERS = {
     "course": [NOBODY, b"connections 0, records 0, pending 0, epoch 1, asleep\n"],
     "unasked": [NOBODY, b"connections 0, records 0, pending 0, epoch 1, shutdown\nok\n"],
     "cut": [b"clients 2\nconn=1"],
+    "left": [NOBODY, b"connections 0, records 0, pending 0, epoch 1, ending\n"],
     "reset": [],
 }
+ENDS_WELL = ("cut", "reset")
 
 
 def lines(operator):
@@ -45,13 +48,15 @@ def main():
     if next(said) != b"shutdown":
         raise ValueError("no logout is ordered")
     operator.sendall(b"ok\n")
+    if how in ENDS_WELL:
+        os.remove(path)
     for answer in ANSWERS[how]:
         next(said)
         operator.sendall(answer)
     if how == "reset":
         # The operator has asked and waits for the answer, so it is reading when the stream is reset.
         operator.recv(1, socket.MSG_PEEK)
-    elif how != "cut":
+    elif how not in ("cut", "left"):
         # It stays until the operator goes.
         for _ in said:
             pass

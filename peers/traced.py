@@ -7,11 +7,15 @@ Each test runs managers of its own in the folder. It ends with 0 where all was a
 import difflib
 import os
 import signal
+import struct
 import sys
 import time
 
 from calls import calls_of
 from manager import Manager
+
+# What the system says of a device that fails.
+BROKEN = "Input/output error (os error 5)"
 
 SHOWN = (
     "open,openat,creat,flock,fsync,fdatasync,read,write,pread64,pwrite64,ftruncate,truncate,link,linkat,"
@@ -25,13 +29,21 @@ link store.new-PID store
 unlink store.new-PID
 """
 
-# Whoever opens a store locks it, and brings it and its name to the disk before anything is read.
-TAKEN = """open store
+LOCKED = """open store
 lock store
-sync store
+"""
+
+# A byte of each page of a store is written as it was read.
+PAGES = 4097
+TOUCHED = LOCKED + "touch store %d pages\n" % PAGES
+
+SYNCED = """sync store
 open .
 sync .
 """
+
+# Whoever opens a store locks it, and brings it and its name to the disk before anything is read.
+TAKEN = TOUCHED + SYNCED
 
 # No other living smd may have replaced the file.
 PUBLISHED = """make authority.lock
@@ -88,16 +100,46 @@ SAVING = append(104, 8) + append(120, 168) + "send SaveComplete\n" + append(296,
 
 
 class Traced(Manager):
-    """A manager under strace, which can have calls fail or do less."""
+    """A manager under strace, which can have calls fail, do less, or stop smd."""
 
-    def __init__(self, smd, room, name, *faults):
-        super().__init__(smd, room)
+    def __init__(self, smd, room, name, *faults, options=(), shown=SHOWN):
+        super().__init__(smd, room, options)
+        self.shown = shown
         self.room, self.trace, self.faults = room, os.path.join(room, name + ".trace"), faults
+        # Beside the room, whose files are looked at.
+        self.said = "%s.%s.said" % (room, name)
+
+    def errors(self):
+        return open(self.said, "wb")
+
+    def expect_said(self, wanted):
+        """What smd said on standard error, line by line."""
+        with open(self.said) as file:
+            found = file.read()
+        if found != wanted:
+            raise ValueError("smd said %r, and not %r" % (found, wanted))
+
+    def take_places(self, other):
+        """Has another's store, and other places for all else."""
+        self.store = other.store
+        self.socket, self.control, self.authority = [it + "-2" for it in (other.socket, other.control, other.authority)]
+
+    def until_stopped(self):
+        for _ in range(1500):
+            if os.path.exists(self.trace):
+                with open(self.trace) as file:
+                    if "--- stopped by SIGSTOP ---" in file.read():
+                        return
+            time.sleep(0.02)
+        raise TimeoutError("smd wasn't stopped")
+
+    def goes_on(self):
+        self.process.send_signal(signal.SIGCONT)
 
     def words(self):
         faults = [word for fault in self.faults for word in ("-e", "inject=" + fault)]
         # The tracer stands aside, so that smd is our own child.
-        return ["strace", "-D", "-y", "-xx", "-s", "120", "-o", self.trace, "-e", "trace=" + SHOWN, *faults, self.smd]
+        return ["strace", "-D", "-y", "-xx", "-s", "120", "-o", self.trace, "-e", "trace=" + self.shown, *faults, self.smd]
 
     def ends(self, status, seconds=30):
         found = self.process.wait(seconds)
@@ -155,7 +197,7 @@ def one_round(smd, room, *faults):
 
 def short_writes(smd, room):
     """Where the system takes a part of a write, the rest is written behind it."""
-    one_round(smd, room, "pwrite64:retval=1:when=1", "pwrite64:retval=100:when=3")
+    one_round(smd, room, *["pwrite64:retval=%d:when=%d" % (taken, PAGES + number) for taken, number in ((1, 1), (100, 3))])
 
 
 def short_publishing(smd, room):
@@ -172,7 +214,8 @@ def short_making(smd, room):
     manager = Traced(smd, room, "short", "write:retval=100:when=3")
     manager.begin()
     manager.ends(3)
-    manager.expect_calls(MADE, TAKEN, PUBLISHED, LISTENING, CLOSED)
+    # What has another size than a store stays as it is.
+    manager.expect_calls(MADE, LOCKED, SYNCED, PUBLISHED, LISTENING, CLOSED)
 
 
 def taken_store(smd, room):
@@ -187,6 +230,7 @@ def taken_store(smd, room):
     if time.monotonic() - began < 2:
         raise ValueError("it gave up at once")
     second.expect_calls("open store\nrefused: flock\n")
+    second.expect_said("smd: cannot use %s: another session manager has it\n" % first.store)
     first.shutdown()
 
 
@@ -208,6 +252,32 @@ def held_authority(smd, room):
     second.start()
     second.saved()
     second.shutdown()
+
+
+def late_record(smd, room):
+    """The book of a record is the one that was opened, also where it was written while the store was waited for."""
+    first = Manager(smd, room)
+    first.start()
+    record = os.path.join(room, "record")
+    second = Traced(smd, room, "second", "flock:signal=SIGSTOP:when=1", options=("--record", record))
+    second.take_places(first)
+    second.begin()
+    # It has found the store locked.
+    second.until_stopped()
+    if os.path.exists(record):
+        raise ValueError("the record was made before the store was taken")
+    client, _ = first.saved()
+    first.kill()
+    client.socket.close()
+    second.goes_on()
+    second.listens()
+    second.expect("status", "connections 0, records 1, pending 0, epoch 2, idle")
+    second.shutdown()
+    with open(record) as file:
+        book = bytes.fromhex(file.read().split("\n")[1].removeprefix("book "))
+    # The format, the epoch, and how many sessions and pending commands there are.
+    if struct.unpack_from("<IIII", book) != (2, 1, 1, 0):
+        raise ValueError("the record begins with another book: %r" % book[:16])
 
 
 def one_place(smd, room):
@@ -239,7 +309,8 @@ def failed_opening(smd, room):
     manager = Traced(smd, room, "opening", "fsync:error=EIO:when=1")
     manager.begin()
     manager.ends(4)
-    manager.expect_calls("open store\nlock store\nrefused: fsync\n")
+    manager.expect_calls(TOUCHED, "refused: fsync\n")
+    manager.expect_said("smd: cannot use %s: %s\n" % (manager.store, BROKEN))
 
 
 def failed_sync(smd, room):
@@ -249,6 +320,7 @@ def failed_sync(smd, room):
     manager.ends(4)
     session = FIRST_SESSION.splitlines(keepends=True)[:5] + ["refused: fdatasync\n"]
     manager.expect_calls(MADE, TAKEN, PUBLISHED, LISTENING, *session, CLOSED)
+    manager.expect_said("smd: cannot sync %s: %s\n" % (manager.store, BROKEN))
 
 
 def no_hard_links(smd, room):
@@ -265,8 +337,8 @@ def no_hard_links(smd, room):
 
 TESTS = {
     it.__name__: it
-    for it in (first_start, one_round, short_writes, short_publishing, short_making, taken_store, held_authority, one_place, bad_socket, failed_opening,
-               failed_sync, no_hard_links)
+    for it in (first_start, one_round, short_writes, short_publishing, short_making, taken_store, held_authority, late_record, one_place, bad_socket,
+               failed_opening, failed_sync, no_hard_links)
 }
 
 

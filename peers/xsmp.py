@@ -48,8 +48,8 @@ def read_array8(data, at=0):
     return data[at + 4 : at + 4 + length], at + (4 + length + 7) // 8 * 8
 
 
-def cookie_at(authority, path):
-    """The cookie for ICE at the socket with this path."""
+def entries_in(authority):
+    """The entries of the file, each as five fields."""
     with open(authority, "rb") as file:
         data = file.read()
     at, fields = 0, []
@@ -57,7 +57,17 @@ def cookie_at(authority, path):
         length = struct.unpack_from(">H", data, at)[0]
         fields.append(data[at + 2 : at + 2 + length])
         at += 2 + length
-    for protocol, _, network, method, proof in zip(*[iter(fields)] * 5):
+    return zip(*[iter(fields)] * 5)
+
+
+def place_in(authority):
+    """The path of the socket that the first entry names."""
+    return os.fsdecode(next(entries_in(authority))[2].split(b":", 1)[1])
+
+
+def cookie_at(authority, path):
+    """The cookie for ICE at the socket with this path."""
+    for protocol, _, network, method, proof in entries_in(authority):
         if protocol == b"ICE" and method == COOKIE_METHOD and network.endswith(b":" + os.fsencode(path)):
             return proof
     raise LookupError("no cookie for " + path)

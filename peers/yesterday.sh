@@ -360,6 +360,42 @@ judgements() {
     0 '\xa5' 72 '\x10' 80 '\x01' 96 '\xa5\x01'
 }
 
+# alike STATUS TEXT STORE WORD..: so a session over a store is answered with these words, and store-check tells it first.
+alike() {
+  local wanted told answered
+  wanted=$(printf '%s\n%s' "$2" "$1")
+  told=$("$smd" store-check --store "$3" "${@:4}" 2> "$desk/told"; echo $?)
+  answered=$(timeout 30 "$smd" serve --socket "$desk/socket" --control "$desk/control" --store "$3" --authority "$desk/authority" \
+    "${@:4}" < /dev/null 2> "$desk/answered"; echo $?)
+  [ "$(sed -n '1p;$p' <<< "$told")" = "$wanted" ] && [ "$(grep -v '^SESSION_MANAGER=' <<< "$answered")" = "$wanted" ] &&
+    diff "$desk/told" "$desk/answered"
+}
+
+# begins STORE WORD..: whether store-check says so of a session over a store.
+begins() { "$smd" store-check --store "$@" | grep -q '^store opens: '; }
+
+# What is told first of a store is what a session over it is answered, for this user and a name.
+refusals() {
+  local store=$desk/refusing
+  python3 "$here/full_store.py" "$store" 1 a b c d e f g h
+  check "a ninth session isn't begun" alike 12 'smd: too many sessions' "$store" --session i
+  check "nor is that of no name, where it isn't there" alike 12 'smd: too many sessions' "$store" --session default
+  check "one of the eight is begun" begins "$store" --session h
+  check "the store itself opens" begins "$store"
+  check "a ninth session has its status in JSON" ends_with 12 "$smd" store-check --store "$store" --json --session i
+  python3 "$here/full_store.py" "$store" 4294967295 a
+  check "a worn store begins nothing" alike 8 'smd: store worn' "$store" --session a
+  python3 "$here/full_store.py" "$store" 1 a
+  check "a store is begun" begins "$store" --session a
+  chmod 640 "$store"
+  check "a store that others may read begins nothing" alike 4 'smd: disk fault' "$store"
+  chmod 600 "$store"
+  ln -s "$store" "$desk/leading"
+  check "a link begins nothing" alike 4 'smd: disk fault' "$desk/leading"
+  chown 1:1 "$store" 2> /dev/null && check "a store of another user begins nothing" alike 4 'smd: disk fault' "$store"
+  check "what is no name is a bad word" ends_with 1 "$smd" store-check --store "$store" --session ''
+}
+
 # reads_only FILE: whether it is opened for reading, and nothing is written but the report.
 reads_only() {
   local before
@@ -449,6 +485,7 @@ yesterday() {
   damaged_store
   recorded_sessions
   judgements
+  refusals
   no_store
   asks
 }

@@ -1,3 +1,5 @@
+pub mod Answered
+pub mod Exchanging
 pub mod Followed
 pub mod Following
 pub mod Grown

@@ -1,8 +1,7 @@
 -- Pieces that change nothing of what is known of a logout.
-use Rattle.std.proofs.Common.{◌≡◌, ℕ, List, [], ◌∷◌, Bool, true, false, refl, sym, ap, ◌∙◌, subst}
-use Rattle.ice_framing.specs.declared.cutting.WholeFrame.{WholeFrame}
+use Rattle.std.proofs.Common.{◌≡◌, ℕ, List, [], ◌∷◌, Bool, false, refl, sym, ap, ◌∙◌, subst}
 use Rattle.client_quirks.specs.Sides.{Follows, GoesBy, new_frames}
-use Rattle.client_quirks.specs.Leaving.{Mark, mark_of, told_by, frames_in, behind, is_kept, Passes, Listens, HearsAt, Hears}
+use Rattle.client_quirks.specs.Leaving.{Mark, mark_of, told_by, frames_in, is_kept, Passes, Listens, HearsAt, Hears}
 use Rattle.client_quirks.specs.Heeding.{AnswersNothing, AsksNothing, HasNothing}
 use Rattle.client_quirks.proofs.Following.{heard_speech, told_speech, side_grown}
 use Rattle.client_quirks.proofs.Unheeded.{heard_nothing, told_nothing}

@@ -29,7 +29,7 @@ unchanged f Greets is = refl
 unchanged f (Opens opcode) is = refl
 unchanged f Unread is = refl
 
-turn_stays : (s : Speech) (f : WholeFrame) → is_whole f ≡ true → may_turn s f ≡ false → after s (reading s f) ≡ s
+pub turn_stays : (s : Speech) (f : WholeFrame) → is_whole f ≡ true → may_turn s f ≡ false → after s (reading s f) ≡ s
 turn_stays s f whole turns = ap (after s) (whole_reading s f whole) ∙ turns_not s f turns
 
 meant_speech : (s : Speech) (f : WholeFrame) → IsPassed (MeansNothing s) f → after s (reading s f) ≡ s

@@ -1,4 +1,6 @@
 pub mod Amending
+pub mod Answering
+pub mod Exchange
 pub mod Heeding
 pub mod Leaving
 pub mod Meanings

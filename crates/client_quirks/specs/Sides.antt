@@ -1,5 +1,5 @@
 -- One party's stream, as it is cut.
-use Rattle.std.specs.Prelude.{◌≡◌, ℕ, List, [], ◌++◌, length, Option, Some, None, MatchOption}
+use Rattle.std.specs.Prelude.{◌≡◌, ℕ, ◌==◌, Bool, false, List, [], ◌++◌, length, Option, Some, None, MatchOption}
 use Rattle.std.specs.List.{AllByRecursion}
 use Rattle.ice_framing.specs.Frames.{Standing, fed, cut, frames_of, standing_of, IsOversize}
 use Rattle.ice_framing.specs.declared.cutting.WholeFrame.{WholeFrame}
@@ -17,6 +17,11 @@ new_frames (Some cutter) piece = (cut (fed cutter piece)).frames
 abbrev pub held_of : Option Standing → ℕ
 held_of None = 0
 held_of (Some cutter) = length cutter.held
+
+-- the stream goes on, and stands between two frames
+abbrev pub is_between : Option Standing → Bool
+is_between None = false
+is_between (Some cutter) = length cutter.held == 0
 
 -- a stream stands here, where it goes on; behind a header that states too much it doesn't
 abbrev pub GoesOn : Standing → Option Standing → Type 0

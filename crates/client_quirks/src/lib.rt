@@ -1,8 +1,11 @@
 //! What programs mean that don't keep to the letter of the session protocol: their properties as
-//! they are meant, and the ends of those that leave too early. It calls no device.
+//! they are meant, their answers to a logout that was called off, and the ends of those that leave too
+//! early. It calls no device.
 #![tactic(auto)]
 
 mod amender;
+mod answerer;
+mod exchange;
 mod heeding;
 mod keeper;
 mod meanings;
@@ -10,9 +13,11 @@ mod pieces;
 mod side;
 mod speech;
 mod stage;
+mod tongue;
 mod views;
 
 pub use amender::Amender;
+pub use answerer::{Answerer, Answering};
 pub use keeper::{Keeper, KeptEnd};
 pub use meanings::{amended, is_amended};
 pub use pieces::{PieceList, StreamPiece};

@@ -1,5 +1,5 @@
 ghost use Rattle.std.specs.Prelude.{◌≡◌, [], IfOk, OnOk, IsTrue};
-ghost use Rattle.client_quirks.specs.Sides.{new_frames, held_of, IsSide, CutsOn, GoesBy};
+ghost use Rattle.client_quirks.specs.Sides.{new_frames, held_of, is_between, IsSide, CutsOn, GoesBy};
 
 use frame_speech::{Cutting, FrameCutter, Heeds, Speech};
 use ice_framing::WholeFrameList;
@@ -31,6 +31,16 @@ impl Side {
         match &self.cutter {
             Some(cutter) => cutter.held(),
             None => 0,
+        }
+    }
+
+    /// Whether the stream goes on, and stands between two frames.
+    pub fn is_between(&self) -> bool
+        ensures { result ≡ is_between self.now.cutter }
+    {
+        match &self.cutter {
+            Some(cutter) => cutter.held() == 0,
+            None => false,
         }
     }
 

@@ -6,6 +6,7 @@ use outer_world::Outer;
 use owned_lists::{Command, NoMemory, Octets};
 use program_frame::StandardConsole;
 use program_spawner::ProgramSpawner;
+use session_watch::Excusing;
 use sm_world::{Conn, Console, Disk, Event, Failed, Failure, Links, Spawner, Told};
 use std::alloc::Global;
 use store_file::FileDisk;
@@ -59,6 +60,16 @@ impl DesktopWorld {
         }
     }
 
+    /// Takes the store before the session does, and gives its bytes; none where it has another size
+    /// than a store. The session then goes on with this very file.
+    pub fn take_store(&mut self, path: &str) -> Result<Octets, Failure>
+        ensures told { (world_outside self.new).told ≡ (world_outside self.old).told }
+    {
+        self.disk.attach(path)?;
+        let bytes = self.disk.contents(path)?;
+        Ok(Octets::from_vec(bytes))
+    }
+
     /// Closes the sockets and removes their files.
     pub fn close(&mut self)
         ensures untouched { world_outside self.new ≡ world_outside self.old }
@@ -69,6 +80,12 @@ impl DesktopWorld {
 
 impl Told for DesktopWorld {
     ghost outside = { world_outside };
+}
+
+impl Excusing for DesktopWorld {
+    fn excuse(&mut self, conn: Conn, excused: bool) {
+        self.links.excuse(conn, excused);
+    }
 }
 
 impl Disk for DesktopWorld {

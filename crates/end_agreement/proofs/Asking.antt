@@ -1,12 +1,12 @@
 -- Both ends still meet after the client asked for something.
-use Rattle.std.proofs.Common.{◌≡◌, refl, sym, ap, ◌∙◌, subst, Bool, true, false, cond, not, ◌&&◌, ◌||◌, List, [], ◌∷◌, ◌++◌, ℕ, arith}
+use Rattle.std.proofs.Common.{◌≡◌, refl, sym, ap, ◌∙◌, subst, Bool, true, false, cond, not, ◌&&◌, ◌||◌, List, [], ◌∷◌, ◌++◌, arith}
 use Rattle.std.specs.Prelude.{Option, Some, None}
 use Rattle.ice_values.specs.declared.saves.Dialog.{Dialog}
 use Rattle.ice_values.specs.declared.saves.Dialog.TheVariants.{Error as AboutError, Normal}
 use Rattle.ice_values.specs.declared.saves.SaveStyle.{SaveStyle}
 use Rattle.ice_values.specs.declared.saves.SaveStyle.TheVariants.{Any, Errors, Nothing}
 use Rattle.xsmp_messages.specs.declared.message.XsmpMessage.{XsmpMessage}
-use Rattle.xsmp_messages.specs.declared.message.XsmpMessage.TheVariants.{ConnectionClosed, ShutdownCancelled}
+use Rattle.xsmp_messages.specs.declared.message.XsmpMessage.TheVariants.{ShutdownCancelled}
 use Rattle.session_model.specs.declared.phase.Phase.{Phase}
 use Rattle.session_model.specs.declared.phase.Phase.TheVariants.{Interacting, InteractingTwo, Owing, Saving, SavingTwo, Unregistered}
 use Rattle.session_model.specs.Phases as session
@@ -20,7 +20,7 @@ use Rattle.client_machine.specs.declared.requests.Request.TheVariants.{Close, De
 use Rattle.end_agreement.specs.Sides.{Agrees, Side, at_phase, is_at_work, mirror}
 use Rattle.end_agreement.specs.Hearing.{Fits}
 use Rattle.end_agreement.specs.Meeting.{EachAnswer, EachCancel, EachNeutral, Meets, has_place, is_deaf}
-use Rattle.end_agreement.specs.Laws.{AskingKeeps}
+use Rattle.end_agreement.specs.Laws.{AskingKeeps, ClosingKeeps, after_closed}
 use Rattle.end_agreement.proofs.Walks.{each-more, goes-both, goes-make}
 use Rattle.end_agreement.proofs.Calm.{calm-tail, differ, fits-dead, neutral-calm, or-true, tail-nil}
 use Rattle.end_agreement.proofs.Requests.{fit, last-fits, not-true, said_by, said-fits}
@@ -211,11 +211,11 @@ said-meets r side s (u ∷ up) down e f =
 
 -- The client closes
 
-close-meets : (reasons : List (List ℕ)) (side : Side) (s : ClientState) (up down : List XsmpMessage) → Meets side s up down → Meets side (record s { phase = Dead }) (up ++ ConnectionClosed reasons ∷ []) down
-close-meets reasons side s [] down f =
-    goes-make side.phase _ _ (λ n. fits-dead side (record s { phase = Dead }) down n refl) (or-true (is_deaf side.phase), fits-dead (at_phase None side) (record s { phase = Dead }) (down ++ []) refl refl)
-close-meets reasons side s (u ∷ up) down f =
-    goes-both side.phase _ _ _ _ (λ n k. fits-dead side (record s { phase = Dead }) down n refl) (λ g. (g.0, each-more u side _ _ (λ x a k. close-meets reasons x s up (down ++ a) k) g.1)) f
+pub closing-meets : ClosingKeeps
+closing-meets reasons side s [] down f =
+    goes-make side.phase _ _ (λ n. fits-dead side (after_closed s) down n refl) (or-true (is_deaf side.phase), fits-dead (at_phase None side) (after_closed s) (down ++ []) refl refl)
+closing-meets reasons side s (u ∷ up) down f =
+    goes-both side.phase _ _ _ _ (λ n k. fits-dead side (after_closed s) down n refl) (λ g. (g.0, each-more u side _ _ (λ x a k. closing-meets reasons x s up (down ++ a) k) g.1)) f
 
 -- What the client may ask fits.
 
@@ -238,11 +238,11 @@ first-true : (a b : Bool) → (a && b) ≡ true → a ≡ true
 first-true true b e = refl
 first-true false b e = e
 
-abbrev is_close : Request → Bool
+abbrev pub is_close : Request → Bool
 is_close (Close reasons) = true
 is_close r = false
 
-may-fit : (r : Request) (s : ClientState) → is_close r ≡ false → may_ask r s ≡ true → fit r s ≡ true
+pub may-fit : (r : Request) (s : ClientState) → is_close r ≡ false → may_ask r s ≡ true → fit r s ≡ true
 may-fit (SayDone b) s n e = swapped (is_dead s.phase) (is_owing s.phase) (is_saving s.phase) e
 may-fit PhaseTwo s n e = last-of (is_dead s.phase) (is_owing s.phase) (is_first_saving s.phase) e
 may-fit (AskDialog d) s n e = last-of (is_dead s.phase) (is_owing s.phase) (is_saving s.phase && allows s.asked.style d) e
@@ -254,7 +254,7 @@ may-fit (Delete names) s n e = registered-not s.phase e
 may-fit Get s n e = registered-not s.phase e
 
 said-or-closed : (r : Request) (side : Side) (s : ClientState) (up down : List XsmpMessage) → may_ask r s ≡ true → Meets side s up down → Meets side (said_by r s) (up ++ requested r ∷ []) down
-said-or-closed (Close reasons) side s up down e f = close-meets reasons side s up down f
+said-or-closed (Close reasons) side s up down e f = closing-meets reasons side s up down f
 said-or-closed r side s up down e f = said-meets r side s up down (may-fit r s refl e) f
 
 pub asking-meets : AskingKeeps

@@ -3,6 +3,7 @@ pub mod Taken
 pub mod Calm
 pub mod Requests
 pub mod Asking
+pub mod Waiting
 pub mod Giving
 pub mod Entering
 pub mod Owed

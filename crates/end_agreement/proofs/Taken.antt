@@ -69,8 +69,11 @@ alive-suits : (b x : Bool) → b ≡ false → (b || x) ≡ true → x ≡ true
 alive-suits true x e f = absurd (grind arith)
 alive-suits false x e f = f
 
+pub suited-expected : (m : XsmpMessage) (s : ClientState) → is_dead s.phase ≡ false → suits m s ≡ true → act_taken m s ≢ Unexpected
+suited-expected m s alive f = expected m s.phase s.id s.asked (alive-suits (is_dead s.phase) (suits_alive m s) alive f)
+
 pub not-unexpected : NothingIsUnexpected
-not-unexpected m side s up down alive f = expected m s.phase s.id s.asked (alive-suits (is_dead s.phase) (suits_alive m s) alive (first-suits m side s up down f))
+not-unexpected m side s up down alive f = suited-expected m s alive (first-suits m side s up down f)
 
 pub agree-in-the-end : EndsAgree
 agree-in-the-end side s [] f = f

@@ -3,7 +3,7 @@
 use Rattle.std.specs.Prelude.{Bool, List, None, Some, [], false, true, ℕ, ◌++◌, ◌+◌, ◌≤◌, ◌∷◌, ◌≡◌, ◌≢◌}
 use Rattle.ice_values.specs.declared.saves.SaveStyle.{SaveStyle}
 use Rattle.xsmp_messages.specs.declared.message.XsmpMessage.{XsmpMessage}
-use Rattle.xsmp_messages.specs.declared.message.XsmpMessage.TheVariants.{RegisterClient, SaveYourself}
+use Rattle.xsmp_messages.specs.declared.message.XsmpMessage.TheVariants.{ConnectionClosed, RegisterClient, SaveYourself}
 use Rattle.session_model.specs.declared.phase.Phase.TheVariants.{Unregistered}
 use Rattle.client_machine.specs.Asking.{after_asked, may_ask, requested}
 use Rattle.client_machine.specs.Phases.{ClientState, is_dead}
@@ -29,6 +29,16 @@ abbrev pub AskingKeeps : Type 0
 AskingKeeps =
     (request : Request) (side : Side) (s : ClientState) (up down : List XsmpMessage) → may_ask request s ≡ true → Meets side s up down
     → Meets side (after_asked request s) (up ++ requested request ∷ []) down
+
+-- the client has said that it closes
+abbrev pub after_closed : ClientState → ClientState
+after_closed s = record s { phase = Dead }
+
+-- The client closes, wherever it is: one that was told to die says so too, and is dead already.
+abbrev pub ClosingKeeps : Type 0
+ClosingKeeps =
+    (reasons : List (List ℕ)) (side : Side) (s : ClientState) (up down : List XsmpMessage) → Meets side s up down
+    → Meets side (after_closed s) (up ++ ConnectionClosed reasons ∷ []) down
 
 -- the manager takes the first message that waits for it, and answers
 abbrev pub HearingKeeps : Type 0

@@ -1,4 +1,4 @@
-ghost use Rattle.end_agreement.specs.Laws.{AnswersAreOwed, AskingKeeps, CrossingsBegin, EndsAgree, GivingKeeps, HearingKeeps, NothingIsBadState, NothingIsUnexpected, RegisteringAgainKeeps, SavesAreAsked, TakingKeeps};
+ghost use Rattle.end_agreement.specs.Laws.{AnswersAreOwed, AskingKeeps, ClosingKeeps, CrossingsBegin, EndsAgree, GivingKeeps, HearingKeeps, NothingIsBadState, NothingIsUnexpected, RegisteringAgainKeeps, SavesAreAsked, TakingKeeps};
 
 /// Does nothing: its contract is a law of one client. Both ends meet as the client registers.
 pub fn crossings_begin()
@@ -9,6 +9,12 @@ pub fn crossings_begin()
 /// for something that it may ask for.
 pub fn asking_keeps()
     ensures { AskingKeeps }
+{}
+
+/// Does nothing: its contract is a law of one client. Both ends still meet after the client said that
+/// it closes, also where it was told to die.
+pub fn closing_keeps()
+    ensures { ClosingKeeps }
 {}
 
 /// Does nothing: its contract is a law of one client. Both ends still meet after the manager took a

@@ -5,7 +5,7 @@
 mod laws;
 
 pub use laws::{
-    answers_are_owed, asking_keeps, crossings_begin, ends_agree, giving_keeps, hearing_keeps,
-    nothing_is_bad_state, nothing_is_unexpected, registering_again_keeps, saves_are_asked,
-    taking_keeps,
+    answers_are_owed, asking_keeps, closing_keeps, crossings_begin, ends_agree, giving_keeps,
+    hearing_keeps, nothing_is_bad_state, nothing_is_unexpected, registering_again_keeps,
+    saves_are_asked, taking_keeps,
 };

@@ -2,7 +2,6 @@
 use Rattle.std.proofs.Common.{◌≡◌, refl, sym, ap, subst, ℕ, Bool, true, false, cond, List, [], ◌∷◌, eqb, arith}
 use Rattle.std.specs.Prelude.{Option, Some, None}
 use Rattle.std.proofs.lemmas.Bool.Decides.{nat_tests}
-use Rattle.interact_queue.specs.Queue.{is_in}
 use Rattle.xsmp_messages.specs.declared.message.XsmpMessage.{XsmpMessage}
 use Rattle.session_model.specs.declared.events.SessionEvent.{SessionEvent}
 use Rattle.session_model.specs.declared.events.SessionEvent.TheVariants.{Joined, Left, Operator, Ready, Said, Tick}
@@ -10,22 +9,17 @@ use Rattle.session_model.specs.Moves.{History}
 use Rattle.session_model.specs.Readings as of
 use Rattle.session_model.specs.Rules as session
 use Rattle.client_machine.specs.declared.saves.SaveAsk.{SaveAsk}
-use Rattle.session_model.proofs.Ruled.{differ}
 use Rattle.end_schedules.specs.Laws.{AllEndsAgree, KeepsAll}
 use Rattle.end_schedules.specs.Pairs.{May, Pair, Step, begun, down_of, hand, hear, is_of, step}
-use Rattle.end_schedules.specs.Pairs.Step.{Asks, Happens, Hears, Takes}
-use Rattle.end_schedules.specs.Schedules.{AllMayTurn, Company, End, MayTurn, Turn, after_turns, company_of, end_of, is_own, paired, standing, stepped, turn, with_end}
+use Rattle.end_schedules.specs.Pairs.Step.{Asks, Breaks as GoesDown, Closes, Happens, Hears, Takes}
+use Rattle.end_schedules.specs.Schedules.{AllMayTurn, Company, End, MayTurn, Turn, after_turns, company_of, end_of, happens, is_own, paired, stepped, turn, with_end}
 use Rattle.end_schedules.specs.Schedules.Turn.{Begins, Breaks, Joins, Orders, Steps, Waits}
-use Rattle.end_schedules.proofs.Folds.{Keeps, keeps-all, keeps-begun, keeps-other, keeps-step}
+use Rattle.end_schedules.proofs.Folds.{Keeps, keeps-all, keeps-begun, keeps-left, keeps-other, keeps-step}
 use Rattle.end_schedules.proofs.Runs.{Stood, stood-run, stood-taken}
-
-record There (c : ℕ) (e : End) (h : History) : Type 0 where
-  live : is_in c (of.live h) ≡ true
-  keeps : Keeps c (paired h e)
 
 record Together (t : Company) : Type 0 where
   stood : Stood t.history
-  each : (c : ℕ) (e : End) → t.ends c ≡ Some e → There c e t.history
+  each : (c : ℕ) (e : End) → t.ends c ≡ Some e → Keeps c (paired t.history e)
 
 or_this : End → Option End → End
 or_this e None = e
@@ -34,19 +28,6 @@ or_this e (Some f) = f
 some-same : (e f : End) → Some e ≡ Some f → e ≡ f
 unfolding or_this
 some-same e f s = ap (λ (o : Option End). or_this e o) s
-
-kept-live : (b : Bool) (o : Option End) (e : End) → cond b o None ≡ Some e → (b ≡ true) × (o ≡ Some e)
-kept-live true o e q = (refl, q)
-kept-live false o e q = absurd cc
-
--- who stays there keeps what holds
-together-standing : (h : History) (ends : ℕ → Option End) → Stood h → ((c : ℕ) (e : End) → is_in c (of.live h) ≡ true → ends c ≡ Some e → Keeps c (paired h e)) → Together (standing h ends)
-together-standing h ends s k = record {
-  stood = s;
-  each = λ c e q.
-      let l : (is_in c (of.live h) ≡ true) × (ends c ≡ Some e) = kept-live (is_in c (of.live h)) (ends c) e q in
-      record { live = l.0; keeps = k c e l.0 l.1 };
-}
 
 same-conn : (c d : ℕ) → eqb c d ≡ true → c ≡ d
 same-conn c d e = grind (arith, nat_tests)
@@ -59,14 +40,18 @@ by-at P false c d e f g = g e
 by-conn : (P : Type 0) (c d : ℕ) → (c ≡ d → P) → (eqb c d ≡ false → P) → P
 by-conn P c d f g = by-at P (eqb c d) c d refl f g
 
-together-joins : (c : ℕ) (t : Company) → is_in c (of.live t.history) ≡ false → Together t → Together (turn (Joins c) t)
-together-joins c t n k = together-standing (session.taken (Joined c) t.history) t.ends (stood-taken (Joined c) t.history k.stood) (λ d e l q.
-    by-conn (Keeps d (paired (session.taken (Joined c) t.history) e)) c d
-    (λ same. absurd (differ (subst (λ (x : ℕ). is_in x (of.live t.history) ≡ true) (sym same) (k.each d e q).live) n))
-    (λ other. keeps-other d (Joined c) (paired t.history e) other (k.each d e q).keeps))
+together-orders : (event : SessionEvent) (t : Company) → ((d : ℕ) → is_of d event ≡ false) → Together t → Together (happens event t)
+together-orders event t n k = record { stood = stood-taken event t.history k.stood; each = λ d e q. keeps-other d event (paired t.history e) (n d) (k.each d e q) }
 
-together-orders : (event : SessionEvent) (t : Company) → ((d : ℕ) → is_of d event ≡ false) → Together t → Together (standing (session.taken event t.history) t.ends)
-together-orders event t n k = together-standing (session.taken event t.history) t.ends (stood-taken event t.history k.stood) (λ d e l q. keeps-other d event (paired t.history e) (n d) (k.each d e q).keeps)
+-- a connection breaks, whether its client is followed or not
+together-breaks : (c : ℕ) (t : Company) → Together t → Together (turn (Breaks c) t)
+together-breaks c t k = record {
+  stood = stood-taken (Left c) t.history k.stood;
+  each = λ d e q.
+      by-conn (Keeps d (paired (session.taken (Left c) t.history) e)) c d
+      (λ same. subst (λ (x : ℕ). Keeps d (paired (session.taken (Left x) t.history) e)) (sym same) (keeps-left d (paired t.history e) (k.each d e q)))
+      (λ other. keeps-other d (Left c) (paired t.history e) other (k.each d e q));
+}
 
 -- the end of this connection, or that of another
 here : (b : Bool) (o p : Option End) (e : End) → b ≡ true → cond b o p ≡ Some e → o ≡ Some e
@@ -82,21 +67,24 @@ own-conn c d e = grind (arith, nat_tests)
 
 -- this connection's end is new, and the others' stay
 together-with : (c : ℕ) (o : Option End) (h : History) (t : Company) → Stood h → ((e : End) → o ≡ Some e → Keeps c (paired h e)) → ((d : ℕ) (e : End) → eqb c d ≡ false → Keeps d (paired t.history e) → Keeps d (paired h e)) → Together t
-    → Together (standing h (with_end c o t.ends))
-together-with c o h t s f g k = together-standing h (with_end c o t.ends) s (λ d e l q.
-    by-conn (Keeps d (paired h e)) c d
-    (λ same. subst (λ (x : ℕ). Keeps x (paired h e)) same (f e (here (eqb c d) o (t.ends d) e (own-conn c d same) q)))
-    (λ other. g d e other (k.each d e (elsewhere (eqb c d) o (t.ends d) e other q)).keeps))
+    → Together (record { history = h; ends = with_end c o t.ends })
+together-with c o h t s f g k = record {
+  stood = s;
+  each = λ d e q.
+      by-conn (Keeps d (paired h e)) c d
+      (λ same. subst (λ (x : ℕ). Keeps x (paired h e)) same (f e (here (eqb c d) o (t.ends d) e (own-conn c d same) q)))
+      (λ other. g d e other (k.each d e (elsewhere (eqb c d) o (t.ends d) e other q)));
+}
+
+together-joins : (c : ℕ) (t : Company) → Together t → Together (turn (Joins c) t)
+together-joins c t k =
+    together-with c None (session.taken (Joined c) t.history) t (stood-taken (Joined c) t.history k.stood) (λ e q. absurd cc) (λ d e other w. keeps-other d (Joined c) (paired t.history e) other w) k
 
 together-begins : (c : ℕ) (previous : List ℕ) (asked : SaveAsk) (t : Company) → of.phase_of c t.history ≡ None → Together t → Together (turn (Begins c previous asked) t)
 together-begins c previous asked t n k =
     together-with c (Some (end_of (begun c previous asked t.history))) (session.taken (Ready c) t.history) t (stood-taken (Ready c) t.history k.stood)
     (λ e q. subst (λ (x : End). Keeps c (paired (session.taken (Ready c) t.history) x)) (some-same (end_of (begun c previous asked t.history)) e q) (keeps-begun c previous asked t.history n k.stood))
     (λ d e other w. keeps-other d (Ready c) (paired t.history e) other w) k
-
-together-breaks : (c : ℕ) (t : Company) → Together t → Together (turn (Breaks c) t)
-together-breaks c t k =
-    together-with c None (session.taken (Left c) t.history) t (stood-taken (Left c) t.history k.stood) (λ e q. absurd cc) (λ d e other w. keeps-other d (Left c) (paired t.history e) other w) k
 
 -- what a step of one does to the others
 others-hear : (c sequence : ℕ) (frame : List ℕ) (up : List XsmpMessage) (p : Pair) (d : ℕ) (e : End) → eqb c d ≡ false → Keeps d (paired p.history e) → Keeps d (paired (hear c sequence frame up p).history e)
@@ -111,19 +99,21 @@ others-step : (c : ℕ) (s : Step) (p : Pair) (d : ℕ) (e : End) → is_own s �
 others-step c (Asks request) p d e o n k = k
 others-step c (Hears sequence frame) p d e o n k = others-hear c sequence frame p.up p d e n k
 others-step c Takes p d e o n k = others-hand (down_of c p) p d e k
+others-step c (Closes reasons) p d e o n k = k
 others-step c (Happens event) p d e o n k = absurd (grind arith)
+others-step c GoesDown p d e o n k = absurd (grind arith)
 
 together-stepped : (c : ℕ) (s : Step) (o : Option End) (t : Company) → t.ends c ≡ o → is_own s ≡ true → ((e : End) → t.ends c ≡ Some e → May c s (paired t.history e)) → Together t → Together (stepped c s o t)
 together-stepped c s None t q own may k = k
 together-stepped c s (Some e) t q own may k =
     let p : Pair = step c s (paired t.history e) in
-    let w : Keeps c p = keeps-step c s (paired t.history e) (may e q) (k.each c e q).keeps in
+    let w : Keeps c p = keeps-step c s (paired t.history e) (may e q) (k.each c e q) in
     together-with c (Some (end_of p)) p.history t w.stood
     (λ f same. subst (λ (x : End). Keeps c (paired p.history x)) (some-same (end_of p) f same) w)
     (λ d f other v. others-step c s (paired t.history e) d f own other v) k
 
 together-turn : (x : Turn) (t : Company) → MayTurn x t → Together t → Together (turn x t)
-together-turn (Joins c) t m k = together-joins c t m k
+together-turn (Joins c) t m k = together-joins c t k
 together-turn (Begins c previous asked) t m k = together-begins c previous asked t m.1 k
 together-turn (Steps c s) t m k = together-stepped c s (t.ends c) t refl m.0 m.1 k
 together-turn (Orders order) t m k = together-orders (Operator order) t (λ d. refl) k
@@ -140,8 +130,7 @@ together-begun h s = record { stood = s; each = λ c e q. absurd cc }
 there-after : (h : History) (turns : List Turn) (c : ℕ) (e : End) → Stood h → AllMayTurn turns (company_of h) → (after_turns turns (company_of h)).ends c ≡ Some e → KeepsAll c (paired (after_turns turns (company_of h)).history e)
 there-after h turns c e s m q =
     let t : Company = after_turns turns (company_of h) in
-    let k : There c e t.history = (together-after turns (company_of h) m (together-begun h s)).each c e q in
-    keeps-all c (paired t.history e) k.live k.keeps
+    keeps-all c (paired t.history e) ((together-after turns (company_of h) m (together-begun h s)).each c e q)
 
 pub all-agree : AllEndsAgree
 all-agree book events turns m c e q = there-after _ turns c e (stood-run book events) m q

@@ -1,27 +1,26 @@
 -- Each step of a pair keeps what holds of it, and so does every schedule.
-use Rattle.std.proofs.Common.{◌≡◌, refl, sym, ap, ◌∙◌, subst, ℕ, zero, suc, ◌+◌, ◌≤◌, Bool, true, false, cond, not, List, [], ◌∷◌, ◌++◌, length, drop, eqb, arith}
+use Rattle.std.proofs.Common.{◌≡◌, ◌≢◌, inl, inr, refl, sym, ap, subst, ℕ, zero, suc, ◌+◌, ◌≤◌, Bool, true, false, cond, List, [], ◌∷◌, ◌++◌, length, drop, eqb, arith}
 use Rattle.std.specs.Prelude.{Option, Some, None, is_some}
+use Rattle.std.specs.List.{list_any}
 use Rattle.ice_values.specs.Fields.{ErrorFields}
 use Rattle.ice_values.specs.declared.severity.Severity.{Severity}
 use Rattle.ice_values.specs.declared.severity.Severity.TheVariants.{CanContinue}
-use Rattle.interact_queue.specs.Queue.{is_in}
+use Rattle.interact_queue.specs.Queue.{is_in, without}
 use Rattle.xsmp_messages.specs.declared.message.XsmpMessage.{XsmpMessage}
-use Rattle.xsmp_messages.specs.declared.message.XsmpMessage.TheVariants.{Die, Error, GetPropertiesReply, Interact, RegisterClient, RegisterClientReply, SaveComplete, SaveYourself, SaveYourselfPhase2, ShutdownCancelled}
+use Rattle.xsmp_messages.specs.declared.message.XsmpMessage.TheVariants.{ConnectionClosed, Die, Error, GetPropertiesReply, Interact, RegisterClient, RegisterClientReply, SaveComplete, SaveYourself, SaveYourselfPhase2, ShutdownCancelled}
 use Rattle.session_model.specs.declared.events.SessionEvent.{SessionEvent}
-use Rattle.session_model.specs.declared.events.SessionEvent.TheVariants.{Ready, Said}
+use Rattle.session_model.specs.declared.events.SessionEvent.TheVariants.{Left, Ready, Said}
 use Rattle.session_model.specs.declared.phase.Phase.{Phase}
-use Rattle.session_model.specs.Moves.{Blamed, Closed, History, Move, Outside, onto, ◌▷◌}
+use Rattle.session_model.specs.Moves.{History, Move, Outside, ◌▷◌}
 use Rattle.session_model.specs.Phases.{ready_phase}
 use Rattle.session_model.specs.Reading.{reading}
 use Rattle.session_model.specs.Readings as of
 use Rattle.session_model.specs.Replies.{reply}
 use Rattle.session_model.specs.Rules as session
-use Rattle.session_model.proofs.Own.{AllOwn, IsAnswer, IsOwn, own-reply}
-use Rattle.session_model.proofs.Lists.{in-without}
-use Rattle.session_model.proofs.Ruled.{and-right}
+use Rattle.session_model.proofs.Ruled.{differ}
 use Rattle.session_model.proofs.Replied.{good-reply}
-use Rattle.client_machine.specs.Asking.{may_ask}
-use Rattle.client_machine.specs.Phases.{ClientState, is_done, is_member, is_registered, is_registering, is_resting}
+use Rattle.client_machine.specs.Asking.{after_asked, may_ask, requested}
+use Rattle.client_machine.specs.Phases.{ClientState, is_dead, is_done, is_member, is_registered, is_registering, is_resting}
 use Rattle.client_machine.specs.Taking.{act_taken, blamed_act, registers_again, taken}
 use Rattle.client_machine.specs.declared.acts.ClientAct.{ClientAct}
 use Rattle.client_machine.specs.declared.acts.ClientAct.TheVariants.{Again, Cancelled, Complete, Die as ToDie, Nothing, Properties, Registered, Unexpected}
@@ -31,20 +30,21 @@ use Rattle.client_machine.specs.declared.requests.Request.{Request}
 use Rattle.client_machine.specs.declared.saves.SaveAsk.{SaveAsk}
 use Rattle.end_agreement.specs.Sides.{Agrees, Side}
 use Rattle.end_agreement.specs.Hearing.{Fits, again_by, is_again}
-use Rattle.end_agreement.specs.Laws.{owes, taken_all}
+use Rattle.end_agreement.specs.Laws.{after_closed, owes, taken_all}
 use Rattle.end_agreement.specs.Meeting.{Meets}
-use Rattle.end_agreement.proofs.Asking.{asking-meets}
+use Rattle.end_agreement.proofs.Asking.{asking-meets, closing-meets}
 use Rattle.end_agreement.proofs.Calm.{tail-nil}
 use Rattle.end_agreement.proofs.Entering.{again-meets, begins-meets}
 use Rattle.end_agreement.proofs.Owed.{answers-owed, saves-asked}
-use Rattle.end_agreement.proofs.Taken.{agree-in-the-end, client_in, not-unexpected, taking-meets}
-use Rattle.end_schedules.specs.Laws.{AnswersAreFew, BothEndsAgree, ClientSendsNoBadState, KeepsAll, ManagerSendsNoBadState, answered_to, heard_all, unless_ended_at}
+use Rattle.end_agreement.proofs.Taken.{agree-in-the-end, client_in, not-unexpected, suited-expected, taking-meets}
+use Rattle.end_agreement.proofs.Waiting.{AreSuited, asked-suited, dead-suited}
+use Rattle.end_schedules.specs.Laws.{AnswersAreFew, BothEndsAgree, ClientSendsNoBadState, KeepsAll, ManagerSendsNoBadState, answered_to, heard_all, is_bad_state, unless_ended_at}
 use Rattle.end_schedules.specs.Pairs.{AllMay, May, Pair, Step, after, begun, down_of, hand, hear, heard, is_of, said_at_once, step, unless_ended}
-use Rattle.end_schedules.specs.Pairs.Step.{Asks, Happens, Hears, Takes}
+use Rattle.end_schedules.specs.Pairs.Step.{Asks, Breaks, Closes, Happens, Hears, Takes}
 use Rattle.end_schedules.specs.UnderWay.{Save, save_of, sent_to, side_of, side_with}
 use Rattle.end_schedules.proofs.Own.{at-heard, own-conn}
-use Rattle.end_schedules.proofs.Runs.{Stood, others-passed, steady-reply, stood-run, stood-taken, went-passed, went-taken}
-use Rattle.end_schedules.proofs.Standing.{At, Stands, Stays, stays-passed}
+use Rattle.end_schedules.proofs.Runs.{Stood, left-passes, others-passed, steady-reply, stood-run, stood-taken, went-passed, went-taken}
+use Rattle.end_schedules.proofs.Standing.{At, Stands, Stays, gone-from, shut-out, stays-moves, stays-passed}
 
 pub record Keeps (c : ℕ) (p : Pair) : Type 0 where
   pub stood : Stood p.history
@@ -53,49 +53,53 @@ pub record Keeps (c : ℕ) (p : Pair) : Type 0 where
 
 -- The client asks
 
+asked-stays : (c : ℕ) (r : Request) (h : History) (s : ClientState) (up : List XsmpMessage) (n : ℕ) → may_ask r s ≡ true → Stays c h s up n → Stays c h (after_asked r s) (up ++ requested r ∷ []) n
+asked-stays c r h s up n e (inl a) = inl (record { few = a.few; meets = asking-meets r (side_of c h) s up (drop n (sent_to c h)) e a.meets; clean = a.clean })
+asked-stays c r h s up n e (inr a) = inr (record { phase = a.phase; shut = a.shut; few = a.few; suited = asked-suited r s (drop n (sent_to c h)) e a.suited; clean = a.clean })
+
 keeps-asked : (c : ℕ) (r : Request) (p : Pair) → may_ask r p.state ≡ true → Keeps c p → Keeps c (step c (Asks r) p)
 keeps-asked c r p e k = record {
   stood = k.stood;
-  stays = λ l.
-      let a : At c p.history p.state p.up p.took = k.stays l in
-      record { few = a.few; meets = asking-meets r (side_of c p.history) p.state p.up (drop p.took (sent_to c p.history)) e a.meets; clean = a.clean };
+  stays = asked-stays c r p.history p.state p.up p.took e k.stays;
   few = omega (arith, k.few, answers-owed r p.state e);
 }
 
+-- The client closes
+
+closed-stays : (c : ℕ) (reasons : List (List ℕ)) (h : History) (s : ClientState) (up : List XsmpMessage) (n : ℕ) → Stays c h s up n → Stays c h (after_closed s) (up ++ ConnectionClosed reasons ∷ []) n
+closed-stays c reasons h s up n (inl a) = inl (record { few = a.few; meets = closing-meets reasons (side_of c h) s up (drop n (sent_to c h)) a.meets; clean = a.clean })
+closed-stays c reasons h s up n (inr a) = inr (record { phase = a.phase; shut = a.shut; few = a.few; suited = dead-suited (after_closed s) (drop n (sent_to c h)) refl; clean = a.clean })
+
+keeps-closed : (c : ℕ) (reasons : List (List ℕ)) (p : Pair) → Keeps c p → Keeps c (step c (Closes reasons) p)
+keeps-closed c reasons p k = record { stood = k.stood; stays = closed-stays c reasons p.history p.state p.up p.took k.stays; few = omega (arith, k.few) }
+
 -- The manager hears the client
-
-live-move : (c : ℕ) (m : Move) (h : History) → IsOwn m → is_in c (of.live (m ▷ h)) ≡ true → is_in c (of.live h) ≡ true
-live-move c (Outside event) h o l = absurd o
-live-move c (Closed d) h o l = and-right (not (eqb d c)) (is_in c (of.live h)) (sym (in-without c d (of.live h)) ∙ l)
-live-move c m h o l = l
-
-live-own : (c : ℕ) (moves : List Move) (h : History) → AllOwn moves → is_in c (of.live (onto h moves)) ≡ true → is_in c (of.live h) ≡ true
-live-own c [] h o l = l
-live-own c (m ∷ moves) h o l = live-move c m h o.0 (live-own c moves (m ▷ h) o.1 l)
-
-live-answer : (c : ℕ) (moves : List Move) (h : History) → IsAnswer moves → is_in c (of.live (onto h moves)) ≡ true → is_in c (of.live h) ≡ true
-live-answer c [] h o l = l
-live-answer c (Blamed d error ∷ moves) h o l = live-own c moves (Blamed d error ▷ h) o l
-live-answer c (m ∷ moves) h o l = live-own c (m ∷ moves) h o l
 
 ended-meets : (p : Option Phase) (save : Save) (s : ClientState) (up down : List XsmpMessage) → Meets (side_with p save) s up down → Meets (side_with p save) s (unless_ended p up) down
 ended-meets None save s [] down f = f
 ended-meets None save s (u ∷ up) down f = f
 ended-meets (Some p) save s up down f = f
 
+-- as XSMP hasn't ended there, the connection isn't gone
+at-some : (c : ℕ) (h : History) (s : ClientState) (up : List XsmpMessage) (n : ℕ) → is_some (of.phase_of c h) ≡ true → Stays c h s up n → At c h s up n
+at-some c h s up n i (inl a) = a
+at-some c h s up n i (inr a) = absurd (differ i (ap (λ (q : Option Phase). is_some q) a.phase))
+
+ended-stays : (c : ℕ) (h : History) (s : ClientState) (up : List XsmpMessage) (n : ℕ) → Stays c h s up n → Stays c h s (unless_ended (of.phase_of c h) up) n
+ended-stays c h s up n (inl a) = inl (record { few = a.few; meets = ended-meets (of.phase_of c h) (save_of c h) s up (drop n (sent_to c h)) a.meets; clean = a.clean })
+ended-stays c h s up n (inr a) = inr a
+
 keeps-heard : (c sequence : ℕ) (frame : List ℕ) (m : XsmpMessage) (up : List XsmpMessage) (p : Pair) → p.up ≡ m ∷ up → is_some (of.phase_of c p.history) ≡ true → Keeps c p → Keeps c (heard c (Said c m sequence frame) up p)
 keeps-heard c sequence frame m up p e i k =
     let event : SessionEvent = Said c m sequence frame in
     let g : History = session.taken event p.history in
-    let own : Stays c (answered_to event p.history) p.state up p.took = λ l.
-    at-heard m c sequence frame p.history p.state up p.took i k.stood
-    (subst (λ (xs : List XsmpMessage). At c p.history p.state xs p.took) e (k.stays (live-answer c (reply (reading p.history) event) (Outside event ▷ p.history) (own-reply (reading p.history) event) l))) in
-    let later : Stays c g p.state up p.took = stays-passed c (answered_to event p.history) g p.state up p.took (went-passed c (answered_to event p.history) g (went-taken event p.history k.stood.good k.stood.steady)) own in
+    let own : Stays c (answered_to event p.history) p.state up p.took =
+    inl (at-heard m c sequence frame p.history p.state up p.took i k.stood
+    (subst (λ (xs : List XsmpMessage). At c p.history p.state xs p.took) e (at-some c p.history p.state p.up p.took i k.stays))) in
     record {
       stood = stood-taken event p.history k.stood;
-      stays = λ l.
-          let a : At c g p.state up p.took = later l in
-          record { few = a.few; meets = ended-meets (of.phase_of c g) (save_of c g) p.state up (drop p.took (sent_to c g)) a.meets; clean = a.clean };
+      stays = ended-stays c g p.state up p.took
+          (stays-passed c (answered_to event p.history) g p.state up p.took (went-passed c (answered_to event p.history) g (went-taken event p.history k.stood.good k.stood.steady)) own);
       few = k.few;
     }
 
@@ -156,21 +160,24 @@ drop-next n xs m down e =
     let one : suc n ≡ n + 1 = omega arith in
     subst (λ (k : ℕ). (k ≤ length xs) × (drop k xs ≡ down)) one (drop-suc n xs m down e)
 
+hand-stays : (c : ℕ) (m : XsmpMessage) (down : List XsmpMessage) (h : History) (s : ClientState) (up : List XsmpMessage) (n : ℕ) → drop n (sent_to c h) ≡ m ∷ down → Stays c h s up n
+    → Stays c h (taken m s) (up ++ said_at_once (act_taken m s)) (n + 1)
+hand-stays c m down h s up n e (inl a) =
+    let d : (n + 1 ≤ length (sent_to c h)) × (drop (n + 1) (sent_to c h) ≡ down) = drop-next n (sent_to c h) m down e in
+    inl (record {
+      few = d.0;
+      meets = subst (λ (xs : List XsmpMessage). Meets (side_of c h) (taken m s) (up ++ said_at_once (act_taken m s)) xs) (sym d.1)
+          (handed-meets m (side_of c h) s up down (subst (λ (xs : List XsmpMessage). Meets (side_of c h) s up xs) e a.meets));
+      clean = a.clean;
+    })
+hand-stays c m down h s up n e (inr a) =
+    let d : (n + 1 ≤ length (sent_to c h)) × (drop (n + 1) (sent_to c h) ≡ down) = drop-next n (sent_to c h) m down e in
+    let f : AreSuited s (m ∷ down) = subst (λ (xs : List XsmpMessage). AreSuited s xs) e a.suited in
+    inr (record { phase = a.phase; shut = a.shut; few = d.0; suited = subst (λ (xs : List XsmpMessage). AreSuited (taken m s) xs) (sym d.1) f.1; clean = a.clean })
+
 keeps-hand : (c : ℕ) (down : List XsmpMessage) (p : Pair) → down_of c p ≡ down → Keeps c p → Keeps c (hand down p)
 keeps-hand c [] p e k = k
-keeps-hand c (m ∷ down) p e k = record {
-  stood = k.stood;
-  stays = λ l.
-      let a : At c p.history p.state p.up p.took = k.stays l in
-      let d : (p.took + 1 ≤ length (sent_to c p.history)) × (drop (p.took + 1) (sent_to c p.history) ≡ down) = drop-next p.took (sent_to c p.history) m down e in
-      record {
-        few = d.0;
-        meets = subst (λ (xs : List XsmpMessage). Meets (side_of c p.history) (taken m p.state) (p.up ++ said_at_once (act_taken m p.state)) xs) (sym d.1)
-            (handed-meets m (side_of c p.history) p.state p.up down (subst (λ (xs : List XsmpMessage). Meets (side_of c p.history) p.state p.up xs) e a.meets));
-        clean = a.clean;
-      };
-  few = omega (arith, k.few, saves-asked m p.state);
-}
+keeps-hand c (m ∷ down) p e k = record { stood = k.stood; stays = hand-stays c m down p.history p.state p.up p.took e k.stays; few = omega (arith, k.few, saves-asked m p.state) }
 
 -- Something else happens
 
@@ -181,13 +188,33 @@ keeps-other c event p e k = record {
   few = k.few;
 }
 
+-- The connection breaks
+
+left-stays : (c : ℕ) (h : History) (s : ClientState) (up : List XsmpMessage) (n : ℕ) → Stays c h s up n → Stays c (Outside (Left c) ▷ h) s up n
+left-stays c h s up n k =
+    inr (gone-from c h (cond (eqb c c) None (of.phase_of c h)) (is_in c (without c (of.live h))) s up n (ap (λ (b : Bool). cond b None (of.phase_of c h)) (own-conn c)) (shut-out c c (of.live h) (own-conn c)) k)
+
+pub keeps-left : (c : ℕ) (p : Pair) → Keeps c p → Keeps c (step c Breaks p)
+keeps-left c p k =
+    let h : History = Outside (Left c) ▷ p.history in
+    let moves : List Move = reply (reading p.history) (Left c) in
+    record {
+      stood = stood-taken (Left c) p.history k.stood;
+      stays = stays-passed c (answered_to (Left c) p.history) (session.taken (Left c) p.history) p.state p.up p.took
+          (went-passed c (answered_to (Left c) p.history) (session.taken (Left c) p.history) (went-taken (Left c) p.history k.stood.good k.stood.steady))
+          (stays-moves c moves h p.state p.up p.took (left-passes c p.history k.stood) (left-stays c p.history p.state p.up p.took k.stays));
+      few = k.few;
+    }
+
 -- Schedules
 
 pub keeps-step : (c : ℕ) (s : Step) (p : Pair) → May c s p → Keeps c p → Keeps c (step c s p)
 keeps-step c (Asks r) p e k = keeps-asked c r p e k
 keeps-step c (Hears sequence frame) p e k = keeps-hear c sequence frame p.up p refl e k
 keeps-step c Takes p e k = keeps-hand c (down_of c p) p refl k
+keeps-step c (Closes reasons) p e k = keeps-closed c reasons p k
 keeps-step c (Happens event) p e k = keeps-other c event p e k
+keeps-step c Breaks p e k = keeps-left c p k
 
 keeps-after : (c : ℕ) (steps : List Step) (p : Pair) → AllMay c steps p → Keeps c p → Keeps c (after c steps p)
 keeps-after c [] p e k = k
@@ -203,7 +230,7 @@ pub keeps-begun : (c : ℕ) (previous : List ℕ) (asked : SaveAsk) (h : History
 keeps-begun c previous asked h e s = record {
   stood = stood-taken (Ready c) h s;
   stays = stays-passed c (answered_to (Ready c) h) (session.taken (Ready c) h) (client_in Registering previous asked) (RegisterClient previous ∷ []) 0
-      (went-passed c (answered_to (Ready c) h) (session.taken (Ready c) h) (went-taken (Ready c) h s.good s.steady)) (λ l. at-ready c previous asked h e);
+      (went-passed c (answered_to (Ready c) h) (session.taken (Ready c) h) (went-taken (Ready c) h s.good s.steady)) (inl (at-ready c previous asked h e));
   few = omega arith;
 }
 
@@ -235,12 +262,25 @@ agree-all c numbers frames k (m ∷ up) h s n w a =
     agree-at (of.phase_of c h) c h (heard_all c numbers frames (k + 1) up (answered_to event h)) s m up n refl a
     (λ i. agree-all c numbers frames (k + 1) up (answered_to event h) s n (stood-answered event h w) (at-heard m c (numbers k) (frames k) h s up n i w a))
 
-pub keeps-all : (c : ℕ) (p : Pair) → is_in c (of.live p.history) ≡ true → Keeps c p → KeepsAll c p
-keeps-all c p l k = record {
-  no_bad_state = (k.stays l).clean;
-  expected = λ m down e alive.
-      not-unexpected m (side_of c p.history) p.state p.up down alive (subst (λ (xs : List XsmpMessage). Meets (side_of c p.history) p.state p.up xs) e (k.stays l).meets);
-  agree = λ numbers frames. agree-all c numbers frames 0 p.up p.history p.state p.took k.stood (k.stays l);
+clean-of : (c : ℕ) (h : History) (s : ClientState) (up : List XsmpMessage) (n : ℕ) → Stays c h s up n → list_any is_bad_state (sent_to c h) ≡ false
+clean-of c h s up n (inl a) = a.clean
+clean-of c h s up n (inr a) = a.clean
+
+expected-of : (c : ℕ) (h : History) (s : ClientState) (up : List XsmpMessage) (n : ℕ) (m : XsmpMessage) (down : List XsmpMessage) → drop n (sent_to c h) ≡ m ∷ down → is_dead s.phase ≡ false → Stays c h s up n → act_taken m s ≢ Unexpected
+expected-of c h s up n m down e alive (inl a) = not-unexpected m (side_of c h) s up down alive (subst (λ (xs : List XsmpMessage). Meets (side_of c h) s up xs) e a.meets)
+expected-of c h s up n m down e alive (inr a) =
+    let f : AreSuited s (m ∷ down) = subst (λ (xs : List XsmpMessage). AreSuited s xs) e a.suited in
+    suited-expected m s alive f.0
+
+live-at : (c : ℕ) (h : History) (s : ClientState) (up : List XsmpMessage) (n : ℕ) → is_in c (of.live h) ≡ true → Stays c h s up n → At c h s up n
+live-at c h s up n l (inl a) = a
+live-at c h s up n l (inr a) = absurd (differ l a.shut)
+
+pub keeps-all : (c : ℕ) (p : Pair) → Keeps c p → KeepsAll c p
+keeps-all c p k = record {
+  no_bad_state = clean-of c p.history p.state p.up p.took k.stays;
+  expected = λ m down e alive. expected-of c p.history p.state p.up p.took m down e alive k.stays;
+  agree = λ l numbers frames. agree-all c numbers frames 0 p.up p.history p.state p.took k.stood (live-at c p.history p.state p.up p.took l k.stays);
   few = few-of p.answers (owes p.state.phase) p.saves k.few;
 }
 
@@ -248,13 +288,13 @@ few-by : (c : ℕ) (p : Pair) → Keeps c p → p.answers ≤ p.saves
 few-by c p k = few-of p.answers (owes p.state.phase) p.saves k.few
 
 pub no-bad-state : ManagerSendsNoBadState
-no-bad-state book events c previous asked steps t e l = (keeps-all c _ l (every _ c previous asked steps (stood-run book events) t e)).no_bad_state
+no-bad-state book events c previous asked steps t e = (keeps-all c _ (every _ c previous asked steps (stood-run book events) t e)).no_bad_state
 
 pub no-unexpected : ClientSendsNoBadState
-no-unexpected book events c previous asked steps t e l = (keeps-all c _ l (every _ c previous asked steps (stood-run book events) t e)).expected
+no-unexpected book events c previous asked steps t e = (keeps-all c _ (every _ c previous asked steps (stood-run book events) t e)).expected
 
 pub both-agree : BothEndsAgree
-both-agree book events c previous asked steps t e l = (keeps-all c _ l (every _ c previous asked steps (stood-run book events) t e)).agree
+both-agree book events c previous asked steps t e = (keeps-all c _ (every _ c previous asked steps (stood-run book events) t e)).agree
 
 pub answers-few : AnswersAreFew
 answers-few book events c previous asked steps t e = few-by c _ (every _ c previous asked steps (stood-run book events) t e)

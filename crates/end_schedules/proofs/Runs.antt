@@ -3,7 +3,7 @@ use Rattle.std.proofs.Common.{◌≡◌, ◌≢◌, refl, sym, ap, ◌∙◌, su
 use Rattle.std.proofs.lemmas.Bool.Decides.{nat_tests}
 use Rattle.restart_plan.specs.Restarts.{opening_restarts}
 use Rattle.session_model.specs.declared.events.SessionEvent.{SessionEvent}
-use Rattle.session_model.specs.declared.events.SessionEvent.TheVariants.{Said}
+use Rattle.session_model.specs.declared.events.SessionEvent.TheVariants.{Left, Said}
 use Rattle.session_model.specs.Books.{issue, opening_moves, raised}
 use Rattle.session_model.specs.Laws.{Always}
 use Rattle.session_model.specs.Moves.{Finished, History, Move, Opened, Outside, Restart, onto, tried_each, ◌▷◌, Opening}
@@ -137,6 +137,10 @@ others-answered c event h n g s = record {
   there = refl;
   each = (n, (answer event (other_than c event) h (from-other c event) g s).pass c (is-other c event n));
 }
+
+-- as a connection breaks, the direct answer is to no client
+pub left-passes : (c : ℕ) (h : History) → Stood h → AllPass c (reply (reading h) (Left c)) (Outside (Left c) ▷ h)
+left-passes c h s = (answer (Left c) (suc c) h tt s.good s.steady).pass c (not-next c)
 
 passed-both : (c : ℕ) (h g k : History) → IsPassed c h g → IsPassed c g k → IsPassed c h k
 passed-both c h g k p q = record {

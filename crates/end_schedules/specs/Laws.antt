@@ -67,15 +67,16 @@ AgreesOnceTaken c p =
 abbrev pub AnswersFew : ℕ → Pair → Type 0
 AnswersFew c p = p.answers ≤ p.saves
 
--- Whatever else happens, be the other clients as they are: the manager never answers this client by BadState,
+-- Whatever else happens, be the other clients as they are: the manager never answers this client by BadState, nor as it shuts the
+-- connection,
 abbrev pub ManagerSendsNoBadState : Type 0
-ManagerSendsNoBadState = InEveryPair (λ c p. is_live c p ≡ true → HearsNoBadState c p)
+ManagerSendsNoBadState = InEveryPair (λ c p. HearsNoBadState c p)
 
--- nor is there ever anything that the client had to answer so;
+-- nor is there ever anything that the client had to answer so, also of what it takes after its connection was shut;
 abbrev pub ClientSendsNoBadState : Type 0
-ClientSendsNoBadState = InEveryPair (λ c p. is_live c p ≡ true → ExpectsWhatWaits c p)
+ClientSendsNoBadState = InEveryPair (λ c p. ExpectsWhatWaits c p)
 
--- both agree, once all is taken that is under way;
+-- as long as the connection stands, both agree, once all is taken that is under way;
 abbrev pub BothEndsAgree : Type 0
 BothEndsAgree = InEveryPair (λ c p. is_live c p ≡ true → AgreesOnceTaken c p)
 
@@ -83,11 +84,12 @@ BothEndsAgree = InEveryPair (λ c p. is_live c p ≡ true → AgreesOnceTaken c 
 abbrev pub AnswersAreFew : Type 0
 AnswersAreFew = InEveryPair (λ c p. AnswersFew c p)
 
--- all of this of the manager and each of its clients
+-- all of this of the manager and each of its clients, also once the connection is shut or broken; but who isn't there any more agrees
+-- with nobody
 pub record KeepsAll (c : ℕ) (p : Pair) : Type 0 where
   pub no_bad_state : HearsNoBadState c p
   pub expected : ExpectsWhatWaits c p
-  pub agree : AgreesOnceTaken c p
+  pub agree : is_live c p ≡ true → AgreesOnceTaken c p
   pub few : AnswersFew c p
 
 abbrev pub AllEndsAgree : Type 0

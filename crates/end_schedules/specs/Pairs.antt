@@ -1,7 +1,7 @@
 -- A manager and one of its clients, with a queue each way, among whatever else happens to the manager.
 use Rattle.std.specs.Prelude.{Bool, List, None, Option, Some, [], drop, false, is_some, true, ℕ, ◌++◌, ◌+◌, ◌==◌, ◌∷◌, ◌≡◌}
 use Rattle.xsmp_messages.specs.declared.message.XsmpMessage.{XsmpMessage}
-use Rattle.xsmp_messages.specs.declared.message.XsmpMessage.TheVariants.{RegisterClient}
+use Rattle.xsmp_messages.specs.declared.message.XsmpMessage.TheVariants.{ConnectionClosed, RegisterClient}
 use Rattle.session_model.specs.declared.events.SessionEvent.{SessionEvent}
 use Rattle.session_model.specs.declared.events.SessionEvent.TheVariants.{Joined, Left, Ready, Said}
 use Rattle.session_model.specs.declared.phase.Phase.{Phase}
@@ -18,7 +18,7 @@ use Rattle.client_machine.specs.declared.acts.ClientAct.TheVariants.{Again}
 use Rattle.client_machine.specs.declared.phase.ClientPhase.TheVariants.{Registering}
 use Rattle.client_machine.specs.declared.requests.Request.{Request}
 use Rattle.client_machine.specs.declared.saves.SaveAsk.{SaveAsk}
-use Rattle.end_agreement.specs.Laws.{answers_save, asks_save}
+use Rattle.end_agreement.specs.Laws.{after_closed, answers_save, asks_save}
 use Rattle.end_schedules.specs.UnderWay.{sent_to}
 
 -- The manager's history and the client. `up` waits for the manager, the oldest first. Of what the manager has sent, the client has
@@ -38,8 +38,12 @@ pub data Step : Type 0 where
   Hears : ℕ → List ℕ → Step
   -- the client takes the first message that waits for it
   Takes : Step
+  -- the client says ConnectionClosed, wherever it is: also where it was told to die, and has said so before
+  Closes : List (List ℕ) → Step
   -- something else comes to the manager: of another client, which needn't be one that keeps the rules, of the operator, or of the clock
   Happens : SessionEvent → Step
+  -- the connection breaks, and the manager hears of that; the client may still take what it was sent before
+  Breaks : Step
 
 -- it comes from this connection
 abbrev pub is_of : ℕ → SessionEvent → Bool
@@ -79,7 +83,9 @@ abbrev pub step : ℕ → Step → Pair → Pair
 step c (Asks request) p = record p { state = after_asked request p.state; up = p.up ++ requested request ∷ []; answers = p.answers + answers_save request }
 step c (Hears sequence frame) p = hear c sequence frame p.up p
 step c Takes p = hand (down_of c p) p
+step c (Closes reasons) p = record p { state = after_closed p.state; up = p.up ++ ConnectionClosed reasons ∷ [] }
 step c (Happens event) p = record p { history = session.taken event p.history }
+step c Breaks p = record p { history = session.taken (Left c) p.history }
 
 -- A client asks only what it may. The manager takes nothing of a connection on which XSMP has ended, and one that is dead takes
 -- nothing.
@@ -87,7 +93,9 @@ abbrev pub May : ℕ → Step → Pair → Type 0
 May c (Asks request) p = may_ask request p.state ≡ true
 May c (Hears sequence frame) p = is_some (of.phase_of c p.history) ≡ true
 May c Takes p = is_dead p.state.phase ≡ false
+May c (Closes reasons) p = Unit {0}
 May c (Happens event) p = is_of c event ≡ false
+May c Breaks p = session.Takes (Left c) (reading p.history)
 
 abbrev pub after : ℕ → List Step → Pair → Pair
 after c [] p = p

@@ -18,19 +18,19 @@ pub fn saves_are_of_the_round()
 {}
 
 /// Does nothing: its contract is a law of every schedule. The manager never answers a client by
-/// BadState that asks only what it may.
+/// BadState that asks only what it may, nor as it shuts the connection.
 pub fn manager_sends_no_bad_state()
     ensures { ManagerSendsNoBadState }
 {}
 
 /// Does nothing: its contract is a law of every schedule. A client never takes a message that it
-/// has to answer by BadState.
+/// has to answer by BadState, nor once the connection was shut or broke.
 pub fn client_sends_no_bad_state()
     ensures { ClientSendsNoBadState }
 {}
 
-/// Does nothing: its contract is a law of every schedule. Once all is taken that is under way, both
-/// ends agree.
+/// Does nothing: its contract is a law of every schedule. As long as the connection is live, both
+/// ends agree once all is taken that is under way.
 pub fn both_ends_agree()
     ensures { BothEndsAgree }
 {}
@@ -41,7 +41,7 @@ pub fn answers_are_few()
 {}
 
 /// Does nothing: its contract is a law of every schedule of a manager and any number of clients.
-/// All of this holds of the manager and each client that is there.
+/// All of this holds of the manager and each client.
 pub fn all_ends_agree()
     ensures { AllEndsAgree }
 {}

@@ -3,4 +3,4 @@
 
 mod spawner;
 
-pub use spawner::{ProgramSpawner, prepared, text};
+pub use spawner::{ProgramSpawner, Readable, prepared};

@@ -2,17 +2,23 @@ ghost use Rattle.std.specs.Prelude.{◌≡◌};
 ghost use Rattle.program_spawner.specs.Untold.{spawner_outside};
 
 use owned_lists::{Command, NoMemory, Octets};
+use shown_text::shown_word;
 use sm_world::{Spawner, Told};
 use std::alloc::Global;
+use std::env::VarError;
 use std::io::ErrorKind;
 use std::process::{Child, Stdio};
-use std::{io, process};
+use std::{env, fs, io, process};
+
+/// Where a program is started that has no other folder.
+const ROOT: &str = "/";
 
 /// Starts programs. That they are started is told to nobody; each that can't be is counted.
 ///
 /// A program gets the inherited environment, the command's pairs over it, and SESSION_MANAGER and
 /// ICEAUTHORITY over these. It reads nothing, and what it prints goes to standard error. Words, names
-/// or values that aren't UTF-8 can't be given to it.
+/// or values that aren't UTF-8 can't be given to it. Where its folder can't be entered, it is started
+/// from HOME, which the user is told.
 #[derive(Drop)]
 pub struct ProgramSpawner {
     rt: HostRuntime,
@@ -23,7 +29,7 @@ pub struct ProgramSpawner {
 }
 
 /// These bytes as text.
-pub fn text(bytes: &Octets) -> io::Result<&str> {
+fn text(bytes: &Octets) -> io::Result<&str> {
     str::from_utf8(bytes.as_slice()).map_err(|_| io::Error::from(ErrorKind::InvalidInput))
 }
 
@@ -45,6 +51,56 @@ pub fn prepared(alloc: Global, command: &Command) -> io::Result<process::Command
         started.current_dir(directory)?;
     }
     Ok(started)
+}
+
+/// Whether a folder can be entered.
+fn can_enter(rt: HostRuntime, folder: &str) -> io::Result<bool> {
+    let inside = format!(in rt.alloc(); "{folder}/.")?;
+    Ok(fs::metadata(&rt, inside.as_str()).is_ok())
+}
+
+/// The folder that the variable HOME names, or the root, where there is none that can be entered.
+fn home(rt: HostRuntime) -> io::Result<String> {
+    match env::var(&rt, "HOME") {
+        Ok(folder) => {
+            if !folder.is_empty() && can_enter(rt, folder.as_str())? {
+                return Ok(folder);
+            }
+        }
+        Err(VarError::OutOfMemory) => return Err(io::Error::from(ErrorKind::OutOfMemory)),
+        Err(_) => {}
+    }
+    Ok(ROOT.to_string(rt.alloc())?)
+}
+
+/// A word that people read.
+#[derive(Drop)]
+pub struct Readable(Octets);
+
+impl Readable {
+    /// These bytes as people read them, whatever a client made of them.
+    pub fn word(alloc: Global, bytes: &[u8]) -> Readable {
+        match shown_word(alloc, bytes) {
+            Ok(shown) => Readable(shown),
+            Err(NoMemory) => Readable(Octets::new(alloc)),
+        }
+    }
+
+    /// The program of a command.
+    pub fn program_of(alloc: Global, command: &Command) -> Readable {
+        match command.words.as_slice().first() {
+            Some(word) => Readable::word(alloc, word.as_slice()),
+            None => Readable(Octets::new(alloc)),
+        }
+    }
+
+    /// The text; a question mark where there is none, or was no memory for it.
+    pub fn as_str(&self) -> &str {
+        match text(&self.0) {
+            Ok(text) if !text.is_empty() => text,
+            _ => "?",
+        }
+    }
 }
 
 impl ProgramSpawner {
@@ -86,11 +142,33 @@ impl ProgramSpawner {
         self.children.len()
     }
 
+    /// Has a program begin in HOME where its folder can't be entered.
+    fn lead_home(&self, started: &mut process::Command, command: &Command) -> io::Result<()> {
+        let folder = text(&command.directory)?;
+        if folder.is_empty() || can_enter(self.rt, folder)? {
+            return Ok(());
+        }
+        let home = home(self.rt)?;
+        started.current_dir(home.as_str())?;
+        let alloc = self.rt.alloc();
+        let lost = Readable::word(alloc, folder.as_bytes());
+        let name = Readable::program_of(alloc, command);
+        let home = Readable::word(alloc, home.as_bytes());
+        let _ = eprintln!(self.rt;
+            "smd: cannot enter {}: {} starts in {}",
+            lost.as_str(),
+            name.as_str(),
+            home.as_str()
+        );
+        Ok(())
+    }
+
     fn try_start(&mut self, command: &Command) -> io::Result<()>
         ensures same { self.new.faults ≡ self.old.faults }
     {
         self.children.reserve(1)?;
         let mut started = prepared(self.rt.alloc(), command)?;
+        self.lead_home(&mut started, command)?;
         started.env("SESSION_MANAGER", self.session_manager.as_str())?;
         started.env("ICEAUTHORITY", self.authority.as_str())?;
         started.stdin(Stdio::null());
@@ -103,11 +181,8 @@ impl ProgramSpawner {
 
     /// Tells the user that a program can't be started.
     fn report(&self, command: &Command) {
-        let name = match command.words.as_slice().first() {
-            Some(word) => text(word).unwrap_or("?"),
-            None => "?",
-        };
-        let _ = eprintln!(self.rt; "smd: cannot start {name}");
+        let name = Readable::program_of(self.rt.alloc(), command);
+        let _ = eprintln!(self.rt; "smd: cannot start {}", name.as_str());
     }
 }
 

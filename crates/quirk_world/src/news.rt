@@ -1,6 +1,7 @@
 ghost use Rattle.sm_world.specs.Events.{HasPieceSize};
 
 use client_quirks::StreamPiece;
+use owned_lists::Octets;
 use sm_world::{Conn, Event};
 
 /// What is to be handed on of a connection.
@@ -8,6 +9,25 @@ use sm_world::{Conn, Event};
 pub enum News {
     Piece(Conn, StreamPiece),
     Gone(Conn),
+}
+
+/// What is to be done before anything else is heard.
+#[derive(Debug, Drop)]
+pub enum Errand {
+    /// These bytes are sent to a client.
+    Send(Conn, Octets),
+    /// Whether a client was answered for has changed to this.
+    Excuse(Conn, bool),
+}
+
+impl Errand {
+    /// Whose errand it is.
+    pub fn conn(&self) -> Conn {
+        match self {
+            Errand::Send(conn, _) => *conn,
+            Errand::Excuse(conn, _) => *conn,
+        }
+    }
 }
 
 impl News {

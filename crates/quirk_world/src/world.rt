@@ -1,11 +1,13 @@
 ghost use Rattle.std.specs.Prelude.{◌≡◌, ◌<◌, ◌≤◌, length, IfOk, IfSome};
 ghost use Rattle.sm_world.specs.Events.{HasPieceSize};
+ghost use Rattle.sm_world.specs.Outside.{UsesLinks};
 ghost use Rattle.quirk_world.specs.Untold.{around};
 
-use crate::follower::Follower;
-use crate::news::News;
+use crate::follower::{Follower, Sending};
+use crate::news::{Errand, News};
 use client_quirks::StreamPiece;
 use owned_lists::{Command, NoMemory, Octets};
+use session_watch::Excusing;
 use sm_world::{Conn, Console, Disk, Event, Failed, Failure, Links, Spawner, Told};
 use std::alloc::Global;
 use std::collections::VecDeque;
@@ -20,6 +22,29 @@ pub struct QuirkWorld<W: Drop> {
     inner: W,
     rows: Vec<Follower>,
     waiting: VecDeque<News>,
+    errands: VecDeque<Errand>,
+}
+
+/// Has it shown whether a client was answered for, where that has changed.
+fn excuse(row: &mut Follower, errands: &mut VecDeque<Errand>) -> Result<(), NoMemory> {
+    if let Some(excused) = row.excuse() {
+        errands.push_back(Errand::Excuse(row.conn, excused))?;
+    }
+    Ok(())
+}
+
+/// Lets so many milliseconds pass for each of these.
+fn wait_all(
+    rows: &mut Vec<Follower>,
+    milliseconds: u64,
+    waiting: &mut VecDeque<News>,
+    errands: &mut VecDeque<Errand>,
+) -> Result<(), NoMemory> {
+    for row in rows {
+        row.wait(milliseconds, waiting)?;
+        excuse(row, errands)?;
+    }
+    Ok(())
 }
 
 /// Where the connection of a number stands.
@@ -39,6 +64,7 @@ impl<W: Drop> QuirkWorld<W> {
             inner,
             rows: Vec::new(alloc),
             waiting: VecDeque::new(alloc),
+            errands: VecDeque::new(alloc),
         }
     }
 
@@ -74,6 +100,27 @@ impl<W: Drop> QuirkWorld<W> {
         Ok(())
     }
 
+    /// Has these bytes sent to a client next, if there are any.
+    fn run_errand(&mut self, conn: Conn, bytes: Octets) -> Result<(), NoMemory>
+        ensures { self.new.inner ≡ self.old.inner }
+    {
+        if bytes.len() > 0 {
+            self.errands.push_back(Errand::Send(conn, bytes))?;
+        }
+        Ok(())
+    }
+
+    fn wait(&mut self, milliseconds: u64) -> Result<(), NoMemory>
+        ensures { self.new.inner ≡ self.old.inner }
+    {
+        wait_all(
+            &mut self.rows,
+            milliseconds,
+            &mut self.waiting,
+            &mut self.errands,
+        )
+    }
+
     /// What is handed on next once a piece came; before that nothing waits.
     fn hear(&mut self, conn: Conn, bytes: Octets) -> Result<Event, NoMemory>
         requires some { 1 ≤ length bytes }
@@ -86,7 +133,9 @@ impl<W: Drop> QuirkWorld<W> {
                 if self.rows[place].lets_pass(bytes.as_slice()) {
                     return Ok(Event::Piece(conn, bytes));
                 }
-                self.rows[place].hear(StreamPiece::new(bytes), &mut self.waiting)?;
+                let going = self.rows[place].hear(StreamPiece::new(bytes), &mut self.waiting)?;
+                excuse(&mut self.rows[place], &mut self.errands)?;
+                self.run_errand(conn, going)?;
                 Ok(self.next_waiting())
             }
             None => Ok(Event::Piece(conn, bytes)),
@@ -110,20 +159,21 @@ impl<W: Drop> QuirkWorld<W> {
         }
     }
 
-    /// Hears what is sent on a connection; true where it goes out.
-    fn tell(&mut self, conn: Conn, bytes: &[u8]) -> Result<bool, NoMemory>
+    /// Hears what is sent on a connection, and gives what goes out.
+    fn tell(&mut self, conn: Conn, bytes: &[u8]) -> Result<Sending, NoMemory>
         ensures { self.new.inner ≡ self.old.inner }
     {
         match place_of(&self.rows, conn) {
             Some(place) => {
-                let goes_out = self.rows[place].tell(bytes)?;
-                // What goes out goes to a client of which nothing is held back.
-                if !goes_out && self.rows[place].release(&mut self.waiting)? {
+                let sending = self.rows[place].tell(bytes, &mut self.waiting)?;
+                excuse(&mut self.rows[place], &mut self.errands)?;
+                // What goes out as it is goes to a client of which nothing is held back.
+                if !sending.is_as_it_is() && self.rows[place].release(&mut self.waiting)? {
                     self.forget(conn);
                 }
-                Ok(goes_out)
+                Ok(sending)
             }
-            None => Ok(true),
+            None => Ok(Sending::AsItIs),
         }
     }
 
@@ -144,7 +194,10 @@ impl<W: Drop> QuirkWorld<W> {
                 Ok(self.next_waiting())
             }
             Event::Operator(order) => Ok(Event::Operator(order)),
-            Event::Tick(milliseconds) => Ok(Event::Tick(milliseconds)),
+            Event::Tick(milliseconds) => {
+                self.wait(milliseconds)?;
+                Ok(Event::Tick(milliseconds))
+            }
             Event::End => Ok(Event::End),
         }
     }
@@ -154,12 +207,31 @@ impl<W: Told + Drop> Told for QuirkWorld<W> {
     ghost outside = { λ world. around (W.outside world.inner) };
 }
 
-impl<W: Links + Drop> Links for QuirkWorld<W> {
+impl<W: Links + Excusing + Drop> QuirkWorld<W> {
+    fn run(&mut self, errand: Errand) -> Result<(), Failure>
+        ensures { UsesLinks (around (W.outside self.old.inner))
+            (around (W.outside self.new.inner)) result }
+    {
+        match errand {
+            Errand::Send(conn, bytes) => self.inner.send(conn, bytes.as_slice()),
+            Errand::Excuse(conn, excused) => {
+                self.inner.excuse(conn, excused);
+                Ok(())
+            }
+        }
+    }
+}
+
+impl<W: Links + Excusing + Drop> Links for QuirkWorld<W> {
     fn listen(&mut self, socket: &str, control: &str) -> Result<(), Failure> {
         self.inner.listen(socket, control)
     }
 
     fn next(&mut self) -> Result<Event, Failure> {
+        if let Some(errand) = self.errands.pop_front() {
+            self.run(errand)?;
+            return Ok(self.next_waiting());
+        }
         if let Some(news) = self.waiting.pop_front() {
             return Ok(news.into_event());
         }
@@ -167,18 +239,18 @@ impl<W: Links + Drop> Links for QuirkWorld<W> {
         Ok(self.hand_on(event)?)
     }
 
-    /// What is sent to a client whose end is held back goes nowhere.
     fn send(&mut self, to: Conn, bytes: &[u8]) -> Result<(), Failure> {
-        if self.tell(to, bytes)? {
-            self.inner.send(to, bytes)
-        } else {
-            Ok(())
+        match self.tell(to, bytes)? {
+            Sending::AsItIs => self.inner.send(to, bytes),
+            Sending::Anew(anew) => self.inner.send(to, anew.as_slice()),
+            Sending::Nothing => Ok(()),
         }
     }
 
     fn shut(&mut self, to: Conn) -> Result<(), Failure> {
         self.forget(to);
         self.waiting.retain(|news| news.conn() != to);
+        self.errands.retain(|errand| errand.conn() != to);
         self.inner.shut(to)
     }
 }

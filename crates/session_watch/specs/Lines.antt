@@ -114,21 +114,37 @@ talk_text asked answered = codes " asked=" ++ asked_text asked ++ codes " answer
 abbrev pub names_text : Option (List ℕ) → Option (List ℕ) → List ℕ
 names_text id program = codes " id=" ++ text_of id ++ codes " program=" ++ text_of program ++ codes "\n"
 
--- the line of a client whose connection has this number and began then, now
-abbrev pub client_line : ℕ → ℕ → ℕ → List Passage → List ℕ
-client_line conn now start story =
-    state_text conn (stage_of story) (is_logout story) (now - silent_since start story) ++ talk_text (asked_of story) (answered_of story) ++ names_text (id_of story) (program_of story)
+-- Of a client that somebody has answered for nobody waits for an answer: it is as far as if it had answered.
+abbrev pub stage_excused : Stage → Stage
+stage_excused Joining = Joining
+stage_excused Idle = Idle
+stage_excused Saving = Idle
+stage_excused Interacting = Idle
+stage_excused Waiting = Idle
+stage_excused Done = Done
+stage_excused Dying = Dying
+stage_excused Unreadable = Unreadable
+
+abbrev pub stage_shown : Bool → Stage → Stage
+stage_shown true stage = stage_excused stage
+stage_shown false stage = stage
+
+-- the line of a client, answered for or not, whose connection has this number and began then, now
+abbrev pub client_line : Bool → ℕ → ℕ → ℕ → List Passage → List ℕ
+client_line excused conn now start story =
+    state_text conn (stage_shown excused (stage_of story)) (is_logout story) (now - silent_since start story) ++ talk_text (asked_of story) (answered_of story) ++ names_text (id_of story) (program_of story)
 
 -- the line in front of these
 abbrev pub count_line : ℕ → List ℕ
 count_line count = codes "clients " ++ decimal count ++ codes "\n"
 
--- a client that is listed: the number of its connection, when it began, and what passed on it
+-- a client that is listed: whether somebody has answered for it, the number of its connection, when it began, and what passed on it
 pub record Listed : Type 0 where
+  pub excused : Bool
   pub conn : ℕ
   pub start : ℕ
   pub story : List Passage
 
 -- the whole answer, now, of the clients in the order in which they came
 abbrev pub answer_text : ℕ → ℕ → List Listed → List ℕ
-answer_text count now clients = count_line count ++ flat_map (λ (c : Listed). client_line c.conn now c.start c.story) clients
+answer_text count now clients = count_line count ++ flat_map (λ (c : Listed). client_line c.excused c.conn now c.start c.story) clients

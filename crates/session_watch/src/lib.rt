@@ -3,6 +3,7 @@
 #![tactic(auto)]
 
 mod asking;
+mod excusing;
 mod known;
 mod lines;
 mod party;
@@ -11,6 +12,7 @@ mod stage;
 mod watch;
 
 pub use asking::{Answered, Asked};
+pub use excusing::Excusing;
 pub use lines::{asks_who_is_there, put_client, put_count, put_shown};
 pub use stage::Stage;
 pub use watch::ClientWatch;

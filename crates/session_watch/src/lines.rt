@@ -251,22 +251,24 @@ fn put_names(
     out.append(b"\n")
 }
 
-/// Appends the line of a client whose connection has this number.
+/// Appends the line of a client whose connection has this number; it is excused where somebody has
+/// answered for it.
 pub fn put_client(
     alloc: Global,
     out: &mut Octets,
     conn: Conn,
     now: u64,
+    excused: bool,
     watch: &ClientWatch,
 ) -> Result<(), NoMemory>
     ensures { OnOk result ((start : ℕ) (story : List Passage) → Follows start story watch.now
-        → out.new ≡ out.old ++ client_line conn now start story) }
+        → out.new ≡ out.old ++ client_line excused conn now start story) }
 {
     put_state(
         alloc,
         out,
         conn,
-        watch.stage(),
+        watch.stage().shown(excused),
         watch.is_logout(),
         watch.silent(now),
     )?;

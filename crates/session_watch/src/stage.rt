@@ -1,5 +1,6 @@
 ghost use Rattle.std.specs.Prelude.{◌≡◌, option_and_then};
 ghost use Rattle.session_watch.specs.Knowing.{worked_in, work_in, answers as answered_in, after_done, after_waiting, staged, stage_from, holds_up};
+ghost use Rattle.session_watch.specs.Lines.{stage_excused, stage_shown};
 
 use crate::asking::{Answered, Asked};
 
@@ -83,6 +84,29 @@ impl Stage {
             Some(stage) => stage,
             None => Stage::Joining,
         }
+    }
+
+    /// The stage of a client that somebody has answered for, so that nobody waits for its answer.
+    fn excused(self) -> Stage
+        ensures { result ≡ stage_excused self }
+    {
+        match self {
+            Stage::Saving => Stage::Idle,
+            Stage::Interacting => Stage::Idle,
+            Stage::Waiting => Stage::Idle,
+            Stage::Joining => Stage::Joining,
+            Stage::Idle => Stage::Idle,
+            Stage::Done => Stage::Done,
+            Stage::Dying => Stage::Dying,
+            Stage::Unreadable => Stage::Unreadable,
+        }
+    }
+
+    /// The stage as it is shown.
+    pub fn shown(self, excused: bool) -> Stage
+        ensures { result ≡ stage_shown excused self }
+    {
+        if excused { self.excused() } else { self }
     }
 
     /// Whether somebody waits for a client: to answer SaveYourself or SaveYourselfPhase2, to say

@@ -2,7 +2,7 @@
 #![tactic(auto)]
 
 use program_frame::{OwnTexts, read_words};
-use program_texts::{SMCLIENT, first_meant, try_hint};
+use program_texts::SMCLIENT;
 use smclient_app::smclient_main;
 use std::process::ExitCode;
 use unix_peer::UnixPeer;
@@ -24,35 +24,12 @@ const TEXTS: OwnTexts = OwnTexts {
     no_memory: "smclient: no memory\n",
 };
 
-/// The words that it knows, of which one may be meant by one that it doesn't know.
-const KNOWN: [&str; 9] = [
-    "--socket",
-    "--authority",
-    "--id",
-    "--program",
-    "--saves",
-    "--interact",
-    "--phase-two",
-    "--help",
-    "--version",
-];
-
 fn main(rt: HostRuntime) -> ExitCode {
     let alloc = rt.alloc();
     let words = read_words(&rt);
     let mut world = UnixPeer::new(rt);
     let status = match TEXTS.begin(words, &mut world) {
-        Ok(words) => {
-            let status = smclient_main(alloc, words.as_slice(), &mut world, u64::MAX);
-            try_hint(
-                alloc,
-                &mut world,
-                "smclient",
-                status,
-                first_meant(words.as_slice(), &KNOWN),
-            );
-            status
-        }
+        Ok(words) => smclient_main(alloc, words.as_slice(), &mut world, u64::MAX),
         Err(status) => status,
     };
     ExitCode::from(status)

@@ -2,7 +2,7 @@
 #![tactic(auto)]
 
 use program_frame::{OwnTexts, StandardConsole, conclude, read_words};
-use program_texts::{SMCTL, first_meant, try_hint};
+use program_texts::SMCTL;
 use smctl_app::run;
 use std::process::ExitCode;
 
@@ -24,37 +24,13 @@ const TEXTS: OwnTexts = OwnTexts {
     no_memory: "smctl: no memory\n",
 };
 
-/// The words that it knows, of which one may be meant by one that it doesn't know.
-const KNOWN: [&str; 12] = [
-    "checkpoint",
-    "shutdown",
-    "cancel",
-    "status",
-    "drop",
-    "forget",
-    "clients",
-    "--control",
-    "--wait",
-    "--plain",
-    "--help",
-    "--version",
-];
-
 fn main(rt: HostRuntime) -> ExitCode {
     let words = read_words(&rt);
     let mut console = StandardConsole::new(rt);
     let status = match TEXTS.begin(words, &mut console) {
         Ok(words) => {
             let ending = run(&rt, words.as_slice(), &mut console);
-            let status = conclude(rt.alloc(), &mut console, ending);
-            try_hint(
-                rt.alloc(),
-                &mut console,
-                "smctl",
-                status,
-                first_meant(words.as_slice(), &KNOWN),
-            );
-            status
+            conclude(rt.alloc(), &mut console, ending)
         }
         Err(status) => status,
     };

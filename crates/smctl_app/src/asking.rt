@@ -31,6 +31,6 @@ pub fn run(rt: &HostRuntime, words: &[String], console: &mut StandardConsole) ->
         Task::Order(line) => give(&mut connection, console, line.as_slice()),
         Task::Table => show_table(alloc, &mut connection, console),
         Task::Plain => show_plain(alloc, &mut connection, console),
-        Task::Logout => wait_for_end(alloc, &mut connection, console, rt.stdout().is_terminal()),
+        Task::Logout => wait_for_end(rt, &mut connection, console, rt.stdout().is_terminal()),
     }
 }

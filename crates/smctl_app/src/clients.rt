@@ -1,4 +1,4 @@
-ghost use Rattle.std.specs.Prelude.{IfErr};
+ghost use Rattle.std.specs.Prelude.{IfErr, IfOk, IsTrue};
 ghost use Rattle.smctl_app.specs.Requests.{IsOutside, IsOfLogout};
 
 use crate::client_line::{ClientLine, read_client_line, read_count};
@@ -168,15 +168,28 @@ fn follow<W: Console>(
     Ok(())
 }
 
+/// What became of a logout whose manager went: one that ends well removes its control socket first.
+fn judge_end(end: Result<(), Fault>, is_left: bool) -> Result<(), Fault>
+    requires { IfErr end IsOfLogout }
+    ensures through { IfOk result (λ _. ¬ (IsTrue is_left)) }
+    ensures cause { IfErr result IsOfLogout }
+{
+    match end {
+        Ok(()) if is_left => Err(Fault::Gone),
+        end => end,
+    }
+}
+
 /// Orders a logout and waits for its end, which is when the manager goes.
 pub fn wait_for_end<W: Console>(
-    alloc: Global,
+    rt: &HostRuntime,
     connection: &mut ControlConnection,
     console: &mut W,
     is_terminal: bool,
 ) -> Result<(), Fault>
     ensures { IfErr result IsOfLogout }
 {
+    let alloc = rt.alloc();
     connection.say(b"shutdown\n")?;
     let answer = connection.hear()?;
     console.print(answer.as_slice())?;
@@ -190,5 +203,5 @@ pub fn wait_for_end<W: Console>(
     if is_terminal {
         console.print(b"\n")?;
     }
-    end
+    judge_end(end, connection.is_left(rt))
 }

@@ -2,11 +2,12 @@ ghost use Rattle.std.specs.Prelude.{◌≡◌, ◌-◌, length, slice_get, Some,
 ghost use Rattle.std.specs.Io.{StopsAt};
 
 use std::alloc::Global;
-use std::io;
+use std::fs::Files;
 use std::io::{BufRead, BufReader, ErrorKind, Write};
 use std::net::Net;
 use std::os::unix::net::UnixStream;
 use std::time::Duration;
+use std::{fs, io};
 
 /// How many milliseconds lie between two looks at who is there.
 const TURN: u64 = 500;
@@ -23,6 +24,7 @@ fn is_over(kind: ErrorKind) -> bool {
 #[derive(Drop)]
 pub struct ControlConnection {
     alloc: Global,
+    path: String,
     reader: BufReader<UnixStream>,
 }
 
@@ -32,8 +34,14 @@ impl ControlConnection {
         let stream = UnixStream::connect(net, path)?;
         Ok(ControlConnection {
             alloc,
+            path: path.to_string(alloc)?,
             reader: BufReader::new(alloc, stream)?,
         })
+    }
+
+    /// Whether something still stands at the socket's path.
+    pub fn is_left(&self, files: &impl Files) -> bool {
+        fs::symlink_metadata(files, self.path.as_str()).is_ok()
     }
 
     /// Sends a line.

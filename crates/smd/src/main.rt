@@ -7,17 +7,17 @@ ghost use Rattle.session_recorder.specs.Recorded.{IsNew};
 use desktop_world::{BadPlaces, DesktopWorld, Places, host_name, random_cookie};
 use owned_lists::{NoMemory, Octets};
 use program_frame::{OwnTexts, StandardConsole, read_words};
-use program_texts::{SMD, first_meant, try_hint};
+use program_texts::SMD;
 use quirk_world::{QuirkWorld, take_quirks};
 use record_file::{RecordFile, take_record};
 use session_recorder::{Recorder, opening_of};
-use sm_world::{Console, Disk, Links, Spawner};
+use sm_world::{Console, Disk, Failure, Links, Spawner};
 use smd_app::{Identity, Paths, read_paths, smd_main};
 use std::io;
 use std::io::ErrorKind;
 use std::process::ExitCode;
-use store_report::{read_check, read_sessions};
-use store_view::{check_store, list_sessions, store_bytes};
+use store_report::{read_check, read_sessions, take_session};
+use store_view::{check_store, list_sessions};
 use unix_links::LinkOptions;
 
 const TEXTS: OwnTexts = OwnTexts {
@@ -35,8 +35,9 @@ const TEXTS: OwnTexts = OwnTexts {
         \x20                               as: smd rehearse < examples/logout.script\n\
         \x20      smd exercise A N        saves eight clients N times in memory, and sums it up\n\
         \x20                               as: smd exercise 0 1000\n\
-        \x20      smd store-check --store F [--json]\n\
-        \x20                               shows what stands in a store, reading only\n\
+        \x20      smd store-check --store F [--session NAME] [--json]\n\
+        \x20                               shows what a session over a store is answered,\n\
+        \x20                               and what stands in it, reading only\n\
         \x20                               as: smd store-check --store ~/.local/state/smd/store\n\
         \x20      smd sessions --store F  lists the sessions of a store, reading only\n\
         \x20                               as: smd sessions --store ~/.local/state/smd/store\n\
@@ -48,15 +49,16 @@ const TEXTS: OwnTexts = OwnTexts {
     no_memory: "smd: no memory\n",
 };
 
-/// What can't be had at these paths. The session opens one after another, and this is seen before the
-/// first is made.
-fn bad_places(rt: HostRuntime, paths: Paths<'_>) -> Option<BadPlaces> {
+/// What can't be had at these paths, of which the last is the record's. The session opens one after
+/// another, and this is seen before the first is made.
+fn bad_places(rt: HostRuntime, paths: Paths<'_>, record: Option<&str>) -> Option<BadPlaces> {
     let places = Places {
         program: "smd",
         socket: paths.socket,
         control: paths.control,
         store: paths.store,
         authority: paths.authority,
+        record,
     };
     places.fault(&rt)
 }
@@ -71,6 +73,12 @@ fn refused(rt: HostRuntime, bad: BadPlaces) -> u8 {
     status
 }
 
+/// The status of a run for which there is no memory, which is printed.
+fn without_memory(rt: HostRuntime) -> u8 {
+    let _ = StandardConsole::new(rt).print(TEXTS.no_memory.as_bytes());
+    10
+}
+
 fn no_memory(_error: NoMemory) -> io::Error {
     io::Error::from(ErrorKind::OutOfMemory)
 }
@@ -82,18 +90,18 @@ struct Record {
     opening: Octets,
 }
 
-/// The record of a session in this file. A store that isn't there, or that can't be read, gives no line.
+/// The record of a session in this file. It begins once the store is taken, so its book is the one that
+/// this run opens, and a run that can't have the store touches no record.
 fn record_in(
     rt: HostRuntime,
+    world: &mut DesktopWorld,
     path: String,
     paths: Paths<'_>,
     identity: &Identity,
-) -> io::Result<Record> {
-    let store = store_bytes(rt, paths.store).unwrap_or(Octets::new(rt.alloc()));
+) -> Result<Record, Failure> {
+    let store = world.take_store(paths.store)?;
     let session = paths.session.as_bytes();
-    let opening = opening_of(rt.alloc(), store, &identity.cookie, paths.patience, session).map_err(
-        no_memory,
-    )?;
+    let opening = opening_of(rt.alloc(), store, &identity.cookie, paths.patience, session)?;
     Ok(Record { path, opening })
 }
 
@@ -167,16 +175,66 @@ fn serve_quirks(
     status
 }
 
+/// Whether an option stands twice among the words of `serve`. All of them have a value behind them but
+/// `--private`.
+fn stands_twice(words: &[String], option: &str) -> bool {
+    let mut count = 0u64;
+    let mut at = 1usize;
+    for _ in 0..words.len() {
+        let Some(word) = words.get(at) else {
+            break;
+        };
+        if word.as_str() == option {
+            count = count.saturating_add(1);
+        }
+        let step = if word.as_str() == "--private" { 1 } else { 2 };
+        at = at.saturating_add(step);
+    }
+    count > 1
+}
+
+/// What is chosen of the links, which is taken out of the words. A last wait that stands twice stays, so
+/// that the words are bad: of two waits of which one is 0 the links would take the other.
+fn link_options(words: &mut Vec<String>) -> io::Result<LinkOptions> {
+    if stands_twice(words.as_slice(), "--last-wait") {
+        return Ok(LinkOptions::new());
+    }
+    LinkOptions::take(words).map_err(no_memory)
+}
+
+/// What a run over these paths begins with: its record, where there is a file for one, and else none. An
+/// error is the status of a run that can't begin.
+fn begun(
+    rt: HostRuntime,
+    world: &mut DesktopWorld,
+    file: Option<String>,
+    paths: Paths<'_>,
+    identity: &Identity,
+) -> Result<Option<Record>, u8> {
+    if let Some(bad) = bad_places(rt, paths, file.as_ref().map(String::as_str)) {
+        return Err(refused(rt, bad));
+    }
+    let Some(file) = file else {
+        return Ok(None);
+    };
+    match record_in(rt, world, file, paths, identity) {
+        Ok(record) => Ok(Some(record)),
+        Err(Failure::Failed) => Err(refused(rt, BadPlaces::Files)),
+        Err(Failure::NoMemory) => Err(without_memory(rt)),
+    }
+}
+
 /// The status of a run with these words on this desktop.
 fn run(rt: HostRuntime, mut words: Vec<String>) -> io::Result<u8> {
+    let session = take_session(&mut words);
     if let Some(check) = read_check(words.as_slice()) {
-        return Ok(check_store(rt, check));
+        return Ok(check_store(rt, check, session.as_ref().map(String::as_str)));
     }
     if let Some(store) = read_sessions(words.as_slice()) {
         return Ok(list_sessions(rt, store));
     }
     let has_quirks = take_quirks(&mut words);
-    let options = LinkOptions::take(&mut words).map_err(no_memory)?;
+    let options = link_options(&mut words)?;
     let file = take_record(&mut words);
     let words = words.as_slice();
     let host = host_name(&rt)?;
@@ -184,16 +242,14 @@ fn run(rt: HostRuntime, mut words: Vec<String>) -> io::Result<u8> {
         cookie: random_cookie(&rt)?,
         host: Octets::from_vec(Vec::from_slice(rt.alloc(), host.as_bytes())?),
     };
+    let mut world = DesktopWorld::with_options(rt, host, options);
     let mut record = None;
     if let Some(paths) = read_paths(rt.alloc(), words).map_err(no_memory)? {
-        if let Some(bad) = bad_places(rt, paths) {
-            return Ok(refused(rt, bad));
-        }
-        if let Some(path) = file {
-            record = Some(record_in(rt, path, paths, &identity)?);
+        match begun(rt, &mut world, file, paths, &identity) {
+            Ok(begun) => record = begun,
+            Err(status) => return Ok(status),
         }
     }
-    let world = DesktopWorld::with_options(rt, host, options);
     if has_quirks {
         Ok(serve_quirks(rt, words, world, identity, record))
     } else {
@@ -202,49 +258,19 @@ fn run(rt: HostRuntime, mut words: Vec<String>) -> io::Result<u8> {
 }
 
 /// The same; where there was no memory for it, this is printed.
-fn run_or_tell(rt: HostRuntime, words: Vec<String>, console: &mut StandardConsole) -> u8 {
+fn run_or_tell(rt: HostRuntime, words: Vec<String>) -> u8 {
     match run(rt, words) {
         Ok(status) => status,
         // Neither the host's name nor a cookie is refused for another reason.
-        Err(_) => {
-            let _ = console.print(TEXTS.no_memory.as_bytes());
-            10
-        }
+        Err(_) => without_memory(rt),
     }
 }
-
-/// The words that it knows, of which one may be meant by one that it doesn't know.
-const KNOWN: [&str; 18] = [
-    "serve",
-    "rehearse",
-    "exercise",
-    "store-check",
-    "sessions",
-    "--socket",
-    "--control",
-    "--store",
-    "--authority",
-    "--patience",
-    "--session",
-    "--private",
-    "--last-wait",
-    "--quirks",
-    "--record",
-    "--json",
-    "--help",
-    "--version",
-];
 
 fn main(rt: HostRuntime) -> ExitCode {
     let words = read_words(&rt);
     let mut console = StandardConsole::new(rt);
     let status = match TEXTS.begin(words, &mut console) {
-        Ok(words) => {
-            let meant = first_meant(words.as_slice(), &KNOWN);
-            let status = run_or_tell(rt, words, &mut console);
-            try_hint(rt.alloc(), &mut console, "smd", status, meant);
-            status
-        }
+        Ok(words) => run_or_tell(rt, words),
         Err(status) => status,
     };
     ExitCode::from(status)

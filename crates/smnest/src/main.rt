@@ -4,7 +4,7 @@
 use desktop_world::{BadPlaces, DesktopWorld, Places, host_name, random_cookie};
 use owned_lists::{NoMemory, Octets};
 use program_frame::{OwnTexts, StandardConsole, read_words};
-use program_texts::{SMNEST, first_meant, try_hint};
+use program_texts::SMNEST;
 use sm_world::Console;
 use smd_app::Identity;
 use smnest_app::{NestPaths, read_places, smnest_main};
@@ -41,6 +41,7 @@ fn bad_places(rt: HostRuntime, paths: &NestPaths<'_>) -> Option<BadPlaces> {
         control: paths.own.control,
         store: paths.own.store,
         authority: paths.own.authority,
+        record: None,
     };
     match places.fault(&rt) {
         None if places.has_socket(&rt, paths.outer) => Some(BadPlaces::Sockets),
@@ -92,32 +93,11 @@ fn run_or_tell(rt: HostRuntime, words: &[String], console: &mut StandardConsole)
     }
 }
 
-/// The words that it knows, of which one may be meant by one that it doesn't know.
-const KNOWN: [&str; 12] = [
-    "serve",
-    "rehearse",
-    "--socket",
-    "--control",
-    "--store",
-    "--authority",
-    "--patience",
-    "--outer",
-    "--outer-authority",
-    "--outer-id",
-    "--help",
-    "--version",
-];
-
 fn main(rt: HostRuntime) -> ExitCode {
     let words = read_words(&rt);
     let mut console = StandardConsole::new(rt);
     let status = match TEXTS.begin(words, &mut console) {
-        Ok(words) => {
-            let meant = first_meant(words.as_slice(), &KNOWN);
-            let status = run_or_tell(rt, words.as_slice(), &mut console);
-            try_hint(rt.alloc(), &mut console, "smnest", status, meant);
-            status
-        }
+        Ok(words) => run_or_tell(rt, words.as_slice(), &mut console),
         Err(status) => status,
     };
     ExitCode::from(status)

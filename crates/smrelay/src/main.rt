@@ -2,7 +2,7 @@
 #![tactic(auto)]
 
 use program_frame::{OwnTexts, StandardConsole, read_words};
-use program_texts::{SMRELAY, first_meant, try_hint};
+use program_texts::SMRELAY;
 use relay_world::RelayWorld;
 use smrelay_app::smrelay_main;
 use std::process::ExitCode;
@@ -29,34 +29,11 @@ fn run(rt: HostRuntime, words: &[String]) -> u8 {
     status
 }
 
-/// The words that it knows, of which one may be meant by one that it doesn't know.
-const KNOWN: [&str; 9] = [
-    "serve",
-    "rehearse",
-    "lsb",
-    "msb",
-    "--socket",
-    "--to",
-    "--order",
-    "--help",
-    "--version",
-];
-
 fn main(rt: HostRuntime) -> ExitCode {
     let words = read_words(&rt);
     let mut console = StandardConsole::new(rt);
     let status = match TEXTS.begin(words, &mut console) {
-        Ok(words) => {
-            let status = run(rt, words.as_slice());
-            try_hint(
-                rt.alloc(),
-                &mut console,
-                "smrelay",
-                status,
-                first_meant(words.as_slice(), &KNOWN),
-            );
-            status
-        }
+        Ok(words) => run(rt, words.as_slice()),
         Err(status) => status,
     };
     ExitCode::from(status)

@@ -5,7 +5,7 @@ mod following;
 
 use crate::following::{follow, followed};
 use program_frame::{OwnTexts, StandardConsole, read_words};
-use program_texts::{SMTRACE, first_meant, try_hint};
+use program_texts::SMTRACE;
 use smtrace_app::smtrace_main;
 use std::process::ExitCode;
 
@@ -37,32 +37,11 @@ fn run(rt: HostRuntime, console: &mut StandardConsole, words: &[String]) -> u8 {
     }
 }
 
-/// The words that it knows, of which one may be meant by one that it doesn't know.
-const KNOWN: [&str; 7] = [
-    "show",
-    "read",
-    "draw",
-    "replay",
-    "--follow",
-    "--help",
-    "--version",
-];
-
 fn main(rt: HostRuntime) -> ExitCode {
     let words = read_words(&rt);
     let mut console = StandardConsole::new(rt);
     let status = match TEXTS.begin(words, &mut console) {
-        Ok(words) => {
-            let status = run(rt, &mut console, words.as_slice());
-            try_hint(
-                rt.alloc(),
-                &mut console,
-                "smtrace",
-                status,
-                first_meant(words.as_slice(), &KNOWN),
-            );
-            status
-        }
+        Ok(words) => run(rt, &mut console, words.as_slice()),
         Err(status) => status,
     };
     ExitCode::from(status)

@@ -2,7 +2,7 @@
 #![tactic(auto)]
 
 use program_frame::{OwnTexts, read_words};
-use program_texts::{SMWRAP, first_meant, try_hint};
+use program_texts::SMWRAP;
 use smwrap_app::smwrap_main;
 use std::process::ExitCode;
 use unix_peer::UnixPeer;
@@ -23,34 +23,13 @@ const TEXTS: OwnTexts = OwnTexts {
     no_memory: "smwrap: no memory\n",
 };
 
-/// The words that it knows, of which one may be meant by one that it doesn't know.
-const KNOWN: [&str; 7] = [
-    "--socket",
-    "--authority",
-    "--state",
-    "--from",
-    "--id",
-    "--help",
-    "--version",
-];
-
 fn main(rt: HostRuntime) -> ExitCode {
     let alloc = rt.alloc();
     let words = read_words(&rt);
     let mut files = WrappedFiles::new(rt);
     let mut peer = UnixPeer::new(rt);
     let status = match TEXTS.begin(words, &mut files) {
-        Ok(words) => {
-            let status = smwrap_main(alloc, words.as_slice(), &mut peer, &mut files, u64::MAX);
-            try_hint(
-                alloc,
-                &mut files,
-                "smwrap",
-                status,
-                first_meant(words.as_slice(), &KNOWN),
-            );
-            status
-        }
+        Ok(words) => smwrap_main(alloc, words.as_slice(), &mut peer, &mut files, u64::MAX),
         Err(status) => status,
     };
     ExitCode::from(status)

@@ -1,7 +1,7 @@
 ghost use Rattle.std.specs.Prelude.{◌≡◌, ◌≤◌, true, None, IsErr, OnErr};
 ghost use Rattle.sm_world.specs.Outside.{Rose};
 ghost use Rattle.store_file.specs.Untold.{disk_outside};
-ghost use Rattle.store_file.specs.Losses.{SameStore};
+ghost use Rattle.store_file.specs.Losses.{SameStore, has_store};
 
 use crate::files::{hold_name, replace, take_store};
 use sm_world::{Disk, Failed, Failure, Told};
@@ -9,6 +9,13 @@ use std::fs::File;
 use std::io;
 use std::io::ErrorKind;
 use std::os::unix::fs::FileExt;
+
+/// The store's file, which is ours as long as this lives.
+#[derive(Drop)]
+struct Store {
+    path: String,
+    file: File,
+}
 
 /// A small file that is ours to replace, as long as this lives.
 #[derive(Drop)]
@@ -20,15 +27,16 @@ struct Published {
 /// The store in a file that no other process of ours takes, and small files beside it. What they hold
 /// is told to nobody; each fault is counted.
 ///
-/// A missing store is made with zeros, and stands under its name only when it is whole on the disk.
-/// After a sync that failed nothing is read or written any more, and no store is taken, since the
-/// system may have dropped what it couldn't write.
+/// A missing store is made with zeros, and stands under its name only when it is whole on the disk. One
+/// that was taken stays taken: to attach it once more changes nothing. After a sync that failed nothing
+/// is read or written any more, and no store is taken, since the system may have dropped what it
+/// couldn't write.
 ///
 /// A small file is replaced only where no other living process of ours has replaced it.
 #[derive(Drop)]
 pub struct FileDisk {
     rt: HostRuntime,
-    file: Option<File>,
+    store: Option<Store>,
     /// The small file that was replaced last.
     published: Option<Published>,
     /// The size of a store that is made anew.
@@ -43,7 +51,7 @@ impl FileDisk {
     pub fn new(rt: HostRuntime, new_size: u64) -> FileDisk {
         FileDisk {
             rt,
-            file: None,
+            store: None,
             published: None,
             new_size,
             size: 0,
@@ -77,14 +85,40 @@ impl FileDisk {
         replace(self.rt, path, bytes, None)
     }
 
+    /// Whether the store at this path was taken.
+    fn has(&self, path: &str) -> bool
+        ensures { result ≡ has_store self.now path.now }
+    {
+        match &self.store {
+            Some(store) => store.path.as_str() == path,
+            None => false,
+        }
+    }
+
+    /// Takes the store at this path, and tells its size.
+    fn take(&self, path: &str) -> io::Result<(Store, u64)> {
+        let name = path.to_string(self.rt.alloc())?;
+        let (file, size) = take_store(self.rt, path, self.new_size)?;
+        Ok((Store { path: name, file }, size))
+    }
+
     /// The file, as long as it can be relied on.
     fn good_file(&self) -> Option<&File>
         ensures lost { self.now.is_lost ≡ true → result ≡ None }
     {
         if self.is_lost {
-            None
-        } else {
-            self.file.as_ref()
+            return None;
+        }
+        match &self.store {
+            Some(store) => Some(&store.file),
+            None => None,
+        }
+    }
+
+    /// Tells the user what the system said where a call failed on the store.
+    fn tell(&self, call: &str, error: io::Error) {
+        if let Some(store) = &self.store {
+            let _ = eprintln!(self.rt; "smd: cannot {call} {}: {error}", store.path);
         }
     }
 
@@ -94,6 +128,30 @@ impl FileDisk {
         ensures same { SameStore self.old self.new }
     {
         self.faults = self.faults.saturating_add(1);
+    }
+
+    fn read_whole(&self) -> io::Result<Vec<u8>> {
+        let mut bytes = vec![in self.rt.alloc(); 0u8; self.size as usize]?;
+        if let Some(file) = self.good_file() {
+            file.read_exact_at(bytes.as_mut_slice(), 0)?;
+        }
+        Ok(bytes)
+    }
+
+    /// All bytes of the store that was taken at this path; none where its size is another than that of
+    /// one that is made anew.
+    pub fn contents(&mut self, path: &str) -> Result<Vec<u8>, Failure>
+        ensures told { (disk_outside self.new).told ≡ (disk_outside self.old).told }
+        ensures cause { result ≡ Err Failure.Failed → Rose self.old.faults self.new.faults }
+        ensures same { SameStore self.old self.new }
+    {
+        if self.size != self.new_size {
+            return Ok(Vec::new(self.rt.alloc()));
+        }
+        match self.read_whole() {
+            Ok(bytes) => Ok(bytes),
+            Err(error) => Err(self.failure(path, error)),
+        }
     }
 
     /// The failure for an error at a path, which is counted where it isn't want of memory.
@@ -130,14 +188,18 @@ impl Disk for FileDisk {
         ensures uses { UsesDisk (disk_outside self.old) (disk_outside self.new) (has_failed result) }
         ensures same { OnErr result (SameStore self.old self.new) }
         ensures lost { self.old.is_lost ≡ true → IsErr result }
+        ensures again { has_store self.old path.now ≡ true → SameStore self.old self.new }
     {
         if self.is_lost {
             self.count_one();
             return Err(Failure::Failed);
         }
-        match take_store(self.rt, path, self.new_size) {
-            Ok((file, size)) => {
-                self.file = Some(file);
+        if self.has(path) {
+            return Ok(());
+        }
+        match self.take(path) {
+            Ok((store, size)) => {
+                self.store = Some(store);
                 self.size = size;
                 Ok(())
             }
@@ -158,8 +220,9 @@ impl Disk for FileDisk {
         ensures lost { self.old.is_lost ≡ true → IsErr result }
     {
         if let Some(file) = self.good_file() {
-            if file.read_exact_at(into, at).is_ok() {
-                return Ok(());
+            match file.read_exact_at(into, at) {
+                Ok(()) => return Ok(()),
+                Err(error) => self.tell("read", error),
             }
         }
         self.count_one();
@@ -178,8 +241,9 @@ impl Disk for FileDisk {
         ensures lost { self.old.is_lost ≡ true → IsErr result }
     {
         if let Some(file) = self.good_file() {
-            if file.write_all_at(bytes, at).is_ok() {
-                return Ok(());
+            match file.write_all_at(bytes, at) {
+                Ok(()) => return Ok(()),
+                Err(error) => self.tell("write", error),
             }
         }
         self.count_one();
@@ -197,8 +261,9 @@ impl Disk for FileDisk {
         ensures lost { self.old.is_lost ≡ true → IsErr result }
     {
         if let Some(file) = self.good_file() {
-            if file.sync_data().is_ok() {
-                return Ok(());
+            match file.sync_data() {
+                Ok(()) => return Ok(()),
+                Err(error) => self.tell("sync", error),
             }
         }
         self.is_lost = true;

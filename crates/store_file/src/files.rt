@@ -1,6 +1,6 @@
-use std::fs::{File, OpenOptions, Permissions, TryLockError};
+use std::fs::{File, Metadata, OpenOptions, Permissions, TryLockError};
 use std::io::{ErrorKind, Write};
-use std::os::unix::fs::{MetadataExt, OpenOptionsExt, PermissionsExt};
+use std::os::unix::fs::{FileExt, MetadataExt, OpenOptionsExt, PermissionsExt};
 use std::path::Path;
 use std::time::Duration;
 use std::{fs, io, process, thread};
@@ -13,6 +13,9 @@ const OTHERS: u32 = 0o077;
 
 /// How many zeros are written at once.
 const CHUNK: usize = 65_536;
+
+/// The bytes of a page, of which the system writes all or none. Larger pages have several of these.
+const PAGE: u64 = 4096;
 
 /// How often a store is tried that another process has, and how many milliseconds lie between.
 const TRIES: u64 = 20;
@@ -72,13 +75,21 @@ fn refused(why: &str) -> io::Error {
     io::Error::new(ErrorKind::InvalidInput, why)
 }
 
+/// Whether a file stands at this path itself. A link's folder isn't the one whose sync keeps the name.
+fn check_name(rt: HostRuntime, path: &str) -> io::Result<()> {
+    if fs::symlink_metadata(&rt, path)?.is_symlink() {
+        Err(refused("it is a symbolic link"))
+    } else {
+        Ok(())
+    }
+}
+
 fn open_store(rt: HostRuntime, path: &str, size: u64) -> io::Result<File> {
     let mut how = OpenOptions::new();
     how.read(true).write(true);
-    match fs::symlink_metadata(&rt, path) {
-        Ok(found) if found.is_symlink() => return Err(refused("it is a symbolic link")),
+    match check_name(rt, path) {
         Err(error) if error.kind() == ErrorKind::NotFound => make_store(rt, path, size)?,
-        _ => {}
+        checked => checked?,
     }
     how.open(&rt, path)
 }
@@ -93,7 +104,30 @@ fn lock(rt: HostRuntime, file: &File) -> io::Result<()> {
             Err(TryLockError::Error(error)) => return Err(error),
         }
     }
-    Err(io::Error::from(ErrorKind::ResourceBusy))
+    Err(io::Error::new(ErrorKind::ResourceBusy, "another session manager has it"))
+}
+
+/// Whether a store with these data is taken: it must be that of who runs this, and nobody else's, since
+/// the commands in it are started.
+fn check_owner(found: &Metadata) -> io::Result<()> {
+    if found.uid() != libc::geteuid() {
+        return Err(refused("its owner is another user"));
+    }
+    if found.mode() & OTHERS != 0 {
+        return Err(refused("others may use it: its mode must be 600"));
+    }
+    Ok(())
+}
+
+/// Whether a manager of who runs this takes a file with these data at this path, where a store has this
+/// size. One of another size is told as such later.
+pub fn check_file(rt: HostRuntime, path: &str, found: &Metadata, size: u64) -> io::Result<()> {
+    check_name(rt, path)?;
+    if found.len() == size {
+        check_owner(found)
+    } else {
+        Ok(())
+    }
 }
 
 /// The size of a locked store. It must be the very file that has the name, and one of this size must
@@ -107,30 +141,52 @@ fn checked_size(rt: HostRuntime, file: &File, path: &str, size: u64) -> io::Resu
     if named.dev() != found.dev() || named.ino() != found.ino() {
         return Err(refused("it was replaced meanwhile"));
     }
-    if found.len() == size && found.mode() & OTHERS != 0 {
-        return Err(refused("others may use it: its mode must be 600"));
+    if found.len() == size {
+        check_owner(&found)?;
     }
     Ok(found.len())
+}
+
+/// Writes a byte of each page of a file as it was read.
+fn touch_pages(file: &File, size: u64) -> io::Result<()> {
+    let mut byte = [0u8];
+    for page in 0..(size / PAGE).saturating_add(1) {
+        let at = page.saturating_mul(PAGE);
+        if at < size {
+            file.read_exact_at(&mut byte, at)?;
+            file.write_all_at(&byte, at)?;
+        }
+    }
+    Ok(())
 }
 
 /// Opens the store for us alone, and tells its size. A missing one is made with this size.
 ///
 /// A manager that was killed may have written what it didn't sync: it is read from the system's
 /// memory, and a crash may still lose it. So the store and its name are brought to the disk before
-/// anything is read.
+/// anything is read. Where a sync failed in that manager, the system may take for written what isn't, and
+/// a sync alone would do nothing: so something of each page is written once more.
 pub fn take_store(rt: HostRuntime, path: &str, size: u64) -> io::Result<(File, u64)> {
     let file = open_store(rt, path, size)?;
     lock(rt, &file)?;
-    let size = checked_size(rt, &file, path, size)?;
+    let found = checked_size(rt, &file, path, size)?;
+    if found == size {
+        touch_pages(&file, size)?;
+    }
     file.sync_all()?;
     sync_folder(rt, path)?;
-    Ok((file, size))
+    Ok((file, found))
+}
+
+/// The name of the lock beside a small file.
+pub fn lock_name(rt: HostRuntime, path: &str) -> io::Result<String> {
+    Ok(format!(in rt.alloc(); "{path}.lock")?)
 }
 
 /// Locks a file's name beside it, for as long as what is given lives, so that no other manager puts its
 /// own in the place. The lock's file stays behind.
 pub fn hold_name(rt: HostRuntime, path: &str) -> io::Result<File> {
-    let name = format!(in rt.alloc(); "{path}.lock")?;
+    let name = lock_name(rt, path)?;
     let mut how = OpenOptions::new();
     how.read(true).write(true).create(true);
     how.mode(PRIVATE);

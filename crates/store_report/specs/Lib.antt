@@ -1,6 +1,6 @@
 pub mod Words
 pub mod Findings
-pub mod Shown
+pub mod Refusals
 pub mod Lines
 pub mod Sessions
 pub mod Tokens

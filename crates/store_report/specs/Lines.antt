@@ -11,7 +11,9 @@ use Rattle.checkpoint_records.specs.declared.records.Book.{Book}
 use Rattle.checkpoint_records.specs.declared.records.Entry.{Entry}
 use Rattle.checkpoint_records.specs.declared.records.Named.{Named}
 use Rattle.restart_plan.specs.Restarts.{opening_restarts}
-use Rattle.store_report.specs.Shown.{word_text, words_text}
+use Rattle.shown_text.specs.Shown.{words_text}
+use Rattle.store_report.specs.Refusals.{refusal_lines}
+use Rattle.store_report.specs.declared.refusals.Refusal.{Refusal}
 use Rattle.store_report.specs.declared.finding.Finding.{Finding}
 use Rattle.store_report.specs.declared.finding.Finding.TheVariants.{Opens, Damaged, WrongSize}
 
@@ -70,8 +72,9 @@ finding_lines (WrongSize size) = codes "smd: store has size " ++ (decimal size +
 abbrev pub living_line : Bool → List ℕ
 living_line living = if living then codes "store in use: a copy of a living store\n" else []
 
-abbrev pub report_lines : Bool → Finding → List ℕ
-report_lines living finding = living_line living ++ finding_lines finding
+-- what a session over the store is answered comes first, and then what stands in it; a store that opens and is refused has both
+abbrev pub report_lines : Bool → Option Refusal → Finding → List ℕ
+report_lines living refused finding = living_line living ++ (refusal_lines refused ++ finding_lines finding)
 
 -- as a session that doesn't start
 abbrev pub status_of : Finding → ℕ

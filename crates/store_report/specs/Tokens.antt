@@ -1,11 +1,11 @@
 -- What is found in a store, as JSON: an object of the epoch, the entries and the pending commands, or of the damage or the size.
 use Rattle.std.specs.Prelude.{ℕ, Bool, true, false, if◌then◌else◌, List, [], ◌∷◌, ◌++◌, length, codes, map, Option, Some, None}
 use Rattle.std.specs.List.{flat_map}
-use Rattle.std.specs.Str.{is_utf8}
 use Rattle.std.specs.Fmt.{decimal}
 use Rattle.json.specs.Token.{Token, begin_object, end_object, begin_array, end_array, key, string, number, boolean, null}
 use Rattle.owned_lists.specs.declared.commands.Command.{Command}
 use Rattle.ice_values.specs.declared.property.Property.{Property}
+use Rattle.shown_text.specs.Shown.{is_whole}
 use Rattle.xsmp_properties.specs.Readers.{command_of, hint_of}
 use Rattle.checkpoint_records.specs.declared.records.Book.{Book}
 use Rattle.checkpoint_records.specs.declared.records.Entry.{Entry}
@@ -22,9 +22,9 @@ listed item items = begin_array ∷ (flat_map item items ++ end_array ∷ [])
 abbrev pub byte_number : ℕ → List Token
 byte_number b = number (decimal b) ∷ []
 
--- bytes are a string where they are UTF-8, and else the array of their numbers
+-- bytes are a string where they are a text with nothing hidden in it, and else the array of their numbers
 unfoldable pub bytes_tokens : List ℕ → List Token
-bytes_tokens bytes = if is_utf8 bytes then string bytes ∷ [] else listed byte_number bytes
+bytes_tokens bytes = if is_whole bytes then string bytes ∷ [] else listed byte_number bytes
 
 abbrev pub pair_tokens : List ℕ × List ℕ → List Token
 pair_tokens pair = begin_array ∷ (bytes_tokens pair.0 ++ (bytes_tokens pair.1 ++ end_array ∷ []))

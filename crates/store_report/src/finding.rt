@@ -20,7 +20,8 @@ pub enum Finding {
 }
 
 impl Finding {
-    /// The status of a program that tells it, which is that of a session over this store.
+    /// The status of a program that tells it, which is that of a session over this store that isn't
+    /// refused.
     pub fn status(&self) -> u8
         ensures { result ≡ status_of self.now }
     {

@@ -1,18 +1,18 @@
 ghost use Rattle.std.specs.Prelude.{◌≡◌, ◌++◌, ◌∷◌, [], List, IfOk, OnOk, codes, decimal, option_copied, true};
-ghost use Rattle.std.specs.Str.{is_utf8};
 ghost use Rattle.std.specs.List.{flat_map};
 ghost use Rattle.json.specs.Layout.{pretty};
 ghost use Rattle.json.specs.Reads.{token_of};
 ghost use Rattle.json.specs.Token.{Token as JsonToken, begin_array, begin_object, end_array, end_object, key, number, string};
+ghost use Rattle.shown_text.specs.Shown.{is_whole};
 ghost use Rattle.store_report.specs.Tokens.{book_tokens, byte_number, bytes_tokens, command_tokens, entry_tokens, finding_tokens, if_any, listed, names_tokens, other_tokens, pair_tokens, property_tokens, report_tokens, start_tokens, call_tokens};
 
 use crate::Finding;
 use crate::lines::{hint_text, program_of, starts_of};
-use crate::shown::is_utf8;
 use checkpoint_records::{Book, Entry, Named, SharedEntries};
 use ice_values::Property;
 use json::{Pretty, Token};
 use owned_lists::{Command, ListOf, NoMemory, Octets};
+use shown_text::is_whole;
 use std::alloc::Global;
 use xsmp_properties::{command_of, hint_of};
 
@@ -68,9 +68,9 @@ fn put_number(alloc: Global, out: &mut Pretty, value: u64) -> Result<(), NoMemor
     Ok(out.token(Token::Number(digits.as_str()))?)
 }
 
-/// Appends bytes that are UTF-8.
+/// Appends bytes that are a whole text.
 fn put_text(out: &mut Pretty, bytes: &[u8]) -> Result<(), NoMemory>
-    requires { is_utf8 bytes.now ≡ true }
+    requires { is_whole bytes.now ≡ true }
     ensures { OnOk result (out.new ≡ out.old ++ string bytes.now ∷ []) }
 {
     match str::from_utf8(bytes) {
@@ -145,7 +145,7 @@ impl Shown for Octets {
 
     #[tactic(auto, unfolding(crate::specs::Tokens::bytes_tokens))]
     fn put(&self, alloc: Global, out: &mut Pretty) -> Result<(), NoMemory> {
-        if is_utf8(self.as_slice()) {
+        if is_whole(self.as_slice()) {
             put_text(out, self.as_slice())
         } else {
             put_byte_array(alloc, out, self.as_slice())

@@ -4,12 +4,13 @@
 mod finding;
 mod json_text;
 mod lines;
+mod refusals;
 mod sessions;
-mod shown;
 mod words;
 
 pub use finding::{Finding, look_into};
 pub use json_text::report_json;
 pub use lines::report_lines;
+pub use refusals::Refusal;
 pub use sessions::sessions_report;
-pub use words::{Check, read_check, read_sessions};
+pub use words::{Check, read_check, read_sessions, take_session};

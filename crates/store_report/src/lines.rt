@@ -4,11 +4,12 @@ ghost use Rattle.restart_plan.specs.Restarts.{opening_restarts};
 ghost use Rattle.xsmp_properties.specs.Readers.{command_of as command_in};
 ghost use Rattle.store_report.specs.Lines.{book_lines, command_line, counts_line, entry_lines, finding_lines, hint_text, living_line, named_line, other_lines, program_in, program_line, program_of, report_lines};
 
-use crate::Finding;
-use crate::shown::put_words;
+use crate::refusals::put_refusal;
+use crate::{Finding, Refusal};
 use checkpoint_records::{Book, Entry, Named};
 use owned_lists::{Command, NoMemory, Octets};
 use restart_plan::plan;
+use shown_text::put_words;
 use std::alloc::Global;
 use std::slice;
 use xsmp_properties::{Hint, PropertyTable, command_of, hint_of};
@@ -223,12 +224,18 @@ pub(crate) fn put_living(out: &mut Octets, is_living: bool) -> Result<(), NoMemo
 
 /// What was found in a store, line by line: its counts, what is kept of each client of the session
 /// `default`, the other sessions with what is kept of theirs, and the commands that are pending.
-/// `is_living` tells that a manager has the store.
-pub fn report_lines(alloc: Global, finding: &Finding, is_living: bool) -> Result<Octets, NoMemory>
-    ensures { IfOk result (λ text. text ≡ report_lines is_living finding.now) }
+/// `is_living` tells that a manager has the store. Where a session over it is refused, that comes first.
+pub fn report_lines(
+    alloc: Global,
+    finding: &Finding,
+    is_living: bool,
+    refused: Option<Refusal>,
+) -> Result<Octets, NoMemory>
+    ensures { IfOk result (λ text. text ≡ report_lines is_living refused finding.now) }
 {
     let mut out = Octets::new(alloc);
     put_living(&mut out, is_living)?;
+    put_refusal(&mut out, refused)?;
     put_finding(alloc, &mut out, finding)?;
     Ok(out)
 }

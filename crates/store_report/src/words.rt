@@ -2,6 +2,8 @@ ghost use Rattle.std.specs.Prelude.{◌≡◌, ◌≢◌, ◌<◌, ℕ, List, []
 ghost use Rattle.std.specs.Str.{bytes_eq};
 ghost use Rattle.store_report.specs.Words.{check_words, sessions_words};
 
+use checkpoint_records::is_name;
+
 /// What is asked of a store.
 #[derive(Clone, Copy, Debug)]
 pub struct Check<'a> {
@@ -25,6 +27,31 @@ fn store_of(words: &[String]) -> &str
     ensures { result.now ≡ get_or (map string_bytes words.now) 2 [] }
 {
     words[2].as_str()
+}
+
+/// The name of the session behind `--session`, of which what is asked by `store-check` is to tell; it is
+/// taken out of the words. Words that aren't so, or name no session, stay as they are.
+pub fn take_session(words: &mut Vec<String>) -> Option<String> {
+    if words.first().map(String::as_str) != Some("store-check") {
+        return None;
+    }
+    let mut at = 1;
+    for _ in 0..words.len() {
+        match words.get(at) {
+            Some(word) if word.as_str() == "--session" => break,
+            Some(word) if word.as_str() == "--json" => at = at.saturating_add(1),
+            _ => at = at.saturating_add(2),
+        }
+    }
+    let value = at.saturating_add(1);
+    if value >= words.len() {
+        return None;
+    }
+    if !is_name(words[value].as_bytes()) {
+        return None;
+    }
+    let _ = words.remove(at);
+    Some(words.remove(at))
 }
 
 /// What the words ask of a store, where they are `store-check`, `--store` and its path, and behind

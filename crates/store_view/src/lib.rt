@@ -3,4 +3,4 @@
 
 mod view;
 
-pub use view::{check_store, list_sessions, store_bytes};
+pub use view::{check_store, list_sessions};

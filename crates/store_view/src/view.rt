@@ -6,7 +6,10 @@ use std::fs::{File, OpenOptions, TryLockError};
 use std::io::ErrorKind;
 use std::os::unix::fs::FileExt;
 use std::{fs, io};
-use store_report::{Check, Finding, look_into, report_json, report_lines, sessions_report};
+use store_file::check_file;
+use store_report::{
+    Check, Finding, Refusal, look_into, report_json, report_lines, sessions_report,
+};
 
 /// How often the store of a living manager is read again until it stays as it was read.
 const TRIES: u32 = 20;
@@ -31,6 +34,8 @@ struct Reading {
     contents: Contents,
     /// Whether a manager has the store.
     is_living: bool,
+    /// Why no manager of this user would take the file.
+    fault: Option<io::Error>,
 }
 
 /// Opens a file for reading. What isn't a file is refused, since its opening may wait.
@@ -77,7 +82,9 @@ fn read_settled(rt: HostRuntime, file: &File) -> io::Result<Vec<u8>> {
 fn read_store(rt: HostRuntime, path: &str) -> io::Result<Reading> {
     let file = open_file(rt, path)?;
     let is_living = is_living(&file)?;
-    let size = file.metadata()?.len();
+    let found = file.metadata()?;
+    let fault = check_file(rt, path, &found, STORE_BYTES).err();
+    let size = found.len();
     let contents = if size != STORE_BYTES {
         Contents::OtherSize(size)
     } else if is_living {
@@ -88,6 +95,7 @@ fn read_store(rt: HostRuntime, path: &str) -> io::Result<Reading> {
     Ok(Reading {
         contents,
         is_living,
+        fault,
     })
 }
 
@@ -107,24 +115,54 @@ fn shown(
     rt: HostRuntime,
     finding: &Finding,
     is_living: bool,
+    refused: Option<Refusal>,
     is_json: bool,
 ) -> Result<Octets, NoMemory> {
     if !is_json {
-        return report_lines(rt.alloc(), finding, is_living);
+        return report_lines(rt.alloc(), finding, is_living, refused);
     }
     let mut text = report_json(rt.alloc(), finding, is_living)?;
     text.append(b"\n")?;
     Ok(text)
 }
 
-fn report_on(rt: HostRuntime, check: Check<'_>) -> io::Result<Report> {
+/// Tells the user why a file isn't used.
+fn tell(rt: HostRuntime, path: &str, error: io::Error) {
+    let _ = eprintln!(rt; "smd: cannot use {path}: {error}");
+}
+
+/// Why no session of this name begins over what was found.
+fn refusal(
+    rt: HostRuntime,
+    finding: &Finding,
+    session: Option<&str>,
+) -> Result<Option<Refusal>, NoMemory> {
+    match session {
+        Some(name) => {
+            let name = Octets::from_slice(rt.alloc(), name.as_bytes())?;
+            finding.refusal(rt.alloc(), Some(&name))
+        }
+        None => finding.refusal(rt.alloc(), None),
+    }
+}
+
+fn report_on(rt: HostRuntime, check: Check<'_>, session: Option<&str>) -> io::Result<Report> {
     let reading = read_store(rt, check.store)?;
+    let (is_living, fault) = (reading.is_living, reading.fault);
     let finding = find(rt, reading.contents).map_err(no_memory)?;
-    let text = shown(rt, &finding, reading.is_living, check.is_json).map_err(no_memory)?;
-    Ok(Report {
-        text,
-        status: finding.status(),
-    })
+    let refused = match fault {
+        Some(error) => {
+            tell(rt, check.store, error);
+            Some(Refusal::Disk)
+        }
+        None => refusal(rt, &finding, session).map_err(no_memory)?,
+    };
+    let status = match refused {
+        Some(refusal) => refusal.status(),
+        None => finding.status(),
+    };
+    let text = shown(rt, &finding, is_living, refused, check.is_json).map_err(no_memory)?;
+    Ok(Report { text, status })
 }
 
 fn sessions_in(rt: HostRuntime, path: &str) -> io::Result<Report> {
@@ -154,16 +192,17 @@ fn told(rt: HostRuntime, path: &str, report: io::Result<Report>) -> u8 {
             printed(rt, b"smd: no memory\n", 10)
         }
         Err(error) => {
-            let _ = eprintln!(rt; "smd: cannot use {path}: {error}");
+            tell(rt, path, error);
             printed(rt, b"smd: disk fault\n", 4)
         }
     }
 }
 
-/// Prints what stands in a store. The answer is the program's status: that of a session over this
-/// store for one that is damaged, has another size or can't be read.
-pub fn check_store(rt: HostRuntime, check: Check<'_>) -> u8 {
-    let report = report_on(rt, check);
+/// Prints what a session of this name is answered over a store, and what stands in it. The answer is the
+/// program's status: that of such a session, and 0 where it begins. Without a name it is one of those
+/// that the store has.
+pub fn check_store(rt: HostRuntime, check: Check<'_>, session: Option<&str>) -> u8 {
+    let report = report_on(rt, check, session);
     told(rt, check.store, report)
 }
 
@@ -171,13 +210,4 @@ pub fn check_store(rt: HostRuntime, check: Check<'_>) -> u8 {
 pub fn list_sessions(rt: HostRuntime, store: &str) -> u8 {
     let report = sessions_in(rt, store);
     told(rt, store, report)
-}
-
-/// The bytes of a store's file, and none where it has another size.
-pub fn store_bytes(rt: HostRuntime, path: &str) -> io::Result<Octets> {
-    let file = open_file(rt, path)?;
-    if file.metadata()?.len() != STORE_BYTES {
-        return Ok(Octets::new(rt.alloc()));
-    }
-    Ok(Octets::from_vec(read_whole(rt, &file)?))
 }

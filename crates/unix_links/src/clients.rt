@@ -28,6 +28,8 @@ struct Open {
     queued: bool,
     /// What is known of its client by what it said and was told. An outer manager is no client.
     watch: Option<ClientWatch>,
+    /// Somebody has answered for its client.
+    excused: bool,
 }
 
 /// Where the connection of a number stands, if the numbers go on by one from the first.
@@ -132,6 +134,7 @@ impl Clients {
             connection,
             queued: false,
             watch,
+            excused: false,
         })?;
         self.last = conn;
         self.news.push_back(News::Came(conn))?;
@@ -150,6 +153,7 @@ impl Clients {
             connection,
             queued: false,
             watch: None,
+            excused: false,
         };
         self.open.insert(0, outer)?;
         Ok(())
@@ -236,6 +240,13 @@ impl Clients {
         }
     }
 
+    /// Notes whether somebody has answered for a client.
+    pub fn excuse(&mut self, conn: Conn, excused: bool) {
+        if let Some(open) = find(&mut self.open, conn) {
+            open.excused = excused;
+        }
+    }
+
     /// Hands the system what was sent since the last time, each connection's at once. One that can't be
     /// served any more is lost.
     pub fn flush(&mut self, registry: &Registry) -> Result<(), NoMemory> {
@@ -315,7 +326,8 @@ impl Clients {
         put_count(self.alloc, &mut lines, count as u64)?;
         for open in &self.open {
             if let Some(watch) = &open.watch {
-                put_client(self.alloc, &mut lines, open.conn, self.now, watch)?;
+                let (conn, excused) = (open.conn, open.excused);
+                put_client(self.alloc, &mut lines, conn, self.now, excused, watch)?;
             }
         }
         Ok(lines)

@@ -8,6 +8,7 @@ use crate::paths::path_fault;
 use crate::reading::refused;
 use crate::sockets::Sockets;
 use owned_lists::NoMemory;
+use session_watch::Excusing;
 use sm_world::{Conn, Event, Failure, Links, Told};
 use std::io;
 use std::io::ErrorKind;
@@ -172,5 +173,13 @@ impl Links for SocketLinks {
             sockets.shut(to);
         }
         Ok(())
+    }
+}
+
+impl Excusing for SocketLinks {
+    fn excuse(&mut self, conn: Conn, excused: bool) {
+        if let Some(sockets) = &mut self.sockets {
+            sockets.excuse(conn, excused);
+        }
     }
 }

@@ -299,6 +299,11 @@ impl Sockets {
         self.clients.flush(self.poll.registry())
     }
 
+    /// Notes whether somebody has answered for a client.
+    pub fn excuse(&mut self, conn: Conn, excused: bool) {
+        self.clients.excuse(conn, excused);
+    }
+
     pub fn shut(&mut self, conn: Conn) {
         self.clients.shut(self.poll.registry(), conn);
     }

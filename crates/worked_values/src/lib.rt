@@ -18,7 +18,7 @@ pub use faults::Trouble;
 pub use frames::frame_of;
 pub use joining::{first_join, run_client};
 pub use kept_lines::Room;
-pub use named::{Silent, Steady};
+pub use named::{Moody, Silent, Steady};
 pub use queue::held;
 pub use rounds::{checkpoint, half_done, second_phase, three};
 pub use spellings::{spelled_list, spelled_properties, spelled_property, spelled_word};

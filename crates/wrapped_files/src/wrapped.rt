@@ -7,7 +7,7 @@ use crate::files::read_whole;
 use crate::starting::start;
 use owned_lists::{Command, NoMemory, Octets};
 use program_frame::StandardConsole;
-use program_spawner::text;
+use program_spawner::Readable;
 use sm_world::{Console, Failure, Spawner, Told};
 use state_saver::Files;
 use std::io;
@@ -59,11 +59,8 @@ impl WrappedFiles {
 
     /// Tells the user that a program can't be started.
     fn report(&self, command: &Command) {
-        let name = match command.words.as_slice().first() {
-            Some(word) => text(word).unwrap_or("?"),
-            None => "?",
-        };
-        let _ = eprintln!(self.rt; "smwrap: cannot start {name}");
+        let name = Readable::program_of(self.rt.alloc(), command);
+        let _ = eprintln!(self.rt; "smwrap: cannot start {}", name.as_str());
     }
 }
 

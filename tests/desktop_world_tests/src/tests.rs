@@ -136,6 +136,20 @@ fn fault_at(rt: HostRuntime, paths: [&str; 4]) -> Option<BadPlaces> {
         control,
         store,
         authority,
+        record: None,
+    };
+    places.fault(&rt)
+}
+
+/// What can't be had where a session is recorded that has this store.
+fn fault_of_record(rt: HostRuntime, store: &str, record: &str) -> Option<BadPlaces> {
+    let places = Places {
+        program: "smd",
+        socket: "/a",
+        control: "/b",
+        store,
+        authority: "/d",
+        record: Some(record),
     };
     places.fault(&rt)
 }
@@ -153,6 +167,54 @@ fn the_places_are_four(rt: HostRuntime) -> Result<(), Fail> {
     assert_eq!(rt; fault_at(rt, ["/a", "/b", "/c", "/b"]), sockets);
     assert_eq!(rt; fault_at(rt, ["/a", "/b", "/no/c", "/none/c"]), None);
     assert_eq!(rt; fault_at(rt, ["a", "/b", "/c", "/d"]), sockets);
+    Ok(())
+}
+
+#[test]
+fn the_record_is_none_of_the_others(rt: HostRuntime) -> Result<(), Fail> {
+    let files = Some(BadPlaces::Files);
+    let sockets = Some(BadPlaces::Sockets);
+    assert_eq!(rt; fault_of_record(rt, "/c", "/e"), None);
+    assert_eq!(rt; fault_of_record(rt, "/c", "/a"), sockets);
+    assert_eq!(rt; fault_of_record(rt, "/c", "/./b"), sockets);
+    assert_eq!(rt; fault_of_record(rt, "/c", "//c"), files);
+    assert_eq!(rt; fault_of_record(rt, "c", "./c"), files);
+    assert_eq!(rt; fault_of_record(rt, "/c", "/d"), files);
+    assert_eq!(rt; fault_of_record(rt, "/c", "/d.lock"), files);
+    Ok(())
+}
+
+#[test]
+fn a_link_leads_to_a_store_that_is_not_there_yet(rt: HostRuntime) -> Result<(), Fail> {
+    let (store, link) = (path_of(rt, "coming")?, path_of(rt, "leading")?);
+    let (store, link) = (store.as_str(), link.as_str());
+    symlink(&rt, store, link)?;
+    let pointed = fault_of_record(rt, store, link);
+    fs::remove_file(&rt, link)?;
+    assert_eq!(rt; pointed, Some(BadPlaces::Files));
+    Ok(())
+}
+
+#[test]
+fn the_store_is_taken_once(rt: HostRuntime) -> Result<(), Fail> {
+    let store = path_of(rt, "taken")?;
+    let mut world = DesktopWorld::new(rt, host_name(&rt)?);
+    assert_eq!(rt;
+        world.take_store(store.as_str())?.as_slice().len(),
+        16_777_280
+    );
+    // The session's own attach goes on with it.
+    assert_eq!(rt; world.attach(store.as_str()), Ok(()));
+    assert_eq!(rt; world.size(), Ok(16_777_280));
+    let mut second = DesktopWorld::new(rt, host_name(&rt)?);
+    assert_eq!(rt;
+        second.take_store(store.as_str()).err(),
+        Some(Failure::Failed)
+    );
+    fs::write(&rt, store.as_str(), b"three")?;
+    drop(world);
+    assert_eq!(rt; second.take_store(store.as_str())?.as_slice().len(), 0);
+    fs::remove_file(&rt, store.as_str())?;
     Ok(())
 }
 

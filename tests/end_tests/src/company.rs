@@ -2,7 +2,7 @@
 
 use checkpoint_records::Book;
 use client_machine::{Client, ClientAct, ClientPhase, Request};
-use ice_values::{ErrorBody, ErrorClass};
+use ice_values::{Array8List, ErrorBody, ErrorClass};
 use manager_machine::{Act, Acts, Manager, SessionEvent};
 use owned_lists::{NoMemory, Octets};
 use session_model::Phase;
@@ -23,6 +23,8 @@ pub(crate) struct Seat {
     down: VecDeque<XsmpMessage>,
     /// How often it took SaveYourself, less how often it said SaveYourselfDone.
     owed: u64,
+    /// The connection is shut or broken, and the client may still take what it was sent before.
+    is_gone: bool,
 }
 
 #[derive(Drop)]
@@ -51,9 +53,9 @@ fn agrees(phase: Phase, client: ClientPhase) -> bool {
 }
 
 impl Seat {
-    /// Whether nothing is under way either way.
+    /// Whether the connection stands, and nothing is under way either way.
     fn is_quiet(&self) -> bool {
-        self.up.is_empty() && self.down.is_empty()
+        !self.is_gone && self.up.is_empty() && self.down.is_empty()
     }
 
     /// The client asks for something, where it may.
@@ -74,6 +76,20 @@ impl Seat {
         Ok(())
     }
 
+    /// The client says that it closes: where it may ask so, or where it was told to die.
+    fn close(
+        &mut self,
+        rt: &(impl Abort + Alloc<A = Global>),
+        reasons: Array8List,
+    ) -> Result<(), Fail> {
+        if self.client.phase() == ClientPhase::Dead {
+            let message = XsmpMessage::ConnectionClosed { reasons };
+            self.up.push_back(message)?;
+            return Ok(());
+        }
+        self.ask(rt, Request::Close(reasons))
+    }
+
     /// What the client does by itself about what it took.
     fn follow(
         &mut self,
@@ -86,6 +102,7 @@ impl Seat {
                 Ok(())
             }
             ClientAct::Cancelled => self.pay(rt),
+            ClientAct::Die => self.close(rt, Array8List::new(rt.alloc())),
             ClientAct::Unexpected => Err(Fail::new("a client takes what it didn't expect")),
             _ => Ok(()),
         }
@@ -120,30 +137,41 @@ impl Seat {
         rt: &(impl Abort + Alloc<A = Global>),
         error: ErrorBody,
     ) -> Result<(), Fail> {
-        assert!(rt; error.class != ErrorClass::BadState.number());
+        assert!(rt; error.class != ErrorClass::BadState.number() && !self.is_gone);
         self.down.push_back(XsmpMessage::Error(error))?;
         Ok(())
     }
 }
 
 impl Company {
-    /// A manager over an empty book, and nobody there.
-    pub(crate) fn new(rt: &(impl Abort + Alloc<A = Global>)) -> Result<Company, Fail> {
+    /// A manager over an empty book with this patience, and nobody there.
+    pub(crate) fn new(
+        rt: &(impl Abort + Alloc<A = Global>),
+        patience: u64,
+    ) -> Result<Company, Fail> {
         let alloc = rt.alloc();
-        let (manager, _acts) = Manager::begin(alloc, Book::empty(alloc)?, 0)?;
+        let (manager, _acts) = Manager::begin(alloc, Book::empty(alloc)?, patience)?;
         Ok(Company {
             manager,
             seats: Vec::new(alloc),
         })
     }
 
-    /// The seat of a connection.
+    /// The seat of a connection, which may be gone.
     fn seat(&mut self, conn: Conn) -> Option<&mut Seat> {
         self.seats.iter_mut().find(|seat| seat.conn == conn)
     }
 
-    /// The connection is gone.
+    /// The connection is gone; what its client said and nobody has taken is lost.
     fn clear(&mut self, conn: Conn) {
+        if let Some(seat) = self.seat(conn) {
+            seat.is_gone = true;
+            seat.up.clear();
+        }
+    }
+
+    /// The seat is given away.
+    fn forget(&mut self, conn: Conn) {
         if let Some(index) = self.seats.iter().position(|seat| seat.conn == conn) {
             self.seats.remove(index);
         }
@@ -154,6 +182,7 @@ impl Company {
         match act {
             Act::Say(conn, message) => {
                 if let Some(seat) = self.seat(conn) {
+                    assert!(rt; !seat.is_gone);
                     seat.down.push_back(message)?;
                 }
                 Ok(())
@@ -184,7 +213,7 @@ impl Company {
         Ok(())
     }
 
-    /// A client joins and registers, under this previous ID.
+    /// A client joins and registers, under this previous ID, and has the seat of one that is gone.
     pub(crate) fn join(
         &mut self,
         rt: &(impl Abort + Alloc<A = Global>),
@@ -193,6 +222,7 @@ impl Company {
     ) -> Result<(), Fail> {
         let alloc = rt.alloc();
         assert!(rt; !self.manager.is_live(conn));
+        self.forget(conn);
         let acts = self.manager.take(SessionEvent::Joined(conn))?;
         self.bring_all(rt, acts)?;
         if !self.manager.is_live(conn) {
@@ -210,6 +240,7 @@ impl Company {
             up,
             down: VecDeque::new(alloc),
             owed: 0,
+            is_gone: false,
         })?;
         Ok(())
     }
@@ -228,7 +259,6 @@ impl Company {
         }
         let frame = frame_of(rt.alloc(), &message)?;
         assert!(rt; self.manager.is_live(conn));
-        assert!(rt; self.manager.phase(conn).is_some());
         assert!(rt; frame.len() <= 65544);
         let acts = self
             .manager
@@ -245,14 +275,26 @@ impl Company {
         self.bring_all(rt, acts)
     }
 
-    /// The connection breaks.
+    /// So many milliseconds pass.
+    pub(crate) fn wait(
+        &mut self,
+        rt: &(impl Abort + Alloc<A = Global>),
+        milliseconds: u64,
+    ) -> Result<(), Fail> {
+        let acts = self.manager.take(SessionEvent::Tick(milliseconds))?;
+        self.bring_all(rt, acts)
+    }
+
+    /// The connection breaks, where it stands.
     pub(crate) fn leave(
         &mut self,
         rt: &(impl Abort + Alloc<A = Global>),
         conn: Conn,
     ) -> Result<(), Fail> {
+        if !self.manager.is_live(conn) {
+            return Ok(());
+        }
         self.clear(conn);
-        assert!(rt; self.manager.is_live(conn));
         let acts = self.manager.take(SessionEvent::Left(conn))?;
         self.bring_all(rt, acts)
     }

@@ -92,7 +92,25 @@ fn take(
     }
 }
 
-/// One step that has to do with this client, or an order.
+/// A client joins on a connection that nobody has.
+fn join(
+    rt: &(impl Abort + Alloc<A = Global>),
+    company: &mut Company,
+    dice: &mut Dice,
+) -> Result<(), Fail> {
+    let conn = 1 + dice.roll(8) as Conn;
+    if company.manager.is_live(conn) {
+        return Ok(());
+    }
+    let previous = if dice.roll(4) == 0 {
+        FIRST_ID
+    } else {
+        b"".as_slice()
+    };
+    company.join(rt, conn, previous)
+}
+
+/// One step that has to do with this client, or an order, or the time.
 fn step(
     rt: &(impl Abort + Alloc<A = Global>),
     company: &mut Company,
@@ -100,34 +118,31 @@ fn step(
     conn: Conn,
 ) -> Result<(), Fail> {
     match dice.roll(200) {
-        0..=63 => {
+        0..=61 => {
             let wish = request(rt.alloc(), dice, conn);
             ask(rt, company, conn, wish)
         }
-        64..=125 => company.hear(rt, conn),
-        126..=187 => take(rt, company, conn),
-        188..=198 => company.order(rt, order(dice, conn)),
+        62..=121 => company.hear(rt, conn),
+        122..=181 => take(rt, company, conn),
+        182..=192 => company.order(rt, order(dice, conn)),
+        193..=197 => company.wait(rt, dice.roll(600)),
         _ => company.leave(rt, conn),
     }
 }
 
-/// A schedule of at most six clients and 200 steps.
+/// A schedule of at most eight clients at once and 200 steps, every second one with a patience. Up to six
+/// join at the start, and others at any point.
 fn play(rt: &(impl Abort + Alloc<A = Global>), seed: u64) -> Result<(), Fail> {
     let mut dice = Dice::new(seed);
-    let mut company = Company::new(rt)?;
-    for conn in 1..=6u32 {
-        // The first client joins, and of the others every second one.
-        if conn != 1 && dice.flip() {
-            continue;
-        }
-        let previous = if dice.roll(4) == 0 {
-            FIRST_ID
-        } else {
-            b"".as_slice()
-        };
-        company.join(rt, conn, previous)?;
+    let patience = if dice.flip() { 1000 } else { 0 };
+    let mut company = Company::new(rt, patience)?;
+    for _client in 0..2 + dice.roll(5) {
+        join(rt, &mut company, &mut dice)?;
     }
     for _turn in 0..200u32 {
+        if dice.roll(50) == 0 {
+            join(rt, &mut company, &mut dice)?;
+        }
         if let Some(conn) = some_conn(&company, &mut dice) {
             step(rt, &mut company, &mut dice, conn)?;
         }
@@ -136,8 +151,9 @@ fn play(rt: &(impl Abort + Alloc<A = Global>), seed: u64) -> Result<(), Fail> {
     Ok(())
 }
 
-/// Ten thousand schedules: no client takes what it doesn't expect, nobody is sent BadState, no save is
-/// answered twice, and both ends agree wherever nothing is under way.
+/// Ten thousand schedules: no client takes what it doesn't expect, also once its connection is shut or
+/// broken, nobody is sent BadState, no save is answered twice, and both ends agree wherever nothing is
+/// under way.
 #[test]
 fn both_ends_agree_by_chance(rt: HostRuntime) -> Result<(), Fail> {
     for seed in 1..=10_000u64 {
@@ -167,7 +183,7 @@ fn save(rt: &(impl Abort + Alloc<A = Global>), company: &mut Company) -> Result<
 
 /// Three clients that are registered and have saved once.
 fn three(rt: &(impl Abort + Alloc<A = Global>)) -> Result<Company, Fail> {
-    let mut company = Company::new(rt)?;
+    let mut company = Company::new(rt, 0)?;
     for conn in 1..=3u32 {
         company.join(rt, conn, b"")?;
     }

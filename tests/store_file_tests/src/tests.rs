@@ -63,6 +63,21 @@ fn a_store_is_made_and_kept(rt: HostRuntime) -> Result<(), Fail> {
 }
 
 #[test]
+fn a_store_that_was_taken_stays_taken(rt: HostRuntime) -> Result<(), Fail> {
+    let path = path_of(rt, "again")?;
+    let mut disk = FileDisk::new(rt, 8);
+    assert_eq!(rt; disk.attach(path.as_str()), Ok(()));
+    assert_eq!(rt; write_and_read(&mut disk), Ok([0, b'a', b'b']));
+    assert_eq!(rt; disk.attach(path.as_str()), Ok(()));
+    assert_eq!(rt;
+        disk.contents(path.as_str())?.as_slice(),
+        b"\0\0\0\0\0abc".as_slice()
+    );
+    fs::remove_file(&rt, path.as_str())?;
+    Ok(())
+}
+
+#[test]
 fn bytes_stand_where_they_were_written(rt: HostRuntime) -> Result<(), Fail> {
     let path = path_of(rt, "bytes")?;
     let mut disk = FileDisk::new(rt, 8);

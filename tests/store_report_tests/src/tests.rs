@@ -1,13 +1,15 @@
 //! Each call once: what a book and a store of another size are told as, and the words.
 
-use checkpoint_records::{Book, read_book};
+use checkpoint_records::{Book, Named, SharedEntries, read_book};
 use owned_lists::Octets;
 use std::alloc::{Alloc, Global};
 use std::process::Abort;
 use std::test::Fail;
 use store_report::{
-    Finding, look_into, read_check, read_sessions, report_json, report_lines, sessions_report,
+    Finding, Refusal, look_into, read_check, read_sessions, report_json, report_lines,
+    sessions_report, take_session,
 };
+use test_tables::expect_rows;
 
 /// A book of epoch 2: an entry with a program, a hint, two commands and a property that is no text;
 /// an entry without any; and a pending command.
@@ -30,7 +32,7 @@ const LINES: &str = "\
     \x20\x20program /bin/xterm\n\
     \x20\x20hint Anyway\n\
     \x20\x20restart xterm \"two words\" \"a\\x22\\x5c\" \"\"\n\
-    \x20\x20discard rm \"\\xc3\\xbc\\xc2\\xa9\\x1b\"\n\
+    \x20\x20discard rm \"ü©\\x1b\"\n\
     entry smd-00000001-00000002\n\
     \x20\x20hint IfRunning\n\
     pending rm ü\n";
@@ -76,7 +78,7 @@ fn book_of(alloc: Global, digits: &str) -> Result<Book, Fail> {
 fn a_book_is_shown_line_by_line(rt: HostRuntime) -> Result<(), Fail> {
     let alloc = rt.alloc();
     let finding = Finding::Opens(book_of(alloc, BOOK)?);
-    let text = report_lines(alloc, &finding, false)?;
+    let text = report_lines(alloc, &finding, false, None)?;
     expect_text(&rt, &text, LINES)
 }
 
@@ -93,7 +95,7 @@ fn another_size_is_told(rt: HostRuntime) -> Result<(), Fail> {
     let alloc = rt.alloc();
     let finding = look_into(alloc, Octets::from_slice(alloc, b"abc")?)?;
     assert_eq!(rt; finding.status(), 3);
-    let text = report_lines(alloc, &finding, false)?;
+    let text = report_lines(alloc, &finding, false, None)?;
     expect_text(&rt, &text, "smd: store has size 3\n")
 }
 
@@ -111,6 +113,76 @@ fn the_words_ask_for_lines_or_json(rt: HostRuntime) -> Result<(), Fail> {
     assert_eq!(rt; read_check(&words).is_none(), true);
     Ok(())
 }
+
+/// What is answered to a session of this name over a book of so many other sessions and of this epoch.
+fn answered(alloc: Global, others: u8, epoch: u32, name: &[u8]) -> Result<Option<Refusal>, Fail> {
+    let mut book = Book::empty(alloc)?;
+    book.epoch = epoch;
+    for number in 0..others {
+        let named = Named {
+            name: Octets::from_slice(alloc, &[b'a', b'0' + number])?,
+            entries: one_entry(alloc)?,
+        };
+        book.others.push(named)?;
+    }
+    let name = Octets::from_slice(alloc, name)?;
+    Ok(Finding::Opens(book).refusal(alloc, Some(&name))?)
+}
+
+/// The entries of the session `default` of a book.
+fn one_entry(alloc: Global) -> Result<SharedEntries, Fail> {
+    Ok(book_of(alloc, BOOK)?.entries)
+}
+
+#[test]
+fn a_session_is_refused(rt: HostRuntime) -> Result<(), Fail> {
+    let alloc = rt.alloc();
+    assert_eq!(rt; answered(alloc, 7, 1, b"new")?, None);
+    assert_eq!(rt;
+        answered(alloc, 8, 1, b"new")?,
+        Some(Refusal::TooManySessions)
+    );
+    assert_eq!(rt; answered(alloc, 8, 1, b"a7")?, None);
+    assert_eq!(rt; answered(alloc, 7, u32::MAX, b"new")?, Some(Refusal::Worn));
+    assert_eq!(rt;
+        answered(alloc, 8, u32::MAX, b"new")?,
+        Some(Refusal::TooManySessions)
+    );
+    let damaged = Finding::Damaged(64).refusal(alloc, None)?;
+    assert_eq!(rt; damaged, None);
+    let finding = Finding::Opens(Book::empty(alloc)?);
+    let text = report_lines(alloc, &finding, true, Some(Refusal::Worn))?;
+    expect_text(&rt, &text, WORN)
+}
+
+const WORN: &str = "\
+    store in use: a copy of a living store\n\
+    smd: store worn\n\
+    store opens: epoch 0, entries 0, starts 0, pending 0\n";
+
+#[test]
+fn the_session_is_taken_out_of_the_words(rt: HostRuntime) -> Result<(), Fail> {
+    expect_rows(&rt, TAKEN, taken)
+}
+
+/// The name that is taken out of some words, and the words that stay.
+fn taken(alloc: Global, input: &str) -> Result<String, Fail> {
+    let mut words = Vec::new(alloc);
+    for word in input.split(' ') {
+        words.push(word.to_string(alloc)?)?;
+    }
+    let name = take_session(&mut words);
+    Ok(format!(in alloc; "{name:?} {words:?}")?)
+}
+
+const TAKEN: &str = "\
+store-check --store f --session n => Some(\"n\") [\"store-check\", \"--store\", \"f\"]
+store-check --session n --store f --json => Some(\"n\") [\"store-check\", \"--store\", \"f\", \"--json\"]
+store-check --store f --json --session n => Some(\"n\") [\"store-check\", \"--store\", \"f\", \"--json\"]
+store-check --store --session n => None [\"store-check\", \"--store\", \"--session\", \"n\"]
+store-check --store f --session ü => None [\"store-check\", \"--store\", \"f\", \"--session\", \"ü\"]
+store-check --store f --session => None [\"store-check\", \"--store\", \"f\", \"--session\"]
+sessions --store f --session n => None [\"sessions\", \"--store\", \"f\", \"--session\", \"n\"]";
 
 #[test]
 fn sessions_are_listed(rt: HostRuntime) -> Result<(), Fail> {

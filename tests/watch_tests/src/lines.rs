@@ -67,16 +67,22 @@ fn take_turn(alloc: Global, watch: &mut ClientWatch, turn: &str, now: u64) -> Re
     Ok(())
 }
 
-/// The line of a client on whose connection these turns came, ten milliseconds one after another.
+/// The line of a client on whose connection these turns came, ten milliseconds one after another, and who
+/// was answered for where that is among them.
 fn line_of(alloc: Global, turns: &str) -> Result<String, Fail> {
     let mut watch = ClientWatch::new(alloc, 0);
     let mut now = 0u64;
+    let mut excused = false;
     for turn in turns.split(' ') {
         now = now.saturating_add(10);
-        take_turn(alloc, &mut watch, turn, now)?;
+        if turn == "excused" {
+            excused = true;
+        } else {
+            take_turn(alloc, &mut watch, turn, now)?;
+        }
     }
     let mut line = Octets::new(alloc);
-    put_client(alloc, &mut line, 3, now, &watch)?;
+    put_client(alloc, &mut line, 3, now, excused, &watch)?;
     Ok(
         str::from_utf8(line.as_slice())?
             .trim_end()
@@ -98,6 +104,9 @@ xsmp c:register m:id m:save c:phase2-request => conn=3 holds=no stage=waiting lo
 xsmp c:register m:id m:save c:phase2-request m:phase2 => conn=3 holds=yes stage=saving logout=yes silent=10 asked=save-yourself-phase2 answered=none id=a-b program=-
 xsmp c:register m:id m:save c:phase2-request m:phase2 c:failed => conn=3 holds=no stage=done logout=yes silent=0 asked=save-yourself-phase2 answered=save-yourself-failed id=a-b program=-
 xsmp c:register m:id m:save c:phase2-request m:cancelled => conn=3 holds=yes stage=saving logout=no silent=10 asked=shutdown-cancelled answered=none id=a-b program=-
+xsmp c:register m:id m:save c:phase2-request m:cancelled excused => conn=3 holds=no stage=idle logout=no silent=20 asked=shutdown-cancelled answered=none id=a-b program=-
+xsmp c:register m:id m:save c:interact-request m:interact m:cancelled excused => conn=3 holds=no stage=idle logout=no silent=30 asked=shutdown-cancelled answered=none id=a-b program=-
+xsmp m:die excused => conn=3 holds=yes stage=dying logout=yes silent=20 asked=die answered=none id=- program=-
 xsmp c:register m:id m:save m:cancelled => conn=3 holds=yes stage=saving logout=no silent=30 asked=shutdown-cancelled answered=none id=a-b program=-
 xsmp c:register m:id m:save m:cancelled c:done => conn=3 holds=no stage=idle logout=no silent=0 asked=shutdown-cancelled answered=save-yourself-done id=a-b program=-
 xsmp c:register m:id m:save c:done m:cancelled => conn=3 holds=no stage=idle logout=no silent=10 asked=shutdown-cancelled answered=none id=a-b program=-

@@ -1,4 +1,4 @@
-use Rattle.std.proofs.Common.{◌≡◌, ◌∙◌, sym}
+use Rattle.std.proofs.Common.{◌∙◌, sym}
 use Rattle.ice_framing.specs.declared.cutting.WholeFrame.{WholeFrame}
 use Rattle.client_quirks.proofs.Viewed.{means_nothing, means_by_walk, means_by_none}
 use Rattle.client_quirks.proofs.heeding.may_mean.Goals as goal

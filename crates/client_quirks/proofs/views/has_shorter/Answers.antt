@@ -1,8 +1,8 @@
-use Rattle.std.proofs.Common.{◌≡◌, ◌∙◌, sym}
+use Rattle.std.proofs.Common.{◌∙◌, sym}
 use Rattle.std.specs.List.{list_any}
 use Rattle.frame_speech.specs.Settings.{values_left}
 use Rattle.client_quirks.specs.Meanings.{is_shorter}
-use Rattle.client_quirks.proofs.Viewed.{any_here, any_later, any_over}
+use Rattle.client_quirks.proofs.Viewed.{any_here, any_later}
 use Rattle.client_quirks.proofs.views.has_shorter.Goals as goal
 
 pub loop-value-preserved : goal.loop-value-preserved

@@ -1,4 +1,4 @@
-use Rattle.std.proofs.Common.{◌≡◌, ◌∙◌, sym, subst}
+use Rattle.std.proofs.Common.{◌∙◌, sym, subst}
 use Rattle.std.specs.List.{list_any}
 use Rattle.ice_values.specs.Walks.{walk_left, Views}
 use Rattle.ice_values.specs.declared.numbers.Endian.{Endian}

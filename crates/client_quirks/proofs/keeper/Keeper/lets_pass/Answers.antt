@@ -1,7 +1,7 @@
 use Rattle.std.proofs.Common.{rules, ◌≡◌, refl}
 use Rattle.client_quirks.specs.Heeding.{HasNothing}
 use Rattle.client_quirks.proofs.Unheard.{hears_at, hears_released}
-use Rattle.client_quirks.specs.declared.stage.Stage.TheVariants.{Free, Asked, Answered, Released}
+use Rattle.client_quirks.specs.declared.stage.Stage.TheVariants.{Free, Asked, Answered}
 use Rattle.client_quirks.proofs.keeper.Keeper.lets_pass.Goals as goal
 
 pub returns-in-Released : goal.returns-in-Released

@@ -1,4 +1,4 @@
-use Rattle.std.proofs.Common.{rules, ◌≡◌, Some, None}
+use Rattle.std.proofs.Common.{rules, ◌≡◌, Some}
 use Rattle.frame_speech.specs.Passing.{Passes}
 use Rattle.client_quirks.proofs.Unheeded.{goes_by_some, goes_by_none}
 use Rattle.client_quirks.proofs.side.Side.passes.Goals as goal

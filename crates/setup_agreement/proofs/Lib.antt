@@ -1,0 +1,5 @@
+pub mod Rows
+pub mod Entering
+pub mod Refusing
+pub mod Spelling
+pub mod Wiring

@@ -1,0 +1,3 @@
+pub mod SetUps
+pub mod Laws
+pub mod Wires

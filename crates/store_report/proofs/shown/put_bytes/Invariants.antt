@@ -1,7 +1,0 @@
-use Rattle.std.proofs.Common.{◌≡◌, ◌++◌, take}
-use Rattle.std.specs.List.{flat_map}
-use Rattle.store_report.specs.Shown.{byte_text}
-use Rattle.store_report.proofs.shown.put_bytes.Given as goal
-
-abbrev pub invariant-loop-byte : goal.invariant-loop-byte
-invariant-loop-byte l = l.out ≡ l.fn.out ++ flat_map (byte_text l.whole) (take l.byte-index l.bytes)

@@ -1,0 +1,223 @@
+#!/usr/bin/env python3
+"""Logouts that are called off before all clients have answered, with `smd serve --quirks`:
+    called_off.py SMD FOLDER TEST
+The clients do what programs were seen to do: one waits for the second phase and never answers, one keeps its dialog open,
+one answers late. It ends with 0 where saves go on without them, nobody is closed, and they save with the others again.
+"""
+import signal
+import sys
+import time
+
+import xsmp
+from manager import Manager
+
+PATIENCE = 3000
+NORMAL = 1
+
+
+def pong(client):
+    client.send(xsmp.message(0, xsmp.PONG))
+
+
+def asked(client):
+    """Waits for a SaveYourself, which may come behind a Ping."""
+    major, minor = client.next()[:2]
+    if (major, minor) == (0, xsmp.PING):
+        pong(client)
+        major, minor = client.next()[:2]
+    if (major, minor) != (xsmp.OPCODE, xsmp.SAVE):
+        raise ValueError("expected a SaveYourself, got %d of %d" % (minor, major))
+
+
+def saves(client):
+    asked(client)
+    xsmp.save(client, [b"true"])
+
+
+def checkpoint(manager, clients):
+    """These clients save, and no other is waited for."""
+    manager.expect("checkpoint", "ok")
+    for client in clients:
+        saves(client)
+    for client in clients:
+        client.expect(xsmp.COMPLETE)
+
+
+def call_off(manager, clients):
+    manager.expect("cancel", "ok")
+    for client in clients:
+        client.expect(xsmp.CANCELLED)
+
+
+def logs_out(manager, clients):
+    """The logout is agreed by these, and the session ends."""
+    manager.expect("shutdown", "ok")
+    for client in clients:
+        saves(client)
+    for client in clients:
+        client.expect(xsmp.DIE)
+    for client in clients:
+        client.close()
+    if manager.process.wait(30):
+        raise ValueError("smd ended otherwise")
+
+
+def waits_for_the_others(client):
+    """What openbox does: it saves behind the others, and doesn't answer a ShutdownCancelled."""
+    asked(client)
+    client.say(xsmp.ASK_TWO)
+
+
+def talks(client):
+    """What FeatherPad does with unsaved text: its dialog stands open."""
+    asked(client)
+    client.say(xsmp.ASK_TALK, second=NORMAL)
+    client.expect(xsmp.TALK)
+
+
+def never_answers(manager):
+    """One that waited for the second phase says nothing to a ShutdownCancelled, whenever there is one."""
+    silent, other = manager.saved()[0], manager.saved()[0]
+    for _ in range(2):
+        manager.expect("shutdown", "ok")
+        waits_for_the_others(silent)
+        asked(other)
+        call_off(manager, [silent, other])
+        other.say(xsmp.SAVED)
+        checkpoint(manager, [silent, other])
+    logs_out(manager, [silent, other])
+
+
+def never_asks_again(manager):
+    """One that waited for the token says nothing to a ShutdownCancelled, and talks in the next logout."""
+    silent, other = manager.saved()[0], manager.saved()[0]
+    manager.expect("shutdown", "ok")
+    talks(other)
+    asked(silent)
+    silent.say(xsmp.ASK_TALK, second=NORMAL)
+    other.say(xsmp.TALKED, second=1)
+    for client in (silent, other):
+        client.expect(xsmp.CANCELLED)
+    other.say(xsmp.SAVED)
+    checkpoint(manager, [silent, other])
+    manager.expect("shutdown", "ok")
+    talks(silent)
+    silent.say(xsmp.TALKED)
+    saves(other)
+    xsmp.save(silent, [b"true"])
+    for client in (silent, other):
+        client.expect(xsmp.DIE)
+
+
+def in_a_dialog(manager):
+    """A talking client and another one, behind a logout that was called off while the dialog stood."""
+    talking, other = manager.saved()[0], manager.saved()[0]
+    manager.expect("shutdown", "ok")
+    talks(talking)
+    saves(other)
+    call_off(manager, [talking, other])
+    return talking, other
+
+
+def dialog_stands(manager):
+    """Its dialog stays open behind a logout that was called off: saves go on without it, and it isn't closed. It is asked
+    anew once its user has answered."""
+    talking, other = in_a_dialog(manager)
+    for _ in range(2):
+        checkpoint(manager, [other])
+    time.sleep(2 * PATIENCE / 1000)
+    checkpoint(manager, [other])
+    talking.ping()
+    talking.say(xsmp.SAVED)
+    checkpoint(manager, [talking, other])
+    logs_out(manager, [talking, other])
+
+
+def dialog_in_a_new_logout(manager):
+    """A new logout waits for the dialog of the old one, for longer than the patience; once that is over, the client is
+    asked, and its user can cancel this one."""
+    talking, other = in_a_dialog(manager)
+    manager.expect("shutdown", "ok")
+    saves(other)
+    time.sleep(2 * PATIENCE / 1000)
+    talking.ping()
+    talking.say(xsmp.SAVED)
+    talks(talking)
+    talking.say(xsmp.TALKED, second=1)
+    for client in (talking, other):
+        client.expect(xsmp.CANCELLED)
+    talking.say(xsmp.SAVED)
+    checkpoint(manager, [talking, other])
+
+
+def twice(manager):
+    """Two logouts are called off in a row while the dialog stands; of the second one its client hears nothing."""
+    talking, other = in_a_dialog(manager)
+    manager.expect("shutdown", "ok")
+    saves(other)
+    call_off(manager, [other])
+    talking.ping()
+    checkpoint(manager, [other])
+    talking.say(xsmp.SAVED)
+    checkpoint(manager, [talking, other])
+
+
+def answers_late(manager):
+    """One that saves for long isn't waited for in a checkpoint behind the logout that was called off, and its late answer
+    isn't taken for one to a later save."""
+    slow, other = manager.saved()[0], manager.saved()[0]
+    manager.expect("shutdown", "ok")
+    asked(slow)
+    saves(other)
+    call_off(manager, [slow, other])
+    checkpoint(manager, [other])
+    slow.ping()
+    slow.say(xsmp.SAVED, second=1)
+    checkpoint(manager, [slow, other])
+    logs_out(manager, [slow, other])
+
+
+def answers_in_a_row(manager):
+    """One that was stopped answers two saves in a row, of which the first was called off: the first answer isn't taken
+    for one to the second save."""
+    stopped, other = manager.saved()[0], manager.saved()[0]
+    manager.expect("shutdown", "ok")
+    waits_for_the_others(stopped)
+    asked(other)
+    call_off(manager, [stopped, other])
+    other.say(xsmp.SAVED)
+    manager.expect("checkpoint", "ok")
+    saves(other)
+    stopped.expect(xsmp.PING, 0)
+    stopped.expect(xsmp.SAVE)
+    stopped.say(xsmp.SAVED, second=1)
+    pong(stopped)
+    # Nobody is told that the save is complete.
+    stopped.ping()
+    other.ping()
+    xsmp.save(stopped, [b"true"])
+    for client in (stopped, other):
+        client.expect(xsmp.COMPLETE)
+
+
+TESTS = {
+    it.__name__: it
+    for it in (
+        never_answers, never_asks_again, dialog_stands, dialog_in_a_new_logout, twice, answers_late, answers_in_a_row,
+    )
+}
+
+
+def main():
+    smd, room, name = sys.argv[1:]
+    signal.signal(signal.SIGTERM, lambda *_: sys.exit(1))
+    manager = Manager(smd, room, ["--quirks", "--patience", str(PATIENCE)])
+    try:
+        manager.start()
+        TESTS[name](manager)
+    finally:
+        Manager.kill_all()
+
+
+if __name__ == "__main__":
+    main()

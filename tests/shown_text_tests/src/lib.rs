@@ -1,0 +1,5 @@
+//! Tests of `shown_text`.
+#![tactic(auto)]
+
+#[cfg(test)]
+mod tests;
