@@ -63,13 +63,15 @@ ends_of() {
   done
 }
 
-# A real display manager, in namespaces of its own: what it leaves behind goes with them.
+# A real display manager, in namespaces of its own: what it leaves behind goes with them. It gets nothing of this environment,
+# as the one that the system starts: with a DISPLAY, lightdm wants its displays inside of that one.
 greeted_sessions() {
   if [ "$(id -u)" -ne 0 ] || ! unshare --pid --fork --mount-proc --net --ipc true 2> /dev/null; then
     left_out+=("a display manager, which only root can start in namespaces of its own")
     return
   fi
   [ -d "$room/ends" ] || make_ends
-  check "sessions of a display manager end well" timed 600 \
+  check "sessions of a display manager end well" timed 1800 \
+    env --ignore-environment PATH="$PATH" HOME=/root PEERS_ROOM="$room" TMPDIR="$room" \
     unshare --pid --fork --kill-child --mount-proc --net --ipc "$here/greeted" "$room/ends"
 }
