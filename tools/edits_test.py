@@ -1,8 +1,6 @@
 #!/usr/bin/env python3
 """Tests of tools/edits, over a small repository of its own: that it writes a row for what was refused for a clause and for
 nothing else, and that a row which isn't so is found. A few of them have the prover check three functions."""
-import importlib.machinery
-import importlib.util
 import os
 import shutil
 import subprocess
@@ -11,6 +9,8 @@ import tempfile
 import unittest
 
 sys.dont_write_bytecode = True
+from kit import program_at
+
 HERE = os.path.dirname(os.path.abspath(__file__))
 LOW = '//! Nothing.\n#![tactic(auto)]\n'
 STEPS = '''//! Numbers that are handed on.
@@ -96,9 +96,7 @@ class Room(unittest.TestCase):
         self.addCleanup(os.environ.pop, "SMD_TOP", None)
         self.addCleanup(os.chdir, os.getcwd())
         os.chdir(self.top)
-        loader = importlib.machinery.SourceFileLoader("edits", f"{HERE}/edits")
-        module = importlib.util.module_from_spec(importlib.util.spec_from_loader("edits", loader))
-        loader.exec_module(module)
+        module = program_at(f"{HERE}/edits")
         rt = module.rt_code()
         return module, module.Ledger(module.crates_of(rt, self.top), ["steps"])
 

@@ -21,13 +21,19 @@ def write(path, text, mode=0o644):
     os.chmod(path, mode)
 
 
+def program_at(path):
+    """Returns the code of a program in Python, which has no ending, as a module."""
+    loader = importlib.machinery.SourceFileLoader(os.path.basename(path), path)
+    module = importlib.util.module_from_spec(importlib.util.spec_from_loader(loader.name, loader))
+    loader.exec_module(module)
+    return module
+
+
 def rt_code():
     """Returns rt's own code, as a module."""
     path = os.path.realpath(shutil.which("rt"))
     sys.path.insert(0, os.path.dirname(path))
-    loader = importlib.machinery.SourceFileLoader("rt", path)
-    module = importlib.util.module_from_spec(importlib.util.spec_from_loader("rt", loader))
-    loader.exec_module(module)
+    module = program_at(path)
     module.rtlib.Crate = module.Crate
     return module
 
