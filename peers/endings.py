@@ -697,15 +697,8 @@ def no_markup(desk):
         os.remove(desk.room + "/asked")
 
 
-TESTS = {it.__name__: it for it in (
-    display_ends, display_is_replaced, display_ends_with_the_signal, display_ends_in_an_order, display_ends_in_a_signal, display_ends_in_smd_logout,
-    signals, kills, forsaken, starter, nobody_is_left, ordered_anew, told_of_a_kill, log_on_a_full_disk, log_that_nobody_reads,
-    log_that_is_full_for_a_while, surroundings, bus, names_that_are_taken, wrapped, runtime_folders, told_in_a_dialog,
-    answers_without_a_disk, answer_that_cant_be_written, no_markup,
-)}
-
-
-def main():
+def main(tests):
+    """Runs the one of these tests that the command names, on a desktop of its own."""
     programs, room, name = sys.argv[1:]
     signal.signal(signal.SIGTERM, lambda *_: sys.exit(1))
     # What is started from here begins with the signals of a login.
@@ -713,7 +706,7 @@ def main():
         signal.signal(number, signal.SIG_DFL)
     desk = Desk(programs, room)
     try:
-        TESTS[name](desk)
+        {it.__name__: it for it in tests}[name](desk)
     finally:
         desk.clear()
         for number in desk.manager_ids():
@@ -722,4 +715,9 @@ def main():
 
 
 if __name__ == "__main__":
-    main()
+    main((
+        display_ends, display_is_replaced, display_ends_with_the_signal, display_ends_in_an_order, display_ends_in_a_signal, display_ends_in_smd_logout,
+        signals, kills, forsaken, starter, nobody_is_left, ordered_anew, told_of_a_kill, log_on_a_full_disk, log_that_nobody_reads,
+        log_that_is_full_for_a_while, surroundings, bus, names_that_are_taken, wrapped, runtime_folders, told_in_a_dialog,
+        answers_without_a_disk, answer_that_cant_be_written, no_markup,
+    ))

@@ -1,9 +1,9 @@
 # Sessions by smd-session whose display ends, that hear signals, or whose surroundings are odd: nothing of them is lost.
 
-# ending TEST WORD..: starts the test, behind these words.
+# ending TEST WORD..: starts the test of $tests, behind these words.
 ending() {
   mkdir "$quick/$1"
-  aside "$1" 420 "${@:2}" python3 "$here/endings.py" "$room/ends" "$quick/$1" "$1"
+  aside "$1" 420 "${@:2}" python3 "$here/$tests.py" "$room/ends" "$quick/$1" "$1"
 }
 
 # A disk of its own, which goes with the process.
@@ -19,12 +19,13 @@ full_for_a_while() {
 make_ends() {
   local name
   mkdir "$room/ends"
-  cp "$top/desktop/smd-session" "$top/desktop/smd-logout" "$top/desktop/smd-ask" "$room/ends"
+  for name in session logout ask autostart; do cp "$top/desktop/smd-$name" "$room/ends"; done
   for name in smd smctl smwrap; do ln -s "${!name}" "$room/ends/$name"; done
 }
 
 # These run beside one another, four at a time.
 endings() {
+  local tests=endings
   make_ends
   ends_of display_ends "a session ends with its display, and keeps its checkpoint" \
     display_ends_with_the_signal "so it does where the signal comes with the display's end" \
@@ -51,6 +52,18 @@ endings() {
     answers_without_a_disk "an answer is heard on a full disk" \
     answer_that_cant_be_written "who couldn't be heard is asked again" \
     no_markup "a program's name is no markup"
+}
+
+# What a login starts, and what comes behind a logout.
+logins() {
+  local tests=logins
+  [ -d "$room/ends" ] || make_ends
+  ends_of each_login "each login starts its list, and the entries for this desktop" \
+    already_there "what the session has already isn't started a second time" \
+    first_session "a first session has a window manager and a terminal"
+  ends_of restart "the machine is restarted behind the logout" \
+    restart_is_called_off "who stays wants no restart any more" \
+    nothing_is_offered "what the machine doesn't let a user do isn't offered"
 }
 
 # ends_of NAME TEXT ..: these tests, beside one another.

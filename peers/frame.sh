@@ -10,7 +10,8 @@ room=$(mktemp -d) || exit 1
 quick=$(mktemp -d -p /dev/shm 2> /dev/null || mktemp -d -p "$room") || exit 1
 # The mark by which whatever was started from here is found again, also what smd started.
 export PEERS_ROOM=$room TMPDIR=$room
-export HOSTNAME PYTHONDONTWRITEBYTECODE=1
+# What this machine starts at each login has no place in the sessions by smd-session.
+export HOSTNAME PYTHONDONTWRITEBYTECODE=1 SMD_AUTOSTART=0
 HOSTNAME=$(uname -n)
 
 # The processes that bear the mark, without those that look for it.

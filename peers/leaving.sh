@@ -13,7 +13,12 @@ answer=\$(sed -n 1p "$at/answers")
 sed -i 1d "$at/answers"
 [ -n "\$answer" ] || exec unanswered 60
 [ "\$answer" != close ] || exit 1
-echo "\$answer"
+[ "\$1" = --question ] || exec echo "\$answer"
+for word; do case \$word in --*-label=* | --extra-button=*) set -- "\$@" "\${word#*=}" ;; --*) ;; esac; shift; done
+[ "\$answer" != 1 ] || exit 0
+shift \$((answer - 1))
+[ \$# -eq 1 ] || echo "\$1"
+exit 1
 DIALOG
   chmod +x "$at/bin/zenity"
 }
@@ -45,7 +50,7 @@ offers() { grep -qxF -e "$1" "$at/questions"; }
 is_idle() { order status | grep -q ' idle$'; }
 
 stays() {
-  is_left 3
+  is_left 4
   ends "$leaving_id" 1 && asks_about 'Log out?' && is_idle
 }
 
@@ -152,6 +157,16 @@ is_called_off() {
   grep -qxF 'smd-logout: the logout was called off' "$at/leaving" && within 20 has_stages 2 idle
 }
 
+# Without a save: whoever thinks better of it is asked once more, and what was saved last stays.
+leaves_unsaved() {
+  order checkpoint > /dev/null
+  within 20 is_idle || return 1
+  is_left '3 1'
+  ends "$leaving_id" 1 && asks_about "Log out without saving? What isn't saved is lost." && is_idle || return 1
+  is_left '3 2'
+  ends "$leaving_id" 0 && ends_as_saved
+}
+
 screen() { tmux -S "$at/keys" "$@" 2> /dev/null; }
 
 screen_shows() { screen capture-pane -p -t leave | grep -qF "$1"; }
@@ -236,6 +251,8 @@ leaving() {
   check "nobody is left where no session is" ends "$leaving_id" 5
   check "a session of one program is there again" to_leave "$room/leaving_alone" one
   check "a logout goes on without the only program" goes_on_without_the_only_one
+  check "a session of one program is there that is left unsaved" to_leave "$room/leaving_unsaved" one
+  check "without a save the session is what was saved last" leaves_unsaved
   check "a session of two programs is there to be left" to_leave "$room/leaving_two" one two
   check "a logout that is called off is told" is_called_off
   check "on a terminal the user is asked, and an interrupt is to stay" leaves_by_terminal

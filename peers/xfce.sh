@@ -7,7 +7,7 @@ make_xfce() {
   at=$xfce/run/smd
   mkdir -p "$xfce/bin" "$xfce/.config/smd"
   mkdir -m 700 "$xfce/run"
-  for name in smd-session smd-ask smd-logout; do cp "$top/desktop/$name" "$xfce/bin"; done
+  for name in smd-session smd-ask smd-logout smd-autostart; do cp "$top/desktop/$name" "$xfce/bin"; done
   ln -s "$smd" "$xfce/bin/smd"
   ln -s "$smctl" "$xfce/bin/smctl"
   # The list of the page.

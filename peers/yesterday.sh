@@ -5,7 +5,7 @@ make_desktop() {
   desk=$room/yesterday
   stores=$desk/state/smd
   mkdir -p "$desk/bin" "$desk/config/smd" "$desk/run"
-  cp "$top/desktop/smd-session" "$top/desktop/smd-ask" "$desk/bin"
+  cp "$top/desktop/smd-session" "$top/desktop/smd-ask" "$top/desktop/smd-autostart" "$desk/bin"
   ln -s "$smd" "$desk/bin/smd"
   ln -s "$smctl" "$desk/bin/smctl"
   cat > "$desk/client" << 'CLIENT'

@@ -11,12 +11,12 @@ each_file() {
   for name in $installed; do
     "$1" 755 "crates/$name/out/$name" "bin/$name"
   done
-  for name in smd-session smd-ask smd-logout; do
+  for name in smd-session smd-ask smd-logout smd-autostart; do
     "$1" 755 "desktop/$name" "bin/$name"
   done
   "$1" 644 desktop/smd.desktop share/xsessions/smd.desktop
   "$1" 644 desktop/smd-logout.desktop share/applications/smd-logout.desktop
-  for name in $installed smd-session smd-ask smd-logout; do
+  for name in $installed smd-session smd-ask smd-logout smd-autostart; do
     "$1" 644 desktop/completions/smd.bash "share/bash-completion/completions/$name"
   done
   "$1" 644 desktop/completions/_smd share/zsh/site-functions/_smd

@@ -35,7 +35,8 @@ _smd_own() {
     smnest:rehearse) echo --outer-id ;;
     smd-session:) echo --list --restore ;;
     smd-logout:) echo --now --save ;;
-    smd-ask:) echo --seconds --tell ;;
+    smd-ask:) echo --seconds --buttons --tell ;;
+    smd-autostart:) echo --list ;;
   esac
 }
 
@@ -50,4 +51,4 @@ _smd() {
   fi
 }
 
-complete -F _smd smd smctl smtrace smclient smrelay smwrap smnest smd-session smd-logout smd-ask
+complete -F _smd smd smctl smtrace smclient smrelay smwrap smnest smd-session smd-logout smd-ask smd-autostart
