@@ -1,5 +1,6 @@
 -- What a save does to the files, and what it answers.
-use Rattle.std.specs.Prelude.{◌≡◌, ◌⊎◌, ◌+◌, ◌-◌, ◌^◌, ◌<◌, ◌≤◌, ℕ, false, true, List, [], ◌∷◌, length, Option, None, Some, Result, Ok, Err}
+use Rattle.std.specs.Prelude.{◌≡◌, ◌⊎◌, ◌+◌, ◌-◌, ◌^◌, ◌<◌, ◌==◌, ◌&&◌, ℕ, Bool, false, true, not, nat_le, List, [], ◌∷◌, length, Option, None, Some, Result, Ok, Err}
+use Rattle.std.specs.List.{list_any}
 use Rattle.sm_world.specs.Disk.{UsesDisk}
 use Rattle.sm_world.specs.Outside.{Outside, Rose, adds}
 use Rattle.sm_world.specs.declared.effects.Effect.TheVariants.{Published}
@@ -35,14 +36,18 @@ abbrev pub CopiesTo : List ℕ → List ℕ → Outside → Outside → Result (
 CopiesTo state path old new (Ok x) = (bytes : List ℕ) × Holds old state bytes × (new.told ≡ adds old.told (Published path bytes ∷ []))
 CopiesTo state path old new (Err e) = new.told ≡ old.told
 
--- There are no numbers left, or the ID is too long for a command.
-abbrev pub IsAtEnd : ℕ → List ℕ → Type 0
-IsAtEnd number id = (number ≡ 2 ^ 32 - 1) ⊎ (512 < length id)
+-- An ID that a command can name: 1 to 512 bytes without NUL.
+abbrev pub is_name : List ℕ → Bool
+is_name id = not (length id == 0) && (nat_le (length id) 512 && not (list_any (λ b. b == 0) id))
 
--- There is a number more, and the ID isn't too long.
+-- There are no numbers left, or no command can name the ID.
+abbrev pub IsAtEnd : ℕ → List ℕ → Type 0
+IsAtEnd number id = (number ≡ 2 ^ 32 - 1) ⊎ (is_name id ≡ false)
+
+-- There is a number more, and a command can name the ID.
 pub record IsNext (old new : ℕ) (id : List ℕ) : Type 0 where
   pub room : old < 2 ^ 32 - 1
-  pub short : length id ≤ 512
+  pub name : is_name id ≡ true
   pub raised : new ≡ old + 1
 
 -- What the state's file held was published under the new number, and the client says so.

@@ -1,10 +1,10 @@
-ghost use Rattle.std.specs.Prelude.{◌≡◌, ◌-◌, ◌<◌, ◌≤◌, ◌^◌, [], length, string_bytes, IfOk};
+ghost use Rattle.std.specs.Prelude.{◌≡◌, ◌-◌, ◌<◌, ◌≤◌, ◌^◌, true, [], length, string_bytes, IfOk, IsTrue};
 ghost use Rattle.std.proofs.Props.{props};
 ghost use Rattle.xsmp_properties.specs.Tables.{IsTableFull};
 ghost use Rattle.client_machine.specs.Saves.{IsLawful};
 ghost use Rattle.sm_world.specs.Disk.{has_failed, UsesDisk};
 ghost use Rattle.state_saver.specs.Plans.{IsPlan, copy_path as path_of_copy};
-ghost use Rattle.state_saver.specs.Saving.{Answers, CopiesTo, Tried, shelf};
+ghost use Rattle.state_saver.specs.Saving.{Answers, CopiesTo, Tried, is_name as is_name_spec, shelf};
 
 use crate::files::Files;
 use crate::plan::SavePlan;
@@ -28,6 +28,14 @@ pub struct Saver<'a, F: Files> {
     /// The number of the last copy.
     number: u32,
     ghost fits: { IsPlan plan } by { Prim.hlevel props },
+}
+
+/// Whether a command can name this ID: it has 1 to 512 bytes and no NUL.
+fn is_name(id: &[u8]) -> bool
+    ensures exact { result ≡ is_name_spec id.now }
+    ensures short { IsTrue result → length id.now ≤ 512 }
+{
+    !id.is_empty() && id.len() <= NAME_LIMIT && !id.contains(&0)
 }
 
 /// The path of the copy with this number: that of the plan's state, a dot and the number.
@@ -107,6 +115,7 @@ impl<'a, F: Files> Saver<'a, F> {
     /// Makes the copy with the next number, and says how the program is started again with it.
     fn save_next(&mut self, id: &[u8]) -> Result<SaveAnswer, NoMemory>
         requires room { self.old.number < 2 ^ 32 - 1 }
+        requires name { is_name_spec id.now ≡ true }
         requires short { length id.now ≤ 512 }
         ensures tried { Tried result self.old.plan id.now
             (shelf self.old.number (F.outside self.old.files.now))
@@ -143,7 +152,7 @@ impl<'a, F: Files> Saver<'a, F> {
         ensures plan { self.new.plan ≡ self.old.plan }
         ensures files { self.new.files.ghost_name ≡ self.old.files.ghost_name }
     {
-        if self.number == u32::MAX || id.len() > NAME_LIMIT {
+        if self.number == u32::MAX || !is_name(id) {
             return Ok(bare_answer(self.alloc, Step::Done(false)));
         }
         self.save_next(id)
