@@ -35,8 +35,16 @@ fn words_with(
 ) -> Result<Vec<String>, NoMemory> {
     let number = from.to_string(alloc)?;
     let mut words = Vec::new(alloc);
-    add(alloc, &mut words, &["--socket", choices.socket, "--authority", choices.authority])?;
-    add(alloc, &mut words, &["--state", state, "--from", number.as_str()])?;
+    add(
+        alloc,
+        &mut words,
+        &["--socket", choices.socket, "--authority", choices.authority],
+    )?;
+    add(
+        alloc,
+        &mut words,
+        &["--state", state, "--from", number.as_str()],
+    )?;
     if !choices.id.is_empty() {
         add(alloc, &mut words, &["--id", choices.id])?;
     }

@@ -3,6 +3,7 @@ use Rattle.std.specs.Prelude.{◌≡◌, ◌⊎◌, ◌+◌, ◌-◌, ◌^◌, �
 use Rattle.std.specs.List.{list_any}
 use Rattle.sm_world.specs.Disk.{UsesDisk}
 use Rattle.sm_world.specs.Outside.{Outside, Rose, adds}
+use Rattle.sm_world.specs.declared.effects.Effect.{Effect}
 use Rattle.sm_world.specs.declared.effects.Effect.TheVariants.{Published}
 use Rattle.sm_world.specs.declared.failures.Failure.{Failure}
 use Rattle.owned_lists.specs.declared.failures.NoMemory.{NoMemory}
@@ -11,7 +12,7 @@ use Rattle.client_machine.specs.declared.saves.Stage.{Stage}
 use Rattle.client_machine.specs.declared.saves.Stage.TheVariants.{First, Second, Talking, TalkingTwo}
 use Rattle.client_machine.specs.declared.saves.Step.TheVariants.{Done, Talked}
 use Rattle.named_joiner.specs.declared.callbacks.NamedAsk.{NamedAsk}
-use Rattle.state_saver.specs.Files.{Holds}
+use Rattle.state_saver.specs.Files.{Fetched, Holds, fetches}
 use Rattle.state_saver.specs.Plans.{copy_path, own_properties}
 use Rattle.state_saver.specs.declared.plan.SavePlan.{SavePlan}
 
@@ -70,6 +71,25 @@ pub record Refuses (id : List ℕ) (old new : Shelf) (answer : SaveAnswer) : Typ
   pub at_end : IsAtEnd old.number id
   pub same : new ≡ old
   pub says : answer ≡ gives_up
+
+-- what is told of files: what was fetched, and the effects
+pub record Trail : Type 0 where
+  pub fetched : Fetched
+  pub effects : Option (List Effect)
+
+abbrev pub trail : Fetched → Outside → Trail
+trail fetched outside = record { fetched = fetched; effects = outside.told }
+
+-- The state was fetched, and what that gave was published at this path: whoever else writes the file.
+pub record PassesOn (state path : List ℕ) (old new : Trail) : Type 0 where
+  pub bytes : List ℕ
+  pub fetched : new.fetched ≡ fetches old.fetched state (Ok bytes)
+  pub published : new.effects ≡ adds old.effects (Published path bytes ∷ [])
+
+-- A save that succeeded passed on what it fetched, under its number.
+abbrev pub PassesOnAt : Result SaveAnswer NoMemory → SavePlan → ℕ → Trail → Trail → Type 0
+PassesOnAt (Ok answer) plan number old new = answer.step ≡ Done true → PassesOn plan.state (copy_path plan.state number) old new
+PassesOnAt (Err e) plan number old new = Unit {0}
 
 -- Nothing is done while the client talks to the user.
 pub record Talks (old new : Shelf) (answer : SaveAnswer) : Type 0 where

@@ -1,10 +1,10 @@
-ghost use Rattle.std.specs.Prelude.{◌≡◌, ◌-◌, ◌<◌, ◌≤◌, ◌^◌, true, [], length, string_bytes, IfOk, IsTrue};
+ghost use Rattle.std.specs.Prelude.{◌≡◌, ◌-◌, ◌<◌, ◌≤◌, ◌^◌, true, [], length, string_bytes, IfOk, IsTrue, OnOk};
 ghost use Rattle.std.proofs.Props.{props};
 ghost use Rattle.xsmp_properties.specs.Tables.{IsTableFull};
 ghost use Rattle.client_machine.specs.Saves.{IsLawful};
 ghost use Rattle.sm_world.specs.Disk.{has_failed, UsesDisk};
 ghost use Rattle.state_saver.specs.Plans.{IsPlan, copy_path as path_of_copy};
-ghost use Rattle.state_saver.specs.Saving.{Answers, CopiesTo, Tried, is_name as is_name_spec, shelf};
+ghost use Rattle.state_saver.specs.Saving.{Answers, CopiesTo, PassesOn, PassesOnAt, Tried, is_name as is_name_spec, shelf, trail};
 
 use crate::files::Files;
 use crate::plan::SavePlan;
@@ -100,6 +100,9 @@ impl<'a, F: Files> Saver<'a, F> {
     fn copy_to(&mut self, path: &str) -> Result<(), Failure>
         ensures copies { CopiesTo self.old.plan.state path.now (F.outside self.old.files.now)
             (F.outside self.new.files.now) result }
+        ensures passes { OnOk result (PassesOn self.old.plan.state path.now
+            (trail (F.fetched self.old.files.now) (F.outside self.old.files.now))
+            (trail (F.fetched self.new.files.now) (F.outside self.new.files.now))) }
         ensures uses { UsesDisk (F.outside self.old.files.now) (F.outside self.new.files.now) (has_failed result) }
         ensures number { self.new.number ≡ self.old.number }
         ensures plan { self.new.plan ≡ self.old.plan }
@@ -120,6 +123,9 @@ impl<'a, F: Files> Saver<'a, F> {
         ensures tried { Tried result self.old.plan id.now
             (shelf self.old.number (F.outside self.old.files.now))
             (shelf self.new.number (F.outside self.new.files.now)) }
+        ensures passes { PassesOnAt result self.old.plan self.new.number
+            (trail (F.fetched self.old.files.now) (F.outside self.old.files.now))
+            (trail (F.fetched self.new.files.now) (F.outside self.new.files.now)) }
         ensures few { IfOk result (λ answer. ¬ (IsTableFull answer.set)) }
         ensures plan { self.new.plan ≡ self.old.plan }
         ensures files { self.new.files.ghost_name ≡ self.old.files.ghost_name }
@@ -148,6 +154,9 @@ impl<'a, F: Files> Saver<'a, F> {
         ensures tried { Tried result self.old.plan id.now
             (shelf self.old.number (F.outside self.old.files.now))
             (shelf self.new.number (F.outside self.new.files.now)) }
+        ensures passes { PassesOnAt result self.old.plan self.new.number
+            (trail (F.fetched self.old.files.now) (F.outside self.old.files.now))
+            (trail (F.fetched self.new.files.now) (F.outside self.new.files.now)) }
         ensures few { IfOk result (λ answer. ¬ (IsTableFull answer.set)) }
         ensures plan { self.new.plan ≡ self.old.plan }
         ensures files { self.new.files.ghost_name ≡ self.old.files.ghost_name }
@@ -163,6 +172,9 @@ impl<'a, F: Files> Saver<'a, F> {
         ensures answers { Answers result self.old.plan ask
             (shelf self.old.number (F.outside self.old.files.now))
             (shelf self.new.number (F.outside self.new.files.now)) }
+        ensures passes { PassesOnAt result self.old.plan self.new.number
+            (trail (F.fetched self.old.files.now) (F.outside self.old.files.now))
+            (trail (F.fetched self.new.files.now) (F.outside self.new.files.now)) }
         ensures lawful { IfOk result (IsLawful ask.ask) }
         ensures plan { self.new.plan ≡ self.old.plan }
         ensures files { self.new.files.ghost_name ≡ self.old.files.ghost_name }

@@ -41,12 +41,20 @@ pub fn keep(rt: HostRuntime, path: &str) -> io::Result<String> {
     }
 }
 
+/// Whether a name is this front and a time behind it, and so none that a user gave.
+fn is_kept(name: &str, front: &str) -> bool {
+    match name.strip_prefix(front) {
+        Some(time) => time.parse::<Timestamp>().is_ok(),
+        None => false,
+    }
+}
+
 /// The names of a file that are kept, the oldest first.
 fn kept_names(rt: HostRuntime, path: &str) -> io::Result<Vec<String>> {
     let front = format!(in rt.alloc(); "{}{MARK}", name_of(path))?;
     let mut kept = Vec::new(rt.alloc());
     for name in names_beside(rt, path)? {
-        if name.as_str().starts_with(front.as_str()) {
+        if is_kept(name.as_str(), front.as_str()) {
             kept.push(name)?;
         }
     }

@@ -37,7 +37,9 @@ pub struct WrappedFiles {
     state: String,
     /// The copy that was made so that a run can begin with it, and that no session names.
     made: Option<String>,
-    /// Whether it was told what it means that a save failed.
+    /// Whether there is a copy with which a next run can begin.
+    has_copy: bool,
+    /// Whether it was told what it means that saves fail, since one last succeeded.
     is_warned: bool,
     disk: u64,
     starts: u64,
@@ -53,6 +55,7 @@ impl WrappedFiles {
             mode: PRIVATE,
             state: String::new(rt.alloc()),
             made: None,
+            has_copy: false,
             is_warned: false,
             disk: 0,
             starts: 0,
@@ -83,14 +86,18 @@ impl WrappedFiles {
     fn say_made(&self, from: u32) {
         if from > 0 {
             let state = self.state.as_str();
-            let _ = eprintln!(self.rt; "smwrap: {state}.{from} is gone: the program begins with {state} as it is");
+            let _ = eprintln!(self.rt;
+                "smwrap: {state}.{from} is gone: the program begins with {state} as it is"
+            );
         }
     }
 
     /// Tells that there is nothing to begin with.
     fn say_anew(&self, from: u32) {
         let state = self.state.as_str();
-        let _ = eprintln!(self.rt; "smwrap: there is neither {state}.{from} nor a file that can be copied: the program begins without");
+        let _ = eprintln!(self.rt;
+            "smwrap: there is neither {state}.{from} nor a file that can be copied: the program begins without"
+        );
     }
 
     /// Makes the copy with which a run begins, where there has to be another one.
@@ -118,13 +125,16 @@ impl WrappedFiles {
         }
     }
 
-    /// Finds out with which copy a run begins that was asked to begin with this one, and makes it where that is needed. The answer
-    /// is its number. Where that can't be done the run begins as it was asked to.
+    /// Finds out with which copy a run begins that was asked to begin with this one, and makes it where that
+    /// is needed. The answer is its number. Where that can't be done the run begins as it was asked to.
     pub fn begin(&mut self, state: &str, from: u32) -> u32 {
+        self.has_copy = from > 0;
         match self.try_begin(state, from) {
             Ok(number) => number,
             Err(error) => {
-                let _ = eprintln!(self.rt; "smwrap: cannot look after the copies of {state}: {error}");
+                let _ = eprintln!(self.rt;
+                    "smwrap: cannot look after the copies of {state}: {error}"
+                );
                 from
             }
         }
@@ -141,7 +151,9 @@ impl WrappedFiles {
         let state = self.state.as_str();
         if has_other(self.rt, state, bytes) {
             let kept = keep(self.rt, state)?;
-            let _ = eprintln!(self.rt; "smwrap: {state} was not what was saved last: it is kept as {kept}");
+            let _ = eprintln!(self.rt;
+                "smwrap: {state} was not what was saved last: it is kept as {kept}"
+            );
             let _ = forget_old(self.rt, state);
         }
         replace(self.rt, state, bytes, Some(self.mode))
@@ -157,10 +169,26 @@ impl WrappedFiles {
         if let Some(made) = self.made.take() {
             let _ = fs::remove_file(&self.rt, made.as_str());
         }
+        self.has_copy = true;
+        self.is_warned = false;
         Ok(())
     }
 
-    /// Tells once, in a save, what its failure means.
+    /// Tells what it means for the next login that a save failed.
+    fn say_unsaved(&self) {
+        let state = self.state.as_str();
+        if self.has_copy {
+            let _ = eprintln!(self.rt;
+                "smwrap: the next login begins with what was saved before, and keeps beside it what {state} has then"
+            );
+        } else {
+            let _ = eprintln!(self.rt;
+                "smwrap: nothing was saved yet: the next login doesn't start the program, and {state} stays as it is"
+            );
+        }
+    }
+
+    /// The same once, where saves fail one after another. Before the program is started nothing is saved.
     fn warn(&mut self)
         ensures console { self.new.console ≡ self.old.console }
         ensures disk { self.new.disk ≡ self.old.disk }
@@ -168,8 +196,7 @@ impl WrappedFiles {
     {
         if self.child.is_some() && !self.is_warned {
             self.is_warned = true;
-            let state = self.state.as_str();
-            let _ = eprintln!(self.rt; "smwrap: the next login begins with what was saved before, and keeps beside it what {state} has then");
+            self.say_unsaved();
         }
     }
 
@@ -185,6 +212,10 @@ impl Told for WrappedFiles {
 }
 
 impl Files for WrappedFiles {
+    ghost use Rattle.std.specs.Prelude.{None};
+
+    ghost fetched = { λ files. None };
+
     fn fetch(&mut self, path: &str) -> Result<Octets, Failure> {
         match read_whole(self.rt, path) {
             Ok(found) => {

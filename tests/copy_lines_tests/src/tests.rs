@@ -5,7 +5,10 @@ use std::test::Fail;
 fn a_copy_has_a_number_behind_a_dot(rt: HostRuntime) -> Result<(), Fail> {
     let alloc = rt.alloc();
     assert_eq!(rt; copy_number(alloc, "text", "text.1")?, Some(1));
-    assert_eq!(rt; copy_number(alloc, "text", "text.4294967295")?, Some(u32::MAX));
+    assert_eq!(rt;
+        copy_number(alloc, "text", "text.4294967295")?,
+        Some(u32::MAX)
+    );
     assert_eq!(rt; copy_number(alloc, "text", "text.4294967296")?, None);
     assert_eq!(rt; copy_number(alloc, "text", "text.0")?, None);
     assert_eq!(rt; copy_number(alloc, "text", "text.01")?, None);
