@@ -1,4 +1,4 @@
-use Rattle.std.proofs.Common.{◌≡◌, map, string_bytes, take}
+use Rattle.std.proofs.Common.{map, string_bytes, take}
 use Rattle.copy_lines.specs.Numbers.{IsHighest}
 use Rattle.copy_lines.proofs.numbers.highest_copy.Given as goal
 
