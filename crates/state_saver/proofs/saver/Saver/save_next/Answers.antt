@@ -1,9 +1,8 @@
 use Rattle.std.proofs.Common.{◌+◌, List, refl, rules, subst, sym}
-use Rattle.client_machine.specs.declared.saves.Step.TheVariants.{Done}
 use Rattle.ice_values.specs.declared.property.Property.{Property}
 use Rattle.xsmp_properties.specs.Tables.{IsTableFull}
 use Rattle.state_saver.proofs.PlanLaws.{own_few}
-use Rattle.state_saver.proofs.SaveLaws.{passes_at, passes_none, tried_starved, uses_none}
+use Rattle.state_saver.proofs.SaveLaws.{tried_starved, uses_none}
 use Rattle.state_saver.proofs.saver.Saver.save_next.Goals as goal
 
 pub returns-in-Err-clause-tried : goal.returns-in-Err-clause-tried
