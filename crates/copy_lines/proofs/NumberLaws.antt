@@ -39,8 +39,9 @@ none_lie name = record { above = λ n lies. absurd (omega (arith, lies.among.1))
 lies_push : (name : List ℕ) (seen : List (List ℕ)) (entry : List ℕ) (h n : ℕ) → IsHighest name seen h → (next : ℕ) → h ≤ next → (IsCopy name entry n → n ≤ next) → Lies name (seen ++ entry ∷ []) n → n ≤ next
 lies_push name seen entry h n highest next more here lies =
     elim (Contains-push_cases seen entry lies.entry lies.among) [
-      inl among ↦ omega (arith, more, highest.above n (record { entry = lies.entry; among = among; copy = lies.copy }))
-    | inr is ↦ here (subst (λ (e : List ℕ). IsCopy name e n) (sym is) lies.copy) ]
+      | inl among ↦ omega (arith, more, highest.above n (record { entry = lies.entry; among = among; copy = lies.copy }))
+      | inr is ↦ here (subst (λ (e : List ℕ). IsCopy name e n) (sym is) lies.copy)
+    ]
 
 still_one : (name : List ℕ) (seen : List (List ℕ)) (entry : List ℕ) (h : ℕ) → (h ≡ 0) ⊎ Lies name seen h → (h ≡ 0) ⊎ Lies name (seen ++ entry ∷ []) h
 still_one name seen entry h (inl none) = inl none

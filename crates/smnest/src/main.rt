@@ -87,7 +87,11 @@ fn options_with(rt: HostRuntime, last_wait: &str) -> Result<Option<LinkOptions>,
         words.push("--private".to_string(alloc)?)?;
     }
     let options = LinkOptions::take(&mut words)?;
-    Ok(if words.len() == 1 { Some(options) } else { None })
+    Ok(if words.len() == 1 {
+        Some(options)
+    } else {
+        None
+    })
 }
 
 /// What smd is told of its links by words, from the environment, where a command that starts smnest again finds it.
