@@ -2,8 +2,8 @@
 """A program of a session that ends with its display, as programs on Xlib do:
     resident.py FOLDER NAME
 In the folder it keeps its ID (NAME.id), notes what it is told and how it came (NAME.log), and writes what it found at its
-start (NAME.found). While NAME.mute is there it answers no save, and while NAME.talks is there it talks with its user in the
-save of a logout.
+start (NAME.found). While NAME.mute is there it answers no save, while NAME.talks is there it talks with its user in the save of
+a logout, and while NAME.stays is there it stays when it is told to die.
 """
 import os
 import selectors
@@ -75,6 +75,8 @@ class Resident:
             self.note("cancelled")
         elif minor == xsmp.DIE:
             self.note("told to die")
+            if os.path.exists(self.file("stays")):
+                return True
             self.client.close()
             return False
         return True

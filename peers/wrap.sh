@@ -36,6 +36,15 @@ has_mode() { [ "$(stat -c %a "$wrapped/$1")" = "$2" ]; }
 
 has_no() { [ ! -e "$wrapped/$1" ]; }
 
+# keeps NAME TEXT: whether this text was kept beside the file before another was put over it.
+keeps() { grep -qsxF "$2" "$wrapped/$1".kept-*; }
+
+# keeps_three NAME: whether the last three are kept, and no more.
+keeps_three() { [ "$(find "$wrapped" -name "$1.kept-*" | wc -l)" -eq 3 ]; }
+
+# tells TEXT: whether smwrap said so.
+tells() { grep -qF "$1" "$wrapped/said"; }
+
 # The words of the first login: the place of the manager, the state, and the editor.
 first_words() {
   echo --socket "$wrapped/socket" --authority "$wrapped/authority" --state "$wrapped/text" --from 0 -- "$wrapped/edit"
@@ -89,6 +98,7 @@ editor_comes_back() {
   check "with the last text under $1" within 30 shows "one $first_text"
   check "which is its file under $1" reads text "one $first_text"
   check "which has its mode under $1" has_mode text 640
+  check "what it was put over is kept under $1" keeps text spoiled
   keys kill-server
 }
 
@@ -122,6 +132,80 @@ long_state() {
   check "a checkpoint of a long state begins" answers ok checkpoint
   check "a long state is told" within 20 grep -q "cannot use $wrapped/text: it has more than 65536 bytes" "$wrapped/said"
   check "and its last copy stays" cmp -s "$wrapped/kept" "$wrapped/text.3"
+}
+
+# ---- copies, without a program
+
+# wraps WORD..: joins for a program that does nothing, in the folder of the copies.
+wraps() {
+  (cd "$wrapped" && exec smwrap --socket "$wrapped/socket" --authority "$wrapped/authority" "$@" -- true) < /dev/null >> "$wrapped/out" 2>&1 &
+}
+
+# put NAME TEXT: another file with this text has the name then, so that names that were linked to it stay what they were.
+put() { echo "$2" > "$wrapped/.put" && mv "$wrapped/.put" "$wrapped/$1"; }
+
+is() { [ "$(cat "$wrapped/$1" 2> /dev/null)" = "$2" ]; }
+
+# copies_anew FOLDER: a text, and smd.
+copies_anew() {
+  wrapped=$1
+  mkdir -p "$wrapped"
+  put text monday
+  name_program smwrap :
+  check "smd starts for copies in $2" start_smd "$wrapped"
+}
+
+# A text that grows beyond what is copied: the next login begins with what was saved, and the text stays beside it.
+text_that_grows() {
+  copies_anew "$room/grows" "a text that grows"
+  wraps --state "$wrapped/text" --from 0
+  check "a text is saved" within 30 is text.1 monday
+  head -c 70021 /dev/zero | tr '\0' x > "$wrapped/text"
+  check "a checkpoint of a text that grew" answers ok checkpoint
+  check "tells that it isn't saved" within 20 tells "cannot use $wrapped/text: it has more than 65536 bytes"
+  check "and what that means, once" within 20 has_lines 1 "smwrap: the next login begins with what was saved before" "$wrapped/said"
+  check "its session ends" logs_out
+  check "the next login begins" start_smd "$wrapped"
+  check "with what was saved" within 30 is text monday
+  check "and the text that grew is kept" [ "$(cat "$wrapped"/text.kept-* | wc -c)" -eq 70021 ]
+  check "which is told" tells "$wrapped/text was not what was saved last: it is kept as $wrapped/text.kept-"
+  check "this session ends too" logs_out
+  for day in tuesday wednesday thursday; do
+    put text "$day"
+    check "the login of $day begins" start_smd "$wrapped"
+    check "with what was saved before $day" within 30 is text monday
+    check "the session of $day ends" logs_out
+  done
+  check "the last three texts are kept" keeps_three text
+  check "among them the newest" keeps text thursday
+}
+
+# Two lines of copies of one file, as two sessions have them.
+lines_of_copies() {
+  copies_anew "$room/lines" "two lines"
+  wraps --state text --from 0
+  check "the first line saves" within 30 is text.1 monday
+  put text tuesday
+  wraps --state text --from 0
+  check "the second line saves behind it" within 30 is text.3 tuesday
+  check "what it began with is gone" within 20 has_no text.2
+  check "the first line's copy stays" is text.1 monday
+  put text.2 somebody
+  check "a checkpoint of both lines" answers ok checkpoint
+  check "saves the second one" within 30 is text.4 tuesday
+  check "and leaves the place that is taken as it is" is text.2 somebody
+  check "which is told" within 20 tells "cannot use $wrapped/text.2: "
+  check "the session of both ends" logs_out
+  rm -f "$wrapped"/text.[13-9]
+  check "a login without the copies begins" start_smd "$wrapped"
+  check "both are there" within 30 stands 2 2 2
+  check "and it is told with what they begin" tells " is gone: the program begins with $wrapped/text as it is"
+  check "their session ends" logs_out
+  rm -f "$wrapped"/text*
+  check "a login without any file begins" start_smd "$wrapped"
+  check "both are there again" within 30 stands 2 2 3
+  check "and begin without one" tells "a file that can be copied: the program begins without"
+  check "their last session ends" logs_out
 }
 
 # ---- a manager on libSM
@@ -238,8 +322,17 @@ wrapped_by_xsm() {
   PATH=$old_path
 }
 
+copies_of_files() {
+  local old_path=$PATH
+  text_that_grows
+  PATH=$old_path
+  lines_of_copies
+  PATH=$old_path
+}
+
 wrapped_programs() {
   wrapped_by_smd
+  copies_of_files
   wrapped_by_libsm
   wrapped_by_xsm
 }

@@ -8,10 +8,10 @@ use Rattle.byte_relay.specs.Relaying.{Breaks, Passed, passed_by, passed, passes}
 use Rattle.byte_relay.specs.Respelling.{respelled}
 use Rattle.heard_events.specs.Brought.{IsPrefix}
 
-abbrev given : Passed → List (Option (List ℕ))
+abbrev pub given : Passed → List (Option (List ℕ))
 given p = map Some p.messages
 
-by_test : (order : Bool) (spelled : Option (List ℕ)) (later : Passed) (rest : List (Option (List ℕ))) → IsPrefix (given later) rest → IsPrefix (given (passed_by (if order then Breaks else passes spelled) later)) (spelled ∷ rest)
+pub by_test : (order : Bool) (spelled : Option (List ℕ)) (later : Passed) (rest : List (Option (List ℕ))) → IsPrefix (given later) rest → IsPrefix (given (passed_by (if order then Breaks else passes spelled) later)) (spelled ∷ rest)
 by_test true spelled later rest front = (spelled ∷ rest, refl)
 by_test false (Some bytes) later rest front = (front.0, ap (λ (xs : List (Option (List ℕ))). Some bytes ∷ xs) front.1)
 by_test false None later rest front = (None ∷ rest, refl)

@@ -8,4 +8,5 @@ pub mod Shown
 pub mod Stepping
 pub mod Running
 pub mod InOrder
+pub mod OneSide
 pub mod Stating

@@ -4,4 +4,5 @@ pub mod Orders
 pub mod Relaying
 pub mod Rows
 pub mod Serving
+pub mod Sides
 pub mod Steps

@@ -10,6 +10,7 @@ ghost use Rattle.byte_relay.specs.Orders.{is_byte_order};
 ghost use Rattle.byte_relay.specs.Relaying.{passed};
 ghost use Rattle.heard_events.specs.Brought.{IsPrefix};
 ghost use Rattle.byte_relay.specs.Respelling.{respelled, IsUnspelled, ReadsTurned};
+ghost use Rattle.byte_relay.specs.Sides.{OneSideGetsTheOther};
 
 /// Does nothing: its contract is a law of `respell`. What was respelled is read in its own order as what
 /// the frame said, and it is as long as the frame.
@@ -42,4 +43,10 @@ pub fn messages_are_passed_on_in_their_order()
 pub fn byte_orders_are_told_by_their_bytes()
     ensures { (e : AnyEndian) (frame : List ℕ) → IsFrame e frame → IsBytes frame →
         IsTrue (is_byte_order e frame) ↔ ((order : AnyEndian) × Spells e (ByteOrder order) frame) }
+{}
+
+/// Does nothing: its contract is a law of `serve_relay`. From where a pair is open on, what its one side
+/// gets is a front of the messages that come from the other, in their order, each once and spelled anew.
+pub fn one_side_gets_what_comes_from_the_other()
+    ensures { OneSideGetsTheOther }
 {}

@@ -53,7 +53,7 @@ pub same_patience : (named : Option (List ℕ)) (one two : ℕ) → IsPatienceOf
 same_patience None one two first second = first ∙ sym second
 same_patience (Some word) one two first second = decimal_injective one two first.0.small second.0.small (sym first.1 ∙ second.1)
 
-same_session : (named : Option (List ℕ)) (one two : List ℕ) → IsSessionOf named one → IsSessionOf named two → one ≡ two
+pub same_session : (named : Option (List ℕ)) (one two : List ℕ) → IsSessionOf named one → IsSessionOf named two → one ≡ two
 same_session None one two first second = first ∙ sym second
 same_session (Some word) one two first second = sym first.1 ∙ second.1
 

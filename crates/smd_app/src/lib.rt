@@ -20,4 +20,4 @@ pub use program::smd_main;
 pub use rehearsal::Rehearsal;
 pub use serving::{announce, config_for, hand_out};
 pub use trace::trace_text;
-pub use words::{Paths, paths_of, patience_of, read_paths, read_patience};
+pub use words::{Paths, paths_of, patience_of, read_paths, read_patience, session_of};

@@ -72,7 +72,7 @@ pub fn patience_of(alloc: Global, words: &[String]) -> Result<Option<u64>, NoMem
 }
 
 /// The session that the words name, or `default` where they name none.
-fn session_of(words: &[String]) -> Option<&str>
+pub fn session_of(words: &[String]) -> Option<&str>
     ensures { MatchOption result ((session : List ℕ) →
         ¬ (IsSessionOf (option_in (map string_bytes words.now) (codes "--session")) session))
         (λ session. IsSessionOf (option_in (map string_bytes words.now) (codes "--session"))

@@ -8,14 +8,15 @@ use program_texts::SMNEST;
 use sm_world::Console;
 use smd_app::Identity;
 use smnest_app::{NestPaths, read_places, smnest_main};
-use std::io;
 use std::io::ErrorKind;
 use std::process::ExitCode;
+use std::{env, io};
+use unix_links::LinkOptions;
 
 const TEXTS: OwnTexts = OwnTexts {
     help: "smnest, a session manager inside a session\n\n\
         usage: smnest serve --socket P --control C --store F --authority A [--patience MS]\n\
-        \x20                 --outer X --outer-authority Y [--outer-id ID]\n\
+        \x20                 [--session NAME] --outer X --outer-authority Y [--outer-id ID]\n\
         \x20                          runs a session that is one client of another\n\
         \x20         --outer X            the socket of the other one's manager\n\
         \x20         --outer-authority Y  the file that has the cookie for it\n\
@@ -27,7 +28,8 @@ const TEXTS: OwnTexts = OwnTexts {
         \x20                          as: smnest rehearse < examples/nested.script\n\
         \x20      smnest --help       shows this\n\
         \x20      smnest --version    shows the version\n\n\
-        The other options are those of smd serve.\n",
+        The other options are those of smd serve. As its private door and its last wait\n\
+        count the variables SMD_PRIVATE and SMD_LAST_WAIT (10000 milliseconds without it).\n",
     version: SMNEST,
     no_memory: "smnest: no memory\n",
 };
@@ -63,6 +65,43 @@ fn no_memory(_error: NoMemory) -> io::Error {
     io::Error::from(ErrorKind::OutOfMemory)
 }
 
+/// For how many milliseconds a program may stay that was told to die, where nothing else is set.
+const LAST_WAIT: &str = "10000";
+
+/// The value of a variable of the environment, or an empty one.
+fn setting(rt: HostRuntime, name: &str) -> String {
+    match env::var(&rt, name) {
+        Ok(value) => value,
+        Err(_) => String::new(rt.alloc()),
+    }
+}
+
+/// What smd is told of its links by words, with this last wait; none where that is no number.
+fn options_with(rt: HostRuntime, last_wait: &str) -> Result<Option<LinkOptions>, NoMemory> {
+    let alloc = rt.alloc();
+    let mut words = Vec::new(alloc);
+    words.push("serve".to_string(alloc)?)?;
+    words.push("--last-wait".to_string(alloc)?)?;
+    words.push(last_wait.to_string(alloc)?)?;
+    if !setting(rt, "SMD_PRIVATE").is_empty() {
+        words.push("--private".to_string(alloc)?)?;
+    }
+    let options = LinkOptions::take(&mut words)?;
+    Ok(if words.len() == 1 {
+        Some(options)
+    } else {
+        None
+    })
+}
+
+/// What smd is told of its links by words, from the environment, where a command that starts smnest again finds it.
+fn link_options(rt: HostRuntime) -> Result<LinkOptions, NoMemory> {
+    if let Some(options) = options_with(rt, setting(rt, "SMD_LAST_WAIT").as_str())? {
+        return Ok(options);
+    }
+    Ok(options_with(rt, LAST_WAIT)?.unwrap_or(LinkOptions::new()))
+}
+
 /// The status of a run with these words on this desktop.
 fn run(rt: HostRuntime, words: &[String]) -> io::Result<u8> {
     let host = host_name(&rt)?;
@@ -75,7 +114,8 @@ fn run(rt: HostRuntime, words: &[String]) -> io::Result<u8> {
             return Ok(refused(rt, bad));
         }
     }
-    let mut world = DesktopWorld::new(rt, host);
+    let options = link_options(rt).map_err(no_memory)?;
+    let mut world = DesktopWorld::with_options(rt, host, options);
     let status = smnest_main(rt.alloc(), words, &mut world, identity, u64::MAX);
     world.close();
     Ok(status)

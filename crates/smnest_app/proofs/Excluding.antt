@@ -8,7 +8,7 @@ use Rattle.event_script.specs.declared.script.Taken.TheVariants.{All}
 use Rattle.word_pairs.specs.Words.{option_in, options_of}
 use Rattle.smnest_app.specs.Exclusions.{FitsOnce, WordsMeanOne}
 use Rattle.smnest_app.specs.Rehearsals.{ends_within}
-use Rattle.smd_app.proofs.Completing.{same_path, same_patience}
+use Rattle.smd_app.proofs.Completing.{same_path, same_patience, same_session}
 use Rattle.smnest_app.specs.Words.{AreServe, IsIdOf, NestPlaces, Rehearse, Serve}
 
 pub fits_once : (id : List ℕ) (words : List (List ℕ)) (bytes : List ℕ) (turns : ℕ) → FitsOnce id words bytes turns
@@ -41,7 +41,7 @@ same_places words one two first second =
     let outer : one.outer ≡ two.outer = same_path pairs (codes "--outer") _ _ first.outer second.outer in
     let outer_authority : one.authority ≡ two.authority = same_path pairs (codes "--outer-authority") _ _ first.outer_authority second.outer_authority in
     let id : one.id ≡ two.id = same_id (option_in words (codes "--outer-id")) _ _ first.id second.id in
-    let session : one.own.session ≡ two.own.session = first.session ∙ sym second.session in
+    let session : one.own.session ≡ two.own.session = same_session (option_in words (codes "--session")) _ _ first.session second.session in
     same_made one.own.socket one.own.control one.own.store one.own.authority one.outer one.authority one.id one.own.session two.own.socket two.own.control two.own.store two.own.authority two.outer two.authority two.id two.own.session one.own.patience two.own.patience
     socket control store authority patience session outer outer_authority id
 

@@ -2,12 +2,11 @@
 use Rattle.std.specs.Prelude.{◌≡◌, ◌==◌, ◌&&◌, ◌+◌, ℕ, Bool, true, not, nat_le, List, [], ◌∷◌, codes, drop, length, Option, None, Some}
 use Rattle.std.specs.List.{list_all}
 use Rattle.outer_agent.specs.Words.{AreFew}
-use Rattle.checkpoint_records.specs.Books.{default_name}
-use Rattle.smd_app.specs.Words.{HavePaths, IsPatienceOf, Places, places_of as own_places}
+use Rattle.smd_app.specs.Words.{HavePaths, IsPatienceOf, IsSessionOf, Places, places_of as own_places}
 use Rattle.word_pairs.specs.Words.{HasPath, option_in, options_of, words_taken}
 use Rattle.smnest_app.specs.declared.words.NestPaths.{NestPaths}
 
--- what the words of a session inside another name: the paths and the patience of the session itself, the outer manager's socket, the file with the outer cookie, and the ID of an earlier session, or an empty one
+-- what the words of a session inside another name: the paths, the patience and the name of the session itself, the outer manager's socket, the file with the outer cookie, and the ID of an earlier session, or an empty one
 pub record NestPlaces : Type 0 where
   pub own : Places
   pub outer : List ℕ
@@ -41,13 +40,12 @@ abbrev pub IsIdOf : Option (List ℕ) → List ℕ → Type 0
 IsIdOf None id = id ≡ []
 IsIdOf (Some word) id = (is_id word ≡ true) × (id ≡ word)
 
--- `serve`, and six to eight pairs of words behind it, in any order: one with each of six names, and one with that of the patience and one with that of the ID, where there are such. So each name stands once.
+-- `serve`, and six to nine pairs of words behind it, in any order: one with each of six names, and one with that of the patience, one with that of the session and one with that of the ID, where there are such. So each name stands once.
 pub record AreServe (words : List (List ℕ)) (places : NestPlaces) : Type 0 where
   pub begins : words ≡ codes "serve" ∷ drop 1 words
-  pub count : length words ≡ 13 + (words_taken (option_in words (codes "--patience")) + words_taken (option_in words (codes "--outer-id")))
+  pub count : length words ≡ 13 + (words_taken (option_in words (codes "--patience")) + (words_taken (option_in words (codes "--session")) + words_taken (option_in words (codes "--outer-id"))))
   pub own : HavePaths words places.own
-  -- the session itself is the one that is meant where none is named
-  pub session : places.own.session ≡ default_name
+  pub session : IsSessionOf (option_in words (codes "--session")) places.own.session
   pub outer : HasPath (options_of words) (codes "--outer") places.outer
   pub outer_authority : HasPath (options_of words) (codes "--outer-authority") places.authority
   pub patience : IsPatienceOf (option_in words (codes "--patience")) places.own.patience

@@ -5,7 +5,7 @@ ghost use Rattle.smd_app.specs.Words.{IsPatienceOf};
 ghost use Rattle.smnest_app.specs.Words.{AreRehearse, AreServe, IsIdOf, NestPlaces, is_id as is_id_spec, is_id_byte as is_id_byte_spec, places_of as places_by};
 
 use owned_lists::{NoMemory, Octets, OctetsList};
-use smd_app::{Paths, paths_of, patience_of};
+use smd_app::{Paths, paths_of, patience_of, session_of};
 use std::alloc::Global;
 use word_pairs::{begin_with, path_of, value_of, words_of_option};
 
@@ -15,7 +15,7 @@ const ID_LIMIT: usize = 512;
 /// What the words of a session inside another name.
 #[derive(Clone, Copy, Debug)]
 pub struct NestPaths<'a> {
-    /// The paths of the session itself, and its patience.
+    /// The paths of the session itself, its patience and its name.
     pub own: Paths<'a>,
     /// The outer manager's socket.
     pub outer: &'a str,
@@ -74,8 +74,9 @@ fn places_of(words: &[String], patience: u64) -> Option<NestPaths<'_>>
     requires begins { map string_bytes words.now ≡ codes "serve" ∷ drop 1
         (map string_bytes words.now) }
     requires count { length (map string_bytes words.now) ≡ 13 +
-        (words_taken (option_in (map string_bytes words.now) (codes "--patience")) + words_taken
-        (option_in (map string_bytes words.now) (codes "--outer-id"))) }
+        (words_taken (option_in (map string_bytes words.now) (codes "--patience")) +
+        (words_taken (option_in (map string_bytes words.now) (codes "--session")) + words_taken
+        (option_in (map string_bytes words.now) (codes "--outer-id")))) }
     requires patience { IsPatienceOf (option_in (map string_bytes words.now) (codes "--patience"))
         patience }
     ensures { MatchOption result
@@ -83,16 +84,16 @@ fn places_of(words: &[String], patience: u64) -> Option<NestPaths<'_>>
         (λ paths. AreServe (map string_bytes words.now) (places_by paths)) }
 {
     Some(NestPaths {
-        own: paths_of(words, patience, "default")?,
+        own: paths_of(words, patience, session_of(words)?)?,
         outer: path_of(words, "--outer")?,
         authority: path_of(words, "--outer-authority")?,
         id: id_of(words)?,
     })
 }
 
-/// What the words of a session inside another name, where they are `serve` and six to eight pairs in
-/// any order: one with the name of each path, and one with that of the patience and one with that of
-/// the ID, where there are such.
+/// What the words of a session inside another name, where they are `serve` and six to nine pairs in
+/// any order: one with the name of each path, and one with that of the patience, one with that of the
+/// session and one with that of the ID, where there are such.
 pub fn read_places(alloc: Global, words: &[String]) -> Result<Option<NestPaths<'_>>, NoMemory>
     ensures { IfOk result (λ found. MatchOption found
         ((places : NestPlaces) → ¬ (AreServe (map string_bytes words.now) places))
@@ -101,7 +102,8 @@ pub fn read_places(alloc: Global, words: &[String]) -> Result<Option<NestPaths<'
     if !begin_with(words, "serve") {
         return Ok(None);
     }
-    let options = words_of_option(words, "--patience") + words_of_option(words, "--outer-id");
+    let options = words_of_option(words, "--patience")
+        + (words_of_option(words, "--session") + words_of_option(words, "--outer-id"));
     if words.len() != 13 + options {
         return Ok(None);
     }

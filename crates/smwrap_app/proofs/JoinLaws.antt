@@ -64,6 +64,8 @@ module _ {S D : Type 0} (answers : S → NamedAsk → Option SaveAnswer → S �
               done = run.done;
               undone = run.undone;
               parts = run.parts;
+              waiting = run.waiting;
+              front = run.front;
               follows = asks;
               whole = run.whole;
               end = run.end;

@@ -231,6 +231,8 @@ run_since chosen cookie turns old mid new files_old files_new ending copies effe
         done = joins.done;
         undone = joins.undone;
         parts = joins.parts;
+        waiting = joins.waiting;
+        front = joins.front;
         follows = joins.follows;
         whole = joins.whole;
         end = joins.end;

@@ -202,6 +202,8 @@ module _ {S D : Type 0} (answers : S → NamedAsk → Option SaveAnswer → S �
             done = script_for amid.replies xs;
             undone = [];
             parts = append-nil (script_for amid.replies xs);
+            waiting = unsent;
+            front = amid.sent_are;
             follows = amid.follows;
             whole = whole;
             end = subst (λ (n : ℕ). IsEnd result (wrap_end cookie previous amid.replies xs) n turns unsent) (sym amid.counted) (subst (λ (e : Option Spending). IsEnd result e count turns unsent) at end);
@@ -220,6 +222,7 @@ module _ {S D : Type 0} (answers : S → NamedAsk → Option SaveAnswer → S �
       let same : stream es ≡ stream (es ++ ds) = sym (stream_more es [] ∙ append-nil (stream es)) in
       let all : sent es ≡ bytes_in (script_for rs (stream es)) = sym (append-nil (sent es)) ∙ amid.sent_are in
       let at : joining.stand.ending ≡ wrap_end cookie previous rs (stream es) = ap (λ (k : Keeper). k.ending) amid.runs.keeper in
+      let sent_are : sent (es ++ ds) ++ [] ≡ bytes_in (script_for rs (stream (es ++ ds))) = append-nil (sent (es ++ ds)) ∙ (sent_more es (received []) ∙ (all ∙ ap (λ (xs : List ℕ). bytes_in (script_for rs xs)) same)) in
       record {
         joins = record {
           effects = es ++ ds;
@@ -232,10 +235,12 @@ module _ {S D : Type 0} (answers : S → NamedAsk → Option SaveAnswer → S �
             in_turns = omega (arith, amid.counted, within);
             prompt = prompt_heard cookie previous rs rs es (received []) (λ zs ts are. refl) amid.prompt all;
             unsent = [];
-            sent_are = append-nil (sent (es ++ ds)) ∙ (sent_more es (received []) ∙ (all ∙ ap (λ (xs : List ℕ). bytes_in (script_for rs xs)) same));
+            sent_are = sent_are;
             done = script_for rs (stream (es ++ ds));
             undone = [];
             parts = append-nil (script_for rs (stream (es ++ ds)));
+            waiting = [];
+            front = sent_are;
             follows = subst (λ (xs : List ℕ). Follows answers gives (script_for rs xs) begin joining.callbacks) same amid.follows;
             whole = (refl, refl);
             end = (ap (wrap_end cookie previous rs) (sym same) ∙ (sym at ∙ going), omega (arith, amid.counted, within));
@@ -275,6 +280,8 @@ module _ {S D : Type 0} (answers : S → NamedAsk → Option SaveAnswer → S �
             done = script_for amid.replies xs ++ begins.done;
             undone = begins.left;
             parts = append_assoc (script_for amid.replies xs) begins.done begins.left ∙ (ap (λ (line : List Entry). script_for amid.replies xs ++ line) begins.parts ∙ sym script);
+            waiting = bytes_in begins.done;
+            front = ap (λ bs. bs ++ bytes_in begins.done) (sent_more es (received piece) ∙ all) ∙ sym (flat_map-append entry_bytes (script_for amid.replies xs) begins.done);
             follows = follows-append answers gives (script_for amid.replies xs) begins.done begin before.callbacks after.callbacks amid.follows begins.follows;
             whole = tt;
             end = tt;
@@ -306,6 +313,8 @@ module _ {S D : Type 0} (answers : S → NamedAsk → Option SaveAnswer → S �
         done = empty_script;
         undone = [];
         parts = append-nil empty_script;
+        waiting = bytes_in empty_script;
+        front = refl;
         follows = refl;
         whole = whole;
         end = end;

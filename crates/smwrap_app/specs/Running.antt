@@ -120,6 +120,9 @@ module _ {S D : Type 0} (answers : S → NamedAsk → Option SaveAnswer → S �
     pub done : List Entry
     pub undone : List Entry
     pub parts : done ++ undone ≡ wrap_script cookie previous replies (stream effects)
+    -- What was sent is a front of what is said of what was done, whatever the ending: the callback has answered before its answer is told.
+    pub waiting : List ℕ
+    pub front : sent effects ++ waiting ≡ bytes_in done
     pub follows : Follows answers gives done before after
     pub whole : IsWhole ending unsent undone
     pub end : IsEnd ending (wrap_end cookie previous replies (stream effects)) (length pieces) turns unsent

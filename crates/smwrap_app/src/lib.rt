@@ -10,3 +10,4 @@ mod words;
 
 pub use laws::{a_client_tells_what_it_answers, copies_are_apart};
 pub use program::smwrap_main;
+pub use words::{Choices, read_choices};

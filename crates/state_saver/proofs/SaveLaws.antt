@@ -1,6 +1,6 @@
 -- One call after another: what a save does to the files, and what it answers.
 use Rattle.std.proofs.Common.{◌≡◌, ◌⊎◌, inl, inr, ℕ, ◌+◌, ◌≤◌, Bool, true, false, List, [], ◌∷◌, Result, Ok, Err, refl, ◌∙◌, ap, arith}
-use Rattle.std.specs.Prelude.{IfOk}
+use Rattle.std.specs.Prelude.{IfOk, OnOk}
 use Rattle.sm_world.specs.Disk.{UsesDisk}
 use Rattle.sm_world.specs.Outside.{Outside, Rose, adds, on_ok}
 use Rattle.sm_world.specs.declared.effects.Effect.TheVariants.{Published}
@@ -14,8 +14,8 @@ use Rattle.client_machine.specs.declared.saves.Stage.{Stage}
 use Rattle.client_machine.specs.declared.saves.Stage.TheVariants.{First, Second, Talking, TalkingTwo}
 use Rattle.client_machine.specs.declared.saves.Step.TheVariants.{Done, Talked}
 use Rattle.named_joiner.specs.declared.callbacks.NamedAsk.{NamedAsk}
-use Rattle.state_saver.specs.Files.{Holds}
-use Rattle.state_saver.specs.Saving.{Answers, CopiesTo, Saves, Shelf, Tried, shelf, talks}
+use Rattle.state_saver.specs.Files.{Fetched, Holds, fetches}
+use Rattle.state_saver.specs.Saving.{Answers, CopiesTo, PassesOn, Saves, Shelf, Tried, shelf, talks, trail}
 use Rattle.state_saver.specs.declared.plan.SavePlan.{SavePlan}
 use Rattle.state_saver.proofs.PlanLaws.{none_few}
 
@@ -49,6 +49,11 @@ uses_then old mid new failed one two = record {
 pub copies_by : (result : Result (Unit {0}) Failure) (state path bytes : List ℕ) (old mid new : Outside) → Holds old state bytes → mid.told ≡ old.told → new.told ≡ adds mid.told (on_ok result (Published path bytes ∷ [])) → (adds mid.told [] ≡ mid.told) → CopiesTo state path old new result
 copies_by (Ok x) state path bytes old mid new holds same told none = (bytes, holds, told ∙ ap (λ t. adds t (Published path bytes ∷ [])) same)
 copies_by (Err e) state path bytes old mid new holds same told none = told ∙ (none ∙ same)
+
+-- what was fetched is what was published
+pub passes_by : (result : Result (Unit {0}) Failure) (state path bytes : List ℕ) (before between after : Fetched) (old mid new : Outside) → between ≡ fetches before state (Ok bytes) → after ≡ between → mid.told ≡ old.told → new.told ≡ adds mid.told (on_ok result (Published path bytes ∷ [])) → OnOk result (PassesOn state path (trail before old) (trail after new))
+passes_by (Ok x) state path bytes before between after old mid new fetched same kept published = record { bytes = bytes; fetched = same ∙ fetched; published = published ∙ ap (λ t. adds t (Published path bytes ∷ [])) kept }
+passes_by (Err e) state path bytes before between after old mid new fetched same kept published = tt
 
 pub tried_starved : (e : NoMemory) (plan : SavePlan) (id : List ℕ) (number : ℕ) (old new : Outside) → new.told ≡ old.told → UsesDisk old new false → Tried (Err e) plan id (shelf number old) (shelf (number + 1) new)
 tried_starved e plan id number old new same uses = (record { told = same; number = inr refl }, uses)

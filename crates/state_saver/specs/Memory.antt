@@ -3,7 +3,7 @@ use Rattle.std.specs.Prelude.{◌≡◌, ◌↔◌, ◌⊎◌, ℕ, Bool, false,
 use Rattle.sm_world.specs.Outside.{Outside}
 use Rattle.sm_world.specs.Calls.{Numbered, counted, counted_if}
 use Rattle.sm_world.specs.declared.failures.Faults.{Faults}
-use Rattle.state_saver.specs.Files.{file_now}
+use Rattle.state_saver.specs.Files.{Fetched, file_now}
 use Rattle.state_saver.specs.declared.memory.MemFiles.{MemFiles}
 
 -- They have no store and no events, and the input of the console is empty.
@@ -17,6 +17,9 @@ mem_outside world = record {
   input = Some [];
   files = Some world.files;
 }
+
+abbrev pub mem_fetched : MemFiles → Fetched
+mem_fetched world = Some world.fetched
 
 abbrev pub mem_calls : MemFiles → Numbered
 mem_calls world = world.calls

@@ -1,7 +1,9 @@
 -- What a save does to the files, and what it answers.
-use Rattle.std.specs.Prelude.{◌≡◌, ◌⊎◌, ◌+◌, ◌-◌, ◌^◌, ◌<◌, ◌≤◌, ℕ, false, true, List, [], ◌∷◌, length, Option, None, Some, Result, Ok, Err}
+use Rattle.std.specs.Prelude.{◌≡◌, ◌⊎◌, ◌+◌, ◌-◌, ◌^◌, ◌<◌, ◌==◌, ◌&&◌, ℕ, Bool, false, true, not, nat_le, List, [], ◌∷◌, length, Option, None, Some, Result, Ok, Err}
+use Rattle.std.specs.List.{list_any}
 use Rattle.sm_world.specs.Disk.{UsesDisk}
 use Rattle.sm_world.specs.Outside.{Outside, Rose, adds}
+use Rattle.sm_world.specs.declared.effects.Effect.{Effect}
 use Rattle.sm_world.specs.declared.effects.Effect.TheVariants.{Published}
 use Rattle.sm_world.specs.declared.failures.Failure.{Failure}
 use Rattle.owned_lists.specs.declared.failures.NoMemory.{NoMemory}
@@ -10,7 +12,7 @@ use Rattle.client_machine.specs.declared.saves.Stage.{Stage}
 use Rattle.client_machine.specs.declared.saves.Stage.TheVariants.{First, Second, Talking, TalkingTwo}
 use Rattle.client_machine.specs.declared.saves.Step.TheVariants.{Done, Talked}
 use Rattle.named_joiner.specs.declared.callbacks.NamedAsk.{NamedAsk}
-use Rattle.state_saver.specs.Files.{Holds}
+use Rattle.state_saver.specs.Files.{Fetched, Holds, fetches}
 use Rattle.state_saver.specs.Plans.{copy_path, own_properties}
 use Rattle.state_saver.specs.declared.plan.SavePlan.{SavePlan}
 
@@ -35,14 +37,18 @@ abbrev pub CopiesTo : List ℕ → List ℕ → Outside → Outside → Result (
 CopiesTo state path old new (Ok x) = (bytes : List ℕ) × Holds old state bytes × (new.told ≡ adds old.told (Published path bytes ∷ []))
 CopiesTo state path old new (Err e) = new.told ≡ old.told
 
--- There are no numbers left, or the ID is too long for a command.
-abbrev pub IsAtEnd : ℕ → List ℕ → Type 0
-IsAtEnd number id = (number ≡ 2 ^ 32 - 1) ⊎ (512 < length id)
+-- An ID that a command can name: 1 to 512 bytes without NUL.
+abbrev pub is_name : List ℕ → Bool
+is_name id = not (length id == 0) && (nat_le (length id) 512 && not (list_any (λ b. b == 0) id))
 
--- There is a number more, and the ID isn't too long.
+-- There are no numbers left, or no command can name the ID.
+abbrev pub IsAtEnd : ℕ → List ℕ → Type 0
+IsAtEnd number id = (number ≡ 2 ^ 32 - 1) ⊎ (is_name id ≡ false)
+
+-- There is a number more, and a command can name the ID.
 pub record IsNext (old new : ℕ) (id : List ℕ) : Type 0 where
   pub room : old < 2 ^ 32 - 1
-  pub short : length id ≤ 512
+  pub name : is_name id ≡ true
   pub raised : new ≡ old + 1
 
 -- What the state's file held was published under the new number, and the client says so.
@@ -65,6 +71,25 @@ pub record Refuses (id : List ℕ) (old new : Shelf) (answer : SaveAnswer) : Typ
   pub at_end : IsAtEnd old.number id
   pub same : new ≡ old
   pub says : answer ≡ gives_up
+
+-- what is told of files: what was fetched, and the effects
+pub record Trail : Type 0 where
+  pub fetched : Fetched
+  pub effects : Option (List Effect)
+
+abbrev pub trail : Fetched → Outside → Trail
+trail fetched outside = record { fetched = fetched; effects = outside.told }
+
+-- The state was fetched, and what that gave was published at this path: whoever else writes the file.
+pub record PassesOn (state path : List ℕ) (old new : Trail) : Type 0 where
+  pub bytes : List ℕ
+  pub fetched : new.fetched ≡ fetches old.fetched state (Ok bytes)
+  pub published : new.effects ≡ adds old.effects (Published path bytes ∷ [])
+
+-- A save that succeeded passed on what it fetched, under its number.
+abbrev pub PassesOnAt : Result SaveAnswer NoMemory → SavePlan → ℕ → Trail → Trail → Type 0
+PassesOnAt (Ok answer) plan number old new = answer.step ≡ Done true → PassesOn plan.state (copy_path plan.state number) old new
+PassesOnAt (Err e) plan number old new = Unit {0}
 
 -- Nothing is done while the client talks to the user.
 pub record Talks (old new : Shelf) (answer : SaveAnswer) : Type 0 where

@@ -16,6 +16,8 @@ pub struct MemFiles {
     effects: ListOf<Effect>,
     /// The paths and bytes of the files with which it began.
     files: PairList,
+    /// The paths and bytes that were fetched.
+    fetched: PairList,
     calls: Calls,
     faults: Faults,
 }
@@ -45,7 +47,7 @@ fn replaced<'a>(path: &[u8], before: Option<&'a Octets>, effect: &'a Effect) -> 
 }
 
 impl MemFiles {
-    ghost use Rattle.state_saver.specs.Memory.{fits, mem_outside, mem_calls};
+    ghost use Rattle.state_saver.specs.Memory.{fits, mem_outside, mem_calls, mem_fetched};
 
     /// Files with these paths and bytes, of which the first with a path is the one at it, and whose
     /// calls with the numbers in `failing` fail.
@@ -54,6 +56,7 @@ impl MemFiles {
         ensures faults { IfOk result (λ world. (mem_outside world).faults
             ≡ record { disk = 0; links = 0; spawner = 0; console = 0 }) }
         ensures files { IfOk result (λ world. (mem_outside world).files ≡ Some files) }
+        ensures fetched { IfOk result (λ world. mem_fetched world ≡ Some []) }
         ensures last { IfOk result (λ world. (mem_calls world).last ≡ 0) }
         ensures failing { IfOk result (λ world. (number : ℕ) →
             Contains (mem_calls world).failing number ↔ Contains failing number) }
@@ -62,6 +65,7 @@ impl MemFiles {
             alloc,
             effects: ListOf::new(alloc),
             files,
+            fetched: PairList::new(alloc),
             calls: Calls::new(failing),
             faults: Faults {
                 disk: 0,
@@ -77,6 +81,13 @@ impl MemFiles {
         ensures { Some result.now ≡ (mem_outside self.now).told }
     {
         self.effects.as_slice()
+    }
+
+    /// What was fetched so far.
+    pub fn fetched(&self) -> &[(Octets, Octets)]
+        ensures { Some result.now ≡ mem_fetched self.now }
+    {
+        self.fetched.as_slice()
     }
 
     /// A copy of these bytes for an effect.
@@ -202,22 +213,29 @@ impl Files for MemFiles {
     ghost use Rattle.sm_world.specs.Disk.{has_failed, UsesDisk};
     ghost use Rattle.sm_world.specs.Outside.{adds, on_ok};
     ghost use Rattle.sm_world.specs.declared.effects.Effect.TheVariants.{Published};
-    ghost use Rattle.state_saver.specs.Files.{Holds};
-    ghost use Rattle.state_saver.specs.Memory.{mem_outside, FailsByNumber, FailsToFetch};
+    ghost use Rattle.state_saver.specs.Files.{Holds, fetches};
+    ghost use Rattle.state_saver.specs.Memory.{mem_fetched, mem_outside, FailsByNumber, FailsToFetch};
+
+    ghost fetched = { mem_fetched };
 
     fn fetch(&mut self, path: &str) -> Result<Octets, Failure>
         ensures limit { IfOk result (λ bytes. length bytes ≤ 65536) }
         ensures bytes { IfOk result (Holds (mem_outside self.old) path.now) }
+        ensures fetched { mem_fetched self.new ≡ fetches (mem_fetched self.old) path.now result }
         ensures effects { (mem_outside self.new).told ≡ (mem_outside self.old).told }
         ensures size { (mem_outside self.new).size ≡ (mem_outside self.old).size }
         ensures uses { UsesDisk (mem_outside self.old) (mem_outside self.new) (has_failed result) }
         ensures numbered { FailsToFetch path.now self.old self.new (has_failed result) }
     {
         self.call_fetch(path.as_bytes())?;
-        Ok(self.copy_file(path.as_bytes())?)
+        let bytes = self.copy_file(path.as_bytes())?;
+        let told = (self.octets(path.as_bytes())?, bytes.copy()?);
+        self.fetched.push(told)?;
+        Ok(bytes)
     }
 
     fn publish(&mut self, path: &str, bytes: &[u8]) -> Result<(), Failure>
+        ensures fetched { mem_fetched self.new ≡ mem_fetched self.old }
         ensures effects { (mem_outside self.new).told
             ≡ adds (mem_outside self.old).told (on_ok result (Published path.now bytes.now ∷ [])) }
         ensures size { (mem_outside self.new).size ≡ (mem_outside self.old).size }

@@ -1,10 +1,10 @@
-ghost use Rattle.std.specs.Prelude.{◌≡◌, ◌-◌, ◌<◌, ◌≤◌, ◌^◌, [], length, string_bytes, IfOk};
+ghost use Rattle.std.specs.Prelude.{◌≡◌, ◌-◌, ◌<◌, ◌≤◌, ◌^◌, true, [], length, string_bytes, IfOk, IsTrue, OnOk};
 ghost use Rattle.std.proofs.Props.{props};
 ghost use Rattle.xsmp_properties.specs.Tables.{IsTableFull};
 ghost use Rattle.client_machine.specs.Saves.{IsLawful};
 ghost use Rattle.sm_world.specs.Disk.{has_failed, UsesDisk};
 ghost use Rattle.state_saver.specs.Plans.{IsPlan, copy_path as path_of_copy};
-ghost use Rattle.state_saver.specs.Saving.{Answers, CopiesTo, Tried, shelf};
+ghost use Rattle.state_saver.specs.Saving.{Answers, CopiesTo, PassesOn, PassesOnAt, Tried, is_name as is_name_spec, shelf, trail};
 
 use crate::files::Files;
 use crate::plan::SavePlan;
@@ -28,6 +28,14 @@ pub struct Saver<'a, F: Files> {
     /// The number of the last copy.
     number: u32,
     ghost fits: { IsPlan plan } by { Prim.hlevel props },
+}
+
+/// Whether a command can name this ID: it has 1 to 512 bytes and no NUL.
+fn is_name(id: &[u8]) -> bool
+    ensures exact { result ≡ is_name_spec id.now }
+    ensures short { IsTrue result → length id.now ≤ 512 }
+{
+    !id.is_empty() && id.len() <= NAME_LIMIT && !id.contains(&0)
 }
 
 /// The path of the copy with this number: that of the plan's state, a dot and the number.
@@ -92,6 +100,9 @@ impl<'a, F: Files> Saver<'a, F> {
     fn copy_to(&mut self, path: &str) -> Result<(), Failure>
         ensures copies { CopiesTo self.old.plan.state path.now (F.outside self.old.files.now)
             (F.outside self.new.files.now) result }
+        ensures passes { OnOk result (PassesOn self.old.plan.state path.now
+            (trail (F.fetched self.old.files.now) (F.outside self.old.files.now))
+            (trail (F.fetched self.new.files.now) (F.outside self.new.files.now))) }
         ensures uses { UsesDisk (F.outside self.old.files.now) (F.outside self.new.files.now) (has_failed result) }
         ensures number { self.new.number ≡ self.old.number }
         ensures plan { self.new.plan ≡ self.old.plan }
@@ -107,10 +118,14 @@ impl<'a, F: Files> Saver<'a, F> {
     /// Makes the copy with the next number, and says how the program is started again with it.
     fn save_next(&mut self, id: &[u8]) -> Result<SaveAnswer, NoMemory>
         requires room { self.old.number < 2 ^ 32 - 1 }
+        requires name { is_name_spec id.now ≡ true }
         requires short { length id.now ≤ 512 }
         ensures tried { Tried result self.old.plan id.now
             (shelf self.old.number (F.outside self.old.files.now))
             (shelf self.new.number (F.outside self.new.files.now)) }
+        ensures passes { PassesOnAt result self.old.plan self.new.number
+            (trail (F.fetched self.old.files.now) (F.outside self.old.files.now))
+            (trail (F.fetched self.new.files.now) (F.outside self.new.files.now)) }
         ensures few { IfOk result (λ answer. ¬ (IsTableFull answer.set)) }
         ensures plan { self.new.plan ≡ self.old.plan }
         ensures files { self.new.files.ghost_name ≡ self.old.files.ghost_name }
@@ -139,11 +154,14 @@ impl<'a, F: Files> Saver<'a, F> {
         ensures tried { Tried result self.old.plan id.now
             (shelf self.old.number (F.outside self.old.files.now))
             (shelf self.new.number (F.outside self.new.files.now)) }
+        ensures passes { PassesOnAt result self.old.plan self.new.number
+            (trail (F.fetched self.old.files.now) (F.outside self.old.files.now))
+            (trail (F.fetched self.new.files.now) (F.outside self.new.files.now)) }
         ensures few { IfOk result (λ answer. ¬ (IsTableFull answer.set)) }
         ensures plan { self.new.plan ≡ self.old.plan }
         ensures files { self.new.files.ghost_name ≡ self.old.files.ghost_name }
     {
-        if self.number == u32::MAX || id.len() > NAME_LIMIT {
+        if self.number == u32::MAX || !is_name(id) {
             return Ok(bare_answer(self.alloc, Step::Done(false)));
         }
         self.save_next(id)
@@ -154,6 +172,9 @@ impl<'a, F: Files> Saver<'a, F> {
         ensures answers { Answers result self.old.plan ask
             (shelf self.old.number (F.outside self.old.files.now))
             (shelf self.new.number (F.outside self.new.files.now)) }
+        ensures passes { PassesOnAt result self.old.plan self.new.number
+            (trail (F.fetched self.old.files.now) (F.outside self.old.files.now))
+            (trail (F.fetched self.new.files.now) (F.outside self.new.files.now)) }
         ensures lawful { IfOk result (IsLawful ask.ask) }
         ensures plan { self.new.plan ≡ self.old.plan }
         ensures files { self.new.files.ghost_name ≡ self.old.files.ghost_name }

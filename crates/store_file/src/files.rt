@@ -195,6 +195,16 @@ pub fn hold_name(rt: HostRuntime, path: &str) -> io::Result<File> {
     Ok(file)
 }
 
+/// Writes a new file with this mode, or one that is its owner's alone, and brings it to the disk.
+fn write_whole(rt: HostRuntime, new: &str, bytes: &[u8], mode: Option<u32>) -> io::Result<()> {
+    let mut file = create_private(rt, new)?;
+    file.write_all(bytes)?;
+    if let Some(mode) = mode {
+        file.set_permissions(Permissions::from_mode(mode))?;
+    }
+    file.sync_all()
+}
+
 fn write_new(
     rt: HostRuntime,
     new: &str,
@@ -202,13 +212,33 @@ fn write_new(
     bytes: &[u8],
     mode: Option<u32>,
 ) -> io::Result<()> {
-    let mut file = create_private(rt, new)?;
-    file.write_all(bytes)?;
-    if let Some(mode) = mode {
-        file.set_permissions(Permissions::from_mode(mode))?;
-    }
-    file.sync_all()?;
+    write_whole(rt, new, bytes, mode)?;
     fs::rename(&rt, new, path)
+}
+
+/// Gives a new file its name. A file that has the name by then stays, and is a fault. Where the file system has no hard links it
+/// is looked for before.
+fn name_new(rt: HostRuntime, new: &str, path: &str) -> io::Result<()> {
+    match fs::hard_link(&rt, new, path) {
+        Ok(()) => Ok(()),
+        Err(error) if error.kind() == ErrorKind::AlreadyExists => Err(error),
+        Err(error) => match fs::symlink_metadata(&rt, path) {
+            Err(found) if found.kind() == ErrorKind::NotFound => fs::rename(&rt, new, path),
+            _ => Err(error),
+        },
+    }
+}
+
+/// Makes a new file with this mode, which is on the disk then. One that has the name stays, and is a fault.
+pub fn create(rt: HostRuntime, path: &str, bytes: &[u8], mode: u32) -> io::Result<()> {
+    let new = name_beside(rt, path)?;
+    let made = match write_whole(rt, new.as_str(), bytes, Some(mode)) {
+        Ok(()) => name_new(rt, new.as_str(), path),
+        Err(error) => Err(error),
+    };
+    let _ = fs::remove_file(&rt, new.as_str());
+    made?;
+    sync_folder(rt, path)
 }
 
 /// Puts a new file in the place of a file: one with this mode, or one that is its owner's alone.

@@ -6,4 +6,4 @@ mod disk;
 mod files;
 
 pub use disk::FileDisk;
-pub use files::{check_file, lock_name, replace};
+pub use files::{check_file, create, lock_name, replace};

@@ -21,6 +21,8 @@ impl Told for Starved {
 }
 
 impl Files for Starved {
+    ghost fetched = { λ starved. None };
+
     fn fetch(&mut self, _path: &str) -> Result<Octets, Failure> {
         Err(Failure::NoMemory)
     }

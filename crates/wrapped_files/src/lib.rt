@@ -3,6 +3,8 @@
 #![tactic(auto)]
 
 mod files;
+mod keeping;
+mod lying;
 mod starting;
 mod wrapped;
 

@@ -85,6 +85,8 @@ rehearse --outer-id x --outer-id x; nothing; 9; 0 => 1 \"smnest: bad words\\n|\"
 rehearse --outer-id; nothing; 9; 0 => 1 \"smnest: bad words\\n|\"
 all --outer /x; nothing; 9; 0 => 1 \"smnest: bad words\\n|\"
 all --patience 0; nothing; 9; 0 => 1 \"smnest: bad words\\n|\"
+all --session a\u{e9}; nothing; 9; 0 => 1 \"smnest: bad words\\n|\"
+all --session a --session a; nothing; 9; 0 => 1 \"smnest: bad words\\n|\"
 all --outer-id LONG; nothing; 9; 0 => 1 \"smnest: bad words\\n|\"
 exercise 1 1; nothing; 9; 0 => 1 \"smnest: bad words\\n|\"";
 
@@ -97,6 +99,7 @@ fn words_ask_for_something_or_nothing(rt: HostRuntime) -> Result<(), Fail> {
 const SESSIONS: &str = "\
 all; nothing; 9; 0 => 14 \"smnest: no outer cookie\\n|\"
 all --patience 1000; nothing; 9; 0 => 14 \"smnest: no outer cookie\\n|\"
+all --session work; nothing; 9; 0 => 14 \"smnest: no outer cookie\\n|\"
 all --outer-id x; nothing; 9; 0 => 14 \"smnest: no outer cookie\\n|\"
 all --outer-id x --patience 1000; nothing; 9; 0 => 14 \"smnest: no outer cookie\\n|\"
 all; nothing; 9; 1 => 5 \"smnest: link fault\\n|\"

@@ -203,9 +203,11 @@ fn refuses(rt: &(impl Abort + Alloc<A = Global>), from: u32, id: &[u8]) -> Resul
 }
 
 #[test]
-fn numbers_end_and_ids_have_at_most_512_bytes(rt: HostRuntime) -> Result<(), Fail> {
+fn numbers_end_and_ids_are_words(rt: HostRuntime) -> Result<(), Fail> {
     let long = vec![in rt.alloc(); b'i'; 513]?;
     refuses(&rt, u32::MAX, b"i")?;
+    refuses(&rt, 0, b"")?;
+    refuses(&rt, 0, b"i\0")?;
     refuses(&rt, 0, long.as_slice())
 }
 

@@ -2,8 +2,7 @@ use Rattle.std.proofs.Common.{◌∙◌, List, ℕ, map, string_bytes, codes, in
 use Rattle.std.proofs.lemmas.Bool.{false≢true}
 use Rattle.program_frame.proofs.InputLemmas.{err_is}
 use Rattle.sm_world.specs.Outside.{Added}
-use Rattle.checkpoint_records.specs.Rules.{IsName}
-use Rattle.checkpoint_records.proofs.NameLaws.{default_fits}
+use Rattle.smd_app.proofs.Wording.{session_fits}
 use Rattle.outer_agent.specs.Words.{AreFew}
 use Rattle.smd_app.specs.declared.fault.Fault.TheVariants.{BadWords, NoMemory}
 use Rattle.smnest_app.proofs.Ending.{does, does_nothing}
@@ -55,7 +54,7 @@ pub serve_inside-requires-clause-socket : goal.serve_inside-requires-clause-sock
 serve_inside-requires-clause-socket g c = (rw c.in-Some-2.is at c.in_ok-paths.ensures).own.socket.path.few
 
 pub serve_inside-requires-clause-session : goal.serve_inside-requires-clause-session
-serve_inside-requires-clause-session g c = subst IsName (sym (rw c.in-Some-2.is at c.in_ok-paths.ensures).session) default_fits
+serve_inside-requires-clause-session g c = session_fits (option_in (map string_bytes c.args.words.now) (codes "--session")) c.in-Some-2.paths.own.session.now (rw c.in-Some-2.is at c.in_ok-paths.ensures).session
 
 pub serve_inside-requires-clause-id : goal.serve_inside-requires-clause-id
 serve_inside-requires-clause-id g c = short_id (option_in (map string_bytes c.args.words.now) (codes "--outer-id")) c.in-Some-2.paths.id.now (rw c.in-Some-2.is at c.in_ok-paths.ensures).id

@@ -1,6 +1,5 @@
-use Rattle.std.proofs.Common.{◌∙◌, ℕ, codes, map, rules, string_bytes, subst, sym}
-use Rattle.checkpoint_records.proofs.NameLaws.{default_is}
-use Rattle.smd_app.specs.Words.{IsPatienceOf}
+use Rattle.std.proofs.Common.{List, ℕ, codes, map, rules, string_bytes, subst, sym}
+use Rattle.smd_app.specs.Words.{IsPatienceOf, IsSessionOf}
 use Rattle.word_pairs.specs.Words.{option_in}
 use Rattle.smnest_app.specs.Words.{AreServe, NestPlaces}
 use Rattle.smnest_app.proofs.words.places_of.Goals as goal
@@ -15,7 +14,7 @@ returns c = record {
   begins = c.requires.begins;
   count = c.requires.count;
   own = c.in_ok-paths_of.ensures.0;
-  session = c.in_ok-paths_of.ensures.2 ∙ default_is;
+  session = subst (λ (session : List ℕ). IsSessionOf (option_in (map string_bytes c.args.words.now) (codes "--session")) session) (sym c.in_ok-paths_of.ensures.2) c.in_ok-session_of.ensures;
   outer = c.in_ok-path_of.ensures;
   outer_authority = c.in_ok-path_of-2.ensures;
   patience = subst (λ (patience : ℕ). IsPatienceOf (option_in (map string_bytes c.args.words.now) (codes "--patience")) patience) (sym c.in_ok-paths_of.ensures.1) c.requires.patience;

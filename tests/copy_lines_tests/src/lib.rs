@@ -1,0 +1,5 @@
+//! Tests of `copy_lines`.
+#![tactic(auto)]
+
+#[cfg(test)]
+mod tests;
