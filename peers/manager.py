@@ -14,6 +14,8 @@ class Manager:
         """The options stand in front of the four paths."""
         self.made.append(self)
         self.smd, self.options, self.process = smd, options, None
+        # Where its standard error goes; at first where ours does.
+        self.errors = None
         self.socket, self.control, self.store, self.authority = [
             os.path.join(room, name) for name in ("socket", "control", "store", "authority")
         ]
@@ -29,6 +31,7 @@ class Manager:
             [*self.words(), "serve", *self.options, *paths],
             stdin=subprocess.DEVNULL,
             stdout=subprocess.PIPE,
+            stderr=self.errors,
             env={**os.environ, "HOSTNAME": os.uname().nodename},
         )
 

@@ -9,6 +9,7 @@ use owned_lists::{Command, NoMemory, Octets};
 use sm_world::{Conn, Console, Disk, Event, Failed, Failure, Links, Spawner, Told};
 use std::alloc::Global;
 use std::collections::VecDeque;
+use world_time::Ticking;
 
 /// A world whose clients are taken to mean what programs as they are mean. What is handed on of it
 /// is told to nobody.
@@ -54,6 +55,11 @@ impl<W: Drop> QuirkWorld<W> {
         ensures { self.new.inner ≡ self.old.inner }
     {
         self.rows.retain(|row| row.conn != conn);
+    }
+
+    /// Whether something is handed on when its time has come.
+    fn waits(&self) -> bool {
+        false
     }
 
     /// The next event to hand on.
@@ -154,7 +160,7 @@ impl<W: Told + Drop> Told for QuirkWorld<W> {
     ghost outside = { λ world. around (W.outside world.inner) };
 }
 
-impl<W: Links + Drop> Links for QuirkWorld<W> {
+impl<W: Links + Ticking + Drop> Links for QuirkWorld<W> {
     fn listen(&mut self, socket: &str, control: &str) -> Result<(), Failure> {
         self.inner.listen(socket, control)
     }
@@ -163,6 +169,8 @@ impl<W: Links + Drop> Links for QuirkWorld<W> {
         if let Some(news) = self.waiting.pop_front() {
             return Ok(news.into_event());
         }
+        let waits = self.waits();
+        self.inner.keep_ticking(waits);
         let event = self.inner.next()?;
         Ok(self.hand_on(event)?)
     }

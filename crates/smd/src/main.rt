@@ -176,7 +176,7 @@ fn run(rt: HostRuntime, mut words: Vec<String>) -> io::Result<u8> {
         return Ok(list_sessions(rt, store));
     }
     let has_quirks = take_quirks(&mut words);
-    let options = LinkOptions::take(&mut words).map_err(no_memory)?;
+    let mut options = LinkOptions::take(&mut words).map_err(no_memory)?;
     let file = take_record(&mut words);
     let words = words.as_slice();
     let host = host_name(&rt)?;
@@ -189,6 +189,7 @@ fn run(rt: HostRuntime, mut words: Vec<String>) -> io::Result<u8> {
         if let Some(bad) = bad_places(rt, paths) {
             return Ok(refused(rt, bad));
         }
+        options.patience = paths.patience;
         if let Some(path) = file {
             record = Some(record_in(rt, path, paths, &identity)?);
         }
