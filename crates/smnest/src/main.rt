@@ -11,6 +11,7 @@ use smnest_app::{NestPaths, read_places, smnest_main};
 use std::io;
 use std::io::ErrorKind;
 use std::process::ExitCode;
+use unix_links::LinkOptions;
 
 const TEXTS: OwnTexts = OwnTexts {
     help: "smnest, a session manager inside a session\n\n\
@@ -70,12 +71,14 @@ fn run(rt: HostRuntime, words: &[String]) -> io::Result<u8> {
         cookie: random_cookie(&rt)?,
         host: Octets::from_vec(Vec::from_slice(rt.alloc(), host.as_bytes())?),
     };
+    let mut options = LinkOptions::new();
     if let Some(paths) = read_places(rt.alloc(), words).map_err(no_memory)? {
+        options.patience = paths.own.patience;
         if let Some(bad) = bad_places(rt, &paths) {
             return Ok(refused(rt, bad));
         }
     }
-    let mut world = DesktopWorld::new(rt, host);
+    let mut world = DesktopWorld::with_options(rt, host, options);
     let status = smnest_main(rt.alloc(), words, &mut world, identity, u64::MAX);
     world.close();
     Ok(status)
