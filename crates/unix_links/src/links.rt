@@ -159,8 +159,8 @@ impl SocketLinks {
     /// The next event of the sockets, where somebody is listened to.
     fn take_next(&mut self) -> Result<Event, Failure>
         ensures size { IfOk result HasPieceSize }
-        ensures past { self.old.hours.since + passed_by result ≤ self.new.hours.since }
-        ensures given { self.new.hours.given + passed_by result ≤ self.new.hours.since }
+        ensures past { self.old.hours.read + passed_by result ≤ self.new.hours.read }
+        ensures given { self.new.hours.given + passed_by result ≤ self.new.hours.read }
         ensures most { passed_by result ≤ 500 }
         ensures same { self.new.faults ≡ self.old.faults }
     {

@@ -91,14 +91,16 @@ impl Sockets {
     /// where it is wanted.
     pub fn next(&mut self, hours: &mut Hours, wanted: bool) -> Result<Event, Failure>
         ensures size { IfOk result HasPieceSize }
-        ensures past { hours.old.since + passed_by result ≤ hours.new.since }
-        ensures given { hours.new.given + passed_by result ≤ hours.new.since }
+        ensures past { hours.old.read + passed_by result ≤ hours.new.read }
+        ensures given { hours.new.given + passed_by result ≤ hours.new.read }
         ensures most { passed_by result ≤ 500 }
     {
         self.operators.forget();
         self.flush(hours)?;
+        // What was listened before somebody was heard isn't told behind that.
+        hours.forget();
         for _ in 0..u64::MAX {
-            if let Some(event) = self.hear(hours)? {
+            if let Some(event) = self.take()? {
                 return Ok(event);
             }
             self.wait(hours, wanted)?;
@@ -107,20 +109,6 @@ impl Sockets {
             }
         }
         Err(Failure::Failed)
-    }
-
-    /// Hears somebody whose turn it is, where one has something to tell.
-    fn hear(&mut self, hours: &mut Hours) -> Result<Option<Event>, Failure>
-        ensures arrival { IfOk result (λ event. IfSome event IsArrival) }
-        ensures past { hours.old.since ≤ hours.new.since }
-    {
-        match self.take()? {
-            Some(event) => {
-                hours.hear();
-                Ok(Some(event))
-            }
-            None => Ok(None),
-        }
     }
 
     /// What the clock shows.
@@ -189,7 +177,8 @@ impl Sockets {
 
     /// Waits until somebody is ready, and puts all who are into the queue.
     fn wait(&mut self, hours: &mut Hours, wanted: bool) -> Result<(), Failure>
-        ensures past { hours.old.since ≤ hours.new.since }
+        ensures since { hours.new.since ≡ hours.old.since }
+        ensures given { hours.new.given ≡ hours.old.given }
     {
         let before = hours.awake();
         self.look(before)?;
@@ -389,7 +378,7 @@ impl Sockets {
     /// Notes what the clock shows, and something more, as something is given. A clock that can't be read
     /// stands still.
     fn give(&mut self, hours: &mut Hours, more: u64)
-        ensures past { hours.old.since ≤ hours.new.since }
+        ensures past { hours.old.read ≤ hours.new.read }
     {
         let now = match self.clock() {
             Ok(now) => now,
@@ -401,7 +390,7 @@ impl Sockets {
 
     /// Sends bytes on a connection. What went by before is nobody's time.
     pub fn send(&mut self, hours: &mut Hours, to: Conn, bytes: &[u8]) -> Result<(), NoMemory>
-        ensures past { hours.old.since ≤ hours.new.since }
+        ensures past { hours.old.read ≤ hours.new.read }
     {
         if !self.clients.gives() {
             self.give(hours, 0);
@@ -412,7 +401,7 @@ impl Sockets {
     /// Hands the system what was sent since this was called last, as the clock shows it then. Of a
     /// millisecond in which somebody is asked nothing counts as silence.
     pub fn flush(&mut self, hours: &mut Hours) -> Result<(), NoMemory>
-        ensures past { hours.old.since ≤ hours.new.since }
+        ensures past { hours.old.read ≤ hours.new.read }
     {
         if self.clients.gives() {
             let more = if self.clients.asks() { 1 } else { 0 };

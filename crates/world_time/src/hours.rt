@@ -7,14 +7,15 @@ pub const LONGEST: u64 = 500;
 /// What a clock showed, and how much time there is to tell of by ticks. All in milliseconds.
 ///
 /// Time is told that was spent listening. What went by before something is given to somebody is told to
-/// nobody, and what was listened before somebody is heard isn't told behind that.
+/// nobody, and neither is what is forgotten.
 #[derive(Clone, Copy, Debug, PartialEq, Eq)]
 pub struct Hours {
     /// What the clock showed last. It never shows less.
     read: u64,
     /// What it showed as something was given to somebody last.
     given: u64,
-    /// What it showed as something was given to somebody, somebody was heard, or time was told last.
+    /// What it showed as something was given to somebody, time was told, or what was listened was forgotten
+    /// last.
     since: u64,
     /// For how long was listened since then.
     untold: u64,
@@ -50,7 +51,8 @@ impl Hours {
         self.awake
     }
 
-    /// For how long was listened since time was told, something was given, or somebody was heard.
+    /// For how long was listened since time was told, something was given, or what was listened was
+    /// forgotten.
     pub fn untold(&self) -> u64
         ensures { result ≡ self.now.untold }
     {
@@ -66,8 +68,8 @@ impl Hours {
 
     /// Something is given to somebody, as the clock shows so much. What went by before isn't told behind it.
     pub fn give(&mut self, now: u64)
-        ensures given { self.new.given ≡ self.new.since }
-        ensures past { self.old.since ≤ self.new.since }
+        ensures given { self.new.given ≡ self.new.read }
+        ensures past { self.old.read ≤ self.new.read }
     {
         let awake = self.awake.saturating_add(self.step(now));
         let read = self.read.max(now);
@@ -91,9 +93,9 @@ impl Hours {
         self.awake = self.awake.saturating_add(step);
     }
 
-    /// Somebody is heard. What went by before isn't told behind it.
-    pub fn hear(&mut self)
-        ensures past { self.old.since ≤ self.new.since }
+    /// What was listened until now is told to nobody any more.
+    pub fn forget(&mut self)
+        ensures since { self.new.since ≡ self.old.read }
         ensures given { self.new.given ≡ self.old.given }
     {
         self.since = self.read;
@@ -102,7 +104,7 @@ impl Hours {
 
     /// How much time a tick tells.
     pub fn tell(&mut self) -> u64
-        ensures past { self.old.since + result ≤ self.new.since }
+        ensures past { self.old.since + result ≤ self.new.read }
         ensures given { self.new.given ≡ self.old.given }
         ensures most { result ≤ LONGEST }
     {
