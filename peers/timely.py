@@ -20,7 +20,7 @@ PATIENCE, LAST_WAIT, STRANGE = 2.0, 1.5, 10.0
 # A save of its own that a client asks for.
 OWN_SAVE = bytes([1, 0, 0, 0, 0])
 # For so long nothing is asked of the system by who is idle, and so long it may take until he is.
-IDLE, SETTLED, MOST = 10.0, 2.0, 60.0
+IDLE, SETTLED, MOST = 10.0, 3.0, 60.0
 
 
 def say(*words):
@@ -234,10 +234,21 @@ def settle(managers):
     return seen
 
 
+def forgive(manager, clients):
+    """A logout is called off that nobody answers. With `--quirks` they are answered for two seconds later."""
+    manager.expect("shutdown", "ok")
+    for client in clients:
+        client.expect(xsmp.SAVE)
+    manager.expect("cancel", "ok")
+    for client in clients:
+        client.expect(xsmp.CANCELLED)
+
+
 def idle(smd, room):
-    """With eight clients of whom nobody is waited for, smd asks nothing of the system, whatever its options."""
+    """With eight clients of whom nobody is waited for, smd asks nothing of the system, whatever its options. It sleeps too where
+    they were answered for."""
     record = ["--record", os.path.join(room, "trace.record")]
-    patience = ["--patience", "1000", "--last-wait", "1000"]
+    patience = ["--patience", "20000", "--last-wait", "1000"]
     managers = []
     for number, options in enumerate(([], patience, ["--quirks"], record, ["--quirks", *patience])):
         at = os.path.join(room, str(number))
@@ -246,6 +257,9 @@ def idle(smd, room):
     for manager in managers:
         manager.start()
     clients = [[manager.saved()[0] for _ in range(8)] for manager in managers]
+    for manager, its in zip(managers, clients):
+        if "--quirks" in manager.options:
+            forgive(manager, its)
     before = settle(managers)
     time.sleep(IDLE)
     for manager, count in zip(managers, before):
