@@ -11,6 +11,7 @@ import sys
 import time
 
 import xsmp
+from called_off import call_off, checkpoint
 from manager import Manager
 from starts import Heard
 from traced import Traced
@@ -234,14 +235,19 @@ def settle(managers):
     return seen
 
 
-def forgive(manager, clients):
-    """A logout is called off that nobody answers. With `--quirks` they are answered for two seconds later."""
+def forgiven(manager, clients):
+    """Those who are asked again behind a logout that was called off and that nobody answers, if all are answered for, as `--quirks`
+    does two seconds later: those who waited for the second phase. Without it all are."""
+    if "--quirks" not in manager.options:
+        return clients
     manager.expect("shutdown", "ok")
     for client in clients:
         client.expect(xsmp.SAVE)
-    manager.expect("cancel", "ok")
-    for client in clients:
-        client.expect(xsmp.CANCELLED)
+    for client in clients[1:]:
+        client.say(xsmp.ASK_TWO)
+        client.ping()
+    call_off(manager, clients)
+    return clients[1:]
 
 
 def idle(smd, room):
@@ -257,18 +263,16 @@ def idle(smd, room):
     for manager in managers:
         manager.start()
     clients = [[manager.saved()[0] for _ in range(8)] for manager in managers]
-    for manager, its in zip(managers, clients):
-        if "--quirks" in manager.options:
-            forgive(manager, its)
+    asked = [forgiven(manager, its) for manager, its in zip(managers, clients)]
     before = settle(managers)
     time.sleep(IDLE)
     for manager, count in zip(managers, before):
         more = manager.calls()[count:]
         if more:
             raise ValueError("%s was idle for %d seconds, and asked %r" % (manager.options, IDLE, more))
-    for manager, its in zip(managers, clients):
+    for manager, its, again in zip(managers, clients, asked):
+        checkpoint(manager, again)
         for client in its:
-            client.ping()
             client.close()
         manager.shutdown()
 
