@@ -1,4 +1,4 @@
-ghost use Rattle.std.specs.Prelude.{◌≤◌, ◌+◌, IfOk, IfSome};
+ghost use Rattle.std.specs.Prelude.{◌≡◌, ◌≤◌, ◌+◌, IfOk, IfSome};
 ghost use Rattle.sm_world.specs.Events.{HasPieceSize};
 ghost use Rattle.unix_links.specs.Arrivals.{IsArrival};
 ghost use Rattle.world_time.specs.Timely.{passed_by};
