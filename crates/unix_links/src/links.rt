@@ -73,6 +73,15 @@ impl SocketLinks {
         ensures time { (moments : List Moment) → IsTimely (clock self.old) moments →
             IsTimely (clock self.new) (moments ++ Given (given_at self.new) ∷ []) }
     {
+        self.give()
+    }
+
+    /// Hands the system what was sent, where somebody is listened to.
+    fn give(&mut self) -> Result<(), NoMemory>
+        ensures untouched { links_outside self.new ≡ links_outside self.old }
+        ensures past { self.old.hours.read ≤ self.new.hours.read }
+        ensures given { self.new.hours.given ≤ self.new.hours.read }
+    {
         match &mut self.sockets {
             Some(sockets) => sockets.flush(&mut self.hours),
             None => Ok(()),
