@@ -1,4 +1,4 @@
-ghost use Rattle.std.specs.Prelude.{◌≡◌, ◌≤◌, ◌+◌, IfOk, IfSome};
+ghost use Rattle.std.specs.Prelude.{◌≤◌, ◌+◌, IfOk, IfSome};
 ghost use Rattle.sm_world.specs.Events.{HasPieceSize};
 ghost use Rattle.unix_links.specs.Arrivals.{IsArrival};
 ghost use Rattle.world_time.specs.Timely.{passed_by};
@@ -177,8 +177,7 @@ impl Sockets {
 
     /// Waits until somebody is ready, and puts all who are into the queue.
     fn wait(&mut self, hours: &mut Hours, wanted: bool) -> Result<(), Failure>
-        ensures since { hours.new.since ≡ hours.old.since }
-        ensures given { hours.new.given ≡ hours.old.given }
+        ensures past { hours.old.since ≤ hours.new.since }
     {
         let before = hours.awake();
         self.look(before)?;
