@@ -294,8 +294,6 @@ def killed(manager, times=200):
 
 # In seconds.
 PATIENCE = 2
-# A tick is told four times a second, so the first that a client's silence counts may have begun before it.
-TICK = 0.25
 
 
 def shut_after(client, began):
@@ -326,8 +324,8 @@ def silent(manager):
     manager.options = ["--patience", str(PATIENCE * 1000)]
     manager.start()
     (quiet, _), (talking, _), (asking, _), (swift, _) = [manager.saved() for _ in range(4)]
-    manager.expect("shutdown", "ok")
     began = time.monotonic()
+    manager.expect("shutdown", "ok")
     for client in (quiet, talking, asking, swift):
         client.expect(xsmp.SAVE)
     xsmp.save(swift, [b"true"])
@@ -336,7 +334,7 @@ def silent(manager):
     talker = threading.Thread(target=talk, args=(talking, 3 * PATIENCE))
     talker.start()
     took = shut_after(quiet, began)
-    if not PATIENCE - TICK <= took < 2 * PATIENCE:
+    if not PATIENCE <= took < 2 * PATIENCE:
         raise ValueError("the silent client was shut after %.1f seconds" % took)
     talker.join()
     manager.expect("status", "connections 3, records 4, pending 0, epoch 1, shutdown")

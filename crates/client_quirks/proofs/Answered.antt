@@ -8,11 +8,11 @@ use Rattle.ice_framing.specs.declared.cutting.WholeFrame.{WholeFrame}
 use Rattle.ice_framing.proofs.Shapes.{joined}
 use Rattle.frame_speech.specs.Speech.{speech_behind}
 use Rattle.frame_speech.specs.declared.speech.Speech.{Speech}
-use Rattle.late_answers.specs.Late.{is_calm}
+use Rattle.late_answers.specs.Late.{is_calm, waits}
 use Rattle.client_quirks.specs.Sides.{new_frames, is_between, CutsOn, GoesBy}
 use Rattle.client_quirks.specs.Speech.{bytes_in}
 use Rattle.client_quirks.specs.Exchange.{Exchanged, exchanged, heard_all, told_all}
-use Rattle.client_quirks.specs.Answering.{client_of, manager_of, order_by, heard_by, told_by, AnswersNothingLate, OrdersNothing, HearsFrames, HearsWhole, HearsBy, Hears, HearsPiece, HandsOn, TellsFrames, TellsWhole, TellsBy, Tells, TellsBytes, SendsOn}
+use Rattle.client_quirks.specs.Answering.{client_of, manager_of, order_by, heard_by, told_by, passes_by, AnswersNothingLate, OrdersNothing, HearsFrames, HearsWhole, HearsBy, Hears, HearsPiece, HandsOn, TellsFrames, TellsWhole, TellsBy, Tells, TellsBytes, SendsOn}
 use Rattle.client_quirks.specs.declared.side.Side.{Side}
 use Rattle.client_quirks.specs.declared.answerer.Answerer.{Answerer}
 use Rattle.client_quirks.proofs.Exchanging.{heard_passed, heard_speech_stays, told_passed, told_speech_stays}
@@ -176,3 +176,10 @@ out_whole old new side bytes frames list going follows was between speech cuts a
       tells = subst (λ (b : Bool). TellsBy b old bytes list going new) (sym (all_three old.follows (is_between old.sent.cutter) (is_between new.sent.cutter) follows was (ap is_between tells.cutter ∙ between))) whole;
       order = λ is. tells.order ∙ ap (order_by old.sent_order) are;
     }
+
+-- ---- time
+
+-- nothing is said in its place where the manager waits for no answer of it
+pub passing_nothing : (follows : Bool) (milliseconds : ℕ) (k : Answerer) → (follows && waits k.late) ≡ false → passes_by follows milliseconds k ≡ []
+passing_nothing false milliseconds k not_waiting = refl
+passing_nothing true milliseconds k not_waiting = rw not_waiting refl

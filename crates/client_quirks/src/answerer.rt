@@ -1,4 +1,4 @@
-ghost use Rattle.std.specs.Prelude.{◌≡◌, ◌∷◌, [], true, IfOk, OnOk, IsTrue};
+ghost use Rattle.std.specs.Prelude.{◌≡◌, ◌∷◌, [], ℕ, true, false, IfOk, OnOk, IsTrue};
 ghost use Rattle.std.specs.List.{concat};
 ghost use Rattle.late_answers.specs.Late.{at_first, is_excused};
 ghost use Rattle.client_quirks.specs.Sides.{IsSide};
@@ -279,6 +279,14 @@ impl Answerer {
         } else {
             self.send_on(bytes)
         }
+    }
+
+    /// Whether time alone may bring what the manager hears.
+    pub fn waits(&self) -> bool
+        ensures { result ≡ false → (milliseconds : ℕ) →
+            passes_by self.now.follows milliseconds self.now ≡ [] }
+    {
+        self.follows && self.late.waits()
     }
 
     /// What the manager hears in the client's place as so many milliseconds pass.

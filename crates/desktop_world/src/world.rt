@@ -12,6 +12,7 @@ use std::alloc::Global;
 use store_file::FileDisk;
 use unix_links::{LinkOptions, SocketLinks, refused};
 use unix_peer::read_file;
+use world_time::Ticking;
 
 /// The bytes of a file of at most 65,536. The user is told why they can't be had.
 fn bytes_at(rt: &HostRuntime, path: &str) -> Result<Octets, Failure>
@@ -123,6 +124,12 @@ impl Disk for DesktopWorld {
         self.disk.publish(path, bytes)?;
         self.spawner.set_authority(authority);
         Ok(())
+    }
+}
+
+impl Ticking for DesktopWorld {
+    fn keep_ticking(&mut self, wanted: bool) {
+        self.links.keep_ticking(wanted);
     }
 }
 

@@ -335,6 +335,10 @@ replied l = if nat_lt 0 l.pings then taken (outcome NoBytes None (ping_answered 
 abbrev pub later : ℕ → Late → Late
 later milliseconds l = record l { left = l.left - milliseconds }
 
+-- it owes an answer for which the manager waits
+abbrev pub waits : Late → Bool
+waits l = is_owing l.phase
+
 -- Who owes an answer for which the manager waits is answered for once the two seconds are over.
 abbrev pub passed : ℕ → Late → Outcome
 passed milliseconds l = if is_owing l.phase && l.left - milliseconds == 0 then spoken NoBytes Failed (later milliseconds l) else outcome NoBytes None (later milliseconds l)

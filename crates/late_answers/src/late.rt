@@ -216,6 +216,13 @@ impl Late {
         !self.debt.is_paid() && !self.save.is_held() && !is_owing(self.phase)
     }
 
+    /// Whether the manager waits for an answer of it, which is given in its place once it is time.
+    pub fn waits(self) -> bool
+        ensures { result ≡ of.waits self }
+    {
+        is_owing(self.phase)
+    }
+
     /// The manager sends this.
     pub(crate) fn given(self, message: &XsmpMessage) -> Late
         ensures { result ≡ of.given message.now self }

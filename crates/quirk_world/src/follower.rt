@@ -162,6 +162,11 @@ impl Follower {
         self.keep(pieces, waiting)
     }
 
+    /// Whether time alone may bring something.
+    pub fn waits(&self) -> bool {
+        self.answerer.waits()
+    }
+
     /// Tells whether the client was answered for, where that has changed.
     pub fn excuse(&mut self) -> Option<bool> {
         let excused = self.answerer.is_excused();

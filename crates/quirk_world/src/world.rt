@@ -11,6 +11,7 @@ use session_watch::Excusing;
 use sm_world::{Conn, Console, Disk, Event, Failed, Failure, Links, Spawner, Told};
 use std::alloc::Global;
 use std::collections::VecDeque;
+use world_time::Ticking;
 
 /// A world whose clients are taken to mean what programs as they are mean. What is handed on of it
 /// is told to nobody.
@@ -80,6 +81,11 @@ impl<W: Drop> QuirkWorld<W> {
         ensures { self.new.inner ≡ self.old.inner }
     {
         self.rows.retain(|row| row.conn != conn);
+    }
+
+    /// Whether something may be handed on when its time has come.
+    fn waits(&self) -> bool {
+        self.rows.iter().any(|row| row.waits())
     }
 
     /// The next event to hand on.
@@ -222,7 +228,7 @@ impl<W: Links + Excusing + Drop> QuirkWorld<W> {
     }
 }
 
-impl<W: Links + Excusing + Drop> Links for QuirkWorld<W> {
+impl<W: Links + Excusing + Ticking + Drop> Links for QuirkWorld<W> {
     fn listen(&mut self, socket: &str, control: &str) -> Result<(), Failure> {
         self.inner.listen(socket, control)
     }
@@ -235,6 +241,8 @@ impl<W: Links + Excusing + Drop> Links for QuirkWorld<W> {
         if let Some(news) = self.waiting.pop_front() {
             return Ok(news.into_event());
         }
+        let waits = self.waits();
+        self.inner.keep_ticking(waits);
         let event = self.inner.next()?;
         Ok(self.hand_on(event)?)
     }

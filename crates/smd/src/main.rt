@@ -202,6 +202,14 @@ fn link_options(words: &mut Vec<String>) -> io::Result<LinkOptions> {
     LinkOptions::take(words).map_err(no_memory)
 }
 
+/// For how many milliseconds a client may be silent, where there is a session.
+fn patience_of(paths: Option<Paths<'_>>) -> u64 {
+    match paths {
+        Some(paths) => paths.patience,
+        None => 0,
+    }
+}
+
 /// What a run over these paths begins with: its record, where there is a file for one, and else none. An
 /// error is the status of a run that can't begin.
 fn begun(
@@ -234,7 +242,7 @@ fn run(rt: HostRuntime, mut words: Vec<String>) -> io::Result<u8> {
         return Ok(list_sessions(rt, store));
     }
     let has_quirks = take_quirks(&mut words);
-    let options = link_options(&mut words)?;
+    let mut options = link_options(&mut words)?;
     let file = take_record(&mut words);
     let words = words.as_slice();
     let host = host_name(&rt)?;
@@ -242,9 +250,11 @@ fn run(rt: HostRuntime, mut words: Vec<String>) -> io::Result<u8> {
         cookie: random_cookie(&rt)?,
         host: Octets::from_vec(Vec::from_slice(rt.alloc(), host.as_bytes())?),
     };
+    let paths = read_paths(rt.alloc(), words).map_err(no_memory)?;
+    options.patience = patience_of(paths);
     let mut world = DesktopWorld::with_options(rt, host, options);
     let mut record = None;
-    if let Some(paths) = read_paths(rt.alloc(), words).map_err(no_memory)? {
+    if let Some(paths) = paths {
         match begun(rt, &mut world, file, paths, &identity) {
             Ok(begun) => record = begun,
             Err(status) => return Ok(status),

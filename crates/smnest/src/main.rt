@@ -109,12 +109,13 @@ fn run(rt: HostRuntime, words: &[String]) -> io::Result<u8> {
         cookie: random_cookie(&rt)?,
         host: Octets::from_vec(Vec::from_slice(rt.alloc(), host.as_bytes())?),
     };
+    let mut options = link_options(rt).map_err(no_memory)?;
     if let Some(paths) = read_places(rt.alloc(), words).map_err(no_memory)? {
+        options.patience = paths.own.patience;
         if let Some(bad) = bad_places(rt, &paths) {
             return Ok(refused(rt, bad));
         }
     }
-    let options = link_options(rt).map_err(no_memory)?;
     let mut world = DesktopWorld::with_options(rt, host, options);
     let status = smnest_main(rt.alloc(), words, &mut world, identity, u64::MAX);
     world.close();

@@ -1,1 +1,3 @@
+pub mod Arrivals
+pub mod Clocks
 pub mod Untold

@@ -1,5 +1,5 @@
 ghost use Rattle.std.specs.Prelude.{◌<◌, length, IfOk, IfSome};
-ghost use Rattle.sm_world.specs.Events.{HasPieceSize};
+ghost use Rattle.unix_links.specs.Arrivals.{IsArrival};
 
 use crate::connection::Connection;
 use crate::leavers::Leavers;
@@ -8,13 +8,14 @@ use crate::reading::{Reading, is_passing, would_wait};
 use mio::Registry;
 use mio::net::UnixStream;
 use owned_lists::{NoMemory, Octets};
-use session_watch::{ClientWatch, put_client, put_count, put_shown};
+use session_watch::{ClientWatch, Stage, put_client, put_count, put_shown};
 use sm_world::{Conn, Event, Failure, PIECE_LIMIT};
 use std::alloc::{AllocError, Global};
 use std::collections::VecDeque;
 use std::io;
 use std::io::{ErrorKind, Read};
 use stream_watch::{Place, Visitors};
+use world_time::Hours;
 
 /// The number of the connection to an outer manager. Whoever comes in has one from 1 on.
 pub const OUTER: Conn = 0;
@@ -26,10 +27,29 @@ struct Open {
     connection: Connection,
     /// It stands in the queue of those who may have something.
     queued: bool,
+    /// What the clock showed as its client was given something last, or was heard.
+    given: u64,
     /// What is known of its client by what it said and was told. An outer manager is no client.
     watch: Option<ClientWatch>,
     /// Somebody has answered for its client.
     excused: bool,
+}
+
+impl Open {
+    /// How far its client is, as far as somebody waits for it.
+    fn stage(&self) -> Option<Stage> {
+        let watch = self.watch.as_ref()?;
+        Some(watch.stage().shown(self.excused))
+    }
+
+    /// Whether somebody waits for its client to say something, by what passed on its connection, or may
+    /// wait since that can't be read any more.
+    fn is_awaited(&self) -> bool {
+        matches!(
+            self.stage(),
+            Some(Stage::Saving | Stage::Interacting | Stage::Unreadable)
+        )
+    }
 }
 
 /// Where the connection of a number stands, if the numbers go on by one from the first.
@@ -73,7 +93,12 @@ pub struct Clients {
     visitors: Visitors,
     /// For whom the system hasn't been handed yet what was sent.
     unsent: Vec<Conn>,
-    /// How many milliseconds have passed since the first moment.
+    /// Something was sent that nobody was handed yet.
+    gives: bool,
+    /// What the clock showed last.
+    clock: u64,
+    /// What time it is for strangers and for those who are told to die: the milliseconds since the first
+    /// moment, but for those in which we stood still.
     now: u64,
     /// Room for one read.
     piece: Vec<u8>,
@@ -89,19 +114,36 @@ impl Clients {
             leaving: Leavers::new(alloc),
             visitors: Visitors::new(alloc),
             unsent: Vec::new(alloc),
+            gives: false,
+            clock: 0,
             now: 0,
             piece: vec![in alloc; 0u8; PIECE_LIMIT]?,
         })
     }
 
     /// Notes what time it is.
-    pub fn set_time(&mut self, now: u64) {
-        self.now = now;
+    pub fn set_time(&mut self, hours: &Hours) {
+        self.clock = hours.read();
+        self.now = hours.awake();
     }
 
-    /// What time it is.
+    /// What time it is for strangers.
     pub fn time(&self) -> u64 {
         self.now
+    }
+
+    /// Whether somebody waits for one of the clients.
+    pub fn are_awaited(&self) -> bool {
+        self.open.iter().any(|open| open.is_awaited())
+    }
+
+    /// Whether the client of a connection has said nothing, and was given nothing, for so many
+    /// milliseconds.
+    pub fn is_silent(&self, conn: Conn, wait: u64) -> bool {
+        match place_of(&self.open, conn).and_then(|place| self.open.get(place)) {
+            Some(open) => self.clock.saturating_sub(open.given) >= wait,
+            None => false,
+        }
     }
 
     /// Where one more finds a place.
@@ -128,11 +170,12 @@ impl Clients {
             self.lose(stranger)?;
         }
         self.visitors.join(conn, self.now)?;
-        let watch = Some(ClientWatch::new(self.alloc, self.now));
+        let watch = Some(ClientWatch::new(self.alloc, self.clock));
         self.open.push(Open {
             conn,
             connection,
             queued: false,
+            given: self.clock,
             watch,
             excused: false,
         })?;
@@ -152,6 +195,7 @@ impl Clients {
             conn: OUTER,
             connection,
             queued: false,
+            given: self.clock,
             watch: None,
             excused: false,
         };
@@ -189,7 +233,7 @@ impl Clients {
 
     /// Reads once from a connection, which no longer stands in the queue.
     pub fn read(&mut self, conn: Conn) -> Result<Reading, NoMemory>
-        ensures size { IfOk result (λ reading. IfSome reading.event HasPieceSize) }
+        ensures size { IfOk result (λ reading. IfSome reading.event IsArrival) }
     {
         let Some(open) = find(&mut self.open, conn) else {
             return Ok(self.leaving.read(conn, self.piece.as_mut_slice()));
@@ -200,8 +244,9 @@ impl Clients {
                 // A read that doesn't fill its room took all that there was.
                 let more = open.connection.ends || count == PIECE_LIMIT;
                 let bytes = Octets::from_slice(self.alloc, &self.piece[..count])?;
+                open.given = self.clock;
                 if let Some(watch) = &mut open.watch {
-                    watch.hear(self.now, bytes.as_slice())?;
+                    watch.hear(self.clock, bytes.as_slice())?;
                 }
                 Ok(Reading {
                     event: Some(Event::Piece(conn, bytes)),
@@ -228,8 +273,9 @@ impl Clients {
         };
         self.visitors.follow(to, self.now, bytes)?;
         if let Some(watch) = &mut open.watch {
-            watch.tell(self.now, bytes)?;
+            watch.tell(self.clock, bytes)?;
         }
+        self.gives = true;
         if open.connection.is_sent() {
             self.unsent.push(to)?;
         }
@@ -247,9 +293,25 @@ impl Clients {
         }
     }
 
+    /// Whether something was sent that nobody was handed yet.
+    pub fn gives(&self) -> bool {
+        self.gives
+    }
+
+    /// Whether somebody waits for one of those who are handed next what was sent.
+    pub fn asks(&self) -> bool {
+        self.unsent.iter().any(|conn| self.awaits(*conn))
+    }
+
+    fn awaits(&self, conn: Conn) -> bool {
+        let open = place_of(&self.open, conn).and_then(|place| self.open.get(place));
+        open.is_some_and(|open| open.is_awaited())
+    }
+
     /// Hands the system what was sent since the last time, each connection's at once. One that can't be
     /// served any more is lost.
     pub fn flush(&mut self, registry: &Registry) -> Result<(), NoMemory> {
+        self.gives = false;
         for at in 0..self.unsent.len() {
             let Some(conn) = self.unsent.get(at).copied() else {
                 break;
@@ -265,6 +327,7 @@ impl Clients {
         let Some(open) = find(&mut self.open, conn) else {
             return Ok(());
         };
+        open.given = self.clock;
         if open.connection.flush(registry, conn) {
             Ok(())
         } else {
@@ -327,7 +390,7 @@ impl Clients {
         for open in &self.open {
             if let Some(watch) = &open.watch {
                 let (conn, excused) = (open.conn, open.excused);
-                put_client(self.alloc, &mut lines, conn, self.now, excused, watch)?;
+                put_client(self.alloc, &mut lines, conn, self.clock, excused, watch)?;
             }
         }
         Ok(lines)
@@ -350,7 +413,7 @@ impl Clients {
 
     /// Who came or was lost and isn't told yet.
     pub fn next_news(&mut self) -> Option<Event>
-        ensures size { IfSome result HasPieceSize }
+        ensures size { IfSome result IsArrival }
     {
         match self.news.pop_front() {
             Some(news) => Some(news.event()),

@@ -1,5 +1,8 @@
-ghost use Rattle.std.specs.Prelude.{◌≡◌, ◌≤◌, IsErrOf};
+ghost use Rattle.std.specs.Prelude.{◌≡◌, ◌≤◌, ◌+◌, ◌++◌, ◌∷◌, [], List, IfOk, IsErrOf};
+ghost use Rattle.sm_world.specs.Events.{HasPieceSize};
 ghost use Rattle.sm_world.specs.Outside.{Rose, UsesLinks};
+ghost use Rattle.world_time.specs.Timely.{Given, IsTimely, Moment, moments_of, passed_by};
+ghost use Rattle.unix_links.specs.Clocks.{clock, given_at};
 ghost use Rattle.unix_links.specs.Untold.{links_outside};
 
 use crate::doors::{Doors, Refusal};
@@ -12,6 +15,7 @@ use session_watch::Excusing;
 use sm_world::{Conn, Event, Failure, Links, Told};
 use std::io;
 use std::io::ErrorKind;
+use world_time::{Hours, Ticking};
 
 /// The clients at a Unix socket, the operators at another, and the connection to an outer manager,
 /// where one is opened. What goes through them is told to nobody; each fault is counted.
@@ -19,13 +23,18 @@ use std::io::ErrorKind;
 /// Clients have the numbers from 1 on, and the outer manager has 0. What is sent goes out when the next
 /// event is asked for, when `flush` asks for that, when the connection is shut, or at the end. A connection for which more than
 /// 1,048,576 bytes would wait is dropped, and then gone. One that is shut still gets what was sent on it,
-/// and is read on, unheard, until the peer closes it or a second has passed. There is a tick every 250
-/// milliseconds, also while events come, and it carries the milliseconds since the last one.
+/// and is read on, unheard, until the peer closes it or a second has passed.
+///
+/// Time is told while a client is waited for that has a patience, and while it is wanted: by a tick every
+/// 250 milliseconds, and by one before somebody is heard. Else `next` waits without an end.
 #[derive(Drop)]
 pub struct SocketLinks {
     rt: HostRuntime,
     options: LinkOptions,
     sockets: Option<Sockets>,
+    hours: Hours,
+    /// Whether somebody above waits for time.
+    wanted: bool,
     faults: u64,
 }
 
@@ -41,6 +50,8 @@ impl SocketLinks {
             rt,
             options,
             sockets: None,
+            hours: Hours::new(),
+            wanted: false,
             faults: 0,
         }
     }
@@ -59,9 +70,20 @@ impl SocketLinks {
     /// others see.
     pub fn flush(&mut self) -> Result<(), NoMemory>
         ensures untouched { links_outside self.new ≡ links_outside self.old }
+        ensures time { (moments : List Moment) → IsTimely (clock self.old) moments →
+            IsTimely (clock self.new) (moments ++ Given (given_at self.new) ∷ []) }
+    {
+        self.give()
+    }
+
+    /// Hands the system what was sent, where somebody is listened to.
+    fn give(&mut self) -> Result<(), NoMemory>
+        ensures untouched { links_outside self.new ≡ links_outside self.old }
+        ensures past { self.old.hours.read ≤ self.new.hours.read }
+        ensures given { self.new.hours.given ≤ self.new.hours.read }
     {
         match &mut self.sockets {
-            Some(sockets) => sockets.flush(),
+            Some(sockets) => sockets.flush(&mut self.hours),
             None => Ok(()),
         }
     }
@@ -73,7 +95,7 @@ impl SocketLinks {
     {
         if let Some(sockets) = &mut self.sockets {
             sockets.remove_files();
-            sockets.finish();
+            sockets.finish(&mut self.hours);
         }
         self.sockets = None;
     }
@@ -112,9 +134,10 @@ impl SocketLinks {
             return Err(Failure::Failed);
         }
         match Doors::open(self.rt, socket, control, self.options) {
-            Ok(doors) => match Sockets::new(self.rt, doors, self.options.last_wait) {
+            Ok(doors) => match Sockets::new(self.rt, doors, self.options) {
                 Ok(sockets) => {
                     self.sockets = Some(sockets);
+                    self.hours = Hours::new();
                     Ok(())
                 }
                 Err(error) => Err(self.report(socket, error)),
@@ -129,12 +152,52 @@ impl SocketLinks {
         refused(error)
     }
 
+    /// The next event, as `next` gives it. Behind each thing that a client was given or said, the ticks
+    /// tell no more than what went by on the clock since.
+    pub fn hear(&mut self) -> Result<Event, Failure>
+        ensures size { IfOk result HasPieceSize }
+        ensures uses { UsesLinks (links_outside self.old) (links_outside self.new) result }
+        ensures time { (moments : List Moment) → IsTimely (clock self.old) moments →
+            IsTimely (clock self.new) (moments ++ Given (given_at self.new) ∷ moments_of (clock self.new) result) }
+        ensures most { passed_by result ≤ 500 }
+    {
+        let answer = self.take_next();
+        self.count(answer)
+    }
+
+    /// The next event of the sockets, where somebody is listened to.
+    fn take_next(&mut self) -> Result<Event, Failure>
+        ensures size { IfOk result HasPieceSize }
+        ensures past { self.old.hours.read + passed_by result ≤ self.new.hours.read }
+        ensures given { self.new.hours.given + passed_by result ≤ self.new.hours.read }
+        ensures most { passed_by result ≤ 500 }
+        ensures same { self.new.faults ≡ self.old.faults }
+    {
+        match &mut self.sockets {
+            Some(sockets) => sockets.next(&mut self.hours, self.wanted),
+            None => Err(Failure::Failed),
+        }
+    }
+
+    /// Sends all of these bytes on a connection, as `send` does.
+    pub fn say(&mut self, to: Conn, bytes: &[u8]) -> Result<(), Failure>
+        ensures uses { UsesLinks (links_outside self.old) (links_outside self.new) result }
+        ensures time { (moments : List Moment) → IsTimely (clock self.old) moments →
+            IsTimely (clock self.new) moments }
+    {
+        if let Some(sockets) = &mut self.sockets {
+            sockets.send(&mut self.hours, to, bytes)?;
+        }
+        Ok(())
+    }
+
     /// Counts a fault, where the answer is one.
     pub fn count<T>(&mut self, answer: Result<T, Failure>) -> Result<T, Failure>
         ensures same { result ≡ answer }
         ensures uses { UsesLinks (links_outside self.old) (links_outside self.new) result }
         ensures cause { IsErrOf result Failure.Failed → Rose self.old.faults self.new.faults }
         ensures not_fallen { self.old.faults ≤ self.new.faults }
+        ensures hours { self.new.hours ≡ self.old.hours }
     {
         if matches!(&answer, Err(Failure::Failed)) {
             self.faults = self.faults.saturating_add(1);
@@ -147,6 +210,12 @@ impl Told for SocketLinks {
     ghost outside = { links_outside };
 }
 
+impl Ticking for SocketLinks {
+    fn keep_ticking(&mut self, wanted: bool) {
+        self.wanted = wanted;
+    }
+}
+
 impl Links for SocketLinks {
     fn listen(&mut self, socket: &str, control: &str) -> Result<(), Failure> {
         let answer = self.open(socket, control);
@@ -154,18 +223,11 @@ impl Links for SocketLinks {
     }
 
     fn next(&mut self) -> Result<Event, Failure> {
-        let answer = match &mut self.sockets {
-            Some(sockets) => sockets.next(),
-            None => Err(Failure::Failed),
-        };
-        self.count(answer)
+        self.hear()
     }
 
     fn send(&mut self, to: Conn, bytes: &[u8]) -> Result<(), Failure> {
-        if let Some(sockets) = &mut self.sockets {
-            sockets.send(to, bytes)?;
-        }
-        Ok(())
+        self.say(to, bytes)
     }
 
     fn shut(&mut self, to: Conn) -> Result<(), Failure> {

@@ -1,4 +1,4 @@
-ghost use Rattle.sm_world.specs.Events.{HasPieceSize};
+ghost use Rattle.unix_links.specs.Arrivals.{IsArrival};
 
 use sm_world::{Conn, Event};
 
@@ -13,7 +13,7 @@ pub enum News {
 
 impl News {
     pub fn event(self) -> Event
-        ensures size { HasPieceSize result }
+        ensures size { IsArrival result }
     {
         match self {
             News::Came(conn) => Event::Joined(conn),

@@ -1,5 +1,5 @@
 ghost use Rattle.std.specs.Prelude.{IfOk, IfSome};
-ghost use Rattle.sm_world.specs.Events.{HasPieceSize};
+ghost use Rattle.unix_links.specs.Arrivals.{IsArrival};
 
 use crate::reading::{Reading, is_passing, would_wait};
 use crate::sources::Source;
@@ -142,7 +142,7 @@ impl Operators {
 
     /// Takes the next line of an operator, or reads on. A bad line is answered here.
     pub fn hear(&mut self, number: u32) -> Result<Reading, NoMemory>
-        ensures size { IfOk result (λ reading. IfSome reading.event HasPieceSize) }
+        ensures size { IfOk result (λ reading. IfSome reading.event IsArrival) }
     {
         let Some(operator) = self.open.get_mut(&number) else {
             return Ok(Reading::nothing());

@@ -9,6 +9,9 @@ pub struct LinkOptions {
     /// How many milliseconds a client has to close its connection once it was told to die; with 0 it has
     /// as many as it likes.
     pub last_wait: u64,
+    /// For how many milliseconds a client may be silent that is waited for; with 0 for as many as it
+    /// likes, and then nobody is told what time it is.
+    pub patience: u64,
 }
 
 fn is_word(words: &[String], at: usize, text: &str) -> bool {
@@ -36,11 +39,12 @@ fn take_out(words: &mut Vec<String>, at: usize, count: usize) {
 }
 
 impl LinkOptions {
-    /// Both doors are open, and whoever was told to die has all the time.
+    /// Both doors are open, and whoever is waited for or was told to die has all the time.
     pub fn new() -> LinkOptions {
         LinkOptions {
             is_private: false,
             last_wait: 0,
+            patience: 0,
         }
     }
 

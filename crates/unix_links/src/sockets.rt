@@ -1,9 +1,12 @@
-ghost use Rattle.std.specs.Prelude.{IfOk, IfSome};
+ghost use Rattle.std.specs.Prelude.{◌≤◌, ◌+◌, IfOk, IfSome};
 ghost use Rattle.sm_world.specs.Events.{HasPieceSize};
+ghost use Rattle.unix_links.specs.Arrivals.{IsArrival};
+ghost use Rattle.world_time.specs.Timely.{passed_by};
 
 use crate::clients::{Clients, OUTER};
 use crate::doors::Doors;
 use crate::operators::Operators;
+use crate::options::LinkOptions;
 use crate::reading::{Reading, is_passing, refused, would_wait};
 use crate::sources::Source;
 use mio::net::UnixStream;
@@ -15,8 +18,10 @@ use std::io;
 use std::os::unix::net;
 use std::time::{Duration, Instant};
 use stream_watch::Place;
+use world_time::Hours;
 
-/// How many milliseconds lie between two ticks.
+/// How many milliseconds lie between two ticks while somebody waits for time, and between two looks for
+/// those who have had theirs.
 const TICK: u64 = 250;
 
 /// How many milliseconds somebody waits at the door at a time while all places are taken.
@@ -39,20 +44,27 @@ pub struct Sockets {
     queue: VecDeque<Source>,
     /// How many of the queue are served before the system is asked again.
     turn: usize,
-    /// A connection couldn't be taken in. The doors are tried again at the next tick.
+    /// A connection couldn't be taken in. The doors are tried again at the next look.
     stalled: bool,
     /// When the doors are tried again at which somebody may wait for a stranger's place.
     again: Option<u64>,
-    /// How many milliseconds a client has that was told to die; with 0 all that it likes.
-    last_wait: u64,
+    options: LinkOptions,
     begun: Instant,
-    /// How many milliseconds after the beginning the last tick was.
-    ticked: u64,
+    /// What time it was at the last look for those who have had theirs.
+    looked: u64,
+}
+
+/// The sooner of two ends of a wait, of which the first may be none.
+fn sooner(one: Option<u64>, other: u64) -> Option<u64> {
+    match one {
+        Some(one) => Some(one.min(other)),
+        None => Some(other),
+    }
 }
 
 impl Sockets {
     /// Waits at these doors.
-    pub fn new(rt: HostRuntime, mut doors: Doors, last_wait: u64) -> io::Result<Sockets> {
+    pub fn new(rt: HostRuntime, mut doors: Doors, options: LinkOptions) -> io::Result<Sockets> {
         let alloc = rt.alloc();
         let poll = Poll::new(&rt)?;
         let now = Instant::now(&rt)?;
@@ -68,95 +80,121 @@ impl Sockets {
             turn: 0,
             stalled: false,
             again: None,
-            last_wait,
+            options,
             begun: now,
-            ticked: 0,
+            looked: 0,
         })
     }
 
     /// The next event. The system wakes us as soon as somebody is ready. Before, it is handed what was
-    /// sent since the last event.
-    pub fn next(&mut self) -> Result<Event, Failure>
+    /// sent since the last event. Time is told while a client is waited for that has a patience, and
+    /// where it is wanted.
+    pub fn next(&mut self, hours: &mut Hours, wanted: bool) -> Result<Event, Failure>
         ensures size { IfOk result HasPieceSize }
+        ensures past { hours.old.read + passed_by result ≤ hours.new.read }
+        ensures given { hours.new.given + passed_by result ≤ hours.new.read }
+        ensures most { passed_by result ≤ 500 }
     {
         self.operators.forget();
-        self.flush()?;
+        self.flush(hours)?;
+        // What was listened before somebody was heard isn't told behind that.
+        hours.forget();
         for _ in 0..u64::MAX {
-            let now = Instant::now(&self.rt).map_err(refused)?;
-            let time = milliseconds(self.begun, now);
-            self.clients.set_time(time);
-            let passed = time.saturating_sub(self.ticked);
-            if passed >= TICK {
-                self.ticked = time;
-                return self.tick(passed);
-            }
-            let rest = self.try_again(time)?;
             if let Some(event) = self.take()? {
                 return Ok(event);
             }
-            self.wait(rest.min(TICK.saturating_sub(passed)))?;
+            self.wait(hours, wanted)?;
+            if self.is_due(hours, wanted) {
+                return Ok(Event::Tick(hours.tell()));
+            }
         }
         Err(Failure::Failed)
     }
 
-    /// Tries the doors again where it is time to, and says how many milliseconds there are until then.
-    fn try_again(&mut self, time: u64) -> Result<u64, NoMemory> {
+    /// What the clock shows.
+    fn clock(&self) -> io::Result<u64> {
+        let now = Instant::now(&self.rt)?;
+        Ok(milliseconds(self.begun, now))
+    }
+
+    /// Whether somebody waits for time: a client is waited for that has a patience, or it is wanted.
+    fn is_timed(&self, wanted: bool) -> bool {
+        wanted || (self.options.patience > 0 && self.clients.are_awaited())
+    }
+
+    /// Whether time is told: before those are heard who are ready, and where nobody is, each quarter of a
+    /// second. Who is ready and has been silent for the patience is heard first.
+    fn is_due(&self, hours: &Hours, wanted: bool) -> bool {
+        if hours.untold() == 0 || !self.is_timed(wanted) {
+            return false;
+        }
+        if self.is_ready() {
+            !self.is_late_one_ready()
+        } else {
+            hours.untold() >= TICK
+        }
+    }
+
+    /// Whether somebody may have something.
+    fn is_ready(&self) -> bool {
+        !self.queue.is_empty() || self.clients.has_news()
+    }
+
+    /// Whether a client may have something that has been silent for the patience.
+    fn is_late_one_ready(&self) -> bool {
+        let patience = self.options.patience;
+        patience > 0
+            && self.queue.iter().any(|source| match source {
+                Source::Client(conn) => self.clients.is_silent(*conn, patience),
+                _ => false,
+            })
+    }
+
+    /// Whether somebody is there who is to go when the time has come, or a door is to be tried again.
+    fn is_restless(&self) -> bool {
+        let lingers = self.options.last_wait > 0 && self.clients.lingering(0).is_some();
+        let strange = self.clients.place_in_need() != Place::Free;
+        lingers || strange || self.stalled || self.clients.has_leavers()
+    }
+
+    /// How many milliseconds may be waited; without an end where nobody waits for time.
+    fn limit(&self, hours: &Hours, wanted: bool) -> Option<u64> {
+        if self.is_ready() {
+            return Some(0);
+        }
+        let mut limit = None;
+        if self.is_timed(wanted) {
+            limit = Some(TICK.saturating_sub(hours.untold()));
+        }
+        if self.is_restless() {
+            limit = sooner(limit, TICK);
+        }
         match self.again {
-            Some(again) if again <= time => {
-                self.again = None;
-                self.enqueue_doors()?;
-                Ok(MOMENT)
-            }
-            Some(again) => Ok(again.saturating_sub(time)),
-            None => Ok(TICK),
+            Some(again) => sooner(limit, again.saturating_sub(hours.awake())),
+            None => limit,
         }
     }
 
-    fn enqueue_doors(&mut self) -> Result<(), NoMemory> {
-        self.enqueue(Source::Clients)?;
-        self.enqueue(Source::Hidden)?;
-        self.enqueue(Source::Control)
-    }
-
-    fn tick(&mut self, passed: u64) -> Result<Event, Failure>
-        ensures size { IfOk result HasPieceSize }
+    /// Waits until somebody is ready, and puts all who are into the queue.
+    fn wait(&mut self, hours: &mut Hours, wanted: bool) -> Result<(), Failure>
+        ensures past { hours.old.since ≤ hours.new.since }
     {
-        self.clients.pass(passed);
-        self.clients.drop_overdue()?;
-        self.drop_lingering()?;
-        if self.stalled {
-            self.stalled = false;
-            self.enqueue_doors()?;
-        }
-        Ok(Event::Tick(passed))
+        let before = hours.awake();
+        self.look(before)?;
+        let time = match self.limit(hours, wanted) {
+            Some(limit) => Some(Duration::from_millis(limit)),
+            None => None,
+        };
+        self.poll.poll(&mut self.events, time).map_err(refused)?;
+        let now = self.clock().map_err(refused)?;
+        hours.listen(now);
+        self.clients.set_time(hours);
+        self.clients.pass(hours.awake().saturating_sub(before));
+        self.note_all()
     }
 
-    /// Drops those who were told to die and have had their time. The user is told of each.
-    fn drop_lingering(&mut self) -> Result<(), NoMemory> {
-        if self.last_wait == 0 {
-            return Ok(());
-        }
-        for _ in 0..u32::MAX {
-            let Some(conn) = self.clients.lingering(self.last_wait) else {
-                break;
-            };
-            let program = self.clients.program(conn)?;
-            let program = str::from_utf8(program.as_slice()).unwrap_or("?");
-            let _ = eprintln!(self.rt;
-                "smd: {program} was told to die, and its connection {conn} is closed"
-            );
-            self.clients.lose(conn)?;
-        }
-        Ok(())
-    }
-
-    /// Waits at most so long until somebody is ready, and puts all who are into the queue.
-    fn wait(&mut self, milliseconds: u64) -> Result<(), Failure> {
-        let is_idle = self.queue.is_empty() && !self.clients.has_news();
-        let time = Duration::from_millis(if is_idle { milliseconds } else { 0 });
-        self.poll
-            .poll(&mut self.events, Some(time))
-            .map_err(refused)?;
+    /// Notes whom the system told of.
+    fn note_all(&mut self) -> Result<(), Failure> {
         for event in self.events.iter() {
             note(
                 self.poll.registry(),
@@ -169,13 +207,59 @@ impl Sockets {
         Ok(())
     }
 
+    /// Tries the doors again where it is time to, and each quarter of a second drops those who have had
+    /// their time. Whoever was ready has been heard by then.
+    fn look(&mut self, now: u64) -> Result<(), NoMemory> {
+        if self.again.is_some_and(|again| again <= now) {
+            self.again = None;
+            self.enqueue_doors()?;
+        }
+        if now.saturating_sub(self.looked) < TICK {
+            return Ok(());
+        }
+        self.looked = now;
+        self.clients.drop_overdue()?;
+        self.drop_lingering()?;
+        if self.stalled {
+            self.stalled = false;
+            self.enqueue_doors()?;
+        }
+        Ok(())
+    }
+
+    fn enqueue_doors(&mut self) -> Result<(), NoMemory> {
+        self.enqueue(Source::Clients)?;
+        self.enqueue(Source::Hidden)?;
+        self.enqueue(Source::Control)
+    }
+
+    /// Drops those who were told to die and have had their time. The user is told of each.
+    fn drop_lingering(&mut self) -> Result<(), NoMemory> {
+        let wait = self.options.last_wait;
+        if wait == 0 {
+            return Ok(());
+        }
+        for _ in 0..u32::MAX {
+            let Some(conn) = self.clients.lingering(wait) else {
+                break;
+            };
+            let program = self.clients.program(conn)?;
+            let program = str::from_utf8(program.as_slice()).unwrap_or("?");
+            let _ = eprintln!(self.rt;
+                "smd: {program} was told to die, and its connection {conn} is closed"
+            );
+            self.clients.lose(conn)?;
+        }
+        Ok(())
+    }
+
     fn enqueue(&mut self, source: Source) -> Result<(), NoMemory> {
         enqueue(&mut self.clients, &mut self.queue, source)
     }
 
     /// Serves those whose turn it is until one gives an event.
     fn take(&mut self) -> Result<Option<Event>, Failure>
-        ensures size { IfOk result (λ event. IfSome event HasPieceSize) }
+        ensures size { IfOk result (λ event. IfSome event IsArrival) }
     {
         if let Some(event) = self.clients.next_news() {
             return Ok(Some(event));
@@ -197,7 +281,7 @@ impl Sockets {
     }
 
     fn serve(&mut self, source: Source) -> Result<Reading, Failure>
-        ensures size { IfOk result (λ reading. IfSome reading.event HasPieceSize) }
+        ensures size { IfOk result (λ reading. IfSome reading.event IsArrival) }
     {
         match source {
             Source::Clients => self.join(source),
@@ -224,7 +308,7 @@ impl Sockets {
     /// Takes in a client who comes at this door. Where all places are taken, and none of a stranger's
     /// is free yet, it waits there.
     fn join(&mut self, door: Source) -> Result<Reading, Failure>
-        ensures size { IfOk result (λ reading. IfSome reading.event HasPieceSize) }
+        ensures size { IfOk result (λ reading. IfSome reading.event IsArrival) }
     {
         if self.clients.place() == Place::Later {
             self.wait_at_doors();
@@ -248,7 +332,7 @@ impl Sockets {
 
     /// Takes in an operator.
     fn admit(&mut self) -> Result<Reading, Failure>
-        ensures size { IfOk result (λ reading. IfSome reading.event HasPieceSize) }
+        ensures size { IfOk result (λ reading. IfSome reading.event IsArrival) }
     {
         match self.doors.next_operator() {
             Ok(stream) => {
@@ -260,9 +344,9 @@ impl Sockets {
     }
 
     /// Where the system can't give another connection, a stranger makes way; without one the doors are
-    /// left until the next tick.
+    /// left until the next look.
     fn not_accepted(&mut self, error: &io::Error) -> Result<Reading, Failure>
-        ensures size { IfOk result (λ reading. IfSome reading.event HasPieceSize) }
+        ensures size { IfOk result (λ reading. IfSome reading.event IsArrival) }
     {
         if would_wait(error) {
             return Ok(Reading::nothing());
@@ -290,12 +374,38 @@ impl Sockets {
         self.clients.add_outer(self.poll.registry(), stream)
     }
 
-    pub fn send(&mut self, to: Conn, bytes: &[u8]) -> Result<(), NoMemory> {
+    /// Notes what the clock shows, and something more, as something is given. A clock that can't be read
+    /// stands still.
+    fn give(&mut self, hours: &mut Hours, more: u64)
+        ensures past { hours.old.read ≤ hours.new.read }
+    {
+        let now = match self.clock() {
+            Ok(now) => now,
+            Err(_) => hours.read(),
+        };
+        hours.give(now.saturating_add(more));
+        self.clients.set_time(hours);
+    }
+
+    /// Sends bytes on a connection. What went by before is nobody's time.
+    pub fn send(&mut self, hours: &mut Hours, to: Conn, bytes: &[u8]) -> Result<(), NoMemory>
+        ensures past { hours.old.read ≤ hours.new.read }
+    {
+        if !self.clients.gives() {
+            self.give(hours, 0);
+        }
         self.clients.send(self.poll.registry(), to, bytes)
     }
 
-    /// Hands the system what was sent since this was called last.
-    pub fn flush(&mut self) -> Result<(), NoMemory> {
+    /// Hands the system what was sent since this was called last, as the clock shows it then. Of a
+    /// millisecond in which somebody is asked nothing counts as silence.
+    pub fn flush(&mut self, hours: &mut Hours) -> Result<(), NoMemory>
+        ensures past { hours.old.read ≤ hours.new.read }
+    {
+        if self.clients.gives() {
+            let more = if self.clients.asks() { 1 } else { 0 };
+            self.give(hours, more);
+        }
         self.clients.flush(self.poll.registry())
     }
 
@@ -311,13 +421,26 @@ impl Sockets {
     /// Hands the system what was sent, and waits until the connections that were shut are closed, which
     /// takes a second or two at most, and the one to an outer manager with them. Whatever else comes is
     /// heard by nobody.
-    pub fn finish(&mut self) {
-        let _ = self.flush();
+    pub fn finish(&mut self, hours: &mut Hours) {
+        let _ = self.flush(hours);
         self.shut(OUTER);
         for _ in 0..u64::MAX {
-            if !self.clients.has_leavers() || self.next().is_err() {
+            if !self.clients.has_leavers() || self.go_on(hours).is_err() {
                 return;
             }
+        }
+    }
+
+    /// Serves somebody who is ready, or waits until somebody is while connections that were shut aren't
+    /// closed yet.
+    fn go_on(&mut self, hours: &mut Hours) -> Result<(), Failure> {
+        match self.take()? {
+            Some(event) => {
+                drop(event);
+                Ok(())
+            }
+            None if self.clients.has_leavers() => self.wait(hours, false),
+            None => Ok(()),
         }
     }
 

@@ -9,6 +9,7 @@ use std::process::{Child, Command, Stdio};
 use std::test::Fail;
 use std::time::Duration;
 use std::{env, fs, io, process, thread};
+use unix_links::LinkOptions;
 
 /// The variable that tells a started test which paths begin how.
 const ROOM: &str = "DESKTOP_WORLD_ROOM";
@@ -74,7 +75,9 @@ fn open(world: &mut DesktopWorld, room: &Room) -> Result<(), Failure> {
 
 /// Runs a session there to its end.
 fn run(rt: HostRuntime, room: &Room) -> io::Result<Option<ServeFault>> {
-    let mut world = DesktopWorld::new(rt, host_name(&rt)?);
+    let mut options = LinkOptions::new();
+    options.patience = PATIENCE;
+    let mut world = DesktopWorld::with_options(rt, host_name(&rt)?, options);
     if open(&mut world, room).is_err() {
         return Err(io::Error::from(ErrorKind::AddrInUse));
     }

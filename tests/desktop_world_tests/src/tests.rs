@@ -9,6 +9,7 @@ use std::os::unix::net::UnixStream;
 use std::test::Fail;
 use std::time::Duration;
 use std::{env, fs, process, thread};
+use world_time::Ticking;
 
 fn path_of(rt: HostRuntime, name: &str) -> Result<String, Fail> {
     let folder = env::temp_dir(&rt)?;
@@ -93,6 +94,7 @@ fn a_line_goes_to_the_operator_who_asked(rt: HostRuntime) -> Result<(), Fail> {
     operator.write_all(b"status\n")?;
     assert!(rt; matches!(next(&mut world), Event::Operator(_)));
     assert_eq!(rt; world.print(b"idle\n"), Ok(()));
+    world.keep_ticking(true);
     assert!(rt; matches!(world.next(), Ok(Event::Tick(_))));
     assert_eq!(rt; world.print(b"later\n"), Ok(()));
     world.close();

@@ -9,4 +9,6 @@ mod outer;
 #[cfg(test)]
 mod strangers;
 #[cfg(test)]
+mod times;
+#[cfg(test)]
 mod visitors;

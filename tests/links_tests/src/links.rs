@@ -6,6 +6,7 @@ use std::test::Fail;
 use std::time::Duration;
 use std::{env, fs, io, process, thread};
 use unix_links::SocketLinks;
+use world_time::Ticking;
 
 /// The paths of a test's sockets.
 #[derive(Drop)]
@@ -28,9 +29,10 @@ fn paths_at(rt: HostRuntime, socket: String) -> io::Result<Paths> {
     Ok(Paths { socket, control })
 }
 
-/// Links that listen there.
+/// Links that listen there, of which somebody wants to be told the time.
 pub fn open(rt: HostRuntime, paths: &Paths) -> io::Result<SocketLinks> {
     let mut links = SocketLinks::new(rt);
+    links.keep_ticking(true);
     match links.listen(paths.socket.as_str(), paths.control.as_str()) {
         Ok(()) => Ok(links),
         Err(_) => Err(io::Error::from(ErrorKind::AddrInUse)),
@@ -103,9 +105,27 @@ fn asks_drop(links: &mut SocketLinks, number: u32) -> bool {
     matches!(next(links), Event::Operator(Order::DropConn(conn)) if conn == number)
 }
 
-/// Whether a tick comes now, a quarter of a second after the last one or later.
+/// How much time the next event tells.
+fn passed(links: &mut SocketLinks) -> u64 {
+    match links.next() {
+        Ok(Event::Tick(passed)) => passed,
+        _ => 0,
+    }
+}
+
+/// Whether a quarter of a second is told now, and nothing else.
 pub fn ticks(links: &mut SocketLinks) -> bool {
-    matches!(links.next(), Ok(Event::Tick(passed)) if passed >= 250)
+    let mut told = 0u64;
+    for _ in 0..250 {
+        match passed(links) {
+            0 => return false,
+            passed => told = told.saturating_add(passed),
+        }
+        if told >= 250 {
+            return true;
+        }
+    }
+    false
 }
 
 /// Whether this is sent.
@@ -267,20 +287,20 @@ fn speak_on(
     links: &mut SocketLinks,
 ) -> Result<(), Fail> {
     let mut client = dial(rt, paths.socket.as_str())?;
-    let mut ticked = false;
+    let mut told = 0u64;
     for _ in 0..10_000_000 {
         client.write_all(b"x")?;
-        if ticks(links) {
-            ticked = true;
+        told = told.saturating_add(passed(links));
+        if told >= 250 {
             break;
         }
     }
-    assert!(test; ticked);
+    assert!(test; told >= 250);
     Ok(())
 }
 
 #[test]
-fn ticks_come_while_a_client_speaks(rt: HostRuntime) -> Result<(), Fail> {
+fn time_is_told_while_a_client_speaks(rt: HostRuntime) -> Result<(), Fail> {
     let paths = room(rt, "busy")?;
     let mut links = open(rt, &paths)?;
     speak_on(rt, &rt, &paths, &mut links)?;
@@ -403,11 +423,12 @@ fn who_is_shut_gets_what_was_sent(rt: HostRuntime) -> Result<(), Fail> {
     Ok(())
 }
 
-/// Writes this again and again, while the links go on, until so many ticks have passed.
-fn write_on(links: &mut SocketLinks, client: &mut UnixStream, ticks: u64) -> io::Result<()> {
-    for _ in 0..ticks {
-        client.write_all(&[7; 40_000])?;
-        let _ = links.next();
+/// Writes again and again, while the links go on, until so many milliseconds are told.
+fn write_on(links: &mut SocketLinks, client: &mut UnixStream, time: u64) -> io::Result<()> {
+    let mut told = 0u64;
+    while told < time {
+        client.write_all(&[7; 10_000])?;
+        told = told.saturating_add(passed(links));
     }
     Ok(())
 }
@@ -424,13 +445,13 @@ fn read_why(
     assert!(test; speaks(links, 1));
     assert!(test; sends(links, 1, b"why"));
     assert!(test; shuts(links, 1));
-    write_on(links, &mut client, 2)?;
+    write_on(links, &mut client, 500)?;
     let mut why = [0u8; 3];
     client.read_exact(&mut why)?;
     assert_eq!(test; &why, b"why");
     assert_eq!(test; client.read(&mut why)?, 0);
     // A second later it is closed.
-    assert!(test; write_on(links, &mut client, 8).is_err());
+    assert!(test; write_on(links, &mut client, 2_000).is_err());
     Ok(())
 }
 
@@ -457,6 +478,19 @@ fn who_is_shut_may_be_let_go_at_the_end(rt: HostRuntime) -> Result<(), Fail> {
     assert_eq!(rt; client.read(&mut why)?, 3);
     // Nothing was left unread, so this is the end and no reset.
     assert_eq!(rt; client.read(&mut why)?, 0);
+    Ok(())
+}
+
+#[test]
+fn who_is_shut_and_leaves_does_not_hold_up_the_end(rt: HostRuntime) -> Result<(), Fail> {
+    let paths = room(rt, "left")?;
+    let mut links = open(rt, &paths)?;
+    let client = dial(rt, paths.socket.as_str())?;
+    assert!(rt; joins(&mut links, 1));
+    assert!(rt; shuts(&mut links, 1));
+    drop(client);
+    links.close();
+    assert_eq!(rt; fs::exists(&rt, paths.control.as_str())?, false);
     Ok(())
 }
 

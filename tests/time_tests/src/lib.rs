@@ -1,0 +1,5 @@
+//! Tests of what ticks tell of a clock.
+#![tactic(auto)]
+
+#[cfg(test)]
+mod tests;
