@@ -165,6 +165,7 @@ calls_off_beside_xfwm4() {
     check "xfwm4 is saved behind the $turn logout" saves 1
   done
   check "a new logout waits for KWrite's dialog" answers ok shutdown
+  check "xfwm4 waits for its second phase" within 20 is_at xfwm4 waiting
   stops_smd 7
   check "KWrite isn't closed by an smd that stood still" runs kwrite
   answers_dialog kwrite Escape
