@@ -60,6 +60,9 @@ stage_of() { order clients --plain | sed -n "s/.* stage=\([a-z]*\) .* program=[^
 
 is_at() { [ "$(stage_of "$1")" = "$2" ]; }
 
+# has_answered PROGRAM: whether it has said anything of the save that runs.
+has_answered() { order clients --plain | grep "program=[^ ]*$1\$" | grep -qv ' answered=none '; }
+
 # window_of PROGRAM: the window that it shows last.
 window_of() { xdotool search --onlyvisible --class "$1" | tail -n 1; }
 
@@ -150,7 +153,7 @@ stop_bus() {
   unset DBUS_SESSION_BUS_ADDRESS
 }
 
-# xfwm4 waits for the second phase and never answers a ShutdownCancelled then; KWrite talks about its text.
+# xfwm4 waits for the second phase, and never answers a ShutdownCancelled then; KWrite talks about its text.
 calls_off_beside_xfwm4() {
   check "a message bus starts for xfwm4" start_bus
   check "smd starts beside xfwm4" start_smd "$room/called_off_xfwm4" --quirks --patience 5000
@@ -165,7 +168,7 @@ calls_off_beside_xfwm4() {
     check "xfwm4 is saved behind the $turn logout" saves 1
   done
   check "a new logout waits for KWrite's dialog" answers ok shutdown
-  check "xfwm4 waits for its second phase" within 20 is_at xfwm4 waiting
+  check "xfwm4 waits behind KWrite" within 20 has_answered xfwm4
   stops_smd 7
   check "KWrite isn't closed by an smd that stood still" runs kwrite
   answers_dialog kwrite Escape
