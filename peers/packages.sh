@@ -10,7 +10,8 @@ editor="$display $compiler tmux nano x11-session-utils"
 xfce="$desktop $qt6 openbox emacs-lucid xfwm4 xfce4-panel xfdesktop4 xfce4-terminal thunar xfce4-settings dbus-daemon"
 packer='lintian binutils'
 greeter="$desktop lightdm lightdm-gtk-greeter dbus-daemon"
-needed="$xfce $editor $packer $greeter dbus-bin strace $basic"
+texts='openbox emacs-lucid xfwm4 xfconf dbus-daemon kwrite'
+needed="$xfce $texts $editor $packer $greeter dbus-bin strace $basic"
 
 # missing PACKAGE..: those of the packages that aren't installed; where there is no Debian, all of them.
 missing() {

@@ -60,29 +60,48 @@ stage_of() { order clients --plain | sed -n "s/.* stage=\([a-z]*\) .* program=[^
 
 is_at() { [ "$(stage_of "$1")" = "$2" ]; }
 
+# has_answered PROGRAM: whether it has said anything of the save that runs.
+has_answered() { order clients --plain | grep "program=[^ ]*$1\$" | grep -qv ' answered=none '; }
+
 # window_of PROGRAM: the window that it shows last.
 window_of() { xdotool search --onlyvisible --class "$1" | tail -n 1; }
 
-# Text that isn't saved.
+has_window() { [ -n "$(window_of "$1")" ]; }
+
+# types_text PROGRAM: text that isn't saved.
 types_text() {
-  within 20 window_of featherpad > /dev/null && xdotool windowactivate --sync "$(window_of featherpad)" type unsaved
+  within 20 has_window "$1" && xdotool windowactivate --sync "$(window_of "$1")" type unsaved && within 10 has_text "$1"
 }
 
-# A logout, into FeatherPad's dialog about its text.
-logs_out_into_a_dialog() { answers ok shutdown && within 20 is_at featherpad interacting; }
-
-# saves COUNT: whether a checkpoint goes through with so many programs that were asked.
-saves() {
-  within 10 answers ok checkpoint && within 20 all_saved "$1"
+# has_text PROGRAM: whether the title of a window of it says that there is text which isn't saved.
+has_text() {
+  local window
+  for window in $(xdotool search --onlyvisible --class "$1"); do
+    xdotool getwindowname "$window" | grep -qF '*' && return 0
+  done
+  return 1
 }
+
+# logs_out_into_a_dialog PROGRAM: a logout, into the program's dialog about its text.
+logs_out_into_a_dialog() { answers ok shutdown && within 20 is_at "$1" interacting; }
+
+# saves COUNT: whether a checkpoint goes through with so many programs that were asked; one that still owes its answer to a
+# logout is asked by the next one.
+saves() { within 40 saves_once "$1"; }
+
+saves_once() { within 10 answers ok checkpoint && within 20 order_idle && all_saved "$1"; }
 
 all_saved() {
   [ "$(order clients --plain | grep -c ' asked=save-complete ')" = "$1" ] && order status | grep -q ' idle$'
 }
 
-# answers_dialog KEY: the user answers the dialog, and the program goes on.
-answers_dialog() {
-  xdotool windowactivate --sync "$(window_of featherpad)" key "$1"
+# answers_dialog PROGRAM KEY..: the user answers the dialog, and the program goes on.
+answers_dialog() { xdotool windowactivate --sync "$(window_of "$1")" key "${@:2}"; }
+
+# escapes PROGRAM: whether Escape calls the logout off. The dialog may have come a moment ago, and not have the key yet.
+escapes() {
+  answers_dialog "$1" Escape 2> /dev/null
+  within 3 order_idle
 }
 
 # openbox never answers a ShutdownCancelled, nor does Emacs where it waits to talk; FeatherPad talks about its text.
@@ -92,9 +111,9 @@ calls_off_logouts() {
   joins featherpad 2 featherpad
   joins emacs 3 emacs -Q
   sleep 2
-  check "text is written in FeatherPad" types_text
+  check "text is written in FeatherPad" types_text featherpad
   for turn in first second; do
-    check "FeatherPad's dialog stands in the $turn logout" logs_out_into_a_dialog
+    check "FeatherPad's dialog stands in the $turn logout" logs_out_into_a_dialog featherpad
     check "the $turn logout is called off" answers ok cancel
     check "openbox and Emacs are saved behind the $turn logout" saves 2
   done
@@ -103,13 +122,63 @@ calls_off_logouts() {
   check "a new logout waits for the dialog" answers ok shutdown
   sleep 8
   check "FeatherPad isn't closed in the new logout" runs featherpad
-  answers_dialog Escape
+  answers_dialog featherpad Escape
   check "FeatherPad is asked anew" within 20 is_at featherpad interacting
-  answers_dialog Escape
+  answers_dialog featherpad Escape
   check "FeatherPad's dialog calls the new logout off" within 20 order_idle
   check "all three are saved behind that" saves 3
+  check "the text is there" has_text featherpad
   ends_without_a_logout openbox emacs featherpad
   for name in openbox emacs featherpad; do check "$name has ended" within 20 runs_no "$name"; done
+}
+
+# stops_smd SECONDS: smd stands still for so long.
+stops_smd() {
+  kill -STOP "$smd_id"
+  sleep "$1"
+  kill -CONT "$smd_id"
+}
+
+# start_bus: a message bus, without which xfwm4 finds no defaults.
+start_bus() {
+  dbus-daemon --session --nofork --print-address > "$room/bus" 2> /dev/null < /dev/null &
+  bus_id=$!
+  within 20 test -s "$room/bus" || return 1
+  export DBUS_SESSION_BUS_ADDRESS
+  DBUS_SESSION_BUS_ADDRESS=$(cat "$room/bus")
+}
+
+stop_bus() {
+  kill "$bus_id"
+  unset DBUS_SESSION_BUS_ADDRESS
+}
+
+# xfwm4 waits for the second phase, and never answers a ShutdownCancelled then; KWrite talks about its text.
+calls_off_beside_xfwm4() {
+  check "a message bus starts for xfwm4" start_bus
+  check "smd starts beside xfwm4" start_smd "$room/called_off_xfwm4" --quirks --patience 5000
+  joins xfwm4 1 xfwm4 --compositor=off
+  echo words > "$at/words"
+  joins kwrite 2 kwrite "$at/words"
+  sleep 2
+  check "text is written in KWrite" types_text kwrite
+  for turn in first second; do
+    check "KWrite's dialog stands in the $turn logout" logs_out_into_a_dialog kwrite
+    check "the $turn logout is called off beside xfwm4" answers ok cancel
+    check "xfwm4 is saved behind the $turn logout" saves 1
+  done
+  check "a new logout waits for KWrite's dialog" answers ok shutdown
+  check "xfwm4 waits behind KWrite" within 20 has_answered xfwm4
+  stops_smd 7
+  check "KWrite isn't closed by an smd that stood still" runs kwrite
+  answers_dialog kwrite Escape
+  check "KWrite is asked anew" within 20 is_at kwrite interacting
+  check "KWrite's dialog calls the new logout off" within 30 escapes kwrite
+  check "both are saved beside xfwm4" saves 2
+  check "the text is there in KWrite" has_text kwrite
+  ends_without_a_logout xfwm4 kwrite
+  for name in xfwm4 kwrite; do check "$name has ended beside the bus" within 20 runs_no "$name"; done
+  stop_bus
 }
 
 # ends_without_a_logout PROGRAM..: smd and these programs, of which none may be there for the next desktop.
@@ -131,4 +200,5 @@ quirk_sessions() {
   with_twm
   with_openbox
   calls_off_logouts
+  calls_off_beside_xfwm4
 }
