@@ -1,0 +1,4 @@
+pub mod Sifted
+pub mod Placed
+pub mod Kept
+pub mod Told

@@ -1,0 +1,7 @@
+//! Tests of `session_return`.
+#![tactic(auto)]
+
+#[cfg(test)]
+mod notation;
+#[cfg(test)]
+mod rows;
