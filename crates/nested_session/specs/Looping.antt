@@ -22,11 +22,11 @@ use Rattle.nested_session.specs.declared.nest.Nest.{Nest}
 
 -- A session with this configuration opened this book, and added these effects: so many events were heard among them, they are those
 -- that were to come, and the nest stands where the script does behind them.
-pub record Holds (config : Config) (agent : Run Keeper) (first : List ℕ) (coming left : Option (List Event)) (base told : Option (List Effect)) (count : ℕ) (nest : Nest) (opening : Book) (current : Option Current) (effects : List Effect) : Type 0 where
+pub record Holds (config : Config) (agent : Run Keeper) (first : List ℕ) (coming left : Option (List Event)) (base told : Option (List Effect)) (n : ℕ) (nest : Nest) (opening : Book) (current : Option Current) (effects : List Effect) : Type 0 where
   pub all : List (Woven Effect)
   pub are : effects_of all ≡ effects
   pub goes : GoesOn config opening current base (heard effects) told nest (nested config opening agent first (heard effects)).next (nested config opening agent first (heard effects)).line all
-  pub count : length (heard effects) ≡ count
+  pub count : length (heard effects) ≡ n
   pub brought : BroughtSoFar coming left (heard effects)
 
 -- the run goes on behind so many events
