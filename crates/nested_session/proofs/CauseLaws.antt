@@ -1,4 +1,5 @@
 -- What caused a fault in the later part of a run caused it in the whole of it.
+use Rattle.std.specs.Prelude.{Result, Ok, Err, IfErr}
 use Rattle.sm_world.specs.Outside.{NotFallen}
 use Rattle.sm_world.specs.declared.failures.Faults.{Faults}
 use Rattle.sm_world.proofs.Counting.{rose_since}
@@ -16,3 +17,8 @@ cause_since ConsoleFault old now new kept cause = rose_since old.console now.con
 cause_since Worn old now new kept cause = tt
 cause_since Spent old now new kept cause = tt
 cause_since NoMemory old now new kept cause = tt
+
+-- so it did where a fault came
+pub cause_if : {A : Type 0} (answer : Result A ServeFault) (old now new : Faults) → NotFallen old now → IfErr answer (HasCause now new) → IfErr answer (HasCause old new)
+cause_if (Ok x) old now new kept cause = tt
+cause_if (Err fault) old now new kept cause = cause_since fault old now new kept cause

@@ -31,6 +31,7 @@ use Rattle.session_engine.specs.declared.fault.ServeFault.TheVariants.{ConsoleFa
 use Rattle.session_engine.specs.declared.session.Session.{Session}
 use Rattle.session_engine.proofs.Sessions.{ok_is_no_fault, runs_over, the_fault}
 use Rattle.nested_session.specs.Nesting.{Nested, Shows, all_taken, begun, chain, nested, opens, sent, taken}
+use Rattle.nested_session.specs.Looping.{GoesFurther, InLoop}
 use Rattle.nested_session.specs.Nests.{success}
 use Rattle.nested_session.specs.Serving.{Nesting, Weaves}
 use Rattle.nested_session.specs.Standing.{GoesOn, HasEnded, IsCutShort, IsOfOuter, Makes, Ready, Wove, sent_on}
@@ -59,19 +60,11 @@ nested_more config opening agent first events event e =
     ∙ ap (λ (xs : List (Woven Item)). record { line = xs; next = (taken event rest.next).next }) (sym (append_assoc front.line rest.line (taken event rest.next).line))
 
 module _ (config : Config) (turns : ℕ) (agent : Run Keeper) (first : List ℕ) where
+  abbrev IsIn : Outside → Outside → ℕ → Nest → Type 0
+  IsIn old now n nest = InLoop config agent first old now n nest
+
   abbrev script_for : Book → List Event → Shows
   script_for opening events = nested config opening agent first events
-
-  -- what holds of the effects that were added, as a turn of the loop begins
-  pub record Holds (coming left : Option (List Event)) (base told : Option (List Effect)) (n : ℕ) (nest : Nest) (opening : Book) (current : Option Current) (effects : List Effect) : Type 0 where
-    pub all : List (Woven Effect)
-    pub are : effects_of all ≡ effects
-    pub goes : GoesOn config opening current base (heard effects) told nest (script_for opening (heard effects)).next (script_for opening (heard effects)).line all
-    pub count : length (heard effects) ≡ n
-    pub brought : BroughtSoFar coming left (heard effects)
-
-  abbrev pub InLoop : Outside → Outside → ℕ → Nest → Type 0
-  InLoop old now n nest = Opens config.session old now (Holds old.coming now.coming old.told now.told n nest)
 
   -- The opening
 
@@ -105,7 +98,7 @@ module _ (config : Config) (turns : ℕ) (agent : Run Keeper) (first : List ℕ)
   opened_line opening = append-nil (map (λ deed. Inner (Did deed)) (deeds_in (opening_acts opening)) ++ sent first)
 
   pub loop_begins : (old mid now : Outside) (session : Session) (stand : Stand) → first ≢ success → IsRun agent stand → mid.coming ≡ old.coming → now.coming ≡ mid.coming → now.size ≡ mid.size → now.told ≡ adds mid.told (sent_on first) → Starts config old mid (Ok session)
-      → InLoop old now 0 (record { session = session; agent = Some stand; awaited = None })
+      → IsIn old now 0 (record { session = session; agent = Some stand; awaited = None })
   loop_begins old mid now session stand other is_run same_one same_two sized said starts =
       let es : List Effect = starts.adds.effects in
       let deaf : heard es ≡ [] = starts.adds.holds.1 in
@@ -237,8 +230,8 @@ module _ (config : Config) (turns : ℕ) (agent : Run Keeper) (first : List ℕ)
   next_more : (opening : Book) (events : List Event) (event : Event) → (script_for opening events).next.finished ≡ false → (made_for opening events event).next ≡ (script_for opening (events ++ event ∷ [])).next
   next_more opening events event e = sym (ap (λ (s : Shows). s.next) (nested_more config opening agent first events event e))
 
-  pub loop_goes_on : (n more : ℕ) (old now between later : Outside) (nest next : Nest) (event : Event) → more ≡ suc n → InLoop old now n nest → between.told ≡ adds now.told (Heard event ∷ []) → TakesNext {E = ServeFault} now.coming between.coming (Ok event)
-      → later.coming ≡ between.coming → later.size ≡ 16777280 → Taking between later nest event (Ok (Goes next)) → InLoop old later more next
+  pub loop_goes_on : (n more : ℕ) (old now between later : Outside) (nest next : Nest) (event : Event) → more ≡ suc n → IsIn old now n nest → between.told ≡ adds now.told (Heard event ∷ []) → TakesNext {E = ServeFault} now.coming between.coming (Ok event)
+      → later.coming ≡ between.coming → later.size ≡ 16777280 → Taking between later nest event (Ok (Goes next)) → IsIn old later more next
   loop_goes_on n more old now between later nest next event is_more held was_heard takes same sized takings =
       let at = held.adds.holds in
       let events : List Event = heard held.adds.effects in
@@ -278,7 +271,7 @@ module _ (config : Config) (turns : ℕ) (agent : Run Keeper) (first : List ℕ)
   brought_then : (old now between : Outside) (events : List Event) (event : Event) → BroughtSoFar old.coming now.coming events → TakesNext {E = ServeFault} now.coming between.coming (Ok event) → Brought old.coming (events ++ event ∷ [])
   brought_then old now between events event brought takes = brought_is old.coming between.coming (events ++ event ∷ []) (brought_more ServeFault old.coming now.coming between.coming events event brought takes)
 
-  pub loop_ends : (n : ℕ) (old now between later : Outside) (nest : Nest) (event : Event) → n < turns → InLoop old now n nest → between.told ≡ adds now.told (Heard event ∷ []) → TakesNext {E = ServeFault} now.coming between.coming (Ok event)
+  pub loop_ends : (n : ℕ) (old now between later : Outside) (nest : Nest) (event : Event) → n < turns → IsIn old now n nest → between.told ≡ adds now.told (Heard event ∷ []) → TakesNext {E = ServeFault} now.coming between.coming (Ok event)
       → later.size ≡ 16777280 → Taking between later nest event (Ok Finished) → Nesting config turns agent first old later (Ok tt)
   loop_ends n old now between later nest event few held was_heard takes sized takings =
       let at = held.adds.holds in
@@ -319,7 +312,7 @@ module _ (config : Config) (turns : ℕ) (agent : Run Keeper) (first : List ℕ)
         };
       }
 
-  pub loop_cut : (n : ℕ) (old now between later : Outside) (nest : Nest) (event : Event) (fault : ServeFault) → n < turns → InLoop old now n nest → between.told ≡ adds now.told (Heard event ∷ []) → TakesNext {E = ServeFault} now.coming between.coming (Ok event)
+  pub loop_cut : (n : ℕ) (old now between later : Outside) (nest : Nest) (event : Event) (fault : ServeFault) → n < turns → IsIn old now n nest → between.told ≡ adds now.told (Heard event ∷ []) → TakesNext {E = ServeFault} now.coming between.coming (Ok event)
       → later.size ≡ 16777280 → Taking between later nest event (Err fault) → Nesting config turns agent first old later (Err fault)
   loop_cut n old now between later nest event fault few held was_heard takes sized takings =
       let at = held.adds.holds in
@@ -345,7 +338,7 @@ module _ (config : Config) (turns : ℕ) (agent : Run Keeper) (first : List ℕ)
       })
 
   -- nothing more was heard
-  pub loop_silent : (n : ℕ) (old now new : Outside) (nest : Nest) (fault : ServeFault) → n < turns → IsOfOuter fault → new.told ≡ adds now.told [] → new.size ≡ now.size → InLoop old now n nest → Nesting config turns agent first old new (Err fault)
+  pub loop_silent : (n : ℕ) (old now new : Outside) (nest : Nest) (fault : ServeFault) → n < turns → IsOfOuter fault → new.told ≡ adds now.told [] → new.size ≡ now.size → IsIn old now n nest → Nesting config turns agent first old new (Err fault)
   loop_silent n old now new nest fault few of_outer quiet sized held =
       let at = held.adds.holds in
       let events : List Event = heard held.adds.effects in
@@ -372,7 +365,7 @@ module _ (config : Config) (turns : ℕ) (agent : Run Keeper) (first : List ℕ)
       })
 
   -- as many events were heard as were granted
-  pub loop_spent : (n : ℕ) (old now : Outside) (nest : Nest) → n ≡ turns → InLoop old now n nest → Nesting config turns agent first old now (Err Spent)
+  pub loop_spent : (n : ℕ) (old now : Outside) (nest : Nest) → n ≡ turns → IsIn old now n nest → Nesting config turns agent first old now (Err Spent)
   loop_spent n old now nest is held =
       let at = held.adds.holds in
       let events : List Event = heard held.adds.effects in
@@ -408,3 +401,10 @@ module _ (config : Config) (turns : ℕ) (agent : Run Keeper) (first : List ℕ)
           };
         };
       })
+
+  -- what a turn made of it
+  pub loop_takes : (n : ℕ) (old now between later : Outside) (nest : Nest) (event : Event) (answer : Result Answered ServeFault) → n < turns → IsIn old now n nest → between.told ≡ adds now.told (Heard event ∷ []) → TakesNext {E = ServeFault} now.coming between.coming (Ok event)
+      → later.coming ≡ between.coming → later.size ≡ 16777280 → Taking between later nest event answer → GoesFurther config turns agent first old later n answer
+  loop_takes n old now between later nest event (Ok (Goes next)) few held was_heard takes same sized takings = loop_goes_on n (n + 1) old now between later nest next event (omega arith) held was_heard takes same sized takings
+  loop_takes n old now between later nest event (Ok Finished) few held was_heard takes same sized takings = loop_ends n old now between later nest event few held was_heard takes sized takings
+  loop_takes n old now between later nest event (Err fault) few held was_heard takes same sized takings = loop_cut n old now between later nest event fault few held was_heard takes sized takings

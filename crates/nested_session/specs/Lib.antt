@@ -4,6 +4,7 @@ pub mod Nests
 pub mod Standing
 pub mod Promise
 pub mod Serving
+pub mod Looping
 pub mod Tags
 pub mod Awaited
 pub mod Examples
