@@ -36,14 +36,14 @@ has_mode() { [ "$(stat -c %a "$wrapped/$1")" = "$2" ]; }
 
 has_no() { [ ! -e "$wrapped/$1" ]; }
 
-# keeps NAME TEXT: whether this text was kept beside the file before another was put over it.
-keeps() { grep -qsxF "$2" "$wrapped/$1".kept-*; }
+# lies_beside NAME TEXT: whether this text was kept beside the file before another was put over it.
+lies_beside() { grep -qsxF "$2" "$wrapped/$1".kept-*; }
 
 # keeps_three NAME: whether the last three are kept, and no more.
 keeps_three() { [ "$(find "$wrapped" -name "$1.kept-*" | wc -l)" -eq 3 ]; }
 
-# tells TEXT: whether smwrap said so.
-tells() { grep -qF "$1" "$wrapped/said"; }
+# was_told TEXT: whether smwrap said so.
+was_told() { grep -qF "$1" "$wrapped/said"; }
 
 # The words of the first login: the place of the manager, the state, and the editor.
 first_words() {
@@ -98,7 +98,7 @@ editor_comes_back() {
   check "with the last text under $1" within 30 shows "one $first_text"
   check "which is its file under $1" reads text "one $first_text"
   check "which has its mode under $1" has_mode text 640
-  check "what it was put over is kept under $1" keeps text spoiled
+  check "what it was put over is kept under $1" lies_beside text spoiled
   keys kill-server
 }
 
@@ -162,13 +162,13 @@ text_that_grows() {
   check "a text is saved" within 30 is text.1 monday
   head -c 70021 /dev/zero | tr '\0' x > "$wrapped/text"
   check "a checkpoint of a text that grew" answers ok checkpoint
-  check "tells that it isn't saved" within 20 tells "cannot use $wrapped/text: it has more than 65536 bytes"
+  check "tells that it isn't saved" within 20 was_told "cannot use $wrapped/text: it has more than 65536 bytes"
   check "and what that means, once" within 20 has_lines 1 "smwrap: the next login begins with what was saved before" "$wrapped/said"
   check "its session ends" logs_out
   check "the next login begins" start_smd "$wrapped"
   check "with what was saved" within 30 is text monday
   check "and the text that grew is kept" [ "$(cat "$wrapped"/text.kept-* | wc -c)" -eq 70021 ]
-  check "which is told" tells "$wrapped/text was not what was saved last: it is kept as $wrapped/text.kept-"
+  check "which is told" was_told "$wrapped/text was not what was saved last: it is kept as $wrapped/text.kept-"
   check "this session ends too" logs_out
   for day in tuesday wednesday thursday; do
     put text "$day"
@@ -177,7 +177,7 @@ text_that_grows() {
     check "the session of $day ends" logs_out
   done
   check "the last three texts are kept" keeps_three text
-  check "among them the newest" keeps text thursday
+  check "among them the newest" lies_beside text thursday
 }
 
 # Two lines of copies of one file, as two sessions have them.
@@ -194,17 +194,17 @@ lines_of_copies() {
   check "a checkpoint of both lines" answers ok checkpoint
   check "saves the second one" within 30 is text.4 tuesday
   check "and leaves the place that is taken as it is" is text.2 somebody
-  check "which is told" within 20 tells "cannot use $wrapped/text.2: "
+  check "which is told" within 20 was_told "cannot use $wrapped/text.2: "
   check "the session of both ends" logs_out
   rm -f "$wrapped"/text.[13-9]
   check "a login without the copies begins" start_smd "$wrapped"
   check "both are there" within 30 stands 2 2 2
-  check "and it is told with what they begin" tells " is gone: the program begins with $wrapped/text as it is"
+  check "and it is told with what they begin" was_told " is gone: the program begins with $wrapped/text as it is"
   check "their session ends" logs_out
   rm -f "$wrapped"/text*
   check "a login without any file begins" start_smd "$wrapped"
   check "both are there again" within 30 stands 2 2 3
-  check "and begin without one" tells "a file that can be copied: the program begins without"
+  check "and begin without one" was_told "a file that can be copied: the program begins without"
   check "their last session ends" logs_out
 }
 
