@@ -4,6 +4,7 @@
 BIN is a folder with the scripts and the programs, and each test has a desktop of its own in the folder, as those of endings.py.
 """
 import os
+import signal
 import sys
 import time
 
@@ -125,12 +126,13 @@ def restart_is_called_off(desk):
     """Whoever stays in the end doesn't want it any more, also at a later logout."""
     settings = power(desk, "Shut down")
     desk.login(PATH=settings["PATH"])
-    desk.mute("a")
+    slow = desk.program_ids("a")[0]
+    os.kill(slow, signal.SIGSTOP)
     left = desk.run("smd-logout", DISPLAY=desk.display.name, **settings)
+    os.kill(slow, signal.SIGCONT)
     if left.returncode != 1 or "Waiting for" not in asked(desk) or os.path.exists(settings["SMD_THEN"]):
         raise ValueError("smd-logout ended with %d: %s" % (left.returncode, left.stderr))
-    os.remove(desk.file("a", "mute"))
-    within(LONG, lambda: desk.stands(len(endings.NAMES)), "the session doesn't go on")
+    within(LONG, lambda: "cancelled" in desk.log("a") and desk.stands(len(endings.NAMES)), "the session doesn't go on")
     desk.leave()
     if noted(desk):
         raise ValueError("noted is %s" % noted(desk))
