@@ -56,11 +56,14 @@ class Resident:
     def hear(self):
         """Takes the next message; whether the session goes on."""
         try:
-            _, minor, _, body = self.client.next()
+            major, minor, _, body = self.client.next()
         except (EOFError, OSError):
             self.note("the manager has gone")
             return False
-        if minor == xsmp.SAVE:
+        if major == 0:
+            if minor == xsmp.PING:
+                self.client.send(xsmp.message(0, xsmp.PONG))
+        elif minor == xsmp.SAVE:
             self.note("asked to save" + (" for a logout" if body[1] else ""))
             if body[1] and os.path.exists(self.file("talks")):
                 self.client.say(xsmp.ASK_TALK, second=1)
