@@ -211,7 +211,7 @@ full_disk() {
   local before
   before=$(store_sum)
   stand_in cp 'echo part > "$3"' 'echo "cp: No space left on device" >&2' 'exit 1'
-  check "nothing is restored where there is no room" refused 1 "can't be copied: is the disk full?" --restore 1
+  check "nothing is restored where there is no room" refused 1 "can't be kept: is the disk full?" --restore 1
   check "the store is as it was where there is no room" test "$(store_sum)" = "$before"
   check "a login begins where nothing can be kept" logs_in
   check "it says so" was_said "can't be kept: is the disk full?"
@@ -276,6 +276,31 @@ both_at_once() {
 }
 
 one_gone() { is_gone "$1" || is_gone "$2"; }
+
+# session_words NAME: what the store has of a session.
+session_words() { "$smd" sessions --store "$stores/store" | grep "^session $1 "; }
+
+epoch() { store_words --json | sed -n 's/^  "epoch": \([0-9]*\).*/\1/p'; }
+
+# one_comes_back: a restore puts one session back. The other one of the store stays, and the epoch doesn't fall.
+one_comes_back() {
+  local other before
+  cp "$desk/client" "$desk/client-e"
+  : > "$desk/client-e.said"
+  echo "$desk/client-e" > "$desk/config/smd/session.work"
+  check "another session begins" logs_in work
+  check "its program is saved" within 60 has 1
+  check "it is left" leaves
+  other=$(session_words work)
+  before=$(epoch)
+  check "the store has it" test -n "$other"
+  check "the first session is put back beside it" logs_in --restore "$(number_of 4)"
+  check "its four programs come back beside another session" within 60 has 4
+  check "they have their IDs beside it" test "$(ids | head -n 4)" = "$wanted_ids"
+  check "the other session stayed" test "$(session_words work)" = "$other"
+  check "the epoch rose" test "$(epoch)" -gt "$before"
+  check "the session that was put back is left" leaves
+}
 
 # session_without NAMES: a login at which these programs don't start, and its logout.
 session_without() {
@@ -483,6 +508,7 @@ yesterday() {
   check "a store is read and not written" reads_only "$stores/store"
   five_at_most
   damaged_store
+  one_comes_back
   recorded_sessions
   judgements
   refusals

@@ -3,7 +3,7 @@
 _smd_words() {
   local before=$1 line=$2
   case $before in
-    --socket | --control | --store | --authority | --record | --to | --state | --follow | --outer | --outer-authority) echo FILES ;;
+    --socket | --control | --store | --authority | --record | --beside | --to | --state | --follow | --outer | --outer-authority) echo FILES ;;
     --order) echo lsb msb ;;
     drop) smctl clients --plain 2> /dev/null | sed -n 's/^conn=\([0-9]*\) .*/\1/p' ;;
     forget) smctl clients --plain 2> /dev/null | sed -n 's/.* id=\([^ -][^ ]*\).*/\1/p' ;;
@@ -16,10 +16,11 @@ _smd_words() {
 _smd_own() {
   set -- $1
   case ${1##*/}:${2-} in
-    smd:) echo serve rehearse exercise store-check sessions --help --version ;;
+    smd:) echo serve rehearse exercise store-check sessions restore --help --version ;;
     smd:serve) echo --socket --control --store --authority --patience --session --private --last-wait --quirks --record ;;
     smd:store-check) echo --store --json ;;
     smd:sessions) echo --store ;;
+    smd:restore) echo --store --from --session --all --beside --look ;;
     smctl: | smctl:--control) echo checkpoint shutdown cancel status clients drop forget --control --help --version ;;
     smctl:clients) echo --plain ;;
     smctl:shutdown) echo --wait ;;

@@ -6,7 +6,7 @@ ghost use Rattle.session_recorder.specs.Recorded.{IsNew};
 
 use desktop_world::{BadPlaces, DesktopWorld, Places, host_name, random_cookie};
 use owned_lists::{NoMemory, Octets};
-use program_frame::{OwnTexts, StandardConsole, read_words};
+use program_frame::{OwnTexts, StandardConsole, conclude, read_words};
 use program_texts::SMD;
 use quirk_world::{QuirkWorld, take_quirks};
 use record_file::{RecordFile, take_record};
@@ -17,7 +17,8 @@ use std::io;
 use std::io::ErrorKind;
 use std::process::ExitCode;
 use store_report::{read_check, read_sessions, take_session};
-use store_view::{check_store, list_sessions};
+use store_return::{Fault, are_of_restore, carry_out_order, read_order, take_marks};
+use store_view::{check_store, kept_book, list_sessions};
 use unix_links::LinkOptions;
 
 const TEXTS: OwnTexts = OwnTexts {
@@ -41,6 +42,9 @@ const TEXTS: OwnTexts = OwnTexts {
         \x20                               as: smd store-check --store ~/.local/state/smd/store\n\
         \x20      smd sessions --store F  lists the sessions of a store, reading only\n\
         \x20                               as: smd sessions --store ~/.local/state/smd/store\n\
+        \x20      smd restore --store F --from KEPT [--session NAME | --all] [--beside FILE] [--look]\n\
+        \x20                               puts one session of a kept store back, or all of them\n\
+        \x20                               as: smd restore --store s --from kept --session work\n\
         \x20      smd --help              shows this\n\
         \x20      smd --version           shows the version\n\n\
         With a patience of MS milliseconds a client is shut that is silent for so long\n\
@@ -232,6 +236,30 @@ fn begun(
     }
 }
 
+/// Puts a session of a kept book back into a store, as the words say.
+fn restored(
+    rt: HostRuntime,
+    world: &mut DesktopWorld,
+    mut words: Vec<String>,
+) -> Result<(), Fault> {
+    let marks = take_marks(&mut words);
+    let Some(order) = read_order(words.as_slice(), marks) else {
+        return Err(Fault::BadWords);
+    };
+    let kept = match kept_book(rt, order.kept) {
+        Ok(kept) => kept,
+        Err(fault) => return Err(fault),
+    };
+    carry_out_order(rt.alloc(), world, order, &kept)
+}
+
+/// The status of that.
+fn restore_status(rt: HostRuntime, words: Vec<String>) -> u8 {
+    let mut world = DesktopWorld::new(rt, String::new(rt.alloc()));
+    let ending = restored(rt, &mut world, words);
+    conclude(rt.alloc(), &mut world, ending)
+}
+
 /// The status of a run with these words on this desktop.
 fn run(rt: HostRuntime, mut words: Vec<String>) -> io::Result<u8> {
     let session = take_session(&mut words);
@@ -240,6 +268,9 @@ fn run(rt: HostRuntime, mut words: Vec<String>) -> io::Result<u8> {
     }
     if let Some(store) = read_sessions(words.as_slice()) {
         return Ok(list_sessions(rt, store));
+    }
+    if are_of_restore(words.as_slice()) {
+        return Ok(restore_status(rt, words));
     }
     let has_quirks = take_quirks(&mut words);
     let mut options = link_options(&mut words)?;

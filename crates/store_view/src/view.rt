@@ -1,3 +1,7 @@
+ghost use Rattle.std.specs.Prelude.{IfOk};
+ghost use Rattle.checkpoint_records.specs.Rules.{KeepsRules};
+
+use checkpoint_records::Book;
 use checkpoint_slots::STORE_BYTES;
 use owned_lists::{NoMemory, Octets};
 use program_frame::StandardConsole;
@@ -10,6 +14,7 @@ use store_file::check_file;
 use store_report::{
     Check, Finding, Refusal, look_into, report_json, report_lines, sessions_report,
 };
+use store_return::{BOOK_LIMIT, Fault, read_kept};
 
 /// How often the store of a living manager is read again until it stays as it was read.
 const TRIES: u32 = 20;
@@ -21,7 +26,7 @@ struct Report {
     status: u8,
 }
 
-/// What a file has: all its bytes, which are as many as a store's, or another size.
+/// What a file has: all its bytes, or another size than is wanted.
 #[derive(Drop)]
 enum Contents {
     Whole(Vec<u8>),
@@ -210,4 +215,34 @@ pub fn check_store(rt: HostRuntime, check: Check<'_>, session: Option<&str>) -> 
 pub fn list_sessions(rt: HostRuntime, store: &str) -> u8 {
     let report = sessions_in(rt, store);
     told(rt, store, report)
+}
+
+/// The bytes of a file in which a book was kept, or its size, where that is neither a store's nor a
+/// book's. The file must be that of who runs this, since the commands in it are to be started.
+fn read_file(rt: HostRuntime, path: &str) -> io::Result<Contents> {
+    let file = open_file(rt, path)?;
+    let found = file.metadata()?;
+    let size = found.len();
+    check_file(rt, path, &found, size)?;
+    if size != STORE_BYTES && size > BOOK_LIMIT {
+        return Ok(Contents::OtherSize(size));
+    }
+    let mut bytes = vec![in rt.alloc(); 0u8; size as usize]?;
+    file.read_exact_at(bytes.as_mut_slice(), 0)?;
+    Ok(Contents::Whole(bytes))
+}
+
+/// The book that was kept in a file, which is let go. The user is told why a file can't be read.
+pub fn kept_book(rt: HostRuntime, path: &str) -> Result<Book, Fault>
+    ensures rules { IfOk result KeepsRules }
+{
+    match read_file(rt, path) {
+        Ok(Contents::Whole(bytes)) => read_kept(rt.alloc(), Octets::from_vec(bytes)),
+        Ok(Contents::OtherSize(size)) => Err(Fault::KeptSize(size)),
+        Err(error) if error.kind() == ErrorKind::OutOfMemory => Err(Fault::NoMemory),
+        Err(error) => {
+            tell(rt, path, error);
+            Err(Fault::Disk)
+        }
+    }
 }

@@ -2,6 +2,4 @@
 #![tactic(auto)]
 
 #[cfg(test)]
-mod notation;
-#[cfg(test)]
 mod rows;

@@ -1,10 +1,8 @@
 //! What comes back over the book of a store, by rows written down by hand.
 
-use crate::notation::{book_from, shown};
 use checkpoint_records::{Book, count_entries, count_sessions};
-use owned_lists::Octets;
 use session_return::{
-    Refusal, Which, again_is_the_same, all_sessions_come_back, due_discards_stay, entries_back,
+    Refusal, again_is_the_same, all_sessions_come_back, due_discards_stay, entries_back,
     epochs_never_fall, fate_of, nothing_back_is_due, nothing_becomes_due, other_sessions_stay,
     put_back, returns_keep_rules, there_is_a_way_back,
 };
@@ -12,30 +10,13 @@ use std::alloc::{Alloc, Global};
 use std::process::Abort;
 use std::test::Fail;
 use test_tables::{expect_rows, text_of};
-
-fn which(alloc: Global, name: &str) -> Result<Which, Fail> {
-    match name {
-        "--all" => Ok(Which::All),
-        _ => Ok(Which::One(Octets::from_slice(alloc, name.as_bytes())?)),
-    }
-}
-
-/// The kept book, what comes back of it, and the store's book.
-fn parted(input: &str) -> Result<(&str, &str, &str), Fail> {
-    let Some((kept, rest)) = input.split_once(" / ") else {
-        return Err("no kept book".into());
-    };
-    match rest.split_once(" / ") {
-        Some((name, present)) => Ok((kept, name, present)),
-        None => Err("no present book".into()),
-    }
-}
+use written_books::{book_from, parted, shown, which_of};
 
 fn answer(alloc: Global, input: &str) -> Result<Result<Book, Refusal>, Fail> {
     let (kept, name, present) = parted(input)?;
     let kept = book_from(alloc, kept)?;
     let present = book_from(alloc, present)?;
-    Ok(put_back(alloc, &which(alloc, name)?, &kept, &present))
+    Ok(put_back(alloc, &which_of(alloc, name)?, &kept, &present))
 }
 
 /// The book that is left, or what stands in the way.
@@ -58,7 +39,7 @@ fn fates(alloc: Global, input: &str) -> Result<String, Fail> {
     let (kept, name, present) = parted(input)?;
     let kept = book_from(alloc, kept)?;
     let present = book_from(alloc, present)?;
-    let back = entries_back(alloc, &which(alloc, name)?, &kept)?;
+    let back = entries_back(alloc, &which_of(alloc, name)?, &kept)?;
     let mut text = String::new(alloc);
     for entry in back.as_slice() {
         let fate = fate_of(alloc, &present, entry)?;

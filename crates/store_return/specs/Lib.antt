@@ -1,0 +1,5 @@
+pub mod Faults
+pub mod Kept
+pub mod Lines
+pub mod Exchange
+pub mod Restoring

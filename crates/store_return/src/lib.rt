@@ -1,0 +1,16 @@
+//! A session of a kept book is put back into a store, or all of them.
+#![tactic(auto)]
+
+mod exchange;
+mod faults;
+mod kept;
+mod lines;
+mod program;
+mod restoring;
+mod words;
+
+pub use faults::Fault;
+pub use kept::{BOOK_LIMIT, read_kept};
+pub use program::carry_out_order;
+pub use restoring::{restore, show};
+pub use words::{Marks, Order, are_of_restore, read_order, take_marks};
