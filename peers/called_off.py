@@ -2,8 +2,10 @@
 """Logouts that are called off before all clients have answered, with `smd serve --quirks`:
     called_off.py SMD FOLDER TEST
 The clients do what programs were seen to do: one waits for the second phase and never answers, one keeps its dialog open,
-one answers late. It ends with 0 where saves go on without them, nobody is closed, and they save with the others again.
+one answers late, one leaves as soon as it has saved. It ends with 0 where saves go on without them, nobody is closed, they
+save with the others again, and who has left is started again and keeps its record and its state.
 """
+import os
 import signal
 import sys
 import time
@@ -200,10 +202,114 @@ def answers_in_a_row(manager):
         client.expect(xsmp.COMPLETE)
 
 
+def within(seconds, holds):
+    end = time.monotonic() + seconds
+    while not holds():
+        if time.monotonic() > end:
+            raise ValueError("not within %d seconds" % seconds)
+        time.sleep(0.02)
+
+
+class Early:
+    """A program that leaves as soon as it has saved, as those on Qt 5 do, and is started again by a command that leaves a
+    file. Each state has a DiscardCommand that leaves another one."""
+
+    def __init__(self, manager):
+        self.manager, self.states = manager, 0
+        self.room = os.path.dirname(manager.store)
+        self.client, self.own = manager.join()
+        asked(self.client)
+        self.save()
+        self.client.expect(xsmp.COMPLETE)
+
+    def file(self, name):
+        return os.path.join(self.room, name)
+
+    def save(self):
+        self.states += 1
+        self.client.set_command(b"DiscardCommand", [b"touch", os.fsencode(self.file("discarded-%d" % self.states))])
+        xsmp.save(self.client, [b"touch", os.fsencode(self.file("started"))])
+
+    def leave(self):
+        """It is asked, and leaves once it has saved."""
+        asked(self.client)
+        self.save()
+        self.close()
+
+    def close(self):
+        self.client.close()
+
+    def was_started(self):
+        return os.path.exists(self.file("started"))
+
+    def has_discarded(self, state):
+        return os.path.exists(self.file("discarded-%d" % state))
+
+    def come_back(self):
+        """It was started again, and has its ID and the state that it saved."""
+        within(20, self.was_started)
+        os.remove(self.file("started"))
+        self.client, own = self.manager.join(self.own)
+        if own != self.own:
+            raise ValueError("it has another ID")
+        kept = b"discarded-%d" % self.states
+        if not self.client.properties()[b"DiscardCommand"][-1].endswith(kept):
+            raise ValueError("its last state isn't that of its record")
+        if self.has_discarded(self.states):
+            raise ValueError("its last state was discarded")
+
+
+def leaves_early(manager):
+    """One that left is started again, while another program joins, and keeps its record and its state; twice."""
+    early, other = Early(manager), manager.saved()[0]
+    others = [other]
+    for _ in range(2):
+        manager.expect("shutdown", "ok")
+        early.leave()
+        for client in others:
+            asked(client)
+        call_off(manager, others)
+        for client in others:
+            client.say(xsmp.SAVED)
+        others.append(manager.saved()[0])
+        early.come_back()
+        checkpoint(manager, [early.client, *others])
+    logs_out(manager, [early.client, *others])
+
+
+def leaves_before_a_checkpoint(manager):
+    """Right behind the logout that was called off a checkpoint goes through with the one that has left."""
+    early, other = Early(manager), manager.saved()[0]
+    manager.expect("shutdown", "ok")
+    early.leave()
+    asked(other)
+    call_off(manager, [other])
+    other.say(xsmp.SAVED)
+    checkpoint(manager, [other])
+    early.come_back()
+    checkpoint(manager, [early.client, other])
+
+
+def leaves_before_a_logout(manager):
+    """So does a new logout, and at the next login it is started again."""
+    early, other = Early(manager), manager.saved()[0]
+    manager.expect("shutdown", "ok")
+    early.leave()
+    asked(other)
+    call_off(manager, [other])
+    other.say(xsmp.SAVED)
+    logs_out(manager, [other])
+    if early.was_started() or early.has_discarded(early.states):
+        raise ValueError("it was started in the logout, or its state was discarded")
+    manager.start()
+    early.come_back()
+
+
 TESTS = {
     it.__name__: it
     for it in (
         never_answers, never_asks_again, dialog_stands, dialog_in_a_new_logout, twice, answers_late, answers_in_a_row,
+        leaves_early, leaves_before_a_checkpoint, leaves_before_a_logout,
     )
 }
 

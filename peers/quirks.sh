@@ -181,6 +181,33 @@ calls_off_beside_xfwm4() {
   stop_bus
 }
 
+# is_connected ID: whether the program of this ID is listed; one that has left isn't.
+is_connected() { order clients --plain | grep -qF " id=$1 "; }
+
+# FeatherPad without text leaves as soon as it has saved, while xclock, which is stopped, holds the logout up.
+leaves_called_off_logouts() {
+  local stopped_id
+  check "smd starts for a program that leaves early" start_smd "$room/left_early" --quirks --patience 60000
+  joins openbox 1 openbox
+  joins featherpad 2 featherpad
+  joins xclock 3 xclock
+  stopped_id=$!
+  sleep 2
+  for number in 4 5; do
+    kill -STOP "$stopped_id"
+    check "a logout begins before number $number joins" answers ok shutdown
+    check "FeatherPad leaves before number $number joins" within 20 runs_no featherpad
+    check "the logout is called off before number $number joins" answers ok cancel
+    kill -CONT "$stopped_id"
+    joins xclock "$number" xclock
+    check "FeatherPad is started again beside number $number" within 20 runs featherpad
+    check "FeatherPad has its old ID beside number $number" within 20 is_connected smd-00000001-00000002
+    check "all are saved with number $number" saves "$number"
+  done
+  check "the session in which FeatherPad left logs out" logs_out
+  for name in openbox featherpad xclock; do check "$name has ended with the others" within 20 runs_no "$name"; done
+}
+
 # ends_without_a_logout PROGRAM..: smd and these programs, of which none may be there for the next desktop.
 ends_without_a_logout() {
   local id
@@ -200,5 +227,6 @@ quirk_sessions() {
   with_twm
   with_openbox
   calls_off_logouts
+  leaves_called_off_logouts
   calls_off_beside_xfwm4
 }

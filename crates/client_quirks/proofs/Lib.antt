@@ -5,6 +5,7 @@ pub mod Following
 pub mod Grown
 pub mod Joining
 pub mod Marking
+pub mod Stands
 pub mod Unheard
 pub mod Unheeded
 pub mod Viewed

@@ -1,8 +1,10 @@
 pub mod Amending
 pub mod Answering
 pub mod Exchange
+pub mod Stood
 pub mod Heeding
 pub mod Leaving
 pub mod Meanings
 pub mod Sides
 pub mod Speech
+pub mod Standing

@@ -1,19 +1,24 @@
-ghost use Rattle.std.specs.Prelude.{◌≡◌, ◌∷◌, [], ℕ, true, false, IfOk, OnOk, IsTrue};
+ghost use Rattle.std.specs.Prelude.{◌≡◌, ◌∷◌, [], ℕ, true, false, IfOk, IfSome, OnOk, IsTrue};
+ghost use Rattle.client_quirks.specs.Stood.{Names};
+ghost use Rattle.client_quirks.specs.Standing.{GivesOver};
 ghost use Rattle.std.specs.List.{concat};
 ghost use Rattle.late_answers.specs.Late.{at_first, is_excused};
 ghost use Rattle.client_quirks.specs.Sides.{IsSide};
 ghost use Rattle.client_quirks.specs.Answering.{order_by as order_stated, client_of, manager_of, HearsFrames, HandsOn, Hears, HearsPiece, TellsFrames, SendsOn, Tells, TellsBytes, passes_by, late_by, AnswersNothingLate, OrdersNothing};
 
 use crate::exchange::{Standpoint, hear_frames, tell_frames};
+use crate::naming::name_in;
 use crate::pieces::{PieceList, StreamPiece, add_bytes, alone};
 use crate::side::Side;
-use crate::tongue::{Tongue, is_about, is_reply};
+use crate::stand_in::StandIn;
+use crate::tongue::{Tongue, is_about, is_reply, is_speaking};
 use frame_speech::{Heeds, Speech};
 use ice_framing::WholeFrame;
 use ice_values::Endian;
 use late_answers::Late;
 use owned_lists::{NoMemory, Octets};
 use std::alloc::Global;
+use std::mem;
 
 /// Answers for a client whose logout was called off before it had answered, and takes away what it says
 /// late.
@@ -141,6 +146,36 @@ impl Answerer {
         ensures { result ≡ is_excused self.now.late }
     {
         self.late.is_excused()
+    }
+
+    /// The ID with which the client registers by a piece. When there is none isn't told.
+    pub fn registers(&self, piece: &[u8]) -> Result<Option<Octets>, NoMemory>
+        ensures { IfOk result (λ id. IfSome id (Names self.now.came piece.now)) }
+    {
+        name_in(self.alloc, &self.came, 1, piece)
+    }
+
+    /// The ID with which the manager registers the client by these bytes. When there is none isn't told.
+    pub fn registered(&self, bytes: &[u8]) -> Result<Option<Octets>, NoMemory>
+        ensures { IfOk result (λ id. IfSome id (Names self.now.sent bytes.now)) }
+    {
+        name_in(self.alloc, &self.sent, 2, bytes)
+    }
+
+    /// Gives who speaks in the client's place from now on, where both parties are understood. Nothing is
+    /// answered or taken away any more then.
+    pub fn give_over(&mut self) -> Option<StandIn>
+        ensures { GivesOver self.old result self.new }
+    {
+        let is_understood = self.follows
+            && is_speaking(self.came.speech)
+            && is_speaking(self.sent.speech);
+        if !is_understood {
+            return None;
+        }
+        self.follows = false;
+        let sent = mem::replace(&mut self.sent, Side::new(self.alloc));
+        Some(StandIn::new(self.alloc, sent, self.client()))
     }
 
     /// Whether a piece of the client's is handed on as it came, nothing goes out and nothing else changes,

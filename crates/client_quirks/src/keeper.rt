@@ -3,7 +3,7 @@ ghost use Rattle.std.specs.List.{concat};
 ghost use Rattle.client_quirks.specs.Sides.{IsSide, Follows};
 ghost use Rattle.client_quirks.specs.Leaving.{mark, told_behind, told_by, heard_behind, front_count, is_kept, closing, Hears, Listens, Keeps, GivesUp};
 ghost use Rattle.client_quirks.specs.Heeding.{HasNothing};
-ghost use Rattle.client_quirks.specs.declared.stage.Stage.TheVariants.{Free, Kept};
+ghost use Rattle.client_quirks.specs.declared.stage.Stage.TheVariants.{Free, Kept, Released};
 
 use crate::heeding::{Heard, Told};
 use crate::pieces::{PieceList, StreamPiece, add_bytes, alone};
@@ -269,6 +269,17 @@ impl Keeper {
         self.sent.speech = walked.speech;
         self.stage = walked.stage;
         Ok(())
+    }
+
+    /// Holds nothing back any more that comes from now on.
+    pub fn let_go(&mut self)
+        ensures stage { self.new.stage ≡ Released }
+        ensures pieces { self.new.pieces ≡ self.old.pieces }
+        ensures ended { self.new.has_ended ≡ self.old.has_ended }
+        ensures came { self.new.came ≡ self.old.came }
+        ensures sent { self.new.sent ≡ self.old.sent }
+    {
+        self.stage = Stage::Released;
     }
 
     /// Gives all that is held back.

@@ -9,10 +9,13 @@ mod exchange;
 mod heeding;
 mod keeper;
 mod meanings;
+mod naming;
 mod pieces;
+mod restarting;
 mod side;
 mod speech;
 mod stage;
+mod stand_in;
 mod tongue;
 mod views;
 
@@ -22,3 +25,4 @@ pub use keeper::{Keeper, KeptEnd};
 pub use meanings::{amended, is_amended};
 pub use pieces::{PieceList, StreamPiece};
 pub use stage::Stage;
+pub use stand_in::{StandIn, Stood};

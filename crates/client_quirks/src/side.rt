@@ -1,8 +1,10 @@
-ghost use Rattle.std.specs.Prelude.{◌≡◌, [], IfOk, OnOk, IsTrue};
+ghost use Rattle.std.specs.Prelude.{◌≡◌, ◌∷◌, [], IfOk, IfSome, OnOk, IsTrue};
+ghost use Rattle.frame_speech.specs.Passing.{as_frame};
 ghost use Rattle.client_quirks.specs.Sides.{new_frames, held_of, is_between, IsSide, CutsOn, GoesBy};
 
 use frame_speech::{Cutting, FrameCutter, Heeds, Speech};
 use ice_framing::WholeFrameList;
+use ice_values::Endian;
 use owned_lists::NoMemory;
 use std::alloc::Global;
 
@@ -53,6 +55,18 @@ impl Side {
         match &self.cutter {
             Some(cutter) => cutter.passes(heeds, piece),
             None => true,
+        }
+    }
+
+    /// The order of a piece that is one whole frame, which comes between two frames. When there is none
+    /// isn't told.
+    pub fn alone(&self, piece: &[u8]) -> Option<Endian>
+        ensures { IfSome result (λ e. new_frames self.now.cutter piece.now
+            ≡ as_frame e piece.now ∷ []) }
+    {
+        match &self.cutter {
+            Some(cutter) => cutter.alone(piece),
+            None => None,
         }
     }
 

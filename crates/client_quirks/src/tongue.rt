@@ -1,13 +1,15 @@
-ghost use Rattle.std.specs.Prelude.{◌≡◌, ◌++◌, IfOk, OnOk};
+ghost use Rattle.std.specs.Prelude.{◌≡◌, ◌++◌, ◌&&◌, if◌then◌else◌, None, IfOk, OnOk};
 ghost use Rattle.std.specs.Result.{result_ok};
 ghost use Rattle.ice_values.specs.Frames.{IsFrame};
 ghost use Rattle.xsmp_messages.specs.Reading.{decode_at};
+ghost use Rattle.frame_speech.specs.Speech.{is_whole as is_whole_by};
 ghost use Rattle.client_quirks.specs.Exchange.{is_about_saves as about_by, is_turn as is_turn_by, is_heeded as is_heeded_by, is_about as is_about_by, is_reply as is_reply_by, is_speaking as is_speaking_by, message_in as message_by, spelled as spelled_by, word_bytes, save_bytes, ping, going_out};
+ghost use Rattle.client_quirks.specs.Stood.{is_xsmp as is_xsmp_by, xsmp_in as xsmp_by, line_bytes};
 
 use frame_speech::{Speech, byte_at, is_whole};
 use ice_framing::WholeFrame;
-use ice_values::{DecodeRefusal, EncodeRefusal, Endian};
-use late_answers::{Late, Outgoing, Word};
+use ice_values::{DecodeRefusal, EncodeRefusal, Endian, SaveKind, SaveStyle};
+use late_answers::{Late, Line, Outgoing, Word};
 use owned_lists::{NoMemory, Octets};
 use round_agreement::Wanted;
 use std::alloc::Global;
@@ -60,7 +62,8 @@ pub fn is_about(calm: bool, speech: Speech, frame: &[u8]) -> bool
     }
 }
 
-fn is_speaking(speech: Speech) -> bool
+/// Whether a party speaks XSMP.
+pub fn is_speaking(speech: Speech) -> bool
     ensures { result ≡ is_speaking_by speech }
 {
     match speech {
@@ -93,6 +96,26 @@ fn read(alloc: Global, endian: Endian, frame: &[u8]) -> Result<Option<XsmpMessag
 }
 
 /// The message that a frame is, where it is looked at and can be read.
+fn read_where(
+    alloc: Global,
+    looked_at: bool,
+    frame: &WholeFrame,
+) -> Result<Option<XsmpMessage>, NoMemory>
+    ensures { IfOk result (λ message. message
+        ≡ if is_whole_by frame.now && looked_at
+        then result_ok (decode_at frame.now.endian frame.now.bytes) else None) }
+{
+    if !is_whole(frame) {
+        return Ok(None);
+    }
+    if looked_at {
+        read(alloc, frame.endian, frame.bytes.as_slice())
+    } else {
+        Ok(None)
+    }
+}
+
+/// The message that a frame is about saves, where its client's are looked at.
 pub fn message_in(
     alloc: Global,
     calm: bool,
@@ -101,15 +124,29 @@ pub fn message_in(
 ) -> Result<Option<XsmpMessage>, NoMemory>
     ensures { IfOk result (λ message. message ≡ message_by calm speech frame.now) }
 {
-    if !is_whole(frame) {
-        return Ok(None);
+    read_where(alloc, is_about(calm, speech, frame.bytes.as_slice()), frame)
+}
+
+fn is_xsmp(speech: Speech, frame: &[u8]) -> bool
+    ensures { result ≡ is_xsmp_by speech frame.now }
+{
+    match speech {
+        Speech::Silent => false,
+        Speech::Greeted => false,
+        Speech::Speaks(opcode) => byte_at(frame, 0) == opcode,
+        Speech::Lost => false,
     }
-    let bytes = frame.bytes.as_slice();
-    if is_about(calm, speech, bytes) {
-        read(alloc, frame.endian, bytes)
-    } else {
-        Ok(None)
-    }
+}
+
+/// The message of XSMP that a frame is.
+pub fn xsmp_in(
+    alloc: Global,
+    speech: Speech,
+    frame: &WholeFrame,
+) -> Result<Option<XsmpMessage>, NoMemory>
+    ensures { IfOk result (λ message. message ≡ xsmp_by speech frame.now) }
+{
+    read_where(alloc, is_xsmp(speech, frame.bytes.as_slice()), frame)
 }
 
 impl Tongue {
@@ -136,6 +173,31 @@ impl Tongue {
         match word {
             Some(word) => self.put(&word.message(), out),
             None => Ok(()),
+        }
+    }
+
+    /// Adds what the manager hears of a client that has left.
+    pub fn put_line(self, line: Line, out: &mut Octets) -> Result<(), NoMemory>
+        ensures { OnOk result (out.new ≡ out.old ++ line_bytes self line) }
+    {
+        match line {
+            Line::Nothing => Ok(()),
+            Line::Saved => self.put(&XsmpMessage::SaveYourselfDone { success: true }, out),
+            Line::TalkedAndSaved => {
+                self.put(&XsmpMessage::InteractDone { cancel: false }, out)?;
+                self.put(&XsmpMessage::SaveYourselfDone { success: true }, out)
+            }
+            Line::AsksToSave => {
+                let request = XsmpMessage::SaveYourselfRequest {
+                    kind: SaveKind::Local,
+                    shutdown: false,
+                    style: SaveStyle::Nothing,
+                    fast: false,
+                    global: false,
+                };
+                self.put(&request, out)
+            }
+            Line::AsksForProperties => self.put(&XsmpMessage::GetProperties, out),
         }
     }
 

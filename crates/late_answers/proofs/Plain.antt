@@ -111,10 +111,10 @@ rests_on : (l : Late) (times : List ℕ) → is_owing l.phase ≡ false → is_o
 rests_on l [] is = is
 rests_on l (n ∷ times) is = rests_on (passed n l).late times (second (λ (o : Outcome). is_owing o.late.phase ≡ false) (is_owing l.phase && l.left - n == 0) _ _ (rw is refl) is)
 
-above : (a : ℕ) → (a == 0) ≡ false → 0 < a
+pub above : (a : ℕ) → (a == 0) ≡ false → 0 < a
 above a is = grind (arith, nat_tests)
 
-some_of : (times : List ℕ) → 0 < time_in times → 0 < length times
+pub some_of : (times : List ℕ) → 0 < time_in times → 0 < length times
 some_of [] more = absurd (omega arith)
 some_of (n ∷ times) more = omega arith
 

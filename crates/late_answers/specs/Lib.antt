@@ -1,2 +1,4 @@
+pub mod LeaverLaws
+pub mod Leavers
 pub mod Late
 pub mod Laws

@@ -1,4 +1,5 @@
 ghost use Rattle.late_answers.specs.Laws.{OthersAreSentAll, OthersAreHeard, WordsHaveTheirPlace, AnswersAreOfTheRunningSave, DebtsEnd};
+ghost use Rattle.late_answers.specs.LeaverLaws.{LeaversHaveTheirPlace, LeaversGoOn, LeaversEnd};
 
 /// Does nothing: its contract is a law of each client that was never told that a logout is called off.
 /// What the manager sends it goes out as it came.
@@ -28,4 +29,22 @@ pub fn answers_are_of_the_running_save()
 /// an answer.
 pub fn debts_end()
     ensures { DebtsEnd }
+{}
+
+/// Does nothing: its contract is a law of each message of the manager's to a leaver, and of time. What the
+/// manager hears in its place has its place in the phase in which the manager has the client then.
+pub fn leavers_have_their_place()
+    ensures { LeaversHaveTheirPlace }
+{}
+
+/// Does nothing: its contract is a law of leavers. One never goes back to where it was, so it is started
+/// again once at most.
+pub fn leavers_go_on()
+    ensures { LeaversGoOn }
+{}
+
+/// Does nothing: its contract is a law of time. The end of one that was started again and doesn't come
+/// back is handed on.
+pub fn leavers_end()
+    ensures { LeaversEnd }
 {}

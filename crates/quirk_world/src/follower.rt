@@ -1,6 +1,6 @@
 use crate::news::News;
-use client_quirks::{Amender, Answerer, Answering, Keeper, PieceList, StreamPiece};
-use owned_lists::{NoMemory, Octets};
+use client_quirks::{Amender, Answerer, Answering, Keeper, PieceList, StandIn, Stood, StreamPiece};
+use owned_lists::{CommandList, NoMemory, Octets};
 use sm_world::Conn;
 use std::alloc::Global;
 use std::collections::VecDeque;
@@ -16,6 +16,12 @@ pub struct Follower {
     keeper: Keeper,
     /// The client was answered for, as it was told last.
     excused: bool,
+    /// The ID that the client has, once it was told.
+    id: Option<Octets>,
+    /// Who speaks in the client's place, once its end is held back.
+    stand_in: Option<StandIn>,
+    /// Its end was handed on.
+    is_gone: bool,
 }
 
 /// What goes out of bytes that the manager sends.
@@ -65,6 +71,40 @@ impl Follower {
             answerer: Answerer::new(alloc),
             keeper: Keeper::new(alloc),
             excused: false,
+            id: None,
+            stand_in: None,
+            is_gone: false,
+        }
+    }
+
+    /// Whether the client's end is held back, and it has this ID.
+    pub fn has_left_as(&self, id: &[u8]) -> bool {
+        match (&self.stand_in, &self.id) {
+            (Some(_), Some(own)) => own.as_slice() == id,
+            _ => false,
+        }
+    }
+
+    /// Whether the client's end was handed on.
+    pub fn is_gone(&self) -> bool {
+        self.is_gone
+    }
+
+    /// Whether somebody speaks in the client's place.
+    pub fn has_left(&self) -> bool {
+        self.stand_in.is_some()
+    }
+
+    /// The ID with which the client registers by a piece.
+    pub fn registers(&self, piece: &[u8]) -> Result<Option<Octets>, NoMemory> {
+        self.answerer.registers(piece)
+    }
+
+    /// Has somebody speak in the client's place from now on, where its end is held back and it is known
+    /// who it is.
+    fn begin_to_stand_in(&mut self) {
+        if self.keeper.stage().is_kept() && self.stand_in.is_none() && self.id.is_some() {
+            self.stand_in = self.answerer.give_over();
         }
     }
 
@@ -117,7 +157,9 @@ impl Follower {
         waiting: &mut VecDeque<News>,
     ) -> Result<Octets, NoMemory> {
         let pieces = self.amender.take(piece)?;
-        self.pass(pieces, waiting)
+        let going = self.pass(pieces, waiting)?;
+        self.begin_to_stand_in();
+        Ok(going)
     }
 
     /// Hears that the connection has ended; true where that is handed on.
@@ -128,8 +170,36 @@ impl Follower {
         let is_over = self.keeper.end();
         if is_over {
             waiting.push_back(News::Gone(self.conn))?;
+            return Ok(true);
         }
-        Ok(is_over)
+        self.begin_to_stand_in();
+        if let Some(stand_in) = &mut self.stand_in {
+            stand_in.end();
+        }
+        Ok(false)
+    }
+
+    /// Hears what the manager sends to a client that has left, and adds what it hears and what is started.
+    pub fn tell_leaver(
+        &mut self,
+        bytes: &[u8],
+        waiting: &mut VecDeque<News>,
+    ) -> Result<CommandList, NoMemory> {
+        let Some(stand_in) = &mut self.stand_in else {
+            return Ok(CommandList::new(self.alloc));
+        };
+        let stood = stand_in.tell(bytes)?;
+        let Stood { pieces, started } = stood;
+        add_pieces(self.conn, pieces, waiting)?;
+        Ok(started)
+    }
+
+    /// Notes the ID that the client is told.
+    fn note_id(&mut self, bytes: &[u8]) -> Result<(), NoMemory> {
+        if let Some(id) = self.answerer.registered(bytes)? {
+            self.id = Some(id);
+        }
+        Ok(())
     }
 
     /// Hears what the manager sends; nothing of it goes out while the client's end is held back.
@@ -146,6 +216,7 @@ impl Follower {
         if self.answerer.sends_on(bytes) {
             return Ok(Sending::AsItIs);
         }
+        self.note_id(bytes)?;
         let answering = self.answerer.tell(bytes)?;
         let Answering { pieces, going } = answering;
         self.keep(pieces, waiting)?;
@@ -158,13 +229,20 @@ impl Follower {
         milliseconds: u64,
         waiting: &mut VecDeque<News>,
     ) -> Result<(), NoMemory> {
+        if let Some(stand_in) = &mut self.stand_in {
+            let pieces = stand_in.pass(milliseconds)?;
+            return add_pieces(self.conn, pieces, waiting);
+        }
         let pieces = self.answerer.pass(milliseconds)?;
         self.keep(pieces, waiting)
     }
 
     /// Whether time alone may bring something.
     pub fn waits(&self) -> bool {
-        self.answerer.waits()
+        match &self.stand_in {
+            Some(stand_in) => stand_in.waits(),
+            None => self.answerer.waits(),
+        }
     }
 
     /// Tells whether the client was answered for, where that has changed.
@@ -177,11 +255,27 @@ impl Follower {
         Some(excused)
     }
 
-    /// Hands on what was held back of a client whose logout is over; true where its end is among
-    /// that.
+    /// Whether nothing of the client is held back any more.
+    fn is_over(&self) -> bool {
+        match &self.stand_in {
+            Some(stand_in) => stand_in.is_over(),
+            None => !self.keeper.stage().is_kept(),
+        }
+    }
+
+    /// Hands on what was held back of a client, if it is over; true where its end is among that.
     pub fn release(&mut self, waiting: &mut VecDeque<News>) -> Result<bool, NoMemory> {
-        if self.keeper.stage().is_kept() {
-            return Ok(false);
+        if self.is_over() {
+            self.give_up(waiting)
+        } else {
+            Ok(false)
+        }
+    }
+
+    /// Hands on what was held back of a client; true where its end is among that.
+    pub fn give_up(&mut self, waiting: &mut VecDeque<News>) -> Result<bool, NoMemory> {
+        if self.stand_in.take().is_some() {
+            self.keeper.let_go();
         }
         let kept = self.keeper.release();
         let has_ended = kept.has_ended;
@@ -189,6 +283,7 @@ impl Follower {
         if has_ended {
             waiting.push_back(News::Gone(self.conn))?;
         }
+        self.is_gone = has_ended;
         Ok(has_ended)
     }
 }

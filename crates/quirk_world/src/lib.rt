@@ -3,6 +3,7 @@
 #![tactic(auto)]
 
 mod follower;
+mod layer;
 mod news;
 mod option;
 mod world;

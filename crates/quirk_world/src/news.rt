@@ -1,7 +1,7 @@
 ghost use Rattle.sm_world.specs.Events.{HasPieceSize};
 
 use client_quirks::StreamPiece;
-use owned_lists::Octets;
+use owned_lists::{Command, Octets};
 use sm_world::{Conn, Event};
 
 /// What is to be handed on of a connection.
@@ -18,6 +18,8 @@ pub enum Errand {
     Send(Conn, Octets),
     /// Whether a client was answered for has changed to this.
     Excuse(Conn, bool),
+    /// A client that has left is started again.
+    Start(Conn, Command),
 }
 
 impl Errand {
@@ -26,6 +28,7 @@ impl Errand {
         match self {
             Errand::Send(conn, _) => *conn,
             Errand::Excuse(conn, _) => *conn,
+            Errand::Start(conn, _) => *conn,
         }
     }
 }

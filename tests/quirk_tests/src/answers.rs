@@ -34,10 +34,25 @@ const FRAMES: &[(&str, &str)] = &[
     ("done", "0108010000000000"),
     ("second", "0110000000000000"),
     ("closed", "010b0000010000000000000000000000"),
+    ("asks", "01040000010000000100000000000000"),
+    ("properties", "010e000000000000"),
+    (
+        "given",
+        "020f00000900000001000000000000000e00000052657374617274436f6d6d616e640000000000000c0000004c4953546f66415252415938010000000000000005000000787465726d00000000000000",
+    ),
+    ("none", "020f0000010000000000000000000000"),
+    (
+        "never",
+        "020f00001000000002000000000000000e00000052657374617274436f6d6d616e640000000000000c0000004c4953546f66415252415938010000000000000005000000787465726d0000000000000010000000526573746172745374796c6548696e74000000000500000043415244380000000000000001000000000000000100000003000000",
+    ),
+    (
+        "immediately",
+        "020f00001000000002000000000000000e00000052657374617274436f6d6d616e640000000000000c0000004c4953546f66415252415938010000000000000005000000787465726d0000000000000010000000526573746172745374796c6548696e74000000000500000043415244380000000000000001000000000000000100000002000000",
+    ),
 ];
 
 /// How a client opens its session.
-const OPENING: &str = "c:order s:order c:setup s:opened s:registered";
+pub const OPENING: &str = "c:order s:order c:setup s:opened s:registered";
 
 fn frame_of(name: &str) -> &str {
     for (known, digits) in FRAMES {
@@ -49,7 +64,7 @@ fn frame_of(name: &str) -> &str {
 }
 
 /// The bytes of frames whose names are joined by `+`; what names no frame is hex digits.
-fn read_frames(alloc: Global, names: &str) -> Result<Vec<u8>, Fail> {
+pub fn read_frames(alloc: Global, names: &str) -> Result<Vec<u8>, Fail> {
     let mut bytes = Vec::new(alloc);
     for name in names.split('+') {
         for byte in &bytes_of(alloc, frame_of(name))? {
@@ -70,7 +85,7 @@ fn front_of(digits: &str) -> Option<(&str, usize)> {
 }
 
 /// Adds the names of frames that lie one behind the other, or a dash where there are none.
-fn put_frames(alloc: Global, bytes: &[u8], text: &mut String) -> Result<(), Fail> {
+pub fn put_frames(alloc: Global, bytes: &[u8], text: &mut String) -> Result<(), Fail> {
     if bytes.is_empty() {
         text.push_str("-")?;
         return Ok(());
@@ -88,7 +103,7 @@ fn put_frames(alloc: Global, bytes: &[u8], text: &mut String) -> Result<(), Fail
     Ok(())
 }
 
-fn joined(alloc: Global, pieces: &PieceList) -> Result<Vec<u8>, Fail> {
+pub fn joined(alloc: Global, pieces: &PieceList) -> Result<Vec<u8>, Fail> {
     let mut bytes = Vec::new(alloc);
     for piece in pieces.as_slice() {
         for byte in piece.as_slice() {
@@ -143,7 +158,7 @@ fn put_told(
 }
 
 /// Takes a step: `c` says something for the client, `s` for the manager, and `t` lets milliseconds pass.
-fn put_step(
+pub fn put_step(
     alloc: Global,
     answerer: &mut Answerer,
     step: &str,

@@ -10,6 +10,8 @@ mod passing;
 #[cfg(test)]
 mod properties;
 #[cfg(test)]
+mod stand_ins;
+#[cfg(test)]
 mod streams;
 #[cfg(test)]
 mod table;
