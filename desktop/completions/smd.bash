@@ -34,7 +34,7 @@ _smd_own() {
     smtrace:read) echo --follow ;;
     smclient:*) echo --socket --authority --id --program --saves --interact --phase-two --help --version ;;
     smrelay:) echo serve rehearse --help --version ;;
-    smrelay:serve) echo --socket --to --order ;;
+    smrelay:serve) echo --socket --to --order --private ;;
     smrelay:rehearse) echo lsb msb ;;
     smwrap:*) echo --socket --authority --state --from --id -- --help --version ;;
     smnest:) echo serve rehearse --help --version ;;
