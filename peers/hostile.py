@@ -30,7 +30,9 @@ def answer_held(client, left):
 
 
 def answer(client, left):
-    _, minor, _, body = client.next()
+    major, minor, _, body = client.next()
+    if major != xsmp.OPCODE:
+        raise ValueError("message %d of %d with %r" % (minor, major, body))
     if minor == xsmp.SAVE:
         xsmp.save(client, [b"true"])
     elif minor == xsmp.COMPLETE:

@@ -60,5 +60,8 @@ relays() {
   relayed ends "the end of one of a pair is that of the other"
   relayed bytes "a relay passes on what comes a byte at a time"
   relayed crowd "a relay serves 64 connections and not one more"
+  relayed strangers "who hasn't shown the cookie makes way at a relay"
+  relayed overdue "who hasn't shown the cookie after ten seconds is dropped by a relay"
+  relayed private "nobody comes by the abstract name of a private relay"
   relayed flood "a side that never reads is dropped with its pair"
 }

@@ -12,6 +12,11 @@ import time
 LSB = bytes([0, 1, 0, 0, 0, 0, 0, 0])
 MSB = bytes([0, 1, 1, 0, 0, 0, 0, 0])
 PING = bytes([0, 9, 0, 0, 0, 0, 0, 0])
+# The set-up is through: a ConnectionReply of a vendor `v` with the release `r`, in both orders.
+LET_IN = bytes([0, 6, 0, 0, 1, 0, 0, 0, 1, 0]) + b"v\0" + bytes([1, 0]) + b"r\0"
+HEARD_IN = bytes([0, 6, 0, 0, 0, 0, 0, 1, 0, 1]) + b"v\0" + bytes([0, 1]) + b"r\0"
+# How many pairs a relay serves, and how many seconds a stranger may stay.
+PAIRS, STAY = 32, 10
 MEBIBYTE = 1 << 20
 
 
@@ -44,10 +49,10 @@ def is_ended(stream):
 
 
 class Relay:
-    def __init__(self, program, room, order="msb"):
+    def __init__(self, program, room, more=()):
         """Starts a relay by these words and those of its own."""
         self.socket, self.to = os.path.join(room, "relay"), os.path.join(room, "manager")
-        words = ["--socket", self.socket, "--to", self.to, "--order", order]
+        words = ["--socket", self.socket, "--to", self.to, "--order", "msb", *more]
         self.process = subprocess.Popen([*program, "serve", *words], stdin=subprocess.DEVNULL)
         until(self.listens)
 
@@ -79,6 +84,14 @@ class Relay:
             if read(stream, 8) != MSB:
                 raise ValueError("another order")
             stream.sendall(LSB)
+        return client, manager
+
+    def let_in(self, name=None):
+        """A pair whose client has shown the cookie."""
+        client, manager = self.pair(name)
+        manager.sendall(LET_IN)
+        if read(client, len(HEARD_IN)) != HEARD_IN:
+            raise ValueError("not let in")
         return client, manager
 
     def expect_passed(self, client, manager):
@@ -135,9 +148,9 @@ def test_bytes(relay):
 
 
 def test_crowd(relay):
-    """64 connections are served, and one more isn't until others have left."""
+    """64 connections are served, and one more isn't until others have left: who was let in makes way for nobody."""
     relay.play_manager()
-    pairs = [relay.pair() for _ in range(32)]
+    pairs = [relay.let_in() for _ in range(PAIRS)]
     is_ended(relay.client())
     is_ended(relay.door.accept()[0])
     for pair in pairs:
@@ -148,6 +161,50 @@ def test_crowd(relay):
     pairs.append(relay.pair())
     for pair in pairs:
         relay.expect_passed(*pair)
+
+
+def test_strangers(relay):
+    """Who hasn't shown the cookie makes way for those who come, the first one first; who has stays."""
+    relay.play_manager()
+    own = [relay.let_in() for _ in range(PAIRS - 10)]
+    strangers = [relay.pair(b"\0" + os.fsencode(relay.socket)) for _ in range(10)]
+    for stranger in strangers[:6]:
+        own.append(relay.let_in())
+        for stream in stranger:
+            is_ended(stream)
+    for pair in own + strangers[6:]:
+        relay.expect_passed(*pair)
+
+
+def test_overdue(relay):
+    """Who hasn't shown the cookie after ten seconds is dropped; who has stays."""
+    relay.play_manager()
+    own, stranger = relay.let_in(), relay.pair()
+    began = time.monotonic()
+    for stream in stranger:
+        is_ended(stream)
+    if time.monotonic() - began < STAY - 1:
+        raise ValueError("dropped after %.1f seconds" % (time.monotonic() - began))
+    relay.expect_passed(*own)
+
+
+def test_private(relay):
+    """Nobody can come by the abstract name, and nobody else can take it; the path leads on."""
+    relay.play_manager()
+    name = b"\0" + os.fsencode(relay.socket)
+    try:
+        relay.client(name)
+    except ConnectionRefusedError:
+        pass
+    else:
+        raise ValueError("a client came by the abstract name")
+    try:
+        socket.socket(socket.AF_UNIX).bind(name)
+    except OSError:
+        pass
+    else:
+        raise ValueError("the abstract name could be taken")
+    relay.expect_passed(*relay.let_in())
 
 
 def test_flood(relay):
@@ -168,7 +225,7 @@ def test_flood(relay):
 
 
 def main(program, room, name):
-    relay = Relay([program], room)
+    relay = Relay([program], room, ["--private"] if name == "private" else [])
     try:
         globals()["test_" + name](relay)
         relay.expect_alive()

@@ -2,7 +2,8 @@
 """A program of a session that ends with its display, as programs on Xlib do:
     resident.py FOLDER NAME
 In the folder it keeps its ID (NAME.id), notes what it is told and how it came (NAME.log), and writes what it found at its
-start (NAME.found). While NAME.mute is there it answers no save, while NAME.talks is there it talks with its user in the save of
+start (NAME.found). While NAME.mute is there it answers no save, while NAME.nul is there each word of its command ends with a NUL,
+as those of programs on Xt do, while NAME.talks is there it talks with its user in the save of
 a logout, and while NAME.stays is there it stays when it is told to die.
 """
 import os
@@ -41,6 +42,10 @@ class Resident:
                 print("%s=%s" % (name, os.environ[name]), file=found)
         os.rename(self.file("found.new"), self.file("found"))
 
+    def command(self):
+        end = b"\0" if os.path.exists(self.file("nul")) else b""
+        return [word + end for word in self.words]
+
     def join(self):
         try:
             with open(self.file("id"), "rb") as file:
@@ -68,7 +73,7 @@ class Resident:
             if body[1] and os.path.exists(self.file("talks")):
                 self.client.say(xsmp.ASK_TALK, second=1)
             elif not os.path.exists(self.file("mute")):
-                xsmp.save(self.client, self.words)
+                xsmp.save(self.client, self.command())
         elif minor == xsmp.TALK:
             self.note("talks")
             self.is_talking = True
@@ -89,7 +94,7 @@ class Resident:
         if self.is_talking and not os.path.exists(self.file("talks")):
             self.is_talking = False
             self.client.say(xsmp.TALKED)
-            xsmp.save(self.client, self.words)
+            xsmp.save(self.client, self.command())
 
     def run(self):
         waits = selectors.DefaultSelector()

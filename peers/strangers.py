@@ -241,9 +241,28 @@ def flood(manager, logins):
     flood_of(manager, logins, "a flood of strangers who stay")
 
 
+def newest_number(manager):
+    """The number of a connection that comes now, by the path of the socket."""
+    client = manager.join()[0]
+    with socket.socket(socket.AF_UNIX) as operator:
+        operator.settimeout(30)
+        operator.connect(manager.control)
+        operator.sendall(b"clients\n")
+        answer = operator.makefile()
+        lines = [answer.readline() for _ in range(int(answer.readline().split()[-1]))]
+    client.close()
+    return max(int(re.match(r"conn=(\d+) ", line)[1]) for line in lines)
+
+
 def hasty(manager, logins):
-    """The same of strangers who leave at once."""
+    """The same of strangers who leave at once. They spend 32 numbers in a quarter of a second, and no more."""
+    began = time.monotonic()
     flood_of(manager, logins, "a flood of strangers who leave at once", held=0)
+    passed = time.monotonic() - began
+    spent = newest_number(manager)
+    say("%d numbers were spent in %.0f seconds" % (spent, passed))
+    if spent > 300 + 32 + 128 * passed:
+        raise ValueError("too many")
 
 
 def eager(manager, logins):

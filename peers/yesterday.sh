@@ -109,6 +109,17 @@ read_otherwise() {
   diff <(store_words --json | grep -v '^  "living": ') <(python3 "$here/stored.py" "$stores/store")
 }
 
+# elsewhere WORD..: the words as on a console, where nothing of the session is in the environment.
+elsewhere() {
+  env -i PATH="$desk/bin:$(dirname "$smctl"):$PATH" HOME="$desk" XDG_STATE_HOME="$desk/state" XDG_RUNTIME_DIR="$desk/run" "$@"
+}
+
+# offered_to_forget: the IDs that bash offers behind 'smctl forget'.
+offered_to_forget() {
+  elsewhere bash -c '. "$1/desktop/completions/smd.bash"; COMP_WORDS=(smctl forget ""); COMP_CWORD=2; _smd; printf "%s\n" "${COMPREPLY[@]}"' \
+    bash "$top"
+}
+
 two_sessions() {
   check "a first session begins" logs_in
   check "its four programs are saved" within 60 has 4
@@ -122,9 +133,12 @@ two_sessions() {
   check "the four programs come back" within 60 has 4
   check "the store of a living manager is told as such" grep -q '^store in use' <(store_words)
   check "it can be read meanwhile" test "$(ids)" = "$wanted_ids"
+  check "smctl finds the session from a console" grep -q '^connections 4, ' <(elsewhere smctl status)
+  check "who lives isn't offered to be forgotten" test -z "$(offered_to_forget)"
   check "the store of the second login is kept" kept 1 4
   check "nobody is said to have ended" sleep 6
   check "the second session is left" leaves
+  check "who is gone is offered to be forgotten" test "$(offered_to_forget)" = "$wanted_ids"
   check "the programs didn't end" not_said 'had ended'
 }
 

@@ -6,10 +6,16 @@ _smd_words() {
     --socket | --control | --store | --authority | --record | --beside | --to | --state | --follow | --outer | --outer-authority) echo FILES ;;
     --order) echo lsb msb ;;
     drop) smctl clients --plain 2> /dev/null | sed -n 's/^conn=\([0-9]*\) .*/\1/p' ;;
-    forget) smctl clients --plain 2> /dev/null | sed -n 's/.* id=\([^ -][^ ]*\).*/\1/p' ;;
+    forget) _smd_gone ;;
     --patience | --session | --last-wait | --from | --saves | --id | --outer-id | --program | --seconds | --restore) ;;
     *) _smd_own "$line" ;;
   esac
+}
+
+# _smd_gone: the IDs that the user's store has and that no client has now.
+_smd_gone() {
+  smd store-check --store "${XDG_STATE_HOME:-$HOME/.local/state}/smd/store" 2> /dev/null | sed -n 's/^ *entry //p' |
+    grep -vxF -f <(smctl clients --plain 2> /dev/null | sed -n 's/.* id=\([^ ]*\).*/\1/p')
 }
 
 # _smd_own LINE: what may follow the words of the line, of which the first is the program.
@@ -28,7 +34,7 @@ _smd_own() {
     smtrace:read) echo --follow ;;
     smclient:*) echo --socket --authority --id --program --saves --interact --phase-two --help --version ;;
     smrelay:) echo serve rehearse --help --version ;;
-    smrelay:serve) echo --socket --to --order ;;
+    smrelay:serve) echo --socket --to --order --private ;;
     smrelay:rehearse) echo lsb msb ;;
     smwrap:*) echo --socket --authority --state --from --id -- --help --version ;;
     smnest:) echo serve rehearse --help --version ;;

@@ -7,7 +7,8 @@ ghost use Rattle.quirk_world.specs.Untold.{around};
 use crate::follower::Sending;
 use crate::layer::Layer;
 use crate::news::Errand;
-use owned_lists::{Command, NoMemory};
+use outer_world::Outer;
+use owned_lists::{Command, NoMemory, Octets};
 use session_watch::Excusing;
 use sm_world::{Conn, Console, Disk, Event, Failed, Failure, Links, Spawner, Told};
 use std::alloc::Global;
@@ -98,6 +99,17 @@ impl<W: Links + Excusing + Ticking + Spawner + Drop> Links for QuirkWorld<W> {
     fn shut(&mut self, to: Conn) -> Result<(), Failure> {
         self.layer.shut(to);
         self.inner.shut(to)
+    }
+}
+
+/// What comes and goes on the connection to an outer manager isn't looked at: it has joined nobody's session here.
+impl<W: Outer + Drop> Outer for QuirkWorld<W> {
+    fn open_outer(&mut self, path: &str) -> Result<(), Failure> {
+        self.inner.open_outer(path)
+    }
+
+    fn fetch(&mut self, alloc: Global, path: &str) -> Result<Octets, Failure> {
+        self.inner.fetch(alloc, path)
     }
 }
 

@@ -4,22 +4,23 @@ use std::fs::Files;
 use std::net::Net;
 use std::os::unix::fs::MetadataExt;
 use std::{fs, io};
-use unix_links::{Source, abstract_listener, private_listener};
+use unix_links::{Hidden, Source, private_listener};
 
 /// The sockets at which clients come in.
 #[derive(Drop)]
 pub struct Doors {
     clients: UnixListener,
-    hidden: UnixListener,
+    hidden: Hidden,
     path: String,
 }
 
 impl Doors {
-    /// Opens both doors. The abstract name comes first: a living relay holds it, so a second one ends
-    /// here and doesn't touch the first one's file.
-    pub fn open(rt: HostRuntime, socket: &str) -> io::Result<Doors> {
+    /// Opens both doors, or that with a path alone, where nobody is to connect to the abstract name. That
+    /// one comes first: a living relay holds it, so a second one ends here and doesn't touch the first
+    /// one's file.
+    pub fn open(rt: HostRuntime, socket: &str, is_private: bool) -> io::Result<Doors> {
         let path = socket.to_string(rt.alloc())?;
-        let hidden = abstract_listener(&rt, socket)?;
+        let hidden = Hidden::open(&rt, socket, is_private)?;
         let clients = private_listener(&rt, socket)?;
         Ok(Doors {
             clients,
@@ -32,17 +33,15 @@ impl Doors {
     pub fn watch(&mut self, registry: &Registry) -> io::Result<()> {
         let readable = Interest::READABLE;
         registry.register(&mut self.clients, Source::Clients.token(), readable)?;
-        registry.register(&mut self.hidden, Source::Hidden.token(), readable)
+        self.hidden.watch(registry)
     }
 
-    /// The next client at the door with a path.
-    pub fn next_client(&self) -> io::Result<UnixStream> {
-        Ok(self.clients.accept()?.0)
-    }
-
-    /// The next client at the door with an abstract name.
-    pub fn next_hidden(&self) -> io::Result<UnixStream> {
-        Ok(self.hidden.accept()?.0)
+    /// The next client at one of the doors.
+    pub fn next_client(&self, door: Source) -> io::Result<UnixStream> {
+        match door {
+            Source::Hidden => self.hidden.next_client(),
+            _ => Ok(self.clients.accept()?.0),
+        }
     }
 
     /// Whether a path leads back to this door.

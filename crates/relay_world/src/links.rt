@@ -13,21 +13,25 @@ use unix_links::{control_fault, path_fault, refused};
 ///
 /// Each client that comes gets a connection of its own to the manager's socket: the k-th has the number
 /// 2k - 1, and its connection to the manager 2k. Where that one is refused, the client is dropped, and
-/// nobody is told of it. A connection for which more than 1,048,576 bytes would wait is dropped, and
+/// nobody is told of it. Who hasn't shown the manager's cookie yet makes way for those who come, and is
+/// dropped after ten seconds, as a manager does it. A connection for which more than 1,048,576 bytes would wait is dropped, and
 /// then gone. One that is shut still gets what was sent on it, and is read on, unheard, until the peer
 /// closes it or a second has passed.
 #[derive(Drop)]
 pub struct PairLinks {
     rt: HostRuntime,
+    /// Nobody can connect to the abstract name.
+    is_private: bool,
     sockets: Option<Sockets>,
     faults: u64,
 }
 
 impl PairLinks {
-    /// Nobody is listened to yet.
-    pub fn new(rt: HostRuntime) -> PairLinks {
+    /// Nobody is listened to yet. Where they are private, nobody will be who comes by the abstract name.
+    pub fn new(rt: HostRuntime, is_private: bool) -> PairLinks {
         PairLinks {
             rt,
+            is_private,
             sockets: None,
             faults: 0,
         }
@@ -55,7 +59,7 @@ impl PairLinks {
             return Err(Failure::Failed);
         }
         let far = to.to_string(self.rt.alloc()).map_err(NoMemory::from)?;
-        let doors = match Doors::open(self.rt, socket) {
+        let doors = match Doors::open(self.rt, socket, self.is_private) {
             Ok(doors) => doors,
             Err(error) => return Err(self.report(socket, error)),
         };

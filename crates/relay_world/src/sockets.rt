@@ -10,6 +10,7 @@ use sm_world::{Conn, Event, Failure};
 use std::collections::VecDeque;
 use std::io;
 use std::time::{Duration, Instant};
+use stream_watch::Place;
 use unix_links::{Reading, Source, is_passing, refused, would_wait};
 
 /// How many milliseconds are waited at most where something goes by the clock.
@@ -79,7 +80,7 @@ impl Sockets {
     fn patience(&self) -> Option<Duration> {
         if !self.queue.is_empty() || self.streams.has_news() {
             Some(Duration::from_millis(0))
-        } else if self.stalled || self.streams.has_leavers() {
+        } else if self.stalled || self.streams.has_leavers() || self.streams.has_strangers() {
             Some(Duration::from_millis(PAUSE))
         } else {
             None
@@ -113,7 +114,7 @@ impl Sockets {
             return Ok(());
         }
         self.looked = now;
-        self.streams.pass(milliseconds);
+        self.streams.pass(milliseconds)?;
         if self.stalled {
             self.stalled = false;
             self.enqueue(Source::Clients)?;
@@ -175,25 +176,23 @@ impl Sockets {
         ensures size { IfOk result (λ reading. IfSome reading.event HasPieceSize) }
     {
         match source {
-            Source::Clients => {
-                let accepted = self.doors.next_client();
-                self.join(accepted)
-            }
-            Source::Hidden => {
-                let accepted = self.doors.next_hidden();
-                self.join(accepted)
-            }
+            Source::Clients | Source::Hidden => self.join(source),
             Source::Client(conn) => Ok(self.streams.read(conn)?),
             _ => Ok(Reading::nothing()),
         }
     }
 
-    /// Takes in a client, with a connection that leads it on. Where the manager's socket refuses, the
-    /// client is dropped.
-    fn join(&mut self, accepted: io::Result<UnixStream>) -> Result<Reading, Failure>
+    /// Takes in a client who comes at this door, with a connection that leads it on. Where the manager's
+    /// socket refuses, the client is dropped. Where all places are taken, and none of a stranger's is free
+    /// yet, it waits at the door.
+    fn join(&mut self, door: Source) -> Result<Reading, Failure>
         ensures size { IfOk result (λ reading. IfSome reading.event HasPieceSize) }
     {
-        match accepted {
+        if self.streams.place() == Place::Later {
+            self.stalled = true;
+            return Ok(Reading::nothing());
+        }
+        match self.doors.next_client(door) {
             Ok(near) => {
                 match UnixStream::connect(&self.rt, self.to.as_str()) {
                     Ok(far) => self.streams.add(self.poll.registry(), near, far)?,
@@ -201,22 +200,27 @@ impl Sockets {
                 }
                 Ok(Reading::later())
             }
-            Err(error) => Ok(self.not_accepted(&error)),
+            Err(error) => Ok(self.not_accepted(&error)?),
         }
     }
 
-    /// Where the system can't give another connection, the door is left until the pause is over.
-    fn not_accepted(&mut self, error: &io::Error) -> Reading
-        ensures size { IfSome result.event HasPieceSize }
+    /// Where the system can't give another connection, a stranger makes way; without one the doors are left
+    /// until the pause is over.
+    fn not_accepted(&mut self, error: &io::Error) -> Result<Reading, NoMemory>
+        ensures size { IfOk result (λ reading. IfSome reading.event HasPieceSize) }
     {
         if would_wait(error) {
-            Reading::nothing()
-        } else if is_passing(error) {
-            Reading::later()
-        } else {
-            self.stalled = true;
-            Reading::nothing()
+            return Ok(Reading::nothing());
         }
+        if is_passing(error) {
+            return Ok(Reading::later());
+        }
+        if let Place::Of(stranger) = self.streams.place_in_need() {
+            self.streams.lose(stranger)?;
+            return Ok(Reading::later());
+        }
+        self.stalled = true;
+        Ok(Reading::nothing())
     }
 
     pub fn send(&mut self, to: Conn, bytes: &[u8]) -> Result<(), NoMemory> {

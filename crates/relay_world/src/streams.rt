@@ -9,7 +9,12 @@ use sm_world::{Conn, Event, PIECE_LIMIT};
 use std::alloc::{AllocError, Global};
 use std::collections::{BTreeMap, VecDeque};
 use std::io::Read;
+use stream_watch::{Place, Visitors};
 use unix_links::{Connection, Leavers, Reading, is_passing, would_wait};
+use world_time::LONGEST;
+
+/// How many connections a relay serves at once: two for each client.
+const LIVE_LIMIT: usize = 64;
 
 /// The connections of a relay, by their numbers: 2k - 1 is that of a client, and 2k leads it on.
 #[derive(Drop)]
@@ -21,6 +26,10 @@ pub struct Streams {
     /// Who came and who was dropped, which is told next.
     news: VecDeque<News>,
     leaving: Leavers,
+    /// The clients by what the manager sends them, and who of them makes way for others.
+    visitors: Visitors,
+    /// What time it is for strangers, in milliseconds.
+    now: u64,
     /// Room for one read.
     piece: Vec<u8>,
 }
@@ -33,12 +42,28 @@ impl Streams {
             last: 0,
             news: VecDeque::new(alloc),
             leaving: Leavers::new(alloc),
+            visitors: Visitors::new(alloc),
+            now: 0,
             piece: vec![in alloc; 0u8; PIECE_LIMIT]?,
         })
     }
 
-    /// Takes in a client and the connection that leads it on, and gives them the next two numbers.
-    /// Where there are none left, or the system can't watch both, both are closed.
+    /// Where one more client finds a place.
+    pub fn place(&self) -> Place {
+        if self.open.len() >= LIVE_LIMIT {
+            self.place_in_need()
+        } else {
+            self.visitors.place_for_one_more(self.now)
+        }
+    }
+
+    /// Where a client finds a place for whom the system has none left.
+    pub fn place_in_need(&self) -> Place {
+        self.visitors.place_of_first(self.now)
+    }
+
+    /// Takes in a client and the connection that leads it on, and gives them the next two numbers. Where
+    /// it is one too many, a stranger is dropped for it. Where there are no numbers left, or the system can't watch both, both are closed.
     pub fn add(
         &mut self,
         registry: &Registry,
@@ -55,6 +80,10 @@ impl Streams {
         let Some(far) = Connection::new(self.alloc, registry, second, far) else {
             return Ok(());
         };
+        if let Place::Of(stranger) = self.place() {
+            self.lose(stranger)?;
+        }
+        self.visitors.join(first, self.now)?;
         self.last = second;
         self.open.insert(first, near)?;
         self.open.insert(second, far)?;
@@ -102,6 +131,7 @@ impl Streams {
             Err(error) if would_wait(&error) => Ok(Reading::nothing()),
             Err(error) if is_passing(&error) => Ok(Reading::later()),
             _ => {
+                self.visitors.leave(conn);
                 let _ = self.open.remove(&conn);
                 Ok(Reading {
                     event: Some(Event::Gone(conn)),
@@ -117,7 +147,7 @@ impl Streams {
             return Ok(());
         };
         if connection.send(registry, to, bytes)? {
-            Ok(())
+            self.visitors.follow(to, self.now, bytes)
         } else {
             self.lose(to)
         }
@@ -125,21 +155,37 @@ impl Streams {
 
     /// Closes a connection gently. What was sent on it still reaches the peer.
     pub fn shut(&mut self, registry: &Registry, conn: Conn) {
+        self.visitors.leave(conn);
         if let Some(connection) = self.open.remove(&conn) {
             self.leaving.add(registry, conn, connection);
         }
     }
 
     /// Drops a connection, which is to be told as gone.
-    fn lose(&mut self, conn: Conn) -> Result<(), NoMemory> {
+    pub fn lose(&mut self, conn: Conn) -> Result<(), NoMemory> {
         self.news.push_back(News::Went(conn))?;
+        self.visitors.leave(conn);
         let _ = self.open.remove(&conn);
         Ok(())
     }
 
-    /// Closes those that were shut and whose time is over after so many milliseconds.
-    pub fn pass(&mut self, milliseconds: u64) {
+    /// Closes those that were shut and whose time is over after so many milliseconds, and drops the
+    /// strangers who have had theirs. Of a time in which the relay itself stood still half a second counts.
+    pub fn pass(&mut self, milliseconds: u64) -> Result<(), NoMemory> {
         self.leaving.pass(milliseconds);
+        self.now = self.now.saturating_add(milliseconds.min(LONGEST));
+        for _ in 0..u32::MAX {
+            match self.visitors.overdue(self.now) {
+                Some(stranger) => self.lose(stranger)?,
+                None => break,
+            }
+        }
+        Ok(())
+    }
+
+    /// Whether somebody is there who hasn't shown the cookie.
+    pub fn has_strangers(&self) -> bool {
+        self.place_in_need() != Place::Free
     }
 
     /// Whether connections that were shut aren't closed yet.

@@ -14,10 +14,10 @@ pub struct RelayWorld {
 }
 
 impl RelayWorld {
-    /// Nothing is opened yet.
-    pub fn new(rt: HostRuntime) -> RelayWorld {
+    /// Nothing is opened yet. Where it is private, nobody can connect to the abstract name.
+    pub fn new(rt: HostRuntime, is_private: bool) -> RelayWorld {
         RelayWorld {
-            links: PairLinks::new(rt),
+            links: PairLinks::new(rt, is_private),
             console: StandardConsole::new(rt),
         }
     }

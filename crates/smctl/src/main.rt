@@ -19,7 +19,8 @@ const TEXTS: OwnTexts = OwnTexts {
         \x20       status         tells how many are there, and what the session is at\n\
         \x20       drop NUMBER    goes on without a client, as: smctl drop 3\n\
         \x20       forget ID      doesn't start a program again that is gone, by its ID\n\n\
-        Without --control the socket is the one that SMD_CONTROL names.\n",
+        Without --control the socket is the one that SMD_CONTROL names, or else\n\
+        smd/control in the folder that XDG_RUNTIME_DIR names.\n",
     version: SMCTL,
     no_memory: "smctl: no memory\n",
 };

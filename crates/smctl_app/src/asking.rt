@@ -7,13 +7,28 @@ use crate::fault::Fault;
 use crate::request::{Task, read_request};
 use program_frame::StandardConsole;
 use std::env;
+use std::env::VarError;
 use std::io::IsTerminal;
 
-/// The control socket that the environment names.
+/// Where `smd-session` puts the control socket: in the user's folder for what lives no longer than a login.
+fn control_of_login(rt: &HostRuntime) -> Result<String, Fault>
+    ensures none { IfErr result IsUnnamed }
+{
+    let mut path = env::var(rt, "XDG_RUNTIME_DIR")?;
+    path.push_str("/smd/control")?;
+    Ok(path)
+}
+
+/// The control socket that the environment names, or else that of the user's own session.
 fn named_control(rt: &HostRuntime) -> Result<String, Fault>
     ensures none { IfErr result IsUnnamed }
 {
-    Ok(env::var(rt, "SMD_CONTROL")?)
+    match env::var(rt, "SMD_CONTROL") {
+        Ok(path) => Ok(path),
+        Err(VarError::NotPresent) => control_of_login(rt),
+        Err(VarError::NotUnicode) => Err(Fault::NoControl),
+        Err(VarError::OutOfMemory) => Err(Fault::NoMemory),
+    }
 }
 
 /// Does what the words ask for, which leave out the program's name: sends an order to the manager at the

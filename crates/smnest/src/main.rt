@@ -1,10 +1,13 @@
 //! `smnest`, a session manager inside a session.
 #![tactic(auto)]
 
+ghost use Rattle.std.specs.Prelude.{◌≤◌, length};
+
 use desktop_world::{BadPlaces, DesktopWorld, Places, host_name, random_cookie};
 use owned_lists::{NoMemory, Octets};
 use program_frame::{OwnTexts, StandardConsole, read_words};
 use program_texts::SMNEST;
+use quirk_world::QuirkWorld;
 use sm_world::Console;
 use smd_app::Identity;
 use smnest_app::{NestPaths, read_places, smnest_main};
@@ -29,7 +32,8 @@ const TEXTS: OwnTexts = OwnTexts {
         \x20      smnest --help       shows this\n\
         \x20      smnest --version    shows the version\n\n\
         The other options are those of smd serve. As its private door and its last wait\n\
-        count the variables SMD_PRIVATE and SMD_LAST_WAIT (10000 milliseconds without it).\n",
+        count the variables SMD_PRIVATE and SMD_LAST_WAIT (10000 milliseconds without it);\n\
+        programs are taken for what they mean, as by --quirks, unless SMD_QUIRKS is 0.\n",
     version: SMNEST,
     no_memory: "smnest: no memory\n",
 };
@@ -102,6 +106,25 @@ fn link_options(rt: HostRuntime) -> Result<LinkOptions, NoMemory> {
     Ok(options_with(rt, LAST_WAIT)?.unwrap_or(LinkOptions::new()))
 }
 
+/// The status of a session with these words on this desktop, whose programs are taken for what they say.
+fn nest(rt: HostRuntime, words: &[String], mut world: DesktopWorld, identity: Identity) -> u8
+    requires { length identity.host ≤ 255 }
+{
+    let status = smnest_main(rt.alloc(), words, &mut world, identity, u64::MAX);
+    world.close();
+    status
+}
+
+/// The same, where they are taken for what they mean.
+fn nest_quirks(rt: HostRuntime, words: &[String], world: DesktopWorld, identity: Identity) -> u8
+    requires { length identity.host ≤ 255 }
+{
+    let mut around = QuirkWorld::new(rt.alloc(), world);
+    let status = smnest_main(rt.alloc(), words, &mut around, identity, u64::MAX);
+    around.into_inner().close();
+    status
+}
+
 /// The status of a run with these words on this desktop.
 fn run(rt: HostRuntime, words: &[String]) -> io::Result<u8> {
     let host = host_name(&rt)?;
@@ -116,10 +139,12 @@ fn run(rt: HostRuntime, words: &[String]) -> io::Result<u8> {
             return Ok(refused(rt, bad));
         }
     }
-    let mut world = DesktopWorld::with_options(rt, host, options);
-    let status = smnest_main(rt.alloc(), words, &mut world, identity, u64::MAX);
-    world.close();
-    Ok(status)
+    let world = DesktopWorld::with_options(rt, host, options);
+    Ok(if setting(rt, "SMD_QUIRKS").as_str() == "0" {
+        nest(rt, words, world, identity)
+    } else {
+        nest_quirks(rt, words, world, identity)
+    })
 }
 
 /// The same; where there was no memory for it, this is printed.

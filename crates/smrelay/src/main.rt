@@ -6,11 +6,13 @@ use program_texts::SMRELAY;
 use relay_world::RelayWorld;
 use smrelay_app::smrelay_main;
 use std::process::ExitCode;
+use unix_links::take_private;
 
 const TEXTS: OwnTexts = OwnTexts {
     help: "smrelay, a relay between byte orders\n\n\
-        usage: smrelay serve --socket P --to Q --order lsb|msb\n\
-        \x20                               leads those who come at P to the manager at Q\n\
+        usage: smrelay serve --socket P --to Q --order lsb|msb [--private]\n\
+        \x20                               leads those who come at P to the manager at Q;\n\
+        \x20                               --private: nobody can come by the abstract name\n\
         \x20                               as: smrelay serve --socket p --to q --order msb\n\
         \x20      smrelay rehearse lsb|msb < SCRIPT\n\
         \x20                               shows what smrelay does at the events of a script\n\
@@ -22,9 +24,10 @@ const TEXTS: OwnTexts = OwnTexts {
 };
 
 /// The status of a run with these words.
-fn run(rt: HostRuntime, words: &[String]) -> u8 {
-    let mut world = RelayWorld::new(rt);
-    let status = smrelay_main(rt.alloc(), words, &mut world, u64::MAX);
+fn run(rt: HostRuntime, mut words: Vec<String>) -> u8 {
+    let is_private = take_private(&mut words);
+    let mut world = RelayWorld::new(rt, is_private);
+    let status = smrelay_main(rt.alloc(), words.as_slice(), &mut world, u64::MAX);
     world.close();
     status
 }
@@ -33,7 +36,7 @@ fn main(rt: HostRuntime) -> ExitCode {
     let words = read_words(&rt);
     let mut console = StandardConsole::new(rt);
     let status = match TEXTS.begin(words, &mut console) {
-        Ok(words) => run(rt, words.as_slice()),
+        Ok(words) => run(rt, words),
         Err(status) => status,
     };
     ExitCode::from(status)

@@ -77,6 +77,12 @@ fn find(open: &mut [Open], conn: Conn) -> Option<&mut Open> {
     open.get_mut(place)
 }
 
+/// How many may come by the name that everybody can reach within so many milliseconds, whether they stay or
+/// not. So who comes and goes as fast as the system lets him doesn't use up the numbers of connections.
+const COMERS: usize = 32;
+
+const COMING: u64 = 250;
+
 /// The clients' connections, and the one to an outer manager, where there is one. That one is no
 /// visitor: nobody makes way for it, and it makes way for nobody.
 #[derive(Drop)]
@@ -91,6 +97,8 @@ pub struct Clients {
     leaving: Leavers,
     /// The clients by what passed, and who of them makes way for others.
     visitors: Visitors,
+    /// When the last ones came who came by the name that everybody can reach.
+    comers: VecDeque<u64>,
     /// For whom the system hasn't been handed yet what was sent.
     unsent: Vec<Conn>,
     /// Something was sent that nobody was handed yet.
@@ -113,6 +121,7 @@ impl Clients {
             news: VecDeque::new(alloc),
             leaving: Leavers::new(alloc),
             visitors: Visitors::new(alloc),
+            comers: VecDeque::new(alloc),
             unsent: Vec::new(alloc),
             gives: false,
             clock: 0,
@@ -154,6 +163,25 @@ impl Clients {
     /// Where somebody finds a place for whom there is no room left.
     pub fn place_in_need(&self) -> Place {
         self.visitors.place_of_first(self.now)
+    }
+
+    /// Whether so many have just come by the name that everybody can reach that the next one waits there.
+    pub fn are_crowding(&self) -> bool {
+        match self.comers.front() {
+            Some(first) => {
+                self.comers.len() >= COMERS && self.now.saturating_sub(*first) < COMING
+            }
+            None => false,
+        }
+    }
+
+    /// Notes that somebody comes by the name that everybody can reach.
+    pub fn note_comer(&mut self) -> Result<(), NoMemory> {
+        if self.comers.len() >= COMERS {
+            let _ = self.comers.pop_front();
+        }
+        self.comers.push_back(self.now)?;
+        Ok(())
     }
 
     /// Takes in a new connection and gives it the next number. Where it is one too many, a stranger is

@@ -67,12 +67,6 @@ pub fn private_listener<R: Files + Net>(rt: &R, path: &str) -> io::Result<UnixLi
     listening(socket, ALL)
 }
 
-/// Listens at a name of Linux's abstract namespace, which has no permissions. The name is free again
-/// as soon as its process has ended.
-pub fn abstract_listener<R: Files + Net>(rt: &R, name: &str) -> io::Result<UnixListener> {
-    listening(abstract_name(rt, name)?, ALL)
-}
-
 /// Takes a name of Linux's abstract namespace, which has no permissions. The name is free again as soon
 /// as its process has ended.
 fn abstract_name<R: Files + Net>(rt: &R, name: &str) -> io::Result<OwnedFd> {
@@ -83,18 +77,38 @@ fn abstract_name<R: Files + Net>(rt: &R, name: &str) -> io::Result<OwnedFd> {
 
 /// The door with an abstract name.
 #[derive(Drop)]
-enum Hidden {
+pub enum Hidden {
     Open(UnixListener),
     /// Nobody can connect. The name is held so that nobody else takes it.
     Held(OwnedFd),
 }
 
 impl Hidden {
-    fn new(socket: OwnedFd, options: LinkOptions) -> io::Result<Hidden> {
-        if options.is_private {
+    /// Takes the name, and listens there unless nobody is to connect to it.
+    pub fn open<R: Files + Net>(rt: &R, name: &str, is_private: bool) -> io::Result<Hidden> {
+        let socket = abstract_name(rt, name)?;
+        if is_private {
             return Ok(Hidden::Held(socket));
         }
         Ok(Hidden::Open(listening(socket, FEW)?))
+    }
+
+    /// Has the system tell when somebody comes.
+    pub fn watch(&mut self, registry: &Registry) -> io::Result<()> {
+        match self {
+            Hidden::Open(hidden) => {
+                registry.register(hidden, Source::Hidden.token(), Interest::READABLE)
+            }
+            Hidden::Held(_) => Ok(()),
+        }
+    }
+
+    /// The next client here.
+    pub fn next_client(&self) -> io::Result<UnixStream> {
+        match self {
+            Hidden::Open(hidden) => Ok(hidden.accept()?.0),
+            Hidden::Held(_) => Err(io::Error::from(ErrorKind::WouldBlock)),
+        }
     }
 }
 
@@ -146,8 +160,7 @@ impl Doors {
     ) -> Result<Doors, Refusal<'a>> {
         let clients_path = at(socket, copied(rt, socket))?;
         let control_path = at(control, copied(rt, control))?;
-        let name = at(socket, abstract_name(&rt, socket))?;
-        let hidden = at(socket, Hidden::new(name, options))?;
+        let hidden = at(socket, Hidden::open(&rt, socket, options.is_private))?;
         let clients = at(socket, private_listener(&rt, socket))?;
         match private_listener(&rt, control) {
             Ok(control) => Ok(Doors {
@@ -178,19 +191,14 @@ impl Doors {
     pub fn watch(&mut self, registry: &Registry) -> io::Result<()> {
         let readable = Interest::READABLE;
         registry.register(&mut self.clients, Source::Clients.token(), readable)?;
-        if let Hidden::Open(hidden) = &mut self.hidden {
-            registry.register(hidden, Source::Hidden.token(), readable)?;
-        }
+        self.hidden.watch(registry)?;
         registry.register(&mut self.control, Source::Control.token(), readable)
     }
 
     /// The next client at one of the clients' doors.
     pub fn next_client(&self, door: Source) -> io::Result<UnixStream> {
-        match &self.hidden {
-            Hidden::Open(hidden) if door == Source::Hidden => Ok(hidden.accept()?.0),
-            Hidden::Held(_) if door == Source::Hidden => Err(io::Error::from(
-                ErrorKind::WouldBlock,
-            )),
+        match door {
+            Source::Hidden => self.hidden.next_client(),
             _ => Ok(self.clients.accept()?.0),
         }
     }

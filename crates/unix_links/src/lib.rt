@@ -17,10 +17,10 @@ mod sockets;
 mod sources;
 
 pub use connection::Connection;
-pub use doors::{abstract_listener, private_listener};
+pub use doors::{Hidden, private_listener};
 pub use leavers::Leavers;
 pub use links::SocketLinks;
-pub use options::LinkOptions;
+pub use options::{LinkOptions, take_private};
 pub use paths::{control_fault, path_fault};
 pub use reading::{Reading, is_passing, refused, would_wait};
 pub use sources::Source;

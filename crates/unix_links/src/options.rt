@@ -38,6 +38,23 @@ fn take_out(words: &mut Vec<String>, at: usize, count: usize) {
     }
 }
 
+/// Takes `--private` out of the words of `serve`, and says whether it was there. All other options have a
+/// value, and a value is never taken.
+pub fn take_private(words: &mut Vec<String>) -> bool {
+    if !is_word(words, 0, "serve") {
+        return false;
+    }
+    let mut at = 1;
+    for _ in 0..words.len() {
+        if is_word(words, at, "--private") {
+            take_out(words, at, 1);
+            return true;
+        }
+        at = at.saturating_add(2);
+    }
+    false
+}
+
 impl LinkOptions {
     /// Both doors are open, and whoever is waited for or was told to die has all the time.
     pub fn new() -> LinkOptions {

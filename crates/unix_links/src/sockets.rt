@@ -305,17 +305,26 @@ impl Sockets {
         Ok(())
     }
 
-    /// Takes in a client who comes at this door. Where all places are taken, and none of a stranger's
-    /// is free yet, it waits there.
+    /// Whether whoever comes at this door waits there: all places are taken, and none of a stranger's is free
+    /// yet; or too many have just come by the name that everybody can reach.
+    fn is_shut(&self, door: Source) -> bool {
+        self.clients.place() == Place::Later
+            || (door == Source::Hidden && self.clients.are_crowding())
+    }
+
+    /// Takes in a client who comes at this door, if nobody has to wait there.
     fn join(&mut self, door: Source) -> Result<Reading, Failure>
         ensures size { IfOk result (λ reading. IfSome reading.event IsArrival) }
     {
-        if self.clients.place() == Place::Later {
+        if self.is_shut(door) {
             self.wait_at_doors();
             return Ok(Reading::nothing());
         }
         match self.doors.next_client(door) {
             Ok(stream) => {
+                if door == Source::Hidden {
+                    self.clients.note_comer()?;
+                }
                 self.clients.add(self.poll.registry(), stream)?;
                 Ok(Reading {
                     event: self.clients.next_news(),

@@ -2,6 +2,7 @@
 //! contract. Tests take them from here.
 #![tactic(auto)]
 
+mod changing;
 mod disks;
 mod faults;
 mod frames;
@@ -13,6 +14,7 @@ mod rounds;
 mod spellings;
 mod starving;
 
+pub use changing::Changing;
 pub use disks::SilentDisk;
 pub use faults::Trouble;
 pub use frames::frame_of;

@@ -12,3 +12,5 @@ mod strangers;
 mod times;
 #[cfg(test)]
 mod visitors;
+#[cfg(test)]
+mod words;

@@ -16,6 +16,7 @@ use std::alloc::{Alloc, Global};
 use std::process::Abort;
 use std::test::Fail;
 use test_tables::text_of;
+use worked_values::Changing;
 
 /// The file `/s` with `a`, and `/long`, which has too many bytes; the call with this number fails.
 fn files(alloc: Global, failing: u64) -> Result<MemFiles, NoMemory> {
@@ -164,6 +165,22 @@ fn each_copy_has_its_number(rt: HostRuntime) -> Result<(), Fail> {
         Published(Octets { bytes: [47, 115, 46, 50] }, Octets { bytes: [97] })]";
     copies_have_paths_of_their_own();
     expect_effects(&rt, &files, want)
+}
+
+/// Between two saves somebody else has written the file: each copy has what it held as that save read it.
+#[test]
+fn each_copy_has_what_the_file_held_then(rt: HostRuntime) -> Result<(), Fail> {
+    let mut files = Changing::new(rt.alloc());
+    let mut saver = Saver::new(rt.alloc(), &mut files, plan(rt.alloc(), 0)?);
+    saves_twice(&rt, &mut saver)?;
+    drop(saver);
+    let copies = files.published.as_slice();
+    assert_eq!(&rt; copies.len(), 2);
+    assert_eq!(&rt; copies[0].0.as_slice(), b"/s.1".as_slice());
+    assert_eq!(&rt; copies[0].1.as_slice(), &[1]);
+    assert_eq!(&rt; copies[1].0.as_slice(), b"/s.2".as_slice());
+    assert_eq!(&rt; copies[1].1.as_slice(), &[2]);
+    Ok(())
 }
 
 /// A save whose call with this number fails publishes nothing, and uses its number up.
