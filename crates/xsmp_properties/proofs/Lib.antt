@@ -1,4 +1,5 @@
 pub mod TableLaws
-pub mod SharedLaws
+pub mod MapLaws
+pub mod ShownLaws
 pub mod TextLaws
 pub mod SizeLaws
