@@ -1,5 +1,6 @@
 pub mod TableLaws
 pub mod MapLaws
 pub mod ShownLaws
+pub mod SetLaws
 pub mod TextLaws
 pub mod SizeLaws

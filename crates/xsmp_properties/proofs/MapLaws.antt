@@ -1,17 +1,18 @@
 -- A map by names against a list of properties.
-use Rattle.std.proofs.Common.{◌≡◌, ℕ, suc, ◌+◌, ◌<◌, ◌≤◌, Bool, true, false, cond, not, List, [], ◌∷◌, ◌++◌, length, map, refl, sym, ap, ap₂, ◌∙◌, subst, arith, append_assoc}
+use Rattle.std.proofs.Common.{◌≡◌, ℕ, suc, ◌+◌, ◌<◌, ◌≤◌, Bool, true, false, cond, not, ◌||◌, List, [], ◌∷◌, ◌++◌, length, map, refl, sym, ap, ap₂, ◌∙◌, subst, arith, append_assoc}
 use Rattle.std.specs.Prelude.{nat_lt, Option, None, Some}
 use Rattle.std.specs.List.{AllByRecursion, IsDistinct, position, position_or_len}
 use Rattle.std.proofs.lemmas.Bool.{ltb-false}
 use Rattle.std.specs.Str.{bytes_eq}
 use Rattle.std.specs.Global.{Vec}
-use Rattle.std.specs.Map.{keys_of, values_of}
+use Rattle.std.specs.Map.{keys_of, values_of, remove_entry}
 use Rattle.std.specs.Cmp.Lexicographic.{same_text}
 use Rattle.indexmap.specs.IndexMap.{insert_entry, insert_all}
 use Rattle.ice_values.specs.declared.property.Property.{Property}
-use Rattle.xsmp_properties.specs.Tables.{is_named, set_one, set_all, AreNamesDistinct}
+use Rattle.xsmp_properties.specs.Tables.{is_named, set_one, set_all, without_names, AreNamesDistinct}
 use Rattle.xsmp_properties.specs.Named.{HasOwnName, AreNamed, same_key, place_among}
-use Rattle.xsmp_properties.proofs.TableLaws.{set_one-new}
+use Rattle.xsmp_properties.proofs.TableLaws.{set_one-new, without-absent}
+use Rattle.xsmp_properties.proofs.ShownLaws.{LacksText, names_of, lacks}
 
 -- ---- the place that a map tells
 
@@ -112,3 +113,22 @@ module _ {X : Type 0} (of : X → Property) where
       by : (b : Bool) → position_or_len (λ key. bytes_eq name key.items) (keys_of es) ≡ place_among name (properties es) → cond (not b) (1 + position_or_len (λ key. bytes_eq name key.items) (keys_of es)) 0 ≡ cond b 0 (suc (place_among name (properties es)))
       by true rest = refl
       by false rest = omega (arith, rest)
+
+  -- to take the first of a name out is to take all of it out
+  pub values-remove : (es : Entries) (name : List ℕ) → AreNamed of es → properties (remove_entry (λ key. bytes_eq name key.items) es) ≡ without_names (name ∷ []) (properties es)
+  unfolding IsDistinct
+  values-remove [] name named = refl
+  values-remove (e ∷ es) name named =
+      by (bytes_eq name e.0.items) refl (values-remove es name (named.0.1, named.1.1)) ∙ ap (λ (key : List ℕ). cond (not (bytes_eq name key || false)) (of e.1 ∷ without_names (name ∷ []) (properties es)) (without_names (name ∷ []) (properties es))) named.0.0
+    where
+      by : (b : Bool) → bytes_eq name e.0.items ≡ b → properties (remove_entry (λ key. bytes_eq name key.items) es) ≡ without_names (name ∷ []) (properties es) → properties (cond b es (e ∷ remove_entry (λ key. bytes_eq name key.items) es)) ≡ cond (not (b || false)) (of e.1 ∷ without_names (name ∷ []) (properties es)) (without_names (name ∷ []) (properties es))
+      by true same rest = sym (without-absent name (properties es) (lacks name (properties es) (subst (λ (n : List ℕ). LacksText n (names_of (properties es))) (sym (same_text name e.0.items (sym same))) (names-distinct-from es e.0 named.0.1 named.1.0))))
+      by false same rest = ap (λ (l : List Property). of e.1 ∷ l) rest
+
+  pub own-remove : (es : Entries) (name : List ℕ) → AllByRecursion (HasOwnName of) es → AllByRecursion (HasOwnName of) (remove_entry (λ key. bytes_eq name key.items) es)
+  own-remove [] name own = tt
+  own-remove (e ∷ es) name own = by (bytes_eq name e.0.items) (own-remove es name own.1)
+    where
+      by : (b : Bool) → AllByRecursion (HasOwnName of) (remove_entry (λ key. bytes_eq name key.items) es) → AllByRecursion (HasOwnName of) (cond b es (e ∷ remove_entry (λ key. bytes_eq name key.items) es))
+      by true rest = own.1
+      by false rest = (own.0, rest)

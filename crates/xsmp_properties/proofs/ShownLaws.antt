@@ -41,13 +41,13 @@ module _ {X : Type 0} where
 
 -- ---- names
 
-abbrev names_of : List Property → List (List ℕ)
+abbrev pub names_of : List Property → List (List ℕ)
 names_of items = map (λ (p : Property). p.name) items
 
-abbrev LacksText : List ℕ → List (List ℕ) → Type 0
+abbrev pub LacksText : List ℕ → List (List ℕ) → Type 0
 LacksText name names = AllByRecursion (λ other. bytes_eq name other ≡ false) names
 
-lacks : (name : List ℕ) (items : List Property) → LacksText name (names_of items) → LacksName name items
+pub lacks : (name : List ℕ) (items : List Property) → LacksText name (names_of items) → LacksName name items
 lacks name [] all = tt
 lacks name (p ∷ items) all = (all.0, lacks name items all.1)
 

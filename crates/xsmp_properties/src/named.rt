@@ -1,9 +1,9 @@
-ghost use Rattle.std.specs.Prelude.{◌≡◌, ◌<◌, ◌≤◌, [], length, map, Err, OnOk, OnErr, IfNone, IfSome, IsTrue, ◌↔◌};
+ghost use Rattle.std.specs.Prelude.{◌≡◌, ◌<◌, ◌≤◌, [], length, map, Err, OnOk, OnErr, IfNone, IfSome, IfOk, ◌∷◌, IsTrue, ◌↔◌};
 ghost use Rattle.ice_values.specs.Walks.{walk_left};
 ghost use Rattle.std.specs.Rc.{rc_value};
 ghost use Rattle.xsmp_properties.specs.Named.{left_of, place_among};
 ghost use Rattle.xsmp_properties.specs.declared.refusals.SetRefusal.TheVariants.{TableFull};
-ghost use Rattle.xsmp_properties.specs.Tables.{set_one, set_all, encoded_len, IsTableFull, AreNamesDistinct};
+ghost use Rattle.xsmp_properties.specs.Tables.{set_one, set_all, without_names, encoded_len, IsTableFull, AreNamesDistinct};
 
 use crate::SetRefusal;
 use crate::limits::NAME_LIMIT;
@@ -44,6 +44,15 @@ impl NamedProperties {
         NamedProperties {
             held: IndexMap::new(alloc),
         }
+    }
+
+    /// No properties, with room for so many.
+    pub fn with_capacity(alloc: Global, room: usize) -> Result<NamedProperties, NoMemory>
+        ensures { IfOk result (λ named. named ≡ []) }
+    {
+        Ok(NamedProperties {
+            held: IndexMap::with_capacity(alloc, room)?,
+        })
     }
 
     pub fn allocator(&self) -> Global {
@@ -144,6 +153,13 @@ impl NamedProperties {
         ensures some { IfSome result (λ n. (n ≡ encoded_len self.now) × (n ≤ 16384)) }
     {
         self.shown().encoded_len()
+    }
+
+    /// Takes the property of this name out, if there is one.
+    pub fn remove(&mut self, name: &[u8])
+        ensures { self.new ≡ without_names (name.now ∷ []) self.old }
+    {
+        drop(self.held.shift_remove(name));
     }
 
     /// Whether these are more than a client may say.

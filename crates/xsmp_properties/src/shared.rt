@@ -62,12 +62,32 @@ impl SharedProperties {
     pub fn to_named(&self) -> Result<NamedProperties, NoMemory>
         ensures { IfOk result (λ named. named ≡ self.now) }
     {
-        let mut named = NamedProperties::new(self.allocator());
+        let mut named = NamedProperties::with_capacity(self.allocator(), self.named.as_ref().len())?;
         let mut left = self.shown();
         while let Some(shared) = left.next() {
             named.put_shared(shared.clone()?)?;
         }
         Ok(named)
+    }
+
+    /// Sets others in turn: in the map itself, where no other table shares it and nothing is hidden,
+    /// and else in one of its own. A refused call changes nothing.
+    pub fn put_named(&mut self, others: NamedProperties) -> Result<(), NoMemory>
+        requires { length (set_all self.old others) ≤ 128 }
+        ensures ok { OnOk result (self.new ≡ set_all self.old others) }
+        ensures err { OnErr result (self.new ≡ self.old) }
+    {
+        if self.hidden == 0 {
+            if let Some(named) = Rc::get_mut(&mut self.named) {
+                named.put_named(others)?;
+                let _len = named.len();
+                return Ok(());
+            }
+        }
+        let mut named = self.to_named()?;
+        named.put_named(others)?;
+        *self = SharedProperties::new(named)?;
+        Ok(())
     }
 
     /// Hides the property of this name, if there is one.
@@ -80,12 +100,27 @@ impl SharedProperties {
         }
     }
 
+    /// Takes the property of this name out, if there is one: from the map itself, where no other
+    /// table shares it and nothing is hidden.
+    fn remove(&mut self, name: &[u8])
+        ensures { self.new ≡ without_names (name.now ∷ []) self.old }
+    {
+        if self.hidden == 0 {
+            if let Some(named) = Rc::get_mut(&mut self.named) {
+                named.remove(name);
+                let _len = named.len();
+                return;
+            }
+        }
+        self.hide(name);
+    }
+
     /// Takes the properties of these names out.
     pub fn remove_all(&mut self, names: &[Array8])
         ensures { self.new ≡ without_names names.now self.old }
     {
         for name in names {
-            self.hide(name.as_slice());
+            self.remove(name.as_slice());
         }
     }
 

@@ -77,9 +77,9 @@ impl PropertyTable {
         if self.shared.would_be_full(walk) {
             return Err(SetRefusal::TableFull);
         }
-        let mut named = self.shared.to_named()?;
+        let mut named = NamedProperties::new(self.shared.allocator());
         named.put_walk(walk)?;
-        self.shared = SharedProperties::new(named)?;
+        self.shared.put_named(named)?;
         Ok(())
     }
 

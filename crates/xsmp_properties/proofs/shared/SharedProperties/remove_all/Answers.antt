@@ -13,4 +13,4 @@ loop-name-preserved c =
     let i = c.loop-name.name-index in
     let name = c.name-item.result in
     let grown : take (i + 1) names ≡ take i names ++ name ∷ [] = take_more names i name c.loop-name-test.true ∙ ap (λ (y : List ℕ). take i names ++ y ∷ []) (sym c.name-item.is) in
-    c.hide.ensures ∙ ap₂ (λ (n : List ℕ) l. without_names (n ∷ []) l) c.as_slice.ensures c.loop-name.invariant ∙ sym (without-more (take i names) name c.args.self.now) ∙ ap (λ l. without_names l c.args.self.now) (sym grown)
+    c.remove.ensures ∙ ap₂ (λ (n : List ℕ) l. without_names (n ∷ []) l) c.as_slice.ensures c.loop-name.invariant ∙ sym (without-more (take i names) name c.args.self.now) ∙ ap (λ l. without_names l c.args.self.now) (sym grown)
