@@ -62,7 +62,10 @@ impl SharedProperties {
     pub fn to_named(&self) -> Result<NamedProperties, NoMemory>
         ensures { IfOk result (λ named. named ≡ self.now) }
     {
-        let mut named = NamedProperties::with_capacity(self.allocator(), self.named.as_ref().len())?;
+        let mut named = NamedProperties::with_capacity(
+            self.allocator(),
+            self.named.as_ref().len(),
+        )?;
         let mut left = self.shown();
         while let Some(shared) = left.next() {
             named.put_shared(shared.clone()?)?;

@@ -1,4 +1,4 @@
-use Rattle.std.proofs.Common.{◌≡◌, List, length, map, refl, inl, sym, ap, ◌∙◌, arith}
+use Rattle.std.proofs.Common.{◌≡◌, length, map, refl, inl, sym, ap, ◌∙◌, arith}
 use Rattle.ice_values.specs.Walks.{walk_left}
 use Rattle.xsmp_properties.specs.Sizes.{set_sizes, sized, sizes_of}
 use Rattle.xsmp_properties.specs.Tables.{set_all}

@@ -1,4 +1,4 @@
-use Rattle.std.proofs.Common.{◌≡◌, ℕ, ◌<◌, List, [], length, map, ap, ap₂, sym, ◌∷◌, ◌∙◌, arith}
+use Rattle.std.proofs.Common.{◌≡◌, ℕ, ◌<◌, List, length, map, ap, ap₂, sym, ◌∷◌, ◌∙◌, arith}
 use Rattle.xsmp_properties.specs.Named.{left_of}
 use Rattle.xsmp_properties.specs.Sizes.{set_sizes, sized, sizes_of}
 use Rattle.xsmp_properties.proofs.SizeLaws.{mapped-length, not_set, sized-table}
