@@ -1,4 +1,6 @@
 pub mod TableLaws
-pub mod SharedLaws
+pub mod MapLaws
+pub mod ShownLaws
+pub mod SetLaws
 pub mod TextLaws
 pub mod SizeLaws

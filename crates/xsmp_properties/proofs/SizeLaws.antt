@@ -1,15 +1,13 @@
 -- The names and lengths of a table against the table.
-use Rattle.std.proofs.Common.{◌≡◌, ℕ, zero, suc, ◌+◌, ◌<◌, ◌≤◌, min, Bool, true, false, cond, inl, inr, List, [], ◌∷◌, ◌++◌, length, map, set, drop, refl, sym, ap, ◌∙◌, subst, arith, append_assoc, length-append}
+use Rattle.std.proofs.Common.{◌≡◌, ℕ, zero, suc, ◌+◌, ◌<◌, ◌≤◌, Bool, true, false, cond, inl, inr, List, [], ◌∷◌, ◌++◌, length, map, set, drop, refl, sym, ap, ◌∙◌, subst, arith, append_assoc, length-append}
 use Rattle.std.specs.Prelude.{nat_lt, slice_set, ◌↔◌}
 use Rattle.std.specs.List.{refill}
 use Rattle.std.specs.Str.{bytes_eq}
 use Rattle.std.proofs.lemmas.Bool.{cases_lt, lt-ltb, ltb-true}
 use Rattle.std.proofs.lemmas.List.{append-nil, length-set, take_at}
-use Rattle.ice_values.specs.Properties.{property}
-use Rattle.ice_values.specs.declared.numbers.Endian.TheVariants.{Lsb}
 use Rattle.ice_values.specs.declared.property.Property.{Property}
-use Rattle.xsmp_properties.specs.Sizes.{limited, sized, shown, place_of, set_size, set_sizes, total_of}
-use Rattle.xsmp_properties.specs.Tables.{is_named, set_one, set_all, encoded_len, IsTableFull, AreNamesDistinct}
+use Rattle.xsmp_properties.specs.Sizes.{sized, shown, place_of, set_size, set_sizes, total_of}
+use Rattle.xsmp_properties.specs.Tables.{set_one, set_all, encoded_len, IsTableFull, AreNamesDistinct}
 use Rattle.xsmp_properties.specs.declared.sizes.Size.{Size}
 use Rattle.xsmp_properties.proofs.TableLaws.{set_one-new, encoded_len-cons}
 

@@ -3,8 +3,11 @@
 
 mod commands;
 mod hints;
+mod limits;
 mod named;
 mod refusals;
+mod shared;
+mod shown;
 mod sizes;
 mod table;
 mod texts;

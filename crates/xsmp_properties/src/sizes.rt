@@ -4,7 +4,7 @@ ghost use Rattle.ice_values.specs.Walks.{view_len};
 ghost use Rattle.ice_values.specs.declared.numbers.Endian.TheVariants.{Lsb};
 ghost use Rattle.xsmp_properties.specs.Sizes.{limited, place_of, shown, sizes_of, total_of, with_size, with_walk};
 
-use crate::named::{BYTE_LIMIT, NAME_LIMIT};
+use crate::limits::{BYTE_LIMIT, NAME_LIMIT};
 use crate::texts::same_bytes;
 use arrayvec::ArrayVec;
 use ice_values::{Property, PropertyView, PropertyWalk, Spelled};

@@ -6,6 +6,7 @@ ghost use Rattle.xsmp_properties.specs.declared.refusals.SetRefusal.TheVariants.
 
 use crate::SetRefusal;
 use crate::named::NamedProperties;
+use crate::shared::SharedProperties;
 use ice_values::{Array8List, Property, PropertyList, PropertyWalk};
 use owned_lists::{Duplicate, NoMemory};
 use std::alloc::Global;
@@ -15,7 +16,7 @@ use std::marker::Model;
 /// the order in which each name was first set, which at most 16,384 bytes spell.
 #[derive(Drop)]
 pub struct PropertyTable {
-    named: NamedProperties,
+    shared: SharedProperties,
 }
 
 impl Model for PropertyTable {
@@ -25,9 +26,9 @@ impl Model for PropertyTable {
 
     ghost Value = { List Property };
 
-    ghost view = { λ table. table.named };
+    ghost view = { λ table. table.shared };
 
-    ghost invariant = { λ table. ¬ (IsTableFull table.named) };
+    ghost invariant = { λ table. ¬ (IsTableFull table.shared) };
 }
 
 impl PropertyTable {
@@ -36,7 +37,7 @@ impl PropertyTable {
         ensures { IfOk result (λ table. table ≡ []) }
     {
         Ok(PropertyTable {
-            named: NamedProperties::new(alloc),
+            shared: SharedProperties::new(NamedProperties::new(alloc))?,
         })
     }
 
@@ -49,12 +50,12 @@ impl PropertyTable {
         ensures full { result ≡ Err TableFull → IsTableFull (set_all self.old list.now) }
         ensures err { OnErr result (self.new ≡ self.old) }
     {
-        let mut named = self.named.copy()?;
+        let mut named = self.shared.to_named()?;
         named.put_all(list.as_slice())?;
         if named.is_full() {
             return Err(SetRefusal::TableFull);
         }
-        self.named = named;
+        self.shared = SharedProperties::new(named)?;
         Ok(())
     }
 
@@ -63,7 +64,7 @@ impl PropertyTable {
     pub fn would_be_full(&self, walk: PropertyWalk<'_>) -> bool
         ensures { IsTrue result ↔ WouldBeFull self.now walk.entry }
     {
-        self.named.would_be_full(walk)
+        self.shared.would_be_full(walk)
     }
 
     /// Sets copies of all properties of a list where it lies, as `set` does. That the table is full
@@ -73,12 +74,12 @@ impl PropertyTable {
         ensures full { (result ≡ Err TableFull) ↔ WouldBeFull self.old walk.entry }
         ensures err { OnErr result (self.new ≡ self.old) }
     {
-        if self.named.would_be_full(walk) {
+        if self.shared.would_be_full(walk) {
             return Err(SetRefusal::TableFull);
         }
-        let mut named = self.named.copy()?;
+        let mut named = NamedProperties::new(self.shared.allocator());
         named.put_walk(walk)?;
-        self.named = named;
+        self.shared.put_named(named)?;
         Ok(())
     }
 
@@ -87,14 +88,14 @@ impl PropertyTable {
     pub fn delete(&mut self, names: &Array8List)
         ensures { self.new ≡ without_names names.now self.old }
     {
-        self.named.remove_all(names.as_slice());
+        self.shared.remove_all(names.as_slice());
     }
 
     /// The property of this name. This takes no memory.
     pub fn get(&self, name: &[u8]) -> Option<&Property>
         ensures { option_copied result ≡ find_property name.now self.now }
     {
-        self.named.get(name)
+        self.shared.get(name)
     }
 
     /// Copies of all properties, in order.
@@ -103,7 +104,7 @@ impl PropertyTable {
         ensures names { AreNamesDistinct self.now }
         ensures limits { ¬ (IsTableFull self.now) }
     {
-        self.named.list()
+        self.shared.shown().list(self.shared.allocator())
     }
 
     /// How many bytes spell the properties. This takes no memory.
@@ -111,7 +112,7 @@ impl PropertyTable {
         ensures is { result ≡ encoded_len self.now }
         ensures bound { result ≤ 16384 }
     {
-        let Some(count) = self.named.encoded_len() else {
+        let Some(count) = self.shared.shown().encoded_len() else {
             unreachable!()
         };
         count
@@ -121,14 +122,14 @@ impl PropertyTable {
     pub fn is_same(&self, other: &PropertyTable) -> bool
         ensures { result ≡ pointwise are_equal self.now other.now }
     {
-        self.named.is_same(&other.named)
+        self.shared.shown().is_same(other.shared.shown())
     }
 }
 
 impl Duplicate for PropertyTable {
     fn copy(&self) -> Result<PropertyTable, NoMemory> {
         Ok(PropertyTable {
-            named: self.named.copy()?,
+            shared: self.shared.copy()?,
         })
     }
 }

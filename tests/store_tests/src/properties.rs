@@ -112,6 +112,52 @@ fn a_delete_takes_names_out(rt: HostRuntime) -> Result<(), Fail> {
     expect_rows(&rt, "58|50| => Q=02| false P=03|Q=02|", deleted_shown)
 }
 
+/// A table from which these names were deleted and in which P was set then, and a copy from before.
+fn deleted_and_set(alloc: Global, names: &str) -> Result<String, Fail> {
+    let mut table = set_all(alloc, "P=01 Q=02 R=03")?;
+    let twin = table.copy()?;
+    table.delete(&values(alloc, names)?);
+    let list = single(alloc, property(alloc, "P", "ARRAY8", "05|")?)?;
+    answer(alloc, &mut table, &list)?;
+    Ok(format!(in alloc; "{} {}", shown(alloc, &table)?, shown(alloc, &twin)?)?)
+}
+
+#[test]
+fn a_name_that_was_deleted_is_a_new_one(rt: HostRuntime) -> Result<(), Fail> {
+    let rows = "50| => Q=02|R=03|P=05| P=01|Q=02|R=03|\n51| => P=05|R=03| P=01|Q=02|R=03|";
+    expect_rows(&rt, rows, deleted_and_set)
+}
+
+/// Takes two names out of a table of many and sets a third.
+fn change(alloc: Global, table: &mut PropertyTable) -> Result<(), Fail> {
+    table.delete(&values(alloc, "37|313030|")?);
+    set(alloc, table, "5", "ARRAY8 01|")
+}
+
+#[test]
+fn neither_of_two_copies_changes_the_other(rt: HostRuntime) -> Result<(), Fail> {
+    let alloc = rt.alloc();
+    let mut table = PropertyTable::new(alloc)?;
+    table.set(&many(alloc, 128)?)?;
+    let before = shown(alloc, &table)?;
+    let mut twin = table.copy()?;
+    let third = table.copy()?;
+    assert!(rt; table.is_same(&twin));
+    change(alloc, &mut table)?;
+    assert_eq!(rt; table.list()?.len(), 126);
+    assert_eq!(rt; shown(alloc, &twin)?.as_str(), before.as_str());
+    assert!(rt; !table.is_same(&twin));
+    let after = shown(alloc, &table)?;
+    change(alloc, &mut twin)?;
+    assert!(rt; table.is_same(&twin));
+    twin.delete(&values(alloc, "35|")?);
+    assert_eq!(rt; shown(alloc, &table)?.as_str(), after.as_str());
+    assert_eq!(rt; shown(alloc, &third)?.as_str(), before.as_str());
+    assert!(rt; twin.get(b"5").is_none());
+    assert!(rt; table.get(b"5").is_some());
+    Ok(())
+}
+
 /// One property `P` of kind `ARRAY8` with one value of so many bytes.
 fn long(alloc: Global, count: usize) -> Result<PropertyList, Fail> {
     let mut property = property(alloc, "P", "ARRAY8", "")?;

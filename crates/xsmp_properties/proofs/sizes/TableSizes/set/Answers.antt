@@ -1,4 +1,4 @@
-use Rattle.std.proofs.Common.{◌≡◌, ◌≤◌, ◌<◌, ◌∙◌, List, length, map, ap, sym, arith}
+use Rattle.std.proofs.Common.{◌≡◌, ◌≤◌, ◌∙◌, List, length, map, ap, sym, arith}
 use Rattle.xsmp_properties.specs.Sizes.{place_of, shown}
 use Rattle.xsmp_properties.specs.declared.sizes.Size.{Size}
 use Rattle.xsmp_properties.proofs.SizeLaws.{place_written, no_place, one_longer, shown-more}

@@ -1,4 +1,4 @@
-use Rattle.std.proofs.Common.{◌≡◌, ℕ, List, length, map, ap, ap₂, ◌∙◌}
+use Rattle.std.proofs.Common.{ℕ, List, map, ap, ap₂, ◌∙◌}
 use Rattle.ice_values.specs.Walks.{walk_left}
 use Rattle.ice_values.proofs.WalkLaws.{view_is_as_long}
 use Rattle.xsmp_properties.specs.Sizes.{limited, set_sizes, sized, sizes_of}
