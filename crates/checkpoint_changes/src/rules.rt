@@ -3,9 +3,9 @@ ghost use Rattle.std.specs.List.{AllByRecursion, IsDistinct, list_any};
 ghost use Rattle.checkpoint_records.specs.Books.{all_entries, same_command, sessions};
 ghost use Rattle.checkpoint_records.specs.Rules.{KeepsRules};
 ghost use Rattle.checkpoint_changes.specs.Parts.{HasParts};
-ghost use Rattle.checkpoint_changes.specs.Together.{AreOfRuns, FitTogether};
+ghost use Rattle.checkpoint_changes.specs.Together.{AreOfRuns, FitBut};
 
-use crate::drafts::Draft;
+use crate::drafts::{Draft, one_collides_in};
 use checkpoint_records::{
     Book, Entry, Named, all_discards, count_entries, count_sessions, is_client_id, is_named,
 };
@@ -101,14 +101,15 @@ pub fn keeps_rules(alloc: Global, book: &Book) -> Result<bool, NoMemory>
     Ok(are_none_named(discards.as_slice(), pending))
 }
 
-/// Whether a draft keeps the rules. Where its parts are known to fit together this is a comparison
-/// of two numbers; otherwise each part is tested against the others.
+/// Whether a draft keeps the rules. Where its parts are known to fit together but for the entries in
+/// doubt, and these name nothing that is pending any more, this is a comparison of three numbers;
+/// otherwise each part is tested against the others.
 pub(crate) fn draft_keeps_rules(alloc: Global, draft: &Draft) -> Result<bool, NoMemory>
     requires parts { HasParts draft.now.book }
-    requires fits { IsTrue draft.now.fits → FitTogether draft.now.book }
+    requires fits { IsTrue draft.now.fits → FitBut draft.now.doubts draft.now.book }
     ensures { IfOk result (λ kept. IsTrue kept ↔ KeepsRules draft.now.book) }
 {
-    if draft.fits {
+    if draft.fits && !one_collides_in(draft.doubts.as_slice(), &draft.book) {
         Ok(is_within_limits(&draft.book))
     } else {
         keeps_rules(alloc, &draft.book)

@@ -14,7 +14,7 @@ pub apply_all-requires-clause-parts : goal.apply_all-requires-clause-parts
 apply_all-requires-clause-parts c = parts_of c.args.book c.requires.rules c.requires.chosen c.requires.epoch
 
 pub apply_all-requires-clause-fits : goal.apply_all-requires-clause-fits
-apply_all-requires-clause-fits c = λ t. fit_of c.args.book c.requires.rules
+apply_all-requires-clause-fits c = λ t. rw c.new.ensures (fit_of c.args.book c.requires.rules)
 
 pub draft_keeps_rules-requires-clause-parts : goal.draft_keeps_rules-requires-clause-parts
 draft_keeps_rules-requires-clause-parts c = rw c.in-Some-2.is at c.in_ok-next.ensures.parts
