@@ -299,3 +299,14 @@ pub pend_fits : (book : Book) (command : Command) (pending : List Command) (amon
     → IsTrue (not discarded) → FitsIn book (Pend command)
 pend_fits book command pending among discarded is_pending is_among new is_discarded t =
     (ap (list_any (λ (other : Command). same_command other command)) (sym is_pending) ∙ sym is_among ∙ new, sym is_discarded ∙ not_true discarded t)
+
+not_false : (b : Bool) → b ≡ false → IsTrue (not b)
+not_false true e = absurd cc
+not_false false e = refl
+
+-- no entry names a pending command
+pub none_discards : (book : Book) (result : Bool) → result ≡ list_any (discards_any book.pending) (all_entries book) → (IsTrue (not result) → AreUnnamed (all_entries book) book.pending) × (AreUnnamed (all_entries book) book.pending → IsTrue (not result))
+none_discards book result is = (
+  λ t. each_unnamed (all_entries book) book.pending (any_none (discards_any book.pending) (all_entries book) (sym is ∙ not_true result t)),
+  λ h. not_false result (is ∙ none_any (discards_any book.pending) (all_entries book) (each_free (all_entries book) book.pending h)),
+)

@@ -94,6 +94,16 @@ fn is_discarded(entries: &[Entry], command: &Command) -> bool
     entries.iter().any(|entry| discards_by(command, entry))
 }
 
+/// Whether this command is the same as one of these.
+pub(crate) fn is_one_of(command: &Command, commands: &[Command]) -> bool
+    ensures { result ≡ list_any (is_same command.now) commands.now }
+{
+    let words = command.words.as_slice();
+    commands
+        .iter()
+        .any(|other| same_words(words, other.words.as_slice()))
+}
+
 /// Whether one of these commands is the same as this one.
 fn is_among(commands: &[Command], command: &Command) -> bool
     ensures { result ≡ list_any (λ other. is_same other command.now) commands.now }
@@ -236,4 +246,29 @@ pub(crate) fn one_collides_in(doubts: &[Array8], book: &Book) -> bool
     let pending = book.pending.as_slice();
     one_collides(doubts, pending, book.entries.as_slice())
         || one_collides_among(doubts, pending, book.others.as_slice())
+}
+
+/// Whether one of the entries names one of the commands.
+fn one_discards(commands: &[Command], entries: &[Entry]) -> bool
+    ensures { result ≡ list_any (discards_any commands.now) entries.now }
+{
+    entries.iter().any(|entry| discards_one_of(commands, entry))
+}
+
+fn one_discards_among(commands: &[Command], others: &[Named]) -> bool
+    ensures { result
+        ≡ list_any (λ other. list_any (discards_any commands.now) other.entries) others.now }
+{
+    others
+        .iter()
+        .any(|other| one_discards(commands, other.entries.as_slice()))
+}
+
+/// Whether an entry of the book names a pending command. This takes no memory.
+pub(crate) fn one_discards_in(book: &Book) -> bool
+    ensures { result ≡ list_any (discards_any book.now.pending) (all_entries book.now) }
+{
+    let pending = book.pending.as_slice();
+    one_discards(pending, book.entries.as_slice())
+        || one_discards_among(pending, book.others.as_slice())
 }

@@ -83,7 +83,7 @@ fn take_amendment(
     let Some(next) = apply_all(alloc, format, draft, changes)? else {
         return Ok(None);
     };
-    if draft_keeps_rules(alloc, &next)? {
+    if draft_keeps_rules(&next) {
         Ok(Some((next.book, rest)))
     } else {
         Ok(None)

@@ -95,6 +95,11 @@ fn put_amendment(changes: &[u8], out: &mut Vec<u8>) -> Result<(), Fail> {
     Ok(())
 }
 
+fn put_head(code: u32, number: u32, out: &mut Vec<u8>) -> Result<(), Fail> {
+    put_number(code, out)?;
+    put_number(number, out)
+}
+
 /// Adds an amendment by which an entry names a pending command, which goes then, and what the entry
 /// named before comes to be pending.
 fn exchange(alloc: Global, book: &mut Numbers, step: u32, out: &mut Vec<u8>) -> Result<(), Fail> {
@@ -102,17 +107,36 @@ fn exchange(alloc: Global, book: &mut Numbers, step: u32, out: &mut Vec<u8>) -> 
     let place = (step * 13) as usize % book.pending.len();
     let (named, freed) = (book.pending[place], book.discards[entry]);
     let mut changes = Vec::new(alloc);
-    put_number(3, &mut changes)?;
-    put_number(0, &mut changes)?;
+    put_head(3, 0, &mut changes)?;
     put_entry(alloc, entry as u32, named, &mut changes)?;
-    put_number(4, &mut changes)?;
-    put_number(place as u32, &mut changes)?;
-    put_number(5, &mut changes)?;
-    put_number(0, &mut changes)?;
+    put_head(4, place as u32, &mut changes)?;
+    put_head(5, 0, &mut changes)?;
     put_command(alloc, freed, &mut changes)?;
     book.discards[entry] = named;
     book.pending.remove(place);
     book.pending.push(freed)?;
+    put_amendment(changes.as_slice(), out)
+}
+
+/// Adds an amendment by which a pending command comes once more, and then goes where it was.
+fn repeat(alloc: Global, book: &mut Numbers, step: u32, out: &mut Vec<u8>) -> Result<(), Fail> {
+    let place = (step * 11) as usize % book.pending.len();
+    let moved = book.pending[place];
+    let mut changes = Vec::new(alloc);
+    put_head(5, 0, &mut changes)?;
+    put_command(alloc, moved, &mut changes)?;
+    put_head(4, place as u32, &mut changes)?;
+    book.pending.remove(place);
+    book.pending.push(moved)?;
+    put_amendment(changes.as_slice(), out)
+}
+
+/// Adds an amendment by which an entry names a pending command, and another one goes.
+fn collide(alloc: Global, book: &Numbers, out: &mut Vec<u8>) -> Result<(), Fail> {
+    let mut changes = Vec::new(alloc);
+    put_head(3, 0, &mut changes)?;
+    put_entry(alloc, 0, book.pending[0], &mut changes)?;
+    put_head(4, 1, &mut changes)?;
     put_amendment(changes.as_slice(), out)
 }
 
@@ -123,7 +147,8 @@ fn spelled(alloc: Global, bytes: &[u8], count: usize) -> Result<String, Fail> {
     }
 }
 
-/// A slot of such a book and of so many amendments is the book that the numbers say.
+/// A slot of such a book and of so many amendments is the book that the numbers say. With one more behind
+/// which an entry names what is pending, it is damaged there.
 fn expect_exchanges(
     rt: &(impl Abort + Alloc<A = Global>),
     entries: u32,
@@ -135,7 +160,11 @@ fn expect_exchanges(
     let mut bytes = book_bytes(alloc, &book)?;
     let count = bytes.len();
     for step in 0..steps {
-        exchange(alloc, &mut book, step, &mut bytes)?;
+        if step % 100 == 99 {
+            repeat(alloc, &mut book, step, &mut bytes)?;
+        } else {
+            exchange(alloc, &mut book, step, &mut bytes)?;
+        }
     }
     let whole = book_bytes(alloc, &book)?;
     let want = spelled(alloc, whole.as_slice(), whole.len())?;
@@ -148,10 +177,10 @@ fn expect_exchanges(
     Ok(())
 }
 
-/// Each amendment breaks a rule in its midst: an entry names what is yet pending.
+/// Each amendment breaks a rule in its midst: an entry names what is yet pending, or a command is pending twice.
 #[test]
 fn thousands_of_exchanges_open_to_what_they_leave(rt: HostRuntime) -> Result<(), Fail> {
-    expect_exchanges(&rt, 1, 1, 50)?;
+    expect_exchanges(&rt, 1, 2, 50)?;
     expect_exchanges(&rt, 3, 2, 500)?;
     expect_exchanges(&rt, 128, 320, 20_000)
 }

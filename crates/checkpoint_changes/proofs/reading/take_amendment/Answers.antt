@@ -23,4 +23,4 @@ pub returns : goal.returns
 returns c =
     let all : AppliesAll c.args.format c.args.book c.in-Some.changes.now (Some c.in-Some-2.next.book) = rw c.in-Some-2.is at c.in_ok-next.ensures.book in
     not_by_rules c.args.format c.args.book c.args.bytes.now c.in-Some.changes.now c.in-Some.rest.now c.in-Some-2.next.book c.in-Some.ensures all
-    (λ k. let t : true ≡ false = sym (c.in_ok-draft_keeps_rules.ensures.1 k) ∙ c.if-branch.false in absurd cc)
+    (λ k. let t : true ≡ false = sym (c.draft_keeps_rules.ensures.1 k) ∙ c.if-draft_keeps_rules.false in absurd cc)
