@@ -159,6 +159,7 @@ def kinds_of_changes(entries, commands):
         kinds.append(("a client", [put(1)]))
     if commands:
         kinds.append(("a command", [gone(commands) + come(commands)]))
+        kinds.append(("a command that is pending twice in its midst", [come(commands) + gone(commands)]))
     if entries and commands:
         last = b"no-pending-%d" % (commands - 1)
         kinds.append(("a client and a command", [put(1) + gone(commands) + come(commands)]))
