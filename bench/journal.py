@@ -21,6 +21,8 @@ from manager import Manager  # noqa: E402
 ROUNDS = 20
 SLOT = 8_388_608
 FIRST = 64
+# How long a store may take to open, in seconds, whatever its slot is full of, with this many entries and pending commands.
+GOAL, MOST = 2, (128, 320)
 CALL = re.compile(r"(pwrite64|pwritev|write|fdatasync|fsync)\((\d+).*= (\d+)$")
 
 
@@ -94,9 +96,9 @@ def array8_list(items):
     return struct.pack("<II", len(items), 0) + b"".join(map(array8, items))
 
 
-def client(number):
+def client(number, discard=None):
     """An entry that is started again by one word and discarded by another."""
-    table = [(b"RestartCommand", [b"no-client-%d" % number]), (b"DiscardCommand", [b"no-discard-%d" % number])]
+    table = [(b"RestartCommand", [b"no-client-%d" % number]), (b"DiscardCommand", [discard or b"no-discard-%d" % number])]
     properties = b"".join(
         array8(name) + array8(b"LISTofARRAY8") + array8_list(values) for name, values in table
     )
@@ -116,15 +118,16 @@ def amendment(changes):
     return b"\xa5\0\0\0" + struct.pack("<I", len(changes)) + changes
 
 
-def store(entries, commands, changes):
-    """A store whose first slot has such a book, and behind it as many amendments of these changes as fit, or none."""
+def store(entries, commands, deltas):
+    """A store whose first slot has such a book, and behind it as many amendments of these deltas in turn as fit, or none."""
     content = book(entries, commands)
     slot = bytearray(struct.pack("<QQ", 1, len(content)) + content)
     count = 0
-    if changes is not None:
-        one = amendment(changes)
-        count = (SLOT - len(slot) - 1) // len(one)
-        slot += one * count
+    if deltas:
+        turn = b"".join(map(amendment, deltas))
+        turns = (SLOT - len(slot) - 1) // len(turn)
+        slot += turn * turns
+        count = turns * len(deltas)
     file = bytearray(2 * SLOT + FIRST)
     file[0] = 0xA5
     file[FIRST:FIRST + len(slot)] = slot
@@ -132,24 +135,35 @@ def store(entries, commands, changes):
 
 
 EPOCH = struct.pack("<II", 1, 1)
-PUT = struct.pack("<II", 3, 0) + client(1)
 
 
-def returned(commands):
-    """The last of so many pending commands goes and comes again."""
-    last = commands - 1
-    return struct.pack("<II", 4, last) + struct.pack("<II", 5, 0) + pending(last)
+def put(number, discard=None):
+    return struct.pack("<II", 3, 0) + client(number, discard)
+
+
+def gone(commands):
+    """The last of so many pending commands goes."""
+    return struct.pack("<II", 4, commands - 1)
+
+
+def come(commands):
+    """It comes last."""
+    return struct.pack("<II", 5, 0) + pending(commands - 1)
 
 
 def kinds_of_changes(entries, commands):
-    """What each amendment of a full slot says, and a slot without amendments. None of them changes the book."""
-    kinds = [("no kind", None), ("no change", b""), ("the epoch", EPOCH)]
+    """What the amendments of a full slot say, and a slot without amendments. None of them changes the book, or none two of
+    them. Where a client discards by a command that is pending, the book breaks a rule until this goes."""
+    kinds = [("no kind", []), ("no change", [b""]), ("the epoch", [EPOCH])]
     if entries:
-        kinds.append(("a client", PUT))
+        kinds.append(("a client", [put(1)]))
     if commands:
-        kinds.append(("a command", returned(commands)))
+        kinds.append(("a command", [gone(commands) + come(commands)]))
+        kinds.append(("a command that is pending twice in its midst", [come(commands) + gone(commands)]))
     if entries and commands:
-        kinds.append(("a client and a command", PUT + returned(commands)))
+        last = b"no-pending-%d" % (commands - 1)
+        kinds.append(("a client and a command", [put(1) + gone(commands) + come(commands)]))
+        kinds.append(("a client that discards by what was pending", [put(1, last) + gone(commands), put(1) + come(commands)]))
     return kinds
 
 
@@ -171,11 +185,13 @@ def opened(smd, folder, data, seconds):
 
 
 def openings(smd, folder, seconds):
-    for entries, commands in ((0, 0), (128, 0), (128, 320)):
-        for name, changes in kinds_of_changes(entries, commands):
-            data, count = store(entries, commands, changes)
+    for entries, commands in ((0, 0), (128, 0), MOST):
+        for name, deltas in kinds_of_changes(entries, commands):
+            data, count = store(entries, commands, deltas)
             took = opened(smd, folder, data, seconds)
             shown = "more than %d s" % seconds if took is None else "%.3f s" % took
+            if (entries, commands) == MOST:
+                shown += ", %s at most %d s" % ("not" if took is None or took > GOAL else "so", GOAL)
             print("%d entries, %d pending, %d amendments of %s: opened in %s" % (entries, commands, count, name, shown))
 
 

@@ -1,6 +1,6 @@
 -- The changes that make one book of another.
 use Rattle.std.proofs.Common.{◌≡◌, ℕ, ◌+◌, Bool, true, false, cond, List, [], ◌∷◌, ◌++◌, length, map, Option, Some, None, refl, sym, ap, ap₂, ◌∙◌, append_assoc, arith, length-append}
-use Rattle.std.specs.Prelude.{option_and_then, if◌then◌else◌}
+use Rattle.std.specs.Prelude.{option_and_then}
 use Rattle.std.specs.List.{AllByRecursion}
 use Rattle.std.specs.Str.{bytes_eq}
 use Rattle.std.proofs.lemmas.List.{append-nil}
@@ -11,6 +11,7 @@ use Rattle.checkpoint_records.specs.declared.records.Book.{Book}
 use Rattle.checkpoint_records.specs.declared.records.Entry.{Entry}
 use Rattle.checkpoint_records.proofs.DistinctLaws.{all_more}
 use Rattle.checkpoint_changes.specs.Changes.{applied, apply, with_entry, without, without_at}
+use Rattle.checkpoint_changes.specs.Differences.{pending_changes}
 use Rattle.checkpoint_changes.specs.Plain.{equal_command}
 use Rattle.checkpoint_changes.specs.declared.changes.Change.{Change}
 use Rattle.checkpoint_changes.specs.declared.changes.Change.TheVariants.{Pend, Unpend}
@@ -53,12 +54,6 @@ apart_more kept f [] a d = tt
 apart_more kept f (x ∷ xs) a d = (all_more (λ (e : Entry). bytes_eq e.id x.id ≡ false) kept f a.0 d.0, apart_more kept f xs a.1 d.1)
 
 -- ---- pending commands
-
--- n of the old commands stay so far; the next one stays where it is equal to the next new one
-abbrev pub pending_changes : ℕ → List Command → List Command → List Change
-pending_changes n [] new = map (λ command. Pend command) new
-pending_changes n (c ∷ old) [] = Unpend n ∷ pending_changes n old []
-pending_changes n (c ∷ old) (d ∷ new) = if equal_command c d then pending_changes (n + 1) old new else (Unpend n ∷ pending_changes n old (d ∷ new))
 
 without_at_behind : (kept : List Command) (c : Command) (old : List Command) → without_at (length kept) (kept ++ c ∷ old) ≡ Some (kept ++ old)
 without_at_behind [] c old = refl

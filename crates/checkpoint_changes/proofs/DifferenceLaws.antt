@@ -18,11 +18,11 @@ use Rattle.checkpoint_records.proofs.DistinctLaws.{all_append, all_behind, all_f
 use Rattle.checkpoint_records.proofs.SpellLaws.{id_short}
 use Rattle.checkpoint_records.proofs.NameLaws.{all_rising, all_stored, chosen_stays}
 use Rattle.checkpoint_changes.specs.Changes.{IsChange, apply, has_entry, with_sessions}
-use Rattle.checkpoint_changes.specs.Differences.{TurnsPending, all_gone, all_placed, changed_entry, gone, placed}
+use Rattle.checkpoint_changes.specs.Differences.{TurnsPending, all_gone, all_placed, changed_entry, delta_between, gone, pending_changes, placed}
 use Rattle.checkpoint_changes.specs.Plain.{IsPlain, KeepOrder, KeepsOrder, epoch_in, equal_command, equal_entry, missing_from, pended_in, put_in, removed_in, unpended_in}
 use Rattle.checkpoint_changes.specs.declared.changes.Change.{Change}
 use Rattle.checkpoint_changes.specs.declared.changes.Change.TheVariants.{Epoch, Pend, Put, Remove, Unpend}
-use Rattle.checkpoint_changes.proofs.DeltaLaws.{apply_more, pending_changes, pending_lead}
+use Rattle.checkpoint_changes.proofs.DeltaLaws.{apply_more, pending_lead}
 use Rattle.checkpoint_changes.proofs.ApplyLaws.{next_item}
 use Rattle.checkpoint_changes.proofs.EqualLaws.{commands_apart}
 use Rattle.checkpoint_changes.proofs.PlainBooks.{Keeps, Orders, all_gone_plain, all_placed_plain}
@@ -127,6 +127,7 @@ pending_turned n old new left i start delta final few fit d_old d_new all so_far
       pending_changes 0 old new,
       is ∙ ap (λ (l : List Command). delta ++ pending_changes n l left) (sym (drop_all i old all)) ∙ so_far,
       record {
+        is = refl;
         leads = λ book is_old. pending_lead 0 old new [] book refl is_old;
         changes = pending_fit 0 old new (omega (arith, few)) fit;
         epoch = pending_brings epoch_in (λ c. refl) (λ p. refl) 0 old new;
@@ -202,6 +203,17 @@ all_fit old new ps qs none one two three four y old_rules new_rules old_lt new_l
     subst (AllByRecursion P) (sym is_four) (all_append P three y third pending.changes)
 
 -- ---- the whole
+
+pub all_between : (old new : Book) (ps qs : List Command) (none one two three four y : List Change) → ps ≡ old.pending → qs ≡ new.pending → none ≡ [] → one ≡ none ++ epoch_change old.epoch new.epoch
+    → two ≡ one ++ all_gone (sessions old) (sessions new) → three ≡ two ++ all_placed (sessions old) (sessions new) → four ≡ three ++ y → TurnsPending ps qs y → four ≡ delta_between old new
+all_between old new ps qs none one two three four y is_ps is_qs is_none is_one is_two is_three is_four pending =
+    let e : List Change = epoch_change old.epoch new.epoch in
+    let a : List Change = all_gone (sessions old) (sessions new) in
+    let b : List Change = all_placed (sessions old) (sessions new) in
+    let last : y ≡ pending_changes 0 old.pending new.pending = pending.is ∙ ap₂ (pending_changes 0) is_ps is_qs in
+    let second : two ≡ e ++ a = is_two ∙ ap (λ (l : List Change). l ++ a) (is_one ∙ ap (λ (l : List Change). l ++ e) is_none) in
+    is_four ∙ ap₂ (λ (l m : List Change). l ++ m) (is_three ∙ ap (λ (l : List Change). l ++ b) second) last
+    ∙ append_assoc (e ++ a) b (pending_changes 0 old.pending new.pending) ∙ append_assoc e a (b ++ pending_changes 0 old.pending new.pending)
 
 book_with : Book → ℕ → Book
 book_with book epoch = record book { epoch = epoch }

@@ -11,11 +11,10 @@ use Rattle.xsmp_properties.specs.Tables.{equal_property}
 use Rattle.checkpoint_records.specs.Rules.{ids_of}
 use Rattle.checkpoint_records.specs.declared.records.Entry.{Entry}
 use Rattle.checkpoint_records.proofs.DistinctLaws.{any_false, any_map, none_same, same_none}
-use Rattle.checkpoint_changes.specs.Differences.{changed_entry, gone, placed}
+use Rattle.checkpoint_changes.specs.Differences.{changed_entry, gone, placed, pending_changes}
 use Rattle.checkpoint_changes.specs.Plain.{KeepsOrder, equal_command, equal_entry, missing_from, pended_in, put_in, removed_in, unpended_in}
 use Rattle.checkpoint_changes.specs.declared.changes.Change.{Change}
 use Rattle.checkpoint_changes.specs.declared.changes.Change.TheVariants.{Pend, Put, Remove, Unpend}
-use Rattle.checkpoint_changes.proofs.DeltaLaws.{pending_changes}
 use Rattle.checkpoint_changes.proofs.EqualLaws.{DecidesEqual, command_decides, entry_decides, not_same}
 
 -- ---- filters

@@ -272,8 +272,3 @@ rules_decided book result ps ds parts is_ps is_ds few_sessions few_entries few_p
       (subst (AreUnnamed (discards (all_entries book))) is_ps (subst (λ (d : List Command). AreUnnamed d ps) is_ds (named.0 t))),
   λ k. named.1 (subst (λ (d : List Command). AreUnnamed d ps) (sym is_ds) (subst (AreUnnamed (discards (all_entries book))) (sym is_ps) k.none_named)),
 )
-
--- where no command is pending none is named
-pub nothing_named : (named pending : List Command) → length pending ≡ 0 → AreUnnamed named pending
-nothing_named named [] none = tt
-nothing_named named (command ∷ pending) none = absurd (omega (arith, none))

@@ -1,20 +1,18 @@
 -- What the entries of a book owe one another, seen from one of its sessions.
 use Rattle.std.proofs.Common.{◌≡◌, ℕ, Bool, true, false, cond, List, [], ◌∷◌, ◌++◌, Option, Some, None, refl, sym, ap, ◌∙◌, subst}
-use Rattle.std.specs.Prelude.{codes, find, option_and_then, option_map}
-use Rattle.std.specs.List.{AllByRecursion, IsDistinct, list_any}
+use Rattle.std.specs.Prelude.{find, option_and_then, option_map}
+use Rattle.std.specs.List.{AllByRecursion, IsDistinct}
 use Rattle.std.specs.Str.{bytes_eq}
 use Rattle.std.proofs.lemmas.List.{map-append}
-use Rattle.std.proofs.lemmas.List.Elements.{filter_map-append}
 use Rattle.owned_lists.specs.declared.commands.Command.{Command}
 use Rattle.ice_values.proofs.OptionLaws.{none_not_some, some_is}
-use Rattle.xsmp_properties.specs.Readers.{command_of}
-use Rattle.checkpoint_records.specs.Books.{all_entries, chosen_from, discards, entries_in, entries_of, names_of, others_than, same_command, sessions, stored}
+use Rattle.checkpoint_records.specs.Books.{all_entries, chosen_from, entries_in, entries_of, names_of, others_than, sessions, stored}
 use Rattle.checkpoint_records.specs.Rules.{AreRising, IsName, IsStored, ids_of}
 use Rattle.checkpoint_records.specs.declared.records.Book.{Book}
 use Rattle.checkpoint_records.specs.declared.records.Entry.{Entry}
 use Rattle.checkpoint_records.specs.declared.records.Named.{Named}
 use Rattle.checkpoint_records.proofs.ChoiceLaws.{IsAmong, among_stored, others_apart, others_rising, others_stored}
-use Rattle.checkpoint_records.proofs.DistinctLaws.{all_swapped, all_turned, any_swapped, distinct_swapped}
+use Rattle.checkpoint_records.proofs.DistinctLaws.{all_swapped, distinct_swapped}
 use Rattle.checkpoint_records.proofs.NameLaws.{LacksName, put_back, rising_at, stored_at, turned}
 use Rattle.checkpoint_changes.specs.Changes.{has_entry, session_with, sessions_with, sessions_without, with_entries_at, with_entry, with_sessions, without}
 
@@ -34,18 +32,6 @@ AreIdsDistinct entries = IsDistinct bytes_eq (ids_of entries)
 
 pub ids_free : IsFree AreIdsDistinct
 ids_free xs ys zs d = subst (IsDistinct bytes_eq) (sym (ids-three ys xs zs)) (distinct_swapped bytes_eq turned (ids_of xs) (ids_of ys) (ids_of zs) (subst (IsDistinct bytes_eq) (ids-three xs ys zs) d))
-
-discards-three : (xs ys zs : List Entry) → discards (xs ++ (ys ++ zs)) ≡ discards xs ++ (discards ys ++ discards zs)
-discards-three xs ys zs =
-    filter_map-append (λ (e : Entry). command_of (codes "DiscardCommand") e.table) xs (ys ++ zs) ∙ ap (λ (l : List Command). discards xs ++ l) (filter_map-append (λ (e : Entry). command_of (codes "DiscardCommand") e.table) ys zs)
-
--- none of the commands is named
-abbrev pub NameNone : List Command → List Entry → Type 0
-NameNone commands entries = AllByRecursion (λ c. list_any (same_command c) (discards entries) ≡ false) commands
-
-pub named_free : (commands : List Command) → IsFree (NameNone commands)
-named_free commands xs ys zs h = all_turned (λ c. list_any (same_command c) (discards (xs ++ (ys ++ zs))) ≡ false) (λ c. list_any (same_command c) (discards (ys ++ (xs ++ zs))) ≡ false) commands
-    (λ c none. ap (list_any (same_command c)) (discards-three ys xs zs) ∙ any_swapped (same_command c) (discards ys) (discards xs) (discards zs) ∙ sym (ap (list_any (same_command c)) (discards-three xs ys zs)) ∙ none) h
 
 module _ (Q : List Entry → Type 0) (free : IsFree Q) where
   pub goes_in : (some all others : List Entry) → IsAmong some all others → Q (some ++ others) → Q all

@@ -1,5 +1,5 @@
 -- A change that fits the parts of a book leaves a book whose parts fit together.
-use Rattle.std.proofs.Common.{◌≡◌, ℕ, zero, suc, ◌≤◌, inl, inr, Bool, true, false, cond, not, ◌||◌, ◌&&◌, IsTrue, List, [], ◌∷◌, ◌++◌, Option, Some, None, refl, sym, ap, ◌∙◌, subst, arith}
+use Rattle.std.proofs.Common.{◌≡◌, ◌⊎◌, ℕ, zero, suc, ◌≤◌, inl, inr, Bool, true, false, cond, not, ◌||◌, ◌&&◌, IsTrue, List, [], ◌∷◌, ◌++◌, Option, Some, None, refl, sym, ap, ◌∙◌, subst, arith}
 use Rattle.std.specs.Prelude.{codes, length, option_map, option_and_then}
 use Rattle.std.specs.List.{AllByRecursion, IsDistinct, cons_option, list_any}
 use Rattle.std.specs.Option.{option_map_or}
@@ -12,20 +12,20 @@ use Rattle.ice_values.specs.declared.property.Property.{Property}
 use Rattle.ice_values.proofs.OptionLaws.{some_is, none_not_some}
 use Rattle.xsmp_properties.specs.Readers.{are_words, command_of, command_with, directory_of, environment_of}
 use Rattle.xsmp_properties.specs.Tables.{find_property}
-use Rattle.checkpoint_records.specs.Books.{all_entries, discards, entries_in, entries_of, names, others_than, same_command, sessions}
+use Rattle.checkpoint_records.specs.Books.{all_entries, discards, entries_in, entries_of, others_than, same_command, sessions}
 use Rattle.checkpoint_records.specs.Rules.{IsClientId, IsName, KeepsRules}
 use Rattle.checkpoint_records.specs.declared.records.Book.{Book}
 use Rattle.checkpoint_records.specs.declared.records.Entry.{Entry}
 use Rattle.checkpoint_records.specs.declared.records.Named.{Named}
 use Rattle.checkpoint_records.proofs.DistinctLaws.{all_more, any_false, distinct_more}
 use Rattle.checkpoint_records.proofs.PlaceLaws.{any_in_book}
-use Rattle.checkpoint_changes.specs.Changes.{applied, sessions_with, sessions_without, with_entries_at, with_entry, with_sessions, without, without_at}
+use Rattle.checkpoint_changes.specs.Changes.{applied, sessions_with, sessions_without, with_entries_at, with_entry, with_sessions, without_at}
 use Rattle.checkpoint_changes.specs.Parts.{HasParts}
-use Rattle.checkpoint_changes.specs.Together.{AreOfRuns, FitTogether, FitsIn, PutsIntoName, discards_by, has_words, last_byte}
+use Rattle.checkpoint_changes.specs.Together.{AreOfRuns, FitBut, FitTogether, FitsIn, PutsIntoName, collides, discards_any, discards_by, doubts_after, has_words, is_doubted, last_byte}
 use Rattle.checkpoint_changes.specs.declared.changes.Change.{Change}
 use Rattle.checkpoint_changes.specs.declared.changes.Change.TheVariants.{Epoch, Pend, Put, Remove, Unpend}
 use Rattle.checkpoint_changes.proofs.RuleLaws.{at_all, parts_formed, put_front, runs_of, whole_rules, with_pending, without_all}
-use Rattle.checkpoint_changes.proofs.SessionLaws.{NameNone, all_formed, all_free, found_name, in_book, in_session, named_free, puts, removes, without_front}
+use Rattle.checkpoint_changes.proofs.SessionLaws.{all_formed, all_free, found_name, in_book, in_session, puts, removes, without_front}
 
 -- ---- tests of each item
 
@@ -107,17 +107,59 @@ named_by_none c entries e = any_none (discards_by c) entries (sym (any_discards 
 none_names : (c : Command) (entries : List Entry) → AllByRecursion (λ (e : Entry). discards_by c e ≡ false) entries → list_any (same_command c) (discards entries) ≡ false
 none_names c entries h = any_discards c entries ∙ none_any (discards_by c) entries h
 
-unnamed_without : (id : List ℕ) (entries left : List Entry) (commands : List Command) → without id entries ≡ Some left → AreUnnamed entries commands → AreUnnamed left commands
-unnamed_without id entries left commands is h =
-    all_onward (λ (c : Command). list_any (same_command c) (discards entries) ≡ false) (λ (c : Command). list_any (same_command c) (discards left) ≡ false) commands
-    (λ c none. none_names c left (without_all (λ (e : Entry). discards_by c e ≡ false) id entries left is (named_by_none c entries none))) h
+-- none of the commands is one that the entry names
+abbrev NamesNone : List Command → Entry → Type 0
+NamesNone commands e = discards_any commands e ≡ false
 
--- an entry is put in front of others
-unnamed_with : (entry : Entry) (entries others : List Entry) (commands : List Command) → list_any (λ command. discards_by command entry) commands ≡ false → AreUnnamed (entries ++ others) commands → AreUnnamed (with_entry entry entries ++ others) commands
-unnamed_with entry entries others commands free h =
-    all_both (λ (c : Command). discards_by c entry ≡ false) (λ (c : Command). list_any (same_command c) (discards (entries ++ others)) ≡ false) (λ (c : Command). list_any (same_command c) (discards (with_entry entry entries ++ others)) ≡ false) commands
-    (λ c new none. none_names c (with_entry entry entries ++ others) (put_front (λ (e : Entry). discards_by c e ≡ false) entry entries others new (named_by_none c (entries ++ others) none)))
-    (any_none (λ (command : Command). discards_by command entry) commands free) h
+-- or the entry is in doubt
+abbrev IsFreeBut : List (List ℕ) → List Command → Entry → Type 0
+IsFreeBut doubts commands e = (is_doubted doubts e ≡ true) ⊎ NamesNone commands e
+
+all_alone : (entries : List Entry) → AllByRecursion (NamesNone []) entries
+all_alone [] = tt
+all_alone (e ∷ entries) = (refl, all_alone entries)
+
+-- of each entry, and of each command
+each_free : (entries : List Entry) (commands : List Command) → AreUnnamed entries commands → AllByRecursion (NamesNone commands) entries
+each_free entries [] h = all_alone entries
+each_free entries (c ∷ commands) h =
+    all_both (λ (e : Entry). discards_by c e ≡ false) (NamesNone commands) (NamesNone (c ∷ commands)) entries (λ e here rest. rw (here, rest) refl) (named_by_none c entries h.0) (each_free entries commands h.1)
+
+each_unnamed : (entries : List Entry) (commands : List Command) → AllByRecursion (NamesNone commands) entries → AreUnnamed entries commands
+each_unnamed entries [] h = tt
+each_unnamed entries (c ∷ commands) h = (
+  none_names c entries (all_onward (NamesNone (c ∷ commands)) (λ (e : Entry). discards_by c e ≡ false) entries (λ e none. (any_false (discards_by c e) (discards_any commands e) none).0) h),
+  each_unnamed entries commands (all_onward (NamesNone (c ∷ commands)) (NamesNone commands) entries (λ e none. (any_false (discards_by c e) (discards_any commands e) none).1) h),
+)
+
+-- a command goes, or comes
+free_at : (doubts : List (List ℕ)) (n : ℕ) (commands left : List Command) → without_at n commands ≡ Some left → (e : Entry) → IsFreeBut doubts commands e → IsFreeBut doubts left e
+free_at doubts n commands left is e (inl doubted) = inl doubted
+free_at doubts n commands left is e (inr none) =
+    inr (none_any (λ (c : Command). discards_by c e) left (at_all (λ (c : Command). discards_by c e ≡ false) n commands left is (any_none (λ (c : Command). discards_by c e) commands none)))
+
+free_more : (doubts : List (List ℕ)) (commands : List Command) (c : Command) (e : Entry) → IsFreeBut doubts commands e → discards_by c e ≡ false → IsFreeBut doubts (commands ++ c ∷ []) e
+free_more doubts commands c e (inl doubted) none = inl doubted
+free_more doubts commands c e (inr free) none =
+    inr (none_any (λ (d : Command). discards_by d e) (commands ++ c ∷ []) (all_more (λ (d : Command). discards_by d e ≡ false) commands c (any_none (λ (d : Command). discards_by d e) commands free) none))
+
+-- one more is in doubt
+still_doubted : (doubts : List (List ℕ)) (id : List ℕ) (commands : List Command) (e : Entry) → IsFreeBut doubts commands e → IsFreeBut (doubts ++ id ∷ []) commands e
+still_doubted doubts id commands e (inl doubted) =
+    inl (list_any-append (λ (i : List ℕ). bytes_eq i e.id) doubts (id ∷ []) ∙ ap (λ (b : Bool). b || list_any (λ (i : List ℕ). bytes_eq i e.id) (id ∷ [])) doubted)
+still_doubted doubts id commands e (inr free) = inr free
+
+last_doubted : (doubts : List (List ℕ)) (e : Entry) → is_doubted (doubts ++ e.id ∷ []) e ≡ true
+last_doubted doubts e =
+    list_any-append (λ (i : List ℕ). bytes_eq i e.id) doubts (e.id ∷ []) ∙ ap (λ (b : Bool). is_doubted doubts e || (b || false)) ((bytes_decides e.id e.id).1 refl) ∙ any_way (is_doubted doubts e)
+  where
+    any_way : (b : Bool) → (b || (true || false)) ≡ true
+    any_way true = refl
+    any_way false = refl
+
+settled : (doubts : List (List ℕ)) (commands : List Command) (e : Entry) → IsFreeBut doubts commands e → collides doubts commands e ≡ false → NamesNone commands e
+settled doubts commands e (inl doubted) none = ap (λ (b : Bool). b && discards_any commands e) (sym doubted) ∙ none
+settled doubts commands e (inr free) none = free
 
 -- ---- each change
 
@@ -136,38 +178,65 @@ at_differ (suc n) (c ∷ commands) left is d = by (without_at n commands) refl i
         subst (λ (l : List Command). IsDistinct same_command l) (some_is (c ∷ rest) left is)
         (at_all (λ (k : Command). same_command c k ≡ false) n commands rest same d.0, more rest refl)
 
-pub fit_of : (book : Book) → KeepsRules book → FitTogether book
-fit_of book rules = record { runs = runs_of book.epoch (all_entries book) rules.entries; commands_differ = rules.commands_differ; none_named = rules.none_named }
+pub fit_of : (book : Book) → KeepsRules book → FitBut [] book
+fit_of book rules = record {
+  runs = runs_of book.epoch (all_entries book) rules.entries;
+  commands_differ = rules.commands_differ;
+  free = all_onward (NamesNone book.pending) (IsFreeBut [] book.pending) (all_entries book) (λ e none. inr none) (each_free (all_entries book) book.pending rules.none_named);
+}
+
+-- where no entry in doubt names a pending command
+pub fit_together : (doubts : List (List ℕ)) (book : Book) → FitBut doubts book → list_any (collides doubts book.pending) (all_entries book) ≡ false → FitTogether book
+fit_together doubts book fit none = record {
+  runs = fit.runs;
+  commands_differ = fit.commands_differ;
+  none_named =
+      each_unnamed (all_entries book) book.pending
+      (all_both (IsFreeBut doubts book.pending) (λ (e : Entry). collides doubts book.pending e ≡ false) (NamesNone book.pending) (all_entries book) (settled doubts book.pending) fit.free (any_none (collides doubts book.pending) (all_entries book) none));
+}
 
 pub rules_of : (book : Book) → HasParts book → FitTogether book → length (sessions book) ≤ 8 → length (all_entries book) ≤ 128 → length book.pending ≤ 320 → KeepsRules book
 rules_of book parts fit few_sessions few_entries few_pending = whole_rules book parts few_sessions few_entries few_pending fit.runs fit.commands_differ fit.none_named
 
 -- a book whose sessions are others
-sessions_fit : (book : Book) (name : List ℕ) (entries : List Entry) → HasParts book → FitTogether book → IsName name
-    → AreOfRuns book.epoch (entries ++ entries_in (others_than name (sessions book))) → AreUnnamed (entries ++ entries_in (others_than name (sessions book))) book.pending
-    → FitTogether (with_sessions book (with_entries_at name entries (sessions book)))
-sessions_fit book name entries parts fit is runs none =
+sessions_fit : (doubts : List (List ℕ)) (book : Book) (name : List ℕ) (entries : List Entry) → HasParts book → IsDistinct same_command book.pending → IsName name
+    → AreOfRuns book.epoch (entries ++ entries_in (others_than name (sessions book))) → AllByRecursion (IsFreeBut doubts book.pending) (entries ++ entries_in (others_than name (sessions book)))
+    → FitBut doubts (with_sessions book (with_entries_at name entries (sessions book)))
+sessions_fit doubts book name entries parts differ is runs free =
     let all = sessions book in
     let f = all_formed book (parts_formed book parts) in
     record {
       runs = in_book (AreOfRuns book.epoch) (all_free (λ (e : Entry). IsClientId book.epoch e.id)) book name entries all is f runs;
-      commands_differ = fit.commands_differ;
-      none_named = in_book (NameNone book.pending) (named_free book.pending) book name entries all is f none;
+      commands_differ = differ;
+      free = in_book (AllByRecursion (IsFreeBut doubts book.pending)) (all_free (IsFreeBut doubts book.pending)) book name entries all is f free;
     }
 
-pub still_fit : (book : Book) (change : Change) (next : Book) → HasParts book → PutsIntoName change → FitTogether book → FitsIn book change → applied book change ≡ Some next → FitTogether next
+-- an entry is put, which comes into doubt or names nothing
+put_fit : (before doubts : List (List ℕ)) (book : Book) (name : List ℕ) (entry : Entry) (after : List Named) (next : Book) → HasParts book → IsName name → FitBut before book → IsClientId book.epoch entry.id
+    → ((e : Entry) → IsFreeBut before book.pending e → IsFreeBut doubts book.pending e) → IsFreeBut doubts book.pending entry → sessions_with name entry (sessions book) ≡ Some after → with_sessions book after ≡ next → FitBut doubts next
+put_fit before doubts book name entry after next parts named fit of_run onward free same is =
+    let all = sessions book in
+    let formed = parts_formed book parts in
+    let r = puts name entry all after same in
+    let others = entries_in (others_than name all) in
+    let runs = put_front (λ (x : Entry). IsClientId book.epoch x.id) entry (entries_of name all) others of_run (in_session (AreOfRuns book.epoch) (all_free (λ (x : Entry). IsClientId book.epoch x.id)) book name formed fit.runs) in
+    let before_put = in_session (AllByRecursion (IsFreeBut before book.pending)) (all_free (IsFreeBut before book.pending)) book name formed fit.free in
+    let each = put_front (IsFreeBut doubts book.pending) entry (entries_of name all) others free (all_onward (IsFreeBut before book.pending) (IsFreeBut doubts book.pending) (entries_of name all ++ others) onward before_put) in
+    subst (FitBut doubts) (ap (with_sessions book) (sym r.is) ∙ is) (sessions_fit doubts book name (with_entry entry (entries_of name all)) parts fit.commands_differ named runs each)
+
+pub still_fit : (doubts : List (List ℕ)) (book : Book) (change : Change) (next : Book) → HasParts book → PutsIntoName change → FitBut doubts book → FitsIn book change → applied book change ≡ Some next → FitBut (doubts_after book change doubts) next
 unfolding with_pending
-still_fit book (Epoch epoch) next parts named fit (inl later) is =
-    subst FitTogether (some_is (record book { epoch = epoch }) next is) (record {
+still_fit doubts book (Epoch epoch) next parts named fit (inl later) is =
+    subst (FitBut doubts) (some_is (record book { epoch = epoch }) next is) (record {
       runs = all_onward (λ (e : Entry). IsClientId book.epoch e.id) (λ (e : Entry). IsClientId epoch e.id) (all_entries book) (λ e of_run. later_id book.epoch epoch e.id later of_run) fit.runs;
       commands_differ = fit.commands_differ;
-      none_named = fit.none_named;
+      free = fit.free;
     })
-still_fit book (Epoch epoch) next parts named fit (inr runs) is =
-    subst FitTogether (some_is (record book { epoch = epoch }) next is) (record { runs = runs; commands_differ = fit.commands_differ; none_named = fit.none_named })
-still_fit book (Remove id) next parts named fit fits is = by (sessions_without id (sessions book)) refl is
+still_fit doubts book (Epoch epoch) next parts named fit (inr runs) is =
+    subst (FitBut doubts) (some_is (record book { epoch = epoch }) next is) (record { runs = runs; commands_differ = fit.commands_differ; free = fit.free })
+still_fit doubts book (Remove id) next parts named fit fits is = by (sessions_without id (sessions book)) refl is
   where
-    by : (o : Option (List Named)) → sessions_without id (sessions book) ≡ o → option_map (with_sessions book) o ≡ Some next → FitTogether next
+    by : (o : Option (List Named)) → sessions_without id (sessions book) ≡ o → option_map (with_sessions book) o ≡ Some next → FitBut doubts next
     by None same e = absurd (none_not_some next e)
     by (Some after) same e =
         let all = sessions book in
@@ -178,35 +247,36 @@ still_fit book (Remove id) next parts named fit fits is = by (sessions_without i
         let gone = without_front id (entries_of r.name all) r.left others r.gone in
         let runs = without_all (λ (x : Entry). IsClientId book.epoch x.id) id (entries_of r.name all ++ others) (r.left ++ others) gone
         (in_session (AreOfRuns book.epoch) (all_free (λ (x : Entry). IsClientId book.epoch x.id)) book r.name formed fit.runs) in
-        let none = unnamed_without id (entries_of r.name all ++ others) (r.left ++ others) book.pending gone (in_session (NameNone book.pending) (named_free book.pending) book r.name formed fit.none_named) in
-        subst FitTogether (ap (with_sessions book) (sym r.is) ∙ some_is (with_sessions book after) next e) (sessions_fit book r.name r.left parts fit (found_name id r.name all r.called f.stored) runs none)
-still_fit book (Put name entry) next parts named fit fits is = by (sessions_with name entry (sessions book)) refl is
+        let free = without_all (IsFreeBut doubts book.pending) id (entries_of r.name all ++ others) (r.left ++ others) gone
+        (in_session (AllByRecursion (IsFreeBut doubts book.pending)) (all_free (IsFreeBut doubts book.pending)) book r.name formed fit.free) in
+        subst (FitBut doubts) (ap (with_sessions book) (sym r.is) ∙ some_is (with_sessions book after) next e) (sessions_fit doubts book r.name r.left parts fit.commands_differ (found_name id r.name all r.called f.stored) runs free)
+still_fit doubts book (Put name entry) next parts named fit fits is = by (sessions_with name entry (sessions book)) refl is
   where
-    by : (o : Option (List Named)) → sessions_with name entry (sessions book) ≡ o → option_map (with_sessions book) o ≡ Some next → FitTogether next
+    doubt : (after : List Named) → sessions_with name entry (sessions book) ≡ Some after → with_sessions book after ≡ next → (b : Bool) → discards_any book.pending entry ≡ b → FitBut (cond b (doubts ++ entry.id ∷ []) doubts) next
+    doubt after same e true some =
+        put_fit doubts (doubts ++ entry.id ∷ []) book name entry after next parts named fit fits (still_doubted doubts entry.id book.pending) (inl (last_doubted doubts entry)) same e
+    doubt after same e false none = put_fit doubts doubts book name entry after next parts named fit fits (λ x free. free) (inr none) same e
+
+    by : (o : Option (List Named)) → sessions_with name entry (sessions book) ≡ o → option_map (with_sessions book) o ≡ Some next → FitBut (doubts_after book (Put name entry) doubts) next
     by None same e = absurd (none_not_some next e)
-    by (Some after) same e =
-        let all = sessions book in
-        let formed = parts_formed book parts in
-        let r = puts name entry all after same in
-        let others = entries_in (others_than name all) in
-        let runs = put_front (λ (x : Entry). IsClientId book.epoch x.id) entry (entries_of name all) others fits.0 (in_session (AreOfRuns book.epoch) (all_free (λ (x : Entry). IsClientId book.epoch x.id)) book name formed fit.runs) in
-        let none = unnamed_with entry (entries_of name all) others book.pending fits.1 (in_session (NameNone book.pending) (named_free book.pending) book name formed fit.none_named) in
-        subst FitTogether (ap (with_sessions book) (sym r.is) ∙ some_is (with_sessions book after) next e) (sessions_fit book name (with_entry entry (entries_of name all)) parts fit named runs none)
-still_fit book (Unpend place) next parts named fit fits is = by (without_at place book.pending) refl is
+    by (Some after) same e = doubt after same (some_is (with_sessions book after) next e) (discards_any book.pending entry) refl
+still_fit doubts book (Unpend place) next parts named fit fits is = by (without_at place book.pending) refl is
   where
-    by : (o : Option (List Command)) → without_at place book.pending ≡ o → option_map (λ pending. with_pending book pending) o ≡ Some next → FitTogether next
+    by : (o : Option (List Command)) → without_at place book.pending ≡ o → option_map (λ pending. with_pending book pending) o ≡ Some next → FitBut doubts next
     by None same e = absurd (none_not_some next e)
     by (Some left) same e =
-        subst FitTogether (some_is (with_pending book left) next e) (record {
+        subst (FitBut doubts) (some_is (with_pending book left) next e) (record {
           runs = fit.runs;
           commands_differ = at_differ place book.pending left same fit.commands_differ;
-          none_named = at_all (λ (c : Command). names book c ≡ false) place book.pending left same fit.none_named;
+          free = all_onward (IsFreeBut doubts book.pending) (IsFreeBut doubts left) (all_entries book) (free_at doubts place book.pending left same) fit.free;
         })
-still_fit book (Pend command) next parts named fit fits is =
-    subst FitTogether (some_is (with_pending book (book.pending ++ command ∷ [])) next is) (record {
+still_fit doubts book (Pend command) next parts named fit fits is =
+    subst (FitBut doubts) (some_is (with_pending book (book.pending ++ command ∷ [])) next is) (record {
       runs = fit.runs;
       commands_differ = distinct_more same_command book.pending command fit.commands_differ fits.0;
-      none_named = all_more (λ (c : Command). names book c ≡ false) book.pending command fit.none_named (any_discards command (all_entries book) ∙ fits.1);
+      free =
+          all_both (IsFreeBut doubts book.pending) (λ (e : Entry). discards_by command e ≡ false) (IsFreeBut doubts (book.pending ++ command ∷ [])) (all_entries book) (free_more doubts book.pending command) fit.free
+          (any_none (discards_by command) (all_entries book) fits.1);
     })
 
 -- ---- the calls
@@ -225,11 +295,18 @@ not_true : (b : Bool) → IsTrue (not b) → b ≡ false
 not_true true t = (let e : false ≡ true = t in absurd cc)
 not_true false t = refl
 
-pub put_fits : (book : Book) (name : List ℕ) (entry : Entry) (id : List ℕ) (pending : List Command) (discarded : Bool) → id ≡ entry.id → pending ≡ book.pending → IsClientId book.epoch id → discarded ≡ list_any (λ command. discards_by command entry) pending → IsTrue (not discarded) → FitsIn book (Put name entry)
-put_fits book name entry id pending discarded is_id is_pending of_run is t =
-    (subst (IsClientId book.epoch) is_id of_run, ap (list_any (λ (command : Command). discards_by command entry)) (sym is_pending) ∙ sym is ∙ not_true discarded t)
-
 pub pend_fits : (book : Book) (command : Command) (pending : List Command) (among discarded : Bool) → pending ≡ book.pending → among ≡ list_any (λ other. same_command other command) pending → among ≡ false → discarded ≡ list_any (discards_by command) (all_entries book)
     → IsTrue (not discarded) → FitsIn book (Pend command)
 pend_fits book command pending among discarded is_pending is_among new is_discarded t =
     (ap (list_any (λ (other : Command). same_command other command)) (sym is_pending) ∙ sym is_among ∙ new, sym is_discarded ∙ not_true discarded t)
+
+not_false : (b : Bool) → b ≡ false → IsTrue (not b)
+not_false true e = absurd cc
+not_false false e = refl
+
+-- no entry names a pending command
+pub none_discards : (book : Book) (result : Bool) → result ≡ list_any (discards_any book.pending) (all_entries book) → (IsTrue (not result) → AreUnnamed (all_entries book) book.pending) × (AreUnnamed (all_entries book) book.pending → IsTrue (not result))
+none_discards book result is = (
+  λ t. each_unnamed (all_entries book) book.pending (any_none (discards_any book.pending) (all_entries book) (sym is ∙ not_true result t)),
+  λ h. not_false result (is ∙ none_any (discards_any book.pending) (all_entries book) (each_free (all_entries book) book.pending h)),
+)

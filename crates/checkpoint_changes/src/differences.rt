@@ -8,7 +8,7 @@ ghost use Rattle.checkpoint_records.specs.declared.head.Format.TheVariants.{Seve
 ghost use Rattle.checkpoint_records.specs.Rules.{IsCommand, KeepsRules};
 ghost use Rattle.checkpoint_records.specs.declared.records.Entry.{Entry as AnyEntry};
 ghost use Rattle.checkpoint_changes.specs.Changes.{IsChange, apply};
-ghost use Rattle.checkpoint_changes.specs.Differences.{TurnsPending, all_gone, all_placed, changed_entry, gone, placed};
+ghost use Rattle.checkpoint_changes.specs.Differences.{TurnsPending, all_gone, all_placed, changed_entry, delta_between, gone, placed};
 ghost use Rattle.checkpoint_changes.specs.Plain.{IsPlain, KeepOrder, equal_command as are_equal_commands, equal_entry as are_equal_entries, equal_pair};
 ghost use Rattle.checkpoint_changes.specs.declared.changes.Change.{Change as AnyChange};
 ghost use Rattle.checkpoint_changes.specs.declared.changes.Change.TheVariants.{Epoch, Pend, Put};
@@ -265,6 +265,7 @@ pub fn delta_of(alloc: Global, old: &Book, new: &Book) -> Result<Delta, NoMemory
     ensures changes { IfOk result (λ delta. AllByRecursion (IsChange Several) delta) }
     ensures plain { IfOk result (λ delta. KeepOrder old.now new.now →
         IsPlain old.now new.now delta) }
+    ensures exact { IfOk result (λ delta. delta ≡ delta_between old.now new.now) }
 {
     let mut delta = Delta::new(alloc);
     change_epoch(old.epoch, new.epoch, &mut delta)?;

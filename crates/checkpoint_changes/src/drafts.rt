@@ -1,4 +1,4 @@
-ghost use Rattle.std.specs.Prelude.{◌≡◌, ℕ, List, IsTrue, IfOk, IfSome};
+ghost use Rattle.std.specs.Prelude.{◌≡◌, ◌∷◌, ◌++◌, [], if◌then◌else◌, IsTrue, IfOk, IfSome};
 ghost use Rattle.std.specs.List.{list_any};
 ghost use Rattle.std.specs.Option.{option_map};
 ghost use Rattle.std.specs.Str.{bytes_eq};
@@ -7,14 +7,14 @@ ghost use Rattle.checkpoint_records.specs.Books.{all_entries, same_command as is
 ghost use Rattle.checkpoint_changes.specs.Changes.{applied as applied_to};
 ghost use Rattle.checkpoint_changes.specs.declared.changes.Change.TheVariants.{Pend, Put};
 ghost use Rattle.checkpoint_changes.specs.Parts.{HasParts};
-ghost use Rattle.checkpoint_changes.specs.Together.{FitsIn, FitTogether, PutsIntoName, discards_by as is_discarded_by, has_words as are_words_of, last_byte as last_byte_of};
+ghost use Rattle.checkpoint_changes.specs.Together.{FitBut, FitsIn, PutsIntoName, collides, discards_any, discards_by as is_discarded_by, doubts_after, has_words as are_words_of, is_doubted, last_byte as last_byte_of};
 
 use crate::Change;
 use crate::applying::applied;
 use crate::rules::{PENDING_LIMIT, all_are_of_runs};
 use checkpoint_records::{Book, Entry, Named, is_client_id};
-use ice_values::{Array8, Property};
-use owned_lists::{Command, NoMemory};
+use ice_values::{Array8, Array8List, Property};
+use owned_lists::{Command, Duplicate, NoMemory};
 use std::alloc::Global;
 use xsmp_properties::{are_words, same_bytes, same_texts};
 
@@ -24,8 +24,10 @@ const LIST: &[u8] = b"LISTofARRAY8";
 #[derive(Drop)]
 pub(crate) struct Draft {
     pub book: Book,
-    /// Whether its parts are known to fit together.
+    /// Whether its parts are known to fit together, but for what the entries in doubt name.
     pub fits: bool,
+    /// The IDs of the entries that named a pending command as they were put.
+    pub doubts: Array8List,
 }
 
 /// The last byte of the last of some texts, or 0 where there is none.
@@ -77,7 +79,7 @@ fn holds_words_of(property: &Property, commands: &[Command]) -> bool
 /// Whether the DiscardCommand of this entry, which is looked up once, is the same as one of the
 /// commands.
 fn discards_one_of(commands: &[Command], entry: &Entry) -> bool
-    ensures { result ≡ list_any (λ command. is_discarded_by command entry.now) commands.now }
+    ensures { result ≡ discards_any commands.now entry.now }
 {
     match entry.table.get(b"DiscardCommand") {
         Some(property) => holds_words_of(property, commands),
@@ -92,18 +94,21 @@ fn is_discarded(entries: &[Entry], command: &Command) -> bool
     entries.iter().any(|entry| discards_by(command, entry))
 }
 
+/// Whether this command is the same as one of these.
+pub(crate) fn is_one_of(command: &Command, commands: &[Command]) -> bool
+    ensures { result ≡ list_any (is_same command.now) commands.now }
+{
+    let words = command.words.as_slice();
+    commands
+        .iter()
+        .any(|other| same_words(words, other.words.as_slice()))
+}
+
 /// Whether one of these commands is the same as this one.
 fn is_among(commands: &[Command], command: &Command) -> bool
     ensures { result ≡ list_any (λ other. is_same other command.now) commands.now }
 {
     commands.iter().any(|other| same_words(other.words.as_slice(), command.words.as_slice()))
-}
-
-fn may_put(book: &Book, entry: &Entry) -> bool
-    ensures { (name : List ℕ) → IsTrue result → FitsIn book.now (Put name entry.now) }
-{
-    is_client_id(book.epoch, entry.id.as_slice())
-        && !discards_one_of(book.pending.as_slice(), entry)
 }
 
 /// Whether the command is the DiscardCommand of an entry of one of these sessions.
@@ -143,7 +148,7 @@ fn fits_in(book: &Book, change: &Change) -> bool
     match change {
         Change::Epoch(epoch) => { book.epoch <= *epoch || all_are_of_runs(*epoch, book) }
         Change::Remove(_) => true,
-        Change::Put(_, entry) => may_put(book, entry),
+        Change::Put(_, entry) => is_client_id(book.epoch, entry.id.as_slice()),
         Change::Unpend(_) => true,
         Change::Pend(command) => may_pend(book, command),
     }
@@ -151,10 +156,40 @@ fn fits_in(book: &Book, change: &Change) -> bool
 
 /// Whether the parts of a draft are known to fit together, and the change to fit them.
 fn is_fit_for(draft: &Draft, change: &Change) -> bool
-    requires { IsTrue draft.now.fits → FitTogether draft.now.book }
-    ensures { IsTrue result → FitTogether draft.now.book × FitsIn draft.now.book change.now }
+    requires { IsTrue draft.now.fits → FitBut draft.now.doubts draft.now.book }
+    ensures { IsTrue result → FitBut draft.now.doubts draft.now.book
+        × FitsIn draft.now.book change.now }
 {
     draft.fits && fits_in(&draft.book, change)
+}
+
+/// The IDs in doubt, and that of this entry where it names one of the commands.
+fn doubted(
+    commands: &[Command],
+    entry: &Entry,
+    mut doubts: Array8List,
+) -> Result<Array8List, NoMemory>
+    ensures { IfOk result (λ after. after
+        ≡ (if discards_any commands.now entry.now then doubts ++ entry.now.id ∷ [] else doubts)) }
+{
+    if discards_one_of(commands, entry) {
+        doubts.push(entry.id.copy()?)?;
+    }
+    Ok(doubts)
+}
+
+/// The IDs in doubt behind a change of this book. What an entry that is put names may be taken out
+/// by a later change of the same amendment, so it is looked at again behind the last.
+fn doubts_behind(book: &Book, change: &Change, doubts: Array8List) -> Result<Array8List, NoMemory>
+    ensures { IfOk result (λ after. after ≡ doubts_after book.now change.now doubts) }
+{
+    match change {
+        Change::Epoch(_) => Ok(doubts),
+        Change::Remove(_) => Ok(doubts),
+        Change::Put(_, entry) => doubted(book.pending.as_slice(), entry, doubts),
+        Change::Unpend(_) => Ok(doubts),
+        Change::Pend(_) => Ok(doubts),
+    }
 }
 
 /// The draft after a change. None where it takes out what isn't there.
@@ -165,15 +200,75 @@ pub(crate) fn changed(
 ) -> Result<Option<Draft>, NoMemory>
     requires parts { HasParts draft.book }
     requires named { PutsIntoName change }
-    requires fits { IsTrue draft.fits → FitTogether draft.book }
+    requires fits { IsTrue draft.fits → FitBut draft.doubts draft.book }
     ensures book { IfOk result (λ next. option_map (λ draft. draft.book) next
         ≡ applied_to draft.book change) }
     ensures fits { IfOk result (λ next.
-        IfSome next (λ draft. IsTrue draft.fits → FitTogether draft.book)) }
+        IfSome next (λ draft. IsTrue draft.fits → FitBut draft.doubts draft.book)) }
 {
     let fits = is_fit_for(&draft, &change);
+    let before = draft.doubts;
+    let doubts = doubts_behind(&draft.book, &change, before)?;
     match applied(alloc, draft.book, change)? {
-        Some(book) => Ok(Some(Draft { book, fits })),
+        Some(book) => Ok(Some(Draft { book, fits, doubts })),
         None => Ok(None),
     }
+}
+
+/// Whether the entry has one of these IDs.
+fn is_in_doubt(doubts: &[Array8], entry: &Entry) -> bool
+    ensures { result ≡ is_doubted doubts.now entry.now }
+{
+    doubts
+        .iter()
+        .any(|id| same_bytes(id.as_slice(), entry.id.as_slice()))
+}
+
+/// Whether one of the entries is in doubt and names one of the commands.
+fn one_collides(doubts: &[Array8], commands: &[Command], entries: &[Entry]) -> bool
+    ensures { result ≡ list_any (collides doubts.now commands.now) entries.now }
+{
+    entries.iter().any(|entry| is_in_doubt(doubts, entry) && discards_one_of(commands, entry))
+}
+
+fn one_collides_among(doubts: &[Array8], commands: &[Command], others: &[Named]) -> bool
+    ensures { result ≡ list_any (λ other.
+        list_any (collides doubts.now commands.now) other.entries) others.now }
+{
+    others.iter().any(|other| one_collides(doubts, commands, other.entries.as_slice()))
+}
+
+/// Whether an entry of the book that is in doubt names a pending command.
+pub(crate) fn one_collides_in(doubts: &[Array8], book: &Book) -> bool
+    ensures { result
+        ≡ list_any (collides doubts.now book.now.pending) (all_entries book.now) }
+{
+    let pending = book.pending.as_slice();
+    one_collides(doubts, pending, book.entries.as_slice())
+        || one_collides_among(doubts, pending, book.others.as_slice())
+}
+
+/// Whether one of the entries names one of the commands.
+fn one_discards(commands: &[Command], entries: &[Entry]) -> bool
+    ensures { result ≡ list_any (discards_any commands.now) entries.now }
+{
+    entries.iter().any(|entry| discards_one_of(commands, entry))
+}
+
+fn one_discards_among(commands: &[Command], others: &[Named]) -> bool
+    ensures { result
+        ≡ list_any (λ other. list_any (discards_any commands.now) other.entries) others.now }
+{
+    others
+        .iter()
+        .any(|other| one_discards(commands, other.entries.as_slice()))
+}
+
+/// Whether an entry of the book names a pending command. This takes no memory.
+pub(crate) fn one_discards_in(book: &Book) -> bool
+    ensures { result ≡ list_any (discards_any book.now.pending) (all_entries book.now) }
+{
+    let pending = book.pending.as_slice();
+    one_discards(pending, book.entries.as_slice())
+        || one_discards_among(pending, book.others.as_slice())
 }

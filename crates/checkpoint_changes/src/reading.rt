@@ -7,13 +7,14 @@ ghost use Rattle.checkpoint_changes.specs.Amendments.{ReadsOn, StopsAt, SlotRead
 ghost use Rattle.checkpoint_records.specs.Books.{default_name};
 ghost use Rattle.checkpoint_changes.specs.Changes.{IsChange, change_cells};
 ghost use Rattle.checkpoint_changes.specs.Parts.{HasParts};
-ghost use Rattle.checkpoint_changes.specs.Together.{FitTogether};
+ghost use Rattle.checkpoint_changes.specs.Together.{FitBut};
 ghost use Rattle.checkpoint_changes.specs.Taking.{AppliesAll, TakesAmendment};
 
 use crate::drafts::{Draft, changed};
 use crate::rules::draft_keeps_rules;
 use crate::taking::{OPEN, take_change, take_delta};
 use checkpoint_records::{Book, BookRefusal, Format, read_stored};
+use ice_values::Array8List;
 use owned_lists::NoMemory;
 use std::alloc::Global;
 
@@ -32,12 +33,12 @@ fn apply_all(
     bytes: &[u8],
 ) -> Result<Option<Draft>, NoMemory>
     requires parts { HasParts draft.book }
-    requires fits { IsTrue draft.fits → FitTogether draft.book }
+    requires fits { IsTrue draft.fits → FitBut draft.doubts draft.book }
     ensures parts { IfOk result (λ found. IfSome found (λ draft. HasParts draft.book)) }
     ensures book { IfOk result (λ found.
         AppliesAll format draft.book bytes.now (option_map (λ draft. draft.book) found)) }
     ensures fits { IfOk result (λ found.
-        IfSome found (λ draft. IsTrue draft.fits → FitTogether draft.book)) }
+        IfSome found (λ draft. IsTrue draft.fits → FitBut draft.doubts draft.book)) }
 {
     let mut draft = draft;
     let mut left = bytes;
@@ -74,11 +75,15 @@ fn take_amendment(
     if changes.is_empty() {
         return Ok(Some((book, rest)));
     }
-    let draft = Draft { book, fits: true };
+    let draft = Draft {
+        book,
+        fits: true,
+        doubts: Array8List::new(alloc),
+    };
     let Some(next) = apply_all(alloc, format, draft, changes)? else {
         return Ok(None);
     };
-    if draft_keeps_rules(alloc, &next)? {
+    if draft_keeps_rules(&next) {
         Ok(Some((next.book, rest)))
     } else {
         Ok(None)

@@ -3,12 +3,10 @@ ghost use Rattle.std.specs.List.{AllByRecursion, IsDistinct, list_any};
 ghost use Rattle.checkpoint_records.specs.Books.{all_entries, same_command, sessions};
 ghost use Rattle.checkpoint_records.specs.Rules.{KeepsRules};
 ghost use Rattle.checkpoint_changes.specs.Parts.{HasParts};
-ghost use Rattle.checkpoint_changes.specs.Together.{AreOfRuns, FitTogether};
+ghost use Rattle.checkpoint_changes.specs.Together.{AreOfRuns, FitBut};
 
-use crate::drafts::Draft;
-use checkpoint_records::{
-    Book, Entry, Named, all_discards, count_entries, count_sessions, is_client_id, is_named,
-};
+use crate::drafts::{Draft, is_one_of, one_collides_in, one_discards_in};
+use checkpoint_records::{Book, Entry, Named, count_entries, count_sessions, is_client_id};
 use owned_lists::{Command, NoMemory};
 use std::alloc::Global;
 
@@ -54,20 +52,12 @@ fn are_distinct(commands: &[Command]) -> bool
 {
     let mut left = commands;
     while let [command, others @ ..] = left {
-        if is_named(others, command) {
+        if is_one_of(command, others) {
             return false;
         }
         left = others;
     }
     true
-}
-
-/// Whether none of the commands is one that entries name.
-fn are_none_named(discards: &[Command], commands: &[Command]) -> bool
-    ensures { IsTrue result ↔ AllByRecursion (λ command.
-        list_any (same_command command) discards.now ≡ false) commands.now }
-{
-    commands.iter().all(|command| !is_named(discards, command))
 }
 
 /// Whether a book has no more sessions, entries and pending commands than the rules allow.
@@ -80,37 +70,42 @@ fn is_within_limits(book: &Book) -> bool
         && book.pending.as_slice().len() <= PENDING_LIMIT
 }
 
-/// Whether a book that was put together from tested parts keeps the rules together too: it has at
-/// most 8 sessions, 128 entries and 320 pending commands, each ID is of a run up to the book's epoch,
-/// no two pending commands are the same, and none is the DiscardCommand of an entry.
-pub fn keeps_rules(alloc: Global, book: &Book) -> Result<bool, NoMemory>
+/// As `keeps_rules`, which takes memory no more.
+fn is_by_rules(book: &Book) -> bool
     requires { HasParts book.now }
-    ensures { IfOk result (λ kept. IsTrue kept ↔ KeepsRules book.now) }
+    ensures { IsTrue result ↔ KeepsRules book.now }
 {
     if !is_within_limits(book) {
-        return Ok(false);
+        return false;
     }
     let pending = book.pending.as_slice();
     if !all_are_of_runs(book.epoch, book) || !are_distinct(pending) {
-        return Ok(false);
+        return false;
     }
-    if pending.is_empty() {
-        return Ok(true);
-    }
-    let discards = all_discards(alloc, book)?;
-    Ok(are_none_named(discards.as_slice(), pending))
+    !one_discards_in(book)
 }
 
-/// Whether a draft keeps the rules. Where its parts are known to fit together this is a comparison
-/// of two numbers; otherwise each part is tested against the others.
-pub(crate) fn draft_keeps_rules(alloc: Global, draft: &Draft) -> Result<bool, NoMemory>
-    requires parts { HasParts draft.now.book }
-    requires fits { IsTrue draft.now.fits → FitTogether draft.now.book }
-    ensures { IfOk result (λ kept. IsTrue kept ↔ KeepsRules draft.now.book) }
+/// Whether a book that was put together from tested parts keeps the rules together too: it has at
+/// most 8 sessions, 128 entries and 320 pending commands, each ID is of a run up to the book's epoch,
+/// no two pending commands are the same, and none is the DiscardCommand of an entry.
+pub fn keeps_rules(_alloc: Global, book: &Book) -> Result<bool, NoMemory>
+    requires { HasParts book.now }
+    ensures { IfOk result (λ kept. IsTrue kept ↔ KeepsRules book.now) }
 {
-    if draft.fits {
-        Ok(is_within_limits(&draft.book))
+    Ok(is_by_rules(book))
+}
+
+/// Whether a draft keeps the rules. Where its parts are known to fit together but for the entries in
+/// doubt, and these name nothing that is pending any more, this is a comparison of three numbers;
+/// otherwise each part is tested against the others.
+pub(crate) fn draft_keeps_rules(draft: &Draft) -> bool
+    requires parts { HasParts draft.now.book }
+    requires fits { IsTrue draft.now.fits → FitBut draft.now.doubts draft.now.book }
+    ensures { IsTrue result ↔ KeepsRules draft.now.book }
+{
+    if draft.fits && !one_collides_in(draft.doubts.as_slice(), &draft.book) {
+        is_within_limits(&draft.book)
     } else {
-        keeps_rules(alloc, &draft.book)
+        is_by_rules(&draft.book)
     }
 }

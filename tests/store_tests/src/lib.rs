@@ -6,6 +6,8 @@ mod amendments;
 #[cfg(test)]
 mod books;
 #[cfg(test)]
+mod full_slots;
+#[cfg(test)]
 mod journal;
 #[cfg(test)]
 mod properties;

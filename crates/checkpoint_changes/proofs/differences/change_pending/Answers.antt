@@ -1,6 +1,6 @@
 use Rattle.std.proofs.Common.{◌++◌, arith}
 use Rattle.std.proofs.lemmas.Result.{on_ok_weaker}
-use Rattle.checkpoint_changes.proofs.DeltaLaws.{pending_changes}
+use Rattle.checkpoint_changes.specs.Differences.{pending_changes}
 use Rattle.checkpoint_changes.proofs.DifferenceLaws.{goes_more, pending_turned, stays_more}
 use Rattle.checkpoint_changes.proofs.differences.change_pending.Goals as goal
 use Rattle.checkpoint_changes.proofs.differences.change_pending.Goals.{in-Some, in-None+in_ok-push-in-None}

@@ -1,5 +1,5 @@
 use Rattle.std.proofs.Common.{◌≡◌, ◌≤◌, ◌++◌, drop}
-use Rattle.checkpoint_changes.proofs.DeltaLaws.{pending_changes}
+use Rattle.checkpoint_changes.specs.Differences.{pending_changes}
 use Rattle.checkpoint_changes.proofs.differences.change_pending.Given as goal
 
 abbrev pub invariant-loop-command : goal.invariant-loop-command

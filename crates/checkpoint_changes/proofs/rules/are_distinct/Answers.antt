@@ -9,8 +9,8 @@ none_at_all : (left : List Command) → length left < 1 → IsDistinct same_comm
 none_at_all [] lt = distinct_nil same_command
 none_at_all (c ∷ left) lt = absurd (omega arith)
 
-pub returns-then-is_named : goal.returns-then-is_named
-returns-then-is_named c =
+pub returns-then-is_one_of : goal.returns-then-is_one_of
+returns-then-is_one_of c =
     let left = c.loop-left.left.now in
     let p = c.command-item.result in
     let others : List Command = take (length left - 1) (drop 1 left) in
@@ -18,7 +18,7 @@ returns-then-is_named c =
       λ t. absurd cc,
       λ d.
           let none = (distinct_tail same_command p others (subst (IsDistinct same_command) e (c.loop-left.invariant.1 d))).1 in
-          let t : true ≡ false = c.if-is_named.ensures ∙ none in
+          let t : true ≡ false = c.if-is_one_of.ensures ∙ none in
           absurd cc,
     )
 
@@ -28,7 +28,7 @@ loop-left-preserved c =
     let p = c.command-item.result in
     let others : List Command = take (length left - 1) (drop 1 left) in
     let e : left ≡ p ∷ others = first_and_rest left p c.in-len1-up.len_at_least c.command-item.is in (
-      λ d. c.loop-left.invariant.0 (subst (IsDistinct same_command) (sym e) (distinct_cons same_command p others (sym c.if-is_named.ensures) d)),
+      λ d. c.loop-left.invariant.0 (subst (IsDistinct same_command) (sym e) (distinct_cons same_command p others (sym c.if-is_one_of.ensures) d)),
       λ d. (distinct_tail same_command p others (subst (IsDistinct same_command) e (c.loop-left.invariant.1 d))).0,
     )
 
