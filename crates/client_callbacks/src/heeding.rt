@@ -3,18 +3,20 @@ use crate::ends::Ending;
 use crate::joiner::Joiner;
 use crate::progress::Progress;
 use crate::saying::{note, note_id, say, say_all};
-use client_engine::{Cue, Keeps, Taken, stage_again};
-use client_machine::SaveAsk;
+use client_engine::{Cue, Keeps, Taken, closing, stage_again};
+use client_machine::{Request, SaveAsk};
 use client_peer::Peer;
 use ice_values::Array8List;
 use owned_lists::NoMemory;
 use sm_world::Failure;
 
 impl<S: Saves, D: Dies, C: Cancels> Joiner<S, D, C> {
-    ghost use Rattle.std.specs.Prelude.{◌≡◌, ◌==◌, Ok, Some};
-    ghost use Rattle.client_engine.specs.Answering.{stage_again as stage_again_spec};
+    ghost use Rattle.std.specs.Prelude.{◌≡◌, ◌==◌, [], true, Ok, Some};
+    ghost use Rattle.client_engine.specs.Answering.{may_ask_at, stage_again as stage_again_spec};
     ghost use Rattle.client_engine.specs.Speaking.{HasPlace, MayAnswer};
+    ghost use Rattle.client_engine.specs.declared.place.Place.TheVariants.{Stopped};
     ghost use Rattle.client_machine.specs.Saves.{at_stage};
+    ghost use Rattle.client_machine.specs.declared.requests.Request.TheVariants.{Close};
     ghost use Rattle.client_machine.specs.declared.saves.Stage.{Stage};
     ghost use Rattle.client_callbacks.specs.Doing.{Takes, desk, failure_in, keeper_of};
     ghost use Rattle.client_callbacks.specs.Script.{answered, cancelled, completed, cued, died, owes, saved};
@@ -90,6 +92,7 @@ impl<S: Saves, D: Dies, C: Cancels> Joiner<S, D, C> {
 
     /// Closes as the client is told to die.
     fn die<P: Peer>(&mut self, peer: &mut P, progress: &mut Progress) -> Result<(), Failure>
+        requires { progress.old.core.talk.place ≡ Stopped }
         ensures takes { Takes S.answers D.gives C.hears
             (desk (P.outside peer.old) progress.old.lines self.old)
             (desk (P.outside peer.new) progress.new.lines self.new) (died (keeper_of progress.old))
@@ -100,13 +103,14 @@ impl<S: Saves, D: Dies, C: Cancels> Joiner<S, D, C> {
             Ok(()) => {}
             Err(NoMemory) => return Err(Failure::NoMemory),
         }
-        let message = progress.core.close(self.ask_reasons());
+        let message = closing(self.ask_reasons());
         progress.ending = Some(Ending::Died);
         say(progress.alloc, peer, &message)
     }
 
     /// One more save is complete.
     fn complete<P: Peer>(&mut self, peer: &mut P, progress: &mut Progress) -> Result<(), Failure>
+        requires { may_ask_at (Close []) progress.old.core.talk.place ≡ true }
         ensures takes { Takes S.answers D.gives C.hears
             (desk (P.outside peer.old) progress.old.lines self.old)
             (desk (P.outside peer.new) progress.new.lines self.new) (λ (none : Unit {0}).
@@ -122,7 +126,11 @@ impl<S: Saves, D: Dies, C: Cancels> Joiner<S, D, C> {
             progress.saves = progress.saves.saturating_sub(1);
             return Ok(());
         }
-        let message = progress.core.close(Array8List::new(progress.alloc));
+        let reasons = Array8List::new(progress.alloc);
+        let message = match progress.core.ask(Request::Close(reasons)) {
+            Ok(message) => message,
+            Err(_) => unreachable!(),
+        };
         progress.ending = Some(Ending::Closed);
         say(progress.alloc, peer, &message)
     }

@@ -1,5 +1,6 @@
 -- What an act asks of a client, and how a save goes on.
-use Rattle.std.proofs.Common.{◌≡◌, cond, Bool, true, false, [], Some, Result, Ok, Err, refl, sym, ◌∙◌, ap, subst, arith}
+use Rattle.std.proofs.Common.{◌≡◌, ℕ, cond, not, Bool, true, false, List, [], None, Some, Result, Ok, Err, refl, sym, ◌∙◌, ap, subst, arith}
+use Rattle.std.proofs.lemmas.Bool.{false≢true}
 use Rattle.ice_values.specs.Fields.{ErrorFields}
 use Rattle.ice_values.specs.declared.numbers.Endian.TheVariants.{Lsb}
 use Rattle.ice_values.specs.declared.severity.Severity.{Severity}
@@ -9,39 +10,42 @@ use Rattle.xsmp_messages.specs.declared.message.XsmpMessage.{XsmpMessage}
 use Rattle.xsmp_messages.specs.declared.message.XsmpMessage.TheVariants.{Die as ToldToDie, Error, GetPropertiesReply, Interact, RegisterClient, RegisterClientReply, SaveComplete, SaveYourself, SaveYourselfPhase2, ShutdownCancelled}
 use Rattle.client_machine.specs.Laws.{stage_phase}
 use Rattle.ice_values.specs.declared.saves.SaveStyle.{SaveStyle}
-use Rattle.client_machine.specs.Phases.{ClientState, is_done, is_member, is_registered, is_registering, is_resting, phase_said}
+use Rattle.client_machine.specs.Phases.{ClientState, completed_phase, is_dead, is_done, is_member, is_registered, is_registering, is_resting, phase_said}
 use Rattle.client_machine.specs.Taking.{act_taken, blamed_act, registers_again, second_act, taken, talk_act}
 use Rattle.client_machine.specs.declared.acts.ClientAct.{ClientAct}
 use Rattle.client_machine.specs.declared.acts.ClientAct.TheVariants.{Again, Cancelled, Complete, Die, Nothing, Properties, Registered, Save, Unexpected}
 use Rattle.client_machine.specs.declared.phase.ClientPhase.{ClientPhase}
-use Rattle.client_machine.specs.declared.phase.ClientPhase.TheVariants.{Asked, AskedTwo, WantsTwo}
+use Rattle.client_machine.specs.declared.phase.ClientPhase.TheVariants.{Asked, AskedTwo, Dead, Done as HasSaved, WantsTwo}
 use Rattle.client_machine.specs.declared.saves.SaveAsk.{SaveAsk}
 use Rattle.client_machine.specs.declared.saves.Stage.TheVariants.{First, Second, Talking, TalkingTwo}
 use Rattle.client_machine.specs.Asking.{may_ask, requested}
 use Rattle.client_machine.specs.Saves.{IsLawful, allows, at_stage, is_lawful_step, may_cancel, step_request}
 use Rattle.client_machine.specs.declared.requests.AskRefusal.{AskRefusal}
 use Rattle.client_machine.specs.declared.requests.Request.{Request}
+use Rattle.client_machine.specs.declared.requests.Request.TheVariants.{Close}
 use Rattle.client_machine.specs.declared.saves.SaveAnswer.{SaveAnswer}
 use Rattle.client_machine.specs.declared.saves.Stage.{Stage}
 use Rattle.client_machine.specs.declared.saves.Step.{Step}
 use Rattle.client_machine.specs.declared.saves.Step.TheVariants.{Done, PhaseTwo, Interact as AskDialog, Talked}
 use Rattle.client_machine.proofs.Places.{asked_in_phase, lawful_places}
-use Rattle.client_engine.specs.Answering.{after_answer, answered_at, stage_again}
-use Rattle.client_engine.specs.Places.{on_client}
+use Rattle.client_engine.specs.Answering.{after_answer, after_request, answered_at, closes, may_ask_at, stage_again, stopped}
+use Rattle.client_engine.specs.Places.{id_at, on_client}
 use Rattle.client_engine.specs.Speaking.{IsAsked, MayAct, MayAnswer}
 use Rattle.protocol_messages.specs.declared.message.Message.{Message}
 use Rattle.protocol_messages.specs.declared.message.Message.TheVariants.{Xsmp}
 use Rattle.client_engine.specs.declared.place.Place.{Place}
 use Rattle.client_engine.specs.declared.place.Place.TheVariants.{Opening, Speaking, Stopped}
+use Rattle.client_engine.specs.declared.place.Talk.{Talk}
 use Rattle.client_engine.proofs.Short.{short-previous}
 
 -- what an act asks of a client is asked in its place
-may_act_by : (c : ClientState) (act : ClientAct) → ((ask : SaveAsk) → act ≡ Save ask → (c.phase ≡ stage_phase ask.stage) × (c.asked ≡ ask)) → ((message : XsmpMessage) → act ≡ Again message → message ≡ RegisterClient []) → MayAct c act
-may_act_by c (Save ask) place again =
+may_act_by : (c : ClientState) (act : ClientAct) → ((ask : SaveAsk) → act ≡ Save ask → (c.phase ≡ stage_phase ask.stage) × (c.asked ≡ ask)) → ((message : XsmpMessage) → act ≡ Again message → message ≡ RegisterClient []) → (act ≡ Complete → may_ask (Close []) c ≡ true) → MayAct c act
+may_act_by c (Save ask) place again closes =
     let asked = place ask refl in
     record { phase = asked.0; style = ap (λ (a : SaveAsk). a.style) asked.1; shutdown = ap (λ (a : SaveAsk). a.shutdown) asked.1 }
-may_act_by c (Again message) place again = subst (λ (m : XsmpMessage). ¬ (IsTooLong Lsb m)) (sym (again message refl)) (short-previous [] (omega arith))
-may_act_by c act place again = tt
+may_act_by c Complete place again closes = closes refl
+may_act_by c (Again message) place again closes = subst (λ (m : XsmpMessage). ¬ (IsTooLong Lsb m)) (sym (again message refl)) (short-previous [] (omega arith))
+may_act_by c act place again closes = tt
 
 abbrev registers : ClientAct → Type 0
 registers (Again message) = message ≡ RegisterClient []
@@ -79,8 +83,48 @@ registers-taken ToldToDie c = registers-cond (is_resting c.phase) Die Unexpected
 registers-taken (GetPropertiesReply list) c = registers-cond (is_registered c.phase) (Properties list) Unexpected tt tt
 registers-taken m c = tt
 
+-- ---- one whose save is complete may close
+
+abbrev completes : ClientAct → Bool
+completes Complete = true
+completes act = false
+
+completes-cond : (b : Bool) (x y : ClientAct) → completes x ≡ false → completes y ≡ false → completes (cond b x y) ≡ false
+completes-cond true x y one two = one
+completes-cond false x y one two = two
+
+completes-blamed : (severity : Severity) (error : ErrorFields) (c : ClientState) → completes (blamed_act severity error c) ≡ false
+completes-blamed CanContinue error c = completes-cond (registers_again error c) (Again (RegisterClient [])) Nothing refl refl
+completes-blamed severity error c = refl
+
+completes-talk : (phase : ClientPhase) (asked : SaveAsk) → completes (talk_act phase asked) ≡ false
+completes-talk Asked asked = refl
+completes-talk AskedTwo asked = refl
+completes-talk phase asked = refl
+
+completes-second : (phase : ClientPhase) (asked : SaveAsk) → completes (second_act phase asked) ≡ false
+completes-second WantsTwo asked = refl
+completes-second phase asked = refl
+
+-- what was done is idle then
+closes-completed : (phase : ClientPhase) → completes (cond (is_done phase) Complete Nothing) ≡ true → not (is_dead (completed_phase phase)) ≡ true
+closes-completed HasSaved is = refl
+closes-completed phase is = cc
+
+closes-taken : (m : XsmpMessage) (c : ClientState) → completes (act_taken m c) ≡ true → may_ask (Close []) (taken m c) ≡ true
+closes-taken (Error error) c is = absurd (false≢true (sym (completes-blamed error.severity error c) ∙ is))
+closes-taken (RegisterClientReply id) c is = absurd (false≢true (sym (completes-cond (is_registering c.phase) (Registered id) Unexpected refl refl) ∙ is))
+closes-taken (SaveYourself kind shutdown style fast) c is = absurd (false≢true (sym (completes-cond (is_resting c.phase) (Save (record { stage = First; kind = kind; shutdown = shutdown; style = style; fast = fast })) Unexpected refl refl) ∙ is))
+closes-taken Interact c is = absurd (false≢true (sym (completes-talk c.phase c.asked) ∙ is))
+closes-taken SaveYourselfPhase2 c is = absurd (false≢true (sym (completes-second c.phase c.asked) ∙ is))
+closes-taken SaveComplete c is = closes-completed c.phase is
+closes-taken ShutdownCancelled c is = absurd (false≢true (sym (completes-cond (is_member c.phase) Cancelled Nothing refl refl) ∙ is))
+closes-taken ToldToDie c is = absurd (false≢true (sym (completes-cond (is_resting c.phase) Die Unexpected refl refl) ∙ is))
+closes-taken (GetPropertiesReply list) c is = absurd (false≢true (sym (completes-cond (is_registered c.phase) (Properties list) Unexpected refl refl) ∙ is))
+closes-taken m c is = absurd (false≢true is)
+
 pub may_act : (m : XsmpMessage) (c : ClientState) → MayAct (taken m c) (act_taken m c)
-may_act m c = may_act_by (taken m c) (act_taken m c) (λ ask. asked_in_phase m c ask) (λ message. registers-by (act_taken m c) message (registers-taken m c))
+may_act m c = may_act_by (taken m c) (act_taken m c) (λ ask. asked_in_phase m c ask) (λ message. registers-by (act_taken m c) message (registers-taken m c)) (λ is. closes-taken m c (ap completes is))
 
 -- ---- an answer to a save
 
@@ -147,3 +191,43 @@ asked_again ask answer (Opening opener previous) next may lawful again = absurd 
 asked_again ask answer (Speaking joined c) next may lawful again =
     rw (may_say ask answer c may lawful) (record { phase = talked_phase ask.stage next ask answer.step c.phase may.phase again lawful.step; style = may.style; shutdown = may.shutdown })
 asked_again ask answer Stopped next may lawful again = absurd may
+
+-- ---- the client's end
+
+closes_said : (place : Place) (reasons : List (List ℕ)) → may_ask_at (Close reasons) place ≡ true → answered_at (Close reasons) place ≡ Ok (closes reasons)
+closes_said (Opening opener previous) reasons may = absurd (false≢true may)
+closes_said (Speaking joined c) reasons may = rw may refl
+closes_said Stopped reasons may = absurd (false≢true may)
+
+closes_talk : (talk : Talk) (reasons : List (List ℕ)) → may_ask_at (Close reasons) talk.place ≡ true → after_request (Close reasons) talk ≡ stopped talk
+closes_talk talk reasons may = rw may refl
+
+named_alive : (phase : ClientPhase) (own id : List ℕ) → cond (is_registered phase) (Some own) None ≡ Some id → not (is_dead phase) ≡ true
+named_alive Dead own id named = cc
+named_alive phase own id named = refl
+
+-- one that has an ID may close
+pub named_closes : (place : Place) (id : List ℕ) → id_at place ≡ Some id → may_ask_at (Close []) place ≡ true
+named_closes (Opening opener previous) id named = cc
+named_closes (Speaking joined c) id named = named_alive c.phase c.id id named
+named_closes Stopped id named = cc
+
+-- where it may close, it is answered so, and not refused
+pub closing_said : (place : Place) (reasons : List (List ℕ)) (result : Result Message AskRefusal) (message : Message) → may_ask_at (Close []) place ≡ true → reasons ≡ [] → result ≡ answered_at (Close reasons) place → result ≡ Ok message → message ≡ closes []
+closing_said place reasons result message may none answer good =
+    by (sym good ∙ (answer ∙ (ap (λ (rs : List (List ℕ)). answered_at (Close rs) place) none ∙ closes_said place [] may)))
+  where
+    by : ◌≡◌ {A = Result Message AskRefusal} (Ok message) (Ok (closes [])) → message ≡ closes []
+    by same = cc
+
+pub closing_granted : (place : Place) (reasons : List (List ℕ)) (result : Result Message AskRefusal) (refusal : AskRefusal) → may_ask_at (Close []) place ≡ true → reasons ≡ [] → result ≡ answered_at (Close reasons) place → result ≡ Err refusal → ⊥
+closing_granted place reasons result refusal may none answer refused =
+    let bad : ◌≡◌ {A = Result Message AskRefusal} (Err refusal) (Ok (closes [])) = sym refused ∙ (answer ∙ (ap (λ (rs : List (List ℕ)). answered_at (Close rs) place) none ∙ closes_said place [] may)) in
+    cc
+
+pub closing_talk : (talk next : Talk) (reasons : List (List ℕ)) → may_ask_at (Close []) talk.place ≡ true → reasons ≡ [] → next ≡ after_request (Close reasons) talk → next ≡ stopped talk
+closing_talk talk next reasons may none after = after ∙ (ap (λ (rs : List (List ℕ)). after_request (Close rs) talk) none ∙ closes_talk talk [] may)
+
+-- one that takes nothing more is as one that stops
+pub is_stopped : (talk : Talk) → talk.place ≡ Stopped → talk ≡ stopped talk
+is_stopped talk place = ap (λ (p : Place). let t : Talk = record { place = p; counts = talk.counts } in t) place

@@ -1,7 +1,6 @@
 -- Parts one after another, for any keeper that may fail.
-use Rattle.std.proofs.Common.{◌≡◌, ℕ, ◌-◌, ◌≤◌, arith, Bool, true, false, List, [], ◌∷◌, ◌++◌, length, take, drop, Option, None, Some, refl, sym, ◌∙◌, ap, subst}
+use Rattle.std.proofs.Common.{◌≡◌, ℕ, ◌≤◌, arith, Bool, true, false, List, [], ◌∷◌, ◌++◌, length, drop, Option, None, Some, refl, sym, ◌∙◌, ap, subst}
 use Rattle.std.proofs.lemmas.Bool.{false≢true}
-use Rattle.std.proofs.lemmas.List.{length-drop, take_all}
 use Rattle.ice_framing.specs.Frames.{Standing, IsPartial, cut, fed, unit_limit, units}
 use Rattle.ice_framing.specs.Parts.{Part, parts_at}
 use Rattle.ice_framing.proofs.Cuts.{fed-nil}

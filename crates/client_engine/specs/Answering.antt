@@ -1,5 +1,5 @@
 -- What a client says at its keeper's wish, and where it stands then.
-use Rattle.std.specs.Prelude.{ℕ, ◌≤◌, Bool, false, true, length, List, [], ◌∷◌, ◌++◌, Option, None, Some, Result, Ok, Err}
+use Rattle.std.specs.Prelude.{ℕ, ◌≤◌, Bool, cond, false, true, ◌&&◌, length, List, [], ◌∷◌, ◌++◌, Option, None, Some, Result, Ok, Err}
 use Rattle.std.specs.List.{AllByRecursion}
 use Rattle.ice_values.specs.declared.property.Property.{Property}
 use Rattle.xsmp_messages.specs.declared.message.XsmpMessage.{XsmpMessage}
@@ -11,7 +11,7 @@ use Rattle.client_machine.specs.declared.phase.ClientPhase.TheVariants.{Register
 use Rattle.client_machine.specs.declared.requests.AskRefusal.{AskRefusal}
 use Rattle.client_machine.specs.declared.requests.AskRefusal.TheVariants.{WrongPhase}
 use Rattle.client_machine.specs.declared.requests.Request.{Request}
-use Rattle.client_machine.specs.declared.requests.Request.TheVariants.{Done as AskDone}
+use Rattle.client_machine.specs.declared.requests.Request.TheVariants.{Close, Done as AskDone}
 use Rattle.client_machine.specs.declared.saves.SaveAnswer.{SaveAnswer}
 use Rattle.client_machine.specs.declared.saves.Stage.{Stage}
 use Rattle.client_machine.specs.declared.saves.Stage.TheVariants.{First, Second, Talking, TalkingTwo}
@@ -43,6 +43,19 @@ answered_at request Stopped = Err (WrongPhase Dead)
 -- what becomes of the client, and nothing else does
 abbrev pub changed : (ClientState → ClientState) → Talk → Talk
 changed change talk = record talk { place = on_client change talk.place }
+
+-- it takes nothing more
+abbrev pub stopped : Talk → Talk
+stopped talk = record talk { place = Stopped }
+
+-- by this request a client says that it closes
+abbrev pub is_closing : Request → Bool
+is_closing (Close reasons) = true
+is_closing request = false
+
+-- what becomes of it by a request; one that says that it closes takes nothing more
+abbrev pub after_request : Request → Talk → Talk
+after_request request talk = cond (is_closing request && may_ask_at request talk.place) (stopped talk) (changed (after_asked request) talk)
 
 -- ---- an answer to a save
 
@@ -85,7 +98,3 @@ pub record AreFew (reasons : List (List ℕ)) : Type 0 where
 
 abbrev pub closes : List (List ℕ) → Message
 closes reasons = Xsmp (ConnectionClosed reasons)
-
--- it takes nothing more
-abbrev pub stopped : Talk → Talk
-stopped talk = record talk { place = Stopped }

@@ -1,6 +1,6 @@
 ghost use Rattle.std.specs.Prelude.{◌≡◌, IfOk};
 ghost use Rattle.xsmp_properties.specs.Tables.{IsTableFull};
-ghost use Rattle.client_engine.specs.Answering.{sets, stage_again as stage_again_spec};
+ghost use Rattle.client_engine.specs.Answering.{AreFew, closes, is_closing as is_closing_spec, sets, stage_again as stage_again_spec};
 ghost use Rattle.client_engine.specs.Messages.{AreShort};
 ghost use Rattle.protocol_messages.specs.Messages.{IsTooLong};
 
@@ -35,6 +35,22 @@ pub fn stage_again(stage: Stage) -> Option<Stage>
     }
 }
 
+/// What a client says that was told to die (XSMP, chapter 7: ConnectionClosed), once: the cue is
+/// `Die`. Of its reasons, which the manager may show, at most 16 of at most 1,024 bytes can be spelled.
+pub fn closing(reasons: Array8List) -> Message
+    ensures message { result ≡ closes reasons }
+    ensures short { AreFew reasons → ¬ (IsTooLong result) }
+{
+    Message::Xsmp(XsmpMessage::ConnectionClosed { reasons })
+}
+
+/// Whether a client says by this request that it closes.
+fn is_closing(request: &Request) -> bool
+    ensures { result ≡ is_closing_spec request.now }
+{
+    matches!(request, Request::Close(_))
+}
+
 /// What a client sets, where there is something.
 fn set(alloc: Global, properties: PropertyList) -> Result<MessageList, NoMemory>
     requires { ¬ (IsTableFull properties) }
@@ -55,7 +71,7 @@ impl Core {
     ghost use Rattle.client_machine.specs.Asking.{after_asked};
     ghost use Rattle.client_machine.specs.Phases.{is_owing};
     ghost use Rattle.client_machine.specs.Saves.{IsLawful, at_stage};
-    ghost use Rattle.client_engine.specs.Answering.{AreFew, answered_at, answer_messages, after_answer, after_owed, changed, closes, owed_messages, stopped};
+    ghost use Rattle.client_engine.specs.Answering.{answered_at, answer_messages, after_answer, after_owed, after_request, changed, owed_messages};
     ghost use Rattle.client_engine.specs.Messages.{AreShort};
     ghost use Rattle.protocol_messages.specs.Messages.{IsTooLong};
     ghost use Rattle.client_engine.specs.Places.{id_at, phase_at};
@@ -81,9 +97,8 @@ impl Core {
         }
     }
 
-    /// Says a request of the client's (XSMP, chapter 7), at any time between two parts. Refused where
-    /// it has no place in the client's phase; nothing changes then.
-    pub fn ask(&mut self, request: Request) -> Result<Message, AskRefusal>
+    /// Says a request, and leaves the client in its phase after that.
+    fn say(&mut self, request: Request) -> Result<Message, AskRefusal>
         ensures answer { result ≡ answered_at request self.old.talk.place }
         ensures talk { self.new.talk ≡ changed (after_asked request) self.old.talk }
         ensures splitter { self.new.splitter ≡ self.old.splitter }
@@ -100,6 +115,25 @@ impl Core {
                 phase: ClientPhase::Dead,
             }),
         }
+    }
+
+    /// Says a request of the client's (XSMP, chapter 7), at any time between two parts. Refused where
+    /// it has no place in the client's phase; nothing changes then. A client that says that it closes
+    /// takes nothing more.
+    pub fn ask(&mut self, request: Request) -> Result<Message, AskRefusal>
+        ensures answer { result ≡ answered_at request self.old.talk.place }
+        ensures talk { self.new.talk ≡ after_request request self.old.talk }
+        ensures splitter { self.new.splitter ≡ self.old.splitter }
+    {
+        let closes = is_closing(&request);
+        let message = match self.say(request) {
+            Ok(message) => message,
+            Err(refusal) => return Err(refusal),
+        };
+        if closes {
+            self.talk.place = Place::Stopped;
+        }
+        Ok(message)
     }
 
     /// Says how the client goes on in a save that its keeper was asked for: what it sets, and its step.
@@ -124,7 +158,7 @@ impl Core {
             step,
         } = answer;
         let mut said = set(alloc, properties)?;
-        match self.ask(step.request()) {
+        match self.say(step.request()) {
             Ok(message) => said.push(message)?,
             Err(_) => unreachable!(),
         }
@@ -144,21 +178,9 @@ impl Core {
         if self.phase() != ClientPhase::Owing {
             return Ok(MessageList::new(alloc));
         }
-        match self.ask(Request::Done(false)) {
+        match self.say(Request::Done(false)) {
             Ok(message) => one(alloc, message),
             Err(_) => unreachable!(),
         }
-    }
-
-    /// Closes, with reasons that the manager may show (XSMP, chapter 7: ConnectionClosed): at most 16 of
-    /// at most 1,024 bytes can be spelled. The client takes nothing more then.
-    pub fn close(&mut self, reasons: Array8List) -> Message
-        ensures message { result ≡ closes reasons }
-        ensures short { AreFew reasons → ¬ (IsTooLong result) }
-        ensures talk { self.new.talk ≡ stopped self.old.talk }
-        ensures splitter { self.new.splitter ≡ self.old.splitter }
-    {
-        self.talk.place = Place::Stopped;
-        Message::Xsmp(XsmpMessage::ConnectionClosed { reasons })
     }
 }

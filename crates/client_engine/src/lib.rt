@@ -13,7 +13,7 @@ mod place;
 mod received;
 mod speaking;
 
-pub use asking::{greeting, stage_again};
+pub use asking::{closing, greeting, stage_again};
 pub use engine::{Core, Taken};
 pub use hearing::Cue;
 pub use keeping::{Keeps, take_piece};

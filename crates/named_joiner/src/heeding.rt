@@ -3,7 +3,7 @@ use crate::callers::Callers;
 use crate::ends::{Ending, NamedEnd};
 use crate::progress::Progress;
 use crate::saying::say_all;
-use client_engine::{Cue, Keeps, Taken, spell, stage_again};
+use client_engine::{Cue, Keeps, Taken, closing, spell, stage_again};
 use client_machine::SaveAsk;
 use owned_lists::NoMemory;
 
@@ -34,6 +34,7 @@ impl<S: NamedSaves, D: NamedDies> Callers<S, D> {
     ghost use Rattle.std.specs.Prelude.{◌≡◌, Ok, Some};
     ghost use Rattle.client_engine.specs.Answering.{stage_again as stage_again_spec};
     ghost use Rattle.client_engine.specs.Speaking.{HasPlace, MayAnswer};
+    ghost use Rattle.client_engine.specs.declared.place.Place.TheVariants.{Stopped};
     ghost use Rattle.client_machine.specs.Saves.{at_stage};
     ghost use Rattle.client_machine.specs.declared.saves.SaveAnswer.{SaveAnswer};
     ghost use Rattle.client_machine.specs.declared.saves.Stage.{Stage};
@@ -85,6 +86,7 @@ impl<S: NamedSaves, D: NamedDies> Callers<S, D> {
 
     /// Closes as the client is told to die.
     fn die(&mut self, progress: &mut Progress) -> Result<(), NoMemory>
+        requires { progress.old.core.talk.place ≡ Stopped }
         ensures takes { Tries S.answers D.gives result (desk progress.old.bytes self.old)
             (desk progress.new.bytes self.new) (died (keeper_of progress.old))
             (keeper_of progress.new) }
@@ -94,7 +96,7 @@ impl<S: NamedSaves, D: NamedDies> Callers<S, D> {
             Some(reasons) => reasons,
             None => return Err(NoMemory),
         };
-        let message = progress.core.close(reasons);
+        let message = closing(reasons);
         progress.ending = Some(Ending::Ended(NamedEnd::Died));
         spell(&message, &mut progress.bytes)
     }

@@ -1,17 +1,13 @@
 -- What a piece brings, what an agent is told, and pieces one after another.
 use Rattle.std.proofs.Common.{◌≡◌, ℕ, Bool, true, false, List, [], ◌∷◌, ◌++◌, length, drop, Option, None, Some, refl, sym, ◌∙◌, ap, subst, arith}
 use Rattle.std.proofs.lemmas.Bool.{false≢true}
-use Rattle.ice_framing.specs.Frames.{Standing, cut, fed}
+use Rattle.ice_framing.specs.Frames.{cut, fed}
 use Rattle.ice_framing.specs.Parts.{Part, parts_at}
-use Rattle.owned_lists.specs.declared.failures.NoMemory.{NoMemory}
 use Rattle.client_machine.specs.Asking.{after_asked}
-use Rattle.client_machine.specs.Phases.{ClientState}
 use Rattle.client_machine.specs.declared.requests.Request.TheVariants.{Done}
 use Rattle.client_engine.specs.Driving.{Run, Step, behind, both, part_taken, parts_taken, piece_taken, standing_at}
 use Rattle.client_engine.specs.Keeping.{TakesPiece}
-use Rattle.client_engine.specs.Places.{id_at, is_listening, on_client}
-use Rattle.client_engine.specs.declared.place.Place.{Place}
-use Rattle.client_engine.specs.declared.place.Place.TheVariants.{Opening, Speaking, Stopped}
+use Rattle.client_engine.specs.Places.{id_at, is_listening}
 use Rattle.client_engine.proofs.Driven.{in_parts, still_at}
 use Rattle.outer_agent.specs.Doing.{Carries}
 use Rattle.outer_agent.specs.Laws.{PiecesMakeNoDifference}

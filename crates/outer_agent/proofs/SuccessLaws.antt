@@ -43,7 +43,6 @@ use Rattle.client_engine.specs.declared.place.Place.TheVariants.{Opening, Speaki
 use Rattle.client_engine.specs.declared.place.Talk.{Talk}
 use Rattle.client_engine.specs.declared.received.Received.{Received}
 use Rattle.client_engine.specs.declared.received.Received.TheVariants.{Ice as GotIce, Xsmp as GotXsmp, Stray, Unspelled}
-use Rattle.protocol_messages.specs.declared.message.Message.{Message}
 use Rattle.protocol_messages.specs.declared.message.Message.TheVariants.{Ice, Xsmp}
 use Rattle.outer_agent.specs.Ends.{PiecesBringNoSuccess}
 use Rattle.outer_agent.specs.Script.{Keeper, cancelled, heeded, own_set, reacts, saved, sends, talk_of}

@@ -2,7 +2,7 @@ use crate::acts::{AgentAct, AgentActs};
 use crate::progress::Progress;
 use crate::saying::{say, say_all};
 use crate::words::own_properties;
-use client_engine::{Cue, Keeps, Taken};
+use client_engine::{Cue, Keeps, Taken, closing};
 use client_machine::{ClientPhase, Stage};
 use ice_values::Array8List;
 use owned_lists::NoMemory;
@@ -12,6 +12,8 @@ use xsmp_messages::XsmpMessage;
 impl Progress {
     ghost use Rattle.std.specs.Prelude.{◌≡◌, [], ◌++◌, unwrap_or, OnOk};
     ghost use Rattle.client_engine.specs.Places.{id_at, phase_at};
+    ghost use Rattle.client_engine.specs.Speaking.{HasPlace};
+    ghost use Rattle.client_engine.specs.declared.place.Place.TheVariants.{Stopped};
     ghost use Rattle.client_machine.specs.Phases.{is_owing};
     ghost use Rattle.client_machine.specs.declared.saves.Stage.TheVariants.{First};
     ghost use Rattle.outer_agent.specs.Doing.{keeper_of};
@@ -57,17 +59,19 @@ impl Progress {
 
     /// Closes as the client is told to die, and has the session shut down.
     fn die(&mut self, acts: &mut AgentActs) -> Result<(), NoMemory>
+        requires { self.old.core.talk.place ≡ Stopped }
         ensures acts { OnOk result (acts.new ≡ acts.old ++ (died (keeper_of self.old)).line) }
         ensures keeper { OnOk result (keeper_of self.new ≡ (died (keeper_of self.old)).next) }
         ensures splitter { self.new.core.splitter ≡ self.old.core.splitter }
     {
-        let message = self.core.close(Array8List::new(self.alloc));
+        let message = closing(Array8List::new(self.alloc));
         say(self.alloc, &message, acts)?;
         acts.push(AgentAct::Shutdown)
     }
 
     /// Does what a cue asks.
     fn heed(&mut self, acts: &mut AgentActs, cue: Cue) -> Result<(), NoMemory>
+        requires { HasPlace cue self.old.core.talk.place }
         ensures acts { OnOk result (acts.new ≡ acts.old ++ (heeded (keeper_of self.old) cue).line) }
         ensures keeper { OnOk result (keeper_of self.new ≡ (heeded (keeper_of self.old) cue).next) }
         ensures splitter { self.new.core.splitter ≡ self.old.core.splitter }

@@ -30,11 +30,16 @@ impl Progress {
         ensures keeper { OnOk result (keeper_of self.new ≡ (closing (keeper_of self.old)).next) }
         ensures splitter { self.new.core.splitter ≡ self.old.core.splitter }
     {
-        let mut bytes = Octets::new(self.alloc);
-        if self.core.id().is_some() {
-            let message = self.core.close(Array8List::new(self.alloc));
-            spell(&message, &mut bytes)?;
+        if self.core.id().is_none() {
+            return Ok(Octets::new(self.alloc));
         }
+        let reasons = Array8List::new(self.alloc);
+        let message = match self.core.ask(Request::Close(reasons)) {
+            Ok(message) => message,
+            Err(_) => unreachable!(),
+        };
+        let mut bytes = Octets::new(self.alloc);
+        spell(&message, &mut bytes)?;
         Ok(bytes)
     }
 }

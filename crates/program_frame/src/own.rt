@@ -1,6 +1,5 @@
-ghost use Rattle.std.specs.Prelude.{◌≡◌, ◌≢◌, ◌∷◌, [], codes, map, string_bytes, Some, None, IfOk, IfErr, OnOk};
-ghost use Rattle.program_frame.specs.Own.{IsOwnStatus, printed_status};
-ghost use Rattle.program_frame.specs.Printing.{OnlyPrints};
+ghost use Rattle.std.specs.Prelude.{◌≡◌, ◌∷◌, [], codes, map, string_bytes, Some, None, IfOk, IfErr, IfSome, OnOk};
+ghost use Rattle.program_frame.specs.Own.{AsksFor, AsksForNone, LacksWords, ShowsOwn, printed_status};
 
 use crate::words::are_one_word;
 use sm_world::{Console, Failure};
@@ -26,6 +25,8 @@ impl OwnTexts {
             result ≡ Some self.now.version }
         ensures none { ¬ (map string_bytes words.now ≡ codes "--help" ∷ []) →
             ¬ (map string_bytes words.now ≡ codes "--version" ∷ []) → result ≡ None }
+        ensures some { IfSome result (λ text.
+            AsksFor self.now (map string_bytes words.now) text.now) }
     {
         if are_one_word(words, "--help") {
             Some(self.help)
@@ -44,9 +45,13 @@ impl OwnTexts {
         console: &mut W,
     ) -> Result<Vec<String>, u8>
         ensures handed { IfOk result (λ handed. words ≡ Ok handed) }
+        ensures asked { IfOk result (λ handed. AsksForNone (map string_bytes handed.items)) }
         ensures kept { OnOk result (W.outside console.new ≡ W.outside console.old) }
-        ensures status { IfErr result
-            (IsOwnStatus (W.outside console.old) (W.outside console.new)) }
+        ensures shown { IfErr result (λ status. IfOk words (λ given. ShowsOwn self.now
+            (map string_bytes given.items) (W.outside console.old) (W.outside console.new)
+            status)) }
+        ensures lacking { IfErr result (λ status. IfErr words (λ error. LacksWords self.now
+            (W.outside console.old) (W.outside console.new) status)) }
     {
         let Ok(words) = words else {
             // Nothing else keeps the words from being read.

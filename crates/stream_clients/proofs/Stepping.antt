@@ -16,7 +16,7 @@ use Rattle.client_machine.specs.declared.phase.ClientPhase.{ClientPhase}
 use Rattle.client_machine.specs.declared.phase.ClientPhase.TheVariants.{Asked, AskedTwo, Dead, Done, Idle, Interacting, Owing, Registering, Saving, SavingTwo, WantsTwo}
 use Rattle.client_machine.specs.declared.requests.Request.{Request}
 use Rattle.client_machine.specs.declared.requests.Request.TheVariants.{Close, Done as SayDone, Interact as AskDialog, InteractDone as SayTalked, PhaseTwo}
-use Rattle.client_engine.specs.Answering.{changed, may_ask_at, stopped}
+use Rattle.client_engine.specs.Answering.{changed, is_closing, may_ask_at, stopped}
 use Rattle.client_engine.specs.Driving.{Step as Did, behind, parts_taken, reacting, reply, stays}
 use Rattle.client_engine.specs.Hearing.{frame_heard, part_heard}
 use Rattle.client_engine.specs.Places.{is_listening, on_client}
@@ -34,7 +34,7 @@ use Rattle.end_schedules.specs.Laws.{ExpectsWhatWaits}
 use Rattle.end_schedules.specs.Pairs.{AllMay, Pair, Step, after, down_of, hand, said_at_once, step}
 use Rattle.end_schedules.specs.Pairs.Step.{Asks as ItAsks, Closes as ItCloses, Takes as ItTakes}
 use Rattle.end_schedules.specs.UnderWay.{sent_to}
-use Rattle.stream_clients.specs.Clients.{Client, Wish, after_wish, cued, does, is_closing, may_wish, reacts, said_in, stand_at, talk_of, wished}
+use Rattle.stream_clients.specs.Clients.{Client, Wish, after_wish, cued, does, may_wish, reacts, said_in, stand_at, talk_of, wished}
 use Rattle.stream_clients.specs.Clients.Wish.{Asks, Closes}
 use Rattle.stream_clients.specs.Following.{Follows, FollowsParts, IsSpelled, PartsAreSteps, StandsAs, WishesAreSteps}
 use Rattle.stream_clients.specs.Taking.{TakesMessage, ends, heard_of, place_after}

@@ -4,8 +4,7 @@ use Rattle.xsmp_messages.specs.declared.message.XsmpMessage.{XsmpMessage}
 use Rattle.xsmp_messages.specs.declared.message.XsmpMessage.TheVariants.{ConnectionClosed}
 use Rattle.client_machine.specs.Asking.{after_asked, requested}
 use Rattle.client_machine.specs.declared.requests.Request.{Request}
-use Rattle.client_machine.specs.declared.requests.Request.TheVariants.{Close}
-use Rattle.client_engine.specs.Answering.{changed, may_ask_at, stopped}
+use Rattle.client_engine.specs.Answering.{changed, is_closing, may_ask_at, stopped}
 use Rattle.client_engine.specs.Driving.{Step, behind, reacting, stays}
 use Rattle.client_engine.specs.Places.{is_listening}
 use Rattle.client_engine.specs.declared.hearing.Cue.{Cue}
@@ -30,10 +29,6 @@ pub record Client : Type 0 where
 abbrev pub is_speaking : Place → Bool
 is_speaking (Speaking joined s) = true
 is_speaking place = false
-
-abbrev pub is_closing : Request → Bool
-is_closing (Close reasons) = true
-is_closing request = false
 
 -- it asks what it may, and closes where it speaks or was told to die
 abbrev pub may_wish : Wish → Client → Bool

@@ -2,7 +2,7 @@
 
 use crate::frames::{frame_of, named};
 use crate::phases::request_of;
-use client_engine::{Core, Cue, Taken, greeting, spell, stage_again};
+use client_engine::{Core, Cue, Taken, closing, greeting, spell, stage_again};
 use client_machine::{Request, SaveAnswer, Stage, Step};
 use ice_cookie::Cookie;
 use ice_messages::encode_ice;
@@ -48,7 +48,7 @@ fn heard(alloc: Global, core: &mut Core, name: &str) -> Result<String, Fail> {
     let part = frame_of(alloc, name)?;
     match core.cut(alloc, part.as_slice())? {
         Some(taken) => taken_shown(alloc, &taken),
-        None => Err("no part".into()),
+        None => Ok("nothing".to_string(alloc)?),
     }
 }
 
@@ -85,9 +85,9 @@ fn owed(alloc: Global, core: &mut Core) -> Result<String, Fail> {
     said_shown(alloc, said.as_slice())
 }
 
-fn closed(alloc: Global, core: &mut Core) -> Result<String, Fail> {
-    let message = core.close(Array8List::new(alloc));
-    message_shown(alloc, &message)
+/// What a client says that was told to die.
+fn closing_shown(alloc: Global) -> Result<String, Fail> {
+    message_shown(alloc, &closing(Array8List::new(alloc)))
 }
 
 fn id_shown(alloc: Global, core: &Core) -> Result<String, Fail> {
@@ -101,7 +101,7 @@ fn id_shown(alloc: Global, core: &Core) -> Result<String, Fail> {
 fn done(alloc: Global, core: &mut Core, word: &str) -> Result<String, Fail> {
     match word {
         "owes" => owed(alloc, core),
-        "closes" => closed(alloc, core),
+        "says its end" => closing_shown(alloc),
         "id" => id_shown(alloc, core),
         _ => text_of(alloc, &core.phase()),
     }
@@ -118,9 +118,11 @@ fn stepped(alloc: Global, core: &mut Core, step: &str) -> Result<String, Fail> {
 
 fn steps_shown(alloc: Global, core: &mut Core, steps: &str) -> Result<String, Fail> {
     let mut text = String::new(alloc);
+    let mut between = "";
     for step in steps.split(", ") {
+        text.push_str(between)?;
         text.push_str(stepped(alloc, core, step)?.as_str())?;
-        text.push_str(", ")?;
+        between = ", ";
     }
     Ok(text)
 }
@@ -133,7 +135,18 @@ fn session_shown(alloc: Global, steps: &str) -> Result<String, Fail> {
 }
 
 const SESSION: &str =
-    "hears order, hears demand, hears connected, hears opened, hears registered, id, asks done, saves save, phase, hears save, asks to-wait, owes, closes, phase => 8 Nothing connects, 16 Nothing cookie, 24 Nothing opens, 24 Nothing registers, 40 Registered(Octets { bytes: [115, 109, 100, 45, 48, 48, 48, 48, 48, 48, 48, 49, 45, 48, 48, 48, 48, 48, 48, 48, 49] }), smd-00000001-00000001, WrongPhase { phase: Idle },  done, Done, 16 Save(SaveAsk { stage: First, kind: Local, shutdown: false, style: Nothing, fast: false }),  waits, ,  closes, Dead, ";
+    "hears order, hears demand, hears connected, hears opened, hears registered, id, asks done, saves save, phase, hears save, asks to-wait, owes, asks close, phase => 8 Nothing connects, 16 Nothing cookie, 24 Nothing opens, 24 Nothing registers, 40 Registered(Octets { bytes: [115, 109, 100, 45, 48, 48, 48, 48, 48, 48, 48, 49, 45, 48, 48, 48, 48, 48, 48, 48, 49] }), smd-00000001-00000001, WrongPhase { phase: Idle },  done, Done, 16 Save(SaveAsk { stage: First, kind: Local, shutdown: false, style: Nothing, fast: false }),  waits, ,  closes, Dead";
+
+/// A client closes once it has joined, and takes nothing more; one that is told to die takes nothing more, and says its end.
+const ENDS: &str = "\
+asks close, hears order, asks close, phase => WrongPhase { phase: Registering }, 8 Nothing connects, WrongPhase { phase: Registering }, Registering
+hears order, hears demand, hears connected, hears opened, hears registered, asks close, asks close, hears save, phase, id => 8 Nothing connects, 16 Nothing cookie, 24 Nothing opens, 24 Nothing registers, 40 Registered(Octets { bytes: [115, 109, 100, 45, 48, 48, 48, 48, 48, 48, 48, 49, 45, 48, 48, 48, 48, 48, 48, 48, 49] }),  closes, WrongPhase { phase: Dead }, nothing, Dead, -
+hears order, hears demand, hears connected, hears opened, hears registered, hears die, says its end, asks close, hears save => 8 Nothing connects, 16 Nothing cookie, 24 Nothing opens, 24 Nothing registers, 40 Registered(Octets { bytes: [115, 109, 100, 45, 48, 48, 48, 48, 48, 48, 48, 49, 45, 48, 48, 48, 48, 48, 48, 48, 49] }), 8 Die,  closes, WrongPhase { phase: Dead }, nothing";
+
+#[test]
+fn a_client_closes_once(rt: HostRuntime) -> Result<(), Fail> {
+    expect_rows(&rt, ENDS, session_shown)
+}
 
 #[test]
 fn a_client_asks_in_its_phase(rt: HostRuntime) -> Result<(), Fail> {

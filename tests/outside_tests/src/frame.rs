@@ -165,7 +165,8 @@ fn begun(alloc: Global, line: &str) -> Result<String, Fail> {
 
 const BEGUN: &str = "\
 show --help => Ok(2) []
---help => Err(0) [Printed(Octets { bytes: [104, 101, 108, 112] })]";
+--help => Err(0) [Printed(Octets { bytes: [104, 101, 108, 112] })]
+--version => Err(0) [Printed(Octets { bytes: [118, 101, 114, 115, 105, 111, 110] })]";
 
 #[test]
 fn a_program_begins_with_its_words(rt: HostRuntime) -> Result<(), Fail> {
