@@ -112,6 +112,7 @@ module _ (current : Option Current) (old book : Book) (delta : List Change) (roo
   appended : KeepOrder old book → IsCommit current old book (append_puts end_is.0 delta) (advanced current (size_of delta))
   appended order = record {
     delta = delta;
+    exact = makes.exact;
     plain = makes.plain order;
     leads = makes.applied;
     way = inl (record { room = room; gate = end_is.0; stands = end_is.1; are = refl; leaves = refl });
@@ -141,7 +142,7 @@ module _ (current : Option Current) (old book : Book) (delta : List Change) (roo
 
 module _ (current : Option Current) (old book : Book) (delta : List Change) (no_room : ¬ (HasRoomFor current (size_of delta))) (makes : Makes old delta book) where
   compacted : KeepOrder old book → IsCommit current old book (compact_puts current book) (Some (following current (length (slot_bytes (next_generation current) book))))
-  compacted order = record { delta = delta; plain = makes.plain order; leads = makes.applied; way = inr (record { no_room = no_room; are = refl; leaves = refl }) }
+  compacted order = record { delta = delta; exact = makes.exact; plain = makes.plain order; leads = makes.applied; way = inr (record { no_room = no_room; are = refl; leaves = refl }) }
 
   pub compact_writes : (next : Option Current) (es : List Effect) → next_generation current < 2 ^ 64 → Compacts current book (Ok next) es → Writes current old book (Ok next) es
   compact_writes next es had did = record {

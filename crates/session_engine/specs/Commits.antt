@@ -6,6 +6,7 @@ use Rattle.sm_world.specs.Effects.{deeds}
 use Rattle.sm_world.specs.declared.effects.Effect.{Effect}
 use Rattle.sm_world.specs.declared.effects.Effect.TheVariants.{Heard, Sent, Shut, Started, Wrote, Torn, Synced, SyncFailed, Published, Printed}
 use Rattle.checkpoint_changes.specs.Changes.{apply}
+use Rattle.checkpoint_changes.specs.Differences.{delta_between}
 use Rattle.checkpoint_changes.specs.Plain.{IsPlain}
 use Rattle.checkpoint_changes.specs.declared.changes.Change.{Change}
 use Rattle.checkpoint_journal.specs.Journal.{append_puts, compact_puts, size_of}
@@ -38,9 +39,11 @@ pub record IsCompacted (current : Option Current) (delta : List Change) (book : 
   pub are : puts ≡ compact_puts current book
   pub leaves : next ≡ Some (following current (length (slot_bytes (next_generation current) book)))
 
--- A commit, over a turn of the store that has the old book: a plain delta tells what changed, and it goes by one of both ways.
+-- A commit, over a turn of the store that has the old book: the delta of the two books, which is plain, tells what changed, and it goes by
+-- one of both ways.
 pub record IsCommit (current : Option Current) (old book : Book) (puts : List (ℕ × List ℕ)) (next : Option Current) : Type 0 where
   pub delta : List Change
+  pub exact : delta ≡ delta_between old book
   pub plain : IsPlain old book delta
   pub leads : apply old delta ≡ Some book
   pub way : IsAppended current delta puts next ⊎ IsCompacted current delta book puts next

@@ -5,6 +5,7 @@ use Rattle.sm_world.specs.declared.effects.Effect.{Effect}
 use Rattle.checkpoint_records.specs.declared.head.Format.TheVariants.{Several}
 use Rattle.checkpoint_records.specs.declared.records.Book.{Book}
 use Rattle.checkpoint_changes.specs.Changes.{IsChange, apply}
+use Rattle.checkpoint_changes.specs.Differences.{delta_between}
 use Rattle.checkpoint_changes.specs.Plain.{IsPlain, KeepOrder}
 use Rattle.checkpoint_changes.specs.declared.changes.Change.{Change}
 use Rattle.checkpoint_slots.specs.Turns.{IsOfStore, SteadyStands, Swap, next_generation, opened_in}
@@ -25,10 +26,11 @@ pub record Stored : Type 0 where
 abbrev pub store_of : Option Current → Book → Stored
 store_of current book = record { journal = current; book = book }
 
--- these changes make the one book of the other
+-- These changes, which are the delta of both books, make the one of the other.
 pub record Makes (old : Book) (delta : List Change) (book : Book) : Type 0 where
   pub changes : AllByRecursion (IsChange Several) delta
   pub applied : apply old delta ≡ Some book
+  pub exact : delta ≡ delta_between old book
   pub plain : KeepOrder old book → IsPlain old book delta
 
 -- a number that stayed, or rose, by so much at most

@@ -8,4 +8,4 @@ pub returns-clause-makes : goal.returns-clause-makes
 returns-clause-makes c =
     subst (λ (b : Book). Makes b c.in_ok-delta.delta (as_stored c.args.book)) c.in_ok-old.ensures.is
     (subst (λ (b : Book). Makes c.in_ok-old.old c.in_ok-delta.delta b) c.in_ok-new.ensures.is
-    (record { changes = c.in_ok-delta.ensures.changes; applied = c.in_ok-delta.ensures.applies; plain = c.in_ok-delta.ensures.plain }))
+    (record { changes = c.in_ok-delta.ensures.changes; applied = c.in_ok-delta.ensures.applies; exact = c.in_ok-delta.ensures.exact; plain = c.in_ok-delta.ensures.plain }))
