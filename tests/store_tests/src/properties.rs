@@ -144,7 +144,7 @@ fn neither_of_two_copies_changes_the_other(rt: HostRuntime) -> Result<(), Fail> 
     let third = table.copy()?;
     assert!(rt; table.is_same(&twin));
     change(alloc, &mut table)?;
-    assert_eq!(rt; table.list()?.len(), 126);
+    assert_eq!(rt; table.list()?.as_slice().len(), 126);
     assert_eq!(rt; shown(alloc, &twin)?.as_str(), before.as_str());
     assert!(rt; !table.is_same(&twin));
     let after = shown(alloc, &table)?;
