@@ -8,12 +8,28 @@ ghost use Rattle.xsmp_properties.specs.Tables.{set_one, set_all, without_names, 
 use crate::SetRefusal;
 use crate::limits::NAME_LIMIT;
 use crate::shown::Shown;
+use crate::texts::same_bytes;
 use ice_values::{Property, PropertyWalk};
 use indexmap::IndexMap;
 use owned_lists::{Duplicate, NoMemory};
 use std::alloc::Global;
 use std::marker::Model;
 use std::rc::Rc;
+
+/// So many names are compared one by one, which costs less than to hash the one that is sought.
+const FEW: usize = 8;
+
+/// The first place of a name, or how many there are.
+fn place_in(held: &[Rc<Property>], name: &[u8]) -> usize
+    ensures { result ≡ place_among name.now (map rc_value held.now) }
+{
+    for (index, shared) in held.iter().enumerate() {
+        if same_bytes(name, shared.as_ref().name.as_slice()) {
+            return index;
+        }
+    }
+    held.len()
+}
 
 /// Properties of different names, in the order in which each name was first set, without a limit.
 /// Each stands behind a counted reference of its own, so that a map that is made anew copies none.
@@ -77,6 +93,9 @@ impl NamedProperties {
     pub fn place(&self, name: &[u8]) -> usize
         ensures { result ≡ place_among name.now self.now }
     {
+        if self.held.len() <= FEW {
+            return place_in(self.as_slice(), name);
+        }
         match self.held.get_index_of(name) {
             Some(place) => place,
             None => self.held.len(),
