@@ -13,7 +13,7 @@ use Rattle.outer_agent.specs.Script.{Keeper, piece_heard}
 use Rattle.outer_agent.specs.declared.acts.AgentAct.{AgentAct}
 use Rattle.outer_agent.specs.declared.acts.AgentAct.TheVariants.{Checkpoint, Drop, Forget, Send, Shutdown}
 use Rattle.session_engine.specs.Acts.{deeds_in}
-use Rattle.session_engine.specs.Machine.{Came, Did, Item, Step as MachineStep, acts_of, opening_acts, step}
+use Rattle.session_engine.specs.Machine.{Came, Did, Item, acts_of, opening_acts, step}
 use Rattle.session_engine.specs.declared.config.Config.{Config}
 use Rattle.session_model.specs.Readings as of
 use Rattle.session_model.proofs.Pending.{all-append}
@@ -43,8 +43,8 @@ splits {A} x (y ∷ xs) ys (z ∷ front) rest is = on (splits x xs ys front rest
     tails = cc
 
     on : ((more : List A) × (front ++ x ∷ more ≡ xs)) ⊎ ((behind : List A) × (front ≡ xs ++ behind) × (behind ++ x ∷ rest ≡ ys)) → ((more : List A) × (z ∷ (front ++ x ∷ more) ≡ y ∷ xs)) ⊎ ((behind : List A) × (z ∷ front ≡ (y ∷ xs) ++ behind) × (behind ++ x ∷ rest ≡ ys))
-    on (inl more) = inl (more.0, ap₂ (λ (a : A) (as : List A). a ∷ as) heads more.1)
-    on (inr behind) = inr (behind.0, ap₂ (λ (a : A) (as : List A). a ∷ as) heads behind.1, behind.2)
+    on (inl more) = inl (more.0, ap₂ (λ (a : A) (items : List A). a ∷ items) heads more.1)
+    on (inr behind) = inr (behind.0, ap₂ (λ (a : A) (items : List A). a ∷ items) heads behind.1, behind.2)
 
 -- what holds of all holds of the front
 all_front : (front : List (Woven Item)) (x : Woven Item) (rest : List (Woven Item)) → AllByRecursion IsNoEvent (front ++ x ∷ rest) → AllByRecursion IsNoEvent front
@@ -149,20 +149,20 @@ all_quiet (act ∷ acts) n =
 abbrev HasSave : List AgentAct → Type 0
 HasSave acts = (earlier : List AgentAct) × (later : List AgentAct) × (earlier ++ Checkpoint ∷ later ≡ acts)
 
+acts_later : (act : AgentAct) (acts : List AgentAct) (n : Nested) (behind rest : List (Woven Item)) (b : Bool) → (behind ++ Put ToCheckpoint ∷ rest ≡ (all_carried acts n).line → HasSave acts) → behind ++ Put ToCheckpoint ∷ rest ≡ (if b then stays n else all_carried acts n).line → HasSave (act ∷ acts)
+acts_later act acts n behind rest true further is = absurd (never_none behind (Put ToCheckpoint) rest is)
+acts_later act acts n behind rest false further is = let has = further is in (act ∷ has.0, has.1, ap (λ (others : List AgentAct). act ∷ others) has.2)
+
+acts_split : (act : AgentAct) (acts : List AgentAct) (n : Nested) (front rest : List (Woven Item)) → ((behind : List (Woven Item)) → behind ++ Put ToCheckpoint ∷ rest ≡ (all_carried acts (carried act acts n).next).line → HasSave acts)
+    → ((more : List (Woven Item)) × (front ++ Put ToCheckpoint ∷ more ≡ (carried act acts n).line)) ⊎ ((behind : List (Woven Item)) × (front ≡ (carried act acts n).line ++ behind) × (behind ++ Put ToCheckpoint ∷ rest ≡ (unless_finished (λ next. all_carried acts next) (carried act acts n).next).line)) → HasSave (act ∷ acts)
+acts_split act acts n front rest further (inl more) = ([], acts, ap (λ (a : AgentAct). a ∷ acts) (sym (carried_asks act acts n front more.0 more.1)))
+acts_split act acts n front rest further (inr behind) = acts_later act acts (carried act acts n).next behind.0 rest (carried act acts n).next.finished (further behind.0) behind.2
+
 all_asks : (acts : List AgentAct) (n : Nested) (front rest : List (Woven Item)) → front ++ Put ToCheckpoint ∷ rest ≡ (all_carried acts n).line → HasSave acts
 all_asks [] n front rest is = absurd (never_none front (Put ToCheckpoint) rest is)
-all_asks (act ∷ acts) n front rest is = on (splits (Put ToCheckpoint) made.line (unless_finished (λ next. all_carried acts next) made.next).line front rest is)
-  where
-    made : Shows
-    made = carried act acts n
-
-    later : (behind : List (Woven Item)) (b : Bool) → behind ++ Put ToCheckpoint ∷ rest ≡ (if b then stays made.next else all_carried acts made.next).line → HasSave (act ∷ acts)
-    later behind true is = absurd (never_none behind (Put ToCheckpoint) rest is)
-    later behind false is = let has = all_asks acts made.next behind rest is in (act ∷ has.0, has.1, ap (λ (as : List AgentAct). act ∷ as) has.2)
-
-    on : ((more : List (Woven Item)) × (front ++ Put ToCheckpoint ∷ more ≡ made.line)) ⊎ ((behind : List (Woven Item)) × (front ≡ made.line ++ behind) × (behind ++ Put ToCheckpoint ∷ rest ≡ (unless_finished (λ next. all_carried acts next) made.next).line)) → HasSave (act ∷ acts)
-    on (inl more) = ([], acts, ap (λ (a : AgentAct). a ∷ acts) (sym (carried_asks act acts n front more.0 more.1)))
-    on (inr behind) = later behind.0 made.next.finished behind.2
+all_asks (act ∷ acts) n front rest is =
+    acts_split act acts n front rest (λ behind stands. all_asks acts (carried act acts n).next behind rest stands)
+    (splits (Put ToCheckpoint) (carried act acts n).line (unless_finished (λ next. all_carried acts next) (carried act acts n).next).line front rest is)
 
 -- ---- one event
 
@@ -285,28 +285,29 @@ later_asks event events n front behind goes is asked = record {
     now : Nested
     now = (taken event n).next
 
+events_later : (event : Event) (events : List Event) (n : Nested) (front behind rest : List (Woven Item)) → front ≡ (taken event n).line ++ behind → (b : Bool) → (taken event n).next.finished ≡ b → (behind ++ Put ToCheckpoint ∷ rest ≡ (all_taken events (taken event n).next).line → IsAskedFor (taken event n).next events behind)
+    → behind ++ Put ToCheckpoint ∷ rest ≡ (by_end b (λ next. all_taken events next) (taken event n).next).line → IsAskedFor n (event ∷ events) front
+events_later event events n front behind rest parts true ends further is = absurd (never_none behind (Put ToCheckpoint) rest is)
+events_later event events n front behind rest parts false goes further is = later_asks event events n front behind goes parts (further is)
+
+events_split : (event : Event) (events : List Event) (n : Nested) (front rest : List (Woven Item)) → ((behind : List (Woven Item)) → behind ++ Put ToCheckpoint ∷ rest ≡ (all_taken events (taken event n).next).line → IsAskedFor (taken event n).next events behind)
+    → ((more : List (Woven Item)) × (front ++ Put ToCheckpoint ∷ more ≡ (taken event n).line)) ⊎ ((behind : List (Woven Item)) × (front ≡ (taken event n).line ++ behind) × (behind ++ Put ToCheckpoint ∷ rest ≡ (unless_finished (λ next. all_taken events next) (taken event n).next).line)) → IsAskedFor n (event ∷ events) front
+events_split event events n front rest further (inl more) = first_asks event events n front (taken_asks event n front more.0 (is_outer event) refl more.1)
+events_split event events n front rest further (inr behind) = events_later event events n front behind.0 rest behind.1 (taken event n).next.finished refl (further behind.0) behind.2
+
 run_asks : (events : List Event) (n : Nested) (front rest : List (Woven Item)) → front ++ Put ToCheckpoint ∷ rest ≡ (all_taken events n).line → IsAskedFor n events front
 run_asks [] n front rest is = absurd (never_none front (Put ToCheckpoint) rest is)
-run_asks (event ∷ events) n front rest is = on (splits (Put ToCheckpoint) made.line (unless_finished (λ next. all_taken events next) made.next).line front rest is)
-  where
-    made : Shows
-    made = taken event n
-
-    later : (behind : List (Woven Item)) → front ≡ made.line ++ behind → (b : Bool) → made.next.finished ≡ b → behind ++ Put ToCheckpoint ∷ rest ≡ (by_end b (λ next. all_taken events next) made.next).line → IsAskedFor n (event ∷ events) front
-    later behind parts true ends is = absurd (never_none behind (Put ToCheckpoint) rest is)
-    later behind parts false goes is = later_asks event events n front behind goes parts (run_asks events made.next behind rest is)
-
-    on : ((more : List (Woven Item)) × (front ++ Put ToCheckpoint ∷ more ≡ made.line)) ⊎ ((behind : List (Woven Item)) × (front ≡ made.line ++ behind) × (behind ++ Put ToCheckpoint ∷ rest ≡ (unless_finished (λ next. all_taken events next) made.next).line)) → IsAskedFor n (event ∷ events) front
-    on (inl more) = first_asks event events n front (taken_asks event n front more.0 (is_outer event) refl more.1)
-    on (inr behind) = later behind.0 behind.1 made.next.finished refl behind.2
+run_asks (event ∷ events) n front rest is =
+    events_split event events n front rest (λ behind stands. run_asks events (taken event n).next behind rest stands)
+    (splits (Put ToCheckpoint) (taken event n).line (unless_finished (λ next. all_taken events next) (taken event n).next).line front rest is)
 
 -- ---- a whole run
 
 module _ (config : Config) (opening : Book) (agent : Run Keeper) (first : List ℕ) where
-  at_first : Nested
+  abbrev at_first : Nested
   at_first = begun config opening agent
 
-  opened : List (Woven Item)
+  abbrev opened : List (Woven Item)
   opened = map (λ deed. Inner (Did deed)) (deeds_in (opening_acts opening)) ++ sent first
 
   opened_deeds : AreDeeds opened
