@@ -9,4 +9,5 @@ pub mod Stepping
 pub mod Running
 pub mod InOrder
 pub mod OneSide
+pub mod WholeRuns
 pub mod Stating

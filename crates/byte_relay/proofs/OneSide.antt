@@ -37,7 +37,7 @@ leads_elsewhere n c some other = ne_eqb (partner n) (partner c) (λ same. eqb-fa
 
 -- ---- the lines
 
-abbrev is_of : ℕ → ℕ → Bool
+abbrev pub is_of : ℕ → ℕ → Bool
 is_of n c = c == n || c == partner n
 
 parted_by : (c n : ℕ) (l : Line) (ls : List Line) (own out : Bool) → (l.number == c) ≡ own → is_of n l.number ≡ out → stream_of c (parted n ls) ≡ (if is_of n c then None else stream_of c ls) → stream_of c (parted n (l ∷ ls)) ≡ (if is_of n c then None else stream_of c (l ∷ ls))
@@ -57,11 +57,11 @@ if_none : (b : Bool) → nothing ≡ (if b then nothing else nothing)
 if_none true = refl
 if_none false = refl
 
-if_dead : (b : Bool) (s : Option (List ℕ)) → is_some s ≡ false → is_some (if b then None else s) ≡ false
+pub if_dead : (b : Bool) (s : Option (List ℕ)) → is_some s ≡ false → is_some (if b then None else s) ≡ false
 if_dead true s dead = refl
 if_dead false s dead = dead
 
-stream_parted : (c n : ℕ) (ls : List Line) → stream_of c (parted n ls) ≡ (if is_of n c then None else stream_of c ls)
+pub stream_parted : (c n : ℕ) (ls : List Line) → stream_of c (parted n ls) ≡ (if is_of n c then None else stream_of c ls)
 stream_parted c n [] = if_none (is_of n c)
 stream_parted c n (l ∷ ls) = parted_by c n l ls (l.number == c) (is_of n l.number) refl refl (stream_parted c n ls)
 
@@ -88,11 +88,11 @@ live_by d n bytes l ls false true fits own later = rw (fits, own) refl
 live_by d n bytes l ls false false fits own later = rw (fits, own) later
 
 -- more bytes end no connection and begin none
-live_fed : (d n : ℕ) (bytes : List ℕ) (ls : List Line) → is_live d (fed_on n bytes ls) ≡ is_live d ls
+pub live_fed : (d n : ℕ) (bytes : List ℕ) (ls : List Line) → is_live d (fed_on n bytes ls) ≡ is_live d ls
 live_fed d n bytes [] = refl
 live_fed d n bytes (l ∷ ls) = live_by d n bytes l ls (l.number == n) (l.number == d) refl refl (live_fed d n bytes ls)
 
-stream_more : (c n : ℕ) (ls : List Line) → (n == c) ≡ false → stream_of c (ls ++ record { number = n; stream = [] } ∷ []) ≡ stream_of c ls
+pub stream_more : (c n : ℕ) (ls : List Line) → (n == c) ≡ false → stream_of c (ls ++ record { number = n; stream = [] } ∷ []) ≡ stream_of c ls
 stream_more c n [] other = rw other refl
 stream_more c n (l ∷ ls) other = ap (λ (s : Option (List ℕ)). if l.number == c then Some l.stream else s) (stream_more c n ls other)
 
@@ -198,20 +198,20 @@ module _ (to : Endian) where
 
 -- ---- one event
 
-if_step : (P : Step → Type 0) (b : Bool) (s t : Step) → P s → P t → P (if b then s else t)
+pub if_step : (P : Step → Type 0) (b : Bool) (s t : Step) → P s → P t → P (if b then s else t)
 if_step P true s t one two = one
 if_step P false s t one two = two
 
-if_lines : (Q : List Line → Type 0) (b : Bool) (ls ms : List Line) → Q ls → Q ms → Q (if b then ls else ms)
+pub if_lines : (Q : List Line → Type 0) (b : Bool) (ls ms : List Line) → Q ls → Q ms → Q (if b then ls else ms)
 if_lines Q true ls ms one two = one
 if_lines Q false ls ms one two = two
 
-if_silent : (d : ℕ) (b : Bool) (es : List Effect) → gets d es ≡ [] → gets d (if b then es else []) ≡ []
+pub if_silent : (d : ℕ) (b : Bool) (es : List Effect) → gets d es ≡ [] → gets d (if b then es else []) ≡ []
 if_silent d true es silent = silent
 if_silent d false es silent = refl
 
 module _ (to : Endian) (c : ℕ) (some : 0 < c) where
-  abbrev d : ℕ
+  abbrev pub d : ℕ
   d = partner c
 
   -- the pair is open, and this came on the one connection
@@ -219,7 +219,7 @@ module _ (to : Endian) (c : ℕ) (some : 0 < c) where
   IsOpen stream ls = (stream_of c ls ≡ Some stream) × (is_live d ls ≡ true)
 
   -- it isn't open
-  abbrev IsOver : List Line → Type 0
+  abbrev pub IsOver : List Line → Type 0
   IsOver ls = (is_live c ls ≡ false) ⊎ (is_live d ls ≡ false)
 
   abbrev MayBeOpen : List ℕ → List Line → Type 0
@@ -246,7 +246,7 @@ module _ (to : Endian) (c : ℕ) (some : 0 < c) where
   over_fed n bytes ls (inr dead) = inr (live_fed d n bytes ls ∙ dead)
 
   -- nothing is sent to the other one, and this holds of the lines then
-  abbrev IsQuiet : (List Line → Type 0) → Step → Type 0
+  abbrev pub IsQuiet : (List Line → Type 0) → Step → Type 0
   IsQuiet Q s = (gets d s.line ≡ []) × Q s.next
 
   quiet_joined : (Q : List Line → Type 0) (n : ℕ) (ls : List Line) → (n == c) ≡ false → (n == d) ≡ false → Q ls → Q (ls ++ record { number = n; stream = [] } ∷ []) → IsQuiet Q (joined to n ls)
@@ -280,7 +280,7 @@ module _ (to : Endian) (c : ℕ) (some : 0 < c) where
   over_piece n bytes ls true own over = subst (λ (m : ℕ). IsQuiet IsOver (piece_for to m bytes (stream_of m ls) ls)) (sym (eqb-true n c own)) (dead_piece bytes ls (stream_of c ls) refl over)
   over_piece n bytes ls false other over = quiet_piece IsOver n bytes (stream_of n ls) ls other over (over_parted n ls over) (over_fed n bytes ls over)
 
-  over_step : (ls : List Line) (event : Event) → is_join c event ≡ false → is_join d event ≡ false → IsOver ls → IsQuiet IsOver (step to ls event)
+  pub over_step : (ls : List Line) (event : Event) → is_join c event ≡ false → is_join d event ≡ false → IsOver ls → IsQuiet IsOver (step to ls event)
   over_step ls (Joined n) one two over = quiet_joined IsOver n ls one two over (over_more n ls one two over)
   over_step ls (Piece n bytes) one two over = over_piece n bytes ls (n == c) refl over
   over_step ls (Gone n) one two over = quiet_gone IsOver n ls over (over_parted n ls over)
@@ -360,7 +360,7 @@ module _ (to : Endian) (c : ℕ) (some : 0 < c) where
   abbrev later : List Line → Event → List Event → List Effect
   later ls event events = if is_end event then [] else run_from to (step to ls event).next events
 
-  over_run : (ls : List Line) (events : List Event) → NeverJoins c events → NeverJoins d events → IsOver ls → gets d (run_from to ls events) ≡ []
+  pub over_run : (ls : List Line) (events : List Event) → NeverJoins c events → NeverJoins d events → IsOver ls → gets d (run_from to ls events) ≡ []
   over_run ls [] one two over = refl
   over_run ls (event ∷ events) one two over =
       let quiet = over_step ls event one.0 two.0 over in

@@ -83,7 +83,7 @@ after_more : (to : Endian) (ls : List Line) (events : List Event) (event : Event
 after_more to ls [] event = refl
 after_more to ls (e ∷ events) event = after_more to (step to ls e).next events event
 
-neither : (a b : Bool) → (a || b) ≡ false → (a ≡ false) × (b ≡ false)
+pub neither : (a b : Bool) → (a || b) ≡ false → (a ≡ false) × (b ≡ false)
 neither true b is = absurd cc
 neither false b is = (refl, is)
 

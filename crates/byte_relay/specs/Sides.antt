@@ -1,5 +1,5 @@
 -- What one side of a pair gets of what comes from the other.
-use Rattle.std.specs.Prelude.{◌≡◌, ◌<◌, ◌==◌, ℕ, Bool, true, false, List, [], ◌∷◌, map, drop, Some, if◌then◌else◌}
+use Rattle.std.specs.Prelude.{◌≡◌, ◌⊎◌, ◌<◌, ◌==◌, ℕ, Bool, true, false, List, [], ◌∷◌, ◌++◌, map, drop, Some, if◌then◌else◌}
 use Rattle.std.specs.List.{AllByRecursion, flat_map}
 use Rattle.sm_world.specs.declared.effects.Effect.{Effect}
 use Rattle.sm_world.specs.declared.effects.Effect.TheVariants.{Heard, Sent, Shut, Started, Wrote, Torn, Synced, SyncFailed, Published, Printed}
@@ -9,7 +9,7 @@ use Rattle.heard_events.specs.Brought.{IsPrefix}
 use Rattle.ice_framing.specs.Frames.{frames_of}
 use Rattle.ice_framing.specs.declared.cutting.WholeFrame.{WholeFrame}
 use Rattle.ice_values.specs.declared.numbers.Endian.{Endian}
-use Rattle.byte_relay.specs.Relaying.{Line, is_live, partner, run_from, stream_of}
+use Rattle.byte_relay.specs.Relaying.{Line, greeting, has_end, is_live, partner, run, run_from, stream_of}
 use Rattle.byte_relay.specs.Respelling.{respelled}
 
 -- what an effect sends on a connection
@@ -61,3 +61,18 @@ IsForOther to stream messages = IsPrefix (map Some messages) (map (λ (frame : W
 -- other gets is a front of the messages that come on the one, behind the first, in their order, each once and spelled anew.
 abbrev pub OneSideGetsTheOther : Type 0
 OneSideGetsTheOther = (to : Endian) (c : ℕ) (ls : List Line) (events : List Event) → 0 < c → stream_of c ls ≡ Some [] → is_live (partner c) ls ≡ true → NeverJoins c events → NeverJoins (partner c) events → IsForOther to (came c events) (gets (partner c) (run_from to ls events))
+
+-- ---- from the first event on
+
+-- the two numbers of a pair, in either order
+abbrev pub ArePair : ℕ → ℕ → ℕ → Type 0
+ArePair c one two = ((one ≡ c) × (two ≡ partner c)) ⊎ ((one ≡ partner c) × (two ≡ c))
+
+-- It gets nothing, as where there is no place for the pair; or the relay's own order, and then a front of what the stream has for it.
+abbrev pub GetsItsPart : Endian → List ℕ → List (List ℕ) → Type 0
+GetsItsPart to stream got = (got ≡ []) ⊎ ((messages : List (List ℕ)) × (got ≡ greeting to ∷ messages) × IsForOther to stream messages)
+
+-- A whole run in which both of a pair join, one behind the other, and never else: whatever comes on all connections before and behind, each
+-- of the two gets its part of what comes on the other.
+abbrev pub EachSideGetsItsPart : Type 0
+EachSideGetsItsPart = (to : Endian) (c one two : ℕ) (front events : List Event) → 0 < c → ArePair c one two → has_end front ≡ false → NeverJoins c front → NeverJoins (partner c) front → NeverJoins c events → NeverJoins (partner c) events → GetsItsPart to (came c events) (gets (partner c) (run to (front ++ Joined one ∷ Joined two ∷ events)))

@@ -10,7 +10,7 @@ ghost use Rattle.byte_relay.specs.Orders.{is_byte_order};
 ghost use Rattle.byte_relay.specs.Relaying.{passed};
 ghost use Rattle.heard_events.specs.Brought.{IsPrefix};
 ghost use Rattle.byte_relay.specs.Respelling.{respelled, IsUnspelled, ReadsTurned};
-ghost use Rattle.byte_relay.specs.Sides.{OneSideGetsTheOther};
+ghost use Rattle.byte_relay.specs.Sides.{EachSideGetsItsPart, OneSideGetsTheOther};
 
 /// Does nothing: its contract is a law of `respell`. What was respelled is read in its own order as what
 /// the frame said, and it is as long as the frame.
@@ -49,4 +49,11 @@ pub fn byte_orders_are_told_by_their_bytes()
 /// gets is a front of the messages that come from the other, in their order, each once and spelled anew.
 pub fn one_side_gets_what_comes_from_the_other()
     ensures { OneSideGetsTheOther }
+{}
+
+/// Does nothing: its contract is a law of `serve_relay`. In a whole run each of a pair gets the relay's
+/// order first, and then a front of the messages that come from the other, in their order, each once and
+/// spelled anew; or nothing, where there was no place for the pair.
+pub fn each_side_gets_its_part()
+    ensures { EachSideGetsItsPart }
 {}

@@ -18,4 +18,5 @@ pub mod OffMoves
 pub mod OffSteps
 pub mod OffNests
 pub mod AwaitedLaws
+pub mod AskedLaws
 pub mod CauseLaws

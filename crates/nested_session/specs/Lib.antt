@@ -7,4 +7,5 @@ pub mod Serving
 pub mod Looping
 pub mod Tags
 pub mod Awaited
+pub mod Asked
 pub mod Examples

@@ -1,3 +1,4 @@
+ghost use Rattle.nested_session.specs.Asked.{OrdersAreAskedFor};
 ghost use Rattle.nested_session.specs.Awaited.{AwaitedEndsAreSaid, AwaitedIsDue};
 ghost use Rattle.nested_session.specs.Nests.{AwaitedSavesAreBacked, BothLeaveTheSame};
 ghost use Rattle.nested_session.specs.Examples.{ASaveIsTold};
@@ -38,4 +39,11 @@ pub fn awaited_is_due()
 /// nowhere else.
 pub fn awaited_ends_are_said()
     ensures { AwaitedEndsAreSaid }
+{}
+
+/// Does nothing: its contract is a law. An order to save is put to the session nowhere but behind a piece
+/// of the outer manager's by which the agent, as it stands then, is asked for a save, and before anything
+/// else comes.
+pub fn orders_are_asked_for()
+    ensures { OrdersAreAskedFor }
 {}

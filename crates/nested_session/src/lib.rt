@@ -10,6 +10,6 @@ mod serving;
 
 pub use laws::{
     a_save_is_told, awaited_ends_are_said, awaited_is_due, awaited_saves_are_backed,
-    both_leave_the_same, tags_are_true,
+    both_leave_the_same, orders_are_asked_for, tags_are_true,
 };
 pub use serving::serve_nested;
