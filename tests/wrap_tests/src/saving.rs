@@ -177,9 +177,9 @@ fn each_copy_has_what_the_file_held_then(rt: HostRuntime) -> Result<(), Fail> {
     let copies = files.published.as_slice();
     assert_eq!(&rt; copies.len(), 2);
     assert_eq!(&rt; copies[0].0.as_slice(), b"/s.1".as_slice());
-    assert_eq!(&rt; copies[0].1.as_slice(), &[1]);
+    assert_eq!(&rt; copies[0].1.as_slice(), b"\x01".as_slice());
     assert_eq!(&rt; copies[1].0.as_slice(), b"/s.2".as_slice());
-    assert_eq!(&rt; copies[1].1.as_slice(), &[2]);
+    assert_eq!(&rt; copies[1].1.as_slice(), b"\x02".as_slice());
     Ok(())
 }
 
