@@ -111,7 +111,67 @@ def disguised(smd, room):
         expect(json.loads(report)["entries"][0]["restart"]["words"], [list(word.encode()) if is_hidden else word])
 
 
-TESTS = {it.__name__: it for it in (homeless, disguised)}
+# A program of a session. It notes when it was started, and connects so many seconds later, or never. It ends with
+# the manager that started it.
+PROGRAM = """
+import os, socket, sys, time
+folder, name, wait = sys.argv[1:]
+parent = os.getppid()
+with open(os.path.join(folder, name), "w") as file:
+    print(time.monotonic(), file=file)
+if wait != "never":
+    time.sleep(float(wait))
+    link = socket.socket(socket.AF_UNIX)
+    link.connect(os.environ["SESSION_MANAGER"].split(":", 1)[1])
+while os.getppid() == parent:
+    time.sleep(0.1)
+"""
+
+
+def started_at(smd, room, programs):
+    """When each of these programs was started at a login, in seconds from the first on. Each has a name, its priority or
+    None, and what it waits for; they joined in this order."""
+    manager = Manager(smd, room)
+    manager.start()
+    clients = []
+    for name, priority, wait in programs:
+        client, _ = manager.join()
+        clients.append(client)
+        client.expect(xsmp.SAVE)
+        if priority is not None:
+            client.set(b"_GSM_Priority", b"CARD8", [bytes([priority])])
+        xsmp.save(client, [os.fsencode(it) for it in (sys.executable, "-c", PROGRAM, room, name, wait)])
+        client.expect(xsmp.COMPLETE)
+    manager.kill()
+    manager = Manager(smd, room)
+    manager.start()
+    moments = [float(text_of(os.path.join(room, name))) for name, _, _ in programs]
+    manager.kill()
+    return [it - min(moments) for it in moments]
+
+
+def manager_first(smd, room):
+    """A window manager that joined last is there before the others are started, though it takes a second for that."""
+    one, other, panel, first = started_at(smd, room, [("one", None, "0"), ("other", 50, "0"), ("panel", 25, "1"), ("first", 20, "1")])
+    if first != 0 or panel < 1 or min(one, other) < panel + 1:
+        raise ValueError("started at %r" % [one, other, panel, first])
+
+
+def never_there(smd, room):
+    """Nobody waits longer than two seconds for a program that never joins."""
+    other, first = started_at(smd, room, [("other", None, "0"), ("first", 20, "never")])
+    if first != 0 or other < 1.5:
+        raise ValueError("started at %r" % [other, first])
+
+
+def all_at_once(smd, room):
+    """Where no program says a priority none waits for another."""
+    moments = started_at(smd, room, [(it, None, "never") for it in ("one", "two", "three")])
+    if max(moments) > 1.5:
+        raise ValueError("started at %r" % moments)
+
+
+TESTS = {it.__name__: it for it in (homeless, disguised, manager_first, never_there, all_at_once)}
 
 
 def main():

@@ -42,7 +42,8 @@ open .
 sync .
 """
 
-# Whoever opens a store locks it, and brings it and its name to the disk before anything is read.
+# Whoever opens a store locks it, and brings it and its name to the disk before anything is read. It is read once for the priorities of
+# the programs, before anybody can connect, and once more by the session.
 TAKEN = TOUCHED + SYNCED
 
 # No other living smd may have replaced the file.
@@ -82,14 +83,12 @@ def append(gate, size):
     return "write store %d bytes at %d\nsync store\nwrite store 1 bytes at %d\nsync store\n" % (size + 8, gate + 1, gate)
 
 
-# An epoch begins with a commit, and the order that ends the session has one too, which changes nothing.
-FIRST_SESSION = "read store 1 bytes at 0\nread store 1 bytes at 32\n" + commit(0, 64, 40) + append(96, 0)
+GATES = "read store 1 bytes at 0\nread store 1 bytes at 32\n"
 
-GATES_AND_SLOT = """read store 1 bytes at 0
-read store 1 bytes at 32
-read store 12 bytes at 64
-read store 8388592 bytes at 80
-"""
+# An epoch begins with a commit, and the order that ends the session has one too, which changes nothing.
+FIRST_SESSION = GATES + commit(0, 64, 40) + append(96, 0)
+
+GATES_AND_SLOT = GATES + "read store 12 bytes at 64\nread store 8388592 bytes at 80\n"
 
 # The next epoch, and the end of its session.
 NEXT_SESSION = append(104, 8) + append(120, 0)
@@ -174,7 +173,7 @@ def first_start(smd, room):
     manager = Traced(smd, room, "first")
     manager.start()
     manager.shutdown()
-    manager.expect_calls(MADE, TAKEN, PUBLISHED, LISTENING, FIRST_SESSION, CLOSED)
+    manager.expect_calls(MADE, TAKEN, GATES, PUBLISHED, LISTENING, FIRST_SESSION, CLOSED)
 
 
 def make_store(smd, room):
@@ -192,7 +191,7 @@ def one_round(smd, room, *faults):
     client, _ = manager.saved()
     client.close()
     manager.shutdown()
-    manager.expect_calls(TAKEN, PUBLISHED, LISTENING, GATES_AND_SLOT, SAVING, CLOSED)
+    manager.expect_calls(TAKEN, GATES_AND_SLOT, PUBLISHED, LISTENING, GATES_AND_SLOT, SAVING, CLOSED)
 
 
 def short_writes(smd, room):
@@ -206,7 +205,7 @@ def short_publishing(smd, room):
     manager = Traced(smd, room, "short", "write:retval=7:when=1")
     manager.start()
     manager.shutdown()
-    manager.expect_calls(TAKEN, PUBLISHED, LISTENING, GATES_AND_SLOT, NEXT_SESSION, CLOSED)
+    manager.expect_calls(TAKEN, GATES_AND_SLOT, PUBLISHED, LISTENING, GATES_AND_SLOT, NEXT_SESSION, CLOSED)
 
 
 def short_making(smd, room):
@@ -319,7 +318,7 @@ def failed_sync(smd, room):
     manager.begin()
     manager.ends(4)
     session = FIRST_SESSION.splitlines(keepends=True)[:5] + ["refused: fdatasync\n"]
-    manager.expect_calls(MADE, TAKEN, PUBLISHED, LISTENING, *session, CLOSED)
+    manager.expect_calls(MADE, TAKEN, GATES, PUBLISHED, LISTENING, *session, CLOSED)
     manager.expect_said("smd: cannot sync %s: %s\n" % (manager.store, BROKEN))
 
 

@@ -1,13 +1,15 @@
 ghost use Rattle.std.specs.Prelude.{◌≡◌, ◌≤◌, length, IfOk};
 ghost use Rattle.desktop_world.specs.Untold.{world_outside};
 
-use checkpoint_slots::STORE_BYTES;
+use checkpoint_records::{Book, choose};
+use checkpoint_slots::{STORE_BYTES, Steady, StoreFault};
 use outer_world::Outer;
 use owned_lists::{Command, NoMemory, Octets};
 use program_frame::StandardConsole;
 use program_spawner::ProgramSpawner;
 use session_watch::Excusing;
 use sm_world::{Conn, Console, Disk, Event, Failed, Failure, Links, Spawner, Told};
+use start_waves::{RankedList, Turn, Waves, ranks_of};
 use std::alloc::Global;
 use store_file::FileDisk;
 use unix_links::{LinkOptions, SocketLinks, refused};
@@ -27,12 +29,22 @@ fn bytes_at(rt: &HostRuntime, path: &str) -> Result<Octets, Failure>
     }
 }
 
+/// The programs of the session of this name in a book, with their priorities.
+fn programs_of(alloc: Global, book: Book, session: &[u8]) -> Result<RankedList, NoMemory> {
+    let book = choose(alloc, book, session)?;
+    ranks_of(alloc, book.entries.as_slice())
+}
+
 /// The outside of a session manager on a desktop. What happens there is told to nobody; each fault is
 /// counted.
 ///
 /// It learns what the programs of the session are to know from the calls that are made of it: where the
 /// manager listens, and where the authority file lies. A line that is printed after an order was heard,
 /// and before the next event is asked for, goes to the order's operator too.
+///
+/// Where waves were planned, a program of a later one that is started before the first event is asked for
+/// is handed over alone. Its wave begins once those of the one before have come, or two seconds later, as an
+/// event is asked for; so time is told while a wave waits.
 #[derive(Drop)]
 pub struct DesktopWorld {
     rt: HostRuntime,
@@ -41,6 +53,9 @@ pub struct DesktopWorld {
     links: SocketLinks,
     spawner: ProgramSpawner,
     console: StandardConsole,
+    waves: Waves,
+    /// Whether somebody above waits for time.
+    wanted: bool,
 }
 
 impl DesktopWorld {
@@ -58,6 +73,8 @@ impl DesktopWorld {
             links: SocketLinks::with_options(rt, options),
             spawner: ProgramSpawner::new(rt),
             console: StandardConsole::new(rt),
+            waves: Waves::new(rt.alloc(), RankedList::new(rt.alloc())),
+            wanted: false,
         }
     }
 
@@ -69,6 +86,61 @@ impl DesktopWorld {
         self.disk.attach(path)?;
         let bytes = self.disk.contents(path)?;
         Ok(Octets::from_vec(bytes))
+    }
+
+    /// Takes the store before the session does, and has the programs of this session's checkpoint start in
+    /// waves, by the priorities that they have there. Over a store that doesn't open none are planned. The
+    /// session then goes on with this very file.
+    pub fn plan_waves(&mut self, path: &str, session: &[u8]) -> Result<(), Failure>
+        ensures told { (world_outside self.new).told ≡ (world_outside self.old).told }
+    {
+        self.disk.attach(path)?;
+        let alloc = self.rt.alloc();
+        match Steady::recover_from(alloc, &mut self.disk) {
+            Ok((_, book)) => {
+                self.waves = Waves::new(alloc, programs_of(alloc, book, session)?);
+                Ok(())
+            }
+            Err(StoreFault::DiskFault) => Err(Failure::Failed),
+            Err(StoreFault::NoMemory) => Err(Failure::NoMemory),
+            // The session itself says so.
+            Err(_) => Ok(()),
+        }
+    }
+
+    /// Starts the programs of the wave that is due, if one is. What was sent before goes out first.
+    fn start_wave(&mut self) -> Result<(), NoMemory>
+        ensures untouched { world_outside self.new ≡ world_outside self.old }
+    {
+        let wave = self.waves.go_on()?;
+        if wave.as_slice().is_empty() {
+            return Ok(());
+        }
+        self.links.flush()?;
+        self.start_each(wave.as_slice())
+    }
+
+    /// Starts the programs of a wave. None waits for one that can't be started.
+    fn start_each(&mut self, wave: &[Command]) -> Result<(), NoMemory>
+        ensures untouched { world_outside self.new ≡ world_outside self.old }
+    {
+        for command in wave {
+            if !self.spawner.start_later(command)? {
+                self.waves.settle();
+            }
+        }
+        Ok(())
+    }
+
+    /// Notes what the next wave waits for.
+    fn note(&mut self, event: &Event)
+        ensures untouched { world_outside self.new ≡ world_outside self.old }
+    {
+        match event {
+            Event::Joined(_) => self.waves.settle(),
+            Event::Tick(milliseconds) => self.waves.pass(*milliseconds),
+            _ => {}
+        }
     }
 
     /// Closes the sockets and removes their files.
@@ -129,7 +201,7 @@ impl Disk for DesktopWorld {
 
 impl Ticking for DesktopWorld {
     fn keep_ticking(&mut self, wanted: bool) {
-        self.links.keep_ticking(wanted);
+        self.wanted = wanted;
     }
 }
 
@@ -143,10 +215,15 @@ impl Links for DesktopWorld {
         Ok(())
     }
 
-    /// Takes leave of the programs that have ended, too.
+    /// Takes leave of the programs that have ended, too, and starts the wave that is due.
     fn next(&mut self) -> Result<Event, Failure> {
         self.spawner.reap();
-        self.links.next()
+        self.start_wave()?;
+        self.links
+            .keep_ticking(self.wanted || self.waves.are_left());
+        let event = self.links.next()?;
+        self.note(&event);
+        Ok(event)
     }
 
     fn send(&mut self, to: Conn, bytes: &[u8]) -> Result<(), Failure> {
@@ -170,10 +247,18 @@ impl Outer for DesktopWorld {
 }
 
 impl Spawner for DesktopWorld {
-    /// What was sent before goes out first.
+    /// What was sent before goes out first. A program that waits for its wave counts as started.
     fn start(&mut self, command: &Command) -> Result<bool, NoMemory> {
         self.links.flush()?;
-        self.spawner.start(command)
+        let turn = self.waves.take(command)?;
+        if turn == Turn::Later {
+            return Ok(true);
+        }
+        let answer = self.spawner.start(command);
+        if turn == Turn::First && matches!(&answer, Ok(false)) {
+            self.waves.settle();
+        }
+        answer
     }
 }
 

@@ -179,6 +179,21 @@ impl ProgramSpawner {
         Ok(())
     }
 
+    /// Starts a program that was handed over before, as `start` does, but counts no fault where it can't:
+    /// that it was handed over is told already. The user is told.
+    pub fn start_later(&mut self, command: &Command) -> Result<bool, NoMemory>
+        ensures untouched { spawner_outside self.new ≡ spawner_outside self.old }
+    {
+        let Err(error) = self.try_start(command) else {
+            return Ok(true);
+        };
+        if error.kind() == ErrorKind::OutOfMemory {
+            return Err(NoMemory);
+        }
+        self.report(command);
+        Ok(false)
+    }
+
     /// Tells the user that a program can't be started.
     fn report(&self, command: &Command) {
         let name = Readable::program_of(self.rt.alloc(), command);

@@ -226,13 +226,26 @@ fn begun(
     if let Some(bad) = bad_places(rt, paths, file.as_ref().map(String::as_str)) {
         return Err(refused(rt, bad));
     }
-    let Some(file) = file else {
-        return Ok(None);
-    };
-    match record_in(rt, world, file, paths, identity) {
-        Ok(record) => Ok(Some(record)),
+    match prepared(rt, world, file, paths, identity) {
+        Ok(record) => Ok(record),
         Err(Failure::Failed) => Err(refused(rt, BadPlaces::Files)),
         Err(Failure::NoMemory) => Err(without_memory(rt)),
+    }
+}
+
+/// Plans in which waves the programs of the session start, and gives its record, where there is a file for
+/// one.
+fn prepared(
+    rt: HostRuntime,
+    world: &mut DesktopWorld,
+    file: Option<String>,
+    paths: Paths<'_>,
+    identity: &Identity,
+) -> Result<Option<Record>, Failure> {
+    world.plan_waves(paths.store, paths.session.as_bytes())?;
+    match file {
+        Some(file) => Ok(Some(record_in(rt, world, file, paths, identity)?)),
+        None => Ok(None),
     }
 }
 

@@ -59,6 +59,8 @@ fn programs_know_where_the_manager_is(rt: HostRuntime) -> Result<(), Fail> {
     let (store, authority) = (path_of(rt, "store")?, path_of(rt, "authority")?);
     let (socket, control) = (path_of(rt, "socket")?, path_of(rt, "control")?);
     let mut world = DesktopWorld::new(rt, "host".to_string(alloc)?);
+    // Over a new store there is nobody to wait for, and the session goes on with this very store.
+    assert_eq!(rt; world.plan_waves(store.as_str(), b"default"), Ok(()));
     assert_eq!(rt; world.attach(store.as_str()), Ok(()));
     assert_eq!(rt; world.size(), Ok(16_777_280));
     assert_eq!(rt; world.publish(authority.as_str(), b"x"), Ok(()));

@@ -127,6 +127,8 @@ fn what_cannot_be_started_is_false(rt: HostRuntime) -> Result<(), Fail> {
         Some(false)
     );
     assert_eq!(rt; start(alloc, &mut spawner, &["/"]), Some(false));
+    let later = command(alloc, &["no such program"]).and_then(|it| spawner.start_later(&it));
+    assert_eq!(rt; later, Ok(false));
     assert_eq!(rt; start(alloc, &mut spawner, &[]), Some(false));
     Ok(())
 }

@@ -1,0 +1,4 @@
+pub mod Laws
+pub mod Priorities
+pub mod Ranks
+pub mod Waves
