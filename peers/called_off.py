@@ -2,8 +2,9 @@
 """Logouts that are called off before all clients have answered, with `smd serve --quirks`:
     called_off.py SMD FOLDER TEST
 The clients do what programs were seen to do: one waits for the second phase and never answers, one keeps its dialog open,
-one answers late, one leaves as soon as it has saved. It ends with 0 where saves go on without them, nobody is closed, they
-save with the others again, and who has left is started again and keeps its record and its state.
+one answers late, one leaves as soon as it has saved, before its logout is called off or behind that. It ends with 0 where
+saves go on without them, nobody is closed, they save with the others again, and who has left is started again and keeps its
+record and its state.
 """
 import os
 import signal
@@ -239,6 +240,15 @@ class Early:
     def close(self):
         self.client.close()
 
+    def leave_at_once(self):
+        """It says that it has saved and closes, in one write."""
+        parts, client = [], self.client
+        client.send = parts.append
+        self.save()
+        del client.send
+        client.send(b"".join(parts) + xsmp.message(xsmp.OPCODE, xsmp.CLOSED, xsmp.many([])))
+        client.socket.close()
+
     def was_started(self):
         return os.path.exists(self.file("started"))
 
@@ -305,11 +315,95 @@ def leaves_before_a_logout(manager):
     early.come_back()
 
 
+def comes_back(manager, early, others):
+    """Another program joins and saves first; who has left is started again, and all are saved and log out."""
+    others.append(manager.saved()[0])
+    early.come_back()
+    checkpoint(manager, [early.client, *others])
+    logs_out(manager, [early.client, *others])
+
+
+def leaves_behind_a_logout(manager):
+    """One leaves that has saved, and doesn't hear in time that its logout is called off."""
+    early, other = Early(manager), manager.saved()[0]
+    manager.expect("shutdown", "ok")
+    asked(early.client)
+    early.save()
+    early.client.ping()
+    asked(other)
+    call_off(manager, [other])
+    early.close()
+    other.say(xsmp.SAVED)
+    comes_back(manager, early, [other])
+
+
+def saves_behind_a_logout(manager):
+    """One says that it has saved and leaves, and doesn't hear in time that its logout is called off."""
+    early, other = Early(manager), manager.saved()[0]
+    manager.expect("shutdown", "ok")
+    asked(early.client)
+    asked(other)
+    call_off(manager, [other])
+    early.leave_at_once()
+    other.say(xsmp.SAVED)
+    comes_back(manager, early, [other])
+
+
+def leaves_its_dialog(manager):
+    """The dialog of a logout that was called off is answered, and its program leaves a session that stays."""
+    early, other = Early(manager), manager.saved()[0]
+    manager.expect("shutdown", "ok")
+    talks(early.client)
+    saves(other)
+    call_off(manager, [early.client, other])
+    checkpoint(manager, [other])
+    early.leave_at_once()
+    comes_back(manager, early, [other])
+
+
+def leaves_into_a_checkpoint(manager):
+    """It leaves while a checkpoint waits for it: that keeps what it has saved."""
+    early, other = Early(manager), manager.saved()[0]
+    manager.expect("shutdown", "ok")
+    asked(early.client)
+    early.save()
+    early.client.ping()
+    asked(other)
+    call_off(manager, [other])
+    other.say(xsmp.SAVED)
+    manager.expect("checkpoint", "ok")
+    saves(other)
+    early.close()
+    other.expect(xsmp.COMPLETE)
+    comes_back(manager, early, [other])
+
+
+def leaves_into_a_logout(manager):
+    """A new logout waits for its dialog, which is answered: the logout goes through, and the next login starts it."""
+    early, other = Early(manager), manager.saved()[0]
+    manager.expect("shutdown", "ok")
+    talks(early.client)
+    saves(other)
+    call_off(manager, [early.client, other])
+    manager.expect("shutdown", "ok")
+    saves(other)
+    early.leave_at_once()
+    other.expect(xsmp.DIE)
+    other.close()
+    if manager.process.wait(30):
+        raise ValueError("smd ended otherwise")
+    if early.was_started() or early.has_discarded(early.states):
+        raise ValueError("it was started in the logout, or its state was discarded")
+    manager.start()
+    early.come_back()
+
+
 TESTS = {
     it.__name__: it
     for it in (
         never_answers, never_asks_again, dialog_stands, dialog_in_a_new_logout, twice, answers_late, answers_in_a_row,
-        leaves_early, leaves_before_a_checkpoint, leaves_before_a_logout,
+        leaves_early, leaves_before_a_checkpoint, leaves_before_a_logout, leaves_behind_a_logout, saves_behind_a_logout,
+        leaves_its_dialog, leaves_into_a_checkpoint, leaves_into_a_logout,
     )
 }
 

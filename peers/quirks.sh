@@ -208,6 +208,26 @@ leaves_called_off_logouts() {
   for name in openbox featherpad xclock; do check "$name has ended with the others" within 20 runs_no "$name"; done
 }
 
+# FeatherPad talks about its text as the logout is called off; its user discards the text then, and it leaves.
+leaves_its_dialog() {
+  check "smd starts for a program that leaves its dialog" start_smd "$room/left_dialog" --quirks --patience 60000
+  joins openbox 1 openbox
+  joins featherpad 2 featherpad
+  sleep 2
+  check "text is written before FeatherPad leaves" types_text featherpad
+  check "FeatherPad's dialog stands before it leaves" logs_out_into_a_dialog featherpad
+  check "the logout is called off before FeatherPad leaves" answers ok cancel
+  sleep 3
+  answers_dialog featherpad alt+d
+  check "FeatherPad leaves its dialog" within 20 runs_no featherpad
+  joins xclock 3 xclock
+  check "FeatherPad is started again behind its dialog" within 20 runs featherpad
+  check "FeatherPad has its old ID behind its dialog" within 20 is_connected smd-00000001-00000002
+  check "all are saved behind the dialog" saves 3
+  check "the session in which FeatherPad left its dialog logs out" logs_out
+  for name in openbox featherpad xclock; do check "$name has ended behind the dialog" within 20 runs_no "$name"; done
+}
+
 # ends_without_a_logout PROGRAM..: smd and these programs, of which none may be there for the next desktop.
 ends_without_a_logout() {
   local id
@@ -228,5 +248,6 @@ quirk_sessions() {
   with_openbox
   calls_off_logouts
   leaves_called_off_logouts
+  leaves_its_dialog
   calls_off_beside_xfwm4
 }

@@ -17,6 +17,8 @@ use Rattle.client_quirks.specs.declared.side.Side.{Side}
 use Rattle.client_quirks.specs.declared.answerer.Answerer.{Answerer}
 use Rattle.client_quirks.proofs.Exchanging.{heard_passed, heard_speech_stays, told_passed, told_speech_stays}
 use Rattle.client_quirks.proofs.Following.{side_grown}
+use Rattle.client_quirks.proofs.Grown.{neither}
+use Rattle.session_model.specs.Phases.{is_owing}
 
 no_bytes : (bytes : List ℕ) → (length bytes == 0) ≡ true → bytes ≡ []
 no_bytes [] is = refl
@@ -182,4 +184,4 @@ out_whole old new side bytes frames list going follows was between speech cuts a
 -- nothing is said in its place where the manager waits for no answer of it
 pub passing_nothing : (follows : Bool) (milliseconds : ℕ) (k : Answerer) → (follows && waits k.late) ≡ false → passes_by follows milliseconds k ≡ []
 passing_nothing false milliseconds k not_waiting = refl
-passing_nothing true milliseconds k not_waiting = rw not_waiting refl
+passing_nothing true milliseconds k not_waiting = rw (neither (is_owing k.late.phase) (nat_lt 0 k.late.lately) not_waiting).0 refl

@@ -7,7 +7,7 @@ use Rattle.frame_speech.specs.Speech.{speech_behind}
 use Rattle.frame_speech.specs.Settings.{may_turn}
 use Rattle.frame_speech.specs.Passing.{may_say}
 use Rattle.frame_speech.specs.declared.speech.Speech.{Speech}
-use Rattle.late_answers.specs.Late.{passed}
+use Rattle.late_answers.specs.Late.{closed, passed}
 use Rattle.late_answers.specs.declared.late.Late.{Late}
 use Rattle.client_quirks.specs.Sides.{new_frames, is_between, Follows}
 use Rattle.client_quirks.specs.Exchange.{Exchanged, is_about, is_reply, tongue, word_bytes, heard_all, told_all}
@@ -130,6 +130,12 @@ passes_by false milliseconds a = []
 abbrev pub late_by : Bool → ℕ → Answerer → Late
 late_by true milliseconds a = (passed milliseconds a.late).late
 late_by false milliseconds a = a.late
+
+-- ---- the end of the client's stream
+
+abbrev pub ended_by : Bool → Answerer → Late
+ended_by true a = closed a.late
+ended_by false a = a.late
 
 -- ---- frames that are passed over
 

@@ -22,9 +22,9 @@ use Rattle.client_quirks.specs.declared.tongue.Tongue.{Tongue}
 
 -- ---- what a frame says
 
--- RegisterClientReply and all that is about a save (XSMP, chapter 10: minor opcodes 2 to 10, and from 16 on)
+-- RegisterClientReply, ConnectionClosed and all that is about a save (XSMP, chapter 10: minor opcodes 2 to 11, and from 16 on)
 abbrev pub is_about_saves : ℕ → Bool
-is_about_saves minor = nat_le 2 minor && nat_le minor 10 || nat_le 16 minor
+is_about_saves minor = nat_le 2 minor && nat_le minor 11 || nat_le 16 minor
 
 -- Where nothing is late and no logout runs for the client, only this is looked at: RegisterClientReply, Die, and the SaveYourself of a logout.
 abbrev pub is_turn : List ℕ → Bool

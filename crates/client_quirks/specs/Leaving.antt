@@ -52,6 +52,14 @@ closing Asked = Asked
 closing Kept = Kept
 closing Released = Released
 
+-- Its end is held back, though it has answered no logout that runs.
+abbrev pub holding : Stage → Stage
+holding Free = Answered
+holding Asked = Answered
+holding Answered = Answered
+holding Kept = Kept
+holding Released = Released
+
 abbrev pub heard : Speech → Stage → WholeFrame → Stage
 heard speech stage f = if is_said speech 8 f then answered_by f stage else if is_said speech 11 f then closing stage else stage
 

@@ -18,7 +18,7 @@ use Rattle.frame_speech.specs.Passing.{as_frame}
 use Rattle.frame_speech.specs.Speech.{is_whole}
 use Rattle.frame_speech.specs.declared.speech.Speech.{Speech}
 use Rattle.frame_speech.specs.declared.speech.Speech.TheVariants.{Silent, Greeted, Speaks, Lost}
-use Rattle.late_answers.specs.Leavers.{messages_of, leaver_at_first, leaver_told, leaver_known, is_asking}
+use Rattle.late_answers.specs.Leavers.{messages_of, leaver_told, leaver_known, is_asking}
 use Rattle.late_answers.specs.declared.leaver.Leaver.{Leaver}
 use Rattle.late_answers.specs.declared.leaver.Line.{Line}
 use Rattle.client_quirks.specs.Sides.{new_frames, CutsOn}

@@ -1,10 +1,10 @@
 ghost use Rattle.std.specs.Prelude.{◌≡◌, ◌∷◌, [], ℕ, true, false, IfOk, IfSome, OnOk, IsTrue};
 ghost use Rattle.client_quirks.specs.Stood.{Names};
-ghost use Rattle.client_quirks.specs.Standing.{GivesOver};
+ghost use Rattle.client_quirks.specs.Standing.{GivesOver, has_left, is_understood};
 ghost use Rattle.std.specs.List.{concat};
 ghost use Rattle.late_answers.specs.Late.{at_first, is_excused};
 ghost use Rattle.client_quirks.specs.Sides.{IsSide};
-ghost use Rattle.client_quirks.specs.Answering.{order_by as order_stated, client_of, manager_of, HearsFrames, HandsOn, Hears, HearsPiece, TellsFrames, SendsOn, Tells, TellsBytes, passes_by, late_by, AnswersNothingLate, OrdersNothing};
+ghost use Rattle.client_quirks.specs.Answering.{order_by as order_stated, client_of, manager_of, HearsFrames, HandsOn, Hears, HearsPiece, TellsFrames, SendsOn, Tells, TellsBytes, passes_by, late_by, ended_by, AnswersNothingLate, OrdersNothing};
 
 use crate::exchange::{Standpoint, hear_frames, tell_frames};
 use crate::naming::name_in;
@@ -43,6 +43,14 @@ pub struct Answering {
     pub pieces: PieceList,
     /// What goes out to the client.
     pub going: Octets,
+}
+
+/// Who speaks in a client's place from now on.
+#[derive(Debug, Drop)]
+pub struct HandedOver {
+    pub stand_in: StandIn,
+    /// What the manager hears at once.
+    pub pieces: PieceList,
 }
 
 /// Looks for what a client says of a save, and for its answers to Pings where some are awaited.
@@ -162,20 +170,52 @@ impl Answerer {
         name_in(self.alloc, &self.sent, 2, bytes)
     }
 
-    /// Gives who speaks in the client's place from now on, where both parties are understood. Nothing is
-    /// answered or taken away any more then.
-    pub fn give_over(&mut self) -> Option<StandIn>
-        ensures { GivesOver self.old result self.new }
+    fn is_understood(&self) -> bool
+        ensures { result ≡ is_understood self.now }
     {
-        let is_understood = self.follows
-            && is_speaking(self.came.speech)
-            && is_speaking(self.sent.speech);
-        if !is_understood {
-            return None;
+        self.follows && is_speaking(self.came.speech) && is_speaking(self.sent.speech)
+    }
+
+    /// Whether the client has closed behind a logout that was called off, so that its end is to be held
+    /// back.
+    pub fn has_left(&self) -> bool
+        ensures { result ≡ has_left self.now }
+    {
+        self.is_understood() && self.late.gone
+    }
+
+    /// Hears that the client's stream has ended.
+    pub fn end(&mut self)
+        ensures late { self.new.late ≡ ended_by self.old.follows self.old }
+        ensures came { self.new.came ≡ self.old.came }
+        ensures came_order { self.new.came_order ≡ self.old.came_order }
+        ensures sent { self.new.sent ≡ self.old.sent }
+        ensures sent_order { self.new.sent_order ≡ self.old.sent_order }
+        ensures follows { self.new.follows ≡ self.old.follows }
+    {
+        if self.follows {
+            self.late = self.late.closed();
+        }
+    }
+
+    /// Gives who speaks in the client's place from now on, where both parties are understood. Nothing is
+    /// answered or taken away any more then. After NoMemory nothing is known of the client any more.
+    pub fn give_over(&mut self) -> Result<Option<HandedOver>, NoMemory>
+        ensures { IfOk result (λ given. GivesOver self.old given self.new) }
+    {
+        if !self.is_understood() {
+            return Ok(None);
         }
         self.follows = false;
+        let client = self.client();
+        let parting = self.late.parting();
+        let mut handed = Octets::new(self.alloc);
+        client.put_line(parting.line, &mut handed)?;
+        let mut pieces = PieceList::new(self.alloc);
+        add_bytes(self.alloc, handed.as_slice(), &mut pieces)?;
         let sent = mem::replace(&mut self.sent, Side::new(self.alloc));
-        Some(StandIn::new(self.alloc, sent, self.client()))
+        let stand_in = StandIn::new(self.alloc, sent, client, parting.leaver);
+        Ok(Some(HandedOver { stand_in, pieces }))
     }
 
     /// Whether a piece of the client's is handed on as it came, nothing goes out and nothing else changes,
@@ -316,7 +356,7 @@ impl Answerer {
         }
     }
 
-    /// Whether time alone may bring what the manager hears.
+    /// Whether time alone may bring what the manager hears, or what becomes of the client's end.
     pub fn waits(&self) -> bool
         ensures { result ≡ false → (milliseconds : ℕ) →
             passes_by self.now.follows milliseconds self.now ≡ [] }

@@ -1,7 +1,7 @@
 ghost use Rattle.std.specs.Prelude.{◌≡◌, ◌++◌, ◌∷◌, ◌≤◌, [], take, drop, length, true, false, not, ◌||◌, IfOk, OnOk, IsTrue};
 ghost use Rattle.std.specs.List.{concat};
 ghost use Rattle.client_quirks.specs.Sides.{IsSide, Follows};
-ghost use Rattle.client_quirks.specs.Leaving.{mark, told_behind, told_by, heard_behind, front_count, is_kept, closing, Hears, Listens, Keeps, GivesUp};
+ghost use Rattle.client_quirks.specs.Leaving.{mark, told_behind, told_by, heard_behind, front_count, is_kept, closing, holding, Hears, Listens, Keeps, GivesUp};
 ghost use Rattle.client_quirks.specs.Heeding.{HasNothing};
 ghost use Rattle.client_quirks.specs.declared.stage.Stage.TheVariants.{Free, Kept, Released};
 
@@ -230,6 +230,17 @@ impl Keeper {
             Stage::Asked => self.listen(piece),
             Stage::Answered => self.listen(piece),
         }
+    }
+
+    /// Holds back the client's end when it closes, as if it had answered a logout.
+    pub fn hold_end(&mut self)
+        ensures stage { self.new.stage ≡ holding self.old.stage }
+        ensures pieces { self.new.pieces ≡ self.old.pieces }
+        ensures ended { self.new.has_ended ≡ self.old.has_ended }
+        ensures came { self.new.came ≡ self.old.came }
+        ensures sent { self.new.sent ≡ self.old.sent }
+    {
+        self.stage = self.stage.holding();
     }
 
     /// Hears that the client's stream has ended, and says whether that is handed on.

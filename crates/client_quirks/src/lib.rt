@@ -20,7 +20,7 @@ mod tongue;
 mod views;
 
 pub use amender::Amender;
-pub use answerer::{Answerer, Answering};
+pub use answerer::{Answerer, Answering, HandedOver};
 pub use keeper::{Keeper, KeptEnd};
 pub use meanings::{amended, is_amended};
 pub use pieces::{PieceList, StreamPiece};

@@ -1,5 +1,5 @@
 ghost use Rattle.std.specs.Prelude.{◌≡◌};
-ghost use Rattle.client_quirks.specs.Leaving.{asked_by, is_last, over, told, answered_by, closing, heard, is_kept};
+ghost use Rattle.client_quirks.specs.Leaving.{asked_by, is_last, over, told, answered_by, closing, heard, holding, is_kept};
 
 use frame_speech::{Speech, byte_at};
 use ice_framing::WholeFrame;
@@ -88,6 +88,19 @@ impl Stage {
             Stage::Answered => Stage::Kept,
             Stage::Free => Stage::Free,
             Stage::Asked => Stage::Asked,
+            Stage::Kept => Stage::Kept,
+            Stage::Released => Stage::Released,
+        }
+    }
+
+    /// The stage where the client's end is to be held back.
+    pub fn holding(self) -> Stage
+        ensures { result ≡ holding self }
+    {
+        match self {
+            Stage::Free => Stage::Answered,
+            Stage::Asked => Stage::Answered,
+            Stage::Answered => Stage::Answered,
             Stage::Kept => Stage::Kept,
             Stage::Released => Stage::Released,
         }

@@ -1,6 +1,6 @@
 ghost use Rattle.std.specs.Prelude.{◌≡◌, ◌++◌, IfOk, OnOk};
 ghost use Rattle.std.specs.List.{concat};
-ghost use Rattle.late_answers.specs.Leavers.{is_over as is_over_at, leaver_at_first, leaver_ended, leaver_waits, leaver_passed};
+ghost use Rattle.late_answers.specs.Leavers.{is_over as is_over_at, leaver_ended, leaver_waits, leaver_passed};
 ghost use Rattle.client_quirks.specs.Stood.{line_bytes, restart_in as restart_by, known_of, told_of, asked_of, answered_to, stood_in, stood_all, StandsIn};
 
 use crate::pieces::{PieceList, add_bytes};
@@ -177,16 +177,16 @@ fn answer_frames(
 
 impl StandIn {
     /// In the place of a client that spoke so, and to whom this was sent.
-    pub(crate) fn new(alloc: Global, sent: Side, client: Tongue) -> StandIn
+    pub(crate) fn new(alloc: Global, sent: Side, client: Tongue, leaver: Leaver) -> StandIn
         ensures sent { result.sent ≡ sent }
         ensures client { result.client ≡ client }
-        ensures leaver { result.leaver ≡ leaver_at_first }
+        ensures leaver { result.leaver ≡ leaver }
     {
         StandIn {
             alloc,
             sent,
             client,
-            leaver: Leaver::new(),
+            leaver,
         }
     }
 

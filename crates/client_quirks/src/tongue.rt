@@ -5,6 +5,7 @@ ghost use Rattle.xsmp_messages.specs.Reading.{decode_at};
 ghost use Rattle.frame_speech.specs.Speech.{is_whole as is_whole_by};
 ghost use Rattle.client_quirks.specs.Exchange.{is_about_saves as about_by, is_turn as is_turn_by, is_heeded as is_heeded_by, is_about as is_about_by, is_reply as is_reply_by, is_speaking as is_speaking_by, message_in as message_by, spelled as spelled_by, word_bytes, save_bytes, ping, going_out};
 ghost use Rattle.client_quirks.specs.Stood.{is_xsmp as is_xsmp_by, xsmp_in as xsmp_by, line_bytes};
+ghost use Rattle.late_answers.specs.declared.leaver.Line.TheVariants.{AsksToSave};
 
 use frame_speech::{Speech, byte_at, is_whole};
 use ice_framing::WholeFrame;
@@ -25,11 +26,11 @@ pub struct Tongue {
     pub order: Endian,
 }
 
-/// Whether messages of this minor opcode are about a save, or give a client its ID.
+/// Whether messages of this minor opcode are about a save, give a client its ID or are a client's last.
 fn is_about_saves(minor: u8) -> bool
     ensures { result ≡ about_by minor }
 {
-    2 <= minor && minor <= 10 || 16 <= minor
+    2 <= minor && minor <= 11 || 16 <= minor
 }
 
 /// Whether a frame gives a client its ID, tells it to die, or asks it to save for a logout.
@@ -176,6 +177,20 @@ impl Tongue {
         }
     }
 
+    /// Adds the request for a save of the party alone.
+    fn put_request(self, out: &mut Octets) -> Result<(), NoMemory>
+        ensures { OnOk result (out.new ≡ out.old ++ line_bytes self AsksToSave) }
+    {
+        let request = XsmpMessage::SaveYourselfRequest {
+            kind: SaveKind::Local,
+            shutdown: false,
+            style: SaveStyle::Nothing,
+            fast: false,
+            global: false,
+        };
+        self.put(&request, out)
+    }
+
     /// Adds what the manager hears of a client that has left.
     pub fn put_line(self, line: Line, out: &mut Octets) -> Result<(), NoMemory>
         ensures { OnOk result (out.new ≡ out.old ++ line_bytes self line) }
@@ -187,15 +202,10 @@ impl Tongue {
                 self.put(&XsmpMessage::InteractDone { cancel: false }, out)?;
                 self.put(&XsmpMessage::SaveYourselfDone { success: true }, out)
             }
-            Line::AsksToSave => {
-                let request = XsmpMessage::SaveYourselfRequest {
-                    kind: SaveKind::Local,
-                    shutdown: false,
-                    style: SaveStyle::Nothing,
-                    fast: false,
-                    global: false,
-                };
-                self.put(&request, out)
+            Line::AsksToSave => self.put_request(out),
+            Line::FailedAndAsks => {
+                self.put(&XsmpMessage::SaveYourselfDone { success: false }, out)?;
+                self.put_request(out)
             }
             Line::AsksForProperties => self.put(&XsmpMessage::GetProperties, out),
         }

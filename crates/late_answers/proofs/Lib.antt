@@ -1,3 +1,5 @@
+pub mod LetGo
 pub mod Parted
 pub mod Placed
 pub mod Plain
+pub mod Standing

@@ -124,7 +124,7 @@ done_word false l word is said = no_word word (rw is at said)
 pub words_have_their_place : WordsHaveTheirPlace
 words_have_their_place (SaveYourself kind shutdown style fast) l word fit comes said =
     let w : Wanted = record { only = None; from = None; kind = kind; shutdown = shutdown; style = style; fast = fast } in
-    let asks : Late = record l { phase = begun_phase l.phase; wanted = Some w; save = Shown } in
+    let asks : Late = record l { phase = begun_phase l.phase; wanted = Some w; save = Shown; saved = false } in
     subst (λ (p : Option Phase). has_place (told (SaveYourself kind shutdown style fast) l).late.wanted (message_of word) (begun_phase p) ≡ true) (sym (idle_by w l.phase comes)) (asked_word l.wary l.debt w asks word refl said)
 words_have_their_place Interact l word fit comes said = token_word l.posing (given Interact l) l.phase word (λ poses. asked_by l.save l.phase (subst (λ (b : Bool). fits l.save b l.phase ≡ true) poses fit) comes) said
 words_have_their_place ShutdownCancelled l word fit comes said = off_word (is_held l.save) l word refl fit said

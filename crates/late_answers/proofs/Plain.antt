@@ -6,7 +6,7 @@ use Rattle.std.proofs.lemmas.Bool.Decides.{nat_tests}
 use Rattle.xsmp_messages.specs.declared.message.XsmpMessage.{XsmpMessage}
 use Rattle.session_model.specs.Phases.{is_owing}
 use Rattle.session_model.specs.declared.phase.Phase.TheVariants.{Owing}
-use Rattle.late_answers.specs.Late.{is_shown, is_hidden, given, answers, answered_owing, behind, is_late, has_no_place, told_by, step_of, said_by, passing, passed, later}
+use Rattle.late_answers.specs.Late.{is_shown, is_hidden, given, answers, answered_owing, behind, closed, said_lately, is_late, has_no_place, told_by, step_of, said_by, passing, passed, later}
 use Rattle.late_answers.specs.Laws.{IsPlain, GoesOut, Passes, calls_off, OthersAreSentAll, OthersAreHeard, AnswersAreOfTheRunningSave, behind_all, time_in, DebtsEnd}
 use Rattle.late_answers.specs.declared.late.Save.{Save}
 use Rattle.late_answers.specs.declared.late.Save.TheVariants.{Shown, Held, Hidden}
@@ -16,12 +16,12 @@ use Rattle.late_answers.specs.declared.outcome.Said.{Said}
 use Rattle.late_answers.specs.declared.telling.Order.{Order}
 use Rattle.late_answers.specs.declared.telling.Order.TheVariants.{Saves, GivesToken, CallsOff, Completes, Other}
 use Rattle.late_answers.specs.declared.saying.Step.{Step}
-use Rattle.late_answers.specs.declared.saying.Step.TheVariants.{AsksToTalk, HasTalked, WantsSecond, HasSaved, Besides}
+use Rattle.late_answers.specs.declared.saying.Step.TheVariants.{AsksToTalk, HasTalked, WantsSecond, HasSaved, Leaves, Besides}
 use Rattle.late_answers.specs.Late.{order_of}
 
 -- ---- which of two or four
 
-second : {A : Type 0} (P : A → Type 0) (b : Bool) (x y : A) → b ≡ false → P y → P (if b then x else y)
+pub second : {A : Type 0} (P : A → Type 0) (b : Bool) (x y : A) → b ≡ false → P y → P (if b then x else y)
 second P true x y is holds = absurd (false≢true (sym is))
 second P false x y is holds = holds
 
@@ -49,23 +49,24 @@ others_are_sent_all m l plain other = sent (order_of m) m l plain other
 
 -- ---- what it says
 
-still_plain : (step : Step) (m : XsmpMessage) (l : Late) → IsPlain l → IsPlain (answered_owing step (behind m l))
+still_plain : (step : Step) (m : XsmpMessage) (l : Late) → IsPlain l → IsPlain (answered_owing step (behind m (said_lately m l)))
 still_plain HasTalked m l plain = record { calm = plain.calm; shown = plain.shown; free = plain.free; unpinged = plain.unpinged }
 still_plain HasSaved m l plain = record { calm = plain.calm; shown = plain.shown; free = plain.free; unpinged = plain.unpinged }
 still_plain AsksToTalk m l plain = record { calm = plain.calm; shown = plain.shown; free = plain.free; unpinged = plain.unpinged }
 still_plain WantsSecond m l plain = record { calm = plain.calm; shown = plain.shown; free = plain.free; unpinged = plain.unpinged }
+still_plain Leaves m l plain = record { calm = plain.calm; shown = plain.shown; free = plain.free; unpinged = plain.unpinged }
 still_plain Besides m l plain = record { calm = plain.calm; shown = plain.shown; free = plain.free; unpinged = plain.unpinged }
 
 passes : (l : Late) → IsPlain l → Passes (passing l)
 passes l plain = record { passes = refl; nothing = refl; silent = refl; plain = plain }
 
-punctual : (step : Step) (l : Late) → IsPlain l → is_late step l ≡ false
+pub punctual : (step : Step) (l : Late) → IsPlain l → is_late step l ≡ false
 punctual step l plain = rw (plain.shown, plain.calm) refl
 
 heard : (step : Step) (m : XsmpMessage) (l : Late) → IsPlain l → Passes (answers step m l)
 heard step m l plain =
     passing_two Passes (nat_lt 0 l.pings) (is_owing l.phase) (is_late step l) _ _ _ _ (ap (nat_lt 0) plain.unpinged) (punctual step l plain)
-    (passes (answered_owing step (behind m l)) (still_plain step m l plain))
+    (passes (answered_owing step (behind m (said_lately m l))) (still_plain step m l plain))
     (passes (behind m l) (record { calm = plain.calm; shown = plain.shown; free = plain.free; unpinged = plain.unpinged }))
 
 heard_by : (step : Step) (m : XsmpMessage) (l : Late) → IsPlain l → Passes (said_by step m l)
@@ -73,6 +74,7 @@ heard_by AsksToTalk m l plain = heard AsksToTalk m l plain
 heard_by HasTalked m l plain = heard HasTalked m l plain
 heard_by WantsSecond m l plain = heard WantsSecond m l plain
 heard_by HasSaved m l plain = heard HasSaved m l plain
+heard_by Leaves m l plain = passes (closed l) (record { calm = plain.calm; shown = plain.shown; free = plain.free; unpinged = plain.unpinged })
 heard_by Besides m l plain = passes l plain
 
 pub others_are_heard : OthersAreHeard

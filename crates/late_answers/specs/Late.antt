@@ -5,9 +5,9 @@ use Rattle.ice_values.specs.declared.saves.SaveStyle.TheVariants.{Any, Errors, N
 use Rattle.ice_values.specs.declared.saves.Dialog.{Dialog}
 use Rattle.ice_values.specs.declared.saves.Dialog.TheVariants.{Error as AboutError, Normal}
 use Rattle.xsmp_messages.specs.declared.message.XsmpMessage.{XsmpMessage}
-use Rattle.xsmp_messages.specs.declared.message.XsmpMessage.TheVariants.{Interact, InteractDone, InteractRequest, SaveComplete, SaveYourself, SaveYourselfDone, SaveYourselfPhase2Request, ShutdownCancelled}
+use Rattle.xsmp_messages.specs.declared.message.XsmpMessage.TheVariants.{ConnectionClosed, Interact, InteractDone, InteractRequest, SaveComplete, SaveYourself, SaveYourselfDone, SaveYourselfPhase2Request, ShutdownCancelled}
 use Rattle.round_agreement.specs.declared.wanted.Wanted.{Wanted}
-use Rattle.session_model.specs.Phases.{is_interacting, is_owing, is_saving, is_shutdown, may_interact, phase_given, phase_said}
+use Rattle.session_model.specs.Phases.{is_bound, is_interacting, is_owing, is_saving, is_shutdown, may_interact, phase_given, phase_said}
 use Rattle.session_model.specs.declared.phase.Phase.{Phase}
 use Rattle.session_model.specs.declared.phase.Phase.TheVariants.{Asked, AskedTwo, Done, Idle, Interacting, InteractingTwo, Saving, SavingTwo, Unregistered, WantsTwo}
 use Rattle.late_answers.specs.declared.late.Debt.{Debt}
@@ -24,7 +24,7 @@ use Rattle.late_answers.specs.declared.outcome.Said.{Said}
 use Rattle.late_answers.specs.declared.telling.Order.{Order}
 use Rattle.late_answers.specs.declared.telling.Order.TheVariants.{Saves, GivesToken, CallsOff, Completes, Other}
 use Rattle.late_answers.specs.declared.saying.Step.{Step}
-use Rattle.late_answers.specs.declared.saying.Step.TheVariants.{AsksToTalk, HasTalked, WantsSecond, HasSaved, Besides}
+use Rattle.late_answers.specs.declared.saying.Step.TheVariants.{AsksToTalk, HasTalked, WantsSecond, HasSaved, Leaves, Besides}
 
 -- ---- what is owed
 
@@ -108,6 +108,9 @@ at_first = record {
   wary = false;
   answered = true;
   left = 0;
+  saved = false;
+  lately = 0;
+  gone = false;
 }
 
 abbrev pub message_of : Word → XsmpMessage
@@ -183,7 +186,7 @@ asked_wary Talks w l = if w.shutdown then pose (allowed_dialog w.style) l else h
 asked_wary Works w l = if w.shutdown then hold l else hide l
 
 abbrev pub asked : Wanted → Late → Outcome
-asked w l = if l.wary then asked_wary l.debt w (record l { wanted = Some w; save = Shown }) else as_it_came (record l { wanted = Some w; save = Shown })
+asked w l = if l.wary then asked_wary l.debt w (record l { wanted = Some w; save = Shown; saved = false }) else as_it_came (record l { wanted = Some w; save = Shown; saved = false })
 
 -- ---- Interact, and what it owes otherwise
 
@@ -210,9 +213,13 @@ with_token l = if l.posing then settled l else as_it_came l
 abbrev pub owing : Debt → Late → Late
 owing debt l = record l { debt = debt; wary = true; answered = false; left = 2000 }
 
--- Who talks is answered for at once; who had answered may do so once more.
+-- Who had answered may do so once more, and where it had saved with success, it may leave for two seconds as if the logout weren't called off.
+abbrev pub owing_nothing : Bool → Late → Late
+owing_nothing was_done l = record l { wary = was_done || l.wary; lately = if was_done && l.saved then 2000 else l.lately }
+
+-- Who talks is answered for at once.
 abbrev pub called_off_owing : Debt → Bool → Late → Outcome
-called_off_owing Paid was_done l = as_it_came (record l { wary = was_done || l.wary })
+called_off_owing Paid was_done l = as_it_came (owing_nothing was_done l)
 called_off_owing Talks was_done l = spoken Itself Failed (owing Talks l)
 called_off_owing Works was_done l = as_it_came (owing Works l)
 called_off_owing Waits was_done l = as_it_came (owing Waits l)
@@ -256,11 +263,16 @@ step_of (InteractRequest dialog) = AsksToTalk
 step_of (InteractDone cancel) = HasTalked
 step_of SaveYourselfPhase2Request = WantsSecond
 step_of (SaveYourselfDone success) = HasSaved
+step_of (ConnectionClosed reasons) = Leaves
 step_of m = Besides
 
 abbrev pub is_cancel : XsmpMessage → Bool
 is_cancel (InteractDone cancel) = cancel
 is_cancel m = false
+
+abbrev pub saved_behind : XsmpMessage → Bool → Bool
+saved_behind (SaveYourselfDone success) saved = success
+saved_behind m saved = saved
 
 -- Who calls its logout off has talked.
 abbrev pub phase_behind : Option Wanted → XsmpMessage → Option Phase → Option Phase
@@ -272,6 +284,7 @@ answered_early HasSaved l = record l { answered = l.answered || is_paid l.debt }
 answered_early AsksToTalk l = l
 answered_early HasTalked l = l
 answered_early WantsSecond l = l
+answered_early Leaves l = l
 answered_early Besides l = l
 
 abbrev pub answered_late : Step → Late → Late
@@ -279,6 +292,7 @@ answered_late HasSaved l = record l { debt = Paid; answered = true }
 answered_late HasTalked l = record l { debt = behind_dialog l.debt }
 answered_late AsksToTalk l = record l { debt = Waits }
 answered_late WantsSecond l = record l { debt = Waits }
+answered_late Leaves l = l
 answered_late Besides l = l
 
 abbrev pub answered_owing : Step → Late → Late
@@ -286,6 +300,7 @@ answered_owing HasTalked l = record l { debt = Works }
 answered_owing HasSaved l = answered_late HasSaved l
 answered_owing AsksToTalk l = answered_late AsksToTalk l
 answered_owing WantsSecond l = answered_late WantsSecond l
+answered_owing Leaves l = l
 answered_owing Besides l = l
 
 -- The manager would refuse it.
@@ -294,28 +309,39 @@ has_no_place HasSaved phase = not (is_saving phase)
 has_no_place AsksToTalk phase = is_resting phase
 has_no_place HasTalked phase = is_resting phase
 has_no_place WantsSecond phase = is_resting phase
+has_no_place Leaves phase = false
 has_no_place Besides phase = false
 
 -- It is to a save that was called off.
 abbrev pub is_late : Step → Late → Bool
 is_late step l = not (is_shown l.save) || l.wary && has_no_place step l.phase
 
+-- said of the save that it was asked for last
 abbrev pub behind : XsmpMessage → Late → Late
-behind m l = record l { phase = phase_behind l.wanted m l.phase }
+behind m l = record l { phase = phase_behind l.wanted m l.phase; saved = saved_behind m l.saved }
+
+-- Said of the save of a logout that was called off: where that has succeeded, it may leave for two seconds as if the logout weren't called off.
+abbrev pub said_lately : XsmpMessage → Late → Late
+said_lately m l = record l { lately = if saved_behind m false then 2000 else l.lately }
 
 -- The first that fits: said before a Ping was answered; owed to the manager; late; of the save that runs.
 abbrev pub answers : Step → XsmpMessage → Late → Said
 answers step m l =
-    if nat_lt 0 l.pings then taken (outcome NoBytes None (answered_early step l))
-    else if is_owing l.phase then passing (answered_owing step (behind m l))
-    else if is_late step l then taken (settled (answered_late step l))
+    if nat_lt 0 l.pings then taken (outcome NoBytes None (answered_early step (said_lately m l)))
+    else if is_owing l.phase then passing (answered_owing step (behind m (said_lately m l)))
+    else if is_late step l then taken (settled (answered_late step (said_lately m l)))
     else passing (behind m l)
+
+-- It closes: where it is bound to the session and may leave as if its logout weren't called off, its end is held back.
+abbrev pub closed : Late → Late
+closed l = record l { gone = l.gone || nat_lt 0 l.lately && is_bound l.phase }
 
 abbrev pub said_by : Step → XsmpMessage → Late → Said
 said_by AsksToTalk m l = answers AsksToTalk m l
 said_by HasTalked m l = answers HasTalked m l
 said_by WantsSecond m l = answers WantsSecond m l
 said_by HasSaved m l = answers HasSaved m l
+said_by Leaves m l = passing (closed l)
 said_by Besides m l = passing l
 
 abbrev pub said : XsmpMessage → Late → Said
@@ -323,9 +349,9 @@ said m l = said_by (step_of m) m l
 
 -- ---- PingReply
 
--- Behind the last one, who owes nothing has no more old answers to give.
+-- Behind the last one, who owes nothing has no more old answers to give. Who answers a Ping stays.
 abbrev pub ping_answered : Late → Late
-ping_answered l = record l { pings = l.pings - 1; wary = l.wary && not (l.pings - 1 == 0 && l.answered && is_paid l.debt) }
+ping_answered l = record l { pings = l.pings - 1; wary = l.wary && not (l.pings - 1 == 0 && l.answered && is_paid l.debt); lately = 0 }
 
 abbrev pub replied : Late → Said
 replied l = if nat_lt 0 l.pings then taken (outcome NoBytes None (ping_answered l)) else passing l
@@ -333,11 +359,11 @@ replied l = if nat_lt 0 l.pings then taken (outcome NoBytes None (ping_answered 
 -- ---- time
 
 abbrev pub later : ℕ → Late → Late
-later milliseconds l = record l { left = l.left - milliseconds }
+later milliseconds l = record l { left = l.left - milliseconds; lately = l.lately - milliseconds }
 
--- it owes an answer for which the manager waits
+-- It owes an answer for which the manager waits, or may leave as if its logout weren't called off.
 abbrev pub waits : Late → Bool
-waits l = is_owing l.phase
+waits l = is_owing l.phase || nat_lt 0 l.lately
 
 -- Who owes an answer for which the manager waits is answered for once the two seconds are over.
 abbrev pub passed : ℕ → Late → Outcome

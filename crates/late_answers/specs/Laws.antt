@@ -5,7 +5,7 @@ use Rattle.session_model.specs.Phases.{is_member, is_owing, phase_given}
 use Rattle.session_model.specs.Replies.{has_place}
 use Rattle.session_model.specs.declared.phase.Phase.{Phase}
 use Rattle.session_model.specs.declared.phase.Phase.TheVariants.{Asked, AskedTwo, Done, Idle, Interacting, Owing, Saving}
-use Rattle.late_answers.specs.Late.{message_of, order_of, told, step_of, said, passed}
+use Rattle.late_answers.specs.Late.{at_first, message_of, order_of, told, step_of, said, replied, passed}
 use Rattle.late_answers.specs.declared.late.Save.{Save}
 use Rattle.late_answers.specs.declared.late.Save.TheVariants.{Shown, Held, Hidden}
 use Rattle.late_answers.specs.declared.late.Late.{Late}
@@ -49,6 +49,20 @@ pub record Passes (s : Said) : Type 0 where
 
 abbrev pub OthersAreHeard : Type 0
 OthersAreHeard = (m : XsmpMessage) (l : Late) → IsPlain l → Passes (said m l)
+
+-- Nor is it held back as one that leaves behind a logout that was called off.
+pub record IsPunctual (l : Late) : Type 0 where
+  pub plain : IsPlain l
+  pub owes : is_owing l.phase ≡ false
+  pub lately : l.lately ≡ 0
+  pub stays : l.gone ≡ false
+
+pub record OthersAreLetGo : Type 0 where
+  pub first : IsPunctual at_first
+  pub told : (m : XsmpMessage) (l : Late) → IsPunctual l → calls_off (order_of m) ≡ false → IsPunctual (told m l).late
+  pub said : (m : XsmpMessage) (l : Late) → IsPunctual l → IsPunctual (said m l).late
+  pub replied : (l : Late) → IsPunctual l → IsPunctual (replied l).late
+  pub passed : (milliseconds : ℕ) (l : Late) → IsPunctual l → IsPunctual (passed milliseconds l).late
 
 -- ---- what is said in a client's place
 

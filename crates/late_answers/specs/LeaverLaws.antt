@@ -1,5 +1,5 @@
 -- What holds of a leaver at each message of the manager's, and as time passes.
-use Rattle.std.specs.Prelude.{◌≡◌, ℕ, ◌<◌, ◌≤◌, ◌&&◌, Bool, true, false, List, [], ◌∷◌, length, Option, Some}
+use Rattle.std.specs.Prelude.{◌≡◌, ℕ, ◌<◌, ◌≤◌, ◌&&◌, ◌||◌, Bool, true, false, List, [], ◌∷◌, length, Option, Some}
 use Rattle.xsmp_messages.specs.declared.message.XsmpMessage.{XsmpMessage}
 use Rattle.xsmp_messages.specs.declared.message.XsmpMessage.TheVariants.{Interact, SaveYourself, SaveYourselfPhase2, ShutdownCancelled}
 use Rattle.round_agreement.specs.declared.wanted.Wanted.{Wanted}
@@ -7,11 +7,13 @@ use Rattle.session_model.specs.Phases.{is_asked, is_bound, is_member, may_intera
 use Rattle.session_model.specs.Replies.{has_place}
 use Rattle.session_model.specs.declared.phase.Phase.{Phase}
 use Rattle.session_model.specs.declared.phase.Phase.TheVariants.{Idle, WantsTwo}
-use Rattle.late_answers.specs.Leavers.{messages_of, leaver_told, leaver_known, leaver_passed, is_asking, is_over}
+use Rattle.late_answers.specs.Late.{is_done}
+use Rattle.late_answers.specs.Leavers.{messages_of, leaver_told, leaver_known, leaver_passed, parting_of, is_asking, is_over}
 use Rattle.late_answers.specs.Laws.{time_in}
 use Rattle.late_answers.specs.declared.leaver.Stay.{Stay}
-use Rattle.late_answers.specs.declared.leaver.Stay.TheVariants.{Leaving, Unsaved, Saved, Asking, Expected, Over}
+use Rattle.late_answers.specs.declared.leaver.Stay.TheVariants.{Leaving, Waiting, Unasked, Unsaved, Saved, Asking, Expected, Over}
 use Rattle.late_answers.specs.declared.leaver.Leaver.{Leaver}
+use Rattle.late_answers.specs.declared.late.Late.{Late}
 
 -- ---- what is said in its place
 
@@ -22,6 +24,12 @@ is_idle_phase phase = false
 abbrev pub wants_two : Option Phase → Bool
 wants_two (Some WantsTwo) = true
 wants_two phase = false
+
+-- who waits for its turn, and who has failed
+abbrev pub stands : Stay → Option Phase → Bool
+stands Waiting phase = is_asked phase || wants_two phase
+stands Unasked phase = is_done phase
+stands stay phase = true
 
 -- the phases in which the manager sends this
 abbrev pub comes : XsmpMessage → Option Phase → Bool
@@ -37,14 +45,23 @@ all_placed wanted phase [] = true
 all_placed wanted phase (m ∷ ms) = has_place wanted m phase && all_placed wanted (phase_said (may_interact wanted) m phase) ms
 
 pub record LeaversHaveTheirPlace : Type 0 where
-  pub told : (m : XsmpMessage) (g : Leaver) (wanted : Option Wanted) (phase : Option Phase) → comes m phase ≡ true → all_placed wanted (phase_given m phase) (messages_of (leaver_told m g).line) ≡ true
+  pub left : (l : Late) (wanted : Option Wanted) → all_placed wanted l.phase (messages_of (parting_of l).line) ≡ true
+  pub told : (m : XsmpMessage) (g : Leaver) (wanted : Option Wanted) (phase : Option Phase) → stands g.stay phase ≡ true → comes m phase ≡ true → all_placed wanted (phase_given m phase) (messages_of (leaver_told m g).line) ≡ true
   pub passed : (milliseconds : ℕ) (g : Leaver) (wanted : Option Wanted) (phase : Option Phase) → is_bound phase ≡ true → all_placed wanted phase (messages_of (leaver_passed milliseconds g).line) ≡ true
+
+-- It stands so as it leaves, where it is bound to the session then, behind each message of the manager's, and as time passes. Who waits for its turn or has failed then has said nothing, so that its phase is the one that the message led to.
+pub record LeaversStand : Type 0 where
+  pub left : (l : Late) → is_bound l.phase ≡ true → stands (parting_of l).leaver.stay l.phase ≡ true
+  pub told : (m : XsmpMessage) (g : Leaver) (phase : Option Phase) → stands g.stay phase ≡ true → comes m phase ≡ true → stands (leaver_told m g).leaver.stay (phase_given m phase) ≡ true
+  pub passed : (milliseconds : ℕ) (g : Leaver) (phase : Option Phase) → stands g.stay phase ≡ true → stands (leaver_passed milliseconds g).leaver.stay phase ≡ true
 
 -- ---- one start for each time that it left
 
 -- how far it is
 abbrev pub rank : Stay → ℕ
 rank Leaving = 0
+rank Waiting = 0
+rank Unasked = 0
 rank Unsaved = 1
 rank Saved = 2
 rank Asking = 3

@@ -4,7 +4,7 @@ ghost use Rattle.late_answers.specs.Late as of;
 use crate::outcome::Word;
 use ice_values::{Dialog, SaveStyle};
 use round_agreement::Wanted;
-use session_clients::{given, is_owing, said};
+use session_clients::{given, is_bound, is_owing, said};
 use session_model::Phase;
 use xsmp_messages::XsmpMessage;
 
@@ -52,6 +52,12 @@ pub struct Late {
     pub answered: bool,
     /// In how many milliseconds it is answered for, where it owes an answer that the manager waits for.
     pub left: u64,
+    /// It has said of the save that it was asked for last that it succeeded.
+    pub saved: bool,
+    /// For how many milliseconds more it counts as one that leaves behind a logout that was called off.
+    pub lately: u64,
+    /// It has closed in this time.
+    pub gone: bool,
 }
 
 impl Debt {
@@ -195,6 +201,9 @@ impl Late {
             wary: false,
             answered: true,
             left: 0,
+            saved: false,
+            lately: 0,
+            gone: false,
         }
     }
 
@@ -216,11 +225,22 @@ impl Late {
         !self.debt.is_paid() && !self.save.is_held() && !is_owing(self.phase)
     }
 
-    /// Whether the manager waits for an answer of it, which is given in its place once it is time.
+    /// Whether the manager waits for an answer of it, which is given in its place once it is time, or it
+    /// counts as one that leaves late, until it is time.
     pub fn waits(self) -> bool
         ensures { result ≡ of.waits self }
     {
-        is_owing(self.phase)
+        is_owing(self.phase) || self.lately > 0
+    }
+
+    /// What is known once it has closed.
+    pub fn closed(self) -> Late
+        ensures { result ≡ of.closed self }
+    {
+        Late {
+            gone: self.gone || self.lately > 0 && is_bound(self.phase),
+            ..self
+        }
     }
 
     /// The manager sends this.

@@ -1,5 +1,5 @@
-ghost use Rattle.late_answers.specs.Laws.{OthersAreSentAll, OthersAreHeard, WordsHaveTheirPlace, AnswersAreOfTheRunningSave, DebtsEnd};
-ghost use Rattle.late_answers.specs.LeaverLaws.{LeaversHaveTheirPlace, LeaversGoOn, LeaversEnd};
+ghost use Rattle.late_answers.specs.Laws.{OthersAreSentAll, OthersAreHeard, OthersAreLetGo, WordsHaveTheirPlace, AnswersAreOfTheRunningSave, DebtsEnd};
+ghost use Rattle.late_answers.specs.LeaverLaws.{LeaversHaveTheirPlace, LeaversStand, LeaversGoOn, LeaversEnd};
 
 /// Does nothing: its contract is a law of each client that was never told that a logout is called off.
 /// What the manager sends it goes out as it came.
@@ -11,6 +11,12 @@ pub fn others_are_sent_all()
 /// What it says is handed on.
 pub fn others_are_heard()
     ensures { OthersAreHeard }
+{}
+
+/// Does nothing: its contract is a law of each client that was never told that a logout is called off.
+/// It never counts as one that leaves behind such a logout.
+pub fn others_are_let_go()
+    ensures { OthersAreLetGo }
 {}
 
 /// Does nothing: its contract is a law of each message of the manager's. A word that it hears in the
@@ -31,10 +37,17 @@ pub fn debts_end()
     ensures { DebtsEnd }
 {}
 
-/// Does nothing: its contract is a law of each message of the manager's to a leaver, and of time. What the
-/// manager hears in its place has its place in the phase in which the manager has the client then.
+/// Does nothing: its contract is a law of each client that leaves, of each message of the manager's to a
+/// leaver, and of time. What the manager hears in its place has its place in the phase in which the manager
+/// has the client then.
 pub fn leavers_have_their_place()
     ensures { LeaversHaveTheirPlace }
+{}
+
+/// Does nothing: its contract is a law of leavers. One that waits for its turn is in a phase in which it may,
+/// and one that has failed in the save that runs has answered it, from its leaving on.
+pub fn leavers_stand()
+    ensures { LeaversStand }
 {}
 
 /// Does nothing: its contract is a law of leavers. One never goes back to where it was, so it is started

@@ -1,6 +1,8 @@
 ghost use Rattle.std.specs.Prelude.{◌≡◌};
 ghost use Rattle.late_answers.specs.Leavers as of;
 
+use crate::late::Late;
+use session_model::Phase;
 use xsmp_messages::XsmpMessage;
 
 /// How long the manager goes on with a client that has left.
@@ -8,6 +10,10 @@ use xsmp_messages::XsmpMessage;
 pub enum Stay {
     /// Its logout isn't over.
     Leaving,
+    /// It left behind its logout, and waits for the token or for the second phase of another save.
+    Waiting,
+    /// It left behind its logout, and has failed in the save that runs.
+    Unasked,
     /// Its logout was called off, and what it has saved isn't in a checkpoint yet.
     Unsaved,
     /// What it has saved is in a checkpoint.
@@ -40,6 +46,8 @@ pub enum Line {
     TalkedAndSaved,
     /// SaveYourselfRequest for itself alone.
     AsksToSave,
+    /// SaveYourselfDone without success, and then SaveYourselfRequest for itself alone.
+    FailedAndAsks,
     /// GetProperties.
     AsksForProperties,
 }
@@ -84,12 +92,30 @@ fn call_of(message: &XsmpMessage) -> Call
 }
 
 impl Stay {
+    /// It has answered a save.
+    fn answered(self) -> Stay
+        ensures { result ≡ of.stay_answered self }
+    {
+        match self {
+            Stay::Waiting => Stay::Unsaved,
+            Stay::Leaving => Stay::Leaving,
+            Stay::Unasked => Stay::Unasked,
+            Stay::Unsaved => Stay::Unsaved,
+            Stay::Saved => Stay::Saved,
+            Stay::Asking => Stay::Asking,
+            Stay::Expected => Stay::Expected,
+            Stay::Over => Stay::Over,
+        }
+    }
+
     /// Its logout is called off.
     fn called_off(self) -> Stay
         ensures { result ≡ of.stay_called_off self }
     {
         match self {
             Stay::Leaving => Stay::Unsaved,
+            Stay::Waiting => Stay::Unsaved,
+            Stay::Unasked => Stay::Unsaved,
             Stay::Unsaved => Stay::Unsaved,
             Stay::Saved => Stay::Saved,
             Stay::Asking => Stay::Asking,
@@ -104,6 +130,8 @@ impl Stay {
     {
         match self {
             Stay::Leaving => Stay::Over,
+            Stay::Waiting => Stay::Waiting,
+            Stay::Unasked => Stay::Unsaved,
             Stay::Unsaved => Stay::Saved,
             Stay::Saved => Stay::Saved,
             Stay::Asking => Stay::Asking,
@@ -118,6 +146,8 @@ impl Stay {
     {
         match self {
             Stay::Leaving => Stay::Leaving,
+            Stay::Waiting => Stay::Waiting,
+            Stay::Unasked => Stay::Unasked,
             Stay::Unsaved => Stay::Unsaved,
             Stay::Saved => Stay::Asking,
             Stay::Asking => Stay::Asking,
@@ -130,8 +160,8 @@ impl Stay {
         ensures { result ≡ of.stay_behind call self }
     {
         match call {
-            Call::Saves => self,
-            Call::Talks => self,
+            Call::Saves => self.answered(),
+            Call::Talks => self.answered(),
             Call::CallsOff => self.called_off(),
             Call::Completes => self.completed(),
             Call::Ends => Stay::Over,
@@ -145,7 +175,25 @@ impl Stay {
     {
         match self {
             Stay::Leaving => Line::AsksToSave,
+            Stay::Waiting => Line::FailedAndAsks,
+            Stay::Unasked => Line::AsksToSave,
             Stay::Unsaved => Line::AsksToSave,
+            Stay::Saved => Line::Nothing,
+            Stay::Asking => Line::Nothing,
+            Stay::Expected => Line::Nothing,
+            Stay::Over => Line::Nothing,
+        }
+    }
+
+    /// What it says as its round is complete.
+    fn line_completed(self) -> Line
+        ensures { result ≡ of.line_completed self }
+    {
+        match self {
+            Stay::Unasked => Line::AsksToSave,
+            Stay::Leaving => Line::Nothing,
+            Stay::Waiting => Line::Nothing,
+            Stay::Unsaved => Line::Nothing,
             Stay::Saved => Line::Nothing,
             Stay::Asking => Line::Nothing,
             Stay::Expected => Line::Nothing,
@@ -160,7 +208,7 @@ impl Stay {
             Call::Saves => Line::Saved,
             Call::Talks => Line::TalkedAndSaved,
             Call::CallsOff => self.request(),
-            Call::Completes => Line::Nothing,
+            Call::Completes => self.line_completed(),
             Call::Ends => Line::Nothing,
             Call::Else => Line::Nothing,
         }
@@ -173,6 +221,8 @@ impl Stay {
         match self {
             Stay::Saved => Line::AsksForProperties,
             Stay::Leaving => Line::Nothing,
+            Stay::Waiting => Line::Nothing,
+            Stay::Unasked => Line::Nothing,
             Stay::Unsaved => Line::Nothing,
             Stay::Asking => Line::Nothing,
             Stay::Expected => Line::Nothing,
@@ -188,6 +238,8 @@ impl Stay {
             Stay::Saved => true,
             Stay::Expected => true,
             Stay::Leaving => false,
+            Stay::Waiting => false,
+            Stay::Unasked => false,
             Stay::Unsaved => false,
             Stay::Asking => false,
             Stay::Over => false,
@@ -200,6 +252,8 @@ impl Stay {
         match self {
             Stay::Asking => true,
             Stay::Leaving => false,
+            Stay::Waiting => false,
+            Stay::Unasked => false,
             Stay::Unsaved => false,
             Stay::Saved => false,
             Stay::Expected => false,
@@ -214,6 +268,8 @@ impl Stay {
         match self {
             Stay::Over => true,
             Stay::Leaving => false,
+            Stay::Waiting => false,
+            Stay::Unasked => false,
             Stay::Unsaved => false,
             Stay::Saved => false,
             Stay::Asking => false,
@@ -223,15 +279,22 @@ impl Stay {
 }
 
 impl Leaver {
+    /// A client that has just left, and stays so.
+    fn at(stay: Stay) -> Leaver
+        ensures { result ≡ of.leaver_at stay }
+    {
+        Leaver {
+            stay,
+            ended: false,
+            left: 2000,
+        }
+    }
+
     /// A client that has just left.
     pub fn new() -> Leaver
         ensures { result ≡ of.leaver_at_first }
     {
-        Leaver {
-            stay: Stay::Leaving,
-            ended: false,
-            left: 2000,
-        }
+        Leaver::at(Stay::Leaving)
     }
 
     /// Its stream has ended.
@@ -323,6 +386,42 @@ impl Leaver {
             Parting {
                 line: Line::Nothing,
                 leaver: later,
+            }
+        }
+    }
+}
+
+/// What is done at once for a client that leaves in this phase, behind a logout that was called off.
+fn late_parting(phase: Option<Phase>) -> Parting
+    ensures { result ≡ of.late_parting phase }
+{
+    let (line, stay) = match phase {
+        Some(Phase::Idle) => (Line::AsksToSave, Stay::Unsaved),
+        Some(Phase::Owing) => (Line::FailedAndAsks, Stay::Unsaved),
+        Some(Phase::Saving) => (Line::Saved, Stay::Unsaved),
+        Some(Phase::SavingTwo) => (Line::Saved, Stay::Unsaved),
+        Some(Phase::Interacting) => (Line::TalkedAndSaved, Stay::Unsaved),
+        Some(Phase::InteractingTwo) => (Line::TalkedAndSaved, Stay::Unsaved),
+        Some(Phase::Done) => (Line::Nothing, Stay::Unasked),
+        _ => (Line::Nothing, Stay::Waiting),
+    };
+    Parting {
+        line,
+        leaver: Leaver::at(stay),
+    }
+}
+
+impl Late {
+    /// What is done at once for the client, once its end is held back.
+    pub fn parting(self) -> Parting
+        ensures { result ≡ of.parting_of self }
+    {
+        if self.gone {
+            late_parting(self.phase)
+        } else {
+            Parting {
+                line: Line::Nothing,
+                leaver: Leaver::new(),
             }
         }
     }

@@ -19,6 +19,8 @@ pub enum Step {
     WantsSecond,
     /// SaveYourselfDone.
     HasSaved,
+    /// ConnectionClosed.
+    Leaves,
     /// Any other.
     Besides,
 }
@@ -31,7 +33,18 @@ fn step_of(message: &XsmpMessage) -> Step
         XsmpMessage::InteractDone { .. } => Step::HasTalked,
         XsmpMessage::SaveYourselfPhase2Request => Step::WantsSecond,
         XsmpMessage::SaveYourselfDone { .. } => Step::HasSaved,
+        XsmpMessage::ConnectionClosed { .. } => Step::Leaves,
         _ => Step::Besides,
+    }
+}
+
+/// Whether a save has succeeded of which a client speaks, or else this.
+fn saved_behind(message: &XsmpMessage, saved: bool) -> bool
+    ensures { result ≡ of.saved_behind message.now saved }
+{
+    match message {
+        XsmpMessage::SaveYourselfDone { success } => *success,
+        _ => saved,
     }
 }
 
@@ -74,6 +87,7 @@ impl Late {
             Step::AsksToTalk => self,
             Step::HasTalked => self,
             Step::WantsSecond => self,
+            Step::Leaves => self,
             Step::Besides => self,
         }
     }
@@ -100,6 +114,7 @@ impl Late {
                 debt: Debt::Waits,
                 ..self
             },
+            Step::Leaves => self,
             Step::Besides => self,
         }
     }
@@ -116,6 +131,7 @@ impl Late {
             Step::HasSaved => self.answered_late(Step::HasSaved),
             Step::AsksToTalk => self.answered_late(Step::AsksToTalk),
             Step::WantsSecond => self.answered_late(Step::WantsSecond),
+            Step::Leaves => self,
             Step::Besides => self,
         }
     }
@@ -129,6 +145,7 @@ impl Late {
             Step::AsksToTalk => is_resting(self.phase),
             Step::HasTalked => is_resting(self.phase),
             Step::WantsSecond => is_resting(self.phase),
+            Step::Leaves => false,
             Step::Besides => false,
         }
     }
@@ -140,23 +157,45 @@ impl Late {
         !self.save.is_shown() || self.wary && self.has_no_place(step)
     }
 
+    /// It has said this of the save of a logout that was called off.
+    fn said_lately(self, message: &XsmpMessage) -> Late
+        ensures { result ≡ of.said_lately message.now self }
+    {
+        Late {
+            lately: if saved_behind(message, false) {
+                2000
+            } else {
+                self.lately
+            },
+            ..self
+        }
+    }
+
+    /// It has said this of the save that it was asked for last.
+    fn behind(self, message: &XsmpMessage) -> Late
+        ensures { result ≡ of.behind message.now self }
+    {
+        Late {
+            phase: phase_behind(self.wanted, message, self.phase),
+            saved: saved_behind(message, self.saved),
+            ..self
+        }
+    }
+
     /// What is done about a message of the client's that is about a save.
     fn answers(self, step: Step, message: &XsmpMessage) -> Said
         ensures { result ≡ of.answers step message.now self }
     {
-        let behind = Late {
-            phase: phase_behind(self.wanted, message, self.phase),
-            ..self
-        };
+        let lately = self.said_lately(message);
         if self.pings > 0 {
-            let early = self.answered_early(step);
+            let early = lately.answered_early(step);
             Said::taken(Outcome::silent(Outgoing::NoBytes, early))
         } else if is_owing(self.phase) {
-            Said::passing(behind.answered_owing(step))
+            Said::passing(lately.behind(message).answered_owing(step))
         } else if self.is_late(step) {
-            Said::taken(self.answered_late(step).settled())
+            Said::taken(lately.answered_late(step).settled())
         } else {
-            Said::passing(behind)
+            Said::passing(self.behind(message))
         }
     }
 
@@ -169,6 +208,7 @@ impl Late {
             Step::HasTalked => self.answers(Step::HasTalked, message),
             Step::WantsSecond => self.answers(Step::WantsSecond, message),
             Step::HasSaved => self.answers(Step::HasSaved, message),
+            Step::Leaves => Said::passing(self.closed()),
             Step::Besides => Said::passing(self),
         }
     }
@@ -182,6 +222,7 @@ impl Late {
         Late {
             pings,
             wary: self.wary && !is_settled,
+            lately: 0,
             ..self
         }
     }

@@ -108,6 +108,7 @@ impl Late {
         let begun = Late {
             wanted: Some(wanted),
             save: Save::Shown,
+            saved: false,
             ..self
         };
         if self.wary {
@@ -189,15 +190,27 @@ impl Late {
         }
     }
 
+    /// Its logout is called off, and it owes nothing: it had answered, or wasn't asked.
+    fn owing_nothing(self, was_done: bool) -> Late
+        ensures { result ≡ of.owing_nothing was_done self }
+    {
+        Late {
+            wary: was_done || self.wary,
+            lately: if was_done && self.saved {
+                2000
+            } else {
+                self.lately
+            },
+            ..self
+        }
+    }
+
     /// Its logout, of which it was asked, is called off in a phase in which it owes this.
     fn called_off_owing(self, debt: Debt, was_done: bool) -> Outcome
         ensures { result ≡ of.called_off_owing debt was_done self }
     {
         match debt {
-            Debt::Paid => Outcome::as_it_came(Late {
-                wary: was_done || self.wary,
-                ..self
-            }),
+            Debt::Paid => Outcome::as_it_came(self.owing_nothing(was_done)),
             Debt::Talks => {
                 Outcome::spoken(Outgoing::Itself, Word::Failed, self.owing(Debt::Talks))
             }
@@ -266,6 +279,7 @@ impl Late {
     {
         let later = Late {
             left: self.left.saturating_sub(milliseconds),
+            lately: self.lately.saturating_sub(milliseconds),
             ..self
         };
         if is_owing(self.phase) && later.left == 0 {

@@ -1,5 +1,7 @@
 use crate::news::News;
-use client_quirks::{Amender, Answerer, Answering, Keeper, PieceList, StandIn, Stood, StreamPiece};
+use client_quirks::{
+    Amender, Answerer, Answering, HandedOver, Keeper, PieceList, StandIn, Stood, StreamPiece,
+};
 use owned_lists::{CommandList, NoMemory, Octets};
 use sm_world::Conn;
 use std::alloc::Global;
@@ -100,12 +102,26 @@ impl Follower {
         self.answerer.registers(piece)
     }
 
-    /// Has somebody speak in the client's place from now on, where its end is held back and it is known
+    /// Has the client's end held back, where it closes behind a logout that was called off and it is known
     /// who it is.
-    fn begin_to_stand_in(&mut self) {
-        if self.keeper.stage().is_kept() && self.stand_in.is_none() && self.id.is_some() {
-            self.stand_in = self.answerer.give_over();
+    fn hold_end(&mut self) {
+        if self.answerer.has_left() && self.id.is_some() {
+            self.keeper.hold_end();
         }
+    }
+
+    /// Has somebody speak in the client's place from now on, where its end is held back and it is known
+    /// who it is, and adds what the manager hears at once.
+    fn begin_to_stand_in(&mut self, waiting: &mut VecDeque<News>) -> Result<(), NoMemory> {
+        if !self.keeper.stage().is_kept() || self.stand_in.is_some() || self.id.is_none() {
+            return Ok(());
+        }
+        let Some(handed_over) = self.answerer.give_over()? else {
+            return Ok(());
+        };
+        let HandedOver { stand_in, pieces } = handed_over;
+        self.stand_in = Some(stand_in);
+        add_pieces(self.conn, pieces, waiting)
     }
 
     /// Hears pieces that the manager is to hear, and adds those that aren't held back.
@@ -125,6 +141,7 @@ impl Follower {
     ) -> Result<Octets, NoMemory> {
         let answering = self.answerer.hear(piece)?;
         let Answering { pieces, going } = answering;
+        self.hold_end();
         self.keep(pieces, waiting)?;
         Ok(going)
     }
@@ -158,7 +175,7 @@ impl Follower {
     ) -> Result<Octets, NoMemory> {
         let pieces = self.amender.take(piece)?;
         let going = self.pass(pieces, waiting)?;
-        self.begin_to_stand_in();
+        self.begin_to_stand_in(waiting)?;
         Ok(going)
     }
 
@@ -167,12 +184,14 @@ impl Follower {
         let pieces = self.amender.release();
         // Whatever would go out comes too late.
         self.pass(pieces, waiting)?;
+        self.answerer.end();
+        self.hold_end();
         let is_over = self.keeper.end();
         if is_over {
             waiting.push_back(News::Gone(self.conn))?;
             return Ok(true);
         }
-        self.begin_to_stand_in();
+        self.begin_to_stand_in(waiting)?;
         if let Some(stand_in) = &mut self.stand_in {
             stand_in.end();
         }

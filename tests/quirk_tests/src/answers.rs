@@ -157,7 +157,8 @@ fn put_told(
     Ok(())
 }
 
-/// Takes a step: `c` says something for the client, `s` for the manager, and `t` lets milliseconds pass.
+/// Takes a step: `c` says something for the client, `s` for the manager, `t` lets milliseconds pass, and any
+/// other word ends the client's stream.
 pub fn put_step(
     alloc: Global,
     answerer: &mut Answerer,
@@ -174,7 +175,10 @@ pub fn put_step(
             let pieces = joined(alloc, &answerer.pass(milliseconds)?)?;
             put_frames(alloc, pieces.as_slice(), text)
         }
-        None => Err("no step".into()),
+        None => {
+            answerer.end();
+            Ok(())
+        }
     }
 }
 

@@ -1,24 +1,32 @@
 use crate::answers::{OPENING, joined, put_frames, put_step, read_frames};
-use client_quirks::{Answerer, StandIn};
+use client_quirks::{Answerer, HandedOver, StandIn};
 use owned_lists::Octets;
 use std::alloc::{Alloc, Global};
 use std::process::Abort;
 use std::test::Fail;
 use test_tables::expect_rows;
 
-/// Who speaks in the place of a client that has answered a logout and closes.
-fn stand_in_of(alloc: Global) -> Result<StandIn, Fail> {
+/// What is known of a client behind these steps of its session.
+fn answerer_of(alloc: Global, steps: &str) -> Result<Answerer, Fail> {
     let mut answerer = Answerer::new(alloc);
     let mut text = String::new(alloc);
     for step in OPENING.split(' ') {
         put_step(alloc, &mut answerer, step, &mut text)?;
     }
-    put_step(alloc, &mut answerer, "s:logout", &mut text)?;
-    put_step(alloc, &mut answerer, "c:done+closed", &mut text)?;
-    match answerer.give_over() {
-        Some(stand_in) => Ok(stand_in),
-        None => Err("nobody stands in".into()),
+    for step in steps.split(' ') {
+        put_step(alloc, &mut answerer, step, &mut text)?;
     }
+    Ok(answerer)
+}
+
+/// Who speaks in the client's place then; what the manager hears at once is added.
+fn stand_in_of(alloc: Global, answerer: &mut Answerer, text: &mut String) -> Result<StandIn, Fail> {
+    let Some(handed_over) = answerer.give_over()? else {
+        return Err("nobody stands in".into());
+    };
+    let HandedOver { stand_in, pieces } = handed_over;
+    put_frames(alloc, joined(alloc, &pieces)?.as_slice(), text)?;
+    Ok(stand_in)
 }
 
 /// What the manager sends: what it hears, and behind `!` what is started.
@@ -71,8 +79,11 @@ fn put_turn(
     Ok(())
 }
 
+/// What the turns of a client bring that has answered a logout and closes.
 fn turns_shown(alloc: Global, input: &str) -> Result<String, Fail> {
-    let mut stand_in = stand_in_of(alloc)?;
+    let mut answerer = answerer_of(alloc, "s:logout c:done+closed")?;
+    let mut nothing = String::new(alloc);
+    let mut stand_in = stand_in_of(alloc, &mut answerer, &mut nothing)?;
     let mut text = String::new(alloc);
     for step in input.split(' ') {
         if !text.is_empty() {
@@ -100,6 +111,71 @@ s:save+complete => done.";
 #[test]
 fn who_has_left_is_spoken_for(rt: HostRuntime) -> Result<(), Fail> {
     expect_rows(&rt, LEAVERS, turns_shown)
+}
+
+/// What the manager hears at once of a client that closes behind these steps, and then what these turns
+/// bring; a word where its end isn't held back.
+fn late_turns_shown(alloc: Global, input: &str) -> Result<String, Fail> {
+    let Some((steps, turns)) = input.split_once(" | ") else {
+        return Err("steps without turns".into());
+    };
+    let mut answerer = answerer_of(alloc, steps)?;
+    let mut text = String::new(alloc);
+    if !answerer.has_left() {
+        text.push_str("gone")?;
+        return Ok(text);
+    }
+    let mut stand_in = stand_in_of(alloc, &mut answerer, &mut text)?;
+    for step in turns.split(' ') {
+        text.push_str(" ")?;
+        put_turn(alloc, &mut stand_in, step, &mut text)?;
+    }
+    Ok(text)
+}
+
+/// A client that leaves behind a logout that was called off, in each phase in which the manager may have it.
+const LATE_LEAVERS: &str = "\
+s:logout c:done s:cancelled c:closed | s:save s:complete e t:1999 t:1 s:given t:59999 t:1 => asks done - ended' -' properties -!787465726d' -' -.
+s:logout c:done s:cancelled e | e s:save s:complete t:2000 => asks ended done -' properties
+s:logout c:done s:cancelled s:save c:closed | s:complete e => done - ended'
+s:logout c:done s:cancelled s:logout c:closed | s:cancelled s:save s:complete e => done asks done - ended'
+s:logout c:done s:cancelled s:logout c:closed | s:die => done -.
+s:logout c:done s:cancelled s:logout s:cancelled c:closed | s:save s:complete e => failed+asks done - ended'
+s:logout s:cancelled c:done c:closed | s:save s:complete e => asks done - ended'
+s:logout s:cancelled c:done+closed | s:save s:complete e => asks done - ended'
+s:logout c:ask s:cancelled t:2000 s:save c:done+closed | s:complete e => done - ended'
+s:logout s:cancelled t:2000 s:logout c:done+closed | s:die => done -.
+s:logout c:ask s:interact s:cancelled c:done+closed | s:save s:complete e => asks done - ended'
+s:logout c:ask s:interact s:cancelled c:talked+done+closed | s:save s:complete e => asks done - ended'
+s:logout c:ask s:interact s:cancelled s:save c:done+closed | e s:complete s:save s:complete => - ended asks done -'
+s:logout c:ask s:interact s:cancelled s:logout c:done+closed | s:interact s:complete e => - talked+done - ended'
+s:logout c:ask s:interact s:cancelled s:logout c:done+closed | s:interact s:cancelled s:save s:complete => - talked+done asks done -
+s:logout c:ask s:interact s:cancelled s:logout c:done+closed | s:cancelled s:save s:complete e => - failed+asks done - ended'
+s:logout c:ask s:interact s:cancelled s:logout s:interact c:done+closed | s:die => done -.
+s:logout c:done s:cancelled t:1999 c:closed | s:die => asks -.";
+
+/// A client whose end is handed on as it comes.
+const PUNCTUAL_LEAVERS: &str = "\
+c:closed | e => gone
+s:save c:done s:complete c:closed | e => gone
+s:logout c:done c:closed | e => gone
+s:logout c:done s:cancelled t:2000 c:closed | e => gone
+s:logout c:done s:cancelled s:save c:reply c:closed | e => gone
+s:logout c:done s:cancelled s:save c:reply c:done s:complete c:closed | e => gone
+s:logout c:failed s:cancelled c:closed | e => gone
+s:logout s:cancelled c:failed c:closed | e => gone
+s:logout s:cancelled t:2000 c:closed | e => gone
+s:logout c:done s:cancelled s:logout s:die c:closed | e => gone
+s:logout c:done s:cancelled c:010b c:0000010000000000000000000000 | e => gone";
+
+#[test]
+fn who_leaves_late_is_spoken_for(rt: HostRuntime) -> Result<(), Fail> {
+    expect_rows(&rt, LATE_LEAVERS, late_turns_shown)
+}
+
+#[test]
+fn others_are_let_go(rt: HostRuntime) -> Result<(), Fail> {
+    expect_rows(&rt, PUNCTUAL_LEAVERS, late_turns_shown)
 }
 
 fn put_id(alloc: Global, id: Option<Octets>, text: &mut String) -> Result<(), Fail> {
