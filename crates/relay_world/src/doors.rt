@@ -38,10 +38,10 @@ impl Doors {
 
     /// The next client at one of the doors.
     pub fn next_client(&self, door: Source) -> io::Result<UnixStream> {
-        match door {
-            Source::Hidden => self.hidden.next_client(),
-            _ => Ok(self.clients.accept()?.0),
+        if door == Source::Hidden {
+            return self.hidden.next_client();
         }
+        Ok(self.clients.accept()?.0)
     }
 
     /// Whether a path leads back to this door.

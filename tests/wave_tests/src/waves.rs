@@ -1,20 +1,9 @@
-use owned_lists::{Command, NoMemory, Octets, OctetsList, PairList};
 use start_waves::{Ranked, RankedList, Waves};
 use std::alloc::{Alloc, Global};
 use std::process::Abort;
 use std::test::Fail;
 use test_tables::expect_rows;
-
-/// The command of this one word.
-fn command(alloc: Global, word: &str) -> Result<Command, NoMemory> {
-    let mut words = OctetsList::new(alloc);
-    words.push(Octets::from_slice(alloc, word.as_bytes())?)?;
-    Ok(Command {
-        words,
-        directory: Octets::new(alloc),
-        environment: PairList::new(alloc),
-    })
-}
+use written_books::command;
 
 /// The programs of a login: each has its word, `=` and its priority.
 fn ranks(alloc: Global, text: &str) -> Result<RankedList, Fail> {

@@ -4,5 +4,5 @@
 mod notation;
 mod returns;
 
-pub use notation::{book_from, shown};
+pub use notation::{book_from, command, shown};
 pub use returns::{parted, which_of};

@@ -14,7 +14,7 @@ use std::test::Fail;
 use xsmp_properties::{PropertyTable, command_of};
 
 /// A command of this word alone.
-fn command(alloc: Global, word: &str) -> Result<Command, NoMemory> {
+pub fn command(alloc: Global, word: &str) -> Result<Command, NoMemory> {
     let mut words = OctetsList::new(alloc);
     words.push(Octets::from_slice(alloc, word.as_bytes())?)?;
     Ok(Command {
