@@ -68,22 +68,24 @@ leaves() { answers ok shutdown && ends "$session_id" 0; }
 
 kept_list() { on_desktop "$desk/bin/smd-session" --list; }
 
-# kept N COUNT: whether the kept store with this number has so many programs.
-kept() { kept_list | grep -Eq "^$1  [0-9-]{10} [0-9:]{8}  $2 programs?(:|\$)"; }
+# kept N COUNT: whether the Nth that can be put back has so many programs.
+kept() { kept_list | sed -n "${1}p" | grep -Eq "^[0-9]+  [0-9-]{10} [0-9:]{8}  $2 programs?[, :]"; }
 
-keeps() { [ "$(ls "$stores/kept" | wc -l)" = "$1" ] && [ "$(kept_list | wc -l)" = "$1" ]; }
+# keeps NAME COUNT: whether so many books are kept of this session.
+keeps() { [ "$(ls "$stores/kept" | grep -c "\.$(printf %s "$1" | od -A n -t x1 | tr -d ' \n')\$")" = "$2" ]; }
 
 was_said() { grep -qF "$1" "$desk/said"; }
 
 store_words() { "$smd" store-check --store "$stores/store" "$@"; }
 
-ids() { store_words | sed -n 's/^entry //p'; }
+# The IDs of the session that has no name of its own.
+ids() { store_words | sed -n '/^session /q; s/^entry //p'; }
 
 # dialog ANSWER: a dialog that gives this answer, and notes the question.
 dialog() {
   cat > "$desk/bin/zenity" << DIALOG
 #!/bin/sh
-for word; do echo "\$word"; done > "$desk/asked"
+for word; do echo "\$word"; done >> "$desk/asked"
 echo $1
 DIALOG
   chmod +x "$desk/bin/zenity"
@@ -128,7 +130,7 @@ two_sessions() {
   wanted_ids=$(ids)
   check "the store has four IDs" test "$(wc -w <<< "$wanted_ids")" = 4
   check "the store is what another reader finds" read_otherwise
-  check "a store is kept only from the second login on" test "$(kept_list)" = 'no store is kept yet'
+  check "a store is kept only from the second login on" test "$(kept_list)" = 'no session is kept yet'
   check "the second login begins" logs_in
   check "the four programs come back" within 60 has 4
   check "the store of a living manager is told as such" grep -q '^store in use' <(store_words)
@@ -158,7 +160,6 @@ answered_dialog() {
   check "it asked" was_asked 'The last session began with 4 programs and ended with 0.'
   check "it told why" was_asked '4 of 4 programs had ended five seconds after the start.'
   comes_back 'a dialog'
-  check "the lost one is kept too" kept 2 0
   check "the restored one is the newest" kept 1 4
   no_dialog
   check "the restored session is left" leaves
@@ -178,15 +179,18 @@ unanswered_dialog() {
   check "it didn't ask again" test ! -e "$desk/asked"
   check "its session is left too" leaves
   no_dialog
-  check "a number that isn't there is refused" refused 1 'no store with the number 9 is kept' --restore 9
+  check "a number that isn't there is refused" refused 1 'nothing is kept under this number' --restore 999
   check "what is no number is refused" refused 1 'usage: smd-session' --restore 0
   check "a restored session begins" logs_in --restore "$(number_of 4)"
   comes_back 'its number was given'
   check "the restored session is left again" leaves
 }
 
-# number_of COUNT: the number of the newest kept store with so many programs.
+# number_of COUNT: the number of the newest that can be put back with so many programs.
 number_of() { kept_list | sed -n "s/^\([0-9]*\)  .*  $1 programs.*/\1/p" | head -n 1; }
+
+# answer_of COUNT: the place of its answer in a question.
+answer_of() { echo "$(($(kept_list | grep -n "  $1 programs" | head -n 1 | cut -d : -f 1) + 1))"; }
 
 # types LINE: once the terminal asks.
 types() {
@@ -204,7 +208,7 @@ answered_terminal() {
   at=$desk/run/smd
   rm -rf "$at"
   on_desktop script -qfec "$desk/bin/smd-session" "$desk/typed" \
-    < <(types "$(($(number_of 4) + 1))") > /dev/null 2>&1 &
+    < <(types "$(answer_of 4)") > /dev/null 2>&1 &
   session_id=$!
   check "a login on a terminal begins" within 60 answers_any
   check "it asked there" grep -q 'Which number?' "$desk/typed"
@@ -220,38 +224,60 @@ stand_in() {
 
 store_sum() { cksum < "$stores/store"; }
 
-# full_disk: a copy finds no room.
+# full_disk: nothing can be kept.
 full_disk() {
   local before
   before=$(store_sum)
-  stand_in cp 'echo part > "$3"' 'echo "cp: No space left on device" >&2' 'exit 1'
-  check "nothing is restored where there is no room" refused 1 "can't be kept: is the disk full?" --restore 1
-  check "the store is as it was where there is no room" test "$(store_sum)" = "$before"
+  mv "$stores/kept" "$stores/away"
+  : > "$stores/kept"
+  check "nothing is restored where nothing can be kept" refused 1 "isn't put back: smd: the session can't be kept" --restore 1
+  check "the store is as it was where nothing can be kept" test "$(store_sum)" = "$before"
   check "a login begins where nothing can be kept" logs_in
   check "it says so" was_said "can't be kept: is the disk full?"
   check "it goes on" within 60 has 4
   check "its session is left where nothing can be kept" leaves
-  rm "$desk/bin/cp"
+  rm "$stores/kept"
+  mv "$stores/away" "$stores/kept"
 }
 
-# killed_login: one that is killed between its copy and the sync, or before the copy has its name.
+# login_over FOLDER WORD..: what a login does to the state in this folder.
+login_over() { "$smd" login --store "$1/store" --kept "$1/kept" "${@:2}" > "$desk/told" 2>&1; }
+
+# book_in FOLDER: what its store has.
+book_in() { "$smd" store-check --store "$1/store" --json; }
+
+# killed_at CALLS N FOLDER: a login that puts the wanted number back, killed at the Nth of these system calls.
+killed_at() {
+  rm -rf "$3"
+  cp -a "$desk/before" "$3"
+  (
+    strace -f -o "$desk/calls" -e "trace=$1" -e "inject=$1:signal=SIGKILL:when=$2" \
+      "$smd" login --store "$3/store" --kept "$3/kept" --choice "$wanted_number"
+    exit $?
+  ) > /dev/null 2>&1
+  [ $? -eq 137 ]
+}
+
+# killed_login: one that is killed at any step, and is given again, comes to the same.
 killed_login() {
-  local before tool
-  before=$(kept_list)
-  stand_in sync 'kill -9 "$PPID"'
-  session_with
-  check "a login that is killed before its copy is synced changes nothing" test "$(kept_list)" = "$before"
-  check "its copy was made" test -s "$stores/kept/.new"
-  rm "$desk/bin/sync"
-  stand_in mv 'kill -9 "$PPID"'
-  session_with
-  rm "$desk/bin/mv"
-  check "the login after it begins" logs_in
-  check "the four programs come back after a kill" within 60 has 4
-  check "the session is kept after a kill" kept 1 4
-  check "no two are the same after a kill" books_differ
-  check "no part of a copy is left" test ! -e "$stores/kept/.new"
-  check "its session is left after a kill" leaves
+  local calls step wanted kills=0
+  wanted_number=$(number_of 4)
+  cp -a "$stores" "$desk/before"
+  cp -a "$stores" "$desk/after"
+  check "a login puts a session back" login_over "$desk/after" --choice "$wanted_number"
+  wanted=$(book_in "$desk/after")
+  for calls in rename fsync,fdatasync pwrite64 unlink,unlinkat; do
+    step=1
+    while killed_at "$calls" "$step" "$desk/killed"; do
+      kills=$((kills + 1))
+      login_over "$desk/killed" --choice "$wanted_number"
+      check "a login that was killed at $calls $step comes to the same" test "$(book_in "$desk/killed")" = "$wanted"
+      # The opening writes each page once more, which is one step.
+      [ "$calls $step" != 'pwrite64 2' ] || step=4096
+      step=$((step + 1))
+    done
+  done
+  check "a login was killed at each step" test "$kills" -ge 10
 }
 
 # modes: nobody else may read what is kept.
@@ -265,7 +291,7 @@ second_login() {
   check "a login begins that isn't the only one" logs_in
   check "its programs are there" within 60 has 4
   before=$(kept_list)
-  check "nothing is restored beside it" refused 1 'nothing is restored' --restore 1
+  check "nothing is restored beside it" refused 1 "isn't put back: smd: disk fault" --restore 1
   check "no other manager gets its store" refused 1 'another manager has the store'
   check "nothing else is kept" test "$(kept_list)" = "$before"
   check "its programs are still there" has 4
@@ -316,6 +342,53 @@ one_comes_back() {
   check "the session that was put back is left" leaves
 }
 
+# leaves_empty NAME: a login to this session at which its programs can't run, and its logout.
+leaves_empty() { logs_in DISPLAY= "$1" && within 20 was_said 'had ended five seconds' && leaves; }
+
+# works: a login to the session `work`, whose list has one program, and its logout.
+works() { logs_in work && within 60 has 1 && leaves; }
+
+# two_in_one_store: what is lost of one session is asked about, and kept, whatever the other one does.
+two_in_one_store() {
+  local round
+  make_desktop
+  cp "$desk/client" "$desk/client-e"
+  : > "$desk/client-e.said"
+  echo "$desk/client-e" > "$desk/config/smd/session.work"
+  check "a first session begins beside another" logs_in
+  check "its programs are saved beside another" within 60 has 4
+  check "it is left beside another" leaves
+  rm "$desk/config/smd/session"
+  wanted_ids=$(ids)
+  check "the other one begins" works
+  check "the first one begins again beside it" logs_in
+  check "its programs come back beside it" within 60 has 4
+  check "it is left again beside it" leaves
+  check "the first one is left empty" leaves_empty default
+  check "the other one begins after the loss" works
+  dialog 2
+  check "the login after both begins" logs_in
+  check "it asks, though another session began since" was_asked 'The last session began with 4 programs and ended with 0.'
+  comes_back 'a login of another session'
+  no_dialog
+  check "it is left after the question" leaves
+  for round in 1 2 3 4; do
+    : > "$desk/client-e.said"
+    check "login $round of the other one leaves nothing" leaves_empty work
+    dialog 1
+    check "login $round of the other one begins anew" works
+    no_dialog
+  done
+  check "the first one is still kept" test -n "$(number_of 4)"
+  check "the first one is left empty once more" leaves_empty default
+  dialog 2
+  check "the last login begins" logs_in
+  check "it asks behind eight logins of another session" was_asked 'The last session began with 4 programs and ended with 0.'
+  comes_back 'eight logins of another session'
+  no_dialog
+  check "it is left last" leaves
+}
+
 # session_without NAMES: a login at which these programs don't start, and its logout.
 session_without() {
   local there=0
@@ -323,38 +396,54 @@ session_without() {
   logs_in WITHOUT="$1" && within 60 connected "$there" && leaves
 }
 
-books_differ() {
-  [ -z "$(for file in "$stores"/kept/*; do
-    "$smd" store-check --store "$file" --json | sed '/^  "epoch"/d' | cksum
-  done | sort | uniq -d)" ]
-}
-
 five_at_most() {
   for without in d cd bcd abcd; do
     check "a session without $without is left" session_without "$without"
   done
   check "the fuller ones are kept" kept 4 4
-  check "the oldest is taken" logs_in --restore 4
+  check "the oldest is taken" logs_in --restore "$(number_of 4)"
   comes_back 'four smaller ones'
   check "it is left once more" leaves
   check "a session with another book is left" session_without a
   check "one with the sixth book begins" logs_in
-  check "five are kept and no more" keeps 5
-  check "no two have the same book" books_differ
+  check "five are kept and no more" keeps default 5
   check "the last session is left" leaves
 }
 
-damaged_store() {
+damage() {
   printf x | dd of="$stores/store" bs=1 seek=80 conv=notrunc 2> /dev/null
   printf x | dd of="$stores/store" bs=1 seek=8388688 conv=notrunc 2> /dev/null
-  on_desktop setsid -w "$desk/bin/smd-session" < /dev/null > /dev/null 2> "$desk/said"
-  check "a damaged store starts nothing" test $? -eq 2
-  check "the damage is told" was_said 'smd: store damaged at'
-  check "its store is as it was" was_said "$(store_words)"
-  check "a kept store is taken in its place" logs_in --restore "$(number_of 4)"
+}
+
+damaged_store() {
+  damage
+  dialog 1
+  check "a damaged store that is to stay starts nothing" refused 1 'smd: store damaged at'
+  check "it asked" was_asked 'Which session is to start?'
+  check "the store is as it was" was_said "$(store_words)"
+  no_dialog
+  check "a kept session is taken in its place" logs_in --restore "$(number_of 4)"
   comes_back 'a damage'
   check "the damaged store lies aside" test -s "$stores/store.damaged"
   check "the session in its place is left" leaves
+  damage
+  check "where nobody can be asked the newest is taken" logs_in
+  comes_back 'a second damage'
+  check "the session is left that nobody was asked about" leaves
+}
+
+# lost_store: one that is gone comes back from what is kept, with an epoch of its own.
+lost_store() {
+  local before
+  before=$(epoch)
+  rm "$stores/store"
+  dialog 2
+  check "a login begins where the store is gone" logs_in
+  check "it asked for what is gone" was_asked 'Which session is to start?'
+  comes_back 'a loss of the store'
+  no_dialog
+  check "no ID is given twice behind it" test "$(epoch)" -ge "$((before + 65535))"
+  check "the session is left that was lost" leaves
 }
 
 # verdict FILE: what store-check prints of it, and its status.
@@ -522,10 +611,13 @@ yesterday() {
   check "a store is read and not written" reads_only "$stores/store"
   five_at_most
   damaged_store
+  lost_store
   one_comes_back
   recorded_sessions
   judgements
   refusals
   no_store
   asks
+  rm -rf "$desk"
+  two_in_one_store
 }

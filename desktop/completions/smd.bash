@@ -3,8 +3,9 @@
 _smd_words() {
   local before=$1 line=$2
   case $before in
-    --socket | --control | --store | --authority | --record | --beside | --to | --state | --follow | --outer | --outer-authority) echo FILES ;;
+    --socket | --control | --store | --authority | --record | --beside | --kept | --to | --state | --follow | --outer | --outer-authority) echo FILES ;;
     --order) echo lsb msb ;;
+    --choice) echo stay nobody ;;
     drop) smctl clients --plain 2> /dev/null | sed -n 's/^conn=\([0-9]*\) .*/\1/p' ;;
     forget) _smd_gone ;;
     --patience | --session | --last-wait | --from | --saves | --id | --outer-id | --program | --seconds | --restore) ;;
@@ -22,11 +23,13 @@ _smd_gone() {
 _smd_own() {
   set -- $1
   case ${1##*/}:${2-} in
-    smd:) echo serve rehearse exercise store-check sessions restore --help --version ;;
+    smd:) echo serve rehearse exercise store-check sessions restore login kept --help --version ;;
     smd:serve) echo --socket --control --store --authority --patience --session --private --last-wait --quirks --record ;;
     smd:store-check) echo --store --json ;;
     smd:sessions) echo --store ;;
     smd:restore) echo --store --from --session --all --beside --look ;;
+    smd:login) echo --store --kept --session --choice ;;
+    smd:kept) echo --store --kept --session ;;
     smctl: | smctl:--control) echo checkpoint shutdown cancel status clients drop forget --control --help --version ;;
     smctl:clients) echo --plain ;;
     smctl:shutdown) echo --wait ;;
@@ -43,7 +46,7 @@ _smd_own() {
     smd-session:) echo --list --restore ;;
     smd-logout:) echo --now --save ;;
     smd-ask:) echo --seconds --buttons --tell ;;
-    smd-autostart:) echo --list ;;
+    smd-autostart:) echo --list --session ;;
   esac
 }
 

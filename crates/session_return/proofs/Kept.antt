@@ -139,7 +139,7 @@ not_due which kept present =
 
 -- ---- the rules
 
-later : (old new : ℕ) (entry : Entry) → old ≤ new → IsEntry old entry → IsEntry new entry
+pub later : (old new : ℕ) (entry : Entry) → old ≤ new → IsEntry old entry → IsEntry new entry
 later old new entry le is = record {
   id = record { epoch = is.id.epoch; number = is.id.number; first = is.id.first; last = omega (arith, le, is.id.last); fits = is.id.fits; is = is.id.is };
   table = is.table;

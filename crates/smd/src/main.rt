@@ -11,11 +11,13 @@ use program_texts::SMD;
 use quirk_world::{QuirkWorld, take_quirks};
 use record_file::{RecordFile, take_record};
 use session_recorder::{Recorder, opening_of};
+use shelf_files::{list_kept, log_in};
 use sm_world::{Console, Disk, Failure, Links, Spawner};
 use smd_app::{Identity, Paths, read_paths, smd_main};
 use std::io;
 use std::io::ErrorKind;
 use std::process::ExitCode;
+use store_login::{LoginFault, are_of_kept, are_of_login, read_kept_order, read_login};
 use store_report::{read_check, read_sessions, take_session};
 use store_return::{Fault, are_of_restore, carry_out_order, read_order, take_marks};
 use store_view::{check_store, kept_book, list_sessions};
@@ -45,6 +47,13 @@ const TEXTS: OwnTexts = OwnTexts {
         \x20      smd restore --store F --from KEPT [--session NAME | --all] [--beside FILE] [--look]\n\
         \x20                               puts one session of a kept store back, or all of them\n\
         \x20                               as: smd restore --store s --from kept --session work\n\
+        \x20      smd login --store F --kept FOLDER [--session NAME] [--choice stay | nobody | N]\n\
+        \x20                               keeps a session as a login to it begins, or puts back\n\
+        \x20                               what is kept under a number, or tells what to ask\n\
+        \x20                               as: smd login --store s --kept kept --choice 12\n\
+        \x20      smd kept --store F --kept FOLDER [--session NAME]\n\
+        \x20                               lists what is kept of a session, reading only\n\
+        \x20                               as: smd kept --store s --kept kept --session work\n\
         \x20      smd --help              shows this\n\
         \x20      smd --version           shows the version\n\n\
         With a patience of MS milliseconds a client is shut that is silent for so long\n\
@@ -273,8 +282,36 @@ fn restore_status(rt: HostRuntime, words: Vec<String>) -> u8 {
     conclude(rt.alloc(), &mut world, ending)
 }
 
+/// The status of words that say nothing, which is printed.
+fn bad_words(rt: HostRuntime) -> u8 {
+    let ending = Err(LoginFault::OfStore(Fault::BadWords));
+    conclude(rt.alloc(), &mut StandardConsole::new(rt), ending)
+}
+
+/// The status of a login.
+fn login_status(rt: HostRuntime, words: &[String]) -> io::Result<u8> {
+    match read_login(rt.alloc(), words).map_err(no_memory)? {
+        Some(order) => Ok(log_in(rt, order)),
+        None => Ok(bad_words(rt)),
+    }
+}
+
+/// The status of a look at what is kept.
+fn kept_status(rt: HostRuntime, words: &[String]) -> u8 {
+    match read_kept_order(words) {
+        Some(order) => list_kept(rt, order),
+        None => bad_words(rt),
+    }
+}
+
 /// The status of a run with these words on this desktop.
 fn run(rt: HostRuntime, mut words: Vec<String>) -> io::Result<u8> {
+    if are_of_login(words.as_slice()) {
+        return login_status(rt, words.as_slice());
+    }
+    if are_of_kept(words.as_slice()) {
+        return Ok(kept_status(rt, words.as_slice()));
+    }
     let session = take_session(&mut words);
     if let Some(check) = read_check(words.as_slice()) {
         return Ok(check_store(rt, check, session.as_ref().map(String::as_str)));

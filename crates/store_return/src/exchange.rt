@@ -53,7 +53,7 @@ fn write<D: Disk>(
 
 /// Makes the one book of a store the other: its changes are appended where they fit, and else the
 /// whole book is written. They are found before the disk is touched.
-pub(crate) fn exchange<D: Disk>(
+pub fn exchange_books<D: Disk>(
     journal: Journal,
     alloc: Global,
     disk: &mut D,

@@ -65,7 +65,7 @@ impl Fault {
     }
 
     /// Why a call on the console did nothing.
-    pub(crate) fn of_console(failure: Failure) -> Fault
+    pub fn of_console(failure: Failure) -> Fault
         ensures { result ≡ console_fault failure }
     {
         match failure {
@@ -75,7 +75,7 @@ impl Fault {
     }
 
     /// Why the store wasn't opened, or isn't written.
-    pub(crate) fn of_store(fault: StoreFault) -> Fault
+    pub fn of_store(fault: StoreFault) -> Fault
         ensures { result ≡ store_fault fault }
     {
         match fault {

@@ -9,8 +9,10 @@ mod program;
 mod restoring;
 mod words;
 
+pub use exchange::exchange_books;
 pub use faults::Fault;
 pub use kept::{BOOK_LIMIT, read_kept};
+pub use lines::{Counts, counts_of};
 pub use program::carry_out_order;
-pub use restoring::{restore, show};
-pub use words::{Marks, Order, are_of_restore, read_order, take_marks};
+pub use restoring::{opened, restore, show};
+pub use words::{Marks, Order, are_of_restore, read_order, session_of, take_marks};

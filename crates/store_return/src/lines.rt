@@ -47,14 +47,14 @@ pub(crate) fn put_entries(
 }
 
 /// Of how many entries nobody keeps the state, and of how many it is yet to be discarded.
-#[derive(Clone, Copy)]
-pub(crate) struct Counts {
+#[derive(Clone, Copy, Debug, PartialEq, Eq)]
+pub struct Counts {
     pub unkept: usize,
     pub due: usize,
 }
 
 /// These counts of entries that come back.
-pub(crate) fn counts_of(alloc: Global, present: &Book, back: &[Entry]) -> Result<Counts, NoMemory>
+pub fn counts_of(alloc: Global, present: &Book, back: &[Entry]) -> Result<Counts, NoMemory>
     ensures unkept { IfOk result (λ counts.
         counts.unkept ≡ how_many is_unkept present.now back.now) }
     ensures due { IfOk result (λ counts. counts.due ≡ how_many is_due present.now back.now) }

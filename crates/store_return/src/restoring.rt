@@ -8,7 +8,7 @@ ghost use Rattle.store_return.specs.Lines.{told_in};
 ghost use Rattle.store_return.specs.Restoring.{CarriesOut, Found, HasCause, IsOfCarrying, IsOfConsole, IsOfDisk, IsPlan, IsUnopened, IsUnplanned, RestoresOr, ShowsOr, aside};
 
 use crate::Fault;
-use crate::exchange::exchange;
+use crate::exchange::exchange_books;
 use crate::lines::{counts_of, put_entries, summary_of};
 use checkpoint_journal::Journal;
 use checkpoint_records::{Book, Entry, spell_book};
@@ -25,7 +25,7 @@ pub(crate) struct Plan {
 }
 
 /// Takes the store at this path, with its book.
-fn opened<D: Disk>(alloc: Global, disk: &mut D, store: &str) -> Result<(Journal, Book), Fault>
+pub fn opened<D: Disk>(alloc: Global, disk: &mut D, store: &str) -> Result<(Journal, Book), Fault>
     ensures told { (D.outside disk.new).told ≡ (D.outside disk.old).told }
     ensures found { IfOk result (λ found. Found (D.outside disk.old) found.0 found.1) }
     ensures size { IfOk result (λ found. (D.outside disk.new).size ≡ store_size) }
@@ -153,7 +153,7 @@ fn carry_out<W: Disk + Console>(
     if let Err(fault) = put_aside(alloc, world, beside, present) {
         return Err(fault);
     }
-    match exchange(journal, alloc, world, present, &plan.book) {
+    match exchange_books(journal, alloc, world, present, &plan.book) {
         Ok(last) => {
             drop(last);
             match tell(world, plan.text.as_slice()) {

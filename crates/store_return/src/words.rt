@@ -68,7 +68,7 @@ pub fn take_marks(words: &mut Vec<String>) -> Marks {
 }
 
 /// The name that the words say, or else `default`.
-fn session_of(words: &[String]) -> Option<&str> {
+pub fn session_of(words: &[String]) -> Option<&str> {
     match value_of(words, "--session") {
         Some(name) => {
             if is_name(name.as_bytes()) {

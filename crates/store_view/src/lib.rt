@@ -3,4 +3,4 @@
 
 mod view;
 
-pub use view::{check_store, kept_book, list_sessions};
+pub use view::{check_store, kept_book, list_sessions, present_book};

@@ -246,3 +246,20 @@ pub fn kept_book(rt: HostRuntime, path: &str) -> Result<Book, Fault>
         }
     }
 }
+
+/// The book of a store, which a manager may have, as it is now. It is the empty one where there is no store,
+/// or one that doesn't open.
+pub fn present_book(rt: HostRuntime, path: &str) -> io::Result<Book> {
+    let reading = match read_store(rt, path) {
+        Ok(reading) => reading,
+        Err(error) if error.kind() == ErrorKind::NotFound => {
+            return Book::empty(rt.alloc()).map_err(no_memory);
+        }
+        Err(error) => return Err(error),
+    };
+    match find(rt, reading.contents).map_err(no_memory)? {
+        Finding::Opens(book) => Ok(book),
+        Finding::Damaged(_) => Book::empty(rt.alloc()).map_err(no_memory),
+        Finding::WrongSize(_) => Book::empty(rt.alloc()).map_err(no_memory),
+    }
+}

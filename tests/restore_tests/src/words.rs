@@ -3,15 +3,7 @@
 use std::alloc::Global;
 use std::test::Fail;
 use store_return::{are_of_restore, read_order, take_marks};
-use test_tables::{expect_rows, text_of};
-
-fn words_of(alloc: Global, line: &str) -> Result<Vec<String>, Fail> {
-    let mut words = Vec::new(alloc);
-    for word in line.split(" ") {
-        words.push(word.to_string(alloc)?)?;
-    }
-    Ok(words)
-}
+use test_tables::{expect_rows, text_of, words_of};
 
 /// What the words say, behind `true` where they begin as those of a restore.
 fn said(alloc: Global, line: &str) -> Result<String, Fail> {

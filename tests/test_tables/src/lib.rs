@@ -29,3 +29,12 @@ pub fn expect_rows<F: Fn(Global, &str) -> Result<String, Fail>>(
     }
     Ok(())
 }
+
+/// The words of a line, of which a blank stands between two.
+pub fn words_of(alloc: Global, line: &str) -> Result<Vec<String>, Fail> {
+    let mut words = Vec::new(alloc);
+    for word in line.split(" ") {
+        words.push(word.to_string(alloc)?)?;
+    }
+    Ok(words)
+}

@@ -1,8 +1,8 @@
 //! Books as a line of text: the epoch, then each session with its entries, then `!` before each
 //! pending command. An entry is the epoch and the number of its ID, and behind `=` the word of its
-//! DiscardCommand; behind `*` stands how many there are, with the numbers that follow. So
-//! `3 default:1-1=d,1-2 work:2-1*4 !e` has the epoch 3, two entries of `default`, four of `work` and
-//! one pending command.
+//! DiscardCommand; behind `*` stands how many there are, with the numbers that follow, and behind `+` the
+//! word of the RestartCommand. So `3 default:1-1=d,1-2 work:2-1*4+run !e` has the epoch 3, two entries
+//! of `default`, four of `work`, which are started again, and one pending command.
 
 use checkpoint_records::{
     Book, Entry, EntryList, NamedList, SharedEntries, chosen_from, default_name, stored,
@@ -24,40 +24,62 @@ pub fn command(alloc: Global, word: &str) -> Result<Command, NoMemory> {
     })
 }
 
-/// A table with this DiscardCommand, or an empty one.
-fn table(alloc: Global, discard: Option<&str>) -> Result<PropertyTable, Fail> {
-    let mut table = PropertyTable::new(alloc)?;
-    let Some(word) = discard else {
-        return Ok(table);
+/// Adds a command of this word alone, where there is one.
+fn add_command(
+    alloc: Global,
+    name: &[u8],
+    word: Option<&str>,
+    list: &mut PropertyList,
+) -> Result<(), NoMemory> {
+    let Some(word) = word else {
+        return Ok(());
     };
     let mut values = Array8List::new(alloc);
     values.push(Octets::from_slice(alloc, word.as_bytes())?)?;
-    let mut list = PropertyList::new(alloc);
     list.push(Property {
-        name: Octets::from_slice(alloc, b"DiscardCommand")?,
+        name: Octets::from_slice(alloc, name)?,
         kind: Octets::from_slice(alloc, b"LISTofARRAY8")?,
         values,
-    })?;
+    })
+}
+
+/// What stands in the table of an entry.
+#[derive(Clone, Copy)]
+struct Commands<'a> {
+    discard: Option<&'a str>,
+    restart: Option<&'a str>,
+}
+
+fn table(alloc: Global, commands: Commands<'_>) -> Result<PropertyTable, Fail> {
+    let mut table = PropertyTable::new(alloc)?;
+    let mut list = PropertyList::new(alloc);
+    add_command(alloc, b"DiscardCommand", commands.discard, &mut list)?;
+    add_command(alloc, b"RestartCommand", commands.restart, &mut list)?;
     match table.set(&list) {
         Ok(_) => Ok(table),
         Err(_) => Err("no table has this".into()),
     }
 }
 
-fn entry(alloc: Global, epoch: u32, number: u32, discard: Option<&str>) -> Result<Entry, Fail> {
+fn entry(alloc: Global, epoch: u32, number: u32, commands: Commands<'_>) -> Result<Entry, Fail> {
     let id = format!(in alloc; "smd-{epoch:08x}-{number:08x}")?;
     Ok(Entry {
         id: Octets::from_slice(alloc, id.as_bytes())?,
-        table: table(alloc, discard)?,
+        table: table(alloc, commands)?,
     })
 }
 
 /// Adds the entries of one item.
 fn add_item(alloc: Global, item: &str, entries: &mut EntryList) -> Result<(), Fail> {
+    let (item, restart) = match item.split_once("+") {
+        Some((item, word)) => (item, Some(word)),
+        None => (item, None),
+    };
     let (id, discard) = match item.split_once("=") {
         Some((id, word)) => (id, Some(word)),
         None => (item, None),
     };
+    let commands = Commands { discard, restart };
     let (id, count) = match id.split_once("*") {
         Some((id, count)) => (id, count.parse::<u32>()?),
         None => (id, 1),
@@ -67,7 +89,7 @@ fn add_item(alloc: Global, item: &str, entries: &mut EntryList) -> Result<(), Fa
     };
     let (epoch, number) = (epoch.parse::<u32>()?, number.parse::<u32>()?);
     for step in 0..count {
-        entries.push(entry(alloc, epoch, number.saturating_add(step), discard)?)?;
+        entries.push(entry(alloc, epoch, number.saturating_add(step), commands)?)?;
     }
     Ok(())
 }

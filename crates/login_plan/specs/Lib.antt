@@ -1,0 +1,4 @@
+pub mod Logins
+pub mod Plans
+pub mod Books
+pub mod Laws

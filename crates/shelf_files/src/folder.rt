@@ -1,0 +1,180 @@
+ghost use Rattle.std.specs.Prelude.{IfOk};
+ghost use Rattle.login_plan.specs.Books.{AreKept};
+
+use crate::names::{FileName, is_left_over, read_name};
+use checkpoint_records::spell_book;
+use kept_books::{Kept, Shelf, file_name};
+use owned_lists::{NoMemory, Octets};
+use sm_world::Failed;
+use std::io::ErrorKind;
+use std::{fs, io};
+use store_file::replace;
+use store_login::Keeping;
+use store_view::kept_book;
+
+/// A file of the folder.
+#[derive(Drop)]
+struct ShelfFile {
+    name: String,
+    number: u64,
+}
+
+/// The folder in which books are kept. Whoever changes it has it alone, by a lock of the login.
+#[derive(Drop)]
+pub struct ShelfFolder {
+    rt: HostRuntime,
+    path: String,
+    files: Vec<ShelfFile>,
+}
+
+fn no_memory(_error: NoMemory) -> io::Error {
+    io::Error::from(ErrorKind::OutOfMemory)
+}
+
+/// The names of all files in a folder, none where there is no folder.
+fn names_in(rt: HostRuntime, path: &str) -> io::Result<Vec<String>> {
+    let mut names = Vec::new(rt.alloc());
+    let entries = match fs::read_dir(&rt, path) {
+        Ok(entries) => entries,
+        Err(error) if error.kind() == ErrorKind::NotFound => return Ok(names),
+        Err(error) => return Err(error),
+    };
+    for entry in entries {
+        let entry = entry?;
+        names.push(entry.file_name().to_string(rt.alloc())?)?;
+    }
+    Ok(names)
+}
+
+/// A file with its name's meaning.
+#[derive(Drop)]
+struct Found {
+    name: String,
+    says: FileName,
+}
+
+/// The files of books in the folder, those with the greatest numbers first.
+fn found_in(rt: HostRuntime, path: &str) -> io::Result<Vec<Found>> {
+    let mut all: Vec<Found> = Vec::new(rt.alloc());
+    for name in names_in(rt, path)? {
+        let Some(says) = read_name(rt.alloc(), name.as_str()).map_err(no_memory)? else {
+            continue;
+        };
+        let place = match all.iter().position(|other| other.says.number < says.number) {
+            Some(place) => place,
+            None => all.len(),
+        };
+        all.insert(place, Found { name, says })?;
+    }
+    Ok(all)
+}
+
+fn path_in(rt: HostRuntime, folder: &str, name: &str) -> io::Result<String> {
+    Ok(format!(in rt.alloc(); "{folder}/{name}")?)
+}
+
+/// Adds what a file has, where it has a book.
+fn add_kept(rt: HostRuntime, folder: &str, found: &Found, shelf: &mut Shelf) -> io::Result<()>
+    requires { AreKept shelf.old }
+    ensures { AreKept shelf.new }
+{
+    let path = path_in(rt, folder, found.name.as_str())?;
+    match kept_book(rt, path.as_str()) {
+        Ok(book) => {
+            let session = Octets::from_slice(rt.alloc(), found.says.session.as_slice()).map_err(
+                no_memory,
+            )?;
+            let number = found.says.number;
+            match shelf.push(Kept {
+                number,
+                session,
+                book,
+            }) {
+                Ok(()) => Ok(()),
+                Err(error) => Err(no_memory(error)),
+            }
+        }
+        Err(_) => {
+            let _ = eprintln!(rt; "smd: {path} is left out, since no book can be read there");
+            Ok(())
+        }
+    }
+}
+
+impl ShelfFolder {
+    /// The folder at this path, with what is kept in it.
+    pub fn open(rt: HostRuntime, path: &str) -> io::Result<(ShelfFolder, Shelf)>
+        ensures { IfOk result (λ found. AreKept found.1) }
+    {
+        let mut shelf = Shelf::new(rt.alloc());
+        let mut files = Vec::new(rt.alloc());
+        for found in found_in(rt, path)? {
+            add_kept(rt, path, &found, &mut shelf)?;
+            let number = found.says.number;
+            files.push(ShelfFile {
+                name: found.name,
+                number,
+            })?;
+        }
+        let path = path.to_string(rt.alloc())?;
+        Ok((ShelfFolder { rt, path, files }, shelf))
+    }
+
+    /// Takes away what a login left that was killed.
+    pub fn clear(&self) -> io::Result<()> {
+        for name in names_in(self.rt, self.path.as_str())? {
+            if is_left_over(name.as_str()) {
+                let path = path_in(self.rt, self.path.as_str(), name.as_str())?;
+                let _ = fs::remove_file(&self.rt, path.as_str());
+            }
+        }
+        Ok(())
+    }
+
+    /// Writes a book into a file of its own, which is on the disk then.
+    fn write(&mut self, kept: &Kept) -> io::Result<()> {
+        let alloc = self.rt.alloc();
+        let session = kept.session.as_slice();
+        let name = file_name(alloc, kept.number, session).map_err(no_memory)?;
+        let name = String::from_utf8(name.into_vec()).map_err(|_| io::Error::from(
+            ErrorKind::InvalidData,
+        ))?;
+        let bytes = spell_book(alloc, &kept.book).map_err(no_memory)?;
+        let path = path_in(self.rt, self.path.as_str(), name.as_str())?;
+        replace(self.rt, path.as_str(), bytes.as_slice(), None)?;
+        let number = kept.number;
+        self.files.push(ShelfFile { name, number })?;
+        Ok(())
+    }
+
+    /// Tells the user what the system said.
+    fn tell(&self, error: io::Error) {
+        let rt = self.rt;
+        let path = self.path.as_str();
+        let _ = eprintln!(rt; "smd: cannot keep a session in {path}: {error}");
+    }
+}
+
+impl Keeping for ShelfFolder {
+    fn put(&mut self, kept: &Kept) -> Result<(), Failed> {
+        match self.write(kept) {
+            Ok(()) => Ok(()),
+            Err(error) => {
+                self.tell(error);
+                Err(Failed)
+            }
+        }
+    }
+
+    fn leave(&mut self, shelf: &[Kept]) -> Result<(), Failed> {
+        for file in &self.files {
+            if shelf.iter().any(|kept| kept.number == file.number) {
+                continue;
+            }
+            if let Ok(path) = path_in(self.rt, self.path.as_str(), file.name.as_str()) {
+                let _ = fs::remove_file(&self.rt, path.as_str());
+            }
+        }
+        Ok(())
+    }
+}
