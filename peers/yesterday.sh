@@ -231,6 +231,7 @@ full_disk() {
   mv "$stores/kept" "$stores/away"
   : > "$stores/kept"
   check "nothing is restored where nothing can be kept" refused 1 "isn't put back: smd: the session can't be kept" --restore 1
+  check "nothing begins anew where nothing can be kept" refused 1 "smd: the session can't be kept" --anew
   check "the store is as it was where nothing can be kept" test "$(store_sum)" = "$before"
   check "a login begins where nothing can be kept" logs_in
   check "it says so" was_said "can't be kept: is the disk full?"
@@ -340,6 +341,23 @@ one_comes_back() {
   check "the other session stayed" test "$(session_words work)" = "$other"
   check "the epoch rose" test "$(epoch)" -gt "$before"
   check "the session that was put back is left" leaves
+}
+
+# begins_anew: a session begins as at its first login, another one of the store stays, and what it had comes back by its number.
+begins_anew() {
+  local other before
+  other=$(session_words work)
+  before=$(epoch)
+  check "a session begins anew" logs_in --anew
+  check "the programs of its list are started" within 60 has 4
+  check "none of them has an ID of before" test -z "$(ids | grep -xF "$wanted_ids")"
+  check "the other session stays beside a new one" test "$(session_words work)" = "$other"
+  check "no epoch is given twice for a new one" test "$(epoch)" -gt "$before"
+  check "the new one is left" leaves
+  check "what the session had is kept" kept 1 4
+  check "it is put back where another one had begun" logs_in --restore "$(number_of 4)"
+  comes_back 'a new beginning'
+  check "the session is left that was put back behind a new one" leaves
 }
 
 # leaves_empty NAME: a login to this session at which its programs can't run, and its logout.
@@ -613,6 +631,7 @@ yesterday() {
   damaged_store
   lost_store
   one_comes_back
+  begins_anew
   recorded_sessions
   judgements
   refusals

@@ -5,7 +5,7 @@ _smd_words() {
   case $before in
     --socket | --control | --store | --authority | --record | --beside | --kept | --to | --state | --follow | --outer | --outer-authority) echo FILES ;;
     --order) echo lsb msb ;;
-    --choice) echo stay nobody ;;
+    --choice) echo stay anew nobody ;;
     drop) smctl clients --plain 2> /dev/null | sed -n 's/^conn=\([0-9]*\) .*/\1/p' ;;
     forget) _smd_gone ;;
     --patience | --session | --last-wait | --from | --saves | --id | --outer-id | --program | --seconds | --restore) ;;
@@ -43,7 +43,7 @@ _smd_own() {
     smnest:) echo serve rehearse --help --version ;;
     smnest:serve) echo --socket --control --store --authority --patience --outer --outer-authority --outer-id ;;
     smnest:rehearse) echo --outer-id ;;
-    smd-session:) echo --list --restore ;;
+    smd-session:) echo --list --restore --anew ;;
     smd-logout:) echo --now --save ;;
     smd-ask:) echo --seconds --buttons --tell ;;
     smd-autostart:) echo --list --session ;;

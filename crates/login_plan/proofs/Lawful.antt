@@ -1,25 +1,30 @@
 -- The laws of a login.
-use Rattle.std.proofs.Common.{◌≡◌, ◌≢◌, ℕ, ◌+◌, ◌*◌, ◌≤◌, ◌==◌, Bool, true, false, cond, ◌&&◌, ◌||◌, List, [], ◌∷◌, refl, sym, ap, ◌∙◌, subst, arith}
+use Rattle.std.proofs.Common.{◌≡◌, ◌≢◌, ℕ, ◌+◌, ◌*◌, ◌≤◌, ◌==◌, Bool, true, false, cond, not, ◌&&◌, ◌||◌, List, [], ◌∷◌, ◌++◌, filter, take, refl, sym, ap, ◌∙◌, subst, arith}
 use Rattle.std.specs.Prelude.{nat_le, nat_lt, length}
+use Rattle.std.specs.List.{Contains}
+use Rattle.std.specs.Cmp.Lexicographic.{pointwise}
 use Rattle.std.proofs.lemmas.Bool.{ltb-false, ltb-true}
 use Rattle.std.proofs.lemmas.Bool.Decides.{nat_tests}
 use Rattle.checkpoint_records.specs.Books.{choose}
 use Rattle.checkpoint_records.specs.Rules.{KeepsRules}
 use Rattle.checkpoint_records.specs.declared.records.Book.{Book}
+use Rattle.checkpoint_records.specs.declared.records.Entry.{Entry}
+use Rattle.checkpoint_changes.specs.Plain.{equal_entry}
 use Rattle.session_return.specs.Returns.{epoch_behind, put_back}
 use Rattle.session_return.specs.declared.returns.Which.{Which}
 use Rattle.session_return.specs.declared.returns.Which.TheVariants.{One, All}
+use Rattle.session_return.proofs.Anew.{anew_empty, anew_others}
 use Rattle.session_return.proofs.Kept.{never_below, others_stay as others_of_return, same_again}
-use Rattle.kept_books.specs.Shelves.{kept_again, newly_kept, top_epoch, top_number}
+use Rattle.kept_books.specs.Shelves.{differs, entries_at, kept_again, left_beside, newly_kept, not_of, top_epoch, top_number}
 use Rattle.kept_books.specs.declared.shelves.Kept.{Kept}
 use Rattle.kept_books.proofs.Keeping.{epoch_kept, own_name}
 use Rattle.login_plan.specs.Logins.{began_with, is_behind, is_loss, is_lost, must_ask, offered, starts}
 use Rattle.login_plan.specs.Laws.{store_by, with_one_more}
-use Rattle.login_plan.specs.Plans.{brought_back, decided, first_offered, for_nobody, numbered, raised, shelf_behind, store_behind, which_back}
+use Rattle.login_plan.specs.Plans.{begun, brought_back, decided, first_offered, for_nobody, numbered, raised, shelf_behind, store_behind, which_back}
 use Rattle.login_plan.specs.declared.decisions.Choice.{Choice}
-use Rattle.login_plan.specs.declared.decisions.Choice.TheVariants.{Unasked, Stay, Nobody, Back}
+use Rattle.login_plan.specs.declared.decisions.Choice.TheVariants.{Unasked, Stay, Nobody, Back, Anew}
 use Rattle.login_plan.specs.declared.decisions.Decision.{Decision}
-use Rattle.login_plan.specs.declared.decisions.Decision.TheVariants.{Asks, Leaves, Stays, Restores, Unknown}
+use Rattle.login_plan.specs.declared.decisions.Decision.TheVariants.{Asks, Leaves, Stays, Restores, Unknown, Begins}
 use Rattle.login_plan.proofs.Ruled.{above, raised_rules}
 
 -- ---- epochs
@@ -34,6 +39,9 @@ top_below shelf present = by (is_behind shelf present) refl
 stays_top : (name : List ℕ) (shelf : List Kept) (present : Book) → top_epoch (kept_again name (raised shelf present) shelf) ≡ (raised shelf present).epoch
 stays_top name shelf present = epoch_kept name (raised shelf present) shelf (top_below shelf present)
 
+begun_top : (name : List ℕ) (shelf : List Kept) (present : Book) → top_epoch (shelf_behind Begins name shelf present) ≡ (raised shelf present).epoch
+begun_top name shelf present = epoch_kept name (begun name shelf present) (kept_again name (raised shelf present) shelf) (omega (arith, stays_top name shelf present))
+
 module _ (name : List ℕ) (shelf : List Kept) (present : Book) (kept : Kept) where
   back_above : (raised shelf present).epoch ≤ (brought_back name shelf present kept).epoch
   back_above = (never_below (raised shelf present).epoch kept.book.epoch).0
@@ -47,6 +55,7 @@ never_falls Leaves name shelf present = omega arith
 never_falls Stays name shelf present = above shelf present
 never_falls (Restores kept) name shelf present = omega (arith, above shelf present, back_above name shelf present kept)
 never_falls Unknown name shelf present = omega arith
+never_falls Begins name shelf present = above shelf present
 
 -- what is left as it is isn't behind the shelf
 module _ (name : List ℕ) (shelf : List Kept) (present : Book) where
@@ -76,6 +85,7 @@ module _ (name : List ℕ) (shelf : List Kept) (present : Book) where
       by false true is e = absurd cc
       by false false is e = omega (arith, ltb-false present.epoch (top_epoch shelf) is)
   left_above (Back number) e = absurd (number_leaves number shelf e)
+  left_above Anew e = absurd cc
 
   pub stays_behind : (choice : Choice) → decided choice name shelf present ≢ Asks → decided choice name shelf present ≢ Unknown
       → top_epoch (shelf_behind (decided choice name shelf present) name shelf present) ≤ (store_behind (decided choice name shelf present) name shelf present).epoch
@@ -87,6 +97,7 @@ module _ (name : List ℕ) (shelf : List Kept) (present : Book) where
       by Stays e = omega (arith, stays_top name shelf present)
       by (Restores kept) e = omega (arith, back_top name shelf present kept)
       by Unknown e = absurd (known e)
+      by Begins e = omega (arith, begun_top name shelf present)
 
 -- ---- questions
 
@@ -132,6 +143,32 @@ back_unasked name shelf present kept =
     let all : List Kept = kept_again name book (kept_again name (raised shelf present) shelf) in
     both_false (is_loss name all book) (is_lost all book) (nat_lt 0 (length (offered name all book))) (no_loss name book (kept_again name (raised shelf present) shelf)) (no_epochs (top_epoch all) book.epoch (omega (arith, back_top name shelf present kept)))
 
+pub begun_unasked : (name : List ℕ) (shelf : List Kept) (present : Book) → must_ask name (shelf_behind Begins name shelf present) (store_behind Begins name shelf present) ≡ false
+begun_unasked name shelf present =
+    let book : Book = begun name shelf present in
+    let all : List Kept = kept_again name book (kept_again name (raised shelf present) shelf) in
+    both_false (is_loss name all book) (is_lost all book) (nat_lt 0 (length (offered name all book))) (no_loss name book (kept_again name (raised shelf present) shelf)) (no_epochs (top_epoch all) book.epoch (omega (arith, begun_top name shelf present)))
+
+-- ---- what was
+
+-- what has other entries than the book of which it is kept in front is left beside it
+newest_left : (name : List ℕ) (book : Book) (kept : Kept) (shelf : List Kept) → differs name book kept ≡ true → (rest : List Kept) × (left_beside name book (kept ∷ shelf) ≡ kept ∷ rest)
+newest_left name book kept shelf e = (take 3 (filter (differs name book) shelf), rw e refl)
+
+not_nothing : (xs ys : List Entry) → 1 ≤ length xs → ys ≡ [] → not (pointwise equal_entry xs ys) ≡ true
+not_nothing [] ys some none = absurd (omega (arith, some))
+not_nothing (x ∷ xs) [] some none = refl
+not_nothing (x ∷ xs) (y ∷ ys) some none = absurd cc
+
+pub was_kept : (name : List ℕ) (shelf : List Kept) (present : Book) → KeepsRules present → 1 ≤ length (entries_at name present) → Contains (shelf_behind Begins name shelf present) (newly_kept name (raised shelf present) shelf)
+was_kept name shelf present p some =
+    let book : Book = begun name shelf present in
+    let first : Kept = newly_kept name (raised shelf present) shelf in
+    let older : List Kept = left_beside name (raised shelf present) shelf ++ not_of name shelf in
+    let other : differs name book first ≡ true = rw (own_name name) (not_nothing (entries_at name (raised shelf present)) (entries_at name book) some (anew_empty name (raised shelf present) (raised_rules shelf present p))) in
+    let left = newest_left name book first older other in
+    subst (λ (beside : List Kept). Contains (newly_kept name book (first ∷ older) ∷ (beside ++ not_of name (first ∷ older))) first) (sym left.1) (1, omega arith, refl)
+
 -- ---- other sessions
 
 pub other_stays : (decision : Decision) (name other : List ℕ) (shelf : List Kept) (present : Book) → ((kept : Kept) → decision ≡ Restores kept → KeepsRules kept.book) → KeepsRules present
@@ -143,6 +180,7 @@ other_stays (Restores kept) name other shelf present k p found apart =
     let which : which_back name shelf present ≡ One name = ap (λ (b : Bool). cond b All (One name)) found in
     ap (λ (w : Which). (choose other (put_back w kept.book (raised shelf present))).entries) which ∙ (others_of_return name kept.book (raised shelf present) (k kept refl) (raised_rules shelf present p)).1 other apart
 other_stays Unknown name other shelf present k p found apart = refl
+other_stays Begins name other shelf present k p found apart = anew_others name (raised shelf present) (raised_rules shelf present p) other apart
 
 -- ---- an order that was cut short
 

@@ -8,6 +8,7 @@ use Rattle.checkpoint_records.specs.Books.{all_entries}
 use Rattle.checkpoint_records.specs.Rules.{IsEntry, KeepsRules}
 use Rattle.checkpoint_records.specs.declared.records.Book.{Book}
 use Rattle.checkpoint_records.proofs.DistinctLaws.{all_front, all_turned}
+use Rattle.session_return.proofs.Anew.{anew_keeps}
 use Rattle.session_return.proofs.Kept.{later, rules_kept}
 use Rattle.session_return.proofs.Sifted.{all_left}
 use Rattle.kept_books.specs.Shelves.{top_epoch}
@@ -16,9 +17,9 @@ use Rattle.login_plan.specs.Books.{AreKept, HasBooks, IsStored}
 use Rattle.login_plan.specs.Logins.{is_behind, is_lost, may_be_offered, must_ask, offered}
 use Rattle.login_plan.specs.Plans.{Plans, brought_back, decided, first_offered, for_nobody, numbered, raised, which_back}
 use Rattle.login_plan.specs.declared.decisions.Choice.{Choice}
-use Rattle.login_plan.specs.declared.decisions.Choice.TheVariants.{Unasked, Stay, Nobody, Back}
+use Rattle.login_plan.specs.declared.decisions.Choice.TheVariants.{Unasked, Stay, Nobody, Back, Anew}
 use Rattle.login_plan.specs.declared.decisions.Decision.{Decision}
-use Rattle.login_plan.specs.declared.decisions.Decision.TheVariants.{Asks, Leaves, Stays, Restores, Unknown}
+use Rattle.login_plan.specs.declared.decisions.Decision.TheVariants.{Asks, Leaves, Stays, Restores, Unknown, Begins}
 use Rattle.login_plan.specs.declared.plans.Plan.{Plan}
 use Rattle.login_plan.specs.declared.plans.Refusal.{Refusal}
 
@@ -56,6 +57,7 @@ module _ (P : Kept → Type 0) where
       by false true e = absurd cc
       by false false e = absurd cc
   of_shelf (Back number) name shelf present kept h e = of_number number shelf kept h e
+  of_shelf Anew name shelf present kept h e = absurd cc
 
 -- ---- the store's book, raised
 
@@ -95,6 +97,7 @@ module _ (name : List ℕ) (shelf : List Kept) (present : Book) (stored : IsStor
   plan_books (Restores k) plan kept is =
       subst HasBooks (sym is.2) (raised_stored shelf present stored, (rules_kept (which_back name shelf present) k.book (raised shelf present) (kept k refl) (raised_rules shelf present stored.0) is.1, refl))
   plan_books Unknown plan kept is = absurd is
+  plan_books Begins plan kept is = subst HasBooks (sym is.1) (raised_stored shelf present stored, (anew_keeps name (raised shelf present) (raised_rules shelf present stored.0), refl))
 
   pub result_books : (decision : Decision) (result : Result Plan Refusal) → ((kept : Kept) → decision ≡ Restores kept → KeepsRules kept.book) → Plans name shelf present decision result → IfOk result HasBooks
   result_books decision (Ok plan) kept is = plan_books decision plan kept is

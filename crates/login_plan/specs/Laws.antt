@@ -1,23 +1,25 @@
 -- Laws of a login, of all books and shelves.
-use Rattle.std.specs.Prelude.{◌≡◌, ◌≢◌, ◌≤◌, ℕ, List, ◌∷◌, false}
+use Rattle.std.specs.Prelude.{◌≡◌, ◌≢◌, ◌≤◌, ℕ, List, [], ◌∷◌, false, length}
+use Rattle.std.specs.List.{Contains}
 use Rattle.checkpoint_records.specs.Books.{choose}
 use Rattle.checkpoint_records.specs.Rules.{KeepsRules}
 use Rattle.checkpoint_records.specs.declared.records.Book.{Book}
-use Rattle.kept_books.specs.Shelves.{newly_kept, top_epoch}
+use Rattle.kept_books.specs.Shelves.{entries_at, newly_kept, top_epoch}
 use Rattle.kept_books.specs.declared.shelves.Kept.{Kept}
 use Rattle.login_plan.specs.Logins.{is_lost, must_ask}
-use Rattle.login_plan.specs.Plans.{decided, numbered, shelf_behind, store_behind}
+use Rattle.login_plan.specs.Plans.{decided, numbered, raised, shelf_behind, store_behind}
 use Rattle.login_plan.specs.declared.decisions.Choice.{Choice}
 use Rattle.login_plan.specs.declared.decisions.Choice.TheVariants.{Nobody, Back}
 use Rattle.login_plan.specs.declared.decisions.Decision.{Decision}
-use Rattle.login_plan.specs.declared.decisions.Decision.TheVariants.{Asks, Leaves, Stays, Restores, Unknown}
+use Rattle.login_plan.specs.declared.decisions.Decision.TheVariants.{Asks, Leaves, Stays, Restores, Unknown, Begins}
 
--- Behind a login at which the session stays as it is, or at which something comes back, the same login asks nothing.
+-- Behind a login at which the session stays as it is, or at which something comes back, or it begins anew, the same login asks nothing.
 abbrev pub AnAnswerStands : Type 0
 AnAnswerStands =
     (name : List ℕ) (shelf : List Kept) (present : Book)
     → (must_ask name (shelf_behind Stays name shelf present) (store_behind Stays name shelf present) ≡ false)
     × ((kept : Kept) → must_ask name (shelf_behind (Restores kept) name shelf present) (store_behind (Restores kept) name shelf present) ≡ false)
+    × (must_ask name (shelf_behind Begins name shelf present) (store_behind Begins name shelf present) ≡ false)
 
 -- Where nobody could be asked and nothing was changed, the next login asks as this one would have.
 abbrev pub NobodyIsAskedAgain : Type 0
@@ -40,6 +42,12 @@ abbrev pub OthersStay : Type 0
 OthersStay =
     (decision : Decision) (name other : List ℕ) (shelf : List Kept) (present : Book) → ((kept : Kept) → decision ≡ Restores kept → KeepsRules kept.book) → KeepsRules present
     → is_lost shelf present ≡ false → other ≢ name → (choose other (store_behind decision name shelf present)).entries ≡ (choose other present).entries
+
+-- A session that begins anew has no programs, and what it had is kept, under a number of its own.
+abbrev pub WhatWasIsKept : Type 0
+WhatWasIsKept =
+    (name : List ℕ) (shelf : List Kept) (present : Book) → KeepsRules present → (entries_at name (store_behind Begins name shelf present) ≡ [])
+    × (1 ≤ length (entries_at name present) → Contains (shelf_behind Begins name shelf present) (newly_kept name (raised shelf present) shelf))
 
 -- what the store has behind a login for which this number was chosen
 abbrev pub store_by : ℕ → List ℕ → List Kept → Book → Book

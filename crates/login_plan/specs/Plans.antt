@@ -1,7 +1,7 @@
 -- What a login does about what it finds, by what was chosen.
 use Rattle.std.specs.Prelude.{◌≡◌, ◌<◌, ◌≤◌, ◌+◌, ◌⊎◌, ◌==◌, ℕ, Bool, true, if◌then◌else◌, List, [], ◌∷◌, Result, Ok, Err}
 use Rattle.checkpoint_records.specs.declared.records.Book.{Book}
-use Rattle.session_return.specs.Returns.{MayComeBack, StandsFirst, entries_back, put_back}
+use Rattle.session_return.specs.Returns.{MayComeBack, StandsFirst, begun_anew, entries_back, put_back}
 use Rattle.session_return.specs.declared.obstacles.Obstacle.{Obstacle}
 use Rattle.session_return.specs.declared.obstacles.Obstacle.TheVariants.{Worn}
 use Rattle.session_return.specs.declared.returns.Which.{Which}
@@ -10,9 +10,9 @@ use Rattle.kept_books.specs.Shelves.{kept_again, top_epoch}
 use Rattle.kept_books.specs.declared.shelves.Kept.{Kept}
 use Rattle.login_plan.specs.Logins.{is_behind, is_lost, must_ask, offered}
 use Rattle.login_plan.specs.declared.decisions.Choice.{Choice}
-use Rattle.login_plan.specs.declared.decisions.Choice.TheVariants.{Unasked, Stay, Nobody, Back}
+use Rattle.login_plan.specs.declared.decisions.Choice.TheVariants.{Unasked, Stay, Nobody, Back, Anew}
 use Rattle.login_plan.specs.declared.decisions.Decision.{Decision}
-use Rattle.login_plan.specs.declared.decisions.Decision.TheVariants.{Asks, Leaves, Stays, Restores, Unknown}
+use Rattle.login_plan.specs.declared.decisions.Decision.TheVariants.{Asks, Leaves, Stays, Restores, Unknown, Begins}
 use Rattle.login_plan.specs.declared.plans.Plan.{Plan}
 use Rattle.login_plan.specs.declared.plans.Plan.TheVariants.{Ask, Leave, Keep, Return}
 use Rattle.login_plan.specs.declared.plans.Refusal.{Refusal}
@@ -38,6 +38,7 @@ decided Unasked name shelf present = if must_ask name shelf present then Asks el
 decided Stay name shelf present = Stays
 decided Nobody name shelf present = for_nobody name shelf present
 decided (Back number) name shelf present = numbered number shelf
+decided Anew name shelf present = Begins
 
 -- the store's book with an epoch behind all that was kept: where it isn't, 65,536 are left out
 abbrev pub raised : List Kept → Book → Book
@@ -54,6 +55,9 @@ which_back name shelf present = if is_lost shelf present then All else One name
 abbrev pub brought_back : List ℕ → List Kept → Book → Kept → Book
 brought_back name shelf present kept = put_back (which_back name shelf present) kept.book (raised shelf present)
 
+abbrev pub begun : List ℕ → List Kept → Book → Book
+begun name shelf present = begun_anew name (raised shelf present)
+
 -- what the store and the shelf have behind a login for which that was decided
 abbrev pub store_behind : Decision → List ℕ → List Kept → Book → Book
 store_behind Asks name shelf present = present
@@ -61,6 +65,7 @@ store_behind Leaves name shelf present = present
 store_behind Stays name shelf present = raised shelf present
 store_behind (Restores kept) name shelf present = brought_back name shelf present kept
 store_behind Unknown name shelf present = present
+store_behind Begins name shelf present = begun name shelf present
 
 abbrev pub shelf_behind : Decision → List ℕ → List Kept → Book → List Kept
 shelf_behind Asks name shelf present = shelf
@@ -68,6 +73,7 @@ shelf_behind Leaves name shelf present = shelf
 shelf_behind Stays name shelf present = kept_again name (raised shelf present) shelf
 shelf_behind (Restores kept) name shelf present = kept_again name (brought_back name shelf present kept) (kept_again name (raised shelf present) shelf)
 shelf_behind Unknown name shelf present = shelf
+shelf_behind Begins name shelf present = kept_again name (begun name shelf present) (kept_again name (raised shelf present) shelf)
 
 -- it is raised, or there is no epoch for it
 abbrev pub Raises : List Kept → Book → Result Book Refusal → Type 0
@@ -90,9 +96,11 @@ Plans name shelf present Stays (Ok plan) = HasEpoch shelf present × (plan ≡ K
 Plans name shelf present (Restores kept) (Ok plan) =
     HasEpoch shelf present × MayComeBack (which_back name shelf present) kept.book (raised shelf present) × (plan ≡ Return (raised shelf present) (brought_back name shelf present kept))
 Plans name shelf present Unknown (Ok plan) = ⊥
+Plans name shelf present Begins (Ok plan) = HasEpoch shelf present × (plan ≡ Return (raised shelf present) (begun name shelf present))
 Plans name shelf present Asks (Err refusal) = ⊥
 Plans name shelf present Leaves (Err refusal) = ⊥
 Plans name shelf present Stays (Err refusal) = (refusal ≡ Stopped Worn) × ¬ (HasEpoch shelf present)
 Plans name shelf present (Restores kept) (Err refusal) =
     ((refusal ≡ Stopped Worn) × ¬ (HasEpoch shelf present)) ⊎ ((obstacle : Obstacle) × (refusal ≡ Stopped obstacle) × StandsInTheWay name shelf present kept obstacle)
 Plans name shelf present Unknown (Err refusal) = refusal ≡ NoNumber
+Plans name shelf present Begins (Err refusal) = (refusal ≡ Stopped Worn) × ¬ (HasEpoch shelf present)

@@ -18,6 +18,8 @@ pub enum Choice {
     Nobody,
     /// What is kept under this number.
     Back(u64),
+    /// To begin anew.
+    Anew,
 }
 
 /// What a login is to do.
@@ -33,6 +35,8 @@ pub enum Decision {
     Restores(Kept),
     /// Nothing is kept under the number.
     Unknown,
+    /// The session begins anew.
+    Begins,
 }
 
 fn numbered(number: u64, shelf: &[Kept]) -> Result<Decision, NoMemory>
@@ -97,5 +101,6 @@ pub fn decide(
         Choice::Stay => Ok(Decision::Stays),
         Choice::Nobody => for_nobody(alloc, name, shelf, present),
         Choice::Back(number) => numbered(number, shelf),
+        Choice::Anew => Ok(Decision::Begins),
     }
 }

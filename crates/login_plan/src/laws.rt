@@ -1,7 +1,7 @@
-ghost use Rattle.login_plan.specs.Laws.{AgainComesToTheSame, AnAnswerStands, EpochsStayBehind, NobodyIsAskedAgain, OthersStay, StoresNeverFall};
+ghost use Rattle.login_plan.specs.Laws.{AgainComesToTheSame, AnAnswerStands, EpochsStayBehind, NobodyIsAskedAgain, OthersStay, StoresNeverFall, WhatWasIsKept};
 
 /// Does nothing: its contract is a law of all logins. Where the session stays as it is, or something
-/// comes back, the next login doesn't ask again.
+/// comes back, or it begins anew, the next login doesn't ask again.
 pub fn an_answer_stands()
     ensures { AnAnswerStands }
 {}
@@ -33,4 +33,10 @@ pub fn others_stay()
 /// cut short comes to the same book where it is given again.
 pub fn again_comes_to_the_same()
     ensures { AgainComesToTheSame }
+{}
+
+/// Does nothing: its contract is a law of all logins. A session that begins anew has no programs, and
+/// what it had is kept.
+pub fn what_was_is_kept()
+    ensures { WhatWasIsKept }
 {}

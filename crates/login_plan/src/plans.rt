@@ -1,7 +1,7 @@
 ghost use Rattle.std.specs.Prelude.{◌≡◌, ℕ, List, IfOk};
 ghost use Rattle.login_plan.specs.Books.{AreKept, HasBooks, IsStored};
 ghost use Rattle.login_plan.specs.Plans.{Plans, Raises, decided, raised as raised_book, which_back as all_or_one};
-ghost use Rattle.login_plan.specs.declared.decisions.Decision.TheVariants.{Restores as RestoresThis, Stays as StaysSo};
+ghost use Rattle.login_plan.specs.declared.decisions.Decision.TheVariants.{Begins as BeginsNow, Restores as RestoresThis, Stays as StaysSo};
 ghost use Rattle.login_plan.specs.declared.plans.Refusal.TheVariants.{NoMemory as LacksMemory};
 
 use crate::decisions::{Choice, Decision, decide};
@@ -9,7 +9,7 @@ use crate::finds::{is_behind, is_lost};
 use checkpoint_records::{Book, copy_book};
 use kept_books::{Kept, top_epoch};
 use owned_lists::{NoMemory, Octets};
-use session_return::{Obstacle, Refusal as ReturnRefusal, Which, put_back};
+use session_return::{Obstacle, Refusal as ReturnRefusal, Which, begin_anew, put_back};
 use std::alloc::Global;
 
 /// How many epochs are left out where nobody knows which IDs were given.
@@ -109,6 +109,23 @@ fn brought_back(
     }
 }
 
+/// The session is kept as it is, and begins anew.
+fn begun(
+    alloc: Global,
+    name: &[u8],
+    shelf: &[Kept],
+    present: &Book,
+) -> Result<Plan, Refusal>
+    ensures { Plans name.now shelf.now present.now BeginsNow result }
+{
+    let first = match raised(shelf, present) {
+        Ok(book) => book,
+        Err(refusal) => return Err(refusal),
+    };
+    let book = begin_anew(alloc, name, &first)?;
+    Ok(Plan::Return(first, book))
+}
+
 fn planned(
     alloc: Global,
     name: &[u8],
@@ -124,6 +141,7 @@ fn planned(
         Decision::Stays => kept_so(shelf, present),
         Decision::Restores(kept) => brought_back(alloc, name, shelf, present, kept),
         Decision::Unknown => Err(Refusal::NoNumber),
+        Decision::Begins => begun(alloc, name, shelf, present),
     }
 }
 

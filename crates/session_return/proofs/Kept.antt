@@ -38,7 +38,7 @@ left_are which kept present k p = sessions_are (left_in which kept present) pres
 
 -- ---- sessions
 
-differ : (a b : List ℕ) → a ≢ b → bytes_eq a b ≡ false
+pub differ : (a b : List ℕ) → a ≢ b → bytes_eq a b ≡ false
 differ a b apart = by (bytes_eq a b) refl
   where
     by : (t : Bool) → bytes_eq a b ≡ t → bytes_eq a b ≡ false

@@ -1,12 +1,12 @@
 -- Laws of what comes back, of all books.
-use Rattle.std.specs.Prelude.{◌≡◌, ◌≢◌, ℕ, ◌≤◌, false, true, not, List}
+use Rattle.std.specs.Prelude.{◌≡◌, ◌≢◌, ℕ, ◌≤◌, false, true, not, List, []}
 use Rattle.std.specs.List.{All as AllOf, AllByRecursion, Contains}
 use Rattle.owned_lists.specs.declared.commands.Command.{Command}
 use Rattle.checkpoint_records.specs.Books.{choose, discards, names, sessions}
 use Rattle.checkpoint_records.specs.Rules.{KeepsRules}
 use Rattle.checkpoint_records.specs.declared.records.Book.{Book}
 use Rattle.discard_ledger.specs.Discards.{is_among, without_commands}
-use Rattle.session_return.specs.Returns.{MayComeBack, entries_back, epoch_behind, put_back}
+use Rattle.session_return.specs.Returns.{MayComeBack, begun_anew, entries_back, epoch_behind, put_back}
 use Rattle.session_return.specs.declared.returns.Which.{Which}
 use Rattle.session_return.specs.declared.returns.Which.TheVariants.{One, All}
 
@@ -59,3 +59,9 @@ ThereIsAWayBack =
     (name : List ℕ) (kept present : Book) → KeepsRules kept → KeepsRules present → (sessions (there_and_back name kept present) ≡ sessions present)
     × (epoch_behind present.epoch kept.epoch ≡ present.epoch → (there_and_back name kept present).epoch ≡ present.epoch)
     × ((there_and_back name kept present).pending ≡ without_commands (discards (choose name kept).entries) present.pending)
+
+-- A session that begins anew has no entries, and each other one has those that it had.
+abbrev pub OneSessionBeginsAnew : Type 0
+OneSessionBeginsAnew =
+    (name : List ℕ) (present : Book) → KeepsRules present → KeepsRules (begun_anew name present) × ((choose name (begun_anew name present)).entries ≡ [])
+    × ((other : List ℕ) → other ≢ name → (choose other (begun_anew name present)).entries ≡ (choose other present).entries)

@@ -1,10 +1,10 @@
--- The book that is left where a session of a kept book is put back over the book of the store, or all of them; what stands in the way; and
--- what is known of the state of an entry that comes back.
+-- The book that is left where a session of a kept book is put back over the book of the store, or all of them, or where one begins anew; what
+-- stands in the way; and what is known of the state of an entry that comes back.
 use Rattle.std.specs.Prelude.{◌≡◌, ℕ, ◌+◌, ◌<◌, ◌≤◌, ◌&&◌, nat_le, nat_lt, if◌then◌else◌, List, length, Option, None, Some, Result, Ok, Err}
 use Rattle.std.specs.List.{IsDistinct}
 use Rattle.std.specs.Str.{bytes_eq}
 use Rattle.owned_lists.specs.declared.commands.Command.{Command}
-use Rattle.checkpoint_records.specs.Books.{all_entries, chosen_from, default_name, discards, entries_in, entries_of, names, sessions}
+use Rattle.checkpoint_records.specs.Books.{all_entries, chosen_from, default_name, discards, entries_in, entries_of, names, others_than, sessions}
 use Rattle.checkpoint_records.specs.Rules.{ids_of}
 use Rattle.checkpoint_records.specs.declared.records.Book.{Book}
 use Rattle.checkpoint_records.specs.declared.records.Entry.{Entry}
@@ -44,6 +44,10 @@ put_back which kept present = book_of (sessions_back which (sessions kept) (sess
 abbrev pub entries_back : Which → Book → List Entry
 entries_back (One name) kept = entries_of name (sessions kept)
 entries_back All kept = all_entries kept
+
+-- the book of the store without the entries of this session, which begins anew over it; what is pending stays so, and nothing becomes due
+abbrev pub begun_anew : List ℕ → Book → Book
+begun_anew name present = chosen_from default_name (others_than name (sessions present)) present.pending present.epoch
 
 -- What stands in the way
 

@@ -1,4 +1,4 @@
-ghost use Rattle.session_return.specs.Laws.{AgainIsTheSame, AllSessionsComeBack, DueDiscardsStay, EpochsNeverFall, NothingBackIsDue, NothingBecomesDue, OtherSessionsStay, ReturnsKeepRules, ThereIsAWayBack};
+ghost use Rattle.session_return.specs.Laws.{AgainIsTheSame, AllSessionsComeBack, DueDiscardsStay, EpochsNeverFall, NothingBackIsDue, NothingBecomesDue, OneSessionBeginsAnew, OtherSessionsStay, ReturnsKeepRules, ThereIsAWayBack};
 
 /// Does nothing: its contract is a law of all books. Where nothing stands in the way, what is left
 /// keeps the rules of books.
@@ -50,4 +50,10 @@ pub fn again_is_the_same()
 /// session can be put back as it was.
 pub fn there_is_a_way_back()
     ensures { ThereIsAWayBack }
+{}
+
+/// Does nothing: its contract is a law of all books. A session that begins anew has no entries, and
+/// each other one has those that it had; what is left keeps the rules of books.
+pub fn one_session_begins_anew()
+    ensures { OneSessionBeginsAnew }
 {}

@@ -18,13 +18,16 @@ pub struct LoginOrder<'a> {
     pub choice: Choice,
 }
 
-/// The choice that a word says: `stay`, `nobody`, or the number of what is kept.
+/// The choice that a word says: `stay`, `nobody`, `anew`, or the number of what is kept.
 fn choice_in(alloc: Global, word: &str) -> Result<Option<Choice>, NoMemory> {
     if word == "stay" {
         return Ok(Some(Choice::Stay));
     }
     if word == "nobody" {
         return Ok(Some(Choice::Nobody));
+    }
+    if word == "anew" {
+        return Ok(Some(Choice::Anew));
     }
     match read_number(alloc, word.as_bytes())? {
         Some(number) => Ok(Some(Choice::Back(number))),

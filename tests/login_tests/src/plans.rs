@@ -5,7 +5,7 @@ use checkpoint_records::Book;
 use kept_books::Shelf;
 use login_plan::{
     Choice, Decision, Plan, again_comes_to_the_same, an_answer_stands, decide, epochs_stay_behind,
-    nobody_is_asked_again, others_stay, plan_login, stores_never_fall,
+    nobody_is_asked_again, others_stay, plan_login, stores_never_fall, what_was_is_kept,
 };
 use std::alloc::{Alloc, Global};
 use std::process::Abort;
@@ -19,6 +19,7 @@ fn choice_from(word: &str) -> Result<Choice, Fail> {
         "unasked" => Ok(Choice::Unasked),
         "stay" => Ok(Choice::Stay),
         "nobody" => Ok(Choice::Nobody),
+        "anew" => Ok(Choice::Anew),
         _ => Ok(Choice::Back(word.parse::<u64>()?)),
     }
 }
@@ -55,6 +56,7 @@ fn decided(alloc: Global, input: &str) -> Result<String, Fail> {
         Decision::Stays => text_of(alloc, &"stays"),
         Decision::Restores(kept) => text_of(alloc, &kept.number),
         Decision::Unknown => text_of(alloc, &"unknown"),
+        Decision::Begins => text_of(alloc, &"begins"),
     }
 }
 
@@ -78,7 +80,8 @@ nobody default / 1@default 7 default:1-1+a / 2 => \"stays\"
 nobody work / 2@default 1; 1@default 1 default:1-1 / 0 => 1
 nobody work / 1@default 1 / 0 => \"stays\"
 1 default / 2@work 1; 1@default 1 default:1-1+a / 2 => 1
-3 default / 2@work 1; 1@default 1 default:1-1+a / 2 => \"unknown\"";
+3 default / 2@work 1; 1@default 1 default:1-1+a / 2 => \"unknown\"
+anew default / 1@default 1 default:1-1+a,1-2+b,1-3+c / 2 default:1-1+a => \"begins\"";
 
 #[test]
 fn choices_are_heeded(rt: HostRuntime) -> Result<(), Fail> {
@@ -114,7 +117,10 @@ stay default / 1@default 3 default:1-1 / 2 default:1-2 => 65539 default smd-0000
 1 work / 1@work 1 work:1-1 / 3 default:1-1 => Stopped(Clash)
 stay default / 1@default 4294901759 / 2 => Stopped(Worn)
 stay default / 1@default 4294901758 / 2 => 4294967294 default
-9 default / 1@default 1 default:1-1 / 3 => NoNumber";
+9 default / 1@default 1 default:1-1 / 3 => NoNumber
+anew work / none / 3 default:1-2 games:3-1=g work:2-1=d !e => 3 default smd-00000001-00000002 games smd-00000003-00000001=g work smd-00000002-00000001=d !e; 3 default smd-00000001-00000002 games smd-00000003-00000001=g !e
+anew default / 1@work 3 work:1-1 / 2 default:1-2 work:1-1 => 65539 default smd-00000001-00000002 work smd-00000001-00000001; 65539 default work smd-00000001-00000001
+anew default / 1@default 4294901759 / 2 => Stopped(Worn)";
 
 #[test]
 fn plans_have_their_books(rt: HostRuntime) -> Result<(), Fail> {
@@ -160,5 +166,6 @@ fn laws_do_nothing(_rt: HostRuntime) -> Result<(), Fail> {
     epochs_stay_behind();
     stores_never_fall();
     others_stay();
+    what_was_is_kept();
     Ok(())
 }

@@ -21,6 +21,7 @@ const SAID: &str = "\
 login --store s --kept k => Some(LoginOrder { store: \"s\", kept: \"k\", session: \"default\", choice: Unasked })
 login --kept k --choice stay --session work --store s => Some(LoginOrder { store: \"s\", kept: \"k\", session: \"work\", choice: Stay })
 login --kept k --choice nobody --store s => Some(LoginOrder { store: \"s\", kept: \"k\", session: \"default\", choice: Nobody })
+login --kept k --choice anew --store s => Some(LoginOrder { store: \"s\", kept: \"k\", session: \"default\", choice: Anew })
 login --kept k --choice 12 --store s => Some(LoginOrder { store: \"s\", kept: \"k\", session: \"default\", choice: Back(12) })
 login --kept k --choice 012 --store s => None
 login --kept k --choice Stay --store s => None
