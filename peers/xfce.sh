@@ -78,4 +78,42 @@ xfce_sessions() {
   for record in "$xfce"/state/smd/records/*; do
     check "a record of Xfce replays" replays "$record"
   done
+  last_of_seven
+}
+
+# place_of CLASS: where the newest window of this class stands on the display.
+place_of() {
+  local window
+  window=$(xdotool search --onlyvisible --class "$1" | tail -n 1)
+  [ -n "$window" ] && xwininfo -id "$window" | sed -n 's/^ *Absolute upper-left [XY]: *//p' | tr '\n' ' '
+}
+
+stands_at() { [ "$(place_of "$1")" = "$2" ]; }
+
+# manager_is_last: whether xfwm4 stands behind all other programs in the store.
+manager_is_last() {
+  "$smd" store-check --store "$xfce/state/smd/store" | sed -n 's/^  restart //p' | tail -n 1 | grep -q xfwm4
+}
+
+# last_of_seven: the window manager joined last, behind programs that open windows, and puts these back all the same, since it
+# says of itself that it comes first.
+last_of_seven() {
+  local place
+  rm -rf "$xfce"
+  make_xfce
+  printf '%s\n' xfsettingsd 'exec Thunar --daemon' 'sleep 1; exec xfce4-panel' 'sleep 1; exec xfdesktop' \
+    'sleep 1; exec xfce4-terminal' 'sleep 1; exec featherpad' 'sleep 8; exec xfwm4' > "$xfce/.config/smd/session"
+  check "a login begins at which xfwm4 is the last of seven" xfce_logs_in
+  check "all seven join" within 90 connected 7
+  check "the terminal is moved" xdotool windowmove --sync "$(xdotool search --onlyvisible --class xfce4-terminal | tail -n 1)" 333 222
+  place=$(place_of xfce4-terminal)
+  check "the seven are saved" answers ok checkpoint
+  check "all seven are kept" within 30 has 7
+  check "the seven log out" leaves
+  check "xfwm4 is the last of them" manager_is_last
+  check "the next login of the seven begins" xfce_logs_in
+  check "all seven come back" within 90 has 7
+  check "the terminal stands where it was" within 20 stands_at xfce4-terminal "$place"
+  check "the seven log out again" leaves
+  check "the seven have ended" within 20 none_runs
 }

@@ -174,9 +174,16 @@ class Rows(Room):
 
     def test_a_row_may_wait_where_only_what_is_below_has_changed(self):
         self.write("crates/low/src/lib.rt", LOW.replace("Nothing", "Nothing at all"))
-        status, said = self.run_edits("--minutes", "0")
-        self.assertEqual(status, 0)
-        self.assertIn("tried 0; 1 wait", said)
+        for words in (["--minutes", "0"], ["--below", "0"]):
+            status, said = self.run_edits(*words)
+            self.assertEqual(status, 0)
+            self.assertIn("tried 0; 1 wait", said)
+
+    def test_what_may_not_wait_is_tried_where_the_others_wait(self):
+        self.edits("nothing_is_changed")
+        status, said = self.run_edits("--below", "0")
+        self.assertEqual(status, 1)
+        self.assertIn("nothing_is_changed: missed", said)
 
     def test_another_logic_makes_a_row_stale_that_may_wait(self):
         module, ledger = self.module()
