@@ -37,14 +37,17 @@ install_packages() {
 
 # The parts that are left out, a line each.
 left_out=()
+# How long each of the others took, by the clock.
+took=()
 
 # part PACKAGES TEXT WORD..: calls the words where these packages and the basic ones are installed. Otherwise it is kept
 # what was left out for lack of which.
 part() {
-  local lacking
+  local lacking begun=$SECONDS
   lacking=$(missing $basic $1 | sort -u | tr '\n' ' ')
   if [ -z "$lacking" ]; then
     "${@:3}"
+    took+=("$2 $((SECONDS - begun))")
   else
     left_out+=("$2, for lack of ${lacking% }")
   fi
