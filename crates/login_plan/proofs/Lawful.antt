@@ -13,7 +13,7 @@ use Rattle.checkpoint_changes.specs.Plain.{equal_entry}
 use Rattle.session_return.specs.Returns.{epoch_behind, put_back}
 use Rattle.session_return.specs.declared.returns.Which.{Which}
 use Rattle.session_return.specs.declared.returns.Which.TheVariants.{One, All}
-use Rattle.session_return.proofs.Anew.{anew_empty, anew_others}
+use Rattle.session_return.proofs.Beginnings.{anew_empty, anew_others}
 use Rattle.session_return.proofs.Kept.{never_below, others_stay as others_of_return, same_again}
 use Rattle.kept_books.specs.Shelves.{differs, entries_at, kept_again, left_beside, newly_kept, not_of, top_epoch, top_number}
 use Rattle.kept_books.specs.declared.shelves.Kept.{Kept}

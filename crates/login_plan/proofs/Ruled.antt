@@ -8,7 +8,7 @@ use Rattle.checkpoint_records.specs.Books.{all_entries}
 use Rattle.checkpoint_records.specs.Rules.{IsEntry, KeepsRules}
 use Rattle.checkpoint_records.specs.declared.records.Book.{Book}
 use Rattle.checkpoint_records.proofs.DistinctLaws.{all_front, all_turned}
-use Rattle.session_return.proofs.Anew.{anew_keeps}
+use Rattle.session_return.proofs.Beginnings.{anew_keeps}
 use Rattle.session_return.proofs.Kept.{later, rules_kept}
 use Rattle.session_return.proofs.Sifted.{all_left}
 use Rattle.kept_books.specs.Shelves.{top_epoch}

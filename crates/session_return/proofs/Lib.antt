@@ -2,4 +2,4 @@ pub mod Sifted
 pub mod Placed
 pub mod Kept
 pub mod Told
-pub mod Anew
+pub mod Beginnings

@@ -1,4 +1,4 @@
-use Rattle.session_return.proofs.Anew.{anew_empty}
+use Rattle.session_return.proofs.Beginnings.{anew_empty}
 use Rattle.login_plan.specs.Plans.{raised}
 use Rattle.login_plan.proofs.Lawful.{was_kept}
 use Rattle.login_plan.proofs.Ruled.{raised_rules}

@@ -1,4 +1,4 @@
-use Rattle.session_return.proofs.Anew.{anew_empty, anew_keeps, anew_others}
+use Rattle.session_return.proofs.Beginnings.{anew_empty, anew_keeps, anew_others}
 use Rattle.session_return.proofs.laws.one_session_begins_anew.Goals as goal
 
 pub returns : goal.returns
