@@ -110,12 +110,7 @@ fn brought_back(
 }
 
 /// The session is kept as it is, and begins anew.
-fn begun(
-    alloc: Global,
-    name: &[u8],
-    shelf: &[Kept],
-    present: &Book,
-) -> Result<Plan, Refusal>
+fn begun(alloc: Global, name: &[u8], shelf: &[Kept], present: &Book) -> Result<Plan, Refusal>
     ensures { Plans name.now shelf.now present.now BeginsNow result }
 {
     let first = match raised(shelf, present) {
