@@ -1,6 +1,6 @@
 -- The laws of a login.
 use Rattle.std.proofs.Common.{◌≡◌, ◌≢◌, ℕ, ◌+◌, ◌*◌, ◌≤◌, ◌==◌, Bool, true, false, cond, not, ◌&&◌, ◌||◌, List, [], ◌∷◌, ◌++◌, filter, take, refl, sym, ap, ◌∙◌, subst, arith}
-use Rattle.std.specs.Prelude.{nat_le, nat_lt, length}
+use Rattle.std.specs.Prelude.{nat_lt, length}
 use Rattle.std.specs.List.{Contains}
 use Rattle.std.specs.Cmp.Lexicographic.{pointwise}
 use Rattle.std.proofs.lemmas.Bool.{ltb-false, ltb-true}
@@ -10,7 +10,7 @@ use Rattle.checkpoint_records.specs.Rules.{KeepsRules}
 use Rattle.checkpoint_records.specs.declared.records.Book.{Book}
 use Rattle.checkpoint_records.specs.declared.records.Entry.{Entry}
 use Rattle.checkpoint_changes.specs.Plain.{equal_entry}
-use Rattle.session_return.specs.Returns.{epoch_behind, put_back}
+use Rattle.session_return.specs.Returns.{put_back}
 use Rattle.session_return.specs.declared.returns.Which.{Which}
 use Rattle.session_return.specs.declared.returns.Which.TheVariants.{One, All}
 use Rattle.session_return.proofs.Beginnings.{anew_empty, anew_others}
@@ -18,9 +18,9 @@ use Rattle.session_return.proofs.Kept.{never_below, others_stay as others_of_ret
 use Rattle.kept_books.specs.Shelves.{differs, entries_at, kept_again, left_beside, newly_kept, not_of, top_epoch, top_number}
 use Rattle.kept_books.specs.declared.shelves.Kept.{Kept}
 use Rattle.kept_books.proofs.Keeping.{epoch_kept, own_name}
-use Rattle.login_plan.specs.Logins.{began_with, is_behind, is_loss, is_lost, must_ask, offered, starts}
+use Rattle.login_plan.specs.Logins.{is_behind, is_loss, is_lost, must_ask, offered, starts}
 use Rattle.login_plan.specs.Laws.{store_by, with_one_more}
-use Rattle.login_plan.specs.Plans.{begun, brought_back, decided, first_offered, for_nobody, numbered, raised, shelf_behind, store_behind, which_back}
+use Rattle.login_plan.specs.Plans.{begun, brought_back, decided, first_offered, numbered, raised, shelf_behind, store_behind, which_back}
 use Rattle.login_plan.specs.declared.decisions.Choice.{Choice}
 use Rattle.login_plan.specs.declared.decisions.Choice.TheVariants.{Unasked, Stay, Nobody, Back, Anew}
 use Rattle.login_plan.specs.declared.decisions.Decision.{Decision}

@@ -1,8 +1,8 @@
 -- The books of a plan keep the rules.
-use Rattle.std.proofs.Common.{◌≡◌, ℕ, ◌+◌, ◌≤◌, ◌==◌, Bool, true, false, cond, List, [], ◌∷◌, take, drop, filter, refl, sym, ap, subst, arith, Ok, Err}
-use Rattle.std.specs.Prelude.{nat_lt, IfOk, Result}
+use Rattle.std.proofs.Common.{◌≡◌, ℕ, ◌+◌, ◌≤◌, ◌==◌, Bool, true, false, cond, List, [], ◌∷◌, take, drop, filter, refl, sym, subst, arith, Ok, Err}
+use Rattle.std.specs.Prelude.{IfOk, Result}
 use Rattle.std.specs.List.{AllByRecursion}
-use Rattle.std.proofs.lemmas.Bool.{ltb-false, ltb-true}
+use Rattle.std.proofs.lemmas.Bool.{ltb-true}
 use Rattle.std.proofs.lemmas.List.{take-append-drop}
 use Rattle.checkpoint_records.specs.Books.{all_entries}
 use Rattle.checkpoint_records.specs.Rules.{IsEntry, KeepsRules}
@@ -13,9 +13,9 @@ use Rattle.session_return.proofs.Kept.{later, rules_kept}
 use Rattle.session_return.proofs.Sifted.{all_left}
 use Rattle.kept_books.specs.Shelves.{top_epoch}
 use Rattle.kept_books.specs.declared.shelves.Kept.{Kept}
-use Rattle.login_plan.specs.Books.{AreKept, HasBooks, IsStored}
+use Rattle.login_plan.specs.Books.{HasBooks, IsStored}
 use Rattle.login_plan.specs.Logins.{is_behind, is_lost, may_be_offered, must_ask, offered}
-use Rattle.login_plan.specs.Plans.{Plans, brought_back, decided, first_offered, for_nobody, numbered, raised, which_back}
+use Rattle.login_plan.specs.Plans.{Plans, decided, first_offered, numbered, raised, which_back}
 use Rattle.login_plan.specs.declared.decisions.Choice.{Choice}
 use Rattle.login_plan.specs.declared.decisions.Choice.TheVariants.{Unasked, Stay, Nobody, Back, Anew}
 use Rattle.login_plan.specs.declared.decisions.Decision.{Decision}

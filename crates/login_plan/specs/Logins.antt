@@ -1,5 +1,5 @@
 -- What a login to a session finds: whether much of the session was lost since it began last, whether the store was, and what may come back.
-use Rattle.std.specs.Prelude.{ℕ, ◌*◌, ◌==◌, Bool, not, ◌&&◌, ◌||◌, nat_lt, if◌then◌else◌, List, [], ◌∷◌, length, take, filter}
+use Rattle.std.specs.Prelude.{ℕ, ◌*◌, ◌==◌, Bool, ◌&&◌, ◌||◌, nat_lt, if◌then◌else◌, List, [], ◌∷◌, length, take, filter}
 use Rattle.std.specs.Str.{bytes_eq}
 use Rattle.checkpoint_records.specs.Books.{all_entries}
 use Rattle.checkpoint_records.specs.declared.records.Book.{Book}

@@ -1,5 +1,5 @@
 -- What a login does about what it finds, by what was chosen.
-use Rattle.std.specs.Prelude.{◌≡◌, ◌<◌, ◌≤◌, ◌+◌, ◌⊎◌, ◌==◌, ℕ, Bool, true, if◌then◌else◌, List, [], ◌∷◌, Result, Ok, Err}
+use Rattle.std.specs.Prelude.{◌≡◌, ◌<◌, ◌+◌, ◌⊎◌, ◌==◌, ℕ, true, if◌then◌else◌, List, [], ◌∷◌, Result, Ok, Err}
 use Rattle.checkpoint_records.specs.declared.records.Book.{Book}
 use Rattle.session_return.specs.Returns.{MayComeBack, StandsFirst, begun_anew, entries_back, put_back}
 use Rattle.session_return.specs.declared.obstacles.Obstacle.{Obstacle}

@@ -1,6 +1,6 @@
 ghost use Rattle.std.specs.Prelude.{◌≡◌, ℕ, List, IfOk};
 ghost use Rattle.login_plan.specs.Books.{AreKept, HasBooks, IsStored};
-ghost use Rattle.login_plan.specs.Plans.{Plans, Raises, decided, raised as raised_book, which_back as all_or_one};
+ghost use Rattle.login_plan.specs.Plans.{Plans, Raises, decided, which_back as all_or_one};
 ghost use Rattle.login_plan.specs.declared.decisions.Decision.TheVariants.{Begins as BeginsNow, Restores as RestoresThis, Stays as StaysSo};
 ghost use Rattle.login_plan.specs.declared.plans.Refusal.TheVariants.{NoMemory as LacksMemory};
 

@@ -1,7 +1,6 @@
 -- The faults of a login: the status and the line of each.
 use Rattle.std.specs.Prelude.{ℕ, List, codes, Option, Some}
 use Rattle.program_frame.specs.Printing.{line}
-use Rattle.session_return.specs.declared.obstacles.Obstacle.{Obstacle}
 use Rattle.login_plan.specs.declared.plans.Refusal.{Refusal}
 use Rattle.login_plan.specs.declared.plans.Refusal.TheVariants.{NoNumber as PlanNumber, Stopped as PlanStopped, NoMemory as PlanMemory}
 use Rattle.store_return.specs.Faults.{fault_line, fault_status}

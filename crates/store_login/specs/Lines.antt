@@ -1,5 +1,5 @@
 -- What a login tells: that it begins, or that it has to be asked, and of what may come back.
-use Rattle.std.specs.Prelude.{ℕ, Bool, List, [], ◌∷◌, ◌++◌, length, codes}
+use Rattle.std.specs.Prelude.{ℕ, List, [], ◌∷◌, ◌++◌, codes}
 use Rattle.std.specs.List.{flat_map}
 use Rattle.std.specs.Fmt.{decimal}
 use Rattle.owned_lists.specs.declared.commands.Command.{Command}

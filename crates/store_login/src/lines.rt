@@ -1,11 +1,11 @@
-ghost use Rattle.std.specs.Prelude.{◌≡◌, ◌++◌, ◌∷◌, [], IfOk, OnOk, string_bytes};
+ghost use Rattle.std.specs.Prelude.{◌≡◌, ◌++◌, IfOk, OnOk, string_bytes};
 ghost use Rattle.std.specs.List.{flat_map};
 ghost use Rattle.store_login.specs.Lines.{ask_line as asked, offer_head, offer_line as line_of, offer_lines as lines_of, program_text, programs_text, question_lines as question, start_line as started};
 
 use checkpoint_records::{Book, choose, copy_book};
 use kept_books::Kept;
 use login_plan::{began_with, offered, starts, which_back};
-use owned_lists::{Command, CommandList, NoMemory, Octets};
+use owned_lists::{Command, NoMemory, Octets};
 use restart_plan::plan;
 use session_return::{Which, entries_back};
 use shown_text::put_word;

@@ -15,7 +15,7 @@ use test_tables::{expect_rows, text_of};
 use written_books::{book_from, parted, shown, which_of};
 
 /// A world with this store, in which the calls of these numbers fail.
-fn world_of(alloc: Global, store: Octets, failing: NumberList) -> Result<MemWorld, NoMemory> {
+pub fn world_of(alloc: Global, store: Octets, failing: NumberList) -> Result<MemWorld, NoMemory> {
     MemWorld::new(
         alloc,
         EventList::new(alloc),
@@ -30,7 +30,7 @@ fn blank_store(alloc: Global) -> Result<Octets, NoMemory> {
 }
 
 /// The first slot of a store has this book; a store without one is blank.
-fn store_of(alloc: Global, line: &str) -> Result<Octets, Fail> {
+pub fn store_of(alloc: Global, line: &str) -> Result<Octets, Fail> {
     let blank = blank_store(alloc)?;
     if line == "blank" {
         return Ok(blank);
@@ -120,7 +120,7 @@ fn a_look_prints_alone(rt: HostRuntime) -> Result<(), Fail> {
 }
 
 /// The book that a store's file stands for.
-fn book_in(alloc: Global, file: Octets) -> Result<String, Fail> {
+pub fn book_in(alloc: Global, file: Octets) -> Result<String, Fail> {
     let mut world = world_of(alloc, file, NumberList::new(alloc))?;
     match Journal::recover_from(alloc, &mut world) {
         Ok((_, book)) => shown(alloc, &book),

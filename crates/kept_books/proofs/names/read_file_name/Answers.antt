@@ -1,4 +1,4 @@
-use Rattle.std.proofs.Common.{◌≡◌, ℕ, List, sym, ◌∙◌, subst}
+use Rattle.std.proofs.Common.{ℕ, List, sym, ◌∙◌, subst}
 use Rattle.checkpoint_records.specs.Rules.{IsName}
 use Rattle.control_lines.specs.Fields.{IsHex}
 use Rattle.control_lines.proofs.Splitting.{without_inside}
