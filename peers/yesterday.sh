@@ -582,6 +582,7 @@ asks() {
   stand_in xmessage 'exit 102'
   check "xmessage answers" test "$(PATH=$desk/bin:$PATH DISPLAY=:none "$ask" q a b)" = 2
   rm "$desk/bin/xmessage"
+  [ -n "${DISPLAY-}" ] || check "Xvfb starts for a dialog" start_display
   check "a dialog that nobody answers ends" ends_with 1 "$ask" --seconds 3 q a b
 }
 

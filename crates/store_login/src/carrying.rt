@@ -103,8 +103,12 @@ fn keep_result<K: Keeping>(
 ) -> Result<(), LoginFault>
     ensures { IfErr result (λ fault. (fault ≡ CannotKeep) ⊎ (fault ≡ OfStore LacksMemory)) }
 {
-    match put_first(alloc, place, name, book, before.as_slice()) {
-        Ok(all) => let_go(place, &all),
+    let all = match put_first(alloc, place, name, book, before.as_slice()) {
+        Ok(all) => all,
+        Err(fault) => return Err(fault),
+    };
+    match let_go(place, &all) {
+        Ok(()) => Ok(()),
         Err(fault) => Err(fault),
     }
 }
@@ -188,11 +192,12 @@ fn stay<D: Disk, K: Keeping>(
     ensures cause { IfErr result
         (IsWhyBrokenOff journal (D.outside disk.old) (D.outside disk.new)) }
 {
-    match keep_present(alloc, disk, place, journal, login, book) {
-        Ok(shelf) => match let_go(place, &shelf) {
-            Ok(()) => Ok(()),
-            Err(fault) => Err(fault),
-        },
+    let shelf = match keep_present(alloc, disk, place, journal, login, book) {
+        Ok(shelf) => shelf,
+        Err(fault) => return Err(fault),
+    };
+    match let_go(place, &shelf) {
+        Ok(()) => Ok(()),
         Err(fault) => Err(fault),
     }
 }
@@ -215,11 +220,12 @@ fn come_back<D: Disk, K: Keeping>(
     ensures cause { IfErr result
         (IsWhyBrokenOff journal (D.outside disk.old) (D.outside disk.new)) }
 {
-    match keep_and_commit(alloc, disk, place, journal, login, first, book) {
-        Ok(shelf) => match keep_result(alloc, place, login.session, book, &shelf) {
-            Ok(()) => Ok(()),
-            Err(fault) => Err(fault),
-        },
+    let shelf = match keep_and_commit(alloc, disk, place, journal, login, first, book) {
+        Ok(shelf) => shelf,
+        Err(fault) => return Err(fault),
+    };
+    match keep_result(alloc, place, login.session, book, &shelf) {
+        Ok(()) => Ok(()),
         Err(fault) => Err(fault),
     }
 }
@@ -244,8 +250,14 @@ pub fn carry_out<D: Disk, K: Keeping>(
         (IsWhyBrokenOff journal (D.outside disk.old) (D.outside disk.new)) }
 {
     match plan {
-        Plan::Ask => Ok(()),
-        Plan::Leave => Ok(()),
+        Plan::Ask => {
+            drop(journal);
+            Ok(())
+        }
+        Plan::Leave => {
+            drop(journal);
+            Ok(())
+        }
         Plan::Keep(book) => stay(alloc, disk, place, journal, login, book),
         Plan::Return(first, book) => come_back(alloc, disk, place, journal, login, first, book),
     }
