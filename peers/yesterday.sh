@@ -323,13 +323,31 @@ session_words() { "$smd" sessions --store "$stores/store" | grep "^session $1 ";
 
 epoch() { store_words --json | sed -n 's/^  "epoch": \([0-9]*\).*/\1/p'; }
 
+# notes_words: from here on the words of each call of smd stand in a file.
+notes_words() {
+  rm "$desk/bin/smd"
+  stand_in smd "echo \"\$*\" >> '$desk/words'" "exec '$smd' \"\$@\""
+}
+
+notes_no_words() { ln -sf "$smd" "$desk/bin/smd"; }
+
+# asked_by NAME: whether the store was asked by this session's name, but where all that stands in it was to be told.
+asked_by() {
+  local asked
+  asked=$(grep -F "store-check --store $stores/store" "$desk/words" | grep -v -e '--json$')
+  [ -n "$asked" ] && ! grep -qvF -e "--session $1" <<< "$asked"
+}
+
 # one_comes_back: a restore puts one session back. The other one of the store stays, and the epoch doesn't fall.
 one_comes_back() {
   local other before
   cp "$desk/client" "$desk/client-e"
   : > "$desk/client-e.said"
   echo "$desk/client-e" > "$desk/config/smd/session.work"
+  notes_words
   check "another session begins" logs_in work
+  notes_no_words
+  check "its store is asked by its name" asked_by work
   check "its program is saved" within 60 has 1
   check "it is left" leaves
   other=$(session_words work)
