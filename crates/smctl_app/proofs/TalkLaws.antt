@@ -9,7 +9,7 @@ use Rattle.smctl_app.specs.declared.fault.Fault.{Fault}
 use Rattle.smctl_app.specs.declared.fault.Fault.TheVariants.{BadWords, NoControl, Unordered, Cancelled, Link, Gone, Unreadable, Console, NoMemory}
 use Rattle.smctl_app.specs.declared.waiting.Glance.{Glance}
 
-more-none : {A : Type 0} (old : Option (List A)) → more old [] ≡ old
+pub more-none : {A : Type 0} (old : Option (List A)) → more old [] ≡ old
 more-none None = refl
 more-none (Some told) = ap Some (append-nil told)
 
@@ -28,6 +28,9 @@ adds-then old mid new P Q R first second both = record {
   added = second.added ∙ (ap (λ it. more it second.items) first.added ∙ more-more old first.items second.items);
   holds = both first.items second.items first.holds second.holds;
 }
+
+pub adds-still : {A : Type 0} (old mid new : Option (List A)) (P : List A → Type 0) → Adds old mid P → new ≡ mid → Adds old new P
+adds-still old mid new P first same = record { items = first.items; added = same ∙ first.added; holds = first.holds }
 
 pub adds-so : {A : Type 0} (old new : Option (List A)) (P Q : List A → Type 0) → Adds old new P → ((xs : List A) → P xs → Q xs) → Adds old new Q
 adds-so old new P Q first so = record { items = first.items; added = first.added; holds = so first.items first.holds }
@@ -51,10 +54,14 @@ both-ask (x ∷ xs) ys one two = (one.0, both-ask xs ys one.1 two)
 pub status-asks : AreQuestions (status_line ∷ [])
 status-asks = (inr refl, tt)
 
-pub clients-ask : {A E : Type 0} (result : Result A E) (lines : List (List ℕ)) → SendsOne clients_line result lines → AreQuestions lines
-clients-ask (Ok x) lines is = subst AreQuestions (sym is) (inl refl, tt)
-clients-ask (Err e) lines (inl is) = subst AreQuestions (sym is) tt
-clients-ask (Err e) lines (inr is) = subst AreQuestions (sym is) (inl refl, tt)
+-- The question who is there was sent,
+pub clients-asked : (lines : List (List ℕ)) → lines ≡ clients_line ∷ [] → AreQuestions lines
+clients-asked lines is = subst AreQuestions (sym is) (inl refl, tt)
+
+-- or nothing was.
+pub clients-perhaps : (lines : List (List ℕ)) → (lines ≡ []) ⊎ (lines ≡ clients_line ∷ []) → AreQuestions lines
+clients-perhaps lines (inl none) = subst AreQuestions (sym none) tt
+clients-perhaps lines (inr one) = clients-asked lines one
 
 -- ---- logouts
 

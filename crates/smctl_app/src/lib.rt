@@ -13,7 +13,7 @@ mod waiting;
 
 pub use asking::{carry_out, run};
 pub use client_line::{ClientLine, read_client_line};
-pub use clients::{give, show_plain, show_table, wait_for_end};
+pub use clients::wait_for_end;
 pub use connection::ControlConnection;
 pub use control::{Control, Look, Talk};
 pub use fault::Fault;
