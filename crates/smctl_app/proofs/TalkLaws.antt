@@ -4,7 +4,7 @@ use Rattle.std.proofs.Common.{◌≡◌, ◌⊎◌, inl, inr, ℕ, Bool, true, f
 use Rattle.std.proofs.lemmas.Bool.{false≢true}
 use Rattle.std.proofs.lemmas.List.{append-nil}
 use Rattle.smctl_app.specs.Requests.{IsOutside, IsOfLogout}
-use Rattle.smctl_app.specs.Talking.{Adds, AreQuestions, clients_line, is_cancellation, is_leaving, is_over, IsQuestion, more, OrdersLogout, SendsLogout, SendsOne, shows_over, shutdown_line, status_line, TellsEnd}
+use Rattle.smctl_app.specs.Talking.{Adds, AreQuestions, clients_line, is_cancellation, is_leaving, is_over, more, OrdersLogout, SendsLogout, SendsOne, shows_over, shutdown_line, status_line, TellsEnd}
 use Rattle.smctl_app.specs.declared.fault.Fault.{Fault}
 use Rattle.smctl_app.specs.declared.fault.Fault.TheVariants.{BadWords, NoControl, Unordered, Cancelled, Link, Gone, Unreadable, Console, NoMemory}
 use Rattle.smctl_app.specs.declared.waiting.Glance.{Glance}

@@ -3,7 +3,7 @@ use Rattle.std.specs.Prelude.{◌≡◌, ◌⊎◌, ◌||◌, not, ℕ, Bool, tr
 use Rattle.std.specs.List.{AllByRecursion}
 use Rattle.program_frame.specs.Printing.{line}
 use Rattle.smctl_app.specs.declared.fault.Fault.{Fault}
-use Rattle.smctl_app.specs.declared.fault.Fault.TheVariants.{BadWords, NoControl, Unordered, Cancelled, Link, Gone, Unreadable, Console, NoMemory}
+use Rattle.smctl_app.specs.declared.fault.Fault.TheVariants.{Cancelled}
 use Rattle.smctl_app.specs.declared.request.Task.{Task}
 use Rattle.smctl_app.specs.declared.request.Task.TheVariants.{Order as Ordered, Table, Plain, Logout}
 use Rattle.smctl_app.specs.declared.waiting.Course.{Course}

@@ -1,4 +1,4 @@
-ghost use Rattle.std.specs.Prelude.{◌≡◌, map, string_bytes, IfErr};
+ghost use Rattle.std.specs.Prelude.{map, string_bytes, IfErr};
 ghost use Rattle.smctl_app.specs.Requests.{IsOfTask, IsRefused, IsUnnamed};
 ghost use Rattle.smctl_app.specs.Talking.{Adds, SendsFor};
 
