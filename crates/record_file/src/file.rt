@@ -1,4 +1,4 @@
-ghost use Rattle.std.specs.Prelude.{None};
+ghost use Rattle.std.specs.Prelude.{◌≡◌, false, None};
 
 use session_recorder::KeptLines;
 use sm_world::Failed;
@@ -25,6 +25,8 @@ pub struct RecordFile {
     fault: Option<io::Error>,
     /// Whether all that was to be kept first is there.
     has_front: bool,
+    is_refused: bool,
+    is_lost: bool,
 }
 
 /// Whether this is the line of a cookie.
@@ -86,7 +88,10 @@ fn create(rt: HostRuntime, path: &str) -> io::Result<File> {
 impl RecordFile {
     /// A new file at this path, which only its user can read. An old record makes way for it, and any
     /// other file stays as it is.
-    pub fn create(rt: HostRuntime, path: String) -> RecordFile {
+    pub fn create(rt: HostRuntime, path: String) -> RecordFile
+        ensures refused { result.is_refused ≡ false }
+        ensures lost { result.is_lost ≡ false }
+    {
         let (file, fault) = match create(rt, path.as_str()) {
             Ok(file) => (Some(file), None),
             Err(error) => (None, Some(error)),
@@ -97,23 +102,28 @@ impl RecordFile {
             file,
             fault,
             has_front: false,
+            is_refused: false,
+            is_lost: false,
         }
     }
 
     /// Notes why nothing more is kept. A file without its beginning would be no record, and in the way
     /// of the next one.
-    fn lose(&mut self, error: io::Error) {
+    fn lose(&mut self, error: io::Error)
+        ensures refused { self.new.is_refused ≡ self.old.is_refused }
+        ensures lost { self.new.is_lost ≡ self.old.is_lost }
+    {
         if !self.has_front {
             let _ = fs::remove_file(&self.rt, self.path.as_str());
         }
         self.fault = Some(error);
     }
-}
 
-impl KeptLines for RecordFile {
-    ghost kept = { λ _. None };
-
-    fn keep(&mut self, bytes: &[u8]) -> Result<(), Failed> {
+    /// Writes these bytes, and notes why that failed.
+    fn write(&mut self, bytes: &[u8]) -> Result<(), Failed>
+        ensures refused { self.new.is_refused ≡ self.old.is_refused }
+        ensures lost { self.new.is_lost ≡ self.old.is_lost }
+    {
         let Some(file) = &mut self.file else {
             return Err(Failed);
         };
@@ -128,6 +138,20 @@ impl KeptLines for RecordFile {
             }
         }
     }
+}
+
+impl KeptLines for RecordFile {
+    ghost kept = { λ _. None };
+
+    ghost refused = { λ file. file.is_refused };
+
+    ghost lost = { λ file. file.is_lost };
+
+    fn keep(&mut self, bytes: &[u8]) -> Result<(), Failed> {
+        let kept = self.write(bytes);
+        self.is_refused = self.is_refused || kept.is_err();
+        kept
+    }
 
     fn tell_lost(&mut self) {
         let path = self.path.as_str();
@@ -139,5 +163,6 @@ impl KeptLines for RecordFile {
                 let _ = eprintln!(self.rt; "smd: what follows isn't recorded in {path}");
             }
         }
+        self.is_lost = true;
     }
 }

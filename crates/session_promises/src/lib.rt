@@ -4,4 +4,4 @@
 
 mod laws;
 
-pub use laws::every_session_keeps_the_laws;
+pub use laws::{every_session_is_lawful, every_session_keeps_the_laws};

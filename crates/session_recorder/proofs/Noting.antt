@@ -13,7 +13,7 @@ use Rattle.sm_world.specs.declared.failures.Failure.{Failure}
 use Rattle.control_lines.specs.Traces.{effect_text, whole_line}
 use Rattle.session_recorder.specs.Recorded.{appended, is_announced, IsLineOf, is_printed, record_text, IsCut, IsNew, Keeps, KeepsTold}
 use Rattle.session_recorder.specs.declared.progress.Progress.{Progress}
-use Rattle.session_recorder.specs.declared.progress.Progress.TheVariants.{Waiting, Recording, Lost}
+use Rattle.session_recorder.specs.declared.progress.Progress.TheVariants.{Waiting, Recording, Lost, Starved}
 use Rattle.session_recorder.proofs.Behind.{record-stays, record-grows}
 
 announced-by : (a b : Bool) → (a ≡ false) → (a || (b || false)) ≡ b
@@ -53,7 +53,7 @@ is-cut opening x n xs kept holds = (
 )
 
 -- There was no line to be kept.
-pub is-missed : (opening : List ℕ) (x : Effect) (xs : List Effect) (kept : List ℕ) → Keeps opening Recording xs kept → Keeps opening Lost (xs ++ x ∷ []) kept
+pub is-missed : (opening : List ℕ) (x : Effect) (xs : List Effect) (kept : List ℕ) → Keeps opening Recording xs kept → Keeps opening Starved (xs ++ x ∷ []) kept
 is-missed opening x xs kept holds = (whole_line (effect_text x), record-grows opening xs x holds.0 ∙ ap (λ (t : List ℕ). t ++ whole_line (effect_text x)) (sym holds.1))
 
 still-front : (announced : Bool) (opening : List ℕ) (x : Effect) (xs : List Effect) (kept left : List ℕ) → is_announced xs ≡ announced → record_text opening xs ≡ kept ++ left → Keeps opening Lost (xs ++ x ∷ []) kept
@@ -102,6 +102,7 @@ keeps-silent : (opening : List ℕ) (progress : Progress) (x : Effect) → effec
 keeps-silent opening Waiting x silent plain = waits opening x plain
 keeps-silent opening Recording x silent plain = silent-line opening x silent
 keeps-silent opening Lost x silent plain = is-lost opening x
+keeps-silent opening Starved x silent plain = is-lost opening x
 
 -- A call of the disk leaves what is kept as it is.
 pub told-silent : (opening : List ℕ) (progress : Progress) (x : Effect) → effect_text x ≡ None → is_printed x ≡ false → (told : Option (List Effect)) (kept : Option (List ℕ)) → KeepsTold opening progress told kept → KeepsTold opening progress (adds told (x ∷ [])) kept
@@ -176,11 +177,14 @@ begins-told opening p q x from to printed told kept = told-same opening p q x (s
 pub lost-told : (opening : List ℕ) (p : Progress) (x : Effect) → p ≡ Lost → (told : Option (List Effect)) (kept : Option (List ℕ)) → KeepsTold opening p told kept → KeepsTold opening p (adds told (x ∷ [])) kept
 lost-told opening p x is told kept = told-same opening p p x (stay-over opening Lost Lost p p x is is (is-lost opening x)) told kept kept refl
 
+pub starved-told : (opening : List ℕ) (p : Progress) (x : Effect) → p ≡ Starved → (told : Option (List Effect)) (kept : Option (List ℕ)) → KeepsTold opening p told kept → KeepsTold opening p (adds told (x ∷ [])) kept
+starved-told opening p x is told kept = told-same opening p p x (stay-over opening Starved Starved p p x is is (is-lost opening x)) told kept kept refl
+
 pub goes-on-told : (opening : List ℕ) (p : Progress) (x : Effect) (line : List ℕ) → p ≡ Recording → IsLineOf x line → (told : Option (List Effect)) (old new : Option (List ℕ)) → new ≡ appended old line → KeepsTold opening p told old → KeepsTold opening p (adds told (x ∷ [])) new
 goes-on-told opening p x line is line_is told old new appends = told-more opening p p x (whole_line (effect_text x)) (step-over opening Recording Recording p p x (whole_line (effect_text x)) is is (goes-on opening x)) told old new (appends ∙ ap (appended old) line_is)
 
 pub cut-told : (opening : List ℕ) (p q : Progress) (x : Effect) (line : List ℕ) → p ≡ Recording → q ≡ Lost → IsLineOf x line → (told : Option (List Effect)) (old new : Option (List ℕ)) → IsCut old new line → KeepsTold opening p told old → KeepsTold opening q (adds told (x ∷ [])) new
 cut-told opening p q x line from to line_is told old new cut = told-more opening p q x (take cut.0 (whole_line (effect_text x))) (step-over opening Recording Lost p q x (take cut.0 (whole_line (effect_text x))) from to (is-cut opening x cut.0)) told old new (cut.1 ∙ ap (λ (l : List ℕ). appended old (take cut.0 l)) line_is)
 
-pub missed-told : (opening : List ℕ) (p q : Progress) (x : Effect) → p ≡ Recording → q ≡ Lost → (told : Option (List Effect)) (old new : Option (List ℕ)) → new ≡ old → KeepsTold opening p told old → KeepsTold opening q (adds told (x ∷ [])) new
-missed-told opening p q x from to told old new is = told-same opening p q x (stay-over opening Recording Lost p q x from to (is-missed opening x)) told old new is
+pub missed-told : (opening : List ℕ) (p q : Progress) (x : Effect) → p ≡ Recording → q ≡ Starved → (told : Option (List Effect)) (old new : Option (List ℕ)) → new ≡ old → KeepsTold opening p told old → KeepsTold opening q (adds told (x ∷ [])) new
+missed-told opening p q x from to told old new is = told-same opening p q x (stay-over opening Recording Starved p q x from to (is-missed opening x)) told old new is

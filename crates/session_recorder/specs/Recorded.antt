@@ -5,7 +5,7 @@ use Rattle.sm_world.specs.declared.effects.Effect.{Effect}
 use Rattle.sm_world.specs.declared.effects.Effect.TheVariants.{Heard, Sent, Shut, Started, Wrote, Torn, Synced, SyncFailed, Published, Printed}
 use Rattle.control_lines.specs.Traces.{effect_text, effects_text, whole_line}
 use Rattle.session_recorder.specs.declared.progress.Progress.{Progress}
-use Rattle.session_recorder.specs.declared.progress.Progress.TheVariants.{Waiting, Recording, Lost}
+use Rattle.session_recorder.specs.declared.progress.Progress.TheVariants.{Waiting, Recording, Lost, Starved}
 
 abbrev pub is_printed : Effect → Bool
 is_printed (Heard event) = false
@@ -41,10 +41,18 @@ abbrev pub Keeps : List ℕ → Progress → List Effect → List ℕ → Type 0
 Keeps opening Waiting effects kept = (is_announced effects ≡ false) × (kept ≡ record_text opening effects)
 Keeps opening Recording effects kept = (is_announced effects ≡ true) × (kept ≡ record_text opening effects)
 Keeps opening Lost effects kept = (left : List ℕ) × (record_text opening effects ≡ kept ++ left)
+Keeps opening Starved effects kept = (left : List ℕ) × (record_text opening effects ≡ kept ++ left)
 
 -- Where the world tells its effects, and the record what it keeps, this is kept of them.
 abbrev pub KeepsTold : List ℕ → Progress → Option (List Effect) → Option (List ℕ) → Type 0
 KeepsTold opening progress told told_kept = (effects : List Effect) (kept : List ℕ) → told ≡ Some effects → told_kept ≡ Some kept → Keeps opening progress effects kept
+
+-- Why a record goes on or ends, by whether a line was refused and whether the user was told that it goes no further: it goes on as long as no line is refused, and ends with a line that was refused or for which there was no memory, and then the user was told.
+abbrev pub IsDue : Progress → (refused told : Bool) → Type 0
+IsDue Waiting refused told = (refused ≡ false) × (told ≡ false)
+IsDue Recording refused told = (refused ≡ false) × (told ≡ false)
+IsDue Lost refused told = (refused ≡ true) × (told ≡ true)
+IsDue Starved refused told = (refused ≡ false) × (told ≡ true)
 
 -- nothing is told, or that there is nothing yet
 abbrev pub IsNew : {A : Type 0} → Option (List A) → Type 0

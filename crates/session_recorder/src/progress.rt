@@ -5,6 +5,8 @@ pub enum Progress {
     Waiting,
     /// Each line is kept.
     Recording,
-    /// A line couldn't be kept, and no other is.
+    /// A line was refused, and no other is kept.
     Lost,
+    /// There was no memory for a line, and no other is kept.
+    Starved,
 }

@@ -1,6 +1,6 @@
-ghost use Rattle.std.specs.Prelude.{◌≡◌, List, ℕ, Option, Some};
+ghost use Rattle.std.specs.Prelude.{◌≡◌, false, List, ℕ, Option, Some};
 ghost use Rattle.sm_world.specs.declared.effects.Effect.{Effect};
-ghost use Rattle.session_recorder.specs.Recorded.{IsNew, Keeps, KeepsTold};
+ghost use Rattle.session_recorder.specs.Recorded.{IsDue, IsNew, Keeps, KeepsTold};
 
 use crate::kept_lines::KeptLines;
 use crate::progress::Progress;
@@ -23,7 +23,7 @@ pub struct Recorder<W: Told, R: KeptLines> {
 }
 
 impl<W: Told, R: KeptLines> Model for Recorder<W, R> {
-    ghost use Rattle.session_recorder.specs.Recorded.{KeepsTold, Watched};
+    ghost use Rattle.session_recorder.specs.Recorded.{IsDue, KeepsTold, Watched};
 
     ghost Value = { Watched W R };
 
@@ -37,14 +37,18 @@ impl<W: Told, R: KeptLines> Model for Recorder<W, R> {
 
     ghost invariant = { λ r.
         KeepsTold r.record.opening r.record.progress (W.outside r.world).told
-        (R.kept r.record.lines) };
+        (R.kept r.record.lines)
+        × IsDue r.record.progress (R.refused r.record.lines) (R.lost r.record.lines) };
 }
 
 /// Keeps what a record opens with. The user is told where that can't be kept.
 fn keep_opening<R: KeptLines>(lines: &mut R, opening: &[u8]) -> Progress
-    requires { IsNew (R.kept lines.old) }
-    ensures { (told : Option (List Effect)) → IsNew told →
+    requires new { IsNew (R.kept lines.old) }
+    requires kept { R.refused lines.old ≡ false }
+    requires untold { R.lost lines.old ≡ false }
+    ensures keeps { (told : Option (List Effect)) → IsNew told →
         KeepsTold opening.now result told (R.kept lines.new) }
+    ensures due { IsDue result (R.refused lines.new) (R.lost lines.new) }
 {
     match lines.keep(opening) {
         Ok(()) => Progress::Waiting,
@@ -60,6 +64,8 @@ impl<W: Told, R: KeptLines> Recorder<W, R> {
     pub fn new(alloc: Global, world: W, mut lines: R, opening: Octets) -> Recorder<W, R>
         requires world { IsNew (W.outside world).told }
         requires lines { IsNew (R.kept lines) }
+        requires kept { R.refused lines ≡ false }
+        requires untold { R.lost lines ≡ false }
         ensures world { result.world ≡ world }
         ensures opening { result.opening ≡ opening }
     {
@@ -83,6 +89,7 @@ impl<W: Told, R: KeptLines> Recorder<W, R> {
         ensures keeps { (effects : List Effect) (kept : List ℕ) →
             (W.outside result.0).told ≡ Some effects → R.kept result.1 ≡ Some kept →
             Keeps self.opening self.progress effects kept }
+        ensures due { IsDue self.progress (R.refused result.1) (R.lost result.1) }
     {
         let Recorder {
             alloc: _,

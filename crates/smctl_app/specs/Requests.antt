@@ -112,6 +112,13 @@ IsOfLogout BadWords = ⊥
 IsOfLogout NoControl = ⊥
 IsOfLogout fault = Unit {0}
 
+-- Why a task that is asked for isn't done.
+abbrev pub IsOfTask : Task → Fault → Type 0
+IsOfTask (Ordered line) fault = IsOutside fault
+IsOfTask Table fault = IsOutside fault
+IsOfTask Plain fault = IsOutside fault
+IsOfTask Logout fault = IsOfLogout fault
+
 -- Why there is no answer to these words, by what they ask for: they ask for nothing, or for something and name no socket;
 -- or they ask for a logout, which wasn't ordered then, or was cancelled. Whether the manager, the console or memory was
 -- wanting is no matter of words.

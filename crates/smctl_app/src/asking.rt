@@ -1,11 +1,15 @@
-ghost use Rattle.std.specs.Prelude.{◌≡◌, map, string_bytes, IfErr};
-ghost use Rattle.smctl_app.specs.Requests.{IsRefused, IsUnnamed};
+ghost use Rattle.std.specs.Prelude.{map, string_bytes, IfErr};
+ghost use Rattle.smctl_app.specs.Requests.{IsOfTask, IsRefused, IsUnnamed};
+ghost use Rattle.smctl_app.specs.Talking.{Adds, SendsFor};
 
 use crate::clients::{give, show_plain, show_table, wait_for_end};
 use crate::connection::ControlConnection;
+use crate::control::Control;
 use crate::fault::Fault;
 use crate::request::{Task, read_request};
 use program_frame::StandardConsole;
+use sm_world::Console;
+use std::alloc::Global;
 use std::env;
 use std::env::VarError;
 use std::io::IsTerminal;
@@ -31,6 +35,25 @@ fn named_control(rt: &HostRuntime) -> Result<String, Fault>
     }
 }
 
+/// Does what is asked for at the manager of this connection.
+pub fn carry_out<C: Control, W: Console>(
+    alloc: Global,
+    task: &Task,
+    connection: &mut C,
+    console: &mut W,
+    is_terminal: bool,
+) -> Result<(), Fault>
+    ensures sent { Adds (C.sent connection.old) (C.sent connection.new) (SendsFor task.now result) }
+    ensures cause { IfErr result (IsOfTask task.now) }
+{
+    match task {
+        Task::Order(line) => give(connection, console, line.as_slice()),
+        Task::Table => show_table(alloc, connection, console),
+        Task::Plain => show_plain(alloc, connection, console),
+        Task::Logout => wait_for_end(alloc, connection, console, is_terminal),
+    }
+}
+
 /// Does what the words ask for, which leave out the program's name: sends an order to the manager at the
 /// control socket and prints its answer, or shows who is there, or stays until a logout has ended.
 pub fn run(rt: &HostRuntime, words: &[String], console: &mut StandardConsole) -> Result<(), Fault>
@@ -39,13 +62,9 @@ pub fn run(rt: &HostRuntime, words: &[String], console: &mut StandardConsole) ->
     let alloc = rt.alloc();
     let request = read_request(alloc, words)?;
     let mut connection = match request.control {
-        Some(path) => ControlConnection::open(rt, alloc, path)?,
-        None => ControlConnection::open(rt, alloc, named_control(rt)?.as_str())?,
+        Some(path) => ControlConnection::open(*rt, path)?,
+        None => ControlConnection::open(*rt, named_control(rt)?.as_str())?,
     };
-    match &request.task {
-        Task::Order(line) => give(&mut connection, console, line.as_slice()),
-        Task::Table => show_table(alloc, &mut connection, console),
-        Task::Plain => show_plain(alloc, &mut connection, console),
-        Task::Logout => wait_for_end(rt, &mut connection, console, rt.stdout().is_terminal()),
-    }
+    let is_terminal = rt.stdout().is_terminal();
+    carry_out(alloc, &request.task, &mut connection, console, is_terminal)
 }

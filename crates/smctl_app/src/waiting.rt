@@ -1,3 +1,6 @@
+ghost use Rattle.std.specs.Prelude.{◌≡◌, ◌||◌, false};
+ghost use Rattle.smctl_app.specs.Talking.{is_leaving, is_over};
+
 use crate::client_line::ClientLine;
 use std::alloc::{AllocError, Global};
 
@@ -24,6 +27,27 @@ pub fn read_course(line: &str) -> Option<Course> {
     }
 }
 
+/// What a look has seen of a logout.
+#[derive(Clone, Copy, Debug, PartialEq, Eq)]
+pub struct Glance {
+    /// Somebody may have to be waited for.
+    pub is_awaited: bool,
+    /// What the session was at, behind that.
+    pub course: Course,
+}
+
+impl Glance {
+    /// What is seen where these are there, and the session is at that.
+    pub fn of(clients: &[ClientLine<'_>], course: Course) -> Glance
+        ensures { result.course ≡ course }
+    {
+        Glance {
+            is_awaited: clients.iter().any(|client| client.may_be_awaited()),
+            course,
+        }
+    }
+}
+
 /// How far a logout is that was ordered.
 #[derive(Clone, Copy, Debug)]
 pub struct Logout {
@@ -33,28 +57,36 @@ pub struct Logout {
 
 impl Logout {
     /// Nobody has looked yet.
-    pub fn new() -> Logout {
+    pub fn new() -> Logout
+        ensures begun { result.has_begun ≡ false }
+        ensures cancelled { result.is_cancelled ≡ false }
+    {
         Logout {
             has_begun: false,
             is_cancelled: false,
         }
     }
 
-    /// Notes who was there, and what the session was at behind that. A logout waits for its begin where
-    /// somebody still owes an answer, or where another save runs.
-    pub fn look(&mut self, clients: &[ClientLine<'_>], course: Course) {
-        let is_awaited = clients.iter().any(|client| client.may_be_awaited());
-        self.has_begun = self.has_begun || course == Course::Leaving;
-        self.is_cancelled = match course {
+    /// Notes what was seen. A logout waits for its begin where somebody still owes an answer, or where
+    /// another save runs.
+    pub fn look(&mut self, glance: Glance)
+        ensures begun { self.new.has_begun ≡ (self.old.has_begun || is_leaving glance.course) }
+        ensures cancelled { self.new.is_cancelled
+            ≡ is_over self.old.has_begun glance.is_awaited glance.course }
+    {
+        self.is_cancelled = match glance.course {
             Course::Leaving => false,
             Course::Saving => self.has_begun,
-            Course::Idle => self.has_begun || !is_awaited,
+            Course::Idle => self.has_begun || !glance.is_awaited,
         };
+        self.has_begun = self.has_begun || glance.course == Course::Leaving;
     }
 
     /// Whether it was cancelled, or all have left before they agreed: it runs no more, and doesn't wait
     /// for its begin.
-    pub fn is_cancelled(&self) -> bool {
+    pub fn is_cancelled(&self) -> bool
+        ensures { result ≡ self.now.is_cancelled }
+    {
         self.is_cancelled
     }
 }

@@ -1,13 +1,17 @@
 -- The line of an ending, and what the ending says.
-use Rattle.std.proofs.Common.{◌≡◌, ◌⊎◌, codes, inl, inr, ℕ, List, [], ◌∷◌, None, Result, Ok, Err, IfErr, refl, sym, ◌∙◌, ap, subst}
-use Rattle.sm_world.specs.Outside.{Outside, Added, Rose}
+use Rattle.std.proofs.Common.{◌≡◌, ◌⊎◌, codes, inl, inr, ℕ, List, [], ◌∷◌, ◌++◌, map, None, Result, Ok, Err, IfErr, refl, sym, ◌∙◌, ap, subst}
+use Rattle.sm_world.specs.Outside.{Outside, Added, Rose, adds}
 use Rattle.sm_world.specs.declared.effects.Effect.{Effect}
+use Rattle.sm_world.specs.declared.effects.Effect.TheVariants.{Printed}
+use Rattle.checkpoint_slots.specs.Causes.{IsSettled}
+use Rattle.sm_world.specs.Crash.{Cell, cell_after, cell_from, cell_of}
 use Rattle.sm_world.proofs.Adding.{adds-none}
+use Rattle.sm_world.proofs.Cells.{cell_from-append, others_keep}
 use Rattle.program_frame.specs.Printing.{Tries, OnlyPrints}
 use Rattle.program_frame.specs.Programs.{status_by, line_by}
 use Rattle.program_frame.proofs.ProgramLemmas.{runs_still, concluded}
 use Rattle.session_engine.specs.declared.config.Config.{Config}
-use Rattle.session_engine.specs.Carries.{IsUnopened}
+use Rattle.session_engine.specs.Carries.{IsReady, IsUnopened}
 use Rattle.session_engine.specs.Causes.{HasCause}
 use Rattle.session_engine.specs.declared.fault.ServeFault.{ServeFault}
 use Rattle.session_engine.specs.declared.fault.ServeFault.TheVariants.{Damaged as IsDamaged, WrongSize as HasWrongSize, TooManySessions as HasTooMany, DiskFault, LinkFault, ConsoleFault, Worn as IsWorn, Spent as HasSpent, NoMemory as WantsMemory}
@@ -24,6 +28,7 @@ use Rattle.smd_app.specs.declared.identity.Identity.{Identity}
 
 -- Behind a run the line of its ending was tried, where it has one.
 record IsLater (ending : Ending) (mid new : Outside) : Type 0 where
+  line : Added mid.told new.told (Tries (line_by fault_line ending))
   prints : OnlyPrints mid new
   silent : line_by fault_line ending ≡ None → new ≡ mid
 
@@ -112,6 +117,29 @@ cause_still old mid new (Err IsWorn) later cause = cause
 cause_still old mid new (Err HasSpent) later cause = cause
 cause_still old mid new (Err WantsMemory) later cause = cause
 
+-- What was printed leaves the store as it was.
+cells_still : (texts : List (List ℕ)) (i : ℕ) (cell : Cell) → cell_from cell (map Printed texts) i ≡ cell
+cells_still [] i cell = refl
+cells_still (text ∷ texts) i cell = cells_still texts i (cell_after (Printed text) i cell) ∙ others_keep (Printed text) i cell tt
+
+settled_still : (ending : Ending) (mid new : Outside) → IsLater ending mid new → (file : List ℕ) → IsSettled mid file → IsSettled new file
+settled_still ending mid new later file settled =
+    let cells : (i : ℕ) → cell_of settled.began (settled.effects ++ later.line.effects) i ≡ cell_of settled.began settled.effects i = λ i.
+    cell_from-append _ settled.effects later.line.effects i
+    ∙ (ap (λ (printed : List Effect). cell_from (cell_of settled.began settled.effects i) printed i) later.line.holds.printed ∙ cells_still later.line.holds.texts i (cell_of settled.began settled.effects i)) in
+    record {
+      began = settled.began;
+      effects = settled.effects ++ later.line.effects;
+      first = later.prints.uses.kept.first ∙ settled.first;
+      told = later.line.added ∙ ap (λ told. adds told later.line.effects) settled.told;
+      size = settled.size;
+      reads = λ i within. ap (λ cell. cell.reads) (cells i) ∙ settled.reads i within;
+      left = λ i byte within is. settled.left i byte within (rw (cells i) at is);
+    }
+
+ready_still : (ending : Ending) (mid new : Outside) → IsLater ending mid new → (file : List ℕ) (effects : List Effect) → IsReady file mid effects → IsReady file new effects
+ready_still ending mid new later file effects ready = record { left = ready.left; settled = settled_still ending mid new later ready.left ready.settled; image = ready.image }
+
 cut_still : (identity : Identity) (places : Places) (old mid new : Outside) (ending : Ending) (effects : List Effect) → IsLater ending mid new → WasCutShort identity places old mid ending effects → WasCutShort identity places old new ending effects
 cut_still identity places old mid new (Ok x) effects later cut = elim cut [ ]
 cut_still identity places old mid new (Err fault) effects later (inl cut) = inl (of_disk_still old mid new fault later cut.0, cut.1)
@@ -126,6 +154,8 @@ served_still identity places turns old mid new ending effects later served_so = 
   session = record {
     serves = opens_still (config_of identity places) turns old mid new served_so.answer served_so.own later.prints served_so.session.serves;
     headline = served_so.session.headline;
+    ready = λ file settled fine. ready_still ending mid new later file served_so.own (served_so.session.ready file settled fine);
+    first = later.prints.uses.kept.first ∙ served_so.session.first;
     cause = cause_still old mid new served_so.answer (subst (λ (ended : Ending). IsLater ended mid new) served_so.ends later) served_so.session.cause;
   };
 }
@@ -151,7 +181,7 @@ runs_later words identity turns old mid new ending later effects (inr nothing) =
 pub answers : (words : List (List ℕ)) (identity : Identity) (old mid new : Outside) (turns status : ℕ) (ending : Ending) → Added old.told mid.told (Runs words identity turns old mid ending) → Added mid.told new.told (Tries (line_by fault_line ending)) → OnlyPrints mid new → (line_by fault_line ending ≡ None → new ≡ mid) → status ≡ status_by fault_status ending → Added old.told new.told (Answers words identity old new turns status)
 answers words identity old mid new turns status ending runs line prints silent number =
     concluded (Runs words identity turns old mid) (Runs words identity turns old new) (status_by fault_status) (line_by fault_line) old.told mid.told new.told status ending runs line
-    (runs_later words identity turns old mid new ending (record { prints = prints; silent = silent }))
+    (runs_later words identity turns old mid new ending (record { line = line; prints = prints; silent = silent }))
     number
 
 -- What was done is what the words ask for.

@@ -1,4 +1,5 @@
 -- What a session adds to a world, seen from where the call began.
+use Rattle.std.specs.Prelude.{◌≢◌}
 use Rattle.std.proofs.Common.{◌≡◌, inl, inr, ℕ, ◌≤◌, List, [], ◌∷◌, ◌++◌, length, Option, Some, Result, Ok, Err, IfErr, refl, sym, ◌∙◌, ap, subst, arith, codes, length-append}
 use Rattle.sm_world.specs.Crash.{cell_of}
 use Rattle.sm_world.specs.Disk.{KeepsToldSize}
@@ -15,7 +16,7 @@ use Rattle.checkpoint_records.specs.declared.records.Book.{Book}
 use Rattle.checkpoint_slots.specs.Causes.{IsSettled}
 use Rattle.checkpoint_slots.specs.Recovery.{Recovers}
 use Rattle.sm_world.proofs.Counting.{rose_since}
-use Rattle.session_engine.specs.Carries.{IsOpened, IsUnopened, KeepsItsWord, Opens, Serves}
+use Rattle.session_engine.specs.Carries.{IsOpened, IsReady, IsUnopened, KeepsItsWord, Opens, Serves}
 use Rattle.session_engine.specs.Causes.{HasCause}
 use Rattle.session_engine.specs.Session.{Serving}
 use Rattle.session_engine.specs.declared.fault.ServeFault.{ServeFault}
@@ -158,9 +159,11 @@ pub served_behind : (identity : Identity) (places : Places) (turns : ℕ) (old f
     → mid.told ≡ adds first.told (announcing identity places) → SetsUp first mid
     → Serving (config_of identity places) turns mid new answer
     → ((file : List ℕ) (stored : Book) → IsSettled mid file → Recovers file (Ok stored) → Added mid.told new.told (KeepsItsWord (config_of identity places) (choose places.session stored) file answer))
+    → ((file : List ℕ) → IsSettled mid file → answer ≢ Err DiskFault → Added mid.told new.told (IsReady file new))
+    → new.first ≡ mid.first
     → IfErr answer (HasCause mid.faults new.faults)
     → Added old.told new.told (RunsSession identity places turns old new (served answer))
-served_behind identity places turns old first mid new answer handed one announced two serving headline cause =
+served_behind identity places turns old first mid new answer handed one announced two serving headline ready kept cause =
     let behind : Behind identity places old mid = record {
       told = announced ∙ ap (λ told. adds told (announcing identity places)) handed;
       first = two.first ∙ one.first;
@@ -190,6 +193,11 @@ served_behind identity places turns old first mid new answer handed one announce
               let there = still_settled identity places old mid behind file settled in
               let word = headline file stored there recovers in
               subst (KeepsItsWord (config_of identity places) (choose places.session stored) file answer) (same_added mid.told new.told there.effects word.effects added.effects there.told word.added added.added) word.holds;
+          ready = λ file settled fine.
+              let there = still_settled identity places old mid behind file settled in
+              let again = ready file there fine in
+              subst (IsReady file new) (same_added mid.told new.told there.effects again.effects added.effects there.told again.added added.added) again.holds;
+          first = kept ∙ behind.first;
           cause = caused_since old.faults mid.faults new.faults answer behind.counts cause;
         };
       });
@@ -201,10 +209,14 @@ pub served_so : (identity : Identity) (places : Places) (turns : ℕ) (old first
     → mid.told ≡ adds first.told (announcing identity places) → SetsUp first mid
     → Serving config turns mid new answer
     → ((file : List ℕ) (stored : Book) → IsSettled mid file → Recovers file (Ok stored) → Added mid.told new.told (KeepsItsWord config (choose config.session stored) file answer))
+    → ((file : List ℕ) → IsSettled mid file → answer ≢ Err DiskFault → Added mid.told new.told (IsReady file new))
+    → new.first ≡ mid.first
     → IfErr answer (HasCause mid.faults new.faults)
     → Added old.told new.told (RunsSession identity places turns old new (served answer))
-served_so identity places turns old first mid new config answer wished handed one announced two serving headline cause =
+served_so identity places turns old first mid new config answer wished handed one announced two serving headline ready kept cause =
     served_behind identity places turns old first mid new answer handed one announced two
     (subst (λ (made : Config). Serving made turns mid new answer) wished serving)
     (subst (λ (made : Config). (file : List ℕ) (stored : Book) → IsSettled mid file → Recovers file (Ok stored) → Added mid.told new.told (KeepsItsWord made (choose made.session stored) file answer)) wished headline)
+    ready
+    kept
     cause

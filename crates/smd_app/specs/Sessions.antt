@@ -1,5 +1,5 @@
 -- What a call with the words of a session does: it hands out the cookie, says where it listens, and then serves.
-use Rattle.std.specs.Prelude.{length, ◌≤◌, ◌≡◌, ◌⊎◌, ℕ, ◌<◌, List, [], ◌∷◌, ◌++◌, codes, Option, Result, Ok, Err, IfErr}
+use Rattle.std.specs.Prelude.{length, ◌≤◌, ◌≡◌, ◌≢◌, ◌⊎◌, ℕ, ◌<◌, List, [], ◌∷◌, ◌++◌, codes, Option, Result, Ok, Err, IfErr}
 use Rattle.sm_world.specs.Disk.{KeepsToldSize}
 use Rattle.sm_world.specs.Outside.{Outside, Rose, NotFallen}
 use Rattle.sm_world.specs.declared.effects.Effect.{Effect}
@@ -14,9 +14,10 @@ use Rattle.checkpoint_slots.specs.Causes.{IsSettled}
 use Rattle.checkpoint_slots.specs.Recovery.{Recovers}
 use Rattle.checkpoint_slots.specs.declared.turn.Current.{Current}
 use Rattle.program_frame.specs.Printing.{line}
-use Rattle.session_engine.specs.Carries.{IsRecovered, IsUnopened, KeepsItsWord, Serves}
+use Rattle.session_engine.specs.Carries.{IsReady, IsRecovered, IsUnopened, KeepsItsWord, Serves}
 use Rattle.session_engine.specs.Causes.{HasCause}
 use Rattle.session_engine.specs.declared.fault.ServeFault.{ServeFault}
+use Rattle.session_engine.specs.declared.fault.ServeFault.TheVariants.{DiskFault}
 use Rattle.smd_app.specs.FaultLines.{served}
 use Rattle.smd_app.specs.Words.{Places}
 use Rattle.smd_app.specs.declared.fault.Fault.{Fault}
@@ -100,6 +101,9 @@ pub record IsSession (config : Config) (turns : ℕ) (old new : Outside) (answer
   pub serves : OpensOr config turns old new answer effects
   -- at every point of it each file that a crash could leave has a whole checkpoint, where no byte of the store was in doubt
   pub headline : (file : List ℕ) (stored : Book) → IsSettled old file → Recovers file (Ok stored) → KeepsItsWord config (choose config.session stored) file answer effects
+  -- where the disk didn't fail, the same world can be served again, with the headline, behind the line of the ending too
+  pub ready : (file : List ℕ) → IsSettled old file → answer ≢ Err DiskFault → IsReady file new effects
+  pub first : new.first ≡ old.first
   -- a device ended it only where its count rose
   pub cause : IfErr answer (HasCause old.faults new.faults)
 

@@ -1,4 +1,4 @@
-use smctl_app::ControlConnection;
+use smctl_app::{ControlConnection, Talk};
 use std::io::{BufRead, BufReader, Write};
 use std::os::unix::net::UnixListener;
 use std::test::Fail;
@@ -10,7 +10,7 @@ fn the_line_of_the_answer_is_read(rt: HostRuntime) -> Result<(), Fail> {
     let id = process::id(rt.process());
     let path = format!(in rt.alloc(); "{}/smctl-{id}", folder.as_path().as_str())?;
     let listener = UnixListener::bind(&rt, path.as_str())?;
-    let mut asking = ControlConnection::open(&rt, rt.alloc(), path.as_str())?;
+    let mut asking = ControlConnection::open(rt, path.as_str())?;
     asking.say(b"status\n")?;
     let (manager, _address) = listener.accept()?;
     let mut heard = String::new(rt.alloc());
@@ -21,7 +21,7 @@ fn the_line_of_the_answer_is_read(rt: HostRuntime) -> Result<(), Fail> {
         (heard.as_str(), answer.as_slice()),
         ("status\n", b"idle\n".as_slice())
     );
-    let mut cut = ControlConnection::open(&rt, rt.alloc(), path.as_str())?;
+    let mut cut = ControlConnection::open(rt, path.as_str())?;
     cut.say(b"status\n")?;
     let (manager, _address) = listener.accept()?;
     (&manager).write_all(b"id")?;

@@ -6,6 +6,8 @@ mod answer_lines;
 #[cfg(test)]
 mod asked;
 #[cfg(test)]
+mod ends;
+#[cfg(test)]
 mod looks;
 #[cfg(test)]
 mod shown;

@@ -1,4 +1,4 @@
-use smctl_app::{Course, Logout, read_client_line, read_course};
+use smctl_app::{Course, Glance, Logout, read_client_line, read_course};
 use std::alloc::Global;
 use std::test::Fail;
 use test_tables::{expect_rows, text_of};
@@ -47,10 +47,10 @@ fn is_cancelled(looks: &str) -> bool {
             _ => Course::Leaving,
         };
         match look.chars().next() {
-            Some('-') => logout.look(&[], course),
+            Some('-') => logout.look(Glance::of(&[], course)),
             Some(letter) => {
                 if let Some(client) = read_client_line(line_of(letter)) {
-                    logout.look(&[client], course);
+                    logout.look(Glance::of(&[client], course));
                 }
             }
             None => {}

@@ -53,7 +53,7 @@ fn call_of(row: &str) -> Result<Call<'_>, Fail> {
 }
 
 /// The host `h`, with the cookie of a rehearsal.
-fn identity(alloc: Global) -> Result<Identity, NoMemory>
+pub fn identity(alloc: Global) -> Result<Identity, NoMemory>
     ensures { IfOk result (λ identity. length identity.host ≤ 255) }
 {
     let mut host = Octets::from_slice(alloc, b"h")?;

@@ -6,6 +6,8 @@ mod calls;
 #[cfg(test)]
 mod faults;
 #[cfg(test)]
+mod places;
+#[cfg(test)]
 mod rows;
 #[cfg(test)]
 mod worlds;
