@@ -179,6 +179,8 @@ records_of_two() {
 # The options of the links stand among the pairs in any order, each once.
 option_words() {
   check "--private stands once" with_words 1 --private --private
+  check "--quirks stands once" with_words 1 --quirks --private --quirks
+  check "--record stands once" with_words 1 --record "$room/once" --quirks --record "$room/twice"
   for waits in '1 1' '0 5' '5 0' '0 0'; do
     # shellcheck disable=SC2086 # two numbers
     check "--last-wait stands once, and not with $waits" with_words 1 --last-wait ${waits% *} --private --last-wait ${waits#* }

@@ -5,8 +5,6 @@
 mod follower;
 mod layer;
 mod news;
-mod option;
 mod world;
 
-pub use option::take_quirks;
 pub use world::QuirkWorld;

@@ -2,7 +2,5 @@
 #![tactic(auto)]
 
 mod file;
-mod words;
 
 pub use file::RecordFile;
-pub use words::take_record;

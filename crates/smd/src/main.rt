@@ -8,8 +8,9 @@ use desktop_world::{BadPlaces, DesktopWorld, Places, host_name, random_cookie};
 use owned_lists::{NoMemory, Octets};
 use program_frame::{OwnTexts, StandardConsole, conclude, read_words};
 use program_texts::SMD;
-use quirk_world::{QuirkWorld, take_quirks};
-use record_file::{RecordFile, take_record};
+use quirk_world::QuirkWorld;
+use record_file::RecordFile;
+use serve_words::{ServeWords, read_serve};
 use session_recorder::{Recorder, opening_of};
 use shelf_files::{list_kept, log_in};
 use sm_world::{Console, Disk, Failure, Links, Spawner};
@@ -108,13 +109,14 @@ struct Record {
 fn record_in(
     rt: HostRuntime,
     world: &mut DesktopWorld,
-    path: String,
+    path: &str,
     paths: Paths<'_>,
     identity: &Identity,
 ) -> Result<Record, Failure> {
     let store = world.take_store(paths.store)?;
     let session = paths.session.as_bytes();
     let opening = opening_of(rt.alloc(), store, &identity.cookie, paths.patience, session)?;
+    let path = path.to_string(rt.alloc()).map_err(NoMemory::from)?;
     Ok(Record { path, opening })
 }
 
@@ -188,33 +190,6 @@ fn serve_quirks(
     status
 }
 
-/// Whether an option stands twice among the words of `serve`. All of them have a value behind them but
-/// `--private`.
-fn stands_twice(words: &[String], option: &str) -> bool {
-    let mut count = 0u64;
-    let mut at = 1usize;
-    for _ in 0..words.len() {
-        let Some(word) = words.get(at) else {
-            break;
-        };
-        if word.as_str() == option {
-            count = count.saturating_add(1);
-        }
-        let step = if word.as_str() == "--private" { 1 } else { 2 };
-        at = at.saturating_add(step);
-    }
-    count > 1
-}
-
-/// What is chosen of the links, which is taken out of the words. A last wait that stands twice stays, so
-/// that the words are bad: of two waits of which one is 0 the links would take the other.
-fn link_options(words: &mut Vec<String>) -> io::Result<LinkOptions> {
-    if stands_twice(words.as_slice(), "--last-wait") {
-        return Ok(LinkOptions::new());
-    }
-    LinkOptions::take(words).map_err(no_memory)
-}
-
 /// For how many milliseconds a client may be silent, where there is a session.
 fn patience_of(paths: Option<Paths<'_>>) -> u64 {
     match paths {
@@ -228,11 +203,11 @@ fn patience_of(paths: Option<Paths<'_>>) -> u64 {
 fn begun(
     rt: HostRuntime,
     world: &mut DesktopWorld,
-    file: Option<String>,
+    file: Option<&str>,
     paths: Paths<'_>,
     identity: &Identity,
 ) -> Result<Option<Record>, u8> {
-    if let Some(bad) = bad_places(rt, paths, file.as_ref().map(String::as_str)) {
+    if let Some(bad) = bad_places(rt, paths, file) {
         return Err(refused(rt, bad));
     }
     match prepared(rt, world, file, paths, identity) {
@@ -247,7 +222,7 @@ fn begun(
 fn prepared(
     rt: HostRuntime,
     world: &mut DesktopWorld,
-    file: Option<String>,
+    file: Option<&str>,
     paths: Paths<'_>,
     identity: &Identity,
 ) -> Result<Option<Record>, Failure> {
@@ -304,6 +279,37 @@ fn kept_status(rt: HostRuntime, words: &[String]) -> u8 {
     }
 }
 
+/// The status of a session of which this is said.
+fn run_session(
+    rt: HostRuntime,
+    serve: ServeWords<'_>,
+    host: String,
+    identity: Identity,
+) -> io::Result<u8>
+    requires { length identity.host ≤ 255 }
+{
+    let words = serve.others.as_slice();
+    let paths = read_paths(rt.alloc(), words).map_err(no_memory)?;
+    let options = LinkOptions {
+        is_private: serve.is_private,
+        last_wait: serve.last_wait.unwrap_or(0),
+        patience: patience_of(paths),
+    };
+    let mut world = DesktopWorld::with_options(rt, host, options);
+    let mut record = None;
+    if let Some(paths) = paths {
+        match begun(rt, &mut world, serve.record_path, paths, &identity) {
+            Ok(begun) => record = begun,
+            Err(status) => return Ok(status),
+        }
+    }
+    Ok(if serve.has_quirks {
+        serve_quirks(rt, words, world, identity, record)
+    } else {
+        serve_desktop(rt, words, world, identity, record)
+    })
+}
+
 /// The status of a run with these words on this desktop.
 fn run(rt: HostRuntime, mut words: Vec<String>) -> io::Result<u8> {
     if are_of_login(words.as_slice()) {
@@ -322,29 +328,18 @@ fn run(rt: HostRuntime, mut words: Vec<String>) -> io::Result<u8> {
     if are_of_restore(words.as_slice()) {
         return Ok(restore_status(rt, words));
     }
-    let has_quirks = take_quirks(&mut words);
-    let mut options = link_options(&mut words)?;
-    let file = take_record(&mut words);
     let words = words.as_slice();
     let host = host_name(&rt)?;
     let identity = Identity {
         cookie: random_cookie(&rt)?,
         host: Octets::from_vec(Vec::from_slice(rt.alloc(), host.as_bytes())?),
     };
-    let paths = read_paths(rt.alloc(), words).map_err(no_memory)?;
-    options.patience = patience_of(paths);
-    let mut world = DesktopWorld::with_options(rt, host, options);
-    let mut record = None;
-    if let Some(paths) = paths {
-        match begun(rt, &mut world, file, paths, &identity) {
-            Ok(begun) => record = begun,
-            Err(status) => return Ok(status),
+    match read_serve(rt.alloc(), words).map_err(no_memory)? {
+        Some(serve) => run_session(rt, serve, host, identity),
+        None => {
+            let world = DesktopWorld::new(rt, host);
+            Ok(serve_desktop(rt, words, world, identity, None))
         }
-    }
-    if has_quirks {
-        Ok(serve_quirks(rt, words, world, identity, record))
-    } else {
-        Ok(serve_desktop(rt, words, world, identity, record))
     }
 }
 

@@ -3,6 +3,7 @@
 
 ghost use Rattle.std.specs.Prelude.{◌≤◌, length};
 
+use control_lines::read_number;
 use desktop_world::{BadPlaces, DesktopWorld, Places, host_name, random_cookie};
 use owned_lists::{NoMemory, Octets};
 use program_frame::{OwnTexts, StandardConsole, read_words};
@@ -70,7 +71,7 @@ fn no_memory(_error: NoMemory) -> io::Error {
 }
 
 /// For how many milliseconds a program may stay that was told to die, where nothing else is set.
-const LAST_WAIT: &str = "10000";
+const LAST_WAIT: u64 = 10_000;
 
 /// The value of a variable of the environment, or an empty one.
 fn setting(rt: HostRuntime, name: &str) -> String {
@@ -80,30 +81,14 @@ fn setting(rt: HostRuntime, name: &str) -> String {
     }
 }
 
-/// What smd is told of its links by words, with this last wait; none where that is no number.
-fn options_with(rt: HostRuntime, last_wait: &str) -> Result<Option<LinkOptions>, NoMemory> {
-    let alloc = rt.alloc();
-    let mut words = Vec::new(alloc);
-    words.push("serve".to_string(alloc)?)?;
-    words.push("--last-wait".to_string(alloc)?)?;
-    words.push(last_wait.to_string(alloc)?)?;
-    if !setting(rt, "SMD_PRIVATE").is_empty() {
-        words.push("--private".to_string(alloc)?)?;
-    }
-    let options = LinkOptions::take(&mut words)?;
-    Ok(if words.len() == 1 {
-        Some(options)
-    } else {
-        None
-    })
-}
-
 /// What smd is told of its links by words, from the environment, where a command that starts smnest again finds it.
 fn link_options(rt: HostRuntime) -> Result<LinkOptions, NoMemory> {
-    if let Some(options) = options_with(rt, setting(rt, "SMD_LAST_WAIT").as_str())? {
-        return Ok(options);
-    }
-    Ok(options_with(rt, LAST_WAIT)?.unwrap_or(LinkOptions::new()))
+    let last_wait = read_number(rt.alloc(), setting(rt, "SMD_LAST_WAIT").as_bytes())?;
+    Ok(LinkOptions {
+        is_private: !setting(rt, "SMD_PRIVATE").is_empty(),
+        last_wait: last_wait.unwrap_or(LAST_WAIT),
+        patience: 0,
+    })
 }
 
 /// The status of a session with these words on this desktop, whose programs are taken for what they say.

@@ -20,7 +20,7 @@ pub use connection::Connection;
 pub use doors::{Hidden, private_listener};
 pub use leavers::Leavers;
 pub use links::SocketLinks;
-pub use options::{LinkOptions, take_private};
+pub use options::LinkOptions;
 pub use paths::{control_fault, path_fault};
 pub use reading::{Reading, is_passing, refused, would_wait};
 pub use sources::Source;

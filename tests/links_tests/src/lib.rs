@@ -12,5 +12,3 @@ mod strangers;
 mod times;
 #[cfg(test)]
 mod visitors;
-#[cfg(test)]
-mod words;

@@ -1,7 +1,7 @@
 use crate::table::bytes_of;
 use event_script::{ScriptFault, Taken, read_script};
 use owned_lists::{NumberList, Octets};
-use quirk_world::{QuirkWorld, take_quirks};
+use quirk_world::QuirkWorld;
 use sm_world::{Effect, Event, Links, MemWorld};
 use std::alloc::{Alloc, Global};
 use std::process::Abort;
@@ -127,31 +127,4 @@ piece 1 010b0000010000000000000000000000,gone 1 | n n => piece 1 010b00000100000
 #[test]
 fn a_world_hands_on_what_is_meant(rt: HostRuntime) -> Result<(), Fail> {
     expect_rows(&rt, WORLDS, calls_shown)
-}
-
-/// Whether the option is among these words, and the words without it.
-fn option_shown(alloc: Global, input: &str) -> Result<String, Fail> {
-    let mut words = Vec::new(alloc);
-    for word in input.split(' ') {
-        words.push(word.to_string(alloc)?)?;
-    }
-    let mut text = format!(in alloc; "{}", take_quirks(&mut words))?;
-    for word in &words {
-        text.push_str(" ")?;
-        text.push_str(word.as_str())?;
-    }
-    Ok(text)
-}
-
-const OPTIONS: &str = "\
-serve --quirks --socket /s => true serve --socket /s
-serve --socket /s --quirks => true serve --socket /s
-serve --private --quirks --socket /s => true serve --private --socket /s
-serve --socket --quirks --store f => false serve --socket --quirks --store f
-serve --quirks --quirks => true serve --quirks
-rehearse --quirks => false rehearse --quirks";
-
-#[test]
-fn the_option_is_taken(rt: HostRuntime) -> Result<(), Fail> {
-    expect_rows(&rt, OPTIONS, option_shown)
 }

@@ -1,34 +1,10 @@
-use record_file::{RecordFile, take_record};
+use record_file::RecordFile;
 use session_recorder::KeptLines;
-use std::alloc::{Alloc, Global};
+use std::alloc::Alloc;
 use std::os::unix::fs::symlink;
 use std::process::Abort;
 use std::test::Fail;
 use std::{env, fs, process};
-use test_tables::expect_rows;
-
-/// The file that is taken out of some words, and the words that stay.
-fn taken(alloc: Global, input: &str) -> Result<String, Fail> {
-    let mut words = Vec::new(alloc);
-    for word in input.split(' ') {
-        words.push(word.to_string(alloc)?)?;
-    }
-    let file = take_record(&mut words);
-    Ok(format!(in alloc; "{file:?} {words:?}")?)
-}
-
-const WORDS: &str = "\
-serve --record f => Some(\"f\") [\"serve\"]
-serve --socket s --record f --store t => Some(\"f\") [\"serve\", \"--socket\", \"s\", \"--store\", \"t\"]
-serve --socket --record f => None [\"serve\", \"--socket\", \"--record\", \"f\"]
-serve --record => None [\"serve\", \"--record\"]
-rehearse --record f => None [\"rehearse\", \"--record\", \"f\"]
-serve => None [\"serve\"]";
-
-#[test]
-fn the_word_is_taken_out(rt: HostRuntime) -> Result<(), Fail> {
-    expect_rows(&rt, WORDS, taken)
-}
 
 /// Keeps two lines in a file where another lies.
 fn keep_two(record: &mut RecordFile) -> bool {
