@@ -1,10 +1,10 @@
-ghost use Rattle.std.specs.Prelude.{IfOk};
-ghost use Rattle.login_plan.specs.Books.{AreKept};
+ghost use Rattle.std.specs.Prelude.{◌<◌, ◌≤◌, length, IfOk, MatchOption};
+ghost use Rattle.login_plan.specs.Books.{AreKept, IsStored};
 
 use crate::names::{FileName, is_left_over, read_name};
-use checkpoint_records::spell_book;
+use checkpoint_records::{Book, spell_book};
 use kept_books::{Kept, Shelf, file_name};
-use owned_lists::{NoMemory, Octets};
+use owned_lists::{Duplicate, NoMemory};
 use sm_world::Failed;
 use std::io::ErrorKind;
 use std::{fs, io};
@@ -53,6 +53,23 @@ struct Found {
     says: FileName,
 }
 
+/// The place of the first file with a number below this one.
+fn first_below(files: &[Found], number: u64) -> Option<usize>
+    ensures { MatchOption result (Unit {0}) (λ place. place < length files.now) }
+{
+    files.iter().position(|file| file.says.number < number)
+}
+
+/// Where a file with this number stands, if those with the greatest numbers are first.
+fn place_for(files: &[Found], number: u64) -> usize
+    ensures { result ≤ length files.now }
+{
+    match first_below(files, number) {
+        Some(place) => place,
+        None => files.len(),
+    }
+}
+
 /// The files of books in the folder, those with the greatest numbers first.
 fn found_in(rt: HostRuntime, path: &str) -> io::Result<Vec<Found>> {
     let mut all: Vec<Found> = Vec::new(rt.alloc());
@@ -60,10 +77,7 @@ fn found_in(rt: HostRuntime, path: &str) -> io::Result<Vec<Found>> {
         let Some(says) = read_name(rt.alloc(), name.as_str()).map_err(no_memory)? else {
             continue;
         };
-        let place = match all.iter().position(|other| other.says.number < says.number) {
-            Some(place) => place,
-            None => all.len(),
-        };
+        let place = place_for(all.as_slice(), says.number);
         all.insert(place, Found { name, says })?;
     }
     Ok(all)
@@ -79,25 +93,22 @@ fn add_kept(rt: HostRuntime, folder: &str, found: &Found, shelf: &mut Shelf) -> 
     ensures { AreKept shelf.new }
 {
     let path = path_in(rt, folder, found.name.as_str())?;
-    match kept_book(rt, path.as_str()) {
-        Ok(book) => {
-            let session = Octets::from_slice(rt.alloc(), found.says.session.as_slice()).map_err(
-                no_memory,
-            )?;
-            let number = found.says.number;
-            match shelf.push(Kept {
-                number,
-                session,
-                book,
-            }) {
-                Ok(()) => Ok(()),
-                Err(error) => Err(no_memory(error)),
-            }
-        }
+    let book = match kept_book(rt, path.as_str()) {
+        Ok(book) => book,
         Err(_) => {
             let _ = eprintln!(rt; "smd: {path} is left out, since no book can be read there");
-            Ok(())
+            return Ok(());
         }
+    };
+    let session = found.says.session.copy().map_err(no_memory)?;
+    let number = found.says.number;
+    match shelf.push(Kept {
+        number,
+        session,
+        book,
+    }) {
+        Ok(()) => Ok(()),
+        Err(error) => Err(no_memory(error)),
     }
 }
 
@@ -110,39 +121,41 @@ impl ShelfFolder {
         let mut files = Vec::new(rt.alloc());
         for found in found_in(rt, path)? {
             add_kept(rt, path, &found, &mut shelf)?;
-            let number = found.says.number;
-            files.push(ShelfFile {
-                name: found.name,
-                number,
-            })?;
+            let Found { name, says } = found;
+            let number = says.number;
+            files.push(ShelfFile { name, number })?;
         }
         let path = path.to_string(rt.alloc())?;
         Ok((ShelfFolder { rt, path, files }, shelf))
+    }
+
+    fn remove(&self, name: &str) -> io::Result<()> {
+        let path = path_in(self.rt, self.path.as_str(), name)?;
+        fs::remove_file(&self.rt, path.as_str())
     }
 
     /// Takes away what a login left that was killed.
     pub fn clear(&self) -> io::Result<()> {
         for name in names_in(self.rt, self.path.as_str())? {
             if is_left_over(name.as_str()) {
-                let path = path_in(self.rt, self.path.as_str(), name.as_str())?;
-                let _ = fs::remove_file(&self.rt, path.as_str());
+                let _ = self.remove(name.as_str());
             }
         }
         Ok(())
     }
 
     /// Writes a book into a file of its own, which is on the disk then.
-    fn write(&mut self, kept: &Kept) -> io::Result<()> {
+    fn write(&mut self, number: u64, session: &[u8], book: &Book) -> io::Result<()>
+        requires { IsStored book.now }
+    {
         let alloc = self.rt.alloc();
-        let session = kept.session.as_slice();
-        let name = file_name(alloc, kept.number, session).map_err(no_memory)?;
+        let name = file_name(alloc, number, session).map_err(no_memory)?;
         let name = String::from_utf8(name.into_vec()).map_err(|_| io::Error::from(
             ErrorKind::InvalidData,
         ))?;
-        let bytes = spell_book(alloc, &kept.book).map_err(no_memory)?;
+        let bytes = spell_book(alloc, book).map_err(no_memory)?;
         let path = path_in(self.rt, self.path.as_str(), name.as_str())?;
         replace(self.rt, path.as_str(), bytes.as_slice(), None)?;
-        let number = kept.number;
         self.files.push(ShelfFile { name, number })?;
         Ok(())
     }
@@ -156,8 +169,8 @@ impl ShelfFolder {
 }
 
 impl Keeping for ShelfFolder {
-    fn put(&mut self, kept: &Kept) -> Result<(), Failed> {
-        match self.write(kept) {
+    fn put(&mut self, number: u64, session: &[u8], book: &Book) -> Result<(), Failed> {
+        match self.write(number, session, book) {
             Ok(()) => Ok(()),
             Err(error) => {
                 self.tell(error);
@@ -168,11 +181,8 @@ impl Keeping for ShelfFolder {
 
     fn leave(&mut self, shelf: &[Kept]) -> Result<(), Failed> {
         for file in &self.files {
-            if shelf.iter().any(|kept| kept.number == file.number) {
-                continue;
-            }
-            if let Ok(path) = path_in(self.rt, self.path.as_str(), file.name.as_str()) {
-                let _ = fs::remove_file(&self.rt, path.as_str());
+            if !shelf.iter().any(|kept| kept.number == file.number) {
+                let _ = self.remove(file.name.as_str());
             }
         }
         Ok(())

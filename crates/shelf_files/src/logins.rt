@@ -130,10 +130,25 @@ fn over_new(rt: HostRuntime, over: Over<'_>, folder: &mut ShelfFolder) -> Result
     requires kept { AreKept over.shelf.now }
 {
     let mut disk = FileDisk::new(rt, STORE_BYTES);
-    match opened(rt.alloc(), &mut disk, over.order.store) {
-        Ok((journal, present)) => over_store(rt, over, folder, &mut disk, journal, &present),
-        Err(fault) => Err(LoginFault::OfStore(fault)),
+    let (journal, present) = match opened(rt.alloc(), &mut disk, over.order.store) {
+        Ok(found) => found,
+        Err(fault) => return Err(LoginFault::OfStore(fault)),
+    };
+    over_store(rt, over, folder, &mut disk, journal, &present)
+}
+
+/// A login for which the store is laid aside.
+fn in_its_place(
+    rt: HostRuntime,
+    over: Over<'_>,
+    folder: &mut ShelfFolder,
+) -> Result<Told, LoginFault>
+    requires kept { AreKept over.shelf.now }
+{
+    if lay_aside(rt, over.order.store).is_err() {
+        return Err(LoginFault::OfStore(Fault::Disk));
     }
+    over_new(rt, over, folder)
 }
 
 /// A login over a store that doesn't open, for which it is laid aside only where something comes back.
@@ -153,28 +168,34 @@ fn over_damaged(
         Ok(plan) => plan,
         Err(fault) => return Err(fault),
     };
-    match plan {
+    match &plan {
         Plan::Ask => question(rt, over, &empty),
-        Plan::Return(_, _) => match lay_aside(rt, over.order.store) {
-            Ok(()) => over_new(rt, over, folder),
-            Err(_) => Err(LoginFault::OfStore(Fault::Disk)),
-        },
-        _ => Err(LoginFault::OfStore(fault)),
+        Plan::Leave => Err(LoginFault::OfStore(fault)),
+        Plan::Keep(_) => Err(LoginFault::OfStore(fault)),
+        Plan::Return(_, _) => in_its_place(rt, over, folder),
     }
 }
 
+/// The store's own fault, where it is for that fault that a login doesn't begin.
+fn unopened(fault: LoginFault) -> Option<Fault> {
+    match fault {
+        LoginFault::OfStore(Fault::Damaged(at)) => Some(Fault::Damaged(at)),
+        LoginFault::OfStore(Fault::WrongSize(size)) => Some(Fault::WrongSize(size)),
+        _ => None,
+    }
+}
+
+/// A login over a store, whether it opens or not.
 fn over_any(rt: HostRuntime, over: Over<'_>, folder: &mut ShelfFolder) -> Result<Told, LoginFault>
     requires kept { AreKept over.shelf.now }
 {
-    match over_new(rt, over, folder) {
-        Ok(told) => Ok(told),
-        Err(LoginFault::OfStore(Fault::Damaged(at))) => {
-            over_damaged(rt, over, folder, Fault::Damaged(at))
-        }
-        Err(LoginFault::OfStore(Fault::WrongSize(size))) => {
-            over_damaged(rt, over, folder, Fault::WrongSize(size))
-        }
-        Err(fault) => Err(fault),
+    let fault = match over_new(rt, over, folder) {
+        Ok(told) => return Ok(told),
+        Err(fault) => fault,
+    };
+    match unopened(fault) {
+        Some(fault) => over_damaged(rt, over, folder, fault),
+        None => Err(fault),
     }
 }
 
@@ -195,17 +216,24 @@ fn begun(rt: HostRuntime, order: LoginOrder<'_>) -> Result<Told, LoginFault> {
     over_any(rt, over, &mut folder)
 }
 
+fn print(console: &mut StandardConsole, told: &Told) -> Result<u8, LoginFault> {
+    match console.print(told.text.as_slice()) {
+        Ok(()) => Ok(told.status),
+        Err(failure) => Err(LoginFault::OfStore(Fault::of_console(failure))),
+    }
+}
+
 /// Prints what is told, and gives the status.
 fn printed(rt: HostRuntime, told: Result<Told, LoginFault>) -> u8 {
     let mut console = StandardConsole::new(rt);
-    let fault = match told {
-        Ok(told) => match console.print(told.text.as_slice()) {
-            Ok(()) => return told.status,
-            Err(failure) => LoginFault::OfStore(Fault::of_console(failure)),
-        },
-        Err(fault) => fault,
+    let status = match told {
+        Ok(told) => print(&mut console, &told),
+        Err(fault) => Err(fault),
     };
-    conclude(rt.alloc(), &mut console, Err(fault))
+    match status {
+        Ok(status) => status,
+        Err(fault) => conclude(rt.alloc(), &mut console, Err(fault)),
+    }
 }
 
 /// Does what a login to a session does before its manager starts: it keeps the session as it is, brings
@@ -217,12 +245,19 @@ pub fn log_in(rt: HostRuntime, order: LoginOrder<'_>) -> u8 {
 fn offers(rt: HostRuntime, order: LoginOrder<'_>) -> Result<Told, LoginFault> {
     let present = match present_book(rt, order.store) {
         Ok(present) => present,
-        Err(_) => return Err(LoginFault::OfStore(Fault::Disk)),
+        Err(error) => {
+            drop(error);
+            return Err(LoginFault::OfStore(Fault::Disk));
+        }
     };
-    let shelf = match ShelfFolder::open(rt, order.kept) {
-        Ok((_, shelf)) => shelf,
-        Err(_) => return Err(LoginFault::Unkept),
+    let (folder, shelf) = match ShelfFolder::open(rt, order.kept) {
+        Ok(found) => found,
+        Err(error) => {
+            drop(error);
+            return Err(LoginFault::Unkept);
+        }
     };
+    drop(folder);
     let session = order.session.as_bytes();
     match offer_lines(rt.alloc(), session, shelf.as_slice(), &present) {
         Ok(text) => Ok(Told { text, status: 0 }),

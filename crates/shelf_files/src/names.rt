@@ -25,17 +25,22 @@ fn old_number(name: &str) -> Option<u64> {
     digits.parse::<u64>().ok()
 }
 
-/// What the name says. A whole store that an earlier release kept counts for `default`.
-pub fn read_name(alloc: Global, name: &str) -> Result<Option<FileName>, NoMemory> {
-    if let Some((number, session)) = read_file_name(alloc, name.as_bytes())? {
-        return Ok(Some(FileName { number, session }));
-    }
+/// What the name of a whole store says.
+fn read_old_name(alloc: Global, name: &str) -> Result<Option<FileName>, NoMemory> {
     match old_number(name) {
         Some(number) => Ok(Some(FileName {
             number,
             session: Octets::from_slice(alloc, b"default")?,
         })),
         None => Ok(None),
+    }
+}
+
+/// What the name says. A whole store that an earlier release kept counts for `default`.
+pub fn read_name(alloc: Global, name: &str) -> Result<Option<FileName>, NoMemory> {
+    match read_file_name(alloc, name.as_bytes())? {
+        Some((number, session)) => Ok(Some(FileName { number, session })),
+        None => read_old_name(alloc, name),
     }
 }
 

@@ -18,8 +18,9 @@ use store_return::{Fault, exchange_books};
 
 /// Where books are kept, each in a file of its own that is replaced whole.
 pub trait Keeping {
-    /// Keeps one more.
-    fn put(&mut self, kept: &Kept) -> Result<(), Failed>;
+    /// Keeps a book more of the session, under this number.
+    fn put(&mut self, number: u64, session: &[u8], book: &Book) -> Result<(), Failed>
+        requires stored { IsStored book.now };
 
     /// Lets all go that aren't among these.
     fn leave(&mut self, shelf: &[Kept]) -> Result<(), Failed>;
@@ -42,6 +43,7 @@ fn put_first<K: Keeping>(
     book: &Book,
     shelf: &[Kept],
 ) -> Result<Shelf, LoginFault>
+    requires { IsStored book.now }
     ensures { IfErr result (λ fault. (fault ≡ CannotKeep) ⊎ (fault ≡ OfStore LacksMemory)) }
 {
     let all = match keep(alloc, name, book, shelf) {
@@ -50,7 +52,7 @@ fn put_first<K: Keeping>(
         Err(KeepRefusal::NoMemory) => return Err(LoginFault::OfStore(Fault::NoMemory)),
     };
     if let Some(kept) = all.as_slice().first() {
-        if place.put(kept).is_err() {
+        if place.put(kept.number, name, book).is_err() {
             return Err(LoginFault::Unkept);
         }
     }
@@ -101,6 +103,7 @@ fn keep_result<K: Keeping>(
     book: &Book,
     before: &Shelf,
 ) -> Result<(), LoginFault>
+    requires { IsStored book.now }
     ensures { IfErr result (λ fault. (fault ≡ CannotKeep) ⊎ (fault ≡ OfStore LacksMemory)) }
 {
     let all = match put_first(alloc, place, name, book, before.as_slice()) {
@@ -125,6 +128,7 @@ fn keep_and_commit<D: Disk, K: Keeping>(
 ) -> Result<Shelf, LoginFault>
     requires size { (D.outside disk.old).size ≡ store_size }
     requires old { IsStored login.present.now }
+    requires first { IsStored first.now }
     requires new { IsStored book.now }
     ensures ok { OnOk result (Added (D.outside disk.old).told (D.outside disk.new).told
         (Gets journal login.entry.present.now book.now)) }
@@ -214,6 +218,7 @@ fn come_back<D: Disk, K: Keeping>(
 ) -> Result<(), LoginFault>
     requires size { (D.outside disk.old).size ≡ store_size }
     requires old { IsStored login.present.now }
+    requires first { IsStored first.now }
     requires new { IsStored book.now }
     ensures carries { Added (D.outside disk.old).told (D.outside disk.new).told
         (Carries journal login.entry.present.now (ReturnsThis first.now book.now) result) }

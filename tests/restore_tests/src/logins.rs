@@ -2,6 +2,7 @@
 
 use crate::stores::{book_in, store_of, world_of};
 use checkpoint_journal::Journal;
+use checkpoint_records::Book;
 use kept_books::{Kept, Shelf};
 use login_plan::{Choice, plan_login};
 use owned_lists::{NumberList, Octets};
@@ -35,8 +36,8 @@ impl Place {
 }
 
 impl Keeping for Place {
-    fn put(&mut self, kept: &Kept) -> Result<(), Failed> {
-        let (number, epoch) = (kept.number, kept.book.epoch);
+    fn put(&mut self, number: u64, _session: &[u8], book: &Book) -> Result<(), Failed> {
+        let epoch = book.epoch;
         match format!(in self.alloc; "; puts {number} of epoch {epoch}") {
             Ok(text) => self.tell(text.as_str()),
             Err(_) => Err(Failed),

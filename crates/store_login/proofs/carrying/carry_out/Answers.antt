@@ -12,6 +12,9 @@ returns-in-Leave-clause-carries g c = rw c.in-Leave.is (nothing_added (g.D.Told.
 pub stay-requires-clause-new : goal.stay-requires-clause-new
 stay-requires-clause-new g c = rw c.in-Keep.is at c.requires.books
 
+pub come_back-requires-clause-first : goal.come_back-requires-clause-first
+come_back-requires-clause-first g c = (rw c.in-Return.is at c.requires.books).0
+
 pub come_back-requires-clause-new : goal.come_back-requires-clause-new
 come_back-requires-clause-new g c = (rw c.in-Return.is at c.requires.books).1
 
