@@ -3,6 +3,7 @@ ghost use Rattle.std.specs.List.{AllByRecursion};
 ghost use Rattle.sm_world.specs.Events.{HasPieceSize};
 ghost use Rattle.sm_world.specs.Worlds.{mem_outside};
 
+use asked_paths::Asked;
 use owned_lists::{Command, NoMemory, NumberList, Octets, OctetsList, PairList};
 use session_recorder::Recorder;
 use sm_world::{Console, Disk, Event, EventList, Failure, Links, MemWorld, Spawner};
@@ -118,4 +119,22 @@ const RECORDS: &str = "\
 #[test]
 fn sessions_are_recorded(rt: HostRuntime) -> Result<(), Fail> {
     expect_rows(&rt, RECORDS, recorded)
+}
+
+/// No clause says that paths are handed on as they come, since opening a thing adds no effect.
+#[test]
+fn each_place_is_handed_on_once_and_as_it_comes(rt: HostRuntime) -> Result<(), Fail> {
+    let alloc = rt.alloc();
+    let asked = Asked::new(alloc, world(alloc, 0)?, Octets::new(alloc));
+    let opening = Octets::from_slice(alloc, b"cookie 00\n")?;
+    let mut recorder = Recorder::new(alloc, asked, Room::new(alloc, 999), opening);
+    assert_eq!(rt; recorder.attach("/f"), Ok(()));
+    assert_eq!(rt; recorder.publish("/a", b"x"), Ok(()));
+    assert_eq!(rt; recorder.listen("/s", "/c"), Ok(()));
+    let (asked, _) = recorder.parts();
+    assert_eq!(rt;
+        asked.paths.as_str(),
+        "attach /f\npublish /a\nlisten /s /c\n"
+    );
+    Ok(())
 }
