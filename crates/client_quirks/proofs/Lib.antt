@@ -6,6 +6,7 @@ pub mod Grown
 pub mod Joining
 pub mod Marking
 pub mod Stands
+pub mod Together
 pub mod Unheard
 pub mod Unheeded
 pub mod Viewed

@@ -12,7 +12,7 @@ use Rattle.xsmp_messages.specs.declared.message.XsmpMessage.{XsmpMessage}
 use Rattle.xsmp_messages.specs.declared.message.XsmpMessage.TheVariants.{GetPropertiesReply}
 use Rattle.xsmp_properties.specs.Tables.{encoded_len, set_all, IsTableFull}
 use Rattle.session_model.specs.Tables.{is_full}
-use Rattle.frame_speech.specs.Passing.{ComesAlone, as_frame}
+use Rattle.frame_speech.specs.Passing.{ComesAlone, as_frame, from}
 use Rattle.frame_speech.specs.declared.speech.Speech.{Speech}
 use Rattle.frame_speech.proofs.Speeches.{on}
 use Rattle.late_answers.specs.declared.leaver.Leaver.{Leaver}
@@ -100,6 +100,10 @@ other_asked client m leaver none = refl
 pub alone_some : (cutter : Option Standing) (at : Standing) (piece : List ℕ) (order : Option Endian) → cutter ≡ Some at → IfSome order (λ (e : Endian). ComesAlone e piece at) → IfSome order (λ (e : Endian). new_frames cutter piece ≡ as_frame e piece ∷ [])
 alone_some cutter at piece None some none = none
 alone_some cutter at piece (Some e) some alone = ap (λ (o : Option Standing). new_frames o piece) some ∙ alone.frames
+
+pub order_some : (cutter : Option Standing) (at : Standing) (order : Option Endian) → cutter ≡ Some at → IfSome order (λ (e : Endian). at ≡ from e []) → IfSome order (λ (e : Endian). cutter ≡ Some (from e []))
+order_some cutter at None some stands = stands
+order_some cutter at (Some e) some stands = some ∙ ap (λ (s : Standing). Some s) stands
 
 pub names_of : (side : Side) (piece : List ℕ) (order : Endian) (frame : WholeFrame) (m : XsmpMessage) (id : Option (List ℕ)) → new_frames side.cutter piece ≡ as_frame order piece ∷ [] → frame ≡ as_frame order piece → Some m ≡ xsmp_in side.speech frame → id ≡ named_by m → IfSome id (Names side piece)
 names_of side piece order frame m None alone is says names = tt

@@ -7,7 +7,7 @@ use Rattle.frame_speech.specs.Speech.{speech_behind}
 use Rattle.frame_speech.specs.Settings.{may_turn}
 use Rattle.frame_speech.specs.Passing.{may_say}
 use Rattle.frame_speech.specs.declared.speech.Speech.{Speech}
-use Rattle.late_answers.specs.Late.{closed, passed}
+use Rattle.late_answers.specs.Late.{closed, passed, waits}
 use Rattle.late_answers.specs.declared.late.Late.{Late}
 use Rattle.client_quirks.specs.Sides.{new_frames, is_between, Follows}
 use Rattle.client_quirks.specs.Exchange.{Exchanged, is_about, is_reply, tongue, word_bytes, heard_all, told_all}
@@ -126,6 +126,10 @@ pub record TellsBytes (old : Answerer) (bytes : List ℕ) (list : List (List ℕ
 abbrev pub passes_by : Bool → ℕ → Answerer → List ℕ
 passes_by true milliseconds a = word_bytes (client_of a) (passed milliseconds a.late).word
 passes_by false milliseconds a = []
+
+-- Time alone may bring something for a client that is followed: it owes an answer for which the manager waits, or may leave as if its logout weren't called off.
+abbrev pub waits_by : Answerer → Bool
+waits_by a = a.follows && waits a.late
 
 abbrev pub late_by : Bool → ℕ → Answerer → Late
 late_by true milliseconds a = (passed milliseconds a.late).late

@@ -5,6 +5,7 @@ pub mod Stood
 pub mod Heeding
 pub mod Leaving
 pub mod Meanings
+pub mod Quiet
 pub mod Sides
 pub mod Speech
 pub mod Standing

@@ -1,9 +1,10 @@
 -- One party's stream, as it is cut.
 use Rattle.std.specs.Prelude.{◌≡◌, ℕ, ◌==◌, Bool, false, List, [], ◌++◌, length, Option, Some, None, MatchOption}
+use Rattle.ice_values.specs.declared.numbers.Endian.{Endian}
 use Rattle.std.specs.List.{AllByRecursion}
 use Rattle.ice_framing.specs.Frames.{Standing, fed, cut, frames_of, standing_of, IsOversize}
 use Rattle.ice_framing.specs.declared.cutting.WholeFrame.{WholeFrame}
-use Rattle.frame_speech.specs.Passing.{IsPassed}
+use Rattle.frame_speech.specs.Passing.{IsPassed, alone_in}
 use Rattle.frame_speech.specs.Speech.{speech_behind}
 use Rattle.frame_speech.specs.declared.speech.Speech.TheVariants.{Silent}
 use Rattle.client_quirks.specs.declared.side.Side.{Side}
@@ -17,6 +18,11 @@ new_frames (Some cutter) piece = (cut (fed cutter piece)).frames
 abbrev pub held_of : Option Standing → ℕ
 held_of None = 0
 held_of (Some cutter) = length cutter.held
+
+-- the order of a piece that is one whole frame and comes between two frames
+abbrev pub alone_of : Option Standing → List ℕ → Option Endian
+alone_of None piece = None
+alone_of (Some cutter) piece = alone_in cutter piece
 
 -- the stream goes on, and stands between two frames
 abbrev pub is_between : Option Standing → Bool

@@ -15,13 +15,13 @@ use Rattle.xsmp_properties.specs.declared.hints.Hint.{Hint}
 use Rattle.xsmp_properties.specs.declared.hints.Hint.TheVariants.{IfRunning, Anyway, Immediately, Never}
 use Rattle.session_model.specs.Tables.{is_full}
 use Rattle.frame_speech.specs.Passing.{as_frame}
-use Rattle.frame_speech.specs.Speech.{is_whole}
+use Rattle.frame_speech.specs.Speech.{is_whole, says}
 use Rattle.frame_speech.specs.declared.speech.Speech.{Speech}
 use Rattle.frame_speech.specs.declared.speech.Speech.TheVariants.{Silent, Greeted, Speaks, Lost}
 use Rattle.late_answers.specs.Leavers.{messages_of, leaver_told, leaver_known, is_asking}
 use Rattle.late_answers.specs.declared.leaver.Leaver.{Leaver}
 use Rattle.late_answers.specs.declared.leaver.Line.{Line}
-use Rattle.client_quirks.specs.Sides.{new_frames, CutsOn}
+use Rattle.client_quirks.specs.Sides.{new_frames, alone_of, CutsOn}
 use Rattle.client_quirks.specs.Exchange.{spelled}
 use Rattle.client_quirks.specs.declared.side.Side.{Side}
 use Rattle.client_quirks.specs.declared.tongue.Tongue.{Tongue}
@@ -49,6 +49,15 @@ named_by m = None
 abbrev pub named_in : Option XsmpMessage → Option (List ℕ)
 named_in (Some m) = named_by m
 named_in None = None
+
+-- the ID in a frame of this order
+abbrev pub named_under : Speech → List ℕ → Option Endian → Option (List ℕ)
+named_under speech piece None = None
+named_under speech piece (Some order) = named_in (xsmp_in speech (as_frame order piece))
+
+-- The ID with which a client registers, or is registered, by a party's piece that is one frame of this minor opcode: 1 is RegisterClient, and 2 RegisterClientReply (XSMP, chapter 10).
+abbrev pub named_alone : ℕ → Side → List ℕ → Option (List ℕ)
+named_alone minor side piece = if says side.speech minor piece then named_under side.speech piece (alone_of side.cutter piece) else None
 
 -- A party's piece is one frame, in which a client registers with this ID, or is registered with it.
 pub record Names (side : Side) (piece : List ℕ) (id : List ℕ) : Type 0 where

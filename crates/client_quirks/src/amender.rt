@@ -18,8 +18,8 @@ use std::mem;
 pub struct Amender {
     alloc: Global,
     /// None where the stream isn't followed any more.
-    cutter: Option<FrameCutter>,
-    speech: Speech,
+    pub(crate) cutter: Option<FrameCutter>,
+    pub(crate) speech: Speech,
     held: PieceList,
 }
 

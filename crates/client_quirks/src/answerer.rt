@@ -1,10 +1,10 @@
 ghost use Rattle.std.specs.Prelude.{◌≡◌, ◌∷◌, [], ℕ, true, false, IfOk, IfSome, OnOk, IsTrue};
-ghost use Rattle.client_quirks.specs.Stood.{Names};
+ghost use Rattle.client_quirks.specs.Stood.{named_alone, Names};
 ghost use Rattle.client_quirks.specs.Standing.{GivesOver, has_left, is_understood};
 ghost use Rattle.std.specs.List.{concat};
 ghost use Rattle.late_answers.specs.Late.{at_first, is_excused};
 ghost use Rattle.client_quirks.specs.Sides.{IsSide};
-ghost use Rattle.client_quirks.specs.Answering.{order_by as order_stated, client_of, manager_of, HearsFrames, HandsOn, Hears, HearsPiece, TellsFrames, SendsOn, Tells, TellsBytes, passes_by, late_by, ended_by, AnswersNothingLate, OrdersNothing};
+ghost use Rattle.client_quirks.specs.Answering.{order_by as order_stated, waits_by, client_of, manager_of, HearsFrames, HandsOn, Hears, HearsPiece, TellsFrames, SendsOn, Tells, TellsBytes, passes_by, late_by, ended_by, AnswersNothingLate, OrdersNothing};
 
 use crate::exchange::{Standpoint, hear_frames, tell_frames};
 use crate::naming::name_in;
@@ -26,14 +26,14 @@ use std::mem;
 pub struct Answerer {
     alloc: Global,
     /// What the client says.
-    came: Side,
+    pub(crate) came: Side,
     came_order: Endian,
     /// What the manager sends.
-    sent: Side,
+    pub(crate) sent: Side,
     sent_order: Endian,
-    late: Late,
+    pub(crate) late: Late,
     /// Each piece of both was whole frames.
-    follows: bool,
+    pub(crate) follows: bool,
 }
 
 /// What a piece of either party's brings.
@@ -63,9 +63,9 @@ struct Answers {
 
 /// Looks for what the manager says of a save.
 #[derive(Clone, Copy, Debug)]
-struct Orders {
-    speech: Speech,
-    calm: bool,
+pub struct Orders {
+    pub speech: Speech,
+    pub calm: bool,
 }
 
 impl Heeds for Answers {
@@ -156,16 +156,19 @@ impl Answerer {
         self.late.is_excused()
     }
 
-    /// The ID with which the client registers by a piece. When there is none isn't told.
+    /// The ID with which the client registers by a piece, which is its RegisterClient alone.
     pub fn registers(&self, piece: &[u8]) -> Result<Option<Octets>, NoMemory>
-        ensures { IfOk result (λ id. IfSome id (Names self.now.came piece.now)) }
+        ensures is { IfOk result (λ id. id ≡ named_alone 1 self.now.came piece.now) }
+        ensures names { IfOk result (λ id. IfSome id (Names self.now.came piece.now)) }
     {
         name_in(self.alloc, &self.came, 1, piece)
     }
 
-    /// The ID with which the manager registers the client by these bytes. When there is none isn't told.
+    /// The ID with which the manager registers the client by these bytes, which are its
+    /// RegisterClientReply alone.
     pub fn registered(&self, bytes: &[u8]) -> Result<Option<Octets>, NoMemory>
-        ensures { IfOk result (λ id. IfSome id (Names self.now.sent bytes.now)) }
+        ensures is { IfOk result (λ id. id ≡ named_alone 2 self.now.sent bytes.now) }
+        ensures names { IfOk result (λ id. IfSome id (Names self.now.sent bytes.now)) }
     {
         name_in(self.alloc, &self.sent, 2, bytes)
     }
@@ -358,7 +361,8 @@ impl Answerer {
 
     /// Whether time alone may bring what the manager hears, or what becomes of the client's end.
     pub fn waits(&self) -> bool
-        ensures { result ≡ false → (milliseconds : ℕ) →
+        ensures is { result ≡ waits_by self.now }
+        ensures still { result ≡ false → (milliseconds : ℕ) →
             passes_by self.now.follows milliseconds self.now ≡ [] }
     {
         self.follows && self.late.waits()

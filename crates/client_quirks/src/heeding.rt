@@ -49,7 +49,7 @@ fn is_turn(speech: Speech, frame: &[u8]) -> bool
 }
 
 /// Whether a frame may be handed on otherwise than it came, or changes how its sender is understood.
-fn may_mean(speech: Speech, endian: Endian, frame: &[u8]) -> bool
+pub fn may_mean(speech: Speech, endian: Endian, frame: &[u8]) -> bool
     requires { 8 ≤ length frame.now }
     ensures { result ≡ may_mean speech (record { endian = endian; bytes = frame.now }) }
 {

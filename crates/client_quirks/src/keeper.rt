@@ -24,10 +24,10 @@ const KEPT_LIMIT: usize = 16;
 pub struct Keeper {
     alloc: Global,
     /// What the client says.
-    came: Side,
+    pub(crate) came: Side,
     /// What the manager sends.
-    sent: Side,
-    stage: Stage,
+    pub(crate) sent: Side,
+    pub(crate) stage: Stage,
     /// What is held back of the client's stream.
     pieces: PieceList,
     /// Its end is held back, too.

@@ -1,5 +1,5 @@
 ghost use Rattle.std.specs.Prelude.{◌≡◌, IfOk, IfSome};
-ghost use Rattle.client_quirks.specs.Stood.{named_by, Names};
+ghost use Rattle.client_quirks.specs.Stood.{named_by, named_alone, Names};
 
 use crate::side::Side;
 use crate::tongue::xsmp_in;
@@ -23,15 +23,15 @@ fn name_of(alloc: Global, message: &XsmpMessage) -> Result<Option<Octets>, NoMem
     }
 }
 
-/// The ID in a piece of a party's that is one such message, of this minor opcode. When there is none
-/// isn't told.
+/// The ID in a piece of a party's that is one such message, of this minor opcode.
 pub fn name_in(
     alloc: Global,
     side: &Side,
     minor: u8,
     piece: &[u8],
 ) -> Result<Option<Octets>, NoMemory>
-    ensures { IfOk result (λ id. IfSome id (Names side.now piece.now)) }
+    ensures is { IfOk result (λ id. id ≡ named_alone minor side.now piece.now) }
+    ensures names { IfOk result (λ id. IfSome id (Names side.now piece.now)) }
 {
     if !side.speech.says(minor, piece) {
         return Ok(None);

@@ -1,6 +1,6 @@
-ghost use Rattle.std.specs.Prelude.{◌≡◌, ◌∷◌, [], IfOk, IfSome, OnOk, IsTrue};
-ghost use Rattle.frame_speech.specs.Passing.{as_frame};
-ghost use Rattle.client_quirks.specs.Sides.{new_frames, held_of, is_between, IsSide, CutsOn, GoesBy};
+ghost use Rattle.std.specs.Prelude.{◌≡◌, ◌∷◌, [], Some, IfOk, IfSome, OnOk, IsTrue};
+ghost use Rattle.frame_speech.specs.Passing.{as_frame, from};
+ghost use Rattle.client_quirks.specs.Sides.{new_frames, held_of, is_between, alone_of, IsSide, CutsOn, GoesBy};
 
 use frame_speech::{Cutting, FrameCutter, Heeds, Speech};
 use ice_framing::WholeFrameList;
@@ -13,6 +13,31 @@ use std::alloc::Global;
 pub struct Side {
     cutter: Option<FrameCutter>,
     pub speech: Speech,
+}
+
+/// The order of the next frame, where a stream goes on and stands between two frames.
+pub fn next_order(cutter: &Option<FrameCutter>) -> Option<Endian>
+    ensures { IfSome result (λ e. cutter.now ≡ Some (from e [])) }
+{
+    match cutter {
+        Some(cutter) => cutter.between(),
+        None => None,
+    }
+}
+
+fn is_same(one: Endian, other: Endian) -> bool
+    ensures { IsTrue result → one ≡ other }
+{
+    match one {
+        Endian::Lsb => match other {
+            Endian::Lsb => true,
+            Endian::Msb => false,
+        },
+        Endian::Msb => match other {
+            Endian::Lsb => false,
+            Endian::Msb => true,
+        },
+    }
 }
 
 impl Side {
@@ -46,6 +71,23 @@ impl Side {
         }
     }
 
+    /// The order of the next frame, where the stream goes on and stands between two frames.
+    pub fn order(&self) -> Option<Endian>
+        ensures { IfSome result (λ e. self.now.cutter ≡ Some (from e [])) }
+    {
+        next_order(&self.cutter)
+    }
+
+    /// Whether the stream goes on, and stands between two frames of this order.
+    pub fn stands_in(&self, order: Endian) -> bool
+        ensures { IsTrue result → self.now.cutter ≡ Some (from order []) }
+    {
+        match self.order() {
+            Some(own) => is_same(own, order),
+            None => false,
+        }
+    }
+
     /// Whether a piece is whole frames, none of which is heeded, and comes between two frames, or
     /// nothing is cut any more. Then it needn't be taken.
     pub fn passes<H: Heeds>(&self, heeds: &H, piece: &[u8]) -> bool
@@ -58,10 +100,10 @@ impl Side {
         }
     }
 
-    /// The order of a piece that is one whole frame, which comes between two frames. When there is none
-    /// isn't told.
+    /// The order of a piece that is one whole frame, which comes between two frames.
     pub fn alone(&self, piece: &[u8]) -> Option<Endian>
-        ensures { IfSome result (λ e. new_frames self.now.cutter piece.now
+        ensures is { result ≡ alone_of self.now.cutter piece.now }
+        ensures frames { IfSome result (λ e. new_frames self.now.cutter piece.now
             ≡ as_frame e piece.now ∷ []) }
     {
         match &self.cutter {

@@ -59,9 +59,13 @@ all_passed ignores e bytes rest passing is =
       frames = passing.frames (subst (λ (c : Cut). AllByRecursion (IsPassed ignores) c.frames) (sym none) tt);
     }
 
+-- it stands between two frames
+pub stands_between : (at : Standing) (e : Endian) → at.order ≡ Some e → at.held ≡ [] → at ≡ from e []
+stands_between at e order held = standing_is at.order (Some e) at.held [] order held
+
 -- where nothing is held, between two frames
 pub between : (ignores : WholeFrame → Type 0) (e : Endian) (at : Standing) (bytes : List ℕ) → at.order ≡ Some e → at.held ≡ [] → Passes ignores (from e []) bytes → Passes ignores at bytes
-between ignores e at bytes order held passes = subst (λ (s : Standing). Passes ignores s bytes) (sym (standing_is at.order (Some e) at.held [] order held)) passes
+between ignores e at bytes order held passes = subst (λ (s : Standing). Passes ignores s bytes) (sym (stands_between at e order held)) passes
 
 -- ---- of a stream
 

@@ -1,5 +1,5 @@
 -- Frames of a stream with which somebody has nothing to do, who looks for others.
-use Rattle.std.specs.Prelude.{◌≡◌, ℕ, ◌≤◌, Bool, true, false, List, [], ◌∷◌, Some}
+use Rattle.std.specs.Prelude.{◌≡◌, ℕ, ◌≤◌, ◌==◌, ◌&&◌, Bool, true, false, if◌then◌else◌, List, [], ◌∷◌, length, Option, Some, None}
 use Rattle.std.specs.List.{AllByRecursion}
 use Rattle.ice_values.specs.Frames.{IsFrame}
 use Rattle.ice_values.specs.declared.numbers.Endian.{Endian}
@@ -47,6 +47,26 @@ pub record ComesAlone (e : Endian) (bytes : List ℕ) (at : Standing) : Type 0 w
   pub whole : is_whole (as_frame e bytes) ≡ true
   pub stands : (cut (fed at bytes)).standing ≡ at
   pub frames : (cut (fed at bytes)).frames ≡ as_frame e bytes ∷ []
+
+-- the same of bytes behind a stream's first frame, as it is asked: their header states no more units than a frame may have, and as many as they are
+abbrev pub is_alone : Endian → List ℕ → Bool
+is_alone e bytes = has_frame (from e bytes) && wanted (from e bytes) == length bytes
+
+abbrev pub order_under : Option Endian → List ℕ → Option Endian
+order_under None held = None
+order_under (Some e) held = if length held == 0 then Some e else None
+
+-- the order of the next frame of a stream that stands between two frames
+abbrev pub order_between : Standing → Option Endian
+order_between at = order_under at.order at.held
+
+abbrev pub alone_under : Option Endian → List ℕ → List ℕ → Option Endian
+alone_under None held bytes = None
+alone_under (Some e) held bytes = if length held == 0 && is_alone e bytes then Some e else None
+
+-- the order of a piece that is one whole frame and comes between two frames
+abbrev pub alone_in : Standing → List ℕ → Option Endian
+alone_in at bytes = alone_under at.order at.held bytes
 
 -- the same behind any stream that was cut so far
 pub record IsAlone (e : Endian) (bytes : List ℕ) (cut : CutStream) : Type 0 where

@@ -1,6 +1,6 @@
-ghost use Rattle.std.specs.Prelude.{◌≡◌, ◌-◌, length, flat_map, MatchOption, IfOk, IfSome, IsTrue};
+ghost use Rattle.std.specs.Prelude.{◌≡◌, ◌-◌, [], length, flat_map, MatchOption, IfOk, IfSome, IsTrue};
 ghost use Rattle.ice_framing.specs.Frames.{beginning, fed, cut, order_of, IsOversize};
-ghost use Rattle.frame_speech.specs.Passing.{ComesAlone, Passes};
+ghost use Rattle.frame_speech.specs.Passing.{from, order_between, alone_in, ComesAlone, Passes};
 ghost use Rattle.frame_speech.specs.Streams.{bytes_in, GoesOn};
 
 use crate::passing::{Heeds, are_passed, is_alone};
@@ -80,6 +80,15 @@ impl FrameCutter {
         self.held
     }
 
+    /// The order of the next frame, where the stream stands between two frames.
+    pub fn between(&self) -> Option<Endian>
+        ensures is { result ≡ order_between self.now }
+        ensures stands { IfSome result (λ e. self.now ≡ from e []) }
+    {
+        let endian = self.order?;
+        if self.held == 0 { Some(endian) } else { None }
+    }
+
     /// Whether a piece is whole frames, none of which is heeded, and comes between two frames.
     pub fn passes<H: Heeds>(&self, heeds: &H, piece: &[u8]) -> bool
         ensures { IsTrue result → Passes (H.ignores heeds.now) self.now piece.now }
@@ -92,7 +101,8 @@ impl FrameCutter {
 
     /// The order of a piece that is one whole frame, and comes between two frames.
     pub fn alone(&self, piece: &[u8]) -> Option<Endian>
-        ensures { IfSome result (λ e. ComesAlone e piece.now self.now) }
+        ensures is { result ≡ alone_in self.now piece.now }
+        ensures comes { IfSome result (λ e. ComesAlone e piece.now self.now) }
     {
         let endian = self.order?;
         if self.held == 0 && is_alone(endian, piece) {

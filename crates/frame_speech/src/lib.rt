@@ -12,7 +12,7 @@ mod stream;
 mod values;
 
 pub use cutter::{Cutting, FrameCutter};
-pub use passing::Heeds;
+pub use passing::{Heeds, are_passed};
 pub use reading::{Reading, byte_at, is_message, is_whole};
 pub use speech::Speech;
 pub use stream::CutStream;

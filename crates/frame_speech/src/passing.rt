@@ -1,7 +1,8 @@
-ghost use Rattle.std.specs.Prelude.{◌≡◌, ◌≤◌, false, [], length, IfSome, IsTrue};
+ghost use Rattle.std.specs.Prelude.{◌≡◌, ◌≤◌, false, [], length, None, IfSome, IsTrue};
 ghost use Rattle.ice_framing.specs.declared.cutting.WholeFrame.{WholeFrame};
 ghost use Rattle.ice_values.specs.declared.numbers.Endian.{Endian as AnyEndian};
-ghost use Rattle.frame_speech.specs.Passing.{from, IsFront, ComesAlone, Passes, SaysNothing, may_say};
+ghost use Rattle.ice_framing.specs.Frames.{has_frame};
+ghost use Rattle.frame_speech.specs.Passing.{from, IsFront, ComesAlone, Passes, SaysNothing, may_say, is_alone as is_alone_by};
 
 use crate::Speech;
 use crate::reading::byte_at;
@@ -45,6 +46,7 @@ impl Heeds for Speech {
 fn front_len(endian: Endian, bytes: &[u8]) -> Option<usize>
     ensures front { IfSome result (λ len. IsFront (from endian bytes.now) len) }
     ensures within { IfSome result (λ len. len ≤ length bytes.now) }
+    ensures none { result ≡ None → has_frame (from endian bytes.now) ≡ false }
 {
     if bytes.len() < 8 {
         return None;
@@ -60,7 +62,8 @@ fn front_len(endian: Endian, bytes: &[u8]) -> Option<usize>
 
 /// Whether these bytes are one whole frame, where the stream stands between two frames.
 pub fn is_alone(endian: Endian, bytes: &[u8]) -> bool
-    ensures { IsTrue result → ComesAlone endian bytes.now (from endian []) }
+    ensures comes { IsTrue result → ComesAlone endian bytes.now (from endian []) }
+    ensures is { result ≡ is_alone_by endian bytes.now }
 {
     match front_len(endian, bytes) {
         Some(len) => len == bytes.len(),

@@ -1,3 +1,4 @@
+pub mod Fit
 pub mod LetGo
 pub mod Parted
 pub mod Placed

@@ -22,7 +22,7 @@ use Rattle.late_answers.specs.declared.outcome.Word.{Word}
 use Rattle.late_answers.specs.declared.outcome.Word.TheVariants.{Failed, AsksFor, TalkOver}
 use Rattle.late_answers.specs.declared.telling.Order.TheVariants.{Saves, GivesToken}
 
-no_word : {A : Type 0} (word : Word) → None ≡ Some word → A
+pub no_word : {A : Type 0} (word : Word) → None ≡ Some word → A
 no_word word is = absurd cc
 
 that_word : (one word : Word) → Some one ≡ Some word → one ≡ word
@@ -64,11 +64,11 @@ asked_by Held (Some Asked) fit comes = refl
 asked_by Held (Some Interacting) fit comes = absurd (false≢true comes)
 asked_by save phase fit comes = absurd (false≢true fit)
 
-freed_word : (word : Option Word) (l : Late) (goes : Bool) → goes_out l ≡ goes → (freed word l).word ≡ word
+pub freed_word : (word : Option Word) (l : Late) (goes : Bool) → goes_out l ≡ goes → (freed word l).word ≡ word
 freed_word word l true is = rw is refl
 freed_word word l false is = rw is refl
 
-settled_word : (l : Late) (word : Word) (back : Bool) → gives_back l ≡ back → (settled l).word ≡ Some word → TalkOver ≡ word
+pub settled_word : (l : Late) (word : Word) (back : Bool) → gives_back l ≡ back → (settled l).word ≡ Some word → TalkOver ≡ word
 settled_word l word true is said =
     let over : Late = speaking TalkOver (record l { posing = false }) in
     that_word TalkOver word (sym (freed_word (Some TalkOver) over (goes_out over) refl) ∙ (rw is at said))
@@ -94,7 +94,7 @@ held_owes true (Some Asked) fit = refl
 held_owes true (Some Interacting) fit = refl
 held_owes posing phase fit = absurd (false≢true fit)
 
-failed_placed : (wanted : Option Wanted) (phase : Option Phase) (word : Word) → is_owing phase ≡ true → Some Failed ≡ Some word → has_place wanted (message_of word) phase ≡ true
+pub failed_placed : (wanted : Option Wanted) (phase : Option Phase) (word : Word) → is_owing phase ≡ true → Some Failed ≡ Some word → has_place wanted (message_of word) phase ≡ true
 failed_placed wanted phase word owes is = subst (λ (v : Word). has_place wanted (message_of v) phase ≡ true) (that_word Failed word is) (rw owes refl)
 
 off_owing : (debt : Debt) (was_done : Bool) (l : Late) (phase : Option Phase) (word : Word) → (debt ≡ Talks → is_owing phase ≡ true) → (called_off_owing debt was_done l).word ≡ Some word → has_place (called_off_owing debt was_done l).late.wanted (message_of word) phase ≡ true

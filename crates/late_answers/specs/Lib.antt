@@ -2,3 +2,4 @@ pub mod LeaverLaws
 pub mod Leavers
 pub mod Late
 pub mod Laws
+pub mod Reached

@@ -1,4 +1,5 @@
 ghost use Rattle.late_answers.specs.Laws.{OthersAreSentAll, OthersAreHeard, OthersAreLetGo, WordsHaveTheirPlace, AnswersAreOfTheRunningSave, DebtsEnd};
+ghost use Rattle.late_answers.specs.Reached.{StatesAreFit};
 ghost use Rattle.late_answers.specs.LeaverLaws.{LeaversHaveTheirPlace, LeaversStand, LeaversGoOn, LeaversEnd};
 
 /// Does nothing: its contract is a law of each client that was never told that a logout is called off.
@@ -20,9 +21,18 @@ pub fn others_are_let_go()
 {}
 
 /// Does nothing: its contract is a law of each message of the manager's. A word that it hears in the
-/// client's place has its place in the phase in which the manager has the client then.
+/// client's place has its place in the phase in which the manager has the client then. The state has to fit
+/// (`fits`), as each does by the next law, and the message has to come in its phase (`may_come`): that the
+/// manager sends it so is for the manager.
 pub fn words_have_their_place()
     ensures { WordsHaveTheirPlace }
+{}
+
+/// Does nothing: its contract is a law of each client, from its coming on. Its state fits, whatever it says
+/// and however time passes, as long as the manager sends each message in its phase, and to who was asked of
+/// a logout what ends one (`is_sent`).
+pub fn states_are_fit()
+    ensures { StatesAreFit }
 {}
 
 /// Does nothing: its contract is a law of each SaveYourselfDone. It is handed on for which the manager

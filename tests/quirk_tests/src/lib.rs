@@ -16,4 +16,6 @@ mod streams;
 #[cfg(test)]
 mod table;
 #[cfg(test)]
+mod together;
+#[cfg(test)]
 mod worlds;
