@@ -1,5 +1,5 @@
 -- What is kept of a connection as more passes on it.
-use Rattle.std.proofs.Common.{◌≡◌, ℕ, List, [], ◌∷◌, ◌++◌, map, refl, sym, ap, ◌∙◌, subst, append-nil}
+use Rattle.std.proofs.Common.{◌≡◌, ℕ, List, [], ◌∷◌, ◌++◌, map, Some, refl, sym, ap, ◌∙◌, subst, append-nil}
 use Rattle.std.specs.Prelude.{option_to_list}
 use Rattle.ice_values.specs.declared.numbers.Endian.{Endian}
 use Rattle.ice_framing.specs.Frames.{frames_of}
@@ -7,9 +7,14 @@ use Rattle.ice_framing.specs.declared.cutting.WholeFrame.{WholeFrame}
 use Rattle.ice_framing.proofs.Streams.{frames_of-nil}
 use Rattle.xsmp_messages.specs.declared.message.XsmpMessage.{XsmpMessage}
 use Rattle.frame_speech.proofs.Speeches.{speech_behind-append}
-use Rattle.frame_speech.specs.Speech.{speech_behind}
+use Rattle.frame_speech.specs.Speech.{reading_of, speech_behind}
 use Rattle.frame_speech.specs.Streams.{IsAt, Cuts}
-use Rattle.frame_speech.specs.Passing.{PassesBy, as_frame}
+use Rattle.xsmp_messages.specs.Views.{WalksOf}
+use Rattle.ice_values.specs.declared.walk.PropertyWalk.{PropertyWalk}
+use Rattle.frame_speech.proofs.Alone.{stays}
+use Rattle.frame_speech.proofs.Walked.{says_not, turns_by_walk}
+use Rattle.frame_speech.specs.Settings.{set_in}
+use Rattle.frame_speech.specs.Passing.{IsAlone, PassesBy, SaysNothing, as_frame}
 use Rattle.frame_speech.specs.declared.speech.Speech.{Speech}
 use Rattle.frame_speech.specs.declared.speech.Speech.TheVariants.{Silent}
 use Rattle.frame_speech.specs.declared.stream.CutStream.{CutStream}
@@ -82,7 +87,13 @@ heard_nothing old at bytes new passes is =
       told = refl;
     })
 
--- it sent one frame, which doesn't change how it is understood
+-- one frame that sets properties, or says nothing of its sender, doesn't change how it is understood
+pub lone_set : (s : Speech) (e : Endian) (bytes : List ℕ) (stream : CutStream) (walk : PropertyWalk) → IsAlone e bytes stream → WalksOf e (set_in (reading_of s (as_frame e bytes))) (Some walk) → IsLone s e bytes stream
+lone_set s e bytes stream walk alone walks = record { alone = alone; stays = stays s (as_frame e bytes) alone.whole (turns_by_walk s (as_frame e bytes) walk walks) }
+
+pub lone_said : (s : Speech) (e : Endian) (bytes : List ℕ) (stream : CutStream) → IsAlone e bytes stream → SaysNothing s (as_frame e bytes) → IsLone s e bytes stream
+lone_said s e bytes stream alone says = record { alone = alone; stays = stays s (as_frame e bytes) alone.whole (says_not s (as_frame e bytes) says) }
+
 pub heard_lone : (old : ClientWatch) (at : ℕ) (e : Endian) (bytes : List ℕ) (known : Known) → IsLone old.said e bytes old.came → known ≡ noted_all Client (option_to_list (spoken old.said (as_frame e bytes))) old.known
     → Heard old at bytes (as_frame e bytes ∷ []) (record old { since = at; known = known })
 heard_lone old at e bytes known lone is = record {

@@ -1,4 +1,5 @@
 pub mod Following
 pub mod Lining
 pub mod Noting
+pub mod Spelled
 pub mod Stories

@@ -1,9 +1,9 @@
-ghost use Rattle.std.specs.Prelude.{◌≡◌, [], take, true, false, None, IfOk, OnOk, option_copied, option_and_then, option_map, unwrap_or};
+ghost use Rattle.std.specs.Prelude.{◌≡◌, [], take, true, false, Some, None, IfOk, OnOk, option_copied, option_and_then, option_map, unwrap_or};
 ghost use Rattle.std.specs.List.{list_any};
 ghost use Rattle.std.specs.Option.{option_or};
 ghost use Rattle.ice_values.specs.Walks.{Views, walk_left};
 ghost use Rattle.ice_values.specs.declared.property.Property.{Property as AnyProperty};
-ghost use Rattle.xsmp_messages.specs.declared.message.XsmpMessage.TheVariants.{SetProperties};
+ghost use Rattle.xsmp_messages.specs.declared.message.XsmpMessage.TheVariants.{SaveComplete, SaveYourselfDone, SetProperties};
 ghost use Rattle.frame_speech.specs.Settings.{values_left};
 ghost use Rattle.session_watch.specs.Knowing.{latest, name_in, is_program, set_by, program_in, id_in, asks as asked_in, answers as answered_in, told_in, work_in, worked_in, logout_in, known_by, noted};
 ghost use Rattle.session_watch.specs.declared.party.Party.TheVariants.{Client, Manager};
@@ -202,6 +202,17 @@ fn heard(answer: Option<Answered>) -> Option<Stage>
     }
 }
 
+/// What SaveYourselfDone answers.
+fn saved(success: bool) -> Answered
+    ensures { answered_in (SaveYourselfDone success) ≡ Some result }
+{
+    if success {
+        Answered::Saved
+    } else {
+        Answered::Failed
+    }
+}
+
 /// What a client has to do behind a message of the manager's.
 fn told(message: &XsmpMessage) -> Option<Stage>
     ensures { result ≡ told_in message.now }
@@ -259,6 +270,24 @@ impl Known {
         self.logout = asked.and_then(|asked| logout_in(asked)).or(self.logout);
         self.work = told(message).or(self.work);
         Ok(())
+    }
+
+    /// Notes SaveYourselfDone of the client's.
+    pub fn note_saved(&mut self, success: bool)
+        ensures { self.new ≡ noted Client (SaveYourselfDone success) self.old }
+    {
+        let answered = saved(success);
+        self.answered = Some(answered);
+        self.work = worked(answered).or(self.work);
+    }
+
+    /// Notes SaveComplete of the manager's.
+    pub fn note_completed(&mut self)
+        ensures { self.new ≡ noted Manager SaveComplete self.old }
+    {
+        self.asked = Some(Asked::Complete);
+        self.answered = None;
+        self.logout = Some(false);
     }
 
     /// Notes that a party sets these properties, which are read where they lie.

@@ -1,7 +1,8 @@
-ghost use Rattle.std.specs.Prelude.{◌≡◌, true, IfOk, OnOk, option_to_list};
-ghost use Rattle.ice_values.specs.Frames.{IsFrame};
+ghost use Rattle.std.specs.Prelude.{◌≡◌, ◌≤◌, true, length, IfOk, OnOk, option_to_list};
+ghost use Rattle.ice_values.specs.Frames.{IsFrame, bool_meaning};
 ghost use Rattle.std.specs.Result.{result_ok};
-ghost use Rattle.xsmp_messages.specs.Reading.{decode_at};
+ghost use Rattle.xsmp_messages.specs.Reading.{decode_at, empty_at, flagged_at};
+ghost use Rattle.xsmp_messages.specs.declared.message.XsmpMessage.TheVariants.{SaveComplete, SaveYourselfDone};
 ghost use Rattle.xsmp_messages.specs.Views.{WalksOf};
 ghost use Rattle.frame_speech.specs.Passing.{as_frame};
 ghost use Rattle.frame_speech.specs.Settings.{set_in};
@@ -13,13 +14,16 @@ use crate::known::Known;
 use crate::party::Party;
 use frame_speech::{Heeds, Speech, byte_at, is_whole};
 use ice_framing::WholeFrame;
-use ice_values::{DecodeRefusal, Endian, PropertyWalk};
+use ice_values::{DecodeRefusal, Endian, PropertyWalk, no_body, value_at};
 use owned_lists::NoMemory;
 use std::alloc::Global;
 use xsmp_messages::decode_xsmp;
 
-/// The minor opcode of SetProperties.
-const SET_PROPERTIES: u8 = 12;
+/// The minor opcode of SaveYourselfDone.
+const SAVE_YOURSELF_DONE: u8 = 8;
+
+/// The minor opcode of SaveComplete.
+const SAVE_COMPLETE: u8 = 18;
 
 /// Looks for the messages of XSMP.
 #[derive(Clone, Copy, Debug)]
@@ -40,8 +44,69 @@ impl Heeds for Messages {
     }
 }
 
-/// Notes the message that a frame spells, if it spells one.
+/// Notes SaveYourselfDone, if a frame of its minor opcode spells it.
+#[tactic(auto, unfolding(xsmp_messages::specs::Reading::flagged_at))]
+fn note_saved(party: Party, frame: &[u8], known: &mut Known)
+    requires { 8 ≤ length frame.now }
+    ensures { known.new ≡ noted_all party (option_to_list
+        (result_ok (flagged_at bool_meaning SaveYourselfDone frame.now))) known.old }
+{
+    match no_body(frame) {
+        Ok(()) => match value_at::<bool>(frame, 2) {
+            Ok(success) => match party {
+                Party::Client => known.note_saved(success),
+                Party::Manager => {}
+            },
+            Err(_) => {}
+        },
+        Err(_) => {}
+    }
+}
+
+/// Notes SaveComplete, if a frame of its minor opcode spells it.
+#[tactic(auto, unfolding(xsmp_messages::specs::Reading::valued_at))]
+fn note_completed(party: Party, frame: &[u8], known: &mut Known)
+    requires { 8 ≤ length frame.now }
+    ensures { known.new ≡ noted_all party (option_to_list
+        (result_ok (empty_at SaveComplete frame.now))) known.old }
+{
+    match no_body(frame) {
+        Ok(()) => match party {
+            Party::Client => {}
+            Party::Manager => known.note_completed(),
+        },
+        Err(_) => {}
+    }
+}
+
+/// Notes the message that a frame spells, if it spells one. The two of each round are read where they
+/// lie.
+#[inline(never)]
 fn note_spelled(
+    alloc: Global,
+    party: Party,
+    endian: Endian,
+    frame: &[u8],
+    known: &mut Known,
+) -> Result<(), NoMemory>
+    requires { IsFrame endian frame.now }
+    ensures { OnOk result (known.new ≡ noted_all party
+        (option_to_list (result_ok (decode_at endian frame.now))) known.old) }
+{
+    let minor = byte_at(frame, 1);
+    if minor == SAVE_YOURSELF_DONE {
+        note_saved(party, frame, known);
+        return Ok(());
+    }
+    if minor == SAVE_COMPLETE {
+        note_completed(party, frame, known);
+        return Ok(());
+    }
+    note_read(alloc, party, endian, frame, known)
+}
+
+/// Notes the message that a frame spells, which is read into memory, if it spells one.
+fn note_read(
     alloc: Global,
     party: Party,
     endian: Endian,
@@ -62,7 +127,7 @@ fn note_spelled(
 }
 
 /// Notes the message that a whole frame is, where its sender speaks XSMP and it can be read.
-fn note_spoken(
+pub fn note_spoken(
     alloc: Global,
     party: Party,
     speech: Speech,
@@ -87,28 +152,6 @@ fn note_spoken(
         Speech::Greeted => Ok(()),
         Speech::Lost => Ok(()),
     }
-}
-
-/// Notes the message that a whole frame is, where it lies.
-pub fn note_whole(
-    alloc: Global,
-    party: Party,
-    speech: Speech,
-    endian: Endian,
-    frame: &[u8],
-    known: &mut Known,
-) -> Result<(), NoMemory>
-    requires frame { IsFrame endian frame.now }
-    requires whole { is_whole (as_frame endian frame.now) ≡ true }
-    ensures { OnOk result (known.new ≡ noted_all party
-        (option_to_list (spoken_by speech (as_frame endian frame.now))) known.old) }
-{
-    if speech.says(SET_PROPERTIES, frame) {
-        if let Some(walk) = speech.settings(endian, frame) {
-            return known.note_set(alloc, party, walk);
-        }
-    }
-    note_spoken(alloc, party, speech, endian, frame, known)
 }
 
 /// A walk over the properties that a frame sets. None where it sets none or isn't understood.

@@ -1,14 +1,15 @@
-ghost use Rattle.std.specs.Prelude.{◌≡◌, ◌-◌, ◌++◌, ◌∷◌, ◌||◌, [], ℕ, List, IfSome, OnOk, option_copied};
-ghost use Rattle.session_watch.specs.Story.{IsLone, Passage, stream_of};
+ghost use Rattle.std.specs.Prelude.{◌≡◌, ◌-◌, ◌++◌, ◌∷◌, ◌||◌, [], ℕ, List, OnOk, option_copied};
+ghost use Rattle.frame_speech.specs.Passing.{IsAlone};
+ghost use Rattle.session_watch.specs.Story.{Passage, stream_of};
 ghost use Rattle.session_watch.specs.Knowing.{Follows, program_of, id_of, asked_of, answered_of, is_logout, stage_of, silent_since, is_lost, is_unreadable};
 ghost use Rattle.session_watch.specs.declared.party.Party.TheVariants.{Client, Manager};
 
 use crate::asking::{Answered, Asked};
 use crate::known::Known;
 use crate::party::Party;
-use crate::spoken::{Messages, note_frames, note_whole};
+use crate::spoken::{Messages, note_frames, note_spoken};
 use crate::stage::Stage;
-use frame_speech::{CutStream, Speech};
+use frame_speech::{CutStream, Heeds, Speech};
 use ice_values::Endian;
 use owned_lists::{NoMemory, Octets};
 use std::alloc::Global;
@@ -39,23 +40,6 @@ fn is_lost(speech: Speech) -> bool
     }
 }
 
-/// The order of bytes that are one whole frame, which comes between two frames and doesn't change how
-/// its sender is understood.
-fn lone(stream: &CutStream, speech: Speech, bytes: &[u8]) -> Option<Endian>
-    ensures { IfSome result (λ e. IsLone speech e bytes.now stream.now) }
-{
-    match stream.alone(bytes) {
-        Some(endian) => {
-            if speech.may_turn(endian, bytes) {
-                None
-            } else {
-                Some(endian)
-            }
-        }
-        None => None,
-    }
-}
-
 impl ClientWatch {
     /// A connection that begins now; this takes no memory.
     pub fn new(alloc: Global, now: u64) -> ClientWatch
@@ -77,14 +61,39 @@ impl ClientWatch {
         ensures { OnOk result ((start : ℕ) (story : List Passage) → Follows start story self.old
             → Follows start (story ++ record { by = Client; at = now; bytes = bytes.now } ∷ []) self.new) }
     {
-        match lone(&self.came, self.said, bytes) {
-            Some(endian) => {
-                self.since = now;
-                let (alloc, said) = (self.alloc, self.said);
-                note_whole(alloc, Party::Client, said, endian, bytes, &mut self.known)
-            }
+        match self.came.alone(bytes) {
+            Some(endian) => self.hear_alone(now, endian, bytes),
             None => self.hear_piece(now, bytes),
         }
+    }
+
+    /// Hears one whole frame of the client's, which comes between two frames and is read where it lies,
+    /// unless it may change how the client is understood.
+    fn hear_alone(&mut self, now: u64, endian: Endian, bytes: &[u8]) -> Result<(), NoMemory>
+        requires { IsAlone endian bytes.now self.old.came }
+        ensures { OnOk result ((start : ℕ) (story : List Passage) → Follows start story self.old
+            → Follows start (story ++ record { by = Client; at = now; bytes = bytes.now } ∷ []) self.new) }
+    {
+        let (alloc, said) = (self.alloc, self.said);
+        if said.heeds(endian, bytes) {
+            return self.hear_set(now, endian, bytes);
+        }
+        self.since = now;
+        note_spoken(alloc, Party::Client, said, endian, bytes, &mut self.known)
+    }
+
+    /// Hears one whole frame of the client's, which comes between two frames and may set properties: these
+    /// are read where they lie.
+    fn hear_set(&mut self, now: u64, endian: Endian, bytes: &[u8]) -> Result<(), NoMemory>
+        requires { IsAlone endian bytes.now self.old.came }
+        ensures { OnOk result ((start : ℕ) (story : List Passage) → Follows start story self.old
+            → Follows start (story ++ record { by = Client; at = now; bytes = bytes.now } ∷ []) self.new) }
+    {
+        if let Some(walk) = self.said.settings(endian, bytes) {
+            self.since = now;
+            return self.known.note_set(self.alloc, Party::Client, walk);
+        }
+        self.hear_piece(now, bytes)
     }
 
     /// Hears what the client sends, cut into frames.
@@ -113,13 +122,24 @@ impl ClientWatch {
         ensures { OnOk result ((start : ℕ) (story : List Passage) → Follows start story self.old
             → Follows start (story ++ record { by = Manager; at = now; bytes = bytes.now } ∷ []) self.new) }
     {
-        match lone(&self.sent, self.told, bytes) {
-            Some(endian) => {
-                let (alloc, told) = (self.alloc, self.told);
-                note_whole(alloc, Party::Manager, told, endian, bytes, &mut self.known)
-            }
+        match self.sent.alone(bytes) {
+            Some(endian) => self.tell_alone(now, endian, bytes),
             None => self.tell_piece(now, bytes),
         }
+    }
+
+    /// Takes note of one whole frame of the manager's, which comes between two frames and is read where it
+    /// lies, unless it may change how the manager is understood.
+    fn tell_alone(&mut self, now: u64, endian: Endian, bytes: &[u8]) -> Result<(), NoMemory>
+        requires { IsAlone endian bytes.now self.old.sent }
+        ensures { OnOk result ((start : ℕ) (story : List Passage) → Follows start story self.old
+            → Follows start (story ++ record { by = Manager; at = now; bytes = bytes.now } ∷ []) self.new) }
+    {
+        let (alloc, told) = (self.alloc, self.told);
+        if told.heeds(endian, bytes) {
+            return self.tell_piece(now, bytes);
+        }
+        note_spoken(alloc, Party::Manager, told, endian, bytes, &mut self.known)
     }
 
     /// Takes note of what the manager sends, cut into frames.
