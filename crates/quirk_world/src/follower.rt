@@ -1,6 +1,6 @@
 use crate::news::News;
 use client_quirks::{
-    Amender, Answerer, Answering, HandedOver, Keeper, PieceList, StandIn, Stood, StreamPiece,
+    Amender, Answerer, Answering, HandedOver, Keeper, PieceList, Quiet, StandIn, Stood, StreamPiece,
 };
 use owned_lists::{CommandList, NoMemory, Octets};
 use sm_world::Conn;
@@ -16,6 +16,9 @@ pub struct Follower {
     amender: Amender,
     answerer: Answerer,
     keeper: Keeper,
+    /// How both parties speak, where the three above have nothing to do but with few frames: as they said
+    /// behind the last thing that changed them.
+    quiet: Option<Quiet>,
     /// The client was answered for, as it was told last.
     excused: bool,
     /// The ID that the client has, once it was told.
@@ -72,6 +75,7 @@ impl Follower {
             amender: Amender::new(alloc),
             answerer: Answerer::new(alloc),
             keeper: Keeper::new(alloc),
+            quiet: None,
             excused: false,
             id: None,
             stand_in: None,
@@ -162,9 +166,31 @@ impl Follower {
 
     /// Whether a piece that came is handed on as it is, and nothing else changes.
     pub fn lets_pass(&self, piece: &[u8]) -> bool {
+        match &self.quiet {
+            Some(quiet) if quiet.lets_pass(piece) => true,
+            _ => self.each_lets_pass(piece),
+        }
+    }
+
+    /// Whether each of the three lets a piece pass.
+    #[inline(never)]
+    fn each_lets_pass(&self, piece: &[u8]) -> bool {
         self.amender.lets_pass(piece)
             && self.answerer.lets_pass(piece)
             && self.keeper.lets_pass(piece)
+    }
+
+    /// Whether bytes that the manager sends go out as they are, and nothing else changes.
+    pub fn sends_on(&self, bytes: &[u8]) -> bool {
+        match &self.quiet {
+            Some(quiet) => quiet.sends_on(bytes),
+            None => false,
+        }
+    }
+
+    /// Asks the three anew whether they have anything to do.
+    pub fn settle(&mut self) {
+        self.quiet = Quiet::of(&self.amender, &self.answerer, &self.keeper);
     }
 
     /// Hears a piece that came, and gives what goes out to the client.
@@ -173,6 +199,7 @@ impl Follower {
         piece: StreamPiece,
         waiting: &mut VecDeque<News>,
     ) -> Result<Octets, NoMemory> {
+        self.quiet = None;
         let pieces = self.amender.take(piece)?;
         let going = self.pass(pieces, waiting)?;
         self.begin_to_stand_in(waiting)?;
@@ -181,6 +208,7 @@ impl Follower {
 
     /// Hears that the connection has ended; true where that is handed on.
     pub fn end(&mut self, waiting: &mut VecDeque<News>) -> Result<bool, NoMemory> {
+        self.quiet = None;
         let pieces = self.amender.release();
         // Whatever would go out comes too late.
         self.pass(pieces, waiting)?;
@@ -227,6 +255,7 @@ impl Follower {
         bytes: &[u8],
         waiting: &mut VecDeque<News>,
     ) -> Result<Sending, NoMemory> {
+        self.quiet = None;
         let is_kept = self.keeper.stage().is_kept();
         self.keeper.tell(bytes)?;
         if is_kept {
@@ -248,6 +277,7 @@ impl Follower {
         milliseconds: u64,
         waiting: &mut VecDeque<News>,
     ) -> Result<(), NoMemory> {
+        self.quiet = None;
         if let Some(stand_in) = &mut self.stand_in {
             let pieces = stand_in.pass(milliseconds)?;
             return add_pieces(self.conn, pieces, waiting);
@@ -303,6 +333,7 @@ impl Follower {
             waiting.push_back(News::Gone(self.conn))?;
         }
         self.is_gone = has_ended;
+        self.settle();
         Ok(has_ended)
     }
 }

@@ -18,6 +18,10 @@ pub struct Layer {
     errands: VecDeque<Errand>,
     /// Somebody may speak in the place of a client that has left.
     has_leavers: bool,
+    /// Whether time alone may bring something, as it was asked last.
+    waits: bool,
+    /// What is known of somebody may have changed since then.
+    has_changed: bool,
 }
 
 /// Has it shown whether a client was answered for, where that has changed.
@@ -37,6 +41,7 @@ fn wait_all(
 ) -> Result<(), NoMemory> {
     for row in rows {
         row.wait(milliseconds, waiting)?;
+        row.settle();
         excuse(row, errands)?;
     }
     Ok(())
@@ -83,11 +88,16 @@ fn returns(rows: &[Follower], place: usize, piece: &[u8]) -> Result<Option<usize
     }
 }
 
-/// Where the connection of a number stands.
+/// Where the connection of a number stands. Mostly the numbers go on by one from the first.
 fn place_of(rows: &[Follower], conn: Conn) -> Option<usize>
     ensures { IfSome result (λ place. place < length rows.now) }
 {
-    rows.iter().position(|row| row.conn == conn)
+    let first = rows.first()?;
+    let place = conn.saturating_sub(first.conn) as usize;
+    match rows.get(place) {
+        Some(row) if row.conn == conn => Some(place),
+        _ => rows.iter().position(|row| row.conn == conn),
+    }
 }
 
 impl Layer {
@@ -99,7 +109,14 @@ impl Layer {
             waiting: VecDeque::new(alloc),
             errands: VecDeque::new(alloc),
             has_leavers: false,
+            waits: false,
+            has_changed: false,
         }
+    }
+
+    /// Whether something is to be done or to be handed on before anything else is heard.
+    pub fn has_more(&self) -> bool {
+        !self.errands.is_empty() || !self.waiting.is_empty()
     }
 
     /// What is to be done next.
@@ -125,13 +142,50 @@ impl Layer {
     }
 
     fn forget(&mut self, conn: Conn) {
+        self.has_changed = true;
         self.rows.retain(|row| row.conn != conn);
         self.has_leavers = self.rows.iter().any(|row| row.has_left());
     }
 
     /// Whether something may be handed on when its time has come.
-    pub fn waits(&self) -> bool {
-        self.rows.iter().any(|row| row.waits())
+    pub fn waits(&mut self) -> bool {
+        if self.has_changed {
+            self.has_changed = false;
+            self.waits = self.rows.iter().any(|row| row.waits());
+        }
+        self.waits
+    }
+
+    /// Whether a client's piece is handed on as it came, and nothing else changes. By each one a client
+    /// may come back while somebody speaks for one that has left.
+    fn lets_piece_pass(&self, conn: Conn, piece: &[u8]) -> bool {
+        if self.has_leavers {
+            return false;
+        }
+        match place_of(&self.rows, conn) {
+            Some(place) => self.rows[place].lets_pass(piece),
+            None => true,
+        }
+    }
+
+    /// Whether an event is handed on as it came, and nothing else changes.
+    pub fn lets_pass(&self, event: &Event) -> bool {
+        match event {
+            Event::Piece(conn, bytes) => self.lets_piece_pass(*conn, bytes.as_slice()),
+            Event::Operator(_) => true,
+            Event::End => true,
+            Event::Joined(_) => false,
+            Event::Gone(_) => false,
+            Event::Tick(_) => false,
+        }
+    }
+
+    /// Whether what is sent on a connection goes out as it is, and nothing else changes.
+    pub fn sends_on(&self, conn: Conn, bytes: &[u8]) -> bool {
+        match place_of(&self.rows, conn) {
+            Some(place) => self.rows[place].sends_on(bytes),
+            None => true,
+        }
     }
 
     /// The next event to hand on.
@@ -158,6 +212,7 @@ impl Layer {
     }
 
     fn wait(&mut self, milliseconds: u64) -> Result<(), NoMemory> {
+        self.has_changed = true;
         wait_all(
             &mut self.rows,
             milliseconds,
@@ -216,11 +271,13 @@ impl Layer {
         self.let_return(conn, bytes.as_slice())?;
         match place_of(&self.rows, conn) {
             Some(place) => {
-                if self.rows[place].lets_pass(bytes.as_slice()) {
+                if self.has_leavers && self.rows[place].lets_pass(bytes.as_slice()) {
                     return self.pass(conn, bytes);
                 }
+                self.has_changed = true;
                 let going = self.rows[place].hear(StreamPiece::new(bytes), &mut self.waiting)?;
                 self.has_leavers = self.has_leavers || self.rows[place].has_left();
+                self.rows[place].settle();
                 excuse(&mut self.rows[place], &mut self.errands)?;
                 self.run_errand(conn, going)?;
                 Ok(self.next_waiting())
@@ -230,6 +287,7 @@ impl Layer {
     }
 
     fn end(&mut self, conn: Conn) -> Result<(), NoMemory> {
+        self.has_changed = true;
         match place_of(&self.rows, conn) {
             Some(place) => {
                 if self.rows[place].end(&mut self.waiting)? {
@@ -261,12 +319,14 @@ impl Layer {
 
     /// Hears what is sent on a connection, and gives what goes out.
     pub fn tell(&mut self, conn: Conn, bytes: &[u8]) -> Result<Sending, NoMemory> {
+        self.has_changed = true;
         match place_of(&self.rows, conn) {
             Some(place) => {
                 if self.rows[place].has_left() {
                     return self.tell_leaver(place, bytes);
                 }
                 let sending = self.rows[place].tell(bytes, &mut self.waiting)?;
+                self.rows[place].settle();
                 excuse(&mut self.rows[place], &mut self.errands)?;
                 // What goes out as it is goes to a client of which nothing is held back.
                 if !sending.is_as_it_is() && self.rows[place].release(&mut self.waiting)? {

@@ -76,19 +76,28 @@ impl<W: Links + Excusing + Ticking + Spawner + Drop> Links for QuirkWorld<W> {
     }
 
     fn next(&mut self) -> Result<Event, Failure> {
-        if let Some(errand) = self.layer.next_errand() {
-            self.run(errand)?;
-            return Ok(self.layer.next_waiting());
+        if self.layer.has_more() {
+            if let Some(errand) = self.layer.next_errand() {
+                self.run(errand)?;
+                return Ok(self.layer.next_waiting());
+            }
+            if let Some(event) = self.layer.waiting() {
+                return Ok(event);
+            }
         }
-        if let Some(event) = self.layer.waiting() {
+        let waits = self.layer.waits();
+        self.inner.keep_ticking(waits);
+        let event = self.inner.next()?;
+        if self.layer.lets_pass(&event) {
             return Ok(event);
         }
-        self.inner.keep_ticking(self.layer.waits());
-        let event = self.inner.next()?;
         Ok(self.layer.hand_on(event)?)
     }
 
     fn send(&mut self, to: Conn, bytes: &[u8]) -> Result<(), Failure> {
+        if self.layer.sends_on(to, bytes) {
+            return self.inner.send(to, bytes);
+        }
         match self.layer.tell(to, bytes)? {
             Sending::AsItIs => self.inner.send(to, bytes),
             Sending::Anew(anew) => self.inner.send(to, anew.as_slice()),
