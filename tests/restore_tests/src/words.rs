@@ -5,7 +5,8 @@ use std::test::Fail;
 use store_return::{are_of_restore, read_order, take_marks};
 use test_tables::{expect_rows, text_of};
 
-fn words_of(alloc: Global, line: &str) -> Result<Vec<String>, Fail> {
+/// The words of a line, which are parted by blanks.
+pub fn words_of(alloc: Global, line: &str) -> Result<Vec<String>, Fail> {
     let mut words = Vec::new(alloc);
     for word in line.split(" ") {
         words.push(word.to_string(alloc)?)?;
