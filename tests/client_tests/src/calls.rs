@@ -3,8 +3,10 @@
 
 use crate::frames::stream_of;
 use crate::worlds::{effects_shown, in_threes, peer_of};
+use asked_paths::Asked;
 use client_peer::MemPeer;
 use hex_rows::bytes_of;
+use owned_lists::Octets;
 use smclient_app::{read_cookie, smclient_main};
 use std::alloc::{Alloc, Global};
 use std::process::Abort;
@@ -76,6 +78,22 @@ const CALLS: &str = "\
 #[test]
 fn a_client_follows_its_session_to_its_end(rt: HostRuntime) -> Result<(), Fail> {
     expect_rows(&rt, CALLS, call_shown)
+}
+
+/// The status of a client by these words, and which paths it asked its peer for.
+fn asked_by(alloc: Global) -> Result<(u8, String), Fail> {
+    let words = words_of(alloc, WORDS)?;
+    let mut asked = Asked::new(alloc, peer_with(alloc, LOGIN, 0)?, Octets::new(alloc));
+    let status = smclient_main(alloc, words.as_slice(), &mut asked, 1_000);
+    Ok((status, asked.paths))
+}
+
+/// No clause says which socket is connected to, and how often, since a connection adds no effect.
+#[test]
+fn each_place_is_taken_once_and_as_the_words_say(rt: HostRuntime) -> Result<(), Fail> {
+    let (status, paths) = asked_by(rt.alloc())?;
+    assert_eq!(rt; (status, paths.as_str()), (0, "fetch a\nconnect /s\n"));
+    Ok(())
 }
 
 /// Other words are bad, and other files have no entry or aren't there.

@@ -11,7 +11,7 @@ use std::alloc::Global;
 use std::test::Fail;
 
 /// The host `h`, with the cookie of a rehearsal.
-fn identity(alloc: Global) -> Result<Identity, NoMemory>
+pub fn identity(alloc: Global) -> Result<Identity, NoMemory>
     ensures { IfOk result (λ identity. length identity.host ≤ 255) }
 {
     let mut host = Octets::from_slice(alloc, b"h")?;
@@ -38,7 +38,7 @@ fn word_of(alloc: Global, word: &str) -> Result<String, Fail> {
 }
 
 /// The words, which are parted by single spaces; no words for an empty text.
-fn split_words(alloc: Global, text: &str) -> Result<Vec<String>, Fail> {
+pub fn split_words(alloc: Global, text: &str) -> Result<Vec<String>, Fail> {
     let mut words = Vec::new(alloc);
     if text.is_empty() {
         return Ok(words);
@@ -51,7 +51,7 @@ fn split_words(alloc: Global, text: &str) -> Result<Vec<String>, Fail> {
 
 /// A world to which nothing comes, where this is typed, and whose call of this number fails; of 0 none
 /// does.
-fn world_of(alloc: Global, typed: &[u8], failing: u64) -> Result<MemWorld, NoMemory> {
+pub fn world_of(alloc: Global, typed: &[u8], failing: u64) -> Result<MemWorld, NoMemory> {
     let mut numbers = NumberList::new(alloc);
     numbers.push(failing)?;
     let typed = Octets::from_slice(alloc, typed)?;

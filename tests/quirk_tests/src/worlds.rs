@@ -1,8 +1,10 @@
 use crate::table::bytes_of;
+use asked_paths::Asked;
 use event_script::{ScriptFault, Taken, read_script};
-use owned_lists::{NumberList, Octets};
+use outer_world::Outer;
+use owned_lists::{NoMemory, NumberList, Octets};
 use quirk_world::QuirkWorld;
-use sm_world::{Effect, Event, Links, MemWorld};
+use sm_world::{Disk, Effect, Event, EventList, Links, MemWorld};
 use std::alloc::{Alloc, Global};
 use std::process::Abort;
 use std::test::Fail;
@@ -127,4 +129,29 @@ piece 1 010b0000010000000000000000000000,gone 1 | n n => piece 1 010b00000100000
 #[test]
 fn a_world_hands_on_what_is_meant(rt: HostRuntime) -> Result<(), Fail> {
     expect_rows(&rt, WORLDS, calls_shown)
+}
+
+/// A world to which nothing comes, and which notes the paths that are handed to it.
+fn asked_world(alloc: Global) -> Result<QuirkWorld<Asked<MemWorld>>, NoMemory> {
+    let (events, nothing) = (EventList::new(alloc), Octets::new(alloc));
+    let failing = NumberList::new(alloc);
+    let inner = MemWorld::new(alloc, events, nothing, Octets::new(alloc), failing)?;
+    let asked = Asked::new(alloc, inner, Octets::new(alloc));
+    Ok(QuirkWorld::new(alloc, asked))
+}
+
+/// No clause says that paths are handed on as they come, since opening a thing adds no effect.
+#[test]
+fn each_place_is_handed_on_once_and_as_it_comes(rt: HostRuntime) -> Result<(), Fail> {
+    let mut world = asked_world(rt.alloc())?;
+    assert_eq!(rt; world.attach("/f"), Ok(()));
+    assert_eq!(rt; world.publish("/a", b"x"), Ok(()));
+    assert_eq!(rt; world.listen("/s", "/c"), Ok(()));
+    assert_eq!(rt; world.open_outer("/x"), Ok(()));
+    let asked = world.into_inner();
+    assert_eq!(rt;
+        asked.paths.as_str(),
+        "attach /f\npublish /a\nlisten /s /c\nopen_outer /x\n"
+    );
+    Ok(())
 }

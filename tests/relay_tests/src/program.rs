@@ -3,6 +3,7 @@ ghost use Rattle.std.specs.Prelude.{IfOk};
 ghost use Rattle.std.specs.List.{AllByRecursion};
 ghost use Rattle.sm_world.specs.Events.{HasPieceSize};
 
+use asked_paths::Asked;
 use event_script::{Taken, read_script};
 use owned_lists::{NoMemory, NumberList, Octets};
 use sm_world::{Effect, EventList, MemWorld};
@@ -70,6 +71,17 @@ fn expect_answers(
         put_answer(alloc, &mut found, status, world.effects())?;
     }
     assert_eq!(rt; found.as_str(), wanted);
+    Ok(())
+}
+
+/// No clause says which paths are opened, and how often, since opening them adds no effect.
+#[test]
+fn each_place_is_taken_once_and_as_the_words_say(rt: HostRuntime) -> Result<(), Fail> {
+    let alloc = rt.alloc();
+    let words = split_words(alloc, SERVE)?;
+    let mut asked = Asked::new(alloc, world_of(alloc, 0)?, Octets::new(alloc));
+    let status = smrelay_main(alloc, words.as_slice(), &mut asked, 5);
+    assert_eq!(rt; (status, asked.paths.as_str()), (0, "listen /s /m\n"));
     Ok(())
 }
 

@@ -1,6 +1,7 @@
 //! Restores over a store in memory, by rows written down by hand: what is written to the byte, what a
 //! crash leaves after each effect, what is told, and what is refused before anything is written.
 
+use asked_paths::Asked;
 use checkpoint_journal::Journal;
 use checkpoint_records::spell_book;
 use checkpoint_slots::STORE_BYTES;
@@ -10,7 +11,9 @@ use sm_world::{Choice, Effect, EventList, MemWorld};
 use std::alloc::{Alloc, Global};
 use std::process::Abort;
 use std::test::Fail;
-use store_return::{BOOK_LIMIT, Fault, read_kept, restore, show};
+use store_return::{
+    BOOK_LIMIT, Fault, carry_out_order, read_kept, read_order, restore, show, take_marks,
+};
 use test_tables::{expect_rows, text_of};
 use written_books::{book_from, parted, shown, which_of};
 
@@ -103,6 +106,25 @@ const RESTORED: &str = "\
 1 c:1-1 / c / 3 a:1-1 => Err(Stopped(Clash))
 1 default:1-1 / d / 3 a:2-1 => Err(Stopped(NoSession))
 4294967295 c:1-1 / c / 4294967295 a:2-1 => Err(Stopped(Worn))";
+
+/// No clause says which store is attached, and how often, since that adds no effect.
+#[test]
+fn each_place_is_taken_once_and_as_the_words_say(rt: HostRuntime) -> Result<(), Fail> {
+    let alloc = rt.alloc();
+    let store = store_of(alloc, "3 default:1-1=e work:2-1=w !d !f")?;
+    let world = world_of(alloc, store, NumberList::new(alloc))?;
+    let mut asked = Asked::new(alloc, world, Octets::new(alloc));
+    let kept = book_from(alloc, "1 default:1-1=d,1-2")?;
+    let mut words = words_of(alloc, "restore --from k --beside b --store s")?;
+    let marks = take_marks(&mut words);
+    let order = read_order(words.as_slice(), marks).ok_or("an order")?;
+    let answer = carry_out_order(alloc, &mut asked, order, &kept);
+    assert_eq!(rt;
+        (answer, asked.paths.as_str()),
+        (Ok(()), "attach s\npublish b\n")
+    );
+    Ok(())
+}
 
 /// The same, where only the lines are printed.
 const LOOKED: &str = "\

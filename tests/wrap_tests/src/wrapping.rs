@@ -5,7 +5,8 @@ use crate::frames::{
     CLOSES, COMPLETE, CONNECTED, CONNECTS, COOKIE, DEMAND, DIE, DONE, FAILED, FATAL, OPENED, OPENS,
     ORDER, REGISTERED, REGISTERS, SAVE, SETS, SETS_FOUR, SETS_TWO, UNKNOWN,
 };
-use client_peer::MemPeer;
+use asked_paths::Asked;
+use client_peer::{MemPeer, Peer};
 use owned_lists::{NoMemory, NumberList, Octets, OctetsList, PairList};
 use sm_world::{Console, Effect, Spawner};
 use smwrap_app::{a_client_tells_what_it_answers, copies_are_apart, smwrap_main};
@@ -152,10 +153,10 @@ fn number(numbers: &str, place: usize) -> Result<u64, Fail> {
 }
 
 /// Calls `smwrap_main` with these words.
-pub fn status_of<F: Files + Spawner + Console>(
+pub fn status_of<P: Peer, F: Files + Spawner + Console>(
     alloc: Global,
     words: &str,
-    peer: &mut MemPeer,
+    peer: &mut P,
     files: &mut F,
     turns: u64,
 ) -> Result<u8, Fail> {
@@ -223,6 +224,23 @@ fn each_save_has_a_copy_with_its_number(rt: HostRuntime) -> Result<(), Fail> {
     a_client_tells_what_it_answers();
     copies_are_apart();
     expect_rows(&rt, SESSIONS, call)
+}
+
+/// The status of a run, and which paths it asked its peer for.
+fn asked_by(alloc: Global) -> Result<(u8, String), Fail> {
+    let words = "--socket /p --authority /a --state /s --from 0 -- e";
+    let peer = peer(alloc, "BDCDORSKX", 0)?;
+    let mut asked = Asked::new(alloc, peer, Octets::new(alloc));
+    let status = status_of(alloc, words, &mut asked, &mut files(alloc, 0)?, 1_000)?;
+    Ok((status, asked.paths))
+}
+
+/// No clause says which socket is connected to, and how often, since a connection adds no effect.
+#[test]
+fn each_place_is_taken_once_and_as_the_words_say(rt: HostRuntime) -> Result<(), Fail> {
+    let (status, paths) = asked_by(rt.alloc())?;
+    assert_eq!(rt; (status, paths.as_str()), (0, "connect /p\n"));
+    Ok(())
 }
 
 const STOPS: &str = "\
