@@ -14,7 +14,7 @@ use std::test::Fail;
 use store_return::{
     BOOK_LIMIT, Fault, carry_out_order, read_kept, read_order, restore, show, take_marks,
 };
-use test_tables::{expect_rows, text_of};
+use test_tables::{expect_rows, text_of, words_of};
 use written_books::{book_from, parted, shown, which_of};
 
 /// A world with this store, in which the calls of these numbers fail.
