@@ -2,7 +2,7 @@
 """Measures what two layers of `smd serve` cost beside the rest: that of --quirks, and the watch of who is there, which each session has.
 Usage: bench/quirks.py [SMD]. Without a program, that which `tools/build` builds. valgrind's callgrind counts the instructions of smd,
 without what the kernel does; so nothing depends on what else the machine has to do. The watch is what its functions take with all that
-they call; what the compiler put into other functions isn't told apart. It fails where a Ping or a round takes more than a fifth more
+they call; what the compiler put into other functions isn't told apart. It fails where a Ping or a round takes more than a tenth more
 with both layers than with none.
 """
 import os
@@ -20,7 +20,7 @@ MANY = 150
 CLIENTS = 8
 # So many pings are 32 KiB, which smd reads at once.
 TOGETHER = 4096
-MOST = 1.2
+MOST = 1.1
 WATCH = ("session_watch", "stream_watch")
 PING = xsmp.message(0, xsmp.PING)
 
