@@ -90,9 +90,10 @@ place_of() {
 
 stands_at() { [ "$(place_of "$1")" = "$2" ]; }
 
-# manager_is_last: whether xfwm4 stands behind all other programs in the store.
+# manager_is_last: whether xfwm4 has the last of the IDs, which are given in the order in which programs join.
 manager_is_last() {
-  "$smd" store-check --store "$xfce/state/smd/store" | sed -n 's/^  restart //p' | tail -n 1 | grep -q xfwm4
+  "$smd" store-check --store "$xfce/state/smd/store" \
+    | awk '$1 == "entry" { id = $2 } $1 == "program" { print id, $2 }' | sort | tail -n 1 | grep -q ' xfwm4$'
 }
 
 # last_of_seven: the window manager joined last, behind programs that open windows, and puts these back all the same, since it
@@ -110,7 +111,7 @@ last_of_seven() {
   check "the seven are saved" answers ok checkpoint
   check "all seven are kept" within 30 has 7
   check "the seven log out" leaves
-  check "xfwm4 is the last of them" manager_is_last
+  check "xfwm4 has joined last" manager_is_last
   check "the next login of the seven begins" xfce_logs_in
   check "all seven come back" within 90 has 7
   check "the terminal stands where it was" within 20 stands_at xfce4-terminal "$place"
