@@ -363,9 +363,15 @@ one_comes_back() {
 
 # begins_anew: a session begins as at its first login, another one of the store stays, and what it had comes back by its number.
 begins_anew() {
-  local other before
+  local other before name
   other=$(session_words work)
   before=$(epoch)
+  # A program of the first login has no ID of its own yet.
+  for name in a b c d; do
+    mv "$desk/client-$name.said" "$desk/client-$name.before"
+    : > "$desk/client-$name.said"
+    echo "$desk/client-$name" >> "$desk/config/smd/session"
+  done
   check "a session begins anew" logs_in --anew
   check "the programs of its list are started" within 60 has 4
   check "none of them has an ID of before" test -z "$(ids | grep -xF "$wanted_ids")"
@@ -373,6 +379,8 @@ begins_anew() {
   check "no epoch is given twice for a new one" test "$(epoch)" -gt "$before"
   check "the new one is left" leaves
   check "what the session had is kept" kept 1 4
+  rm "$desk/config/smd/session"
+  for name in a b c d; do mv "$desk/client-$name.before" "$desk/client-$name.said"; done
   check "it is put back where another one had begun" logs_in --restore "$(number_of 4)"
   comes_back 'a new beginning'
   check "the session is left that was put back behind a new one" leaves
