@@ -40,17 +40,22 @@ with_twm() {
   joins "a window on Qt 6" 6 "$room/qt6_window"
   joins emacs 7 emacs -Q
   sleep 2
+  check "xterm is called xterm" is_called xterm
   check "the programs log out with --quirks" logs_out
   check "the words of xterm are kept" has_words "-title words"
   come_back twm gkrellm xterm xclock featherpad qt6_window emacs
   check "twm's old states are removed" within 10 has_one_state
 }
 
+# is_called PROGRAM: whether `smctl clients` calls somebody so, with nothing behind the name.
+is_called() { order clients --plain | grep -q " program=$1\$"; }
+
 with_openbox() {
   check "smd starts with --quirks for openbox" start_smd "$room/openbox" --quirks
   joins openbox 1 openbox
   joins featherpad 2 featherpad
   sleep 1
+  check "openbox is called openbox" is_called openbox
   check "openbox logs out" logs_out
   come_back openbox featherpad
 }

@@ -1,8 +1,9 @@
 -- What the properties of a client are taken to mean (XSMP, chapter 11: Predefined Properties). Four rules, each on one property.
-use Rattle.std.specs.Prelude.{ℕ, ◌+◌, ◌==◌, ◌&&◌, ◌||◌, not, Bool, if◌then◌else◌, List, ◌∷◌, length, take, drop, map, codes, slice_index, Option, Some, None, position}
+use Rattle.std.specs.Prelude.{ℕ, ◌==◌, ◌&&◌, ◌||◌, not, Bool, if◌then◌else◌, List, ◌∷◌, length, take, drop, map, codes, slice_index}
 use Rattle.std.specs.List.{list_any}
 use Rattle.std.specs.Str.{bytes_eq}
 use Rattle.ice_values.specs.declared.property.Property.{Property}
+use Rattle.frame_speech.specs.Words.{without_nul}
 
 -- the commands that are run: the standard's, but for CloneCommand
 abbrev pub is_command : List ℕ → Bool
@@ -14,14 +15,6 @@ is_text_name name = bytes_eq name (codes "Program") || bytes_eq name (codes "Cur
 
 abbrev pub is_hint_name : List ℕ → Bool
 is_hint_name name = bytes_eq name (codes "RestartStyleHint")
-
--- A word whose first NUL is its last byte is meant without it.
-abbrev pub ended_at : Option ℕ → List ℕ → List ℕ
-ended_at None word = word
-ended_at (Some at) word = if at + 1 == length word then take at word else word
-
-abbrev pub without_nul : List ℕ → List ℕ
-without_nul word = ended_at (position (λ b. b == 0) word) word
 
 -- four bytes, of which at most the first or the last isn't zero
 abbrev pub is_wide : List ℕ → Bool

@@ -1,7 +1,8 @@
-ghost use Rattle.std.specs.Prelude.{◌≡◌, ◌++◌, ◌∷◌, [], codes, map, IfOk, OnOk, position, ◌==◌};
+ghost use Rattle.std.specs.Prelude.{◌≡◌, ◌++◌, ◌∷◌, [], codes, map, IfOk, OnOk};
 ghost use Rattle.std.specs.List.{list_any};
-ghost use Rattle.client_quirks.specs.Meanings.{is_command, is_text_name, is_hint_name, without_nul, narrowed, is_wide, meant, is_line, is_shorter, is_amended as is_amended_by, amended as amended_by};
+ghost use Rattle.client_quirks.specs.Meanings.{is_command, is_text_name, is_hint_name, narrowed, is_wide, meant, is_line, is_shorter, is_amended as is_amended_by, amended as amended_by};
 
+use frame_speech::without_nul;
 use ice_values::{Array8, Array8List, Property};
 use owned_lists::{Duplicate, NoMemory, Octets};
 use std::alloc::Global;
@@ -28,23 +29,6 @@ fn is_hint_name(name: &[u8]) -> bool
     ensures { result ≡ is_hint_name name.now }
 {
     name == b"RestartStyleHint".as_slice()
-}
-
-fn first_nul(word: &[u8]) -> Option<usize>
-    ensures { result ≡ position (λ b. b == 0) word.now }
-{
-    word.iter().position(|byte| *byte == 0)
-}
-
-/// The word without the NUL at its end, where it has no other.
-fn without_nul(word: &[u8]) -> &[u8]
-    ensures { result.now ≡ without_nul word.now }
-{
-    match first_nul(word) {
-        Some(place) if place + 1 == word.len() => &word[..place],
-        Some(_) => word,
-        None => word,
-    }
 }
 
 fn is_wide(value: &[u8]) -> bool

@@ -10,6 +10,7 @@ mod settings;
 mod speech;
 mod stream;
 mod values;
+mod words;
 
 pub use cutter::{Cutting, FrameCutter};
 pub use passing::{Heeds, are_passed};
@@ -17,3 +18,4 @@ pub use reading::{Reading, byte_at, is_message, is_whole};
 pub use speech::Speech;
 pub use stream::CutStream;
 pub use values::ValueWalk;
+pub use words::without_nul;

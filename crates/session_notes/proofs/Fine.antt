@@ -64,6 +64,7 @@ abbrev pub IsOwed : Book → List Note → Entry → Type 0
 IsOwed book n (Did (Commit written)) =
     AllByRecursion (λ entry. Contains (book_in book n).entries entry ⊎ IsSaved book n entry) written.entries
     × ((command : Command) → is_among command (book_in book n).pending ≡ true → (is_among command written.pending || names written command || is_started command n) ≡ true)
+    × ((command : Command) → names (book_in book n) command ≡ true → (is_among command written.pending || names written command) ≡ true)
 IsOwed book n (Did (Say c (RegisterClientReply id))) = (is_newcomer c n ≡ false → is_recorded id (book_in book n) ≡ true) × (IsOpenable book → is_newcomer c n ≡ true → IsFresh book n id)
 IsOwed book n entry = Unit {0}
 
@@ -111,7 +112,7 @@ owed-given c m h s k = tt
 
 owed-step : (m : Move) (h : History) → Suits m h → Keeps h (noted_of h) → AllByRecursion (IsOwed (kept.opened_of h) (noted_of h)) (entries_of m)
 owed-step (Committed written) h s k =
-    ((saves-told h (noted_of h) written.entries k s.entries, λ command e. s.pending command (sym (ap (λ (b : Book). is_among command b.pending) k.book) ∙ e)), tt)
+    ((saves-told h (noted_of h) written.entries k s.entries, λ command e. s.pending command (sym (ap (λ (b : Book). is_among command b.pending) k.book) ∙ e), λ command e. s.named command (sym (ap (λ (b : Book). names b command) k.book) ∙ e)), tt)
 owed-step (Outside event) h s k = (tt, tt)
 owed-step (Gave c m) h s k = (owed-given c m h s k, tt)
 owed-step (Blamed c error) h s k = (tt, tt)

@@ -1,5 +1,5 @@
 -- The books that are written come from those before.
-use Rattle.std.proofs.Common.{◌≡◌, refl, ℕ, Bool, true, false, cond, not, ◌||◌, List, [], ◌∷◌, ◌++◌, eqb, sym, ap, subst, ◌∙◌, arith, inl, inr}
+use Rattle.std.proofs.Common.{◌≡◌, refl, ℕ, Bool, true, false, cond, not, ◌||◌, List, [], ◌∷◌, ◌++◌, filter, eqb, sym, ap, subst, ◌∙◌, arith, inl, inr}
 use Rattle.std.specs.Prelude.{Option, Some, None, find, filter_map, if◌then◌else◌, ◌⊎◌}
 use Rattle.std.specs.List.{AllByRecursion, Contains, cons_option}
 use Rattle.std.specs.Cmp.Lexicographic.{same_text}
@@ -7,7 +7,8 @@ use Rattle.owned_lists.specs.declared.commands.Command.{Command}
 use Rattle.ice_values.specs.declared.property.Property.{Property}
 use Rattle.checkpoint_records.specs.declared.records.Book.{Book}
 use Rattle.checkpoint_records.specs.declared.records.Entry.{Entry}
-use Rattle.checkpoint_records.specs.Books.{all_entries, same_command, discards, names}
+use Rattle.checkpoint_records.specs.Books.{all_entries, same_command, discards, entries_in, names}
+use Rattle.checkpoint_records.proofs.ChoiceLaws.{discards_append}
 use Rattle.discard_ledger.specs.Discards.{discard_of, is_among, without_commands, with_command, with_commands, next_pending, issuable}
 use Rattle.round_agreement.specs.Agreement.{conns_of}
 use Rattle.interact_queue.specs.Queue.{is_in}
@@ -192,6 +193,25 @@ pending-kept book strays entries command n e = named-at (is_among command (disca
       (among-once command (without_commands (discards entries) (sources_of book strays)) [] (among-kept (discards entries) (sources_of book strays) command k
       (among-append command (book.pending ++ discards book.entries) strays ∙ or-first _ _ (among-append command book.pending (discards book.entries) ∙ or-first _ _ e)))))
 
+-- what was named is named, or pending
+pub named-kept : (book : Book) (strays : List Command) (entries : List Entry) (command : Command) → names book command ≡ true
+    → (is_among command (next_pending book.pending book.entries strays (entries ++ entries_in book.others)) || is_among command (discards (entries ++ entries_in book.others))) ≡ true
+named-kept book strays entries command e = named-at (is_among command (discards (entries ++ entries_in book.others))) refl where
+  either : (es : List Entry) → is_among command (discards (es ++ entries_in book.others)) ≡ (is_among command (discards es) || is_among command (discards (entries_in book.others)))
+  either es = ap (λ (l : List Command). is_among command l) (discards_append es (entries_in book.others)) ∙ among-append command (discards es) (discards (entries_in book.others))
+
+  own-one : is_among command (discards (entries ++ entries_in book.others)) ≡ false → is_among command (discards book.entries) ≡ true
+  own-one k =
+      let none : is_among command (discards (entries_in book.others)) ≡ false = (or-none (is_among command (discards entries)) (is_among command (discards (entries_in book.others))) (sym (either entries) ∙ k)).1 in
+      sym (or-false (is_among command (discards book.entries))) ∙ ap (λ (b : Bool). is_among command (discards book.entries) || b) (sym none) ∙ sym (either book.entries) ∙ e
+
+  named-at : (b : Bool) → is_among command (discards (entries ++ entries_in book.others)) ≡ b → (is_among command (next_pending book.pending book.entries strays (entries ++ entries_in book.others)) || b) ≡ true
+  named-at true k = or-second (is_among command (next_pending book.pending book.entries strays (entries ++ entries_in book.others))) true refl
+  named-at false k =
+      or-first (is_among command (next_pending book.pending book.entries strays (entries ++ entries_in book.others))) false
+      (among-once command (without_commands (discards (entries ++ entries_in book.others)) (sources_of book strays)) [] (among-kept (discards (entries ++ entries_in book.others)) (sources_of book strays) command k
+      (among-append command (book.pending ++ discards book.entries) strays ∙ or-first _ _ (among-append command book.pending (discards book.entries) ∙ or-second (is_among command book.pending) (is_among command (discards book.entries)) (own-one k)))))
+
 pub none-named : (book : Book) (strays : List Command) (entries : List Entry) (command : Command) → is_among command (next_pending book.pending book.entries strays entries) ≡ true → is_among command (discards entries) ≡ false
 none-named book strays entries command e = (kept-among (discards entries) (sources_of book strays) command (once-among command (without_commands (discards entries) (sources_of book strays)) [] e)).1
 
@@ -203,6 +223,7 @@ next-is r h n a f = record {
   others = refl;
   entries = next-come r h a;
   pending = λ command e. pending-kept (of.book h) (of.strays h) (all_entries (next_book (reading h) (round_now r h))) command n e;
+  named = λ command e. named-kept (of.book h) (of.strays h) (next_entries (reading h) (round_now r h)) command e;
   unnamed = λ u command e. none-named (of.book h) (of.strays h) (all_entries (next_book (reading h) (round_now r h))) command e;
   fates = f;
 }
@@ -213,6 +234,7 @@ forgetting-is h id n f = record {
   others = refl;
   entries = all-filter (Comes h) (λ entry. not (is_of id entry)) (of.book h).entries (same-come h (of.book h).entries refl);
   pending = λ command e. pending-kept (of.book h) (of.strays h) (all_entries (book_forgetting (reading h).store id)) command n e;
+  named = λ command e. named-kept (of.book h) (of.strays h) (filter (λ entry. not (is_of id entry)) (of.book h).entries) command e;
   unnamed = λ u command e. none-named (of.book h) (of.strays h) (all_entries (book_forgetting (reading h).store id)) command e;
   fates = f;
 }
@@ -225,6 +247,7 @@ issued-is book commands h n e i s = record {
   others = sym (ap (λ (b : Book). b.others) e);
   entries = same-come h book.entries (ap (λ (b : Book). b.entries) e);
   pending = λ command k. pending-at command (is_among command commands) refl (sym (ap (λ (b : Book). is_among command b.pending) e) ∙ k);
+  named = λ command k. or-second (is_among command (without_commands commands book.pending)) (names book command) (sym (ap (λ (b : Book). names b command) e) ∙ k);
   unnamed = λ u command k. sym (ap (λ (b : Book). names b command) e) ∙ u command (ap (λ (b : Book). is_among command b.pending) e ∙ (kept-among commands book.pending command k).0);
   fates = λ o. fates-same (opened_of h) (record book { pending = without_commands commands book.pending }) n (ap (λ (b : Book). b.entries) (i ∙ e));
 } where

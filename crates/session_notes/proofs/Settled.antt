@@ -400,7 +400,7 @@ fine-opening opening = record {
   due = ((tt, tt), tt);
   ids = ((tt, λ o. none-differ), (tt, λ o. none-differ));
   discards = (λ u command e. absurd (grind arith), λ u command e. absurd (grind arith));
-  owed = (((all-more (Contains opening.book.entries) (λ entry. Contains opening.book.entries entry ⊎ IsSaved opening.book [] entry) (λ entry s. inl s) opening.book.entries (all-stand opening.book.entries), λ command e. or-first _ (is_started command []) (or-first (is_among command opening.book.pending) (names (raised opening.book) command) e)), tt), tt);
+  owed = (((all-more (Contains opening.book.entries) (λ entry. Contains opening.book.entries entry ⊎ IsSaved opening.book [] entry) (λ entry s. inl s) opening.book.entries (all-stand opening.book.entries), λ command e. or-first _ (is_started command []) (or-first (is_among command opening.book.pending) (names (raised opening.book) command) e), λ command e. or-second (is_among command opening.book.pending) (names (raised opening.book) command) e), tt), tt);
   standing = λ o. standing-opened opening;
   stands = (λ o. (standing-opened opening).holds, λ o. holds-opened opening.book);
 }

@@ -105,3 +105,10 @@ abbrev pub PendingIsNotLost : Type 0
 PendingIsNotLost =
     (book written : Book) (seen : List Entry) (command : Command) → IsSeen book (seen ++ Did (Commit written) ∷ []) → is_among command (book_in book (notes seen)).pending ≡ true
     → (is_among command written.pending || names written command || is_started command (notes seen)) ≡ true
+
+-- A command that the book that stands names is named by the next book too, or pending in it. So no state that can be discarded lies
+-- there without a book that knows of it.
+abbrev pub NamedIsNotLost : Type 0
+NamedIsNotLost =
+    (book written : Book) (seen : List Entry) (command : Command) → IsSeen book (seen ++ Did (Commit written) ∷ []) → names (book_in book (notes seen)) command ≡ true
+    → (is_among command written.pending || names written command) ≡ true

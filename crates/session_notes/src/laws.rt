@@ -1,4 +1,4 @@
-ghost use Rattle.session_notes.specs.Laws.{AllActsAreSeen, AllEventsAreSeen, OneHasTheToken, TheFirstIsServed, TheSecondPhaseWaits, NewIdsAreOfTheRun, NewIdsDiffer, NewIdsAreFresh, EntriesWereSaved, OthersStay, DiscardedStatesAreNotNamed, PendingIsNotLost, OldIdsAreRecorded};
+ghost use Rattle.session_notes.specs.Laws.{AllActsAreSeen, AllEventsAreSeen, OneHasTheToken, TheFirstIsServed, TheSecondPhaseWaits, NewIdsAreOfTheRun, NewIdsDiffer, NewIdsAreFresh, EntriesWereSaved, OthersStay, DiscardedStatesAreNotNamed, PendingIsNotLost, NamedIsNotLost, OldIdsAreRecorded};
 ghost use Rattle.session_notes.specs.Kept.{CompletedSavesStand, SavesAreKept};
 ghost use Rattle.session_notes.specs.Opening.{RunsBeginAgain};
 
@@ -65,6 +65,11 @@ pub fn discarded_states_are_not_named()
 /// Does nothing: its contract is a law of all that is seen of a run. A pending command stays pending, is named, or was started.
 pub fn pending_is_not_lost()
     ensures { PendingIsNotLost }
+{}
+
+/// Does nothing: its contract is a law of all that is seen of a run. A command that a book names is named by the next one, or pending in it.
+pub fn named_is_not_lost()
+    ensures { NamedIsNotLost }
 {}
 
 /// Does nothing: its contract is a law of all that is seen of a run. What is kept under an ID stands in the book.

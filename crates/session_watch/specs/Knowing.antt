@@ -9,6 +9,7 @@ use Rattle.xsmp_messages.specs.declared.message.XsmpMessage.{XsmpMessage}
 use Rattle.xsmp_messages.specs.declared.message.XsmpMessage.TheVariants.{RegisterClient, RegisterClientReply, SaveYourself, SaveYourselfRequest, InteractRequest, Interact, InteractDone, SaveYourselfDone, Die, ShutdownCancelled, ConnectionClosed, SetProperties, DeleteProperties, SaveYourselfPhase2Request, SaveYourselfPhase2, SaveComplete}
 use Rattle.frame_speech.specs.Speech.{speech_behind}
 use Rattle.frame_speech.specs.Streams.{IsAt}
+use Rattle.frame_speech.specs.Words.{without_nul}
 use Rattle.frame_speech.specs.declared.speech.Speech.{Speech}
 use Rattle.frame_speech.specs.declared.speech.Speech.TheVariants.{Silent, Greeted, Speaks, Lost}
 use Rattle.session_watch.specs.Story.{Passage, Said, stream_of, messages}
@@ -28,11 +29,11 @@ abbrev pub latest : {A B : Type 0} → (A → Option B) → List A → Option B
 latest say [] = None
 latest say (x ∷ xs) = option_or (latest say xs) (say x)
 
--- ---- the program: the first value of the last property of that name, of which 255 bytes are kept, unless it was deleted since
+-- ---- the program: the first value of the last property of that name, without a NUL that ends it, of which 255 bytes are kept, unless it was deleted since
 
 abbrev pub name_in : List (List ℕ) → Option (List ℕ)
 name_in [] = None
-name_in (value ∷ values) = Some (take 255 value)
+name_in (value ∷ values) = Some (take 255 (without_nul value))
 
 abbrev pub is_program : List ℕ → Bool
 is_program name = bytes_eq name (codes "Program")

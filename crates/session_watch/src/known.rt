@@ -5,13 +5,14 @@ ghost use Rattle.ice_values.specs.Walks.{Views, walk_left};
 ghost use Rattle.ice_values.specs.declared.property.Property.{Property as AnyProperty};
 ghost use Rattle.xsmp_messages.specs.declared.message.XsmpMessage.TheVariants.{SaveComplete, SaveYourselfDone, SetProperties};
 ghost use Rattle.frame_speech.specs.Settings.{values_left};
+ghost use Rattle.frame_speech.specs.Words.{without_nul};
 ghost use Rattle.session_watch.specs.Knowing.{latest, name_in, is_program, set_by, program_in, id_in, asks as asked_in, answers as answered_in, told_in, work_in, worked_in, logout_in, known_by, noted};
 ghost use Rattle.session_watch.specs.declared.party.Party.TheVariants.{Client, Manager};
 
 use crate::asking::{Answered, Asked, answers, asks};
 use crate::party::Party;
 use crate::stage::{Stage, work, worked};
-use frame_speech::ValueWalk;
+use frame_speech::{ValueWalk, without_nul};
 use ice_values::{Array8, Endian, Property, PropertyView, PropertyWalk};
 use owned_lists::{NoMemory, Octets};
 use std::alloc::Global;
@@ -51,12 +52,19 @@ fn is_program(name: &[u8]) -> bool
     name == b"Program".as_slice()
 }
 
+/// What is kept of a program's name: its first bytes, without the NUL that programs on Xt end it with.
+fn shown_name(alloc: Global, value: &[u8]) -> Result<Octets, NoMemory>
+    ensures { IfOk result (λ name. name ≡ take 255 (without_nul value.now)) }
+{
+    shortened(alloc, without_nul(value), PROGRAM_LIMIT)
+}
+
 /// The name of a program that these values are.
 fn name_in(alloc: Global, values: &[Array8]) -> Result<Option<Octets>, NoMemory>
     ensures { IfOk result (λ name. name ≡ name_in values.now) }
 {
     match values.first() {
-        Some(value) => Ok(Some(shortened(alloc, value.as_slice(), PROGRAM_LIMIT)?)),
+        Some(value) => Ok(Some(shown_name(alloc, value.as_slice())?)),
         None => Ok(None),
     }
 }
@@ -97,7 +105,7 @@ fn name_shown(alloc: Global, walk: ValueWalk<'_>) -> Result<Option<Octets>, NoMe
 {
     let mut left = walk;
     match left.next() {
-        Some(value) => Ok(Some(shortened(alloc, value, PROGRAM_LIMIT)?)),
+        Some(value) => Ok(Some(shown_name(alloc, value)?)),
         None => Ok(None),
     }
 }

@@ -16,6 +16,9 @@ id 020200000100000003000000612d6200
 strange-id 02020000010000000400000061205cff
 hyphen-id 0202000001000000010000002d000000
 program 010c00000700000001000000000000000700000050726f6772616d00000000000600000041525241593800000000000001000000000000000300000074776d00
+ended-program 010c00000700000001000000000000000700000050726f6772616d00000000000600000041525241593800000000000001000000000000000400000074776d00
+parted-program 010c00000700000001000000000000000700000050726f6772616d00000000000600000041525241593800000000000001000000000000000300000061006200
+twice-ended-program 010c00000700000001000000000000000700000050726f6772616d00000000000600000041525241593800000000000001000000000000000400000074770000
 two-programs 010c00000d00000002000000000000000700000050726f6772616d00000000000600000041525241593800000000000001000000000000000300000074776d000700000050726f6772616d00000000000600000041525241593800000000000001000000000000000300000061626300
 empty-program 010c00000600000001000000000000000700000050726f6772616d0000000000060000004152524159380000000000000000000000000000
 no-program 010d00000300000001000000000000000700000050726f6772616d0000000000
@@ -119,6 +122,9 @@ xsmp c:program => conn=3 holds=no stage=joining logout=no silent=0 asked=none an
 xsmp c:program c:no-program => conn=3 holds=no stage=joining logout=no silent=0 asked=none answered=none id=- program=-
 xsmp c:program c:no-program c:program => conn=3 holds=no stage=joining logout=no silent=0 asked=none answered=none id=- program=twm
 xsmp c:program c:two-programs => conn=3 holds=no stage=joining logout=no silent=0 asked=none answered=none id=- program=abc
+xsmp c:ended-program => conn=3 holds=no stage=joining logout=no silent=0 asked=none answered=none id=- program=twm
+xsmp c:parted-program => conn=3 holds=no stage=joining logout=no silent=0 asked=none answered=none id=- program=a\\x00b
+xsmp c:twice-ended-program => conn=3 holds=no stage=joining logout=no silent=0 asked=none answered=none id=- program=tw\\x00\\x00
 xsmp c:program c:empty-program => conn=3 holds=no stage=joining logout=no silent=0 asked=none answered=none id=- program=-
 xsmp m:strange-id => conn=3 holds=no stage=idle logout=no silent=10 asked=none answered=none id=a\\x20\\x5c\\xff program=-
 xsmp m:hyphen-id => conn=3 holds=no stage=idle logout=no silent=10 asked=none answered=none id=\\x2d program=-
