@@ -9,11 +9,12 @@ plain_twm() {
 # The file of an earlier display is emptied here, since what is started empties it too late to be waited for. Between two logins
 # the display may have no client: it is told to stay as it is then, since a program that comes while it starts anew is turned away.
 start_display() {
-  : > "$room/display"
-  Xvfb -displayfd 3 -screen 0 640x480x24 -nolisten tcp -noreset 3> "$room/display" > "$room/display.said" 2>&1 < /dev/null &
-  within 20 test -s "$room/display" || return 1
+  local number=$room/display.$BASHPID
+  : > "$number"
+  Xvfb -displayfd 3 -screen 0 640x480x24 -nolisten tcp -noreset 3> "$number" > "$number.said" 2>&1 < /dev/null &
+  within 20 test -s "$number" || return 1
   export DISPLAY
-  DISPLAY=:$(cat "$room/display")
+  DISPLAY=:$(cat "$number")
 }
 
 # runs NAME: whether a program of this name runs that was started from here.

@@ -4,6 +4,8 @@ top=$(cd "$here/.." && pwd)
 passed=0
 failed=0
 smd_id=
+# Who runs beside the others, if somebody does.
+beside_id=
 
 room=$(mktemp -d) || exit 1
 # For what syncs ten thousand times: a RAM disk, where there is one.
@@ -28,6 +30,7 @@ send_all() {
 }
 
 clear_room() {
+  [ -z "$beside_id" ] || kill "$beside_id" 2> /dev/null
   send_all TERM
   within 5 nobody_left || send_all KILL
   within 5 nobody_left

@@ -52,3 +52,33 @@ part() {
     left_out+=("$2, for lack of ${lacking% }")
   fi
 }
+
+# start_beside WORD..: calls the words, which call parts, beside all that comes until join_beside. They have a home, and count,
+# for themselves.
+start_beside() {
+  mkdir "$room/beside"
+  (
+    export HOME=$room/beside
+    passed=0 failed=0 left_out=() took=()
+    "$@" > "$room/beside/printed" 2>&1
+    printf '%s\n' "$passed $failed" "${took[@]/#/took }" "${left_out[@]/#/left_out }" > "$room/beside/counted"
+  ) < /dev/null &
+  beside_id=$!
+}
+
+# join_beside: waits for them, shows what they printed, and counts them in.
+join_beside() {
+  local more_passed more_failed kind text
+  wait "$beside_id"
+  beside_id=
+  cat "$room/beside/printed"
+  check "what ran beside came to its end" test -s "$room/beside/counted"
+  {
+    read -r more_passed more_failed
+    while read -r kind text; do
+      case $kind in took) took+=("$text") ;; left_out) left_out+=("$text") ;; esac
+    done
+  } < "$room/beside/counted"
+  passed=$((passed + ${more_passed:-0}))
+  failed=$((failed + ${more_failed:-0}))
+}
