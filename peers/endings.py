@@ -256,9 +256,13 @@ def in_a_logout(desk, order):
     order()
     within(LONG, lambda: all("for a logout" in desk.log(it) for it in NAMES), "no logout begins")
     within(LONG, lambda: desk.order("status").endswith(", shutdown"), "no logout runs")
+    place = os.stat(desk.store).st_ino
     desk.display.end()
     desk.goes(time.monotonic())
     desk.keeps()
+    # The session is put back into the store that is there, whose other sessions stay.
+    if os.stat(desk.store).st_ino != place:
+        raise ValueError("another file is in the store's place")
     desk.comes_back()
 
 
