@@ -40,7 +40,7 @@ with_twm() {
   joins "a window on Qt 6" 6 "$room/qt6_window"
   joins emacs 7 emacs -Q
   sleep 2
-  check "xterm is called xterm" is_called xterm
+  check "xclock is called xclock" is_called xclock
   check "the programs log out with --quirks" logs_out
   check "the words of xterm are kept" has_words "-title words"
   come_back twm gkrellm xterm xclock featherpad qt6_window emacs
