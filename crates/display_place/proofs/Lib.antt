@@ -1,0 +1,3 @@
+pub mod LastParts
+pub mod OneName
+pub mod EntryLaws
