@@ -1,20 +1,33 @@
-ghost use Rattle.std.specs.Prelude.{◌≡◌, ◌++◌, IfOk};
+ghost use Rattle.std.specs.Prelude.{◌≡◌, ◌++◌, IfOk, OnOk};
 ghost use Rattle.std.specs.Fmt.{decimal};
-ghost use Rattle.display_place.specs.Sockets.{folder, sockets_of};
+ghost use Rattle.display_place.specs.Sockets.{folder, socket_path, sockets_of};
 
 use crate::{DisplayName, Place};
 use owned_lists::{NoMemory, Octets, OctetsList};
 use std::alloc::Global;
 
-/// Some bytes in front of the path of a local display.
+/// What the path of each local display begins with.
 #[tactic(auto, unfolding(crate::specs::Sockets::folder))]
+fn put_folder(out: &mut Octets) -> Result<(), NoMemory>
+    ensures { OnOk result (out.new ≡ out.old ++ folder) }
+{
+    out.append(b"/tmp/.X11-unix/X")
+}
+
+fn put_number(alloc: Global, number: u16, out: &mut Octets) -> Result<(), NoMemory>
+    ensures { OnOk result (out.new ≡ out.old ++ decimal number) }
+{
+    let digits = number.to_string(alloc)?;
+    out.append(digits.as_bytes())
+}
+
+/// Some bytes in front of the path of a local display.
 fn named(alloc: Global, front: &[u8], number: u16) -> Result<Octets, NoMemory>
-    ensures { IfOk result (λ name. name ≡ front.now ++ (folder ++ decimal number)) }
+    ensures { IfOk result (λ name. name ≡ front.now ++ socket_path number) }
 {
     let mut name = Octets::from_slice(alloc, front)?;
-    name.append(b"/tmp/.X11-unix/X")?;
-    let digits = number.to_string(alloc)?;
-    name.append(digits.as_bytes())?;
+    put_folder(&mut name)?;
+    put_number(alloc, number, &mut name)?;
     Ok(name)
 }
 
