@@ -1,5 +1,5 @@
 -- A text names one display at most.
-use Rattle.std.proofs.Common.{◌≡◌, ◌⊎◌, inl, inr, ℕ, ◌<◌, ◌≤◌, Bool, true, false, ◌||◌, List, [], ◌∷◌, ◌++◌, Option, Some, None, refl, sym, ◌∙◌, ap, subst, arith, codes, if◌then◌else◌}
+use Rattle.std.proofs.Common.{◌≡◌, ◌⊎◌, inl, inr, ℕ, ◌<◌, ◌≤◌, Bool, true, false, ◌||◌, List, [], ◌∷◌, ◌++◌, Option, Some, None, Result, Ok, Err, IfOk, IfErr, refl, sym, ◌∙◌, ap, subst, arith, codes, if◌then◌else◌}
 use Rattle.std.specs.Fmt.{decimal}
 use Rattle.std.specs.Str.{bytes_eq}
 use Rattle.std.specs.Str.Parse.{AllDigits}
@@ -12,7 +12,7 @@ use Rattle.control_lines.proofs.Splitting.{splits_same}
 use Rattle.display_place.specs.Parting.{SplitsLast}
 use Rattle.display_place.specs.Places.{SaysPlace, IsPlain, IsBy, is_own, is_network, place_by, plain_place, host_place}
 use Rattle.display_place.specs.Names.{is_path, IsPath, IsName, SaysNumbers, Names}
-use Rattle.display_place.specs.Refusals.{HasBadProtocol, HasBadHost, HasBadNumber, HasBadScreen, IsNone, IsFrontRefused, IsTailRefused, IsPartRefused, IsRefused}
+use Rattle.display_place.specs.Refusals.{HasBadProtocol, HasBadHost, HasBadNumber, HasBadScreen, IsNone, IsFrontRefused, IsTailRefused, IsPartRefused, IsRefused, Gives}
 use Rattle.display_place.specs.Laws.{NamesOne}
 use Rattle.display_place.specs.declared.places.Place.{Place}
 use Rattle.display_place.specs.declared.places.Place.TheVariants.{Local}
@@ -161,6 +161,11 @@ refused_names_none text BadHost display refused names = part_refused text BadHos
 refused_names_none text BadNumber display refused names = part_refused text BadNumber display refused names
 refused_names_none text BadScreen display refused names = part_refused text BadScreen display refused names
 refused_names_none text NoMemory display refused names = refl
+
+-- what is named or refused for a cause is what the text names
+pub gives_what_is_named : (text : List ℕ) (result : Result DisplayName DisplayRefusal) → IfOk result (Names text) → IfErr result (IsRefused text) → (display : DisplayName) → Names text display → Gives result display
+gives_what_is_named text (Ok named) says refused display names = text_names_one text named display says names
+gives_what_is_named text (Err refusal) says refused display names = refused_names_none text refusal display refused names
 
 pub names_one_display : NamesOne
 names_one_display = record { one = text_names_one; none = refused_names_none }

@@ -1,11 +1,12 @@
 -- Why a text names no display.
-use Rattle.std.specs.Prelude.{◌≡◌, ◌≢◌, ◌⊎◌, ℕ, ◌<◌, Bool, false, true, ◌||◌, List, codes}
+use Rattle.std.specs.Prelude.{◌≡◌, ◌≢◌, ◌⊎◌, ℕ, ◌<◌, Bool, false, true, ◌||◌, List, codes, Result, Ok, Err}
 use Rattle.std.specs.Fmt.{decimal}
 use Rattle.std.specs.Str.{bytes_eq}
 use Rattle.control_lines.specs.Parts.{IsWithout, SplitsOnce}
 use Rattle.display_place.specs.Parting.{SplitsLast}
 use Rattle.display_place.specs.Places.{is_own, is_network}
 use Rattle.display_place.specs.Names.{is_path}
+use Rattle.display_place.specs.declared.places.DisplayName.{DisplayName}
 use Rattle.display_place.specs.declared.refusals.DisplayRefusal.{DisplayRefusal}
 use Rattle.display_place.specs.declared.refusals.DisplayRefusal.TheVariants.{NoNumber, BadProtocol, BadHost, BadNumber, BadScreen, NoMemory}
 
@@ -70,3 +71,8 @@ IsRefused text BadHost = IsPartRefused text BadHost
 IsRefused text BadNumber = IsPartRefused text BadNumber
 IsRefused text BadScreen = IsPartRefused text BadScreen
 IsRefused text NoMemory = Unit {0}
+
+-- Where a text names a display, the answer is this one, unless memory was wanting.
+abbrev pub Gives : Result DisplayName DisplayRefusal → DisplayName → Type 0
+Gives (Ok named) display = named ≡ display
+Gives (Err refusal) display = refusal ≡ NoMemory

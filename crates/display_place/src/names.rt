@@ -1,6 +1,7 @@
 ghost use Rattle.std.specs.Prelude.{◌≡◌, IfOk, IfErr};
 ghost use Rattle.display_place.specs.Names.{Names, is_path as of_path};
-ghost use Rattle.display_place.specs.Refusals.{IsRefused};
+ghost use Rattle.display_place.specs.Refusals.{Gives, IsRefused};
+ghost use Rattle.display_place.specs.declared.places.DisplayName.{DisplayName as AnyDisplay};
 
 use crate::fronts::{read_place, split_at_last};
 use crate::tails::read_numbers;
@@ -24,6 +25,7 @@ fn is_path(text: &[u8]) -> bool
 pub fn read_display(alloc: Global, text: &[u8]) -> Result<DisplayName, DisplayRefusal>
     ensures names { IfOk result (Names text.now) }
     ensures refused { IfErr result (IsRefused text.now) }
+    ensures exact { (display : AnyDisplay) → Names text.now display → Gives result display }
 {
     if is_path(text) {
         return Ok(DisplayName {
