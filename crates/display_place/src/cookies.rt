@@ -72,12 +72,7 @@ fn is_of_number(entry: &DisplayEntry, digits: &[u8]) -> bool
     are_bytes(entry.number.as_slice(), b"") || are_bytes(entry.number.as_slice(), digits)
 }
 
-fn is_for(
-    digits: &[u8],
-    machine: &[u8],
-    reached: Option<IpAddress>,
-    entry: &DisplayEntry,
-) -> bool
+fn is_for(digits: &[u8], machine: &[u8], reached: Option<IpAddress>, entry: &DisplayEntry) -> bool
     ensures { result ≡ of_display digits.now machine.now reached entry.now }
 {
     has_cookie(entry) && is_of_number(entry, digits) && is_good_at(machine, reached, entry)

@@ -69,11 +69,7 @@ fn place_of(alloc: Global, host: &[u8], number: u16) -> Result<Place, NoMemory>
 }
 
 /// The place that `[PROTOCOL/][HOST]` says of a display with this number.
-pub(crate) fn read_place(
-    alloc: Global,
-    front: &[u8],
-    number: u16,
-) -> Result<Place, DisplayRefusal>
+pub(crate) fn read_place(alloc: Global, front: &[u8], number: u16) -> Result<Place, DisplayRefusal>
     requires { number < 59536 }
     ensures says { IfOk result (SaysPlace front.now number) }
     ensures refused { IfErr result (IsFrontRefused front.now) }

@@ -21,7 +21,13 @@ fn read_below(alloc: Global, digits: &[u8], limit: u64) -> Result<Option<u64>, N
         (n < limit) × (digits.now ≡ decimal n))) }
 {
     match read_number(alloc, digits)? {
-        Some(number) => { if number < limit { Ok(Some(number)) } else { Ok(None) } }
+        Some(number) => {
+            if number < limit {
+                Ok(Some(number))
+            } else {
+                Ok(None)
+            }
+        }
         None => Ok(None),
     }
 }
