@@ -1,5 +1,5 @@
 -- A text names one display at most.
-use Rattle.std.proofs.Common.{◌≡◌, ◌⊎◌, inl, inr, ℕ, ◌<◌, ◌≤◌, Bool, true, false, ◌||◌, List, [], ◌∷◌, ◌++◌, Option, Some, None, Result, Ok, Err, IfOk, IfErr, refl, sym, ◌∙◌, ap, subst, arith, codes, if◌then◌else◌}
+use Rattle.std.proofs.Common.{◌≡◌, ◌⊎◌, inl, inr, ℕ, ◌<◌, Bool, true, false, ◌||◌, List, [], ◌∷◌, ◌++◌, Option, Some, None, Result, Ok, Err, IfOk, IfErr, refl, sym, ◌∙◌, ap, subst, arith, codes, if◌then◌else◌}
 use Rattle.std.specs.Fmt.{decimal}
 use Rattle.std.specs.Str.{bytes_eq}
 use Rattle.std.specs.Str.Parse.{AllDigits}
@@ -10,9 +10,9 @@ use Rattle.ice_values.proofs.OptionLaws.{some_is, none_not_some}
 use Rattle.control_lines.specs.Parts.{IsWithout, SplitsOnce}
 use Rattle.control_lines.proofs.Splitting.{splits_same}
 use Rattle.display_place.specs.Parting.{SplitsLast}
-use Rattle.display_place.specs.Places.{SaysPlace, IsPlain, IsBy, is_own, is_network, place_by, plain_place, host_place}
-use Rattle.display_place.specs.Names.{is_path, IsPath, IsName, SaysNumbers, Names}
-use Rattle.display_place.specs.Refusals.{HasBadProtocol, HasBadHost, HasBadNumber, HasBadScreen, IsNone, IsFrontRefused, IsTailRefused, IsPartRefused, IsRefused, Gives}
+use Rattle.display_place.specs.Places.{SaysPlace, is_own, is_network, place_by, host_place}
+use Rattle.display_place.specs.Names.{is_path, IsName, SaysNumbers, Names}
+use Rattle.display_place.specs.Refusals.{HasBadNumber, HasBadScreen, IsFrontRefused, IsTailRefused, IsPartRefused, IsRefused, Gives}
 use Rattle.display_place.specs.Laws.{NamesOne}
 use Rattle.display_place.specs.declared.places.Place.{Place}
 use Rattle.display_place.specs.declared.places.Place.TheVariants.{Local}

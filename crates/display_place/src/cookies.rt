@@ -2,6 +2,7 @@ ghost use Rattle.std.specs.Prelude.{◌≡◌, IfOk, find, option_copied};
 ghost use Rattle.std.specs.Str.{bytes_eq};
 ghost use Rattle.display_place.specs.Choice.{entry_for as chosen, cookie_name, is_for as of_display, is_good_at as of_place, is_of_number as of_number, is_v4 as of_v4, is_v6 as of_v6};
 
+use crate::splitting::is_word;
 use crate::{DisplayEntry, Family};
 use owned_lists::NoMemory;
 use std::alloc::Global;
@@ -50,26 +51,19 @@ fn is_good_at(machine: &[u8], reached: Option<IpAddress>, entry: &DisplayEntry) 
     }
 }
 
-/// Whether some bytes are these.
-fn are_bytes(bytes: &[u8], others: &[u8]) -> bool
-    ensures { result ≡ bytes_eq bytes.now others.now }
-{
-    bytes == others
-}
-
 /// Whether an entry has a cookie.
 #[tactic(auto, unfolding(crate::specs::Choice::cookie_name))]
 fn has_cookie(entry: &DisplayEntry) -> bool
     ensures { result ≡ bytes_eq entry.now.name cookie_name }
 {
-    are_bytes(entry.name.as_slice(), &COOKIE_NAME)
+    is_word(entry.name.as_slice(), &COOKIE_NAME)
 }
 
 /// Whether an entry is good for the display with this number in decimal.
 fn is_of_number(entry: &DisplayEntry, digits: &[u8]) -> bool
     ensures { result ≡ of_number digits.now entry.now.number }
 {
-    are_bytes(entry.number.as_slice(), b"") || are_bytes(entry.number.as_slice(), digits)
+    is_word(entry.number.as_slice(), b"") || is_word(entry.number.as_slice(), digits)
 }
 
 fn is_for(digits: &[u8], machine: &[u8], reached: Option<IpAddress>, entry: &DisplayEntry) -> bool

@@ -5,34 +5,13 @@ ghost use Rattle.display_place.specs.Parting.{SplitsLast};
 ghost use Rattle.display_place.specs.Places.{SaysPlace, is_network as of_network, is_own as of_own, host_place, plain_place};
 ghost use Rattle.display_place.specs.Refusals.{IsFrontRefused};
 
+use crate::splitting::{is_word, split_at_last};
 use crate::{DisplayRefusal, Place};
 use owned_lists::{NoMemory, Octets};
 use std::alloc::Global;
 
 /// The port of display 0 of a host.
 const FIRST_PORT: u16 = 6000;
-
-/// What stands before the last such byte, and what stands after it; `None` where there is none.
-pub(crate) fn split_at_last(bytes: &[u8], byte: u8) -> Option<(&[u8], &[u8])>
-    ensures { MatchOption result (IsWithout byte bytes.now) (λ parts.
-        SplitsLast byte bytes.now parts.0.now parts.1.now) }
-{
-    let mut at = bytes.len();
-    while at > 0 {
-        if bytes[at - 1] == byte {
-            return Some((&bytes[..at - 1], &bytes[at..]));
-        }
-        at -= 1;
-    }
-    None
-}
-
-/// Whether some bytes are this word.
-fn is_word(bytes: &[u8], word: &[u8]) -> bool
-    ensures { result ≡ bytes_eq bytes.now word.now }
-{
-    bytes == word
-}
 
 /// Whether the host is this machine.
 fn is_own(host: &[u8]) -> bool

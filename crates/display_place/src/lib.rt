@@ -9,6 +9,7 @@ mod names;
 mod places;
 mod refusals;
 mod sockets;
+mod splitting;
 mod tails;
 
 pub use authority::{DisplayEntry, DisplayEntryList, Family, read_entries};

@@ -3,7 +3,8 @@ ghost use Rattle.display_place.specs.Names.{Names, is_path as of_path};
 ghost use Rattle.display_place.specs.Refusals.{Gives, IsRefused};
 ghost use Rattle.display_place.specs.declared.places.DisplayName.{DisplayName as AnyDisplay};
 
-use crate::fronts::{read_place, split_at_last};
+use crate::fronts::read_place;
+use crate::splitting::split_at_last;
 use crate::tails::read_numbers;
 use crate::{DisplayName, DisplayRefusal, Place};
 use owned_lists::Octets;

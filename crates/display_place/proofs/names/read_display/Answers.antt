@@ -1,5 +1,5 @@
-use Rattle.std.proofs.Common.{rules, ◌≡◌, false, IfOk, IfErr}
-use Rattle.display_place.specs.Names.{Names, is_path}
+use Rattle.std.proofs.Common.{rules, IfOk, IfErr}
+use Rattle.display_place.specs.Names.{Names}
 use Rattle.display_place.specs.Refusals.{IsRefused}
 use Rattle.display_place.specs.declared.places.DisplayName.{DisplayName}
 use Rattle.display_place.specs.declared.refusals.DisplayRefusal.TheVariants.{NoNumber}

@@ -1,6 +1,6 @@
 use Rattle.std.proofs.Common.{◌≤◌, drop, length}
 use Rattle.control_lines.specs.Parts.{IsWithout}
-use Rattle.display_place.proofs.fronts.split_at_last.Given as goal
+use Rattle.display_place.proofs.splitting.split_at_last.Given as goal
 
 abbrev pub invariant-loop-at : goal.invariant-loop-at
 invariant-loop-at l = (l.at ≤ length l.bytes) × IsWithout l.byte (drop l.at l.bytes)
