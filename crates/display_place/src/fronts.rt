@@ -1,7 +1,4 @@
-ghost use Rattle.std.specs.Prelude.{◌≡◌, ◌<◌, IfOk, IfErr, MatchOption};
-ghost use Rattle.std.specs.Str.{bytes_eq};
-ghost use Rattle.control_lines.specs.Parts.{IsWithout};
-ghost use Rattle.display_place.specs.Parting.{SplitsLast};
+ghost use Rattle.std.specs.Prelude.{◌≡◌, ◌<◌, IfOk, IfErr};
 ghost use Rattle.display_place.specs.Places.{SaysPlace, is_network as of_network, is_own as of_own, host_place, plain_place};
 ghost use Rattle.display_place.specs.Refusals.{IsFrontRefused};
 
