@@ -94,9 +94,3 @@ bad_here text left line rest rules n reading first none = record {
   all_good = all_good reading.good rules reading.all;
   bad = λ given. none given.0 given.1;
 }
-
--- nothing is left
-pub ends_well : (text left : List ℕ) (rules : List Rule) (n : ℕ) → Reading text left rules n → left ≡ [] → SayRules (lines_of text) rules
-ends_well text left rules n reading none =
-    let whole : lines_of text ≡ reading.good = reading.lines ∙ (ap (λ (bytes : List ℕ). reading.good ++ lines_of bytes) none ∙ append-nil reading.good) in
-    subst (λ (ls : List (List ℕ)). SayRules ls rules) (sym whole) reading.all

@@ -54,9 +54,6 @@ pub record Goes (text : List ℕ) (words : List (List ℕ)) (rest : List ℕ) : 
   pub on : (more : List (List ℕ)) → AreWords rest more → AreWords text (words ++ more)
   pub back : (all : List (List ℕ)) → AreWords text all → (more : List (List ℕ)) × (all ≡ words ++ more) × AreWords rest more
 
-pub goes_first : (text : List ℕ) → Goes text [] text
-goes_first text = record { on = λ more are. are; back = λ all are. (all, refl, are) }
-
 pub goes_on : (text : List ℕ) (words : List (List ℕ)) (rest word after : List ℕ) → Goes text words rest → SplitsOnce 32 rest word after → IsWord word → Goes text (words ++ word ∷ []) after
 goes_on text words rest word after goes split is = record {
   on = λ more are. subst (AreWords text) (sym (append_assoc words (word ∷ []) more)) (goes.on (word ∷ more) (words_on rest word after more split.parts is are));
@@ -76,12 +73,6 @@ pub no_word_last : (text : List ℕ) (words : List (List ℕ)) (rest : List ℕ)
 no_word_last text words rest goes without none all are =
     let before = goes.back all are in
     none (one_word rest before.0 without before.2).1
-
-pub ends_well : (text : List ℕ) (words : List (List ℕ)) (rest : List ℕ) → Goes text words rest → IsWord rest → AreWords text (words ++ rest ∷ [])
-ends_well text words rest goes is = goes.on (rest ∷ []) (record { some = some_list rest []; is = refl; each = (is, tt) })
-
-first_same : (a b : List ℕ) (xs ys : List (List ℕ)) → a ∷ xs ≡ b ∷ ys → (a ≡ b) × (xs ≡ ys)
-first_same a b xs ys e = (cc, cc)
 
 -- a text is one list of words
 pub words_one : (text : List ℕ) (words others : List (List ℕ)) → AreWords text words → AreWords text others → words ≡ others
