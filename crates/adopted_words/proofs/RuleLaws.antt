@@ -1,6 +1,5 @@
 -- A line says one rule at most.
-use Rattle.std.proofs.Common.{◌≡◌, ℕ, List, ◌∷◌, ◌++◌, get_or, sym, ◌∙◌, ap, ap₂, subst, arith, codes}
-use Rattle.control_lines.specs.Parts.{SplitsOnce}
+use Rattle.std.proofs.Common.{◌≡◌, ℕ, List, ◌++◌, get_or, sym, ◌∙◌, ap, ap₂, subst, arith, codes}
 use Rattle.control_lines.specs.Laws.{MeansOne}
 use Rattle.control_lines.proofs.Splitting.{splits_same}
 use Rattle.adopted_words.specs.Words.{AreWords}

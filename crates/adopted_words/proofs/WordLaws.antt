@@ -1,5 +1,5 @@
 -- A text is one list of words at most, and the first blank ends the first word.
-use Rattle.std.proofs.Common.{◌≡◌, ◌≢◌, ℕ, ◌≤◌, List, [], ◌∷◌, ◌++◌, refl, sym, ◌∙◌, ap, ap₂, subst, arith, append_assoc}
+use Rattle.std.proofs.Common.{◌≡◌, ◌≢◌, ℕ, List, [], ◌∷◌, ◌++◌, refl, sym, ◌∙◌, ap, subst, arith, append_assoc}
 use Rattle.std.specs.List.{AllByRecursion}
 use Rattle.control_lines.specs.Parts.{IsWithout, SplitsOnce}
 use Rattle.control_lines.proofs.Splitting.{splits_same, without_inside}

@@ -1,7 +1,7 @@
 -- What a line says of the programs of a name.
 use Rattle.std.specs.Prelude.{◌≡◌, ℕ, List, ◌∷◌, ◌++◌, codes, Option, Some, None}
 use Rattle.control_lines.specs.Script.{IsSkipped}
-use Rattle.adopted_words.specs.Words.{IsWord, AreWords, words_text}
+use Rattle.adopted_words.specs.Words.{IsWord, AreWords}
 use Rattle.adopted_words.specs.declared.rules.Rule.{Rule}
 use Rattle.adopted_words.specs.declared.rules.Rule.TheVariants.{Never, RestartOnly, Command}
 

@@ -1,4 +1,4 @@
-use Rattle.std.proofs.Common.{rules, Option}
+use Rattle.std.proofs.Common.{Option}
 use Rattle.adopted_words.specs.Rules.{GivesRule}
 use Rattle.adopted_words.specs.declared.rules.Rule.{Rule}
 use Rattle.adopted_words.proofs.FileLaws.{bad_here, next_reading}
