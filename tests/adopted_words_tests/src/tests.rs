@@ -1,4 +1,4 @@
-use adopted_words::{Rule, read_rules};
+use adopted_words::{Rule, RuleList, are_never, are_restart_only, read_rules, words_for};
 use std::alloc::Global;
 use std::test::Fail;
 use test_tables::{expect_rows, text_of};
@@ -26,8 +26,8 @@ fn rule_shown(alloc: Global, rule: &Rule) -> Result<String, Fail> {
     }
 }
 
-/// The rules of a file, in which a slash stands for the end of a line.
-fn file_shown(alloc: Global, written: &str) -> Result<String, Fail> {
+/// The bytes of a file in which a slash stands for the end of a line.
+fn file_of(alloc: Global, written: &str) -> Result<String, Fail> {
     let mut text = String::new(alloc);
     for (at, line) in written.split('/').enumerate() {
         if at > 0 {
@@ -35,6 +35,12 @@ fn file_shown(alloc: Global, written: &str) -> Result<String, Fail> {
         }
         text.push_str(line)?;
     }
+    Ok(text)
+}
+
+/// The rules of a file.
+fn file_shown(alloc: Global, written: &str) -> Result<String, Fail> {
+    let text = file_of(alloc, written)?;
     let rules = match read_rules(alloc, text.as_bytes()) {
         Ok(rules) => rules,
         Err(fault) => return text_of(alloc, &fault),
@@ -103,4 +109,44 @@ fn a_name_is_a_text(rt: HostRuntime) -> Result<(), Fail> {
             Ok(())
         }
     }
+}
+
+/// What the rules say of the name `a`.
+fn said_of(alloc: Global, rules: &RuleList) -> Result<String, Fail> {
+    let rules = rules.as_slice();
+    let (never, restart) = (are_never(rules, b"a"), are_restart_only(rules, b"a"));
+    let mut text = format!(in alloc; "{never} {restart}")?;
+    match words_for(rules, b"a") {
+        Some(words) => {
+            for word in words {
+                text.push(' ')?;
+                text.push_str(str::from_utf8(word.as_slice())?)?;
+            }
+        }
+        None => text.push_str(" none")?,
+    }
+    Ok(text)
+}
+
+fn file_said(alloc: Global, written: &str) -> Result<String, Fail> {
+    let text = file_of(alloc, written)?;
+    match read_rules(alloc, text.as_bytes()) {
+        Ok(rules) => said_of(alloc, &rules),
+        Err(fault) => text_of(alloc, &fault),
+    }
+}
+
+const SAID: &str = "\
+never a => true false none
+ => false false none
+never b/restart-only aa/command ab x => false false none
+never b/never a => true false none
+restart-only a => false true none
+command a x => false false x
+command b x/command a y z/command a w => false false y z
+never a/restart-only a/command a x => true true x";
+
+#[test]
+fn a_name_is_found(rt: HostRuntime) -> Result<(), Fail> {
+    expect_rows(&rt, SAID, file_said)
 }
