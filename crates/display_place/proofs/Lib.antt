@@ -1,3 +1,4 @@
 pub mod LastParts
 pub mod OneName
 pub mod EntryLaws
+pub mod ChoiceLaws

@@ -1,5 +1,5 @@
 -- Which entry of an authority file is for a display.
-use Rattle.std.specs.Prelude.{ℕ, Bool, false, true, ◌&&◌, ◌||◌, List, [], codes, Option, Some, None, find}
+use Rattle.std.specs.Prelude.{ℕ, Bool, false, true, ◌&&◌, ◌||◌, List, [], ◌∷◌, codes, Option, Some, None, find}
 use Rattle.std.specs.Str.{bytes_eq}
 use Rattle.std.specs.Fmt.{decimal}
 use Rattle.display_place.specs.declared.authority.Family.{Family}
@@ -22,11 +22,23 @@ is_v6 (Some (V4 bytes)) address = false
 is_v6 (Some (V6 bytes)) address = bytes_eq address bytes
 is_v6 None address = false
 
--- an address is good for this machine by its name, for every place, or for the address that was reached
+unfoldable pub loopback_v4 : List ℕ
+loopback_v4 = 127 ∷ 0 ∷ 0 ∷ 1 ∷ []
+
+unfoldable pub loopback_v6 : List ℕ
+loopback_v6 = 0 ∷ 0 ∷ 0 ∷ 0 ∷ 0 ∷ 0 ∷ 0 ∷ 0 ∷ 0 ∷ 0 ∷ 0 ∷ 0 ∷ 0 ∷ 0 ∷ 0 ∷ 1 ∷ []
+
+-- the display is on this machine: it was reached at a socket of its own, or over the loopback
+abbrev pub is_here : Option IpAddress → Bool
+is_here None = true
+is_here (Some (V4 bytes)) = bytes_eq bytes loopback_v4
+is_here (Some (V6 bytes)) = bytes_eq bytes loopback_v6
+
+-- an address is good by the machine's name where the display is on it, for every place, or for the address that was reached
 abbrev pub is_good_at : List ℕ → Option IpAddress → Family → List ℕ → Bool
 is_good_at machine reached Internet address = is_v4 reached address
 is_good_at machine reached InternetV6 address = is_v6 reached address
-is_good_at machine reached Local address = bytes_eq address machine
+is_good_at machine reached Local address = is_here reached && bytes_eq address machine
 is_good_at machine reached Any address = true
 is_good_at machine reached (Other number) address = false
 

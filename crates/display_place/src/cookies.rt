@@ -1,6 +1,6 @@
 ghost use Rattle.std.specs.Prelude.{◌≡◌, IfOk, find, option_copied};
 ghost use Rattle.std.specs.Str.{bytes_eq};
-ghost use Rattle.display_place.specs.Choice.{entry_for as chosen, cookie_name, is_for as of_display, is_good_at as of_place, is_of_number as of_number, is_v4 as of_v4, is_v6 as of_v6};
+ghost use Rattle.display_place.specs.Choice.{entry_for as chosen, cookie_name, is_for as of_display, is_good_at as of_place, is_here as of_here, is_of_number as of_number, is_v4 as of_v4, is_v6 as of_v6, loopback_v4, loopback_v6};
 
 use crate::splitting::is_word;
 use crate::{DisplayEntry, Family};
@@ -9,6 +9,10 @@ use std::alloc::Global;
 
 /// An authorization protocol whose data are a cookie.
 const COOKIE_NAME: [u8; 18] = *b"MIT-MAGIC-COOKIE-1";
+
+const LOOPBACK_V4: [u8; 4] = [127, 0, 0, 1];
+
+const LOOPBACK_V6: [u8; 16] = [0, 0, 0, 0, 0, 0, 0, 0, 0, 0, 0, 0, 0, 0, 0, 1];
 
 /// An address of the Internet, of version 4 or 6, as its bytes.
 #[derive(Clone, Copy, Debug, PartialEq, Eq)]
@@ -37,6 +41,31 @@ fn is_v6(reached: Option<IpAddress>, address: &[u8]) -> bool
     }
 }
 
+#[tactic(auto, unfolding(crate::specs::Choice::loopback_v4))]
+fn is_loopback_v4(bytes: &[u8; 4]) -> bool
+    ensures { result ≡ bytes_eq bytes.now loopback_v4 }
+{
+    is_word(bytes, &LOOPBACK_V4)
+}
+
+#[tactic(auto, unfolding(crate::specs::Choice::loopback_v6))]
+fn is_loopback_v6(bytes: &[u8; 16]) -> bool
+    ensures { result ≡ bytes_eq bytes.now loopback_v6 }
+{
+    is_word(bytes, &LOOPBACK_V6)
+}
+
+/// Whether the display that was reached there is on this machine.
+fn is_here(reached: Option<IpAddress>) -> bool
+    ensures { result ≡ of_here reached }
+{
+    match reached {
+        None => true,
+        Some(IpAddress::V4(bytes)) => is_loopback_v4(&bytes),
+        Some(IpAddress::V6(bytes)) => is_loopback_v6(&bytes),
+    }
+}
+
 /// Whether the entry is good at the place where the display was reached.
 fn is_good_at(machine: &[u8], reached: Option<IpAddress>, entry: &DisplayEntry) -> bool
     ensures { result ≡ of_place machine.now reached entry.now.family entry.now.address }
@@ -45,7 +74,7 @@ fn is_good_at(machine: &[u8], reached: Option<IpAddress>, entry: &DisplayEntry) 
     match entry.family {
         Family::Internet => is_v4(reached, address),
         Family::InternetV6 => is_v6(reached, address),
-        Family::Local => address == machine,
+        Family::Local => is_here(reached) && is_word(address, machine),
         Family::Any => true,
         Family::Other(_) => false,
     }
@@ -86,8 +115,9 @@ fn first_for<'a>(
 }
 
 /// The first entry with a cookie for the display of this number, on the machine with this name (as
-/// `uname -n` prints it), or where it was reached over TCP. Where there is none, a connection is set
-/// up with an empty name and empty data.
+/// `uname -n` prints it). `reached` is the address at which it was reached over TCP. An entry for the
+/// machine's own sockets counts over the loopback as well, and nowhere else, so that no other machine
+/// is shown its cookie. Where there is none, a connection is set up with an empty name and empty data.
 pub fn entry_for<'a>(
     alloc: Global,
     entries: &'a [DisplayEntry],

@@ -14,7 +14,7 @@ mod tails;
 
 pub use authority::{DisplayEntry, DisplayEntryList, Family, read_entries};
 pub use cookies::{IpAddress, entry_for};
-pub use laws::{a_text_names_one_display, bytes_hold_one_list};
+pub use laws::{a_text_names_one_display, bytes_hold_one_list, own_cookies_stay_here};
 pub use names::read_display;
 pub use places::{DisplayName, Place};
 pub use refusals::DisplayRefusal;

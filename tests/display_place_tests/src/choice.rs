@@ -54,6 +54,12 @@ fn reached_at(word: &str) -> Option<IpAddress> {
     if word == "v6" {
         return Some(IpAddress::V6(*b"sixteen-bytes-in"));
     }
+    if word == "loop4" {
+        return Some(IpAddress::V4([127, 0, 0, 1]));
+    }
+    if word == "loop6" {
+        return Some(IpAddress::V6([0, 0, 0, 0, 0, 0, 0, 0, 0, 0, 0, 0, 0, 0, 0, 1]));
+    }
     None
 }
 
@@ -96,9 +102,14 @@ here other:vm:7:c:one => none
 here internet:vm:7:c:one internet:four:7:c:two => none
 here internet6:sixteen-bytes-in:7:c:one => none
 v4 internet:four:7:c:one => one
-v4 internet:five:7:c:one local:vm:7:c:two => two
+v4 internet:five:7:c:one any::7:c:two => two
+v4 local:vm:7:c:one => none
+loop4 local:vm:7:c:one => one
+loop4 local:v:7:c:one => none
 v4 internet6:four:7:c:one => none
 v6 internet6:sixteen-bytes-in:7:c:one => one
+v6 local:vm:7:c:one => none
+loop6 local:vm:7:c:one => one
 v6 internet:sixteen-bytes-in:7:c:one => none
 v6 internet6:sixteen-bytes-on:7:c:one any:::c:two => two";
 
