@@ -1,10 +1,10 @@
 -- For a display of another machine no entry of this one's own sockets is taken.
-use Rattle.std.proofs.Common.{◌≡◌, ◌≢◌, ℕ, Bool, true, false, ◌&&◌, ◌||◌, cond, List, [], ◌∷◌, Option, Some, None, refl, sym, ◌∙◌, ap, subst, find}
+use Rattle.std.proofs.Common.{◌≡◌, ℕ, Bool, true, false, ◌&&◌, cond, List, [], ◌∷◌, Option, Some, refl, sym, ◌∙◌, ap, subst, find}
 use Rattle.std.specs.Str.{bytes_eq}
 use Rattle.std.specs.Fmt.{decimal}
 use Rattle.std.proofs.lemmas.Bool.{false≢true}
 use Rattle.ice_values.proofs.OptionLaws.{some_is, none_not_some}
-use Rattle.display_place.specs.Choice.{cookie_name, entry_for, is_for, is_good_at, is_here, is_of_number}
+use Rattle.display_place.specs.Choice.{cookie_name, is_for, is_good_at, is_here, is_of_number}
 use Rattle.display_place.specs.Laws.{OwnStaysHere}
 use Rattle.display_place.specs.declared.authority.DisplayEntry.{DisplayEntry}
 use Rattle.display_place.specs.declared.authority.Family.{Family}
