@@ -1,0 +1,5 @@
+pub mod Words
+pub mod Rules
+pub mod Files
+pub mod Choice
+pub mod Laws

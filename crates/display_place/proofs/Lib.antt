@@ -1,0 +1,4 @@
+pub mod LastParts
+pub mod OneName
+pub mod EntryLaws
+pub mod ChoiceLaws
