@@ -2,7 +2,12 @@
 #![tactic(auto)]
 
 mod encoding;
+mod hearing;
+mod part;
+mod places;
 mod request;
 
 pub use encoding::{spell_request, spell_setup};
+pub use hearing::read_part;
+pub use part::{DisplayError, Event, Part, WindowNotice};
 pub use request::{ClientMessage, Request, Setup};
