@@ -1,3 +1,4 @@
 pub mod Requests
 pub mod Places
 pub mod Parts
+pub mod Replies

@@ -5,9 +5,13 @@ mod encoding;
 mod hearing;
 mod part;
 mod places;
+mod replies;
+mod reply;
 mod request;
 
 pub use encoding::{spell_request, spell_setup};
 pub use hearing::read_part;
 pub use part::{DisplayError, Event, Part, WindowNotice};
+pub use replies::{read_reply, reply_kind};
+pub use reply::{Attributes, Property, Reply, ReplyKind, SetupAnswer, WindowList};
 pub use request::{ClientMessage, Request, Setup};
