@@ -1,2 +1,3 @@
 mod RequestLaws
 mod NumberLists
+mod Passing

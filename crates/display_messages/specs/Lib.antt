@@ -2,3 +2,4 @@ pub mod Requests
 pub mod Places
 pub mod Parts
 pub mod Replies
+pub mod Setups

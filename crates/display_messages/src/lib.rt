@@ -1,6 +1,7 @@
 //! The few messages of the X protocol with which a program asks windows of others to close: the set-up, the requests, and what the display answers and tells.
 #![tactic(auto)]
 
+mod admission;
 mod encoding;
 mod hearing;
 mod part;
@@ -9,6 +10,7 @@ mod replies;
 mod reply;
 mod request;
 
+pub use admission::read_setup_answer;
 pub use encoding::{spell_request, spell_setup};
 pub use hearing::read_part;
 pub use part::{DisplayError, Event, Part, WindowNotice};
