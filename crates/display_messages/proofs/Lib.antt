@@ -1,3 +1,4 @@
 mod RequestLaws
 mod NumberLists
 mod Passing
+mod LengthLaws

@@ -3,3 +3,4 @@ pub mod Places
 pub mod Parts
 pub mod Replies
 pub mod Setups
+pub mod Laws

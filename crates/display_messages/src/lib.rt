@@ -4,6 +4,7 @@
 mod admission;
 mod encoding;
 mod hearing;
+mod laws;
 mod part;
 mod places;
 mod replies;
@@ -13,6 +14,7 @@ mod request;
 pub use admission::read_setup_answer;
 pub use encoding::{spell_request, spell_setup};
 pub use hearing::read_part;
+pub use laws::{a_sent_message_is_read, requests_state_their_length};
 pub use part::{DisplayError, Event, Part, WindowNotice};
 pub use replies::{read_reply, reply_kind};
 pub use reply::{Attributes, Property, Reply, ReplyKind, SetupAnswer, WindowList};
