@@ -1,10 +1,10 @@
 -- Requests state how long they are, and messages are read as they were sent.
-use Rattle.std.proofs.Common.{◌≡◌, ℕ, ◌+◌, ◌*◌, ◌/◌, ◌%◌, ◌^◌, ◌<◌, true, List, [], ◌∷◌, ◌++◌, length, drop, refl, sym, ap, ◌∙◌, arith, length-append}
+use Rattle.std.proofs.Common.{◌≡◌, ℕ, ◌+◌, ◌*◌, ◌/◌, ◌^◌, ◌<◌, true, List, [], ◌∷◌, ◌++◌, length, refl, arith}
 use Rattle.ice_values.specs.Cells.{pad_len}
 use Rattle.ice_values.specs.declared.numbers.Endian.TheVariants.{Lsb}
 use Rattle.ice_values.proofs.NumberLaws.{number-again}
 use Rattle.display_messages.specs.Places.{short_at}
-use Rattle.display_messages.specs.Requests.{long, longs, request, named, client_message, bytes_of_request}
+use Rattle.display_messages.specs.Requests.{longs, request, named, client_message, bytes_of_request}
 use Rattle.display_messages.specs.Parts.{part_of}
 use Rattle.display_messages.specs.Laws.{IsRequest, IsMessage, relayed}
 use Rattle.display_messages.specs.declared.request.ClientMessage.{ClientMessage}

@@ -1,5 +1,5 @@
 -- Numbers of four bytes that are read one after the other.
-use Rattle.std.proofs.Common.{◌≡◌, ℕ, suc, ◌+◌, ◌-◌, ◌*◌, ◌<◌, ◌≤◌, List, [], ◌∷◌, ◌++◌, length, drop, refl, sym, ap, ◌∙◌, subst, arith, append_assoc, length-drop}
+use Rattle.std.proofs.Common.{◌≡◌, ℕ, suc, ◌+◌, ◌-◌, ◌*◌, ◌<◌, ◌≤◌, List, [], ◌∷◌, ◌++◌, length, drop, sym, ap, ◌∙◌, arith, append_assoc, length-drop}
 use Rattle.display_messages.specs.Places.{long_at, longs_in}
 
 -- what was read, and what is left to read
@@ -9,8 +9,7 @@ longs_on count i x rest behind numbers grown total lt is left grows h =
     let m : ℕ = count - (i + 1) in
     let one_more : count - i ≡ suc m = omega arith in
     let first : numbers ++ longs_in (count - i) rest ≡ numbers ++ (x ∷ longs_in m behind) =
-    ap (λ (n : ℕ). numbers ++ longs_in n rest) one_more ∙ ap (λ (y : ℕ). numbers ++ (y ∷ longs_in m (drop 4 rest))) (sym is) ∙ ap (λ (bytes : List ℕ). numbers ++ (x ∷ longs_in m bytes)) (sym left) in
-    (
+    ap (λ (n : ℕ). numbers ++ longs_in n rest) one_more ∙ ap (λ (y : ℕ). numbers ++ (y ∷ longs_in m (drop 4 rest))) (sym is) ∙ ap (λ (bytes : List ℕ). numbers ++ (x ∷ longs_in m bytes)) (sym left) in (
       ap (λ (l : List ℕ). l ++ longs_in m behind) grows ∙ append_assoc numbers (x ∷ []) (longs_in m behind) ∙ sym first ∙ h.0,
       omega (arith, h.1, ap length left, length-drop 4 rest),
     )

@@ -1,6 +1,5 @@
 -- Passing many of a kind, one after the other.
 use Rattle.std.proofs.Common.{◌≡◌, ℕ, suc, ◌+◌, ◌-◌, ◌<◌, ◌≤◌, List, Option, Some, None, refl, sym, ap, ◌∙◌, arith}
-use Rattle.ice_values.specs.Reading.{◌>>=◌}
 use Rattle.display_messages.specs.Setups.{behind_many}
 
 next_is : (step : List ℕ → Option (List ℕ)) (n : ℕ) (bytes rest : List ℕ) → step bytes ≡ Some rest → behind_many step (suc n) bytes ≡ behind_many step n rest

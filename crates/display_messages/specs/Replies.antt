@@ -39,7 +39,7 @@ attributes_in bytes =
 abbrev pub tree_in : List ℕ → Reply
 tree_in bytes =
     if nat_lt (length (drop 32 bytes)) (4 * short_at 16 bytes) then NotUnderstood
-    else Tree (long_at 8 bytes) (longs_in (short_at 16 bytes) (drop 32 bytes))
+    else Tree (long_at 12 bytes) (longs_in (short_at 16 bytes) (drop 32 bytes))
 
 abbrev pub extension_in : List ℕ → Option ℕ
 extension_in bytes = if slice_index bytes 8 == 0 then None else Some (slice_index bytes 9)

@@ -72,7 +72,10 @@ fn find_screens(bytes: &[u8]) -> Option<&[u8]>
     ensures { Finds (λ x. x.now) result (screens_in bytes.now) }
 {
     let vendor = read_short(bytes, 24) as usize;
-    behind(40 + (vendor + pad(vendor, 4)) + 8 * bytes[29] as usize, bytes)
+    behind(
+        40 + (vendor + pad(vendor, 4)) + 8 * bytes[29] as usize,
+        bytes,
+    )
 }
 
 #[tactic(auto, unfolding(crate::specs::Setups::root_of))]
@@ -115,11 +118,7 @@ fn read_refused(alloc: Global, bytes: &[u8]) -> Result<SetupAnswer, NoMemory>
 }
 
 /// What a display answers to a set-up, where the screen of this number is meant; any bytes are read.
-pub fn read_setup_answer(
-    alloc: Global,
-    screen: u32,
-    bytes: &[u8],
-) -> Result<SetupAnswer, NoMemory>
+pub fn read_setup_answer(alloc: Global, screen: u32, bytes: &[u8]) -> Result<SetupAnswer, NoMemory>
     ensures { IfOk result (λ answer. answer ≡ setup_answer screen bytes.now) }
 {
     if bytes.len() < 8 {

@@ -41,12 +41,7 @@ fn put_head(opcode: u8, own: u8, units: u16, out: &mut Octets) -> Result<(), NoM
 }
 
 /// Adds a request whose fields are numbers of four bytes.
-fn put_numbers(
-    opcode: u8,
-    own: u8,
-    numbers: &[u32],
-    out: &mut Octets,
-) -> Result<(), NoMemory>
+fn put_numbers(opcode: u8, own: u8, numbers: &[u32], out: &mut Octets) -> Result<(), NoMemory>
     requires { length numbers.now < 2 ^ 15 }
     ensures { OnOk result (out.new ≡ out.old ++ request_bytes opcode own (longs numbers.now)) }
 {

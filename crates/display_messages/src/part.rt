@@ -28,10 +28,7 @@ pub enum Event {
     MapNotify(WindowNotice),
     ReparentNotify(WindowNotice),
     /// A property of a window has another value, or is gone.
-    PropertyNotify {
-        window: u32,
-        property: u32,
-    },
+    PropertyNotify { window: u32, property: u32 },
     /// A ClientMessage of format 32.
     Message(ClientMessage),
     /// Any other event, which is passed over.

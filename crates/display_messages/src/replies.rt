@@ -88,7 +88,7 @@ fn read_tree(alloc: Global, bytes: &[u8]) -> Result<Reply, NoMemory>
         return Ok(Reply::NotUnderstood);
     }
     Ok(Reply::Tree {
-        parent: read_long(bytes, 8),
+        parent: read_long(bytes, 12),
         children: read_longs(alloc, count, rest)?,
     })
 }

@@ -57,17 +57,11 @@ pub enum Reply {
     NoProperty,
     Property(Property),
     Attributes(Attributes),
-    Tree {
-        parent: u32,
-        children: WindowList,
-    },
+    Tree { parent: u32, children: WindowList },
     Mark,
     /// The extension's opcode, where the display has it.
     Extension(Option<u8>),
-    ResourceVersion {
-        major: u16,
-        minor: u16,
-    },
+    ResourceVersion { major: u16, minor: u16 },
     /// The process of the window's program, where the display knows it.
     Process(Option<u32>),
     /// The bytes are no such reply.
@@ -78,15 +72,11 @@ pub enum Reply {
 #[derive(Debug, Drop)]
 pub enum SetupAnswer {
     /// It doesn't let the program in, and the stream ends.
-    Refused {
-        reason: Octets,
-    },
+    Refused { reason: Octets },
     /// It wants more of an authorization than a cookie.
     MoreWanted,
     /// It lets the program in; the root window of the screen that was asked for.
-    Accepted {
-        root: u32,
-    },
+    Accepted { root: u32 },
     /// It lets the program in, and its answer holds no screen of this number.
     NoScreen,
     /// The bytes are no answer to a set-up.

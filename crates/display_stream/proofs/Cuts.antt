@@ -1,12 +1,12 @@
 -- Cutting a stream into its parts: once for all of it, or as more of it comes.
-use Rattle.std.proofs.Common.{◌≡◌, ℕ, zero, suc, ◌+◌, ◌<◌, ◌≤◌, Bool, true, false, cond, List, [], ◌∷◌, ◌++◌, length, take, drop, inl, inr, ◌⊎◌, ◌*◌, refl, sym, ap, ◌∙◌, subst, arith, append-nil, append_assoc, length-append, length-drop}
+use Rattle.std.proofs.Common.{◌≡◌, ℕ, zero, suc, ◌+◌, ◌≤◌, Bool, true, false, cond, List, [], ◌∷◌, ◌++◌, length, drop, inl, inr, ◌⊎◌, ◌*◌, refl, sym, ap, ◌∙◌, subst, arith, length-append, length-drop}
 use Rattle.std.proofs.lemmas.Bool.{cases_lt}
 use Rattle.std.proofs.lemmas.Bool.Decides.{nat_tests}
 use Rattle.std.proofs.lemmas.List.{take-append-le, drop-append-le}
 use Rattle.display_stream.specs.Parts.{Standing, Cut, fed, units, head_in, wanted, has_part, first_part, without_first, uncut, behind, cut_upto, cut, IsPartial, IsOversize}
 use Rattle.display_stream.specs.declared.stages.Stage.{Stage}
 use Rattle.display_stream.specs.declared.stages.Stage.TheVariants.{Setup, Later}
-use Rattle.display_stream.proofs.Heads.{units_in-append, units_in-short}
+use Rattle.display_stream.proofs.Heads.{units_in-append}
 
 -- a choice that is known, or that changes nothing
 cond-else : {A : Type 0} (b : Bool) (x y : A) → b ≡ false → cond b x y ≡ y

@@ -1,11 +1,10 @@
 -- What the parts of a stream look like, that they make it up, and that they don't depend on pieces.
-use Rattle.std.proofs.Common.{◌≡◌, ℕ, zero, suc, ◌+◌, ◌*◌, ◌≤◌, ◌⊎◌, List, [], ◌∷◌, ◌++◌, length, take, drop, refl, sym, ap, ◌∙◌, subst, arith, append_assoc}
+use Rattle.std.proofs.Common.{◌≡◌, ℕ, zero, suc, ◌≤◌, List, [], ◌∷◌, ◌++◌, length, take, drop, refl, sym, ap, ◌∙◌, subst, arith, append_assoc}
 use Rattle.std.specs.List.{concat, AllByRecursion}
 use Rattle.std.proofs.lemmas.List.{take-append-drop, length-take-le}
-use Rattle.display_stream.specs.Parts.{Standing, Cut, beginning, fed, units, units_in, head_in, wanted, has_part, first_part, without_first, uncut, behind, cut_upto, cut, parts_of, standing_of, IsPartial, IsOversize}
+use Rattle.display_stream.specs.Parts.{Standing, Cut, beginning, fed, units, units_in, wanted, has_part, first_part, without_first, uncut, behind, cut_upto, cut, parts_of, standing_of}
 use Rattle.display_stream.specs.Laws.{IsPart, AreParts, IsMadeOf}
-use Rattle.display_stream.specs.declared.stages.Stage.{Stage}
-use Rattle.display_stream.specs.declared.stages.Stage.TheVariants.{Setup, Later}
+use Rattle.display_stream.specs.declared.stages.Stage.TheVariants.{Later}
 use Rattle.display_stream.proofs.Heads.{units_in-append}
 use Rattle.display_stream.proofs.Cuts.{HasPart, has_part-true, has_part-standing, ends_so, cond-both, eight, cut_upto-enough, cut-fed}
 

@@ -1,4 +1,3 @@
-use Rattle.std.proofs.Common.{length}
 use Rattle.display_messages.specs.Places.{longs_in}
 use Rattle.display_messages.proofs.NumberLists.{longs_on}
 use Rattle.display_messages.proofs.replies.read_longs.Goals as goal
