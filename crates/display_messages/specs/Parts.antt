@@ -3,6 +3,8 @@ use Rattle.std.specs.Prelude.{ℕ, ◌%◌, ◌==◌, nat_lt, nat_le, if◌then�
 use Rattle.display_messages.specs.Places.{short_at, long_at}
 use Rattle.display_messages.specs.declared.request.ClientMessage.{ClientMessage}
 use Rattle.display_messages.specs.declared.part.WindowNotice.{WindowNotice}
+use Rattle.display_messages.specs.declared.part.ErrorKind.{ErrorKind}
+use Rattle.display_messages.specs.declared.part.ErrorKind.TheVariants.{BadWindow, Other as OtherError}
 use Rattle.display_messages.specs.declared.part.Event.{Event}
 use Rattle.display_messages.specs.declared.part.Event.TheVariants.{CreateNotify, DestroyNotify, UnmapNotify, MapNotify, ReparentNotify, PropertyNotify, Message, Other}
 use Rattle.display_messages.specs.declared.part.Part.{Part}
@@ -27,8 +29,12 @@ event_of code bytes =
     else if code == 33 then (if slice_index bytes 1 == 32 then Message (message_in bytes) else Other)
     else Other
 
+-- which Error a code is
+abbrev pub error_kind_of : ℕ → ErrorKind
+error_kind_of code = if code == 3 then BadWindow else OtherError code
+
 abbrev pub error_in : List ℕ → Part
-error_in bytes = Error (short_at 2 bytes) (record { code = slice_index bytes 1; resource = long_at 4 bytes; opcode = slice_index bytes 10 })
+error_in bytes = Error (short_at 2 bytes) (record { kind = error_kind_of (slice_index bytes 1); resource = long_at 4 bytes; opcode = slice_index bytes 10 })
 
 -- The first byte is 0 for an Error and 1 for a reply; else it is an event's code, with 128 more where a program sent it.
 abbrev pub part_of : List ℕ → Part

@@ -1,8 +1,8 @@
 ghost use Rattle.std.specs.Prelude.{◌≡◌, ◌≤◌, length};
-ghost use Rattle.display_messages.specs.Parts.{notice, message_in, event_of, error_in, part_of};
+ghost use Rattle.display_messages.specs.Parts.{notice, message_in, event_of, error_kind_of, error_in, part_of};
 
 use crate::places::{read_long, read_short};
-use crate::{ClientMessage, DisplayError, Event, Part, WindowNotice};
+use crate::{ClientMessage, DisplayError, ErrorKind, Event, Part, WindowNotice};
 
 fn read_notice(bytes: &[u8]) -> WindowNotice
     requires { 32 ≤ length bytes.now }
@@ -53,6 +53,15 @@ fn read_event(code: u8, bytes: &[u8]) -> Event
     }
 }
 
+fn error_kind(code: u8) -> ErrorKind
+    ensures { result ≡ error_kind_of code }
+{
+    match code {
+        3 => ErrorKind::BadWindow,
+        other => ErrorKind::Other(other),
+    }
+}
+
 fn read_error(bytes: &[u8]) -> Part
     requires { 32 ≤ length bytes.now }
     ensures { result ≡ error_in bytes.now }
@@ -60,7 +69,7 @@ fn read_error(bytes: &[u8]) -> Part
     Part::Error {
         sequence: read_short(bytes, 2),
         error: DisplayError {
-            code: bytes[1],
+            kind: error_kind(bytes[1]),
             resource: read_long(bytes, 4),
             opcode: bytes[10],
         },

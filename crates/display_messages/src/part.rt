@@ -1,10 +1,18 @@
 use crate::ClientMessage;
 
-/// Why a request wasn't carried out (X protocol, chapter 4 and appendix B, Errors).
+/// Which Error it is (X protocol, chapter 4).
+#[derive(Clone, Copy, Debug, PartialEq, Eq)]
+pub enum ErrorKind {
+    /// There is no such window; windows go at any time.
+    BadWindow,
+    /// Any other, by its code.
+    Other(u8),
+}
+
+/// Why a request wasn't carried out (X protocol, appendix B: Errors).
 #[derive(Clone, Copy, Debug, PartialEq, Eq)]
 pub struct DisplayError {
-    /// Which Error it is; 3 is BadWindow, as windows go at any time.
-    pub code: u8,
+    pub kind: ErrorKind,
     /// The window, atom or number at fault.
     pub resource: u32,
     /// The opcode of the request.

@@ -23,7 +23,8 @@ fn shown(alloc: Global, digits: &str) -> Result<String, Fail> {
 /// BadWindow; a reply; the events that count; one that another program made up; a pong; a ClientMessage
 /// of bytes; ConfigureNotify, CirculateNotify, MappingNotify, KeymapNotify and a generic event.
 const PARTS: &str = "\
-0003050075006000000003 => Error { sequence: 5, error: DisplayError { code: 3, resource: 6291573, opcode: 3 } }
+0003050075006000000003 => Error { sequence: 5, error: DisplayError { kind: BadWindow, resource: 6291573, opcode: 3 } }
+000206002701000000000000 => Error { sequence: 6, error: DisplayError { kind: Other(2), resource: 295, opcode: 0 } }
 01200700010000000600 => Reply { sequence: 7 }
 10000900e601000075006000 => Event { sent: false, event: CreateNotify(WindowNotice { heard: 486, window: 6291573 }) }
 11000900e601000075006000 => Event { sent: false, event: DestroyNotify(WindowNotice { heard: 486, window: 6291573 }) }

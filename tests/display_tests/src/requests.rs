@@ -1,8 +1,9 @@
 //! Each request as the standard spells it (X protocol, appendix B; X-Resource 1.2), written down by hand.
 
 use display_messages::{
-    ClientMessage, ReplyKind, Request, a_sent_message_is_read, reply_kind,
-    requests_state_their_length, spell_request,
+    ClientMessage, PROPERTY_CHANGE, ReplyKind, Request, STRUCTURE_NOTIFY, SUBSTRUCTURE_NOTIFY,
+    SUBSTRUCTURE_REDIRECT, a_sent_message_is_read, reply_kind, requests_state_their_length,
+    spell_request,
 };
 use hex_rows::digits_of;
 use ice_values::Text16;
@@ -19,17 +20,6 @@ fn text(alloc: Global, name: &str) -> Result<Text16, Fail> {
     Ok(Text16::from_slice(alloc, name.as_bytes())?)
 }
 
-/// A message to the window under WM_PROTOCOLS.
-fn protocol(first: u32, second: u32, third: u32) -> ClientMessage {
-    ClientMessage {
-        window: WINDOW,
-        kind: PROTOCOLS,
-        first,
-        second,
-        third,
-    }
-}
-
 fn send(message: ClientMessage) -> Request {
     Request::SendEvent {
         window: WINDOW,
@@ -42,14 +32,8 @@ fn send(message: ClientMessage) -> Request {
 fn activate() -> Request {
     Request::SendEvent {
         window: 0x1e6,
-        events: 0x18_0000,
-        message: ClientMessage {
-            window: WINDOW,
-            kind: 0x102,
-            first: 2,
-            second: 0,
-            third: 0,
-        },
+        events: SUBSTRUCTURE_NOTIFY | SUBSTRUCTURE_REDIRECT,
+        message: ClientMessage::activate(WINDOW, 0x102),
     }
 }
 
@@ -67,12 +51,16 @@ fn request_of(alloc: Global, input: &str) -> Result<Request, Fail> {
         },
         "follow" => Request::ChangeWindowAttributes {
             window: WINDOW,
-            events: 0x48_0000,
+            events: PROPERTY_CHANGE | SUBSTRUCTURE_NOTIFY,
+        },
+        "leader" => Request::ChangeWindowAttributes {
+            window: WINDOW,
+            events: PROPERTY_CHANGE | STRUCTURE_NOTIFY,
         },
         "attributes" => Request::GetWindowAttributes { window: WINDOW },
         "tree" => Request::QueryTree { window: WINDOW },
-        "close" => send(protocol(0xf4, 0, 0)),
-        "ping" => send(protocol(0x101, 0x1234_5678, WINDOW)),
+        "close" => send(ClientMessage::close(WINDOW, PROTOCOLS, 0xf4)),
+        "ping" => send(ClientMessage::ping(WINDOW, PROTOCOLS, 0x101, 0x1234_5678)),
         "activate" => activate(),
         "focus" => Request::GetInputFocus,
         "extension" => Request::QueryExtension {
@@ -99,6 +87,7 @@ atom _NET_WM_PID => 100005000b0000005f4e45545f574d5f50494400
 atom => 1000020000000000
 property => 140006007500600027000000000000000000000000400000
 follow => 02000400750060000008000000004800
+leader => 02000400750060000008000000004200
 attributes => 0300020075006000
 tree => 0f00020075006000
 close => 19000b0075006000000000002120000075006000f1000000f400000000000000000000000000000000000000
