@@ -1,12 +1,14 @@
 -- What the parts of a stream look like, that they make it up, and that they don't depend on pieces.
-use Rattle.std.proofs.Common.{◌≡◌, ℕ, zero, suc, ◌≤◌, List, [], ◌∷◌, ◌++◌, length, take, drop, refl, sym, ap, ◌∙◌, subst, arith, append_assoc}
+use Rattle.std.proofs.Common.{◌≡◌, ℕ, zero, suc, ◌≤◌, List, [], ◌∷◌, ◌++◌, length, take, drop, refl, sym, ap, ◌∙◌, subst, arith, append-nil, append_assoc, false, inl, inr, ◌<◌}
+use Rattle.std.proofs.lemmas.Bool.{cases_lt}
+use Rattle.std.proofs.lemmas.Bool.Decides.{nat_tests}
 use Rattle.std.specs.List.{concat, AllByRecursion}
 use Rattle.std.proofs.lemmas.List.{take-append-drop, length-take-le}
-use Rattle.display_stream.specs.Parts.{Standing, Cut, beginning, fed, units, units_in, wanted, has_part, first_part, without_first, uncut, behind, cut_upto, cut, parts_of, standing_of}
+use Rattle.display_stream.specs.Parts.{Standing, Cut, beginning, fed, units, units_in, wanted, has_part, first_part, without_first, uncut, behind, cut_upto, cut, parts_of, standing_of, IsOversize}
 use Rattle.display_stream.specs.Laws.{IsPart, AreParts, IsMadeOf}
 use Rattle.display_stream.specs.declared.stages.Stage.TheVariants.{Later}
-use Rattle.display_stream.proofs.Heads.{units_in-append}
-use Rattle.display_stream.proofs.Cuts.{HasPart, has_part-true, has_part-standing, ends_so, cond-both, eight, cut_upto-enough, cut-fed}
+use Rattle.display_stream.proofs.Heads.{units_in-append, units_in-short}
+use Rattle.display_stream.proofs.Cuts.{HasPart, has_part-true, has_part-standing, cut-none, ends_so, cond-both, eight, cut_upto-enough, cut-fed}
 
 -- the parts and what is left are all the bytes
 joined_upto : (n : ℕ) (at : Standing) → concat (cut_upto n at).parts ++ (cut_upto n at).standing.held ≡ at.held
@@ -60,3 +62,20 @@ pub same_parts : (front rest : List ℕ) → (parts_of (front ++ rest) ≡ parts
 same_parts front rest =
     let whole = cut-fed (fed beginning front) rest in
     (ap (λ (c : Cut). c.parts) whole, ap (λ (c : Cut). c.standing) whole)
+
+oversize-has_part : (at : Standing) → IsOversize at → has_part at ≡ false
+oversize-has_part at much = grind (arith, nat_tests)
+
+-- only what is whole states anything, and it goes on stating it
+stated_whole : (at : Standing) → 0 < units at → 8 ≤ length at.held
+stated_whole at much = elim (cases_lt (length at.held) 8) [ inl short ↦ absurd (let none = units_in-short at.stage at.held short in omega arith) | inr whole ↦ whole ]
+
+oversize-fed : (at : Standing) (bytes : List ℕ) → IsOversize at → IsOversize (fed at bytes)
+oversize-fed at bytes much = rw (units_in-append at.stage at.held bytes (stated_whole at (omega (arith, much)))) much
+
+pub no_more : (front rest : List ℕ) → IsOversize (standing_of front) → parts_of (front ++ rest) ≡ parts_of front
+no_more front rest much =
+    let at = standing_of front in
+    (same_parts front rest).0
+    ∙ ap (λ (c : Cut). parts_of front ++ c.parts) (cut-none (fed at rest) (oversize-has_part (fed at rest) (oversize-fed at rest much)))
+    ∙ append-nil (parts_of front)

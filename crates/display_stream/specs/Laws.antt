@@ -27,3 +27,7 @@ pub record IsMadeOf (stream : List ℕ) : Type 0 where
 
 abbrev pub MakeUpAStream : Type 0
 MakeUpAStream = (stream : List ℕ) → IsMadeOf stream
+
+-- Behind a part that states too much none comes.
+abbrev pub HasNoMoreParts : Type 0
+HasNoMoreParts = (front rest : List ℕ) → IsOversize (standing_of front) → parts_of (front ++ rest) ≡ parts_of front

@@ -1,7 +1,8 @@
 //! What a display sends, wherever its pieces end.
 
 use display_stream::{
-    Remainder, Stage, UNIT_LIMIT, parts_do_not_depend_on_pieces, parts_make_up_a_stream,
+    Remainder, Stage, UNIT_LIMIT, a_broken_stream_has_no_more_parts, parts_do_not_depend_on_pieces,
+    parts_make_up_a_stream,
 };
 use hex_rows::{bytes_of, digits_of};
 use owned_lists::OctetsList;
@@ -75,6 +76,7 @@ const STREAMS: &str = "\
 fn cut_anywhere(rt: HostRuntime) -> Result<(), Fail> {
     parts_do_not_depend_on_pieces();
     parts_make_up_a_stream();
+    a_broken_stream_has_no_more_parts();
     assert_eq!(rt; Stage::Setup == Stage::Later, false);
     assert_eq!(rt; UNIT_LIMIT, 65_535);
     expect_rows(&rt, STREAMS, cut_shown)
