@@ -1,23 +1,12 @@
 ghost use Rattle.std.specs.Prelude.{◌≡◌, ◌≤◌, length, IfOk};
-ghost use Rattle.ice_values.specs.Reading.{Finds, skip_at};
+ghost use Rattle.ice_values.specs.Reading.{Finds};
 ghost use Rattle.display_messages.specs.Setups.{behind_many, behind_depth, behind_screen, root_in, root_of, screens_in, accepted, refused, setup_answer};
 
 use crate::SetupAnswer;
 use crate::places::{read_long, read_short};
-use ice_values::pad;
+use ice_values::{pad, pass_bytes};
 use owned_lists::{NoMemory, Octets};
 use std::alloc::Global;
-
-/// What is left behind so many bytes.
-fn behind(count: usize, bytes: &[u8]) -> Option<&[u8]>
-    ensures { Finds (λ x. x.now) result (skip_at count bytes.now) }
-{
-    if bytes.len() < count {
-        return None;
-    }
-    let (_, rest) = bytes.split_at(count);
-    Some(rest)
-}
 
 fn pass_depth(bytes: &[u8]) -> Option<&[u8]>
     ensures { Finds (λ x. x.now) result (behind_depth bytes.now) }
@@ -25,7 +14,7 @@ fn pass_depth(bytes: &[u8]) -> Option<&[u8]>
     if bytes.len() < 8 {
         return None;
     }
-    behind(8 + 24 * read_short(bytes, 2) as usize, bytes)
+    pass_bytes(8 + 24 * read_short(bytes, 2) as usize, bytes)
 }
 
 fn pass_depths(count: u8, bytes: &[u8]) -> Option<&[u8]>
@@ -72,7 +61,7 @@ fn find_screens(bytes: &[u8]) -> Option<&[u8]>
     ensures { Finds (λ x. x.now) result (screens_in bytes.now) }
 {
     let vendor = read_short(bytes, 24) as usize;
-    behind(
+    pass_bytes(
         40 + (vendor + pad(vendor, 4)) + 8 * bytes[29] as usize,
         bytes,
     )
