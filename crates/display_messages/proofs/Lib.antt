@@ -1,0 +1,4 @@
+mod RequestLaws
+mod NumberLists
+mod Passing
+mod LengthLaws

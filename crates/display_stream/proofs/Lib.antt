@@ -1,0 +1,4 @@
+mod Heads
+mod Cuts
+mod Fronts
+mod Shapes
