@@ -21,11 +21,11 @@ changes() {
   echo " -- $maintainer  $(LC_ALL=C date -u -R -d "@$SOURCE_DATE_EPOCH")"
 }
 
-# The pages that people read, with what they lead to. A link to what isn't there becomes its text.
+# The pages that people read, but for those of who changes smd, with what they lead to. A link to what isn't there becomes its text.
 pages() {
   local own=$1 file
   for file in README.md CHANGELOG.md docs/*.md docs/man/*.md docs/pictures/* examples/*; do
-    case $file in examples/README.md | docs/DEVELOPING.md | docs/PROVING.md) continue ;; esac
+    case $file in docs/DEVELOPING.md | docs/PROVING.md) continue ;; esac
     install -D -m "$([ -x "$file" ] && echo 755 || echo 644)" "$file" "$own/$file"
   done
   python3 -B tools/links --drop "$own"
@@ -37,6 +37,7 @@ documents() {
   sed -i "s|/usr/share/doc/smd/|/usr/share/doc/$name/|" "$manual"/*.1
   gzip -9n "$manual"/*.1
   (cd "$top" && pages "$own")
+  sed -i "s|/usr/share/doc/smd/|/usr/share/doc/$name/|" "$own"/docs/man/*.md
   changes | gzip -9n > "$own/changelog.gz"
   echo "$said" > "$own/proof"
   cat > "$own/copyright" << END
