@@ -1,4 +1,4 @@
-"""What tools/tests, tools/edits and tools/kept-libraries have in common: they work by rt's own code, which stands behind the
+"""What tools/tests, tools/edits, tools/kept-libraries and tools/proved have in common: they work by rt's own code, which stands behind the
 command rt. A new kit may move it, and then they stop loudly; nothing that the gate's proofs say rests on it."""
 import importlib.machinery
 import importlib.util
