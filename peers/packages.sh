@@ -1,4 +1,4 @@
-# The packages of Debian that the parts of peers/check need beside bash, and how they are installed.
+# The packages of Debian that the parts of peers/check, and tools/checks, need beside bash, and how they are installed.
 
 # What every part needs.
 basic='python3 procps bsdutils'
@@ -9,9 +9,11 @@ desktop="$display x11-apps xterm twm gkrellm featherpad tmux"
 editor="$display $compiler tmux nano x11-session-utils"
 xfce="$desktop $qt6 openbox emacs-lucid xfwm4 xfce4-panel xfdesktop4 xfce4-terminal thunar xfce4-settings dbus-daemon"
 packer='lintian binutils'
+# What tools/checks looks at pages, completions and packages with.
+pages='mandoc fish zsh'
 greeter="$desktop lightdm lightdm-gtk-greeter dbus-daemon"
 texts='openbox emacs-lucid xfwm4 xfconf dbus-daemon kwrite'
-needed="$xfce $texts $editor $packer $greeter dbus-bin strace $basic"
+needed="$xfce $texts $editor $packer $pages $greeter dbus-bin strace $basic"
 
 # missing PACKAGE..: those of the packages that aren't installed; where there is no Debian, all of them.
 missing() {
