@@ -42,11 +42,11 @@ use Rattle.stream_clients.proofs.Receiving.{takes-message}
 
 -- Steps in a row
 
-after-both : (c : ℕ) (xs ys : List Step) (p : Pair) → after c (xs ++ ys) p ≡ after c ys (after c xs p)
+pub after-both : (c : ℕ) (xs ys : List Step) (p : Pair) → after c (xs ++ ys) p ≡ after c ys (after c xs p)
 after-both c [] ys p = refl
 after-both c (x ∷ xs) ys p = after-both c xs ys (step c x p)
 
-may-both : (c : ℕ) (xs ys : List Step) (p : Pair) → AllMay c xs p → AllMay c ys (after c xs p) → AllMay c (xs ++ ys) p
+pub may-both : (c : ℕ) (xs ys : List Step) (p : Pair) → AllMay c xs p → AllMay c ys (after c xs p) → AllMay c (xs ++ ys) p
 may-both c [] ys p a b = b
 may-both c (x ∷ xs) ys p a b = (a.0, may-both c xs ys (step c x p) a.1 b)
 

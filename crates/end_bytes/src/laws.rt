@@ -1,0 +1,15 @@
+ghost use Rattle.end_bytes.specs.Hearing.{ManagersHearMessages};
+ghost use Rattle.end_bytes.specs.Saying.{AllThatIsSentIsSaid};
+
+/// Does nothing: its contract is a law of managers. One takes the message that the frame of a client
+/// spells: a message of ICE by the set-up's table, and one of XSMP is told to the session, as long as
+/// XSMP is spoken. Where that has ended the frame is answered by BadMajor.
+pub fn managers_hear_messages()
+    ensures { ManagersHearMessages }
+{}
+
+/// Does nothing: its contract is a law of managers. What one says on a connection as its session is told
+/// of something is what the session sends on it.
+pub fn all_that_is_sent_is_said()
+    ensures { AllThatIsSentIsSaid }
+{}

@@ -1,0 +1,8 @@
+//! A manager and a client that exchange bytes: what the manager's machine does about a piece of what is
+//! under way to it is a list of steps of a schedule, and what it says is what the session sends.
+//! Definitions and laws alone; no code.
+#![tactic(auto)]
+
+mod laws;
+
+pub use laws::{all_that_is_sent_is_said, managers_hear_messages};
