@@ -1,2 +1,3 @@
 pub mod Saying
 pub mod Hearing
+pub mod Following

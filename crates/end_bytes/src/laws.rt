@@ -1,3 +1,4 @@
+ghost use Rattle.end_bytes.specs.Following.{PartsAreHeard, PiecesAreHeard};
 ghost use Rattle.end_bytes.specs.Hearing.{ManagersHearMessages};
 ghost use Rattle.end_bytes.specs.Saying.{AllThatIsSentIsSaid};
 
@@ -12,4 +13,16 @@ pub fn managers_hear_messages()
 /// of something is what the session sends on it.
 pub fn all_that_is_sent_is_said()
     ensures { AllThatIsSentIsSaid }
+{}
+
+/// Does nothing: its contract is a law of managers. What one does about the frames of the messages that
+/// wait for it from a client is a list of steps of a schedule, also where XSMP ends in their middle.
+pub fn parts_are_heard()
+    ensures { PartsAreHeard }
+{}
+
+/// Does nothing: its contract is a law of managers. So it is of a piece of the bytes that are under way
+/// to one, of any length.
+pub fn pieces_are_heard()
+    ensures { PiecesAreHeard }
 {}

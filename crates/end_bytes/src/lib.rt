@@ -5,4 +5,6 @@
 
 mod laws;
 
-pub use laws::{all_that_is_sent_is_said, managers_hear_messages};
+pub use laws::{
+    all_that_is_sent_is_said, managers_hear_messages, parts_are_heard, pieces_are_heard,
+};
