@@ -1,3 +1,5 @@
 pub mod Said
 pub mod Outcomes
 pub mod Parts
+pub mod Runs
+pub mod Beside

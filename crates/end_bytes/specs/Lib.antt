@@ -1,3 +1,4 @@
 pub mod Saying
 pub mod Hearing
 pub mod Following
+pub mod Elsewhere

@@ -1,3 +1,4 @@
+ghost use Rattle.end_bytes.specs.Elsewhere.{OthersHappenBeside, SessionsRun};
 ghost use Rattle.end_bytes.specs.Following.{PartsAreHeard, PiecesAreHeard};
 ghost use Rattle.end_bytes.specs.Hearing.{ManagersHearMessages};
 ghost use Rattle.end_bytes.specs.Saying.{AllThatIsSentIsSaid};
@@ -25,4 +26,17 @@ pub fn parts_are_heard()
 /// to one, of any length.
 pub fn pieces_are_heard()
     ensures { PiecesAreHeard }
+{}
+
+/// Does nothing: its contract is a law of managers. What comes to one from elsewhere, as of another
+/// connection whatever that sends, is a list of steps of a schedule at which something happens beside a
+/// client.
+pub fn others_happen_beside()
+    ensures { OthersHappenBeside }
+{}
+
+/// Does nothing: its contract is a law of managers. The session of one is told of events, so whatever
+/// holds between the events of every run holds of it.
+pub fn sessions_run()
+    ensures { SessionsRun }
 {}

@@ -6,5 +6,6 @@
 mod laws;
 
 pub use laws::{
-    all_that_is_sent_is_said, managers_hear_messages, parts_are_heard, pieces_are_heard,
+    all_that_is_sent_is_said, managers_hear_messages, others_happen_beside, parts_are_heard,
+    pieces_are_heard, sessions_run,
 };
