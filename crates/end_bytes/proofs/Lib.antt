@@ -3,3 +3,5 @@ pub mod Outcomes
 pub mod Parts
 pub mod Runs
 pub mod Beside
+pub mod Sessions
+pub mod Computed

@@ -19,13 +19,13 @@ run-both : (xs ys : List SessionEvent) (h : History) → run h (xs ++ ys) ≡ ru
 run-both [] ys h = refl
 run-both (x ∷ xs) ys h = run-both xs ys (taken x h)
 
-ran-none : (h : History) → RunsTo h h
+pub ran-none : (h : History) → RunsTo h h
 ran-none h = record { events = []; is = refl }
 
 ran-one : (event : SessionEvent) (h : History) → RunsTo h (taken event h)
 ran-one event h = record { events = event ∷ []; is = refl }
 
-ran-both : (h g k : History) → RunsTo h g → RunsTo g k → RunsTo h k
+pub ran-both : (h g k : History) → RunsTo h g → RunsTo g k → RunsTo h k
 ran-both h g k a b = record { events = a.events ++ b.events; is = b.is ∙ ap (λ (x : History). run x b.events) a.is ∙ sym (run-both a.events b.events h) }
 
 ran-asked : (m : Machine) (c : ℕ) (b : Bool) → RunsTo m.session (asked m c b).next.session

@@ -2,3 +2,5 @@ pub mod Saying
 pub mod Hearing
 pub mod Following
 pub mod Elsewhere
+pub mod BytePairs
+pub mod Examples

@@ -1,4 +1,6 @@
+ghost use Rattle.end_bytes.specs.BytePairs.{PairsKeepToRuns};
 ghost use Rattle.end_bytes.specs.Elsewhere.{OthersHappenBeside, SessionsRun};
+ghost use Rattle.end_bytes.specs.Examples.{AClientRegisters, AClientSaves, AConnectionIsGreeted};
 ghost use Rattle.end_bytes.specs.Following.{PartsAreHeard, PiecesAreHeard};
 ghost use Rattle.end_bytes.specs.Hearing.{ManagersHearMessages};
 ghost use Rattle.end_bytes.specs.Saying.{AllThatIsSentIsSaid};
@@ -39,4 +41,19 @@ pub fn others_happen_beside()
 /// holds between the events of every run holds of it.
 pub fn sessions_run()
     ensures { SessionsRun }
+{}
+
+/// Does nothing: its contract is a law of a manager and a client that exchange bytes. Whatever is done,
+/// the manager's session is one of a run.
+pub fn pairs_keep_to_runs()
+    ensures { PairsKeepToRuns }
+{}
+
+/// Does nothing: its contract is three worked pairs, which the definitions compute: what is under way as
+/// a client connects, all that is said until it has registered and is asked to save, and until that save
+/// is over.
+pub fn worked_pairs()
+    ensures greeted { AConnectionIsGreeted }
+    ensures registers { AClientRegisters }
+    ensures saves { AClientSaves }
 {}
