@@ -5,3 +5,5 @@ pub mod Runs
 pub mod Beside
 pub mod Sessions
 pub mod Computed
+pub mod Errors
+pub mod Opens

@@ -81,13 +81,13 @@ pub stands-through : (stream : List ℕ) (acts : List SessionAct) (c : ℕ) (ks 
 stands-through stream [] c ks s = s
 stands-through stream (act ∷ acts) c ks s = stands-through stream acts c (connections_after act ks) (stands-after stream act c ks s)
 
-counted-is : (c : ℕ) (ks : List Connection) (k : Connection) (setup : AnySetup) → connection_of c ks ≡ Some k → connection_of c (changed (counted setup) c ks) ≡ Some (counted setup k)
+pub counted-is : (c : ℕ) (ks : List Connection) (k : Connection) (setup : AnySetup) → connection_of c ks ≡ Some k → connection_of c (changed (counted setup) c ks) ≡ Some (counted setup k)
 counted-is c ks k setup is = rw (connection_of-changed (counted setup) (λ x. refl) c c ks, same c c refl, is) refl
 
 fed-is : (c : ℕ) (ks : List Connection) (k : Connection) (bytes : List ℕ) → connection_of c ks ≡ Some k → connection_of c (changed (fed_with bytes) c ks) ≡ Some (fed_with bytes k)
 fed-is c ks k bytes is = rw (connection_of-changed (fed_with bytes) (λ x. refl) c c ks, same c c refl, is) refl
 
-stands-counted : (stream : List ℕ) (c : ℕ) (ks : List Connection) (k : Connection) (setup : AnySetup) → connection_of c ks ≡ Some k → k.stream ≡ stream → HasSpoken setup → StandsAt stream (connection_of c (changed (counted setup) c ks))
+pub stands-counted : (stream : List ℕ) (c : ℕ) (ks : List Connection) (k : Connection) (setup : AnySetup) → connection_of c ks ≡ Some k → k.stream ≡ stream → HasSpoken setup → StandsAt stream (connection_of c (changed (counted setup) c ks))
 stands-counted stream c ks k setup is same_stream spoken = subst (λ (x : Option Connection). StandsAt stream x) (sym (counted-is c ks k setup is)) (same_stream, spoken)
 
 -- One part

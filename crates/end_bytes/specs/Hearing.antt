@@ -1,5 +1,6 @@
 -- What the manager does about a frame of a client, told by the message that the frame spells.
 use Rattle.std.specs.Prelude.{List, Some, true, ℕ, ◌≡◌, ◌≢◌}
+use Rattle.std.specs.List.{AllByRecursion}
 use Rattle.ice_values.specs.declared.class.ErrorClass.TheVariants.{BadMajor}
 use Rattle.ice_values.specs.declared.numbers.Endian.TheVariants.{Lsb}
 use Rattle.ice_messages.specs.Messages.{IsMessage as IsIceMessage}
@@ -20,6 +21,7 @@ use Rattle.protocol_messages.specs.declared.message.Message.TheVariants.{Ice, Xs
 use Rattle.session_engine.specs.Answers.{is_ordered, message_outcome, named_in, outcome, staying}
 use Rattle.session_engine.specs.Outcomes.{Outcome, Speaks}
 use Rattle.message_streams.specs.Streams.{part_of}
+use Rattle.end_schedules.specs.Pairs.{InEveryPair}
 
 -- it isn't an Error, whose minor opcode is 0
 abbrev pub IsNoError : XsmpMessage → Type 0
@@ -36,3 +38,7 @@ pub record ManagersHearMessages : Type 0 where
   pub refuses : (s : AwaitProtocol) (sequence opcode : ℕ) (m : XsmpMessage) → opcode ≢ 0 → IsNoError m → outcome (AtProtocol s) sequence (part_of opcode (Xsmp m)) ≡ staying (AtProtocol s) (Some (bad_major s sequence opcode m))
   pub begins : (s : AwaitOrder) (sequence opcode : ℕ) → outcome (AtOrder s) sequence (part_of opcode (Ice (ByteOrder Lsb))) ≡ message_outcome (AtOrder s) (ByteOrder Lsb) sequence
   pub follows : (setup : AnySetup) (sequence opcode : ℕ) (m : IceMessage) → is_ordered setup ≡ true → IsIceMessage m → outcome setup sequence (part_of opcode (Ice m)) ≡ message_outcome setup m sequence
+
+-- What waits for the manager of a pair is no Error, after every schedule.
+abbrev pub ClientsSayNoError : Type 0
+ClientsSayNoError = InEveryPair (λ c p. AllByRecursion IsNoError p.up)

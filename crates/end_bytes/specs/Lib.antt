@@ -4,3 +4,4 @@ pub mod Following
 pub mod Elsewhere
 pub mod BytePairs
 pub mod Examples
+pub mod Entering

@@ -1,8 +1,9 @@
 ghost use Rattle.end_bytes.specs.BytePairs.{PairsKeepToRuns};
 ghost use Rattle.end_bytes.specs.Elsewhere.{OthersHappenBeside, SessionsRun};
+ghost use Rattle.end_bytes.specs.Entering.{ClientsOpen, ManagersSetUp};
 ghost use Rattle.end_bytes.specs.Examples.{AClientRegisters, AClientSaves, AConnectionIsGreeted};
 ghost use Rattle.end_bytes.specs.Following.{PartsAreHeard, PiecesAreHeard};
-ghost use Rattle.end_bytes.specs.Hearing.{ManagersHearMessages};
+ghost use Rattle.end_bytes.specs.Hearing.{ClientsSayNoError, ManagersHearMessages};
 ghost use Rattle.end_bytes.specs.Saying.{AllThatIsSentIsSaid};
 
 /// Does nothing: its contract is a law of managers. One takes the message that the frame of a client
@@ -16,6 +17,12 @@ pub fn managers_hear_messages()
 /// of something is what the session sends on it.
 pub fn all_that_is_sent_is_said()
     ensures { AllThatIsSentIsSaid }
+{}
+
+/// Does nothing: its contract is a law of every schedule. What waits for the manager from a client is no
+/// Error.
+pub fn clients_say_no_error()
+    ensures { ClientsSayNoError }
 {}
 
 /// Does nothing: its contract is a law of managers. What one does about the frames of the messages that
@@ -41,6 +48,19 @@ pub fn others_happen_beside()
 /// holds between the events of every run holds of it.
 pub fn sessions_run()
     ensures { SessionsRun }
+{}
+
+/// Does nothing: its contract is a law of managers. One does about a frame of the set-up what the table
+/// says of its message: it says the table's answer, and tells its session where XSMP begins, or where
+/// the connection is closed.
+pub fn managers_set_up()
+    ensures { ManagersSetUp }
+{}
+
+/// Does nothing: its contract is a law of clients. One that is opening does about a frame of the set-up
+/// what its table says of the message, and registers once it has joined.
+pub fn clients_open()
+    ensures { ClientsOpen }
 {}
 
 /// Does nothing: its contract is a law of a manager and a client that exchange bytes. Whatever is done,
