@@ -7,3 +7,6 @@ pub mod Sessions
 pub mod Computed
 pub mod Errors
 pub mod Opens
+pub mod Talking
+pub mod Quiet
+pub mod Begins

@@ -82,11 +82,11 @@ none-after (ShutsConn d) c ks none = elim (cases_eq c d) [
 ]
 none-after act c ks none = none
 
-none-through : (acts : List SessionAct) (c : ℕ) (ks : List Connection) → connection_of c ks ≡ None → connection_of c (connections_through acts ks) ≡ None
+pub none-through : (acts : List SessionAct) (c : ℕ) (ks : List Connection) → connection_of c ks ≡ None → connection_of c (connections_through acts ks) ≡ None
 none-through [] c ks none = none
 none-through (act ∷ acts) c ks none = none-through acts c (connections_after act ks) (none-after act c ks none)
 
-left-out : (c : ℕ) (ks : List Connection) → connection_of c (without c ks) ≡ None
+pub left-out : (c : ℕ) (ks : List Connection) → connection_of c (without c ks) ≡ None
 left-out c ks = rw (connection_of-without c c ks, same c c refl) refl
 
 heard-closing : (c : ℕ) (part : Part) (m n : Machine) (answer : Option IceMessage) → n.session ≡ m.session → Closes c m.session answer (departs n c (says c (option_map Ice answer) ++ Shut c ∷ []))

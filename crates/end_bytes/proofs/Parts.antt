@@ -48,7 +48,7 @@ use Rattle.end_bytes.proofs.Said.{all-sent}
 
 -- How the connection stands then
 
-spoken-unset : (setup : AnySetup) → HasSpoken setup → HasSpoken (without_xsmp setup)
+pub spoken-unset : (setup : AnySetup) → HasSpoken setup → HasSpoken (without_xsmp setup)
 spoken-unset (AtOrder s) h = h
 spoken-unset (AtSetup s) h = h
 spoken-unset (AtCookie s) h = h

@@ -5,3 +5,4 @@ pub mod Elsewhere
 pub mod BytePairs
 pub mod Examples
 pub mod Entering
+pub mod Talking

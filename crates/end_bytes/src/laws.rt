@@ -5,6 +5,7 @@ ghost use Rattle.end_bytes.specs.Examples.{AClientRegisters, AClientSaves, AConn
 ghost use Rattle.end_bytes.specs.Following.{PartsAreHeard, PiecesAreHeard};
 ghost use Rattle.end_bytes.specs.Hearing.{ClientsSayNoError, ManagersHearMessages};
 ghost use Rattle.end_bytes.specs.Saying.{AllThatIsSentIsSaid};
+ghost use Rattle.end_bytes.specs.Talking.{QuietEndsAgree, TalkingBegins, TalkingGoesOn, TalkingStays};
 
 /// Does nothing: its contract is a law of managers. One takes the message that the frame of a client
 /// spells: a message of ICE by the set-up's table, and one of XSMP is told to the session, as long as
@@ -76,4 +77,29 @@ pub fn worked_pairs()
     ensures greeted { AConnectionIsGreeted }
     ensures registers { AClientRegisters }
     ensures saves { AClientSaves }
+{}
+
+/// Does nothing: its contract is a law of a manager and a client that exchange bytes. Both talk once XSMP
+/// has begun on the connection and the client has joined.
+pub fn talking_begins()
+    ensures { TalkingBegins }
+{}
+
+/// Does nothing: its contract is a law of a manager and a client that exchange bytes and talk XSMP. Each
+/// step of either, with any pieces, is a list of steps of a schedule, and both talk still, where XSMP is
+/// spoken then and what was said has a spelling.
+pub fn talking_goes_on()
+    ensures { TalkingGoesOn }
+{}
+
+/// Does nothing: its contract is a law of a manager and a client that exchange bytes and talk XSMP. So is
+/// every list of such steps, as long as XSMP is spoken.
+pub fn talking_stays()
+    ensures { TalkingStays }
+{}
+
+/// Does nothing: its contract is a law of a manager and a client that exchange bytes and talk XSMP. Where
+/// nothing is under way, both agree.
+pub fn quiet_ends_agree()
+    ensures { QuietEndsAgree }
 {}

@@ -135,7 +135,7 @@ granted : (c : ℕ) (joined : Joined) (p : Pair) (wish : Wish) (client : Client)
 granted c joined p (Asks r) client e s = asks-step c joined p r client client.talk.place refl e s
 granted c joined p (Closes reasons) client e s = closes-step c joined p reasons client
 
-wish-step : (c : ℕ) (joined : Joined) (p : Pair) (wish : Wish) (client : Client) → StandsAs joined client.talk.place p.state → Follows c joined p 0 (wished wish client)
+pub wish-step : (c : ℕ) (joined : Joined) (p : Pair) (wish : Wish) (client : Client) → StandsAs joined client.talk.place p.state → Follows c joined p 0 (wished wish client)
 wish-step c joined p wish client s = by (may_wish wish client) refl where
   by : (b : Bool) → may_wish wish client ≡ b → Follows c joined p 0 (cond b (record { line = Xsmp (said_in wish) ∷ []; next = after_wish wish client }) (stays client))
   by true e = granted c joined p wish client e s
@@ -233,7 +233,7 @@ took-one c joined m rest p client wishes d alive t =
 
 -- All messages of a piece
 
-parts-deaf : (parts : List Part) (rs : List (List Wish)) (client : Client) → is_listening client.talk.place ≡ false → parts_taken [] talk_of reacts client parts rs ≡ stays client
+pub parts-deaf : (parts : List Part) (rs : List (List Wish)) (client : Client) → is_listening client.talk.place ≡ false → parts_taken [] talk_of reacts client parts rs ≡ stays client
 parts-deaf [] rs client e = refl
 parts-deaf (part ∷ parts) rs client e =
     let r : List Wish = reply [] talk_of reacts rs in
