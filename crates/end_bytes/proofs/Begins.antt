@@ -1,5 +1,5 @@
 -- Both talk once the client has joined.
-use Rattle.std.proofs.Common.{◌≡◌, refl, sym, ap, ◌∙◌, subst, ℕ, List, [], ◌∷◌, map, drop, arith}
+use Rattle.std.proofs.Common.{◌≡◌, refl, sym, ap, ◌∙◌, subst, List, [], ◌∷◌, map, drop, arith}
 use Rattle.std.specs.List.{AllByRecursion}
 use Rattle.ice_setup.specs.Setup.{manager_opcode}
 use Rattle.ice_setup.specs.declared.opener.Joined.{Joined}
@@ -13,7 +13,7 @@ use Rattle.session_model.specs.Reading.{reading}
 use Rattle.session_model.specs.Rules as session
 use Rattle.session_model.specs.declared.events.SessionEvent.TheVariants.{Ready}
 use Rattle.message_streams.specs.Streams.{HoldsBytes}
-use Rattle.end_schedules.specs.Pairs.{Pair, begun, down_of}
+use Rattle.end_schedules.specs.Pairs.{begun, down_of}
 use Rattle.end_schedules.specs.Schedules.{End, end_of, paired}
 use Rattle.end_schedules.specs.UnderWay.{sent_to}
 use Rattle.stream_clients.specs.Following.{StandsAs}

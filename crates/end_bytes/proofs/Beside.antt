@@ -1,11 +1,10 @@
 -- What comes from elsewhere is a list of steps at which something happens beside the client.
-use Rattle.std.proofs.Common.{◌≡◌, ◌⊎◌, inl, inr, refl, sym, ap, ◌∙◌, subst, ℕ, Bool, true, false, cond, List, [], ◌∷◌, ◌++◌, map, append-nil, append_assoc}
-use Rattle.std.specs.Prelude.{Option, None, Some, ◌==◌, is_some}
+use Rattle.std.proofs.Common.{◌≡◌, ◌⊎◌, inl, inr, refl, sym, ap, ◌∙◌, subst, ℕ, Bool, true, false, List, [], ◌∷◌, ◌++◌, map, append-nil, append_assoc}
+use Rattle.std.specs.Prelude.{Option, None, Some, ◌==◌}
 use Rattle.std.specs.List.{flat_map}
 use Rattle.std.proofs.lemmas.Bool.{cases_eq}
 use Rattle.std.proofs.lemmas.Grind.{flat_map-append}
 use Rattle.std.proofs.lemmas.List.{map-append}
-use Rattle.sm_world.specs.declared.events.Event.{Event}
 use Rattle.sm_world.specs.declared.events.Event.TheVariants.{End as Ends, Gone, Joined, Operator, Piece, Tick}
 use Rattle.ice_framing.specs.Parts.{Part, new_parts}
 use Rattle.ice_setup.specs.declared.states.AnySetup.{AnySetup}
@@ -22,7 +21,7 @@ use Rattle.session_model.specs.Readings as of
 use Rattle.session_model.specs.Rules.{taken}
 use Rattle.session_engine.specs.Acts.{says}
 use Rattle.session_engine.specs.Answers.{outcome, sequence_after, without_xsmp}
-use Rattle.session_engine.specs.Machine.{Connection, Does, Entry, Machine, Step as Done, act_in, acts_of, acts_since, answered, asked, behind, brought, changed, connection_of, connections_after, connections_through, counted, departs, does, fed_on, fed_with, gone_for, greeted, greeting, join_for, joined, joining, noted, part_for, part_taken, parted, parts_taken, piece_for, stays, step, told, unset_on, without}
+use Rattle.session_engine.specs.Machine.{Connection, Does, Entry, Machine, Step as Done, act_in, acts_of, acts_since, answered, asked, behind, changed, connection_of, connections_after, connections_through, counted, departs, does, fed_on, fed_with, gone_for, greeted, greeting, join_for, joined, joining, noted, part_for, part_taken, parted, parts_taken, piece_for, stays, step, told, unset_on, without}
 use Rattle.session_engine.specs.Outcomes.{Answer, Asks, Begins, Closes, Outcome, Speaks, Stays}
 use Rattle.session_engine.specs.Shown.{Agrees}
 use Rattle.session_engine.specs.Telling.{AgreesFor}
@@ -36,10 +35,10 @@ use Rattle.session_engine.proofs.Showing.{acts_noted}
 use Rattle.end_agreement.proofs.Calm.{differ}
 use Rattle.end_schedules.specs.Pairs.{AllMay, Pair, Step, after, is_of}
 use Rattle.end_schedules.specs.Pairs.Step.{Happens}
-use Rattle.end_schedules.specs.Schedules.{End, paired}
+use Rattle.end_schedules.specs.Schedules.{paired}
 use Rattle.end_schedules.specs.UnderWay.{sent_to}
 use Rattle.stream_clients.proofs.Stepping.{after-both, may-both}
-use Rattle.end_bytes.specs.Elsewhere.{HappensBeside, OthersHappenBeside, StaysAs, is_from}
+use Rattle.end_bytes.specs.Elsewhere.{HappensBeside, OthersHappenBeside, StaysAs}
 use Rattle.end_bytes.specs.Saying.{said_by, said_on}
 use Rattle.end_bytes.proofs.Said.{all-sent}
 

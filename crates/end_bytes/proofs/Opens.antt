@@ -1,5 +1,5 @@
 -- A frame of the set-up brings what the table says of its message, at either end.
-use Rattle.std.proofs.Common.{◌≡◌, inl, inr, refl, sym, ap, ◌∙◌, subst, ℕ, ◌+◌, ◌*◌, Bool, true, false, cond, not, ◌&&◌, List, [], ◌∷◌, ◌++◌, map, drop, length, append-nil, arith}
+use Rattle.std.proofs.Common.{◌≡◌, inl, inr, refl, sym, ap, ◌∙◌, subst, ℕ, ◌+◌, ◌*◌, Bool, true, false, cond, not, ◌&&◌, List, [], ◌∷◌, ◌++◌, map, drop, length, append-nil}
 use Rattle.std.specs.Prelude.{Option, None, Some, if◌then◌else◌, ◌==◌}
 use Rattle.std.specs.Option.{option_map}
 use Rattle.std.specs.List.{flat_map}
@@ -10,16 +10,13 @@ use Rattle.ice_values.specs.declared.numbers.Endian.TheVariants.{Lsb}
 use Rattle.ice_framing.specs.Parts.{Part}
 use Rattle.ice_messages.specs.Messages.{IsMessage, canon}
 use Rattle.ice_messages.specs.declared.message.IceMessage.{IceMessage}
-use Rattle.ice_messages.specs.declared.message.IceMessage.TheVariants.{ByteOrder}
 use Rattle.ice_messages.proofs.Dispatch.{canon_spells, decode_again}
 use Rattle.ice_setup.specs.Opener.{opened}
 use Rattle.ice_setup.specs.Setup.{moved}
-use Rattle.ice_setup.specs.declared.opener.AnyOpener.{AnyOpener}
 use Rattle.ice_setup.specs.declared.states.AnySetup.{AnySetup}
 use Rattle.ice_setup.specs.declared.states.AnySetup.TheVariants.{AwaitCookie as AtCookie, AwaitOrder as AtOrder, AwaitProtocol as AtProtocol, AwaitProtocolCookie as AtProtocolCookie, AwaitSetup as AtSetup, Ready as AtReady}
 use Rattle.ice_setup.specs.declared.states.Moved.{Moved}
 use Rattle.ice_setup.specs.declared.states.Moved.TheVariants.{Ask, Close, Ends, Goes}
-use Rattle.xsmp_messages.specs.declared.message.XsmpMessage.{XsmpMessage}
 use Rattle.protocol_messages.specs.Messages.{spelled_under}
 use Rattle.protocol_messages.specs.declared.message.Message.{Message}
 use Rattle.protocol_messages.specs.declared.message.Message.TheVariants.{Ice, Xsmp}
@@ -30,24 +27,22 @@ use Rattle.session_model.specs.Rules.{taken}
 use Rattle.session_model.specs.declared.events.SessionEvent.TheVariants.{Left, Ready}
 use Rattle.session_engine.specs.Acts.{says}
 use Rattle.session_engine.specs.Answers.{going, message_outcome, outcome, outcome_of, sequence_after, speaks_xsmp}
-use Rattle.session_engine.specs.Machine.{Connection, Does, Machine, Step as Done, act_in, acts_of, acts_since, answered, behind, brought, changed, connection_of, connections_after, connections_through, counted, departs, noted, part_for, part_taken, parted, told, unset_on, without}
+use Rattle.session_engine.specs.Machine.{Connection, Does, Machine, Step as Done, act_in, acts_of, acts_since, behind, brought, connection_of, connections_after, connections_through, departs, noted, part_for, parted, told, unset_on, without}
 use Rattle.session_engine.specs.Outcomes.{Outcome}
 use Rattle.session_engine.specs.declared.acts.Act.{Act}
 use Rattle.session_engine.specs.declared.acts.Act.TheVariants.{Shut}
-use Rattle.session_engine.proofs.Connections.{changed_absent, connection_of-changed, connection_of-without, other, same}
+use Rattle.session_engine.proofs.Connections.{connection_of-changed, connection_of-without, other, same}
 use Rattle.session_engine.proofs.Showing.{acts_noted}
-use Rattle.client_engine.specs.Hearing.{arrived, fatal_class, frame_heard, opening_heard, opening_moved, sequence_after as number_after, unless_fatal}
+use Rattle.client_engine.specs.Hearing.{arrived, opening_heard, opening_moved, sequence_after as number_after, unless_fatal}
 use Rattle.client_engine.specs.Received.{ice_received, received_of}
 use Rattle.client_engine.specs.declared.hearing.Heard.{Heard}
 use Rattle.client_engine.specs.declared.place.Arrival.{Arrival}
-use Rattle.client_engine.specs.declared.place.Counts.{Counts}
 use Rattle.client_engine.specs.declared.received.Received.{Received}
 use Rattle.client_engine.specs.declared.received.Received.TheVariants.{Ice as GotIce}
 use Rattle.message_streams.specs.Streams.{HasBytes, frame_of, part_of}
 use Rattle.setup_agreement.specs.SetUps.{said_by as answer_list}
 use Rattle.end_schedules.specs.UnderWay.{sent_to}
-use Rattle.end_bytes.specs.Entering.{Begins, ClientsOpen, Closes, GoesOn, GoesTo, HeardAs, IsInTurn, ManagersSetUp}
-use Rattle.end_bytes.specs.Following.{HasSpoken, StandsAt}
+use Rattle.end_bytes.specs.Entering.{ClientsOpen, Closes, GoesTo, HeardAs, IsInTurn, ManagersSetUp}
 use Rattle.end_bytes.specs.Saying.{said_by, said_on}
 use Rattle.end_bytes.proofs.Outcomes.{hears-messages}
 use Rattle.end_bytes.proofs.Parts.{counted-is, stands-counted, stands-through}

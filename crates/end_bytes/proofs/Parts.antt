@@ -4,8 +4,7 @@ use Rattle.std.specs.Prelude.{Option, None, Some, is_some}
 use Rattle.std.specs.List.{AllByRecursion, flat_map}
 use Rattle.std.proofs.lemmas.Bool.{cases_eq}
 use Rattle.std.proofs.lemmas.Grind.{flat_map-append}
-use Rattle.sm_world.specs.declared.events.Event.TheVariants.{Piece}
-use Rattle.ice_framing.specs.Frames.{standing_of, unit_limit, units}
+use Rattle.ice_framing.specs.Frames.{standing_of}
 use Rattle.ice_framing.specs.Parts.{Part, new_parts}
 use Rattle.ice_setup.specs.Opener.{client_opcode}
 use Rattle.ice_setup.specs.declared.states.AnySetup.{AnySetup}
@@ -25,23 +24,22 @@ use Rattle.session_model.specs.Moves.{History}
 use Rattle.session_model.specs.Readings as of
 use Rattle.session_model.specs.Rules.{taken}
 use Rattle.session_engine.specs.Answers.{outcome, sequence_after, speaks_xsmp, staying, without_xsmp}
-use Rattle.session_engine.specs.Machine.{Connection, Entry, Machine, Step as Done, act_in, acts_of, acts_since, behind, brought, changed, connection_of, connections_after, connections_through, counted, fed_on, fed_with, noted, part_for, part_taken, parts_taken, piece_for, stays, step, told, unset_on, without}
+use Rattle.session_engine.specs.Machine.{Connection, Machine, Step as Done, act_in, acts_of, acts_since, behind, brought, changed, connection_of, connections_after, connections_through, counted, fed_on, fed_with, noted, part_for, part_taken, parts_taken, piece_for, unset_on, without}
 use Rattle.session_engine.specs.Outcomes.{Outcome, Speaks}
 use Rattle.session_engine.specs.Shown.{Agrees, is_speaking}
-use Rattle.session_engine.specs.declared.acts.Act.{Act}
 use Rattle.session_engine.proofs.Connections.{connection_of-changed, connection_of-without, other, same}
 use Rattle.session_engine.proofs.Following.{agrees-changed, agrees-noted, agrees-said, agrees-told}
 use Rattle.message_streams.specs.Streams.{BringsNew, HoldsBytes, part_of}
 use Rattle.message_streams.proofs.Cutting.{streams-of}
 use Rattle.end_agreement.proofs.Calm.{differ}
-use Rattle.end_schedules.specs.Pairs.{AllMay, Pair, Step, after, hear, unless_ended}
+use Rattle.end_schedules.specs.Pairs.{AllMay, Pair, after, hear, unless_ended}
 use Rattle.end_schedules.specs.Pairs.Step.{Hears}
 use Rattle.end_schedules.specs.Schedules.{End, paired}
 use Rattle.end_schedules.specs.UnderWay.{sent_to}
 use Rattle.stream_clients.proofs.Pieces.{Split, parts-of, split-at}
 use Rattle.stream_clients.proofs.Stepping.{after-both, may-both}
-use Rattle.end_bytes.specs.Following.{HasSpoken, HearsParts, HearsPiece, IsHeard, PartsAreHeard, PiecesAreHeard, StandsAt}
-use Rattle.end_bytes.specs.Hearing.{IsNoError, bad_major}
+use Rattle.end_bytes.specs.Following.{HasSpoken, HearsParts, IsHeard, PartsAreHeard, PiecesAreHeard, StandsAt}
+use Rattle.end_bytes.specs.Hearing.{bad_major}
 use Rattle.end_bytes.specs.Saying.{said_by, said_on}
 use Rattle.end_bytes.proofs.Outcomes.{hears-messages}
 use Rattle.end_bytes.proofs.Said.{all-sent}

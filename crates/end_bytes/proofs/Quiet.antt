@@ -1,6 +1,6 @@
 -- Where both ends talk and nothing is under way, they agree.
-use Rattle.std.proofs.Common.{◌≡◌, refl, sym, ap, ◌∙◌, subst, ℕ, ◌≤◌, Bool, true, false, List, [], ◌∷◌, ◌++◌, map, drop, length, arith}
-use Rattle.std.specs.Prelude.{Option, None, Some, is_some}
+use Rattle.std.proofs.Common.{◌≡◌, refl, sym, ap, ◌∙◌, subst, ℕ, ◌≤◌, true, List, [], ◌∷◌, ◌++◌, map, drop, length, arith}
+use Rattle.std.specs.Prelude.{is_some}
 use Rattle.std.specs.List.{AllByRecursion}
 use Rattle.interact_queue.specs.Queue.{is_in}
 use Rattle.ice_values.specs.declared.severity.Severity.{Severity}
@@ -18,15 +18,12 @@ use Rattle.client_engine.specs.Places.{is_listening}
 use Rattle.client_engine.specs.declared.place.Place.{Place}
 use Rattle.client_engine.specs.declared.place.Place.TheVariants.{Opening, Speaking, Stopped}
 use Rattle.protocol_messages.specs.Messages.{spelled_under}
-use Rattle.protocol_messages.specs.declared.message.Message.{Message}
 use Rattle.protocol_messages.specs.declared.message.Message.TheVariants.{Xsmp}
-use Rattle.session_model.specs.Moves.{History}
 use Rattle.session_model.specs.Readings as of
-use Rattle.session_engine.specs.Machine.{Connection, connection_of}
 use Rattle.session_engine.proofs.Following.{numbers-in}
 use Rattle.message_streams.specs.Streams.{HasBytes, HoldsBytes, bytes_of}
 use Rattle.end_agreement.specs.Laws.{taken_all}
-use Rattle.end_agreement.specs.Sides.{Agrees, Side, mirror}
+use Rattle.end_agreement.specs.Sides.{Agrees}
 use Rattle.end_schedules.specs.Laws.{AgreesOnceTaken, heard_all}
 use Rattle.end_schedules.specs.Pairs.{Pair, down_of}
 use Rattle.end_schedules.specs.Schedules.{End, paired}
@@ -34,7 +31,7 @@ use Rattle.end_schedules.specs.UnderWay.{sent_to, side_of}
 use Rattle.end_schedules.proofs.Folds.{both-agree}
 use Rattle.stream_clients.specs.Following.{StandsAs}
 use Rattle.end_bytes.specs.BytePairs.{BytePair}
-use Rattle.end_bytes.specs.Talking.{AgreesAt, IsQuiet, IsReached, QuietEndsAgree, Talks, WaitsBelow}
+use Rattle.end_bytes.specs.Talking.{AgreesAt, IsReached, QuietEndsAgree, Talks, WaitsBelow}
 
 not-empty : (xs ys : List ℕ) → 8 ≤ length xs → xs ++ ys ≡ [] → ⊥
 not-empty [] ys l e = absurd (omega (arith, l))

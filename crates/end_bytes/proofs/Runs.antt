@@ -4,10 +4,10 @@ use Rattle.std.specs.Prelude.{Option, None, Some}
 use Rattle.sm_world.specs.declared.events.Event.{Event}
 use Rattle.sm_world.specs.declared.events.Event.TheVariants.{End, Gone, Joined, Operator, Piece, Tick}
 use Rattle.ice_framing.specs.Parts.{Part, new_parts}
-use Rattle.session_model.specs.Moves.{History, waits_for}
+use Rattle.session_model.specs.Moves.{History}
 use Rattle.session_model.specs.Phases.{is_bound}
 use Rattle.session_model.specs.Readings as of
-use Rattle.session_model.specs.Rules.{opened, run, taken}
+use Rattle.session_model.specs.Rules.{run, taken}
 use Rattle.session_model.specs.declared.events.SessionEvent.{SessionEvent}
 use Rattle.session_model.specs.declared.events.SessionEvent.TheVariants.{Joined as HasJoined, Left, Operator as Ordered, Ready, Said, Tick as Ticked}
 use Rattle.session_engine.specs.Answers.{outcome, sequence_after}

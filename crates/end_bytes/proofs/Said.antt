@@ -7,13 +7,11 @@ use Rattle.std.proofs.lemmas.Grind.{flat_map-append}
 use Rattle.xsmp_messages.specs.declared.message.XsmpMessage.{XsmpMessage}
 use Rattle.xsmp_messages.specs.declared.message.XsmpMessage.TheVariants.{Error}
 use Rattle.session_model.specs.declared.events.Act.{Act as SessionAct}
-use Rattle.session_model.specs.declared.events.SessionEvent.{SessionEvent}
 use Rattle.session_model.specs.Moves.{Blamed, Gave, History, Move, Outside, acts_of as acts_by, all_acts, ◌▷◌}
 use Rattle.session_model.specs.Rules.{taken}
 use Rattle.session_model.proofs.Inner.{IsInner, kept-taken}
 use Rattle.session_engine.specs.Acts.{acts_for, acts_for_all}
-use Rattle.session_engine.specs.Machine.{Machine, acts_of, acts_since, told}
-use Rattle.session_engine.specs.declared.acts.Act.{Act}
+use Rattle.session_engine.specs.Machine.{acts_since, told}
 use Rattle.session_engine.proofs.Following.{since-is}
 use Rattle.session_engine.proofs.Showing.{acts_noted}
 use Rattle.protocol_messages.specs.declared.message.Message.{Message}

@@ -1,13 +1,10 @@
 -- The manager of a pair has the session of a run, whatever the steps.
-use Rattle.std.proofs.Common.{◌≡◌, refl, sym, ap, ◌∙◌, ℕ, List, [], ◌∷◌, take, drop}
-use Rattle.sm_world.specs.declared.events.Event.{Event}
+use Rattle.std.proofs.Common.{ℕ, List, [], ◌∷◌, take}
 use Rattle.sm_world.specs.declared.events.Event.TheVariants.{Gone, Joined, Piece}
-use Rattle.checkpoint_records.specs.declared.records.Book.{Book}
-use Rattle.session_model.specs.Moves.{History, waits_for}
-use Rattle.session_model.specs.Rules.{opened, run}
-use Rattle.session_engine.specs.Machine.{Machine, after_all, start, step as event_step}
-use Rattle.session_engine.specs.declared.config.Config.{Config}
-use Rattle.end_bytes.specs.BytePairs.{BytePair, ByteStep, IsOfRun, PairsKeepToRuns, after, connected, step}
+use Rattle.session_model.specs.Moves.{waits_for}
+use Rattle.session_model.specs.Rules.{opened}
+use Rattle.session_engine.specs.Machine.{Machine, after_all, start}
+use Rattle.end_bytes.specs.BytePairs.{BytePair, ByteStep, PairsKeepToRuns, after, connected, step}
 use Rattle.end_bytes.specs.BytePairs.ByteStep.{Breaks, Comes, Happens, Takes, Wishes}
 use Rattle.end_bytes.specs.Elsewhere.{RunsTo}
 use Rattle.end_bytes.proofs.Runs.{ran-both, ran-none, ran-step, sessions-run}

@@ -6,9 +6,9 @@ use Rattle.std.proofs.lemmas.Grind.{flat_map-append}
 use Rattle.std.proofs.lemmas.List.{drop-append-le, drop-drop, drop-map, length-map, map-append}
 use Rattle.std.proofs.Math.Seq.{drop-append_seam}
 use Rattle.sm_world.specs.declared.events.Event.{Event}
-use Rattle.sm_world.specs.declared.events.Event.TheVariants.{Gone, Piece}
+use Rattle.sm_world.specs.declared.events.Event.TheVariants.{Piece}
 use Rattle.ice_values.specs.declared.numbers.Endian.{Endian}
-use Rattle.ice_framing.specs.Frames.{Standing, cut, fed, standing_of, unit_limit, units}
+use Rattle.ice_framing.specs.Frames.{Standing, fed, standing_of, unit_limit, units}
 use Rattle.ice_framing.specs.Parts.{parts_at}
 use Rattle.ice_setup.specs.Opener.{client_opcode}
 use Rattle.ice_setup.specs.Setup.{manager_opcode}
@@ -29,7 +29,7 @@ use Rattle.session_model.specs.Readings as of
 use Rattle.session_model.specs.Rules.{opened, run, taken}
 use Rattle.session_model.specs.declared.events.SessionEvent.TheVariants.{Left}
 use Rattle.session_engine.specs.Answers.{without_xsmp}
-use Rattle.session_engine.specs.Machine.{Connection, Machine, Step as Done, acts_since, connection_of, connections_through, gone_for, parted, step as event_step, told, without}
+use Rattle.session_engine.specs.Machine.{Connection, Machine, Step as Done, acts_since, connection_of, gone_for, parted, step as event_step, told, without}
 use Rattle.session_engine.specs.Shown.{Agrees as HaveSame, is_speaking}
 use Rattle.session_engine.proofs.Following.{agrees-left, agrees-told}
 use Rattle.message_streams.specs.Streams.{HasBytes, HoldsBytes, IsOrdered, bytes_of}
@@ -47,13 +47,13 @@ use Rattle.stream_clients.specs.Clients.Wish.{Asks, Closes}
 use Rattle.stream_clients.specs.Following.{Follows, FollowsParts, FollowsPiece, StandsAs}
 use Rattle.stream_clients.proofs.Pieces.{pieces-steps}
 use Rattle.stream_clients.proofs.Stepping.{after-both, may-both, parts-deaf, wish-step}
-use Rattle.end_bytes.specs.BytePairs.{AllMay as AllMayByBytes, BytePair, ByteStep, May, after as after_bytes, client_did, manager_did, step}
+use Rattle.end_bytes.specs.BytePairs.{BytePair, after as after_bytes, client_did, manager_did, step}
 use Rattle.end_bytes.specs.BytePairs.ByteStep.{Breaks, Comes, Happens, Takes, Wishes}
 use Rattle.end_bytes.specs.Elsewhere.{HappensBeside, StaysAs, is_from}
 use Rattle.end_bytes.specs.Following.{HasSpoken, HearsParts, HearsPiece, IsHeard, StandsAt}
 use Rattle.end_bytes.specs.Hearing.{IsNoError}
 use Rattle.end_bytes.specs.Saying.{said_by}
-use Rattle.end_bytes.specs.Talking.{AllSpeak, AreSayable, IsReached, IsSayable, SpeaksOn, Talks, TalksOn, TalkingGoesOn, TalkingStays, WaitsBelow}
+use Rattle.end_bytes.specs.Talking.{AreSayable, IsReached, IsSayable, SpeaksOn, Talks, TalksOn, TalkingGoesOn, TalkingStays, WaitsBelow}
 use Rattle.end_bytes.proofs.Beside.{others-beside}
 use Rattle.end_bytes.proofs.Errors.{after-no-error}
 use Rattle.end_bytes.proofs.Opens.{left-out, none-through}

@@ -1,5 +1,5 @@
 -- The set-up of a connection, at the manager's machine and at the client: each does about a frame of it what its table says of the message.
-use Rattle.std.specs.Prelude.{Bool, List, None, Option, Some, [], false, map, true, ℕ, ◌++◌, ◌≡◌}
+use Rattle.std.specs.Prelude.{Bool, List, None, Option, Some, false, map, true, ℕ, ◌++◌, ◌≡◌}
 use Rattle.ice_values.specs.declared.numbers.Endian.TheVariants.{Lsb}
 use Rattle.ice_messages.specs.Messages.{IsMessage}
 use Rattle.ice_messages.specs.declared.message.IceMessage.{IceMessage}

@@ -1,5 +1,5 @@
 -- What the manager does about a frame of a client, told by the message that the frame spells.
-use Rattle.std.specs.Prelude.{List, Some, true, ℕ, ◌≡◌, ◌≢◌}
+use Rattle.std.specs.Prelude.{Some, true, ℕ, ◌≡◌, ◌≢◌}
 use Rattle.std.specs.List.{AllByRecursion}
 use Rattle.ice_values.specs.declared.class.ErrorClass.TheVariants.{BadMajor}
 use Rattle.ice_values.specs.declared.numbers.Endian.TheVariants.{Lsb}
@@ -19,7 +19,7 @@ use Rattle.protocol_messages.specs.Messages.{spelled_under}
 use Rattle.protocol_messages.specs.declared.message.Message.{Message}
 use Rattle.protocol_messages.specs.declared.message.Message.TheVariants.{Ice, Xsmp}
 use Rattle.session_engine.specs.Answers.{is_ordered, message_outcome, named_in, outcome, staying}
-use Rattle.session_engine.specs.Outcomes.{Outcome, Speaks}
+use Rattle.session_engine.specs.Outcomes.{Speaks}
 use Rattle.message_streams.specs.Streams.{part_of}
 use Rattle.end_schedules.specs.Pairs.{InEveryPair}
 

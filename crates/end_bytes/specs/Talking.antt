@@ -1,5 +1,5 @@
 -- Once XSMP is spoken on a connection, a manager and a client that exchange bytes stay with a schedule of `end_schedules`, as long as it is.
-use Rattle.std.specs.Prelude.{List, Option, Some, [], is_some, length, map, true, ℕ, ◌∷◌, ◌≡◌, ◌≤◌}
+use Rattle.std.specs.Prelude.{List, Some, [], is_some, length, map, true, ℕ, ◌∷◌, ◌≡◌, ◌≤◌}
 use Rattle.std.specs.List.{AllByRecursion}
 use Rattle.ice_framing.specs.Frames.{standing_of, unit_limit, units}
 use Rattle.ice_messages.specs.Messages.{IsMessage as IsIceMessage}
