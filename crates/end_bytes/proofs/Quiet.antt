@@ -24,14 +24,14 @@ use Rattle.session_engine.proofs.Following.{numbers-in}
 use Rattle.message_streams.specs.Streams.{HasBytes, HoldsBytes, bytes_of}
 use Rattle.end_agreement.specs.Laws.{taken_all}
 use Rattle.end_agreement.specs.Sides.{Agrees}
-use Rattle.end_schedules.specs.Laws.{AgreesOnceTaken, heard_all}
+use Rattle.end_schedules.specs.Laws.{AgreesOnceTaken, HearsNoBadState, heard_all}
 use Rattle.end_schedules.specs.Pairs.{Pair, down_of}
 use Rattle.end_schedules.specs.Schedules.{End, paired}
 use Rattle.end_schedules.specs.UnderWay.{sent_to, side_of}
-use Rattle.end_schedules.proofs.Folds.{both-agree}
+use Rattle.end_schedules.proofs.Folds.{both-agree, no-bad-state}
 use Rattle.stream_clients.specs.Following.{StandsAs}
 use Rattle.end_bytes.specs.BytePairs.{BytePair}
-use Rattle.end_bytes.specs.Talking.{AgreesAt, IsReached, QuietEndsAgree, Talks, WaitsBelow}
+use Rattle.end_bytes.specs.Talking.{AgreesAt, IsReached, QuietEndsAgree, TalkingIsClean, Talks, WaitsBelow}
 
 not-empty : (xs ys : List ℕ) → 8 ≤ length xs → xs ++ ys ≡ [] → ⊥
 not-empty [] ys l e = absurd (omega (arith, l))
@@ -87,3 +87,8 @@ quiet-ends c joined b e t quiet =
     let none : e.up ≡ [] = none-waits client_opcode (standing_of t.connection.stream) b.up e.up t.up quiet.at_manager quiet.up in
     let a : Agrees (side_of c b.machine.session) (taken_all (down_of c p) e.state) = agree-there c p t.reached (is-live c joined b e t) none in
     by-place c joined b e b.client.keeper.talk.place refl t.stands a (λ l. let w : WaitsBelow c b e = t.down l in none-waits manager_opcode b.client.standing b.down (down_of c p) w.holds quiet.at_client quiet.down)
+
+pub talking-clean : TalkingIsClean
+talking-clean c joined b e t =
+    let r : IsReached c (paired b.machine.session e) = t.reached in
+    subst (λ (x : Pair). HearsNoBadState c x) (sym r.is) (no-bad-state r.began r.events c r.previous r.asked r.steps r.takes r.may)

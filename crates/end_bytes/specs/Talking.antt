@@ -27,6 +27,7 @@ use Rattle.session_engine.specs.Machine.{Connection, connection_of}
 use Rattle.session_engine.specs.Shown.{Agrees as HaveSame}
 use Rattle.message_streams.specs.Streams.{HasBytes, HoldsBytes}
 use Rattle.end_agreement.specs.Sides.{Agrees, Side, mirror}
+use Rattle.end_schedules.specs.Laws.{HearsNoBadState}
 use Rattle.end_schedules.specs.Pairs.{AllMay, Pair, Step, after, begun, down_of}
 use Rattle.end_schedules.specs.Schedules.{End, end_of, paired}
 use Rattle.end_schedules.specs.UnderWay.{sent_to, side_of}
@@ -144,3 +145,7 @@ pub record HasBegun (c : ℕ) (previous : List ℕ) (h : History) (b : BytePair)
 -- so both talk from there on
 abbrev pub TalkingBegins : Type 0
 TalkingBegins = (c : ℕ) (previous : List ℕ) (h : History) (b : BytePair) → HasBegun c previous h b → Talks c (record { opcode = manager_opcode }) b (end_of (begun c previous first_ask h))
+
+-- where both talk, the session has never answered the client by BadState
+abbrev pub TalkingIsClean : Type 0
+TalkingIsClean = (c : ℕ) (joined : Joined) (b : BytePair) (e : End) → Talks c joined b e → HearsNoBadState c (paired b.machine.session e)

@@ -5,7 +5,7 @@ ghost use Rattle.end_bytes.specs.Examples.{AClientRegisters, AClientSaves, AConn
 ghost use Rattle.end_bytes.specs.Following.{PartsAreHeard, PiecesAreHeard};
 ghost use Rattle.end_bytes.specs.Hearing.{ClientsSayNoError, ManagersHearMessages};
 ghost use Rattle.end_bytes.specs.Saying.{AllThatIsSentIsSaid};
-ghost use Rattle.end_bytes.specs.Talking.{QuietEndsAgree, TalkingBegins, TalkingGoesOn, TalkingStays};
+ghost use Rattle.end_bytes.specs.Talking.{QuietEndsAgree, TalkingBegins, TalkingGoesOn, TalkingIsClean, TalkingStays};
 
 /// Does nothing: its contract is a law of managers. One takes the message that the frame of a client
 /// spells: a message of ICE by the set-up's table, and one of XSMP is told to the session, as long as
@@ -102,4 +102,10 @@ pub fn talking_stays()
 /// nothing is under way, both agree.
 pub fn quiet_ends_agree()
     ensures { QuietEndsAgree }
+{}
+
+/// Does nothing: its contract is a law of a manager and a client that exchange bytes and talk XSMP. The
+/// session has never answered the client by BadState.
+pub fn talking_is_clean()
+    ensures { TalkingIsClean }
 {}
