@@ -10,3 +10,4 @@ pub mod Opens
 pub mod Talking
 pub mod Quiet
 pub mod Begins
+pub mod Enters

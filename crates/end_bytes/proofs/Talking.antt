@@ -61,15 +61,15 @@ use Rattle.end_bytes.proofs.Parts.{pieces-heard, spoken-unset}
 
 -- Lists of messages
 
-all-right : {A : Type 0} (P : A → Type 0) (xs ys : List A) → AllByRecursion P (xs ++ ys) → AllByRecursion P ys
+pub all-right : {A : Type 0} (P : A → Type 0) (xs ys : List A) → AllByRecursion P (xs ++ ys) → AllByRecursion P ys
 all-right P [] ys a = a
 all-right P (x ∷ xs) ys a = all-right P xs ys a.1
 
-all-both : {A : Type 0} (P : A → Type 0) (xs ys : List A) → AllByRecursion P xs → AllByRecursion P ys → AllByRecursion P (xs ++ ys)
+pub all-both : {A : Type 0} (P : A → Type 0) (xs ys : List A) → AllByRecursion P xs → AllByRecursion P ys → AllByRecursion P (xs ++ ys)
 all-both P [] ys a b = b
 all-both P (x ∷ xs) ys a b = (a.0, all-both P xs ys a.1 b)
 
-have-bytes : (opcode : ℕ) (ms : List Message) → AllByRecursion (IsSayable opcode) ms → AllByRecursion (HasBytes opcode) ms
+pub have-bytes : (opcode : ℕ) (ms : List Message) → AllByRecursion (IsSayable opcode) ms → AllByRecursion (HasBytes opcode) ms
 have-bytes opcode [] a = tt
 have-bytes opcode (m ∷ ms) a = (a.0.bytes, have-bytes opcode ms a.1)
 
@@ -86,14 +86,14 @@ ordered-more (Some e) ms more o = o
 ordered-more None [] more o = absurd o
 ordered-more None (m ∷ ms) more o = o
 
-holds-more : (opcode : ℕ) (at : Standing) (later : List ℕ) (ms more : List Message) → HoldsBytes opcode at later ms → AllByRecursion (HasBytes opcode) more → HoldsBytes opcode at (later ++ bytes_of opcode more) (ms ++ more)
+pub holds-more : (opcode : ℕ) (at : Standing) (later : List ℕ) (ms more : List Message) → HoldsBytes opcode at later ms → AllByRecursion (HasBytes opcode) more → HoldsBytes opcode at (later ++ bytes_of opcode more) (ms ++ more)
 holds-more opcode at later ms more h a = record {
   order = ordered-more at.order ms more h.order;
   bytes = sym (append_assoc at.held later (bytes_of opcode more)) ∙ ap (λ (xs : List ℕ). xs ++ bytes_of opcode more) h.bytes ∙ sym (flat_map-append (spelled_under opcode) ms more);
   each = all-both (HasBytes opcode) ms more h.each a;
 }
 
-down-grown : (n : ℕ) (sent now : List XsmpMessage) (said : List Message) → map Xsmp now ≡ map Xsmp sent ++ said → n ≤ length sent → map Xsmp (drop n now) ≡ map Xsmp (drop n sent) ++ said
+pub down-grown : (n : ℕ) (sent now : List XsmpMessage) (said : List Message) → map Xsmp now ≡ map Xsmp sent ++ said → n ≤ length sent → map Xsmp (drop n now) ≡ map Xsmp (drop n sent) ++ said
 down-grown n sent now said e few =
     sym (drop-map Xsmp n now) ∙ ap (λ (ms : List Message). drop n ms) e ∙ drop-append-le n (map Xsmp sent) said (subst (λ (k : ℕ). n ≤ k) (sym (length-map sent Xsmp)) few) ∙ ap (λ (ms : List Message). ms ++ said) (drop-map Xsmp n sent)
 
@@ -104,7 +104,7 @@ sent-longer n sent now said e few =
 
 -- A schedule goes on
 
-reached-on : (c : ℕ) (p q : Pair) (xs : List Step) → IsReached c p → AllMay c xs p → after c xs p ≡ q → IsReached c q
+pub reached-on : (c : ℕ) (p q : Pair) (xs : List Step) → IsReached c p → AllMay c xs p → after c xs p ≡ q → IsReached c q
 reached-on c p q xs r may is =
     let start : Pair = begun c r.previous r.asked (run (opened r.began) r.events) in
     record {
@@ -118,7 +118,7 @@ reached-on c p q xs r may is =
       is = sym is ∙ ap (λ (x : Pair). after c xs x) r.is ∙ sym (after-both c r.steps xs start);
     }
 
-expected-there : (c : ℕ) (p : Pair) → IsReached c p → (xs : List Step) → AllMay c xs p → ExpectsWhatWaits c (after c xs p)
+pub expected-there : (c : ℕ) (p : Pair) → IsReached c p → (xs : List Step) → AllMay c xs p → ExpectsWhatWaits c (after c xs p)
 expected-there c p r xs may =
     let q : IsReached c (after c xs p) = reached-on c p (after c xs p) xs r may refl in
     subst (λ (x : Pair). ExpectsWhatWaits c x) (sym q.is) (no-unexpected q.began q.events c q.previous q.asked q.steps q.takes q.may)
@@ -126,7 +126,7 @@ expected-there c p r xs may =
 -- ---- the manager does something
 
 -- what waits for the client is longer by what was said
-waits-more : (c : ℕ) (b : BytePair) (e : End) (done : Done) (up : List ℕ) (now : End) → now.took ≡ e.took → map Xsmp (sent_to c done.next.session) ≡ map Xsmp (sent_to c b.machine.session) ++ said_by c done
+pub waits-more : (c : ℕ) (b : BytePair) (e : End) (done : Done) (up : List ℕ) (now : End) → now.took ≡ e.took → map Xsmp (sent_to c done.next.session) ≡ map Xsmp (sent_to c b.machine.session) ++ said_by c done
     → AllByRecursion (IsSayable manager_opcode) (said_by c done) → WaitsBelow c b e → WaitsBelow c (manager_did c done (record b { up = up })) now
 waits-more c b e done up now took sent sayable w =
     let h : History = b.machine.session in
@@ -141,11 +141,11 @@ waits-more c b e done up now took sent sayable w =
     }
 
 -- the connection is there still
-record StandsStill (stream : List ℕ) (o : Option Connection) : Type 0 where
-  k : Connection
-  is : o ≡ Some k
-  stream_is : k.stream ≡ stream
-  spoken : HasSpoken k.setup
+pub record StandsStill (stream : List ℕ) (o : Option Connection) : Type 0 where
+  pub k : Connection
+  pub is : o ≡ Some k
+  pub stream_is : k.stream ≡ stream
+  pub spoken : HasSpoken k.setup
 
 there-still : (stream : List ℕ) (o : Option Connection) → is_speaking o ≡ true → StandsAt stream o → StandsStill stream o
 there-still stream None speaks s = absurd (differ speaks refl)
@@ -189,7 +189,7 @@ setup-still : (was now : AnySetup) → HasSpoken was → (now ≡ was) ⊎ (now 
 setup-still was now h (inl e) = subst (λ (x : AnySetup). HasSpoken x) (sym e) h
 setup-still was now h (inr e) = subst (λ (x : AnySetup). HasSpoken x) (sym e) (spoken-unset was h)
 
-beside-still : (k : Connection) (o : Option Connection) → is_speaking o ≡ true → StaysAs (Some k) o → HasSpoken k.setup → StandsStill k.stream o
+pub beside-still : (k : Connection) (o : Option Connection) → is_speaking o ≡ true → StaysAs (Some k) o → HasSpoken k.setup → StandsStill k.stream o
 beside-still k None speaks s h = absurd (differ speaks refl)
 beside-still k (Some now) speaks s h = record { k = now; is = refl; stream_is = s.0; spoken = setup-still k.setup now.setup h s.2 }
 
@@ -222,7 +222,7 @@ happens c joined b e event t apart speaks sayable =
     }
 
 -- a connection that broke isn't spoken on
-broken : (c : ℕ) (m : Machine) (o : Option Connection) → connection_of c m.connections ≡ o → HaveSame m.connections m.session → is_some (of.phase_of c (gone_for m c o).next.session) ≡ true → ⊥
+pub broken : (c : ℕ) (m : Machine) (o : Option Connection) → connection_of c m.connections ≡ o → HaveSame m.connections m.session → is_some (of.phase_of c (gone_for m c o).next.session) ≡ true → ⊥
 broken c m None is same speaks = differ speaks (same.phases c ∙ ap is_speaking is)
 broken c m (Some k) is same speaks =
     let next : HaveSame (told (parted m c) (Left c)).next.connections (taken (Left c) m.session) = agrees-told (Left c) (without c m.connections) m.session (agrees-left c m.connections m.session same) in
@@ -231,20 +231,20 @@ broken c m (Some k) is same speaks =
 -- ---- the client does something
 
 -- so it was before, and its steps lead to another end
-record Moves (c : ℕ) (joined : Joined) (h : History) (e : End) (count : ℕ) (line : List Message) (place : Place) : Type 0 where
-  next : End
-  steps : List Step
-  may : AllMay c steps (paired h e)
-  is : after c steps (paired h e) ≡ paired h next
-  up : map Xsmp next.up ≡ map Xsmp e.up ++ line
-  no_error : AllByRecursion IsNoError next.up
-  took : next.took ≡ e.took + count
-  stands : StandsAs joined place next.state
+pub record Moves (c : ℕ) (joined : Joined) (h : History) (e : End) (count : ℕ) (line : List Message) (place : Place) : Type 0 where
+  pub next : End
+  pub steps : List Step
+  pub may : AllMay c steps (paired h e)
+  pub is : after c steps (paired h e) ≡ paired h next
+  pub up : map Xsmp next.up ≡ map Xsmp e.up ++ line
+  pub no_error : AllByRecursion IsNoError next.up
+  pub took : next.took ≡ e.took + count
+  pub stands : StandsAs joined place next.state
 
 paired-end : (h : History) (q : Pair) → q.history ≡ h → q ≡ paired h (end_of q)
 paired-end h q e = ap (λ (x : History). paired x (end_of q)) e
 
-moved-by : (c : ℕ) (joined : Joined) (h : History) (e : End) (count : ℕ) (did : Did Client Message) → AllByRecursion IsNoError e.up → Follows c joined (paired h e) count did → Moves c joined h e count did.line did.next.talk.place
+pub moved-by : (c : ℕ) (joined : Joined) (h : History) (e : End) (count : ℕ) (did : Did Client Message) → AllByRecursion IsNoError e.up → Follows c joined (paired h e) count did → Moves c joined h e count did.line did.next.talk.place
 moved-by c joined h e count did n f = record {
   next = end_of (after c f.steps (paired h e));
   steps = f.steps;
@@ -282,11 +282,11 @@ client-on c joined b e count down did t mv sayable waits =
     }
 
 -- what it takes is gone from what waits
-taken-waits : (c : ℕ) (h : History) (took count : ℕ) (front rest : List XsmpMessage) → drop took (sent_to c h) ≡ front ++ rest → count ≡ length front → drop (took + count) (sent_to c h) ≡ rest
+pub taken-waits : (c : ℕ) (h : History) (took count : ℕ) (front rest : List XsmpMessage) → drop took (sent_to c h) ≡ front ++ rest → count ≡ length front → drop (took + count) (sent_to c h) ≡ rest
 taken-waits c h took count front rest all same =
     sym (drop-drop count took (sent_to c h)) ∙ ap (λ (xs : List XsmpMessage). drop count xs) all ∙ ap (λ (k : ℕ). drop k (front ++ rest)) same ∙ drop-append_seam front rest
 
-taken-few : (c : ℕ) (h : History) (took count : ℕ) (front rest : List XsmpMessage) → drop took (sent_to c h) ≡ front ++ rest → count ≡ length front → took ≤ length (sent_to c h) → took + count ≤ length (sent_to c h)
+pub taken-few : (c : ℕ) (h : History) (took count : ℕ) (front rest : List XsmpMessage) → drop took (sent_to c h) ≡ front ++ rest → count ≡ length front → took ≤ length (sent_to c h) → took + count ≤ length (sent_to c h)
 taken-few c h took count front rest all same few =
     let long : length (drop took (sent_to c h)) ≡ length (front ++ rest) = ap (λ (xs : List XsmpMessage). length xs) all in
     omega (arith, few, long, same, length-append front rest, length-drop took (sent_to c h))

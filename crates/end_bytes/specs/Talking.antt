@@ -1,10 +1,12 @@
 -- Once XSMP is spoken on a connection, a manager and a client that exchange bytes stay with a schedule of `end_schedules`, as long as it is.
-use Rattle.std.specs.Prelude.{List, Some, [], is_some, length, map, true, ℕ, ◌∷◌, ◌≡◌, ◌≤◌}
+use Rattle.std.specs.Prelude.{List, Some, [], false, is_some, length, map, true, ℕ, ◌∷◌, ◌≡◌, ◌≤◌, ◌⊎◌}
 use Rattle.std.specs.List.{AllByRecursion}
 use Rattle.ice_framing.specs.Frames.{standing_of, unit_limit, units}
 use Rattle.ice_messages.specs.Messages.{IsMessage as IsIceMessage}
 use Rattle.ice_setup.specs.Opener.{client_opcode}
-use Rattle.ice_setup.specs.Setup.{manager_opcode}
+use Rattle.ice_setup.specs.Setup.{manager_opcode, protocol_reply}
+use Rattle.ice_setup.specs.declared.opener.AnyOpener.TheVariants.{OpenProtocol as AtProtocol}
+use Rattle.ice_setup.specs.declared.opener.OpenProtocol.{OpenProtocol}
 use Rattle.ice_setup.specs.declared.opener.Joined.{Joined}
 use Rattle.xsmp_messages.specs.Messages.{IsMessage}
 use Rattle.xsmp_messages.specs.declared.message.XsmpMessage.TheVariants.{RegisterClient}
@@ -149,3 +151,30 @@ TalkingBegins = (c : ℕ) (previous : List ℕ) (h : History) (b : BytePair) →
 -- where both talk, the session has never answered the client by BadState
 abbrev pub TalkingIsClean : Type 0
 TalkingIsClean = (c : ℕ) (joined : Joined) (b : BytePair) (e : End) → Talks c joined b e → HearsNoBadState c (paired b.machine.session e)
+
+-- XSMP has begun on the connection, and the client hasn't heard that yet: ProtocolReply is held or under way to it, and behind it what the
+-- session has sent since. In messages it has registered already, and taken nothing.
+
+abbrev pub entered : List ℕ → End
+entered previous = record { state = registering previous; up = RegisterClient previous ∷ []; took = 0; saves = 0; answers = 0 }
+
+pub record Enters (c : ℕ) (previous : List ℕ) (b : BytePair) : Type 0 where
+  pub same : HaveSame b.machine.connections b.machine.session
+  pub connection : Connection
+  pub there : connection_of c b.machine.connections ≡ Some connection
+  pub spoken : HasSpoken connection.setup
+  pub within : units (standing_of connection.stream) ≤ unit_limit
+  pub up : HoldsBytes client_opcode (standing_of connection.stream) b.up []
+  pub opener : OpenProtocol
+  pub place : b.client.keeper.talk.place ≡ Opening (AtProtocol opener) previous
+  pub alive : b.client.keeper.dying ≡ false
+  pub down : HoldsBytes manager_opcode b.client.standing b.down (Ice (protocol_reply 0) ∷ map Xsmp (sent_to c b.machine.session))
+  pub sayable : AllByRecursion (IsSayable manager_opcode) (map Xsmp (sent_to c b.machine.session))
+  pub reached : IsReached c (paired b.machine.session (entered previous))
+
+-- it stays so until the client has joined, and then both talk
+abbrev pub EntersOrTalks : ℕ → List ℕ → BytePair → Type 0
+EntersOrTalks c previous b = Enters c previous b ⊎ ((e : End) × Talks c (record { opcode = manager_opcode }) b e)
+
+abbrev pub EnteringGoesOn : Type 0
+EnteringGoesOn = (c : ℕ) (previous : List ℕ) (b : BytePair) (s : ByteStep) → Enters c previous b → May c s b → SpeaksOn c (step c s b) → AreSayable (step c s b) → EntersOrTalks c previous (step c s b)

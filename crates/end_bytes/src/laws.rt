@@ -5,7 +5,7 @@ ghost use Rattle.end_bytes.specs.Examples.{AClientRegisters, AClientSaves, AConn
 ghost use Rattle.end_bytes.specs.Following.{PartsAreHeard, PiecesAreHeard};
 ghost use Rattle.end_bytes.specs.Hearing.{ClientsSayNoError, ManagersHearMessages};
 ghost use Rattle.end_bytes.specs.Saying.{AllThatIsSentIsSaid};
-ghost use Rattle.end_bytes.specs.Talking.{QuietEndsAgree, TalkingBegins, TalkingGoesOn, TalkingIsClean, TalkingStays};
+ghost use Rattle.end_bytes.specs.Talking.{EnteringGoesOn, QuietEndsAgree, TalkingBegins, TalkingGoesOn, TalkingIsClean, TalkingStays};
 
 /// Does nothing: its contract is a law of managers. One takes the message that the frame of a client
 /// spells: a message of ICE by the set-up's table, and one of XSMP is told to the session, as long as
@@ -77,6 +77,12 @@ pub fn worked_pairs()
     ensures greeted { AConnectionIsGreeted }
     ensures registers { AClientRegisters }
     ensures saves { AClientSaves }
+{}
+
+/// Does nothing: its contract is a law of a manager and a client that exchange bytes. Where XSMP has begun
+/// and the client hasn't heard that yet, each step leaves it so, or the client has joined and both talk.
+pub fn entering_goes_on()
+    ensures { EnteringGoesOn }
 {}
 
 /// Does nothing: its contract is a law of a manager and a client that exchange bytes. Both talk once XSMP

@@ -53,7 +53,7 @@ may-both c (x ∷ xs) ys p a b = (a.0, may-both c xs ys (step c x p) a.1 b)
 follows-none : (c : ℕ) (joined : Joined) (p : Pair) (client : Client) → StandsAs joined client.talk.place p.state → Follows c joined p 0 (stays client)
 follows-none c joined p client s = record { steps = []; may = tt; history = refl; took = omega arith; up = sym (append-nil (map Xsmp p.up)); stands = s }
 
-follows-both : (c : ℕ) (joined : Joined) (p : Pair) (n m : ℕ) (first : Did Client Message) (done : Did Client Message) (f : Follows c joined p n first) → Follows c joined (after c f.steps p) m done → Follows c joined p (n + m) (behind first.line done)
+pub follows-both : (c : ℕ) (joined : Joined) (p : Pair) (n m : ℕ) (first : Did Client Message) (done : Did Client Message) (f : Follows c joined p n first) → Follows c joined (after c f.steps p) m done → Follows c joined p (n + m) (behind first.line done)
 follows-both c joined p n m first done f g =
     let e : after c (f.steps ++ g.steps) p ≡ after c g.steps (after c f.steps p) = after-both c f.steps g.steps p in
     record {
