@@ -11,3 +11,4 @@ pub mod Talking
 pub mod Quiet
 pub mod Begins
 pub mod Enters
+pub mod Keeping

@@ -33,7 +33,7 @@ use Rattle.stream_clients.specs.Following.{StandsAs}
 use Rattle.end_bytes.specs.BytePairs.{BytePair}
 use Rattle.end_bytes.specs.Talking.{AgreesAt, IsReached, QuietEndsAgree, TalkingIsClean, Talks, WaitsBelow}
 
-not-empty : (xs ys : List ℕ) → 8 ≤ length xs → xs ++ ys ≡ [] → ⊥
+pub not-empty : (xs ys : List ℕ) → 8 ≤ length xs → xs ++ ys ≡ [] → ⊥
 not-empty [] ys l e = absurd (omega (arith, l))
 not-empty (x ∷ xs) ys l e = absurd cc
 
@@ -88,7 +88,8 @@ quiet-ends c joined b e t quiet =
     let a : Agrees (side_of c b.machine.session) (taken_all (down_of c p) e.state) = agree-there c p t.reached (is-live c joined b e t) none in
     by-place c joined b e b.client.keeper.talk.place refl t.stands a (λ l. let w : WaitsBelow c b e = t.down l in none-waits manager_opcode b.client.standing b.down (down_of c p) w.holds quiet.at_client quiet.down)
 
+pub clean-there : (c : ℕ) (p : Pair) → IsReached c p → HearsNoBadState c p
+clean-there c p r = subst (λ (x : Pair). HearsNoBadState c x) (sym r.is) (no-bad-state r.began r.events c r.previous r.asked r.steps r.takes r.may)
+
 pub talking-clean : TalkingIsClean
-talking-clean c joined b e t =
-    let r : IsReached c (paired b.machine.session e) = t.reached in
-    subst (λ (x : Pair). HearsNoBadState c x) (sym r.is) (no-bad-state r.began r.events c r.previous r.asked r.steps r.takes r.may)
+talking-clean c joined b e t = clean-there c (paired b.machine.session e) t.reached

@@ -1,6 +1,6 @@
 -- Once XSMP is spoken on a connection, a manager and a client that exchange bytes stay with a schedule of `end_schedules`, as long as it is.
 use Rattle.std.specs.Prelude.{List, Some, [], false, is_some, length, map, true, ℕ, ◌∷◌, ◌≡◌, ◌≤◌, ◌⊎◌}
-use Rattle.std.specs.List.{AllByRecursion}
+use Rattle.std.specs.List.{AllByRecursion, list_any}
 use Rattle.ice_framing.specs.Frames.{standing_of, unit_limit, units}
 use Rattle.ice_messages.specs.Messages.{IsMessage as IsIceMessage}
 use Rattle.ice_setup.specs.Opener.{client_opcode}
@@ -29,7 +29,7 @@ use Rattle.session_engine.specs.Machine.{Connection, connection_of}
 use Rattle.session_engine.specs.Shown.{Agrees as HaveSame}
 use Rattle.message_streams.specs.Streams.{HasBytes, HoldsBytes}
 use Rattle.end_agreement.specs.Sides.{Agrees, Side, mirror}
-use Rattle.end_schedules.specs.Laws.{HearsNoBadState}
+use Rattle.end_schedules.specs.Laws.{HearsNoBadState, is_bad_state}
 use Rattle.end_schedules.specs.Pairs.{AllMay, Pair, Step, after, begun, down_of}
 use Rattle.end_schedules.specs.Schedules.{End, end_of, paired}
 use Rattle.end_schedules.specs.UnderWay.{sent_to, side_of}
@@ -178,3 +178,12 @@ EntersOrTalks c previous b = Enters c previous b ⊎ ((e : End) × Talks c (reco
 
 abbrev pub EnteringGoesOn : Type 0
 EnteringGoesOn = (c : ℕ) (previous : List ℕ) (b : BytePair) (s : ByteStep) → Enters c previous b → May c s b → SpeaksOn c (step c s b) → AreSayable (step c s b) → EntersOrTalks c previous (step c s b)
+
+-- What both keep from there on, as long as XSMP is spoken: the session has never answered the client by BadState, and wherever nothing is
+-- under way both agree.
+pub record KeepsBytes (c : ℕ) (b : BytePair) : Type 0 where
+  pub clean : list_any is_bad_state (sent_to c b.machine.session) ≡ false
+  pub agree : (k : Connection) → connection_of c b.machine.connections ≡ Some k → IsQuiet b k → AgreesAt (side_of c b.machine.session) b.client.keeper.talk.place
+
+abbrev pub BothEndsKeepTheirBytes : Type 0
+BothEndsKeepTheirBytes = (c : ℕ) (previous : List ℕ) (b : BytePair) (steps : List ByteStep) → Enters c previous b → AllMayByBytes c steps b → AllSpeak c steps b → KeepsBytes c (after_bytes c steps b)

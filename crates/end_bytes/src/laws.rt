@@ -5,7 +5,7 @@ ghost use Rattle.end_bytes.specs.Examples.{AClientRegisters, AClientSaves, AConn
 ghost use Rattle.end_bytes.specs.Following.{PartsAreHeard, PiecesAreHeard};
 ghost use Rattle.end_bytes.specs.Hearing.{ClientsSayNoError, ManagersHearMessages};
 ghost use Rattle.end_bytes.specs.Saying.{AllThatIsSentIsSaid};
-ghost use Rattle.end_bytes.specs.Talking.{EnteringGoesOn, QuietEndsAgree, TalkingBegins, TalkingGoesOn, TalkingIsClean, TalkingStays};
+ghost use Rattle.end_bytes.specs.Talking.{BothEndsKeepTheirBytes, EnteringGoesOn, QuietEndsAgree, TalkingBegins, TalkingGoesOn, TalkingIsClean, TalkingStays};
 
 /// Does nothing: its contract is a law of managers. One takes the message that the frame of a client
 /// spells: a message of ICE by the set-up's table, and one of XSMP is told to the session, as long as
@@ -114,4 +114,12 @@ pub fn quiet_ends_agree()
 /// session has never answered the client by BadState.
 pub fn talking_is_clean()
     ensures { TalkingIsClean }
+{}
+
+/// Does nothing: its contract is a law of a manager and a client that exchange bytes. From where XSMP
+/// has begun on the connection, whatever the pieces and whatever else comes, and as long as XSMP is
+/// spoken: the session never answers the client by BadState, and both agree wherever nothing is under
+/// way.
+pub fn both_ends_keep_their_bytes()
+    ensures { BothEndsKeepTheirBytes }
 {}
