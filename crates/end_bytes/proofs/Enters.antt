@@ -1,10 +1,10 @@
 -- Until the client has heard that XSMP began, and as it hears that.
-use Rattle.std.proofs.Common.{lit<, ◌≡◌, ◌≢◌, ◌⊎◌, inl, inr, refl, sym, ap, ◌∙◌, subst, ℕ, ◌+◌, ◌≤◌, ◌<◌, Bool, true, false, cond, List, [], ◌∷◌, ◌++◌, map, take, drop, length, append-nil, append_assoc, length-append, arith}
-use Rattle.std.specs.Prelude.{Option, None, Some, is_some, ◌||◌}
+use Rattle.std.proofs.Common.{lit<, ◌≡◌, ◌≢◌, inl, inr, refl, sym, ap, ◌∙◌, subst, ℕ, ◌+◌, ◌≤◌, ◌<◌, Bool, true, false, cond, List, [], ◌∷◌, ◌++◌, map, take, drop, length, append-nil, arith}
+use Rattle.std.specs.Prelude.{Option, ◌||◌}
 use Rattle.std.specs.List.{AllByRecursion}
 use Rattle.sm_world.specs.declared.events.Event.{Event}
 use Rattle.ice_framing.specs.Frames.{Standing, cut, fed, standing_of, unit_limit, units}
-use Rattle.ice_framing.specs.Parts.{Part, parts_at}
+use Rattle.ice_framing.specs.Parts.{Part}
 use Rattle.ice_setup.specs.Opener.{client_opcode}
 use Rattle.ice_setup.specs.Setup.{manager_opcode, protocol_reply}
 use Rattle.ice_setup.specs.declared.opener.AnyOpener.TheVariants.{OpenProtocol as AtProtocol}
@@ -12,8 +12,7 @@ use Rattle.ice_setup.specs.declared.opener.Joined.{Joined}
 use Rattle.ice_setup.specs.declared.opener.OpenProtocol.{OpenProtocol}
 use Rattle.xsmp_messages.specs.declared.message.XsmpMessage.{XsmpMessage}
 use Rattle.xsmp_messages.specs.declared.message.XsmpMessage.TheVariants.{RegisterClient}
-use Rattle.client_engine.specs.Answering.{is_closing, may_ask_at}
-use Rattle.client_engine.specs.Driving.{Run, Step as Did, behind, parts_taken, piece_taken, reacting, reply, standing_at, stays}
+use Rattle.client_engine.specs.Driving.{Step as Did, behind, parts_taken, reacting, reply, standing_at, stays}
 use Rattle.client_engine.specs.Hearing.{arrived, frame_heard, part_heard, registering}
 use Rattle.client_engine.specs.Places.{is_listening}
 use Rattle.client_engine.specs.declared.hearing.Heard.{Heard}
@@ -23,12 +22,11 @@ use Rattle.protocol_messages.specs.Messages.{spelled_under}
 use Rattle.protocol_messages.specs.declared.message.Message.{Message}
 use Rattle.protocol_messages.specs.declared.message.Message.TheVariants.{Ice, Xsmp}
 use Rattle.session_model.specs.Moves.{History}
-use Rattle.session_model.specs.Readings as of
 use Rattle.session_engine.specs.Machine.{Connection, Step as Done, connection_of, step as event_step}
 use Rattle.message_streams.specs.Streams.{BringsFront, HasBytes, HoldsBytes, bytes_of, frame_of, part_of}
 use Rattle.message_streams.proofs.Cutting.{pieces-of}
 use Rattle.end_agreement.proofs.Calm.{differ}
-use Rattle.end_schedules.specs.Pairs.{AllMay, Pair, Step, after, down_of}
+use Rattle.end_schedules.specs.Pairs.{Pair, after, down_of}
 use Rattle.end_schedules.specs.Pairs.Step.{Happens as HappensThere}
 use Rattle.end_schedules.specs.Schedules.{End, paired}
 use Rattle.end_schedules.specs.UnderWay.{sent_to}
@@ -37,11 +35,11 @@ use Rattle.stream_clients.specs.Clients.Wish.{Asks, Closes}
 use Rattle.stream_clients.specs.Following.{Follows, FollowsParts, IsSpelled}
 use Rattle.stream_clients.proofs.Pieces.{Split, parts-of, split-at}
 use Rattle.stream_clients.proofs.Stepping.{follows-both, parts-steps, wishes-steps}
-use Rattle.end_bytes.specs.BytePairs.{BytePair, ByteStep, May, client_did, step}
+use Rattle.end_bytes.specs.BytePairs.{BytePair, client_did, step}
 use Rattle.end_bytes.specs.BytePairs.ByteStep.{Breaks, Comes, Happens, Takes, Wishes}
 use Rattle.end_bytes.specs.Elsewhere.{HappensBeside, StaysAs, is_from}
 use Rattle.end_bytes.specs.Saying.{said_by}
-use Rattle.end_bytes.specs.Talking.{AreSayable, EnteringGoesOn, Enters, EntersOrTalks, IsReached, IsSayable, SpeaksOn, Talks, WaitsBelow, entered}
+use Rattle.end_bytes.specs.Talking.{AreSayable, EnteringGoesOn, Enters, EntersOrTalks, IsReached, IsSayable, SpeaksOn, entered}
 use Rattle.end_bytes.proofs.Beside.{others-beside}
 use Rattle.end_bytes.proofs.Opens.{clients-open}
 use Rattle.end_bytes.proofs.Talking.{Moves, StandsStill, all-both, all-right, beside-still, broken, expected-there, have-bytes, holds-more, moved-by, reached-on, taken-few, taken-waits}
@@ -62,7 +60,7 @@ joins-first previous keeper o r place h =
     let heard : Heard = frame_heard keeper.talk.counts frame keeper.talk.place in
     ap (λ (b : Bool). cond b (reacting stand_at (λ (m : Message). m) cued keeper heard r) (stays keeper)) (ap is_listening place)
     ∙ ap (λ (x : Heard). reacting stand_at (λ (m : Message). m) cued keeper x r)
-        (ap (λ (x : Place). frame_heard keeper.talk.counts frame x) place ∙ clients-open keeper.talk.counts (AtProtocol o) previous manager_opcode (protocol_reply 0) (lit< tt, lit< tt) h refl)
+    (ap (λ (x : Place). frame_heard keeper.talk.counts frame x) place ∙ clients-open keeper.talk.counts (AtProtocol o) previous manager_opcode (protocol_reply 0) (lit< tt, lit< tt) h refl)
 
 -- it says RegisterClient, and what follows is a list of steps of the schedule
 record Joins (c : ℕ) (previous : List ℕ) (h : History) (front : List XsmpMessage) (did : Did Client Message) : Type 0 where
@@ -151,26 +149,29 @@ one-whole c previous b at down front rest wishes t all holds sayable =
     let mv : Moves c here h (entered previous) f.taken j.line did.next.talk.place = moved-by c here h (entered previous) f.taken (record { line = j.line; next = did.next }) ((λ z. omega (arith, z)), tt) f.follows in
     let line : AllByRecursion (IsSayable client_opcode) did.line = all-right (IsSayable client_opcode) b.said_up did.line sayable.up in
     let waiting : map Xsmp mv.next.up ≡ did.line = mv.up ∙ sym j.is in
-    inr (mv.next, record {
-      opcode = refl;
-      same = t.same;
-      connection = t.connection;
-      there = t.there;
-      spoken = t.spoken;
-      within = t.within;
-      up = subst (λ (ms : List Message). HoldsBytes client_opcode (standing_of t.connection.stream) (b.up ++ bytes_of client_opcode did.line) ms) (sym waiting) (holds-more client_opcode (standing_of t.connection.stream) b.up [] did.line t.up (have-bytes client_opcode did.line line));
-      heard = subst (λ (ms : List Message). AllByRecursion (IsSayable client_opcode) ms) (sym waiting) line;
-      no_error = mv.no_error;
-      stands = mv.stands;
-      down = λ l.
-          let left : drop mv.next.took (sent_to c h) ≡ rest = ap (λ (k : ℕ). drop k (sent_to c h)) mv.took ∙ taken-waits c h 0 f.taken front rest (drop-none (sent_to c h) ∙ all) (f.all l) in
-          record {
-            few = subst (λ (k : ℕ). k ≤ length (sent_to c h)) (sym mv.took) (taken-few c h 0 f.taken front rest (drop-none (sent_to c h) ∙ all) (f.all l) (omega arith));
-            holds = subst (λ (ms : List XsmpMessage). HoldsBytes manager_opcode at down (map Xsmp ms)) (sym left) holds;
-            sayable = subst (λ (ms : List XsmpMessage). AllByRecursion (IsSayable manager_opcode) (map Xsmp ms)) (sym left) (sayable-rest front rest sent);
-          };
-      reached = reached-on c (paired h (entered previous)) (paired h mv.next) mv.steps t.reached mv.may mv.is;
-    })
+    inr (
+      mv.next,
+      record {
+        opcode = refl;
+        same = t.same;
+        connection = t.connection;
+        there = t.there;
+        spoken = t.spoken;
+        within = t.within;
+        up = subst (λ (ms : List Message). HoldsBytes client_opcode (standing_of t.connection.stream) (b.up ++ bytes_of client_opcode did.line) ms) (sym waiting) (holds-more client_opcode (standing_of t.connection.stream) b.up [] did.line t.up (have-bytes client_opcode did.line line));
+        heard = subst (λ (ms : List Message). AllByRecursion (IsSayable client_opcode) ms) (sym waiting) line;
+        no_error = mv.no_error;
+        stands = mv.stands;
+        down = λ l.
+            let left : drop mv.next.took (sent_to c h) ≡ rest = ap (λ (k : ℕ). drop k (sent_to c h)) mv.took ∙ taken-waits c h 0 f.taken front rest (drop-none (sent_to c h) ∙ all) (f.all l) in
+            record {
+              few = subst (λ (k : ℕ). k ≤ length (sent_to c h)) (sym mv.took) (taken-few c h 0 f.taken front rest (drop-none (sent_to c h) ∙ all) (f.all l) (omega arith));
+              holds = subst (λ (ms : List XsmpMessage). HoldsBytes manager_opcode at down (map Xsmp ms)) (sym left) holds;
+              sayable = subst (λ (ms : List XsmpMessage). AllByRecursion (IsSayable manager_opcode) (map Xsmp ms)) (sym left) (sayable-rest front rest sent);
+            };
+        reached = reached-on c (paired h (entered previous)) (paired h mv.next) mv.steps t.reached mv.may mv.is;
+      },
+    )
 
 by-front : (c : ℕ) (previous : List ℕ) (b : BytePair) (at : Standing) (down : List ℕ) (front back : List Message) (wishes : List (List Wish)) → Enters c previous b → Ice (protocol_reply 0) ∷ map Xsmp (sent_to c b.machine.session) ≡ front ++ back → HoldsBytes manager_opcode at down back
     → AreSayable (after_parts b at down (map (part_of manager_opcode) front) wishes) → EntersOrTalks c previous (after_parts b at down (map (part_of manager_opcode) front) wishes)

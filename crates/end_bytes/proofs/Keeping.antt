@@ -1,21 +1,16 @@
 -- What both ends keep from ProtocolReply on.
-use Rattle.std.proofs.Common.{◌≡◌, ◌⊎◌, inl, inr, refl, sym, ap, ◌∙◌, subst, ℕ, ◌≤◌, Bool, false, List, [], ◌∷◌, ◌++◌, map, length, arith}
+use Rattle.std.proofs.Common.{◌≡◌, inl, inr, sym, ap, ◌∙◌, subst, ℕ, List, [], ◌∷◌, ◌++◌, map}
 use Rattle.std.specs.Prelude.{Option, None, Some}
-use Rattle.std.specs.List.{list_any}
-use Rattle.ice_framing.specs.Frames.{standing_of}
 use Rattle.ice_setup.specs.Setup.{manager_opcode, protocol_reply}
 use Rattle.ice_setup.specs.declared.opener.Joined.{Joined}
-use Rattle.xsmp_messages.specs.declared.message.XsmpMessage.TheVariants.{RegisterClient}
 use Rattle.protocol_messages.specs.Messages.{spelled_under}
 use Rattle.protocol_messages.specs.declared.message.Message.TheVariants.{Ice, Xsmp}
 use Rattle.session_engine.specs.Machine.{Connection, connection_of}
 use Rattle.message_streams.specs.Streams.{bytes_of}
-use Rattle.end_schedules.specs.Laws.{HearsNoBadState, is_bad_state}
-use Rattle.end_schedules.specs.Pairs.{Pair}
-use Rattle.end_schedules.specs.Schedules.{End, paired}
-use Rattle.end_schedules.specs.UnderWay.{sent_to, side_of}
+use Rattle.end_schedules.specs.Schedules.{paired}
+use Rattle.end_schedules.specs.UnderWay.{sent_to}
 use Rattle.end_bytes.specs.BytePairs.{AllMay, BytePair, ByteStep, after, step}
-use Rattle.end_bytes.specs.Talking.{AgreesAt, AllSpeak, BothEndsKeepTheirBytes, Enters, EntersOrTalks, IsQuiet, IsReached, KeepsBytes, Talks, TalksOn, entered}
+use Rattle.end_bytes.specs.Talking.{AllSpeak, BothEndsKeepTheirBytes, Enters, EntersOrTalks, IsQuiet, KeepsBytes, TalksOn, entered}
 use Rattle.end_bytes.proofs.Enters.{entering-goes-on}
 use Rattle.end_bytes.proofs.Quiet.{clean-there, not-empty, quiet-ends, talking-clean}
 use Rattle.end_bytes.proofs.Talking.{talking-goes-on}
