@@ -9,10 +9,11 @@ use Rattle.session_engine.specs.Machine.{Connection, connection_of}
 use Rattle.message_streams.specs.Streams.{bytes_of}
 use Rattle.end_schedules.specs.Schedules.{paired}
 use Rattle.end_schedules.specs.UnderWay.{sent_to}
+use Rattle.setup_agreement.proofs.Wiring.{not-empty}
 use Rattle.end_bytes.specs.BytePairs.{AllMay, BytePair, ByteStep, after, step}
 use Rattle.end_bytes.specs.Talking.{AllSpeak, BothEndsKeepTheirBytes, Enters, EntersOrTalks, IsQuiet, KeepsBytes, TalksOn, entered}
 use Rattle.end_bytes.proofs.Enters.{entering-goes-on}
-use Rattle.end_bytes.proofs.Quiet.{clean-there, not-empty, quiet-ends, talking-clean}
+use Rattle.end_bytes.proofs.Quiet.{clean-there, quiet-ends, talking-clean}
 use Rattle.end_bytes.proofs.Talking.{talking-goes-on}
 
 abbrev here : Joined

@@ -1,5 +1,5 @@
 -- Where both ends talk and nothing is under way, they agree.
-use Rattle.std.proofs.Common.{◌≡◌, refl, sym, ap, ◌∙◌, subst, ℕ, ◌≤◌, true, List, [], ◌∷◌, ◌++◌, map, drop, length, arith}
+use Rattle.std.proofs.Common.{◌≡◌, refl, sym, ap, ◌∙◌, subst, ℕ, true, List, [], ◌∷◌, ◌++◌, map, drop}
 use Rattle.std.specs.Prelude.{is_some}
 use Rattle.std.specs.List.{AllByRecursion}
 use Rattle.interact_queue.specs.Queue.{is_in}
@@ -30,12 +30,9 @@ use Rattle.end_schedules.specs.Schedules.{End, paired}
 use Rattle.end_schedules.specs.UnderWay.{sent_to, side_of}
 use Rattle.end_schedules.proofs.Folds.{both-agree, no-bad-state}
 use Rattle.stream_clients.specs.Following.{StandsAs}
+use Rattle.setup_agreement.proofs.Wiring.{not-empty}
 use Rattle.end_bytes.specs.BytePairs.{BytePair}
 use Rattle.end_bytes.specs.Talking.{AgreesAt, IsReached, QuietEndsAgree, TalkingIsClean, Talks, WaitsBelow}
-
-pub not-empty : (xs ys : List ℕ) → 8 ≤ length xs → xs ++ ys ≡ [] → ⊥
-not-empty [] ys l e = absurd (omega (arith, l))
-not-empty (x ∷ xs) ys l e = absurd cc
 
 no-messages : (opcode : ℕ) (xs : List XsmpMessage) → AllByRecursion (HasBytes opcode) (map Xsmp xs) → bytes_of opcode (map Xsmp xs) ≡ [] → xs ≡ []
 no-messages opcode [] a e = refl

@@ -7,7 +7,6 @@ use Rattle.std.proofs.lemmas.List.{drop-append-le, drop-drop, drop-map, length-m
 use Rattle.std.proofs.Math.Seq.{drop-append_seam}
 use Rattle.sm_world.specs.declared.events.Event.{Event}
 use Rattle.sm_world.specs.declared.events.Event.TheVariants.{Piece}
-use Rattle.ice_values.specs.declared.numbers.Endian.{Endian}
 use Rattle.ice_framing.specs.Frames.{Standing, fed, standing_of, unit_limit, units}
 use Rattle.ice_framing.specs.Parts.{parts_at}
 use Rattle.ice_setup.specs.Opener.{client_opcode}
@@ -32,7 +31,7 @@ use Rattle.session_engine.specs.Answers.{without_xsmp}
 use Rattle.session_engine.specs.Machine.{Connection, Machine, Step as Done, acts_since, connection_of, gone_for, parted, step as event_step, told, without}
 use Rattle.session_engine.specs.Shown.{Agrees as HaveSame, is_speaking}
 use Rattle.session_engine.proofs.Following.{agrees-left, agrees-told}
-use Rattle.message_streams.specs.Streams.{HasBytes, HoldsBytes, IsOrdered, bytes_of}
+use Rattle.message_streams.specs.Streams.{HasBytes, HoldsBytes, bytes_of}
 use Rattle.end_agreement.proofs.Calm.{differ}
 use Rattle.end_schedules.specs.Laws.{ExpectsWhatWaits}
 use Rattle.end_schedules.specs.Pairs.{AllMay, Pair, Step, after, begun, down_of}
@@ -47,6 +46,7 @@ use Rattle.stream_clients.specs.Clients.Wish.{Asks, Closes}
 use Rattle.stream_clients.specs.Following.{Follows, FollowsParts, FollowsPiece, StandsAs}
 use Rattle.stream_clients.proofs.Pieces.{pieces-steps}
 use Rattle.stream_clients.proofs.Stepping.{after-both, may-both, parts-deaf, wish-step}
+use Rattle.setup_agreement.proofs.Wiring.{ordered-more}
 use Rattle.end_bytes.specs.BytePairs.{BytePair, after as after_bytes, client_did, manager_did, step}
 use Rattle.end_bytes.specs.BytePairs.ByteStep.{Breaks, Comes, Happens, Takes, Wishes}
 use Rattle.end_bytes.specs.Elsewhere.{HappensBeside, StaysAs, is_from}
@@ -80,11 +80,6 @@ have-spellings opcode (x ∷ xs) a = (a.0.fits, have-spellings opcode xs a.1)
 are-heard : (opcode : ℕ) (xs : List XsmpMessage) → AllByRecursion (IsSayable opcode) (map Xsmp xs) → AllByRecursion IsNoError xs → AllByRecursion IsHeard xs
 are-heard opcode [] a n = tt
 are-heard opcode (x ∷ xs) a n = (record { fits = a.0.fits; no_error = n.0 }, are-heard opcode xs a.1 n.1)
-
-ordered-more : (order : Option Endian) (ms more : List Message) → IsOrdered order ms → IsOrdered order (ms ++ more)
-ordered-more (Some e) ms more o = o
-ordered-more None [] more o = absurd o
-ordered-more None (m ∷ ms) more o = o
 
 pub holds-more : (opcode : ℕ) (at : Standing) (later : List ℕ) (ms more : List Message) → HoldsBytes opcode at later ms → AllByRecursion (HasBytes opcode) more → HoldsBytes opcode at (later ++ bytes_of opcode more) (ms ++ more)
 holds-more opcode at later ms more h a = record {
