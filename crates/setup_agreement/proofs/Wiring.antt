@@ -38,7 +38,7 @@ use Rattle.setup_agreement.proofs.Spelling.{AreSaid, client-said, drop-said, hav
 
 -- What is said more
 
-ordered-more : (order : Option Endian) (ms more : List Message) → IsOrdered order ms → IsOrdered order (ms ++ more)
+pub ordered-more : (order : Option Endian) (ms more : List Message) → IsOrdered order ms → IsOrdered order (ms ++ more)
 ordered-more (Some e) ms more o = o
 ordered-more None [] more o = absurd o
 ordered-more None (m ∷ ms) more o = o
@@ -243,7 +243,7 @@ module _ (I : SetUp → Type 0) where
 
 -- Where nothing is under way all is taken.
 
-not-empty : (xs ys : List ℕ) → 8 ≤ length xs → xs ++ ys ≡ [] → ⊥
+pub not-empty : (xs ys : List ℕ) → 8 ≤ length xs → xs ++ ys ≡ [] → ⊥
 not-empty [] ys l e = absurd (omega (arith, l))
 not-empty (x ∷ xs) ys l e = absurd cc
 

@@ -24,14 +24,14 @@ others [] = []
 others (m ∷ ms) = ms
 
 -- the messages of XSMP that are in front, and those behind
-record Split (xs : List XsmpMessage) (ys zs : List Message) : Type 0 where
-  front : List XsmpMessage
-  rest : List XsmpMessage
-  all : xs ≡ front ++ rest
-  are_front : ys ≡ map Xsmp front
-  are_rest : zs ≡ map Xsmp rest
+pub record Split (xs : List XsmpMessage) (ys zs : List Message) : Type 0 where
+  pub front : List XsmpMessage
+  pub rest : List XsmpMessage
+  pub all : xs ≡ front ++ rest
+  pub are_front : ys ≡ map Xsmp front
+  pub are_rest : zs ≡ map Xsmp rest
 
-split-at : (xs : List XsmpMessage) (ys zs : List Message) → map Xsmp xs ≡ ys ++ zs → Split xs ys zs
+pub split-at : (xs : List XsmpMessage) (ys zs : List Message) → map Xsmp xs ≡ ys ++ zs → Split xs ys zs
 split-at xs [] zs e = record { front = []; rest = xs; all = refl; are_front = refl; are_rest = sym e }
 split-at [] (y ∷ ys) zs e = absurd cc
 split-at (x ∷ xs) (y ∷ ys) zs e =
@@ -44,7 +44,7 @@ split-at (x ∷ xs) (y ∷ ys) zs e =
       are_rest = k.are_rest;
     }
 
-parts-of : (opcode : ℕ) (ms : List XsmpMessage) → map (part_of opcode) (map Xsmp ms) ≡ map (λ (m : XsmpMessage). part_of opcode (Xsmp m)) ms
+pub parts-of : (opcode : ℕ) (ms : List XsmpMessage) → map (part_of opcode) (map Xsmp ms) ≡ map (λ (m : XsmpMessage). part_of opcode (Xsmp m)) ms
 parts-of opcode [] = refl
 parts-of opcode (m ∷ ms) = ap (λ (ps : List Part). part_of opcode (Xsmp m) ∷ ps) (parts-of opcode ms)
 

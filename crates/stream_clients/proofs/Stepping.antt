@@ -42,18 +42,18 @@ use Rattle.stream_clients.proofs.Receiving.{takes-message}
 
 -- Steps in a row
 
-after-both : (c : ℕ) (xs ys : List Step) (p : Pair) → after c (xs ++ ys) p ≡ after c ys (after c xs p)
+pub after-both : (c : ℕ) (xs ys : List Step) (p : Pair) → after c (xs ++ ys) p ≡ after c ys (after c xs p)
 after-both c [] ys p = refl
 after-both c (x ∷ xs) ys p = after-both c xs ys (step c x p)
 
-may-both : (c : ℕ) (xs ys : List Step) (p : Pair) → AllMay c xs p → AllMay c ys (after c xs p) → AllMay c (xs ++ ys) p
+pub may-both : (c : ℕ) (xs ys : List Step) (p : Pair) → AllMay c xs p → AllMay c ys (after c xs p) → AllMay c (xs ++ ys) p
 may-both c [] ys p a b = b
 may-both c (x ∷ xs) ys p a b = (a.0, may-both c xs ys (step c x p) a.1 b)
 
 follows-none : (c : ℕ) (joined : Joined) (p : Pair) (client : Client) → StandsAs joined client.talk.place p.state → Follows c joined p 0 (stays client)
 follows-none c joined p client s = record { steps = []; may = tt; history = refl; took = omega arith; up = sym (append-nil (map Xsmp p.up)); stands = s }
 
-follows-both : (c : ℕ) (joined : Joined) (p : Pair) (n m : ℕ) (first : Did Client Message) (done : Did Client Message) (f : Follows c joined p n first) → Follows c joined (after c f.steps p) m done → Follows c joined p (n + m) (behind first.line done)
+pub follows-both : (c : ℕ) (joined : Joined) (p : Pair) (n m : ℕ) (first : Did Client Message) (done : Did Client Message) (f : Follows c joined p n first) → Follows c joined (after c f.steps p) m done → Follows c joined p (n + m) (behind first.line done)
 follows-both c joined p n m first done f g =
     let e : after c (f.steps ++ g.steps) p ≡ after c g.steps (after c f.steps p) = after-both c f.steps g.steps p in
     record {
@@ -135,7 +135,7 @@ granted : (c : ℕ) (joined : Joined) (p : Pair) (wish : Wish) (client : Client)
 granted c joined p (Asks r) client e s = asks-step c joined p r client client.talk.place refl e s
 granted c joined p (Closes reasons) client e s = closes-step c joined p reasons client
 
-wish-step : (c : ℕ) (joined : Joined) (p : Pair) (wish : Wish) (client : Client) → StandsAs joined client.talk.place p.state → Follows c joined p 0 (wished wish client)
+pub wish-step : (c : ℕ) (joined : Joined) (p : Pair) (wish : Wish) (client : Client) → StandsAs joined client.talk.place p.state → Follows c joined p 0 (wished wish client)
 wish-step c joined p wish client s = by (may_wish wish client) refl where
   by : (b : Bool) → may_wish wish client ≡ b → Follows c joined p 0 (cond b (record { line = Xsmp (said_in wish) ∷ []; next = after_wish wish client }) (stays client))
   by true e = granted c joined p wish client e s
@@ -233,7 +233,7 @@ took-one c joined m rest p client wishes d alive t =
 
 -- All messages of a piece
 
-parts-deaf : (parts : List Part) (rs : List (List Wish)) (client : Client) → is_listening client.talk.place ≡ false → parts_taken [] talk_of reacts client parts rs ≡ stays client
+pub parts-deaf : (parts : List Part) (rs : List (List Wish)) (client : Client) → is_listening client.talk.place ≡ false → parts_taken [] talk_of reacts client parts rs ≡ stays client
 parts-deaf [] rs client e = refl
 parts-deaf (part ∷ parts) rs client e =
     let r : List Wish = reply [] talk_of reacts rs in

@@ -1,0 +1,14 @@
+pub mod Said
+pub mod Outcomes
+pub mod Parts
+pub mod Runs
+pub mod Beside
+pub mod Sessions
+pub mod Computed
+pub mod Errors
+pub mod Opens
+pub mod Talking
+pub mod Quiet
+pub mod Begins
+pub mod Enters
+pub mod Keeping
