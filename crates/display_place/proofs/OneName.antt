@@ -23,12 +23,13 @@ use Rattle.display_place.proofs.LastParts.{last_same, not_parted}
 
 -- ---- numbers
 
-digits_without : (ds : List ℕ) → AllDigits 10 ds → IsWithout 46 ds
-digits_without [] all = tt
-digits_without (c ∷ ds) all = ((λ e. omega (arith, digit_from_value c all.0)), digits_without ds all.1)
+-- digits have no byte that comes before them
+digits_without : (byte : ℕ) (ds : List ℕ) → byte < 48 → AllDigits 10 ds → IsWithout byte ds
+digits_without byte [] before all = tt
+digits_without byte (c ∷ ds) before all = ((λ e. omega (arith, before, digit_from_value c all.0)), digits_without byte ds before all.1)
 
 dotless : (n : ℕ) → n < 65536 → IsWithout 46 (decimal n)
-dotless n small = digits_without (decimal n) (decimal_is_IsNumeral n (omega arith)).0.1
+dotless n small = digits_without 46 (decimal n) (omega arith) (decimal_is_IsNumeral n (omega arith)).0.1
 
 -- a number has no dot
 no_dot : (n : ℕ) (front back : List ℕ) → n < 65536 → decimal n ≡ front ++ (46 ∷ back) → ⊥

@@ -1,6 +1,6 @@
 -- Cutting a stream into its parts: once for all of it, or as more of it comes.
 use Rattle.std.proofs.Common.{◌≡◌, ℕ, zero, suc, ◌+◌, ◌≤◌, Bool, true, false, cond, List, [], ◌∷◌, ◌++◌, length, drop, inl, inr, ◌⊎◌, ◌*◌, refl, sym, ap, ◌∙◌, subst, arith, length-append, length-drop}
-use Rattle.std.proofs.lemmas.Bool.{cases_lt}
+use Rattle.std.proofs.lemmas.Bool.{cases_lt, cond_both}
 use Rattle.std.proofs.lemmas.Bool.Decides.{nat_tests}
 use Rattle.std.proofs.lemmas.List.{take-append-le, drop-append-le}
 use Rattle.display_stream.specs.Parts.{Standing, Cut, fed, units, head_in, wanted, has_part, first_part, without_first, uncut, behind, cut_upto, cut, IsPartial, IsOversize}
@@ -11,15 +11,6 @@ use Rattle.display_stream.proofs.Heads.{units_in-append}
 -- a choice that is known, or that changes nothing
 cond-else : {A : Type 0} (b : Bool) (x y : A) → b ≡ false → cond b x y ≡ y
 cond-else b x y h = rw h refl
-
-cond-same : {A : Type 0} (b : Bool) (x y z : A) → (b ≡ true → x ≡ y) → cond b x z ≡ cond b y z
-cond-same true x y z h = h refl
-cond-same false x y z h = refl
-
--- what holds for both branches holds for the choice
-pub cond-both : {A : Type 0} (P : A → Type 0) (b : Bool) (x y : A) → (b ≡ true → P x) → (b ≡ false → P y) → P (cond b x y)
-cond-both P true x y h k = h refl
-cond-both P false x y h k = k refl
 
 true_is_false : {b : Bool} → b ≡ true → b ≡ false → ⊥
 true_is_false h k = cc
@@ -63,9 +54,12 @@ enough zero zero at here there = refl
 enough zero (suc m) at here there = sym (cond-else (has_part at) (behind (first_part at ∷ []) (cut_upto m (without_first at))) (uncut at) (no_bytes at here))
 enough (suc n) zero at here there = cond-else (has_part at) (behind (first_part at ∷ []) (cut_upto n (without_first at))) (uncut at) (no_bytes at there)
 enough (suc n) (suc m) at here there =
-    cond-same (has_part at) (behind (first_part at ∷ []) (cut_upto n (without_first at))) (behind (first_part at ∷ []) (cut_upto m (without_first at))) (uncut at)
+    chosen (has_part at) refl
     (λ found. let shorter = length-without_first at (has_part-true at found) in let some = eight at.stage in
-    ap (behind (first_part at ∷ [])) (enough n m (without_first at) (omega arith) (omega arith)))
+    ap (behind (first_part at ∷ [])) (enough n m (without_first at) (omega arith) (omega arith))) where
+      chosen : (b : Bool) → has_part at ≡ b → (has_part at ≡ true → behind (first_part at ∷ []) (cut_upto n (without_first at)) ≡ behind (first_part at ∷ []) (cut_upto m (without_first at))) → cond b (behind (first_part at ∷ []) (cut_upto n (without_first at))) (uncut at) ≡ cond b (behind (first_part at ∷ []) (cut_upto m (without_first at))) (uncut at)
+      chosen true found alike = alike found
+      chosen false none alike = refl
 
 pub cut_upto-enough : (n : ℕ) (at : Standing) → length at.held ≤ n → cut_upto n at ≡ cut at
 unfolding cut
@@ -127,7 +121,7 @@ cut-first at bytes found =
 cut_upto-fed : (n : ℕ) (at : Standing) (bytes : List ℕ) → length at.held ≤ n → cut (fed at bytes) ≡ behind (cut_upto n at).parts (cut (fed (cut_upto n at).standing bytes))
 cut_upto-fed zero at bytes here = refl
 cut_upto-fed (suc n) at bytes here =
-    cond-both (λ (c : Cut). cut (fed at bytes) ≡ behind c.parts (cut (fed c.standing bytes))) (has_part at) (behind (first_part at ∷ []) (cut_upto n (without_first at))) (uncut at)
+    cond_both (has_part at) (behind (first_part at ∷ []) (cut_upto n (without_first at))) (uncut at) (λ (c : Cut). cut (fed at bytes) ≡ behind c.parts (cut (fed c.standing bytes)))
     (λ found.
     let shorter = length-without_first at (has_part-true at found) in
     let some = eight at.stage in
@@ -143,7 +137,7 @@ cut-fed at bytes = subst (λ (c : Cut). cut (fed at bytes) ≡ behind c.parts (c
 cut_upto-standing : (n : ℕ) (at : Standing) → length at.held ≤ n → has_part (cut_upto n at).standing ≡ false
 cut_upto-standing zero at here = no_bytes at here
 cut_upto-standing (suc n) at here =
-    cond-both (λ (c : Cut). has_part c.standing ≡ false) (has_part at) (behind (first_part at ∷ []) (cut_upto n (without_first at))) (uncut at)
+    cond_both (has_part at) (behind (first_part at ∷ []) (cut_upto n (without_first at))) (uncut at) (λ (c : Cut). has_part c.standing ≡ false)
     (λ found. let shorter = length-without_first at (has_part-true at found) in let some = eight at.stage in cut_upto-standing n (without_first at) (omega arith))
     (λ none. none)
 

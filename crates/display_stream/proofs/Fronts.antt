@@ -34,11 +34,11 @@ one_taken first parts grown stage now bytes taken len part taking found part_is 
       within = omega (arith, found.0, length-drop taken bytes, taking.within);
     }
 
--- the bytes behind so many, as a slice has them
-pub rest_is : (bytes : List ℕ) (taken : ℕ) → take (length bytes - taken) (drop taken bytes) ≡ drop taken bytes
-rest_is bytes taken = take_all (length bytes - taken) (drop taken bytes) (omega (arith, length-drop taken bytes))
-
 -- no part is left
 pub none_left : (first parts : List (List ℕ)) (stage now : Stage) (bytes : List ℕ) (taken : ℕ) → Taking first stage bytes parts now taken → has_part (left_of now bytes taken) ≡ false
     → behind parts (uncut (left_of now bytes taken)) ≡ behind first (cut (record { stage = stage; held = bytes }))
 none_left first parts stage now bytes taken taking none = ap (behind parts) (sym (cut-none (left_of now bytes taken) none)) ∙ taking.same
+
+-- what is behind so many, of as many as there are
+pub all_behind : {A : Type 0} (xs : List A) (i : ℕ) → take (length xs - i) (drop i xs) ≡ drop i xs
+all_behind xs i = take_all (length xs - i) (drop i xs) (omega (arith, length-drop i xs))

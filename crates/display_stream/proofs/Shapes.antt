@@ -1,6 +1,6 @@
 -- What the parts of a stream look like, that they make it up, and that they don't depend on pieces.
 use Rattle.std.proofs.Common.{◌≡◌, ℕ, zero, suc, ◌≤◌, List, [], ◌∷◌, ◌++◌, length, take, drop, refl, sym, ap, ◌∙◌, subst, arith, append-nil, append_assoc, false, inl, inr, ◌<◌}
-use Rattle.std.proofs.lemmas.Bool.{cases_lt}
+use Rattle.std.proofs.lemmas.Bool.{cases_lt, cond_both}
 use Rattle.std.proofs.lemmas.Bool.Decides.{nat_tests}
 use Rattle.std.specs.List.{concat, AllByRecursion}
 use Rattle.std.proofs.lemmas.List.{take-append-drop, length-take-le}
@@ -8,13 +8,13 @@ use Rattle.display_stream.specs.Parts.{Standing, Cut, beginning, fed, units, uni
 use Rattle.display_stream.specs.Laws.{IsPart, AreParts, IsMadeOf}
 use Rattle.display_stream.specs.declared.stages.Stage.TheVariants.{Later}
 use Rattle.display_stream.proofs.Heads.{units_in-append, units_in-short}
-use Rattle.display_stream.proofs.Cuts.{HasPart, has_part-true, has_part-standing, cut-none, ends_so, cond-both, eight, cut_upto-enough, cut-fed}
+use Rattle.display_stream.proofs.Cuts.{HasPart, has_part-true, has_part-standing, cut-none, ends_so, eight, cut_upto-enough, cut-fed}
 
 -- the parts and what is left are all the bytes
 joined_upto : (n : ℕ) (at : Standing) → concat (cut_upto n at).parts ++ (cut_upto n at).standing.held ≡ at.held
 joined_upto zero at = refl
 joined_upto (suc n) at =
-    cond-both (λ (c : Cut). concat c.parts ++ c.standing.held ≡ at.held) (has_part at) (behind (first_part at ∷ []) (cut_upto n (without_first at))) (uncut at)
+    cond_both (has_part at) (behind (first_part at ∷ []) (cut_upto n (without_first at))) (uncut at) (λ (c : Cut). concat c.parts ++ c.standing.held ≡ at.held)
     (λ found.
     append_assoc (take (wanted at) at.held) (concat (cut_upto n (without_first at)).parts) (cut_upto n (without_first at)).standing.held
     ∙ ap (λ rest. take (wanted at) at.held ++ rest) (joined_upto n (without_first at))
@@ -36,7 +36,7 @@ later_upto : (n : ℕ) (held : List ℕ) → AllByRecursion (IsPart Later) (cut_
 later_upto zero held = tt
 later_upto (suc n) held =
     let at : Standing = record { stage = Later; held = held } in
-    cond-both (λ (c : Cut). AllByRecursion (IsPart Later) c.parts) (has_part at) (behind (first_part at ∷ []) (cut_upto n (without_first at))) (uncut at)
+    cond_both (has_part at) (behind (first_part at ∷ []) (cut_upto n (without_first at))) (uncut at) (λ (c : Cut). AllByRecursion (IsPart Later) c.parts)
     (λ found. (whole_part at (has_part-true at found), later_upto n (drop (wanted at) held)))
     (λ none. tt)
 
@@ -45,7 +45,7 @@ shapes_upto : (n : ℕ) (bytes : List ℕ) → AreParts (cut_upto n (fed beginni
 shapes_upto zero bytes = tt
 shapes_upto (suc n) bytes =
     let at = fed beginning bytes in
-    cond-both (λ (c : Cut). AreParts c.parts) (has_part at) (behind (first_part at ∷ []) (cut_upto n (without_first at))) (uncut at)
+    cond_both (has_part at) (behind (first_part at ∷ []) (cut_upto n (without_first at))) (uncut at) (λ (c : Cut). AreParts c.parts)
     (λ found. (whole_part at (has_part-true at found), later_upto n (drop (wanted at) bytes)))
     (λ none. tt)
 

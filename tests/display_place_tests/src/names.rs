@@ -45,8 +45,8 @@ inet/h:1.1 => 1.1 port 6001 of h
 tcp:1 => 1.0 port 6001 of tcp
 ::1:0 => 0.0 port 6000 of ::1
 h::0 => 0.0 port 6000 of h:
-/tmp/x:0 => 0.0 path /tmp/x:0
-/tmp/x => 0.0 path /tmp/x
+/run/x:0 => 0.0 path /run/x:0
+/run/x => 0.0 path /run/x
 / => 0.0 path /
 :59535 => 59535.0 local
 h:59535 => 59535.0 port 65535 of h
@@ -114,7 +114,7 @@ fn sockets_shown(alloc: Global, text: &str) -> Result<String, Fail> {
 const SOCKETS: &str = "\
 :0 => @/tmp/.X11-unix/X0|/tmp/.X11-unix/X0|
 unix:79.1 => @/tmp/.X11-unix/X79|/tmp/.X11-unix/X79|
-/tmp/x:0 => /tmp/x:0|
+/run/x:0 => /run/x:0|
 h:0 => ";
 
 #[test]
