@@ -3,15 +3,12 @@ use Rattle.std.proofs.Common.{◌≡◌, refl, sym, ap, ◌∙◌, subst, ℕ, t
 use Rattle.std.specs.Prelude.{is_some}
 use Rattle.std.specs.List.{AllByRecursion}
 use Rattle.interact_queue.specs.Queue.{is_in}
-use Rattle.ice_values.specs.declared.severity.Severity.{Severity}
-use Rattle.ice_values.specs.declared.severity.Severity.TheVariants.{CanContinue}
 use Rattle.ice_framing.specs.Frames.{Standing, standing_of}
 use Rattle.ice_setup.specs.Opener.{client_opcode}
 use Rattle.ice_setup.specs.Setup.{manager_opcode}
 use Rattle.ice_setup.specs.declared.opener.Joined.{Joined}
 use Rattle.xsmp_messages.specs.declared.message.XsmpMessage.{XsmpMessage}
-use Rattle.xsmp_messages.specs.declared.message.XsmpMessage.TheVariants.{Die, Error, Interact, RegisterClientReply, SaveComplete, SaveYourself, SaveYourselfPhase2, ShutdownCancelled}
-use Rattle.client_machine.specs.Phases.{ClientState, blamed_phase, phase_given}
+use Rattle.client_machine.specs.Phases.{ClientState, phase_given}
 use Rattle.client_machine.specs.Taking.{taken}
 use Rattle.client_machine.specs.declared.phase.ClientPhase.TheVariants.{Dead}
 use Rattle.client_engine.specs.Places.{is_listening}
@@ -24,6 +21,7 @@ use Rattle.session_engine.proofs.Following.{numbers-in}
 use Rattle.message_streams.specs.Streams.{HasBytes, HoldsBytes, bytes_of}
 use Rattle.end_agreement.specs.Laws.{taken_all}
 use Rattle.end_agreement.specs.Sides.{Agrees}
+use Rattle.end_agreement.proofs.Calm.{dead-stays}
 use Rattle.end_schedules.specs.Laws.{AgreesOnceTaken, HearsNoBadState, heard_all}
 use Rattle.end_schedules.specs.Pairs.{Pair, down_of}
 use Rattle.end_schedules.specs.Schedules.{End, paired}
@@ -42,25 +40,9 @@ none-waits : (opcode : ℕ) (at : Standing) (later : List ℕ) (xs : List XsmpMe
 none-waits opcode at later xs h held none = no-messages opcode xs h.each (sym h.bytes ∙ ap (λ (ys : List ℕ). ys ++ later) held ∙ none)
 
 -- who is dead stays so
-
-dead-blamed : (severity : Severity) → blamed_phase severity Dead ≡ Dead
-dead-blamed CanContinue = refl
-dead-blamed severity = refl
-
-dead-given : (m : XsmpMessage) → phase_given m Dead ≡ Dead
-dead-given (Error error) = dead-blamed error.severity
-dead-given (RegisterClientReply id) = refl
-dead-given (SaveYourself kind shutdown style fast) = refl
-dead-given Interact = refl
-dead-given SaveYourselfPhase2 = refl
-dead-given SaveComplete = refl
-dead-given ShutdownCancelled = refl
-dead-given Die = refl
-dead-given m = refl
-
 dead-all : (ms : List XsmpMessage) (s : ClientState) → s.phase ≡ Dead → (taken_all ms s).phase ≡ Dead
 dead-all [] s d = d
-dead-all (m ∷ ms) s d = dead-all ms (taken m s) (ap (phase_given m) d ∙ dead-given m)
+dead-all (m ∷ ms) s d = dead-all ms (taken m s) (ap (phase_given m) d ∙ dead-stays m)
 
 is-live : (c : ℕ) (joined : Joined) (b : BytePair) (e : End) → Talks c joined b e → is_in c (of.live b.machine.session) ≡ true
 is-live c joined b e t = ap (is_in c) (sym t.same.numbers) ∙ numbers-in c b.machine.connections ∙ ap is_some t.there
