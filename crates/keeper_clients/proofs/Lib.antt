@@ -1,0 +1,4 @@
+pub mod Placed
+pub mod Folding
+pub mod Wishing
+pub mod Named

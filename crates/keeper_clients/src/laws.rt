@@ -1,0 +1,7 @@
+ghost use Rattle.keeper_clients.specs.Named.{NamedJoinersAreFree};
+
+/// Does nothing: its contract is a law of keepers. What a client with named callbacks does about a piece
+/// is what a free client does, as long as each callback answers, and lawfully.
+pub fn named_joiners_are_free()
+    ensures { NamedJoinersAreFree }
+{}

@@ -1,0 +1,8 @@
+//! Each keeper of a client's connection is a client of which only this is known, that it takes each part
+//! of its manager's stream as its tables say, and says by itself what it may. Definitions and laws alone;
+//! no code.
+#![tactic(auto)]
+
+mod laws;
+
+pub use laws::named_joiners_are_free;
