@@ -2,3 +2,5 @@ pub mod Placed
 pub mod Folding
 pub mod Wishing
 pub mod Named
+pub mod Joiners
+pub mod Agents
