@@ -29,7 +29,7 @@ use Rattle.outer_agent.specs.declared.acts.AgentAct.{AgentAct}
 use Rattle.stream_clients.specs.Clients.{Client, Wish, does}
 use Rattle.stream_clients.specs.Clients.Wish.{Asks, Closes}
 use Rattle.stream_clients.specs.Clients.{cued as free_cued}
-use Rattle.keeper_clients.specs.Agents.{AgentsAreFree, IsAnyAct, SpeaksFreely, sent_by}
+use Rattle.keeper_clients.specs.Agents.{AreFree, IsAnyAct, SpeaksFreely, sent_by}
 use Rattle.keeper_clients.specs.Freedom.{AreAlike, Meets}
 use Rattle.keeper_clients.proofs.Folding.{Freely, Heeds, is-free}
 use Rattle.keeper_clients.proofs.Wishing.{does-asked, does-close, does-die, does-refused, may-owe, may-set, set-stays, speaks}
@@ -128,8 +128,9 @@ closed-free run free (Some id) is meets =
     (sym (append-nil (spelled (closes []))), record { standing = meets.standing; talk = ap stopped meets.talk }) in
     record { wishes = Closes [] ∷ []; line = so.0; meets = so.1 }
 
-pub agents-free : AgentsAreFree
+pub agents-free : AreFree
 agents-free = record {
+  begins = λ cookie previous words. record { standing = refl; talk = refl };
   hears = is-free tt talk_of stand_at sends cued sent_by spelled IsAnyAct heeds;
   ends = λ run free success meets. told-free run free success (may_ask_at (AskDone success) free.keeper.talk.place) refl meets;
   closes = λ run free meets. closed-free run free (id_at run.keeper.talk.place) (ap (λ (t : Talk). id_at t.place) (sym meets.talk)) meets;

@@ -26,7 +26,7 @@ pub record Freely {K E X : Type 0} (talk_of : K → Talk) (said_in : E → List 
   pub wishes : List Wish
   pub alike : AreAlike talk_of said_in said done (free wishes)
 
-flat-both : {A B X : Type 0} (f : A → List X) (g : B → List X) (xs more : List A) (ys others : List B) → flat_map f xs ≡ flat_map g ys → flat_map f more ≡ flat_map g others → flat_map f (xs ++ more) ≡ flat_map g (ys ++ others)
+pub flat-both : {A B X : Type 0} (f : A → List X) (g : B → List X) (xs more : List A) (ys others : List B) → flat_map f xs ≡ flat_map g ys → flat_map f more ≡ flat_map g others → flat_map f (xs ++ more) ≡ flat_map g (ys ++ others)
 flat-both f g xs more ys others e d = flat_map-append f xs more ∙ ap (λ zs. zs ++ flat_map f more) e ∙ ap (λ zs. flat_map g ys ++ zs) d ∙ sym (flat_map-append g ys others)
 
 -- so much more was done in front

@@ -1,8 +1,8 @@
 -- A client with callbacks is a free client.
-use Rattle.std.proofs.Common.{◌≡◌, ℕ, Bool, true, false, List, [], ◌∷◌, ◌++◌, map, Option, None, Some, refl, sym, ◌∙◌, ap, subst, append-nil, eqb}
+use Rattle.std.proofs.Common.{◌≡◌, ℕ, Bool, true, false, List, [], ◌∷◌, ◌++◌, map, Option, None, Some, refl, sym, ◌∙◌, ap, subst, append-nil, eqb, suc, if◌then◌else◌}
 use Rattle.std.specs.List.{AllByRecursion, flat_map}
 use Rattle.sm_world.specs.declared.effects.Effect.{Effect}
-use Rattle.checkpoint_records.proofs.DistinctLaws.{all_behind}
+use Rattle.checkpoint_records.proofs.DistinctLaws.{all_behind, all_front}
 use Rattle.client_machine.specs.Phases.{is_owing}
 use Rattle.client_machine.specs.Saves.{at_stage}
 use Rattle.client_machine.specs.declared.requests.Request.TheVariants.{Close, Done as AskDone}
@@ -10,7 +10,7 @@ use Rattle.client_machine.specs.declared.saves.SaveAnswer.{SaveAnswer}
 use Rattle.client_machine.specs.declared.saves.SaveAsk.{SaveAsk}
 use Rattle.client_machine.specs.declared.saves.Stage.{Stage}
 use Rattle.client_engine.specs.Answering.{after_answer, answer_messages, changed, may_ask_at, stage_again, stopped}
-use Rattle.client_engine.specs.Driving.{Step, behind}
+use Rattle.client_engine.specs.Driving.{Run, Step, behind}
 use Rattle.client_engine.specs.Places.{phase_at}
 use Rattle.client_engine.specs.Speaking.{HasPlace, MayAnswer}
 use Rattle.client_engine.specs.declared.hearing.Cue.{Cue}
@@ -19,27 +19,27 @@ use Rattle.client_engine.specs.declared.place.Talk.{Talk}
 use Rattle.client_engine.proofs.Acting.{asked_again}
 use Rattle.protocol_messages.specs.declared.message.Message.{Message}
 use Rattle.client_callbacks.specs.Answers.{Replies, unasked}
-use Rattle.client_callbacks.specs.Doing.{effect_of, sent}
-use Rattle.client_callbacks.specs.Script.{Entry, Keeper, Says, answer_line, answered, answered_again, cancelled, completed, cued, died, on_client, owes, saved, stand_at, talk_of}
+use Rattle.client_callbacks.specs.Doing.{bytes_in, sent}
+use Rattle.client_callbacks.specs.Script.{Came, Entry, Hears, Keeper, Says, answer_line, answered, answered_again, cancelled, completed, cued, died, ended, is_over, on_client, owes, reacts, run_after, saved, script_from, stand_at, talk_of, turn}
 use Rattle.stream_clients.specs.Clients.{Client, Wish, does}
 use Rattle.stream_clients.specs.Clients.Wish.{Asks, Closes}
 use Rattle.stream_clients.specs.Clients.{cued as free_cued, stand_at as free_stand_at}
-use Rattle.keeper_clients.specs.Freedom.{AreAlike}
-use Rattle.keeper_clients.specs.Joiners.{IsAnswered, JoinersAreFree, sending}
-use Rattle.keeper_clients.proofs.Folding.{Freely, Heeds, behind-alike, is-free}
+use Rattle.keeper_clients.specs.Freedom.{AreAlike, HearsFreely, IsFree, Meets, RunsFreely, freely_heard, freely_run}
+use Rattle.keeper_clients.specs.Joiners.{AreFree, IsAnswered, RunIsFree, sending, sent_by}
+use Rattle.keeper_clients.proofs.Folding.{Freely, Heeds, behind-alike, flat-both, is-free}
 use Rattle.keeper_clients.proofs.Wishing.{answering, does-answer, does-asked, does-close, does-die, may-owe, owed-stays, speaks}
 
 abbrev Alike : Step Keeper Entry → Step Client Message → Type 0
-Alike done free = AreAlike talk_of effect_of sending done free
+Alike done free = AreAlike talk_of sent_by sending done free
 
 abbrev Free : Step Keeper Entry → (List Wish → Step Client Message) → Type 0
-Free done free = Freely talk_of effect_of sending done free
+Free done free = Freely talk_of sent_by sending done free
 
 -- nothing is said
 quiet : (keeper : Keeper) (client : Client) → keeper.talk ≡ client.talk → Free (record { line = []; next = keeper }) (λ wishes. does wishes client)
 quiet keeper client same = record { wishes = []; alike = record { line = refl; talk = same } }
 
-all-said : (messages : List Message) → flat_map effect_of (map Says messages) ≡ flat_map sending messages
+all-said : (messages : List Message) → flat_map sent_by (map Says messages) ≡ flat_map sending messages
 all-said [] = refl
 all-said (m ∷ ms) = ap (λ (es : List Effect). sent m ∷ es) (all-said ms)
 
@@ -66,7 +66,7 @@ save-free keeper client ask r same may each =
     record {
       wishes = answering r.first f.wishes;
       alike = subst (λ (s : Step Client Message). Alike (behind line more) s) (sym (does-answer ask r.first f.wishes client may each.0))
-          (behind-alike talk_of effect_of sending line (answer_messages r.first) more (does f.wishes there) (all-said (answer_messages r.first)) f.alike);
+          (behind-alike talk_of sent_by sending line (answer_messages r.first) more (does f.wishes there) (all-said (answer_messages r.first)) f.alike);
     }
 
 -- ---- other cues
@@ -104,8 +104,61 @@ cue-free keeper client (Properties list) r same placed each = quiet keeper clien
 cue-free keeper client (Refused class) r same placed each = record { wishes = []; alike = record { line = refl; talk = same } }
 cue-free keeper client (Malformed at) r same placed each = record { wishes = []; alike = record { line = refl; talk = same } }
 
-heeds : Heeds unasked talk_of stand_at Says cued effect_of sending IsAnswered
+heeds : Heeds unasked talk_of stand_at Says cued sent_by sending IsAnswered
 heeds = record { talk_is = λ talk keeper. refl; says_is = λ message. refl; nothing = λ keeper r. refl; cues = cue-free }
 
-pub joiners-free : JoinersAreFree
-joiners-free = is-free unasked talk_of stand_at Says cued effect_of sending IsAnswered heeds
+hears-free : IsFree unasked talk_of reacts sent_by sending IsAnswered
+hears-free = is-free unasked talk_of stand_at Says cued sent_by sending IsAnswered heeds
+
+-- ---- a whole run
+
+abbrev Runs : Run Client → List (List ℕ) → List Entry → Run Keeper → Type 0
+Runs free pieces line after = RunsFreely talk_of sent_by sending free pieces line after
+
+none-free : (run : Run Keeper) (free : Run Client) (pieces : List (List ℕ)) → Meets talk_of run free → Runs free pieces [] run
+none-free run free pieces meets = record { cames = []; count = 0; front = refl; says = refl; meets = meets }
+
+-- nothing more is received at the end
+ended-line : (run : Run Keeper) (more : List Came) → script_from (ended run).next more ≡ []
+ended-line run [] = refl
+ended-line run (came ∷ more) = refl
+
+ended-run : (run : Run Keeper) (more : List Came) → run_after (ended run).next more ≡ (ended run).next
+ended-run run [] = refl
+ended-run run (came ∷ more) = refl
+
+abbrev On : List Came → Type 0
+On more = (run : Run Keeper) (free : Run Client) → Meets talk_of run free → AllByRecursion IsAnswered (script_from run more) → Runs free (bytes_in more) (script_from run more) (run_after run more)
+
+turn-free : (run : Run Keeper) (free : Run Client) (bytes : List ℕ) (replies : List Replies) (more : List Came) → Meets talk_of run free → On more
+    → AllByRecursion IsAnswered ((turn run bytes replies).line ++ script_from (turn run bytes replies).next more) → Runs free (bytes ∷ bytes_in more) (Hears bytes ∷ ((turn run bytes replies).line ++ script_from (turn run bytes replies).next more)) (run_after (turn run bytes replies).next more)
+turn-free run free [] replies more meets on each =
+    let none : Runs free ([] ∷ bytes_in more) (Hears [] ∷ []) (ended run).next = record { cames = []; count = 0; front = refl; says = refl; meets = record { standing = meets.standing; talk = meets.talk } } in
+    subst (λ (x : Run Keeper). Runs free ([] ∷ bytes_in more) (Hears [] ∷ script_from (ended run).next more) x) (sym (ended-run run more))
+    (subst (λ (es : List Entry). Runs free ([] ∷ bytes_in more) (Hears [] ∷ es) (ended run).next) (sym (ended-line run more)) none)
+turn-free run free (b ∷ bytes) replies more meets on each =
+    let done : Step (Run Keeper) Entry = turn run (b ∷ bytes) replies in
+    let rest : List Entry = script_from done.next more in
+    let h : HearsFreely unasked talk_of reacts sent_by sending run free (b ∷ bytes) replies = hears-free run free (b ∷ bytes) replies meets (all_front IsAnswered done.line rest each) in
+    let by : Step (Run Client) Message = freely_heard free (b ∷ bytes) h.wishes in
+    let r : Runs by.next (bytes_in more) rest (run_after done.next more) = on done.next by.next h.meets (all_behind IsAnswered done.line rest each) in
+    record {
+      cames = record { bytes = b ∷ bytes; wishes = h.wishes } ∷ r.cames;
+      count = suc r.count;
+      front = ap (λ (ps : List (List ℕ)). (b ∷ bytes) ∷ ps) r.front;
+      says = flat-both sent_by sending done.line rest by.line (freely_run by.next r.cames).line h.line r.says;
+      meets = r.meets;
+    }
+
+came-free : (run : Run Keeper) (free : Run Client) (came : Came) (more : List Came) (b : Bool) → Meets talk_of run free → On more
+    → AllByRecursion IsAnswered (if b then [] else Hears came.bytes ∷ ((turn run came.bytes came.replies).line ++ script_from (turn run came.bytes came.replies).next more))
+    → Runs free (came.bytes ∷ bytes_in more) (if b then [] else Hears came.bytes ∷ ((turn run came.bytes came.replies).line ++ script_from (turn run came.bytes came.replies).next more)) (if b then run else run_after (turn run came.bytes came.replies).next more)
+came-free run free came more true meets on each = none-free run free (came.bytes ∷ bytes_in more) meets
+came-free run free came more false meets on each = turn-free run free came.bytes came.replies more meets on each.1
+
+runs-free : RunIsFree
+runs-free run free [] meets each = none-free run free [] meets
+runs-free run free (came ∷ more) meets each = came-free run free came more (is_over run.keeper.ending) meets (λ next by m e. runs-free next by more m e) each
+
+pub joiners-free : AreFree
+joiners-free = record { begins = λ cookie previous saves. record { standing = refl; talk = refl }; hears = hears-free; runs = runs-free }

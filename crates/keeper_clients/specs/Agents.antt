@@ -1,13 +1,14 @@
 -- A manager as a client of an outer one, as a free client.
 use Rattle.std.specs.Prelude.{◌≡◌, Bool, List, [], ℕ}
 use Rattle.std.specs.List.{flat_map}
+use Rattle.ice_cookie.specs.declared.cookies.Cookie.{Cookie}
 use Rattle.client_engine.specs.Driving.{Run, Step}
 use Rattle.client_engine.specs.Messages.{spelled}
-use Rattle.outer_agent.specs.Script.{Keeper, closed, reacts, talk_of, told}
+use Rattle.outer_agent.specs.Script.{Keeper, closed, reacts, start, talk_of, told}
 use Rattle.outer_agent.specs.declared.acts.AgentAct.{AgentAct}
 use Rattle.outer_agent.specs.declared.acts.AgentAct.TheVariants.{Checkpoint, Drop, Forget, Send, Shutdown}
 use Rattle.stream_clients.specs.Clients.{Client, Wish, does}
-use Rattle.keeper_clients.specs.Freedom.{IsFree, Meets}
+use Rattle.keeper_clients.specs.Freedom.{IsFree, Meets, freely_begun}
 
 -- the bytes that an act sends
 abbrev pub sent_by : AgentAct → List ℕ
@@ -33,9 +34,7 @@ pub record SpeaksFreely (free : Run Client) (done : Step (Run Keeper) ℕ) : Typ
 
 -- Whatever comes, and whatever it is told.
 pub record AreFree : Type 0 where
+  pub begins : (cookie : Cookie) (previous : List ℕ) (words : List (List ℕ)) → Meets talk_of (start cookie previous words) (freely_begun cookie previous)
   pub hears : IsFree tt talk_of reacts sent_by spelled IsAnyAct
   pub ends : (run : Run Keeper) (free : Run Client) (success : Bool) → Meets talk_of run free → SpeaksFreely free (told run success)
   pub closes : (run : Run Keeper) (free : Run Client) → Meets talk_of run free → SpeaksFreely free (closed run)
-
-abbrev pub AgentsAreFree : Type 0
-AgentsAreFree = AreFree

@@ -1,10 +1,12 @@
 -- A keeper is a free client: for whatever comes to it there are wishes, with which a client of which nothing more is known says the same
 -- and stands at the same place.
-use Rattle.std.specs.Prelude.{◌≡◌, ℕ, List, [], take}
+use Rattle.std.specs.Prelude.{◌≡◌, ℕ, false, List, [], ◌∷◌, map, take}
 use Rattle.std.specs.List.{AllByRecursion, flat_map}
-use Rattle.ice_framing.specs.Frames.{fed}
+use Rattle.ice_cookie.specs.declared.cookies.Cookie.{Cookie}
+use Rattle.ice_framing.specs.Frames.{beginning, fed}
 use Rattle.ice_framing.specs.Parts.{Part, parts_at}
-use Rattle.client_engine.specs.Driving.{Run, Step, parts_taken, piece_taken}
+use Rattle.client_engine.specs.Cutting.{opening}
+use Rattle.client_engine.specs.Driving.{Run, Step, behind, parts_taken, piece_taken, stays}
 use Rattle.client_engine.specs.declared.hearing.Heard.{Heard}
 use Rattle.client_engine.specs.declared.place.Talk.{Talk}
 use Rattle.protocol_messages.specs.declared.message.Message.{Message}
@@ -42,3 +44,26 @@ module _ {K R E X : Type 0} (unasked : R) (talk_of : K → Talk) (reacts : K →
   -- For whatever comes, where each entry is as it must be. So it is of the next piece too, for both meet behind this one.
   abbrev pub IsFree : (E → Type 0) → Type 0
   IsFree fits = (run : Run K) (free : Run Client) (bytes : List ℕ) (replies : List R) → Meets talk_of run free → AllByRecursion fits (piece_taken unasked talk_of reacts run bytes replies).line → HearsFreely run free bytes replies
+
+-- ---- pieces one after the other
+
+-- a piece that comes to a free client, and what it wishes behind each part
+pub record FreeCame : Type 0 where
+  pub bytes : List ℕ
+  pub wishes : List (List Wish)
+
+abbrev pub freely_run : Run Client → List FreeCame → Step (Run Client) Message
+freely_run run [] = stays run
+freely_run run (came ∷ more) = behind (freely_heard run came.bytes came.wishes).line (freely_run (freely_heard run came.bytes came.wishes).next more)
+
+-- one that has said ByteOrder, and waits for the manager's
+abbrev pub freely_begun : Cookie → List ℕ → Run Client
+freely_begun cookie previous = record { standing = beginning; keeper = record { talk = opening cookie previous; dying = false } }
+
+-- A free client to which so many of these pieces come says the same as this line, and then stands where this run does.
+pub record RunsFreely {K E X : Type 0} (talk_of : K → Talk) (said_in : E → List X) (said : Message → List X) (free : Run Client) (pieces : List (List ℕ)) (line : List E) (after : Run K) : Type 0 where
+  pub cames : List FreeCame
+  pub count : ℕ
+  pub front : map (λ (came : FreeCame). came.bytes) cames ≡ take count pieces
+  pub says : flat_map said_in line ≡ flat_map said (freely_run free cames).line
+  pub meets : Meets talk_of after (freely_run free cames).next

@@ -1,19 +1,22 @@
-ghost use Rattle.keeper_clients.specs.Agents.{AgentsAreFree};
-ghost use Rattle.keeper_clients.specs.Joiners.{JoinersAreFree};
-ghost use Rattle.keeper_clients.specs.Named.{NamedJoinersAreFree};
+ghost use Rattle.keeper_clients.specs.Agents.{AreFree as AgentsAreFree};
+ghost use Rattle.keeper_clients.specs.Joiners.{AreFree as JoinersAreFree};
+ghost use Rattle.keeper_clients.specs.Named.{AreFree as NamedJoinersAreFree};
 
-/// Does nothing: its contract is a law of keepers. What a client with named callbacks does about a piece
-/// is what a free client does, as long as each callback answers, and lawfully.
+/// Does nothing: its contract is a law of keepers. What a client with named callbacks does about a piece,
+/// and in a whole run, is what a free client does, as long as each callback answers, and lawfully. Where
+/// a callback wants for memory it stops without a word, as a free client doesn't.
 pub fn named_joiners_are_free()
     ensures { NamedJoinersAreFree }
 {}
 
-/// Does nothing: its contract is a law of keepers. So it is of a client with callbacks.
+/// Does nothing: its contract is a law of keepers. What a client with callbacks does about a piece, and in
+/// a whole run, is what a free client does, as long as each answer to a save is lawful.
 pub fn joiners_are_free()
     ensures { JoinersAreFree }
 {}
 
-/// Does nothing: its contract is a law of keepers. So it is of an agent, whatever it is told.
+/// Does nothing: its contract is a law of keepers. What an agent does about a piece, and as it is told
+/// something, is what a free client does.
 pub fn agents_are_free()
     ensures { AgentsAreFree }
 {}
