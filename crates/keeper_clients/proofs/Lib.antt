@@ -4,3 +4,4 @@ pub mod Wishing
 pub mod Named
 pub mod Joiners
 pub mod Agents
+pub mod Calls

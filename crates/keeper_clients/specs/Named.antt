@@ -53,12 +53,12 @@ pub record GivesFreely {S D : Type 0} (reply : NamedReply) (new : Joining S D) (
   pub is : IsRun after new.stand
   pub meets : Meets talk_of after (freely_heard free piece wishes).next
 
--- each answer to a save that the callback gives is lawful
-abbrev pub AnswersLawfully : {S : Type 0} → (S → NamedAsk → Option SaveAnswer → S → Type 0) → Type 0
-AnswersLawfully {S} answers = (old : S) (asked : NamedAsk) (answer : SaveAnswer) (new : S) → answers old asked (Some answer) new → IsLawful asked.ask answer
+-- All that follows is said of callbacks that answer so.
+module _ {S D : Type 0} (answers : S → NamedAsk → Option SaveAnswer → S → Type 0) (gives : D → Option (List (List ℕ)) → D → Type 0) where
+  -- each answer to a save is lawful
+  abbrev pub AnswersLawfully : Type 0
+  AnswersLawfully = (old : S) (asked : NamedAsk) (answer : SaveAnswer) (new : S) → answers old asked (Some answer) new → IsLawful asked.ask answer
 
--- So it is of each call that gives something: then no callback wanted for memory.
-abbrev pub CallsAreFree : Type 1
-CallsAreFree =
-    (S D : Type 0) (answers : S → NamedAsk → Option SaveAnswer → S → Type 0) (gives : D → Option (List (List ℕ)) → D → Type 0) (reply : NamedReply) (old new : Joining S D) (run : Run Keeper) (free : Run Client) (piece : List ℕ)
-    → AnswersLawfully answers → Meets talk_of run free → Replied answers gives reply old new run piece → GivesFreely reply new free piece
+  -- Each call that gives something gives it freely: then no callback wanted for memory.
+  abbrev pub CallsAreFree : Type 0
+  CallsAreFree = (reply : NamedReply) (old new : Joining S D) (run : Run Keeper) (free : Run Client) (piece : List ℕ) → AnswersLawfully → Meets talk_of run free → Replied answers gives reply old new run piece → GivesFreely reply new free piece

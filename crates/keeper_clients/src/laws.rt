@@ -1,12 +1,20 @@
 ghost use Rattle.keeper_clients.specs.Agents.{AreFree as AgentsAreFree};
 ghost use Rattle.keeper_clients.specs.Joiners.{AreFree as JoinersAreFree};
-ghost use Rattle.keeper_clients.specs.Named.{AreFree as NamedJoinersAreFree};
+ghost use Rattle.keeper_clients.specs.Named.{AreFree as NamedJoinersAreFree, CallsAreFree};
+
+use named_joiner::{NamedDies, NamedSaves};
 
 /// Does nothing: its contract is a law of keepers. What a client with named callbacks does about a piece,
 /// and in a whole run, is what a free client does, as long as each callback answers, and lawfully. Where
 /// a callback wants for memory it stops without a word, as a free client doesn't.
 pub fn named_joiners_are_free()
     ensures { NamedJoinersAreFree }
+{}
+
+/// Does nothing: its contract is a law of `NamedJoiner::hear`'s clause `hears`. The bytes that a call gives
+/// are those of a free client to which the same piece comes, where the callbacks answer lawfully alone.
+pub fn named_calls_are_free<S: NamedSaves, D: NamedDies>()
+    ensures { CallsAreFree S.answers D.gives }
 {}
 
 /// Does nothing: its contract is a law of keepers. What a client with callbacks does about a piece, and in
