@@ -156,7 +156,7 @@ came-free : (run : Run Keeper) (free : Run Client) (came : Came) (more : List Ca
 came-free run free came more true meets on each = none-free run free (came.bytes ∷ bytes_in more) meets
 came-free run free came more false meets on each = turn-free run free came.bytes came.replies more meets on each.1
 
-runs-free : RunIsFree
+pub runs-free : RunIsFree
 runs-free run free [] meets each = none-free run free [] meets
 runs-free run free (came ∷ more) meets each = came-free run free came more (is_over run.keeper.ending) meets (λ next by m e. runs-free next by more m e) each
 

@@ -5,3 +5,4 @@ pub mod Named
 pub mod Joiners
 pub mod Agents
 pub mod Calls
+pub mod Joins

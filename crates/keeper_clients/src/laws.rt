@@ -1,7 +1,8 @@
 ghost use Rattle.keeper_clients.specs.Agents.{AreFree as AgentsAreFree};
-ghost use Rattle.keeper_clients.specs.Joiners.{AreFree as JoinersAreFree};
+ghost use Rattle.keeper_clients.specs.Joiners.{AreFree as JoinersAreFree, JoinsAreFree};
 ghost use Rattle.keeper_clients.specs.Named.{AreFree as NamedJoinersAreFree, CallsAreFree};
 
+use client_callbacks::{Cancels, Dies, Saves};
 use named_joiner::{NamedDies, NamedSaves};
 
 /// Does nothing: its contract is a law of keepers. What a client with named callbacks does about a piece,
@@ -21,6 +22,13 @@ pub fn named_calls_are_free<S: NamedSaves, D: NamedDies>()
 /// a whole run, is what a free client does, as long as each answer to a save is lawful.
 pub fn joiners_are_free()
     ensures { JoinersAreFree }
+{}
+
+/// Does nothing: its contract is a law of `Joiner::run`'s clause `joins`. What a run sends that nothing
+/// cuts short is what a free client says of the pieces that the run receives, where the callbacks answer
+/// lawfully alone.
+pub fn joins_are_free<S: Saves, D: Dies, C: Cancels>()
+    ensures { JoinsAreFree S.answers D.gives C.hears }
 {}
 
 /// Does nothing: its contract is a law of keepers. What an agent does about a piece, and as it is told

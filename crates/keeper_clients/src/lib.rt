@@ -5,4 +5,7 @@
 
 mod laws;
 
-pub use laws::{agents_are_free, joiners_are_free, named_calls_are_free, named_joiners_are_free};
+pub use laws::{
+    agents_are_free, joiners_are_free, joins_are_free, named_calls_are_free,
+    named_joiners_are_free,
+};
