@@ -1,11 +1,11 @@
 -- A manager as a client of an outer one is a free client.
-use Rattle.std.proofs.Common.{◌≡◌, ℕ, Bool, true, false, cond, List, [], ◌∷◌, ◌++◌, Option, None, Some, unwrap_or, refl, sym, ◌∙◌, ap, subst, append-nil}
+use Rattle.std.proofs.Common.{◌≡◌, ℕ, Bool, true, false, cond, List, [], ◌∷◌, Option, None, Some, unwrap_or, refl, sym, ◌∙◌, ap, subst, append-nil}
 use Rattle.std.proofs.lemmas.Bool.{false≢true}
 use Rattle.std.specs.List.{AllByRecursion, flat_map}
-use Rattle.client_machine.specs.Asking.{after_asked, may_ask, requested}
-use Rattle.client_machine.specs.Phases.{ClientState, is_owing, phase_said}
+use Rattle.client_machine.specs.Asking.{after_asked, requested}
+use Rattle.client_machine.specs.Phases.{is_owing, phase_said}
 use Rattle.client_machine.specs.declared.requests.Request.{Request}
-use Rattle.client_machine.specs.declared.requests.Request.TheVariants.{Close, Done as AskDone, Set}
+use Rattle.client_machine.specs.declared.requests.Request.TheVariants.{Done as AskDone, Set}
 use Rattle.client_machine.specs.declared.saves.SaveAsk.{SaveAsk}
 use Rattle.client_machine.specs.declared.saves.Stage.{Stage}
 use Rattle.client_machine.specs.declared.saves.Stage.TheVariants.{First, Second, Talking, TalkingTwo}
@@ -23,7 +23,7 @@ use Rattle.client_engine.specs.declared.place.Talk.{Talk}
 use Rattle.client_engine.proofs.Acting.{named_closes}
 use Rattle.protocol_messages.specs.declared.message.Message.{Message}
 use Rattle.protocol_messages.specs.declared.message.Message.TheVariants.{Xsmp}
-use Rattle.outer_agent.specs.Script.{Keeper, bytes_asked, cancelled, closed, closing_with, cued, died, in_run, own_set, saved, sends, stand_at, talk_of, told}
+use Rattle.outer_agent.specs.Script.{Keeper, bytes_asked, cancelled, closing_with, cued, died, in_run, saved, sends, stand_at, talk_of, told}
 use Rattle.outer_agent.specs.Words.{own_properties}
 use Rattle.outer_agent.specs.declared.acts.AgentAct.{AgentAct}
 use Rattle.stream_clients.specs.Clients.{Client, Wish, does}
@@ -113,6 +113,7 @@ told-free : (run : Run Keeper) (free : Run Client) (success : Bool) (b : Bool) �
 told-free run free success b is meets = record { wishes = Asks (AskDone success) ∷ []; line = (by b is).0; meets = (by b is).1 } where
   line-is : (b : Bool) → may_ask_at (AskDone success) free.keeper.talk.place ≡ b → bytes_asked (answered_at (AskDone success) run.keeper.talk.place) ≡ cond b (spelled (Xsmp (requested (AskDone success)))) []
   line-is b is = asked-bytes (AskDone success) run.keeper.talk.place b (ap (λ (t : Talk). may_ask_at (AskDone success) t.place) meets.talk ∙ is)
+
   by : (b : Bool) → may_ask_at (AskDone success) free.keeper.talk.place ≡ b → Says free (told run success) (does (Asks (AskDone success) ∷ []) free.keeper)
   by true is = subst (λ (s : Step Client Message). Says free (told run success) s) (sym (does-asked (AskDone success) [] free.keeper is refl))
       (line-is true is ∙ sym (append-nil (spelled (Xsmp (requested (AskDone success))))), record { standing = meets.standing; talk = ap (λ (t : Talk). changed (after_asked (AskDone success)) t) meets.talk })

@@ -1,16 +1,15 @@
 -- A call that gives something wanted for no memory, and so it is free.
-use Rattle.std.proofs.Common.{◌≡◌, ◌≢◌, ◌⊎◌, inl, inr, ℕ, Bool, true, false, List, [], ◌∷◌, ◌++◌, map, drop, Option, None, Some, option_map, refl, sym, ◌∙◌, ap, subst}
+use Rattle.std.proofs.Common.{◌≡◌, ◌≢◌, ◌⊎◌, inl, inr, ℕ, false, List, [], ◌∷◌, ◌++◌, map, drop, Option, None, Some, option_map, refl, ◌∙◌, ap}
 use Rattle.std.specs.List.{AllByRecursion}
 use Rattle.ice_framing.specs.Frames.{fed}
 use Rattle.ice_framing.specs.Parts.{Part, parts_at}
 use Rattle.checkpoint_records.proofs.DistinctLaws.{all_append}
 use Rattle.client_machine.specs.Phases.{is_owing}
-use Rattle.client_machine.specs.Saves.{IsLawful, at_stage}
 use Rattle.client_machine.specs.declared.saves.SaveAnswer.{SaveAnswer}
 use Rattle.client_machine.specs.declared.saves.SaveAsk.{SaveAsk}
 use Rattle.client_machine.specs.declared.saves.Stage.{Stage}
 use Rattle.client_engine.specs.Answering.{after_answer, answer_messages, owed_messages, stage_again}
-use Rattle.client_engine.specs.Driving.{Run, Step, behind, parts_taken, reply}
+use Rattle.client_engine.specs.Driving.{Step, behind, parts_taken, reply}
 use Rattle.client_engine.specs.Hearing.{part_heard}
 use Rattle.client_engine.specs.Messages.{spelled}
 use Rattle.client_engine.specs.Places.{is_listening, phase_at}
@@ -20,18 +19,14 @@ use Rattle.client_engine.specs.declared.hearing.Heard.{Heard}
 use Rattle.client_engine.proofs.Driven.{deaf_parts}
 use Rattle.protocol_messages.specs.declared.message.Message.{Message}
 use Rattle.named_joiner.specs.Doing.{Follows, bytes_of}
-use Rattle.named_joiner.specs.Hearing.{Replied}
-use Rattle.named_joiner.specs.Script.{AsksReasons, AsksSave, Callbacks, Entry, Keeper, Replies, Says, answer_line, answered, answered_again, cancelled, cued, died, named, next_stage, on_client, piece_heard, reacts, stand_at, talk_of, unasked}
-use Rattle.named_joiner.specs.Standing.{Joining}
+use Rattle.named_joiner.specs.Script.{AsksReasons, AsksSave, Callbacks, Entry, Keeper, Replies, Says, answer_line, answered, answered_again, cued, died, named, next_stage, on_client, piece_heard, reacts, stand_at, talk_of, unasked}
 use Rattle.named_joiner.specs.declared.callbacks.NamedAsk.{NamedAsk}
 use Rattle.named_joiner.specs.declared.ends.Ending.{Ending}
 use Rattle.named_joiner.specs.declared.ends.Ending.TheVariants.{Ended, Starved}
 use Rattle.named_joiner.specs.declared.ends.NamedEnd.{NamedEnd}
-use Rattle.named_joiner.specs.declared.ends.NamedReply.{NamedReply}
 use Rattle.named_joiner.proofs.PieceLaws.{stays_stopped}
-use Rattle.stream_clients.specs.Clients.{Client}
-use Rattle.keeper_clients.specs.Freedom.{HearsFreely, Meets}
-use Rattle.keeper_clients.specs.Named.{AnswersLawfully, CallsAreFree, GivesFreely, IsAnswered}
+use Rattle.keeper_clients.specs.Freedom.{HearsFreely}
+use Rattle.keeper_clients.specs.Named.{AnswersLawfully, CallsAreFree, IsAnswered}
 use Rattle.keeper_clients.proofs.Named.{hears-free}
 
 -- ---- nothing was wanting
@@ -94,8 +89,10 @@ parts-there keeper [] rs fed_well = tt
 parts-there keeper (part ∷ parts) rs fed_well = by (part-wants keeper (part_heard keeper.talk part) r) (parts-there s.next parts (drop 1 rs) fed_well) where
   r : Replies
   r = reply unasked talk_of reacts rs
+
   s : Step Keeper Entry
   s = reacts keeper (part_heard keeper.talk part) r
+
   by : Wants s → AreThere (taken s.next parts (drop 1 rs)).line → AreThere (s.line ++ (taken s.next parts (drop 1 rs)).line)
   by (inl all) rest = all_append IsThere s.line (taken s.next parts (drop 1 rs)).line all rest
   by (inr stops) rest =

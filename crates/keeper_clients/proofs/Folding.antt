@@ -6,7 +6,7 @@ use Rattle.std.specs.List.{AllByRecursion, flat_map}
 use Rattle.ice_framing.specs.Frames.{Standing, cut, fed}
 use Rattle.ice_framing.specs.Parts.{Part, parts_at}
 use Rattle.checkpoint_records.proofs.DistinctLaws.{all_behind, all_front}
-use Rattle.client_engine.specs.Driving.{Run, Step, behind, part_taken, parts_taken, piece_taken, reacting, reply, stays}
+use Rattle.client_engine.specs.Driving.{Step, behind, part_taken, parts_taken, reacting, reply, stays}
 use Rattle.client_engine.specs.Hearing.{part_heard, saying}
 use Rattle.client_engine.specs.Places.{is_listening}
 use Rattle.client_engine.specs.Speaking.{HasPlace}
@@ -17,8 +17,8 @@ use Rattle.client_engine.specs.declared.place.Talk.{Talk}
 use Rattle.client_engine.proofs.Driven.{deaf_part}
 use Rattle.protocol_messages.specs.declared.message.Message.{Message}
 use Rattle.stream_clients.specs.Clients.{Client, Wish}
-use Rattle.stream_clients.specs.Clients.{cued as free_cued, reacts as free_reacts, stand_at as free_stand_at, talk_of as free_talk}
-use Rattle.keeper_clients.specs.Freedom.{AreAlike, HearsFreely, IsFree, Meets, freely_heard, freely_taken}
+use Rattle.stream_clients.specs.Clients.{cued as free_cued, reacts as free_reacts, stand_at as free_stand_at}
+use Rattle.keeper_clients.specs.Freedom.{AreAlike, IsFree, freely_taken}
 use Rattle.keeper_clients.proofs.Placed.{IsPlaced, placed-part}
 
 -- one wish list does it
@@ -72,7 +72,7 @@ module _ {K R E X : Type 0} (unasked : R) (talk_of : K → Talk) (stand_at : Tal
       record {
         wishes = [];
         alike = subst (λ (s : Step Client Message). AreAlike talk_of said_in said (reacts keeper heard r) s) (sym so)
-        (subst (λ (s : Step K E). AreAlike talk_of said_in said s (stays client)) (sym still) (record { line = refl; talk = h.talk_is client.talk keeper }));
+            (subst (λ (s : Step K E). AreAlike talk_of said_in said s (stays client)) (sym still) (record { line = refl; talk = h.talk_is client.talk keeper }));
       }
 
   part-freely : Heeds → (keeper : K) (client : Client) (part : Part) (r : R) → talk_of keeper ≡ client.talk → AllByRecursion fits (part_taken unasked talk_of reacts keeper part r).line

@@ -1,9 +1,8 @@
 -- What a run sends that nothing cuts short is what a free client says.
-use Rattle.std.proofs.Common.{◌≡◌, ℕ, List, [], ◌∷◌, ◌++◌, map, None, Result, refl, sym, ◌∙◌, ap, subst, append-nil}
+use Rattle.std.proofs.Common.{◌≡◌, ℕ, List, [], ◌∷◌, ◌++◌, map, refl, sym, ◌∙◌, ap, subst, append-nil}
 use Rattle.std.specs.List.{AllByRecursion, flat_map}
 use Rattle.ice_messages.specs.declared.message.IceMessage.TheVariants.{ByteOrder}
 use Rattle.ice_values.specs.declared.numbers.Endian.TheVariants.{Lsb}
-use Rattle.sm_world.specs.Outside.{adds}
 use Rattle.sm_world.specs.declared.effects.Effect.{Effect}
 use Rattle.sm_world.specs.declared.effects.Effect.TheVariants.{Heard}
 use Rattle.client_peer.specs.Peers.{received}

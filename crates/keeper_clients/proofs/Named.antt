@@ -2,21 +2,19 @@
 use Rattle.std.proofs.Common.{◌≡◌, ℕ, Bool, true, false, List, [], ◌∷◌, ◌++◌, map, Option, None, Some, refl, sym, ◌∙◌, ap, subst, append-nil, suc, if◌then◌else◌}
 use Rattle.std.specs.List.{AllByRecursion, flat_map}
 use Rattle.checkpoint_records.proofs.DistinctLaws.{all_behind, all_front}
-use Rattle.client_machine.specs.Asking.{requested}
 use Rattle.client_machine.specs.Phases.{is_owing}
 use Rattle.client_machine.specs.Saves.{at_stage}
 use Rattle.client_machine.specs.declared.requests.Request.TheVariants.{Done as AskDone}
 use Rattle.client_machine.specs.declared.saves.SaveAnswer.{SaveAnswer}
 use Rattle.client_machine.specs.declared.saves.SaveAsk.{SaveAsk}
 use Rattle.client_machine.specs.declared.saves.Stage.{Stage}
-use Rattle.client_engine.specs.Answering.{after_answer, answer_messages, changed, closes, stage_again, stopped}
+use Rattle.client_engine.specs.Answering.{after_answer, answer_messages, changed, stage_again, stopped}
 use Rattle.client_engine.specs.Driving.{Run, Step, behind}
 use Rattle.client_engine.specs.Messages.{spelled}
 use Rattle.client_engine.specs.Places.{phase_at}
 use Rattle.client_engine.specs.Speaking.{HasPlace, MayAnswer}
 use Rattle.client_engine.specs.declared.hearing.Cue.{Cue}
 use Rattle.client_engine.specs.declared.hearing.Cue.TheVariants.{Cancelled, Complete, Die, Malformed, Nothing, Properties, Refused, Registered, Save}
-use Rattle.client_engine.specs.declared.place.Place.{Place}
 use Rattle.client_engine.specs.declared.place.Talk.{Talk}
 use Rattle.client_engine.proofs.Acting.{asked_again}
 use Rattle.protocol_messages.specs.declared.message.Message.{Message}

@@ -1,8 +1,7 @@
 -- What a part of the stream leaves to a client's keeper has its place.
-use Rattle.std.proofs.Common.{◌≡◌, ℕ, List, Option, None, Some, refl}
+use Rattle.std.proofs.Common.{ℕ, List, Option, None, Some, refl}
 use Rattle.ice_framing.specs.Parts.{Part, TooMuch, Whole}
 use Rattle.ice_framing.specs.declared.cutting.WholeFrame.{WholeFrame}
-use Rattle.ice_messages.specs.declared.message.IceMessage.{IceMessage}
 use Rattle.ice_setup.specs.Opener.{opened}
 use Rattle.ice_setup.specs.declared.opener.AnyOpener.{AnyOpener}
 use Rattle.ice_setup.specs.declared.opener.AnyOpener.TheVariants.{Joined as AtJoined}

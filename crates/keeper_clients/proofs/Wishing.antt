@@ -1,15 +1,12 @@
 -- What a free client does for a wish that it may have.
-use Rattle.std.proofs.Common.{◌≡◌, ℕ, Bool, true, false, cond, not, ◌&&◌, ◌||◌, List, [], ◌∷◌, ◌++◌, Result, Ok, Err, refl, sym, ◌∙◌, ap, subst, append_assoc, arith}
+use Rattle.std.proofs.Common.{◌≡◌, ℕ, Bool, true, false, cond, not, ◌&&◌, ◌||◌, List, [], ◌∷◌, ◌++◌, Ok, Err, refl, sym, ◌∙◌, ap, append_assoc}
 use Rattle.std.proofs.lemmas.Bool.{false≢true}
 use Rattle.ice_values.specs.declared.property.Property.{Property}
-use Rattle.xsmp_messages.specs.declared.message.XsmpMessage.{XsmpMessage}
 use Rattle.xsmp_messages.specs.declared.message.XsmpMessage.TheVariants.{SetProperties}
-use Rattle.client_machine.specs.Asking.{after_asked, answered, may_ask, requested}
+use Rattle.client_machine.specs.Asking.{after_asked, may_ask, requested}
 use Rattle.client_machine.specs.Laws.{stage_phase}
 use Rattle.client_machine.specs.Phases.{ClientState, is_owing, is_registered, is_saving, phase_said}
 use Rattle.client_machine.specs.Saves.{IsLawful, step_request}
-use Rattle.client_machine.specs.declared.phase.ClientPhase.{ClientPhase}
-use Rattle.client_machine.specs.declared.requests.AskRefusal.{AskRefusal}
 use Rattle.client_machine.specs.declared.requests.AskRefusal.TheVariants.{WrongPhase}
 use Rattle.client_machine.specs.declared.requests.Request.{Request}
 use Rattle.client_machine.specs.declared.requests.Request.TheVariants.{Close, Done as AskDone, Set}
@@ -19,7 +16,7 @@ use Rattle.client_machine.specs.declared.saves.Stage.{Stage}
 use Rattle.client_machine.specs.declared.saves.Stage.TheVariants.{First, Second, Talking, TalkingTwo}
 use Rattle.client_machine.specs.declared.saves.Step.{Step as SaveStep}
 use Rattle.client_machine.specs.declared.saves.Step.TheVariants.{Done, Interact, PhaseTwo, Talked}
-use Rattle.client_engine.specs.Answering.{after_answer, after_owed, answer_messages, answered_at, as_message, changed, closes, is_closing, may_ask_at, sets, stopped}
+use Rattle.client_engine.specs.Answering.{after_answer, after_owed, answer_messages, as_message, changed, closes, is_closing, may_ask_at, sets, stopped}
 use Rattle.client_engine.specs.Driving.{Step, behind, stays}
 use Rattle.client_engine.specs.Places.{on_client, phase_at}
 use Rattle.client_engine.specs.Speaking.{MayAnswer}
@@ -29,7 +26,7 @@ use Rattle.client_engine.specs.declared.place.Talk.{Talk}
 use Rattle.client_engine.proofs.Acting.{lawful_said}
 use Rattle.protocol_messages.specs.declared.message.Message.{Message}
 use Rattle.protocol_messages.specs.declared.message.Message.TheVariants.{Xsmp}
-use Rattle.stream_clients.specs.Clients.{Client, Wish, after_wish, does, is_speaking, may_wish, said_in, stand_at, wished}
+use Rattle.stream_clients.specs.Clients.{Client, Wish, after_wish, does, is_speaking, may_wish, said_in, stand_at}
 use Rattle.stream_clients.specs.Clients.Wish.{Asks, Closes}
 
 or-true : (b : Bool) → (b || true) ≡ true
