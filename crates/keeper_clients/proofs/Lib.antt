@@ -6,3 +6,4 @@ pub mod Joiners
 pub mod Agents
 pub mod Calls
 pub mod Joins
+pub mod Lives

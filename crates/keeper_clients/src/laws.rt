@@ -1,4 +1,4 @@
-ghost use Rattle.keeper_clients.specs.Agents.{AreFree as AgentsAreFree};
+ghost use Rattle.keeper_clients.specs.Agents.{AreFree as AgentsAreFree, LivesAreFree};
 ghost use Rattle.keeper_clients.specs.Joiners.{AreFree as JoinersAreFree, JoinsAreFree};
 ghost use Rattle.keeper_clients.specs.Named.{AreFree as NamedJoinersAreFree, CallsAreFree};
 
@@ -35,4 +35,10 @@ pub fn joins_are_free<S: Saves, D: Dies, C: Cancels>()
 /// something, is what a free client does.
 pub fn agents_are_free()
     ensures { AgentsAreFree }
+{}
+
+/// Does nothing: its contract is a law of keepers. So it is of all that comes to an agent, pieces and what
+/// it is told, in any order.
+pub fn lives_of_agents_are_free()
+    ensures { LivesAreFree }
 {}

@@ -6,5 +6,6 @@
 mod laws;
 
 pub use laws::{
-    agents_are_free, joiners_are_free, joins_are_free, named_calls_are_free, named_joiners_are_free,
+    agents_are_free, joiners_are_free, joins_are_free, lives_of_agents_are_free,
+    named_calls_are_free, named_joiners_are_free,
 };
