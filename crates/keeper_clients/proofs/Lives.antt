@@ -5,7 +5,7 @@ use Rattle.std.specs.List.{AllByRecursion, flat_map}
 use Rattle.client_engine.specs.Driving.{Run, Step}
 use Rattle.client_engine.specs.Messages.{spelled}
 use Rattle.protocol_messages.specs.declared.message.Message.{Message}
-use Rattle.outer_agent.specs.Ends.{Came, Life, after, after_all}
+use Rattle.outer_agent.specs.Ends.{Came, Life, after}
 use Rattle.outer_agent.specs.Ends.Came.{Piece, SaveEnded, SessionEnded}
 use Rattle.outer_agent.specs.Script.{closed, piece_heard, reacts, talk_of, told}
 use Rattle.outer_agent.specs.declared.acts.AgentAct.{AgentAct}
