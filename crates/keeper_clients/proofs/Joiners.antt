@@ -1,5 +1,5 @@
 -- A client with callbacks is a free client.
-use Rattle.std.proofs.Common.{◌≡◌, ℕ, Bool, true, false, List, [], ◌∷◌, ◌++◌, map, Option, None, Some, refl, sym, ◌∙◌, ap, subst, append-nil, eqb, suc, if◌then◌else◌}
+use Rattle.std.proofs.Common.{◌≡◌, ℕ, Bool, true, false, List, [], ◌∷◌, ◌++◌, map, Option, None, Some, refl, sym, ◌∙◌, ap, subst, append-nil, eqb, if◌then◌else◌}
 use Rattle.std.specs.List.{AllByRecursion, flat_map}
 use Rattle.sm_world.specs.declared.effects.Effect.{Effect}
 use Rattle.checkpoint_records.proofs.DistinctLaws.{all_behind, all_front}
@@ -19,13 +19,14 @@ use Rattle.client_engine.specs.declared.place.Talk.{Talk}
 use Rattle.client_engine.proofs.Acting.{asked_again}
 use Rattle.protocol_messages.specs.declared.message.Message.{Message}
 use Rattle.client_callbacks.specs.Answers.{Replies, unasked}
-use Rattle.client_callbacks.specs.Doing.{bytes_in, sent}
+use Rattle.client_callbacks.specs.Doing.{heard_in, sent}
 use Rattle.client_callbacks.specs.Script.{Came, Entry, Hears, Keeper, Says, answer_line, answered, answered_again, cancelled, completed, cued, died, ended, is_over, on_client, owes, reacts, run_after, saved, script_from, stand_at, talk_of, turn}
+use Rattle.client_callbacks.proofs.Quiet.{heard-append, quiet-turn}
 use Rattle.stream_clients.specs.Clients.{Client, Wish, does}
 use Rattle.stream_clients.specs.Clients.Wish.{Asks, Closes}
 use Rattle.stream_clients.specs.Clients.{cued as free_cued, stand_at as free_stand_at}
 use Rattle.keeper_clients.specs.Freedom.{AreAlike, HearsFreely, IsFree, Meets, RunsFreely, freely_heard, freely_run}
-use Rattle.keeper_clients.specs.Joiners.{AreFree, IsAnswered, RunIsFree, sending, sent_by}
+use Rattle.keeper_clients.specs.Joiners.{AreFree, IsAnswered, RunIsFree, a_piece, sending, sent_by}
 use Rattle.keeper_clients.proofs.Folding.{Freely, Heeds, behind-alike, flat-both, is-free}
 use Rattle.keeper_clients.proofs.Wishing.{answering, does-answer, does-asked, does-close, does-die, may-owe, owed-stays, speaks}
 
@@ -115,8 +116,11 @@ hears-free = is-free unasked talk_of stand_at Says cued sent_by sending IsAnswer
 abbrev Runs : Run Client → List (List ℕ) → List Entry → Run Keeper → Type 0
 Runs free pieces line after = RunsFreely talk_of sent_by sending free pieces line after
 
-none-free : (run : Run Keeper) (free : Run Client) (pieces : List (List ℕ)) → Meets talk_of run free → Runs free pieces [] run
-none-free run free pieces meets = record { cames = []; count = 0; front = refl; says = refl; meets = meets }
+abbrev pieces_in : List Entry → List (List ℕ)
+pieces_in line = flat_map a_piece (heard_in line)
+
+none-free : (run : Run Keeper) (free : Run Client) → Meets talk_of run free → Runs free [] [] run
+none-free run free meets = record { cames = []; come = refl; says = refl; meets = meets }
 
 -- nothing more is received at the end
 ended-line : (run : Run Keeper) (more : List Came) → script_from (ended run).next more ≡ []
@@ -128,36 +132,36 @@ ended-run run [] = refl
 ended-run run (came ∷ more) = refl
 
 abbrev On : List Came → Type 0
-On more = (run : Run Keeper) (free : Run Client) → Meets talk_of run free → AllByRecursion IsAnswered (script_from run more) → Runs free (bytes_in more) (script_from run more) (run_after run more)
+On more = (run : Run Keeper) (free : Run Client) → Meets talk_of run free → AllByRecursion IsAnswered (script_from run more) → Runs free (pieces_in (script_from run more)) (script_from run more) (run_after run more)
 
 turn-free : (run : Run Keeper) (free : Run Client) (bytes : List ℕ) (replies : List Replies) (more : List Came) → Meets talk_of run free → On more
-    → AllByRecursion IsAnswered ((turn run bytes replies).line ++ script_from (turn run bytes replies).next more) → Runs free (bytes ∷ bytes_in more) (Hears bytes ∷ ((turn run bytes replies).line ++ script_from (turn run bytes replies).next more)) (run_after (turn run bytes replies).next more)
+    → AllByRecursion IsAnswered ((turn run bytes replies).line ++ script_from (turn run bytes replies).next more) → Runs free (pieces_in (Hears bytes ∷ ((turn run bytes replies).line ++ script_from (turn run bytes replies).next more))) (Hears bytes ∷ ((turn run bytes replies).line ++ script_from (turn run bytes replies).next more)) (run_after (turn run bytes replies).next more)
 turn-free run free [] replies more meets on each =
-    let none : Runs free ([] ∷ bytes_in more) (Hears [] ∷ []) (ended run).next = record { cames = []; count = 0; front = refl; says = refl; meets = record { standing = meets.standing; talk = meets.talk } } in
-    subst (λ (x : Run Keeper). Runs free ([] ∷ bytes_in more) (Hears [] ∷ script_from (ended run).next more) x) (sym (ended-run run more))
-    (subst (λ (es : List Entry). Runs free ([] ∷ bytes_in more) (Hears [] ∷ es) (ended run).next) (sym (ended-line run more)) none)
+    let none : Runs free [] (Hears [] ∷ []) (ended run).next = record { cames = []; come = refl; says = refl; meets = record { standing = meets.standing; talk = meets.talk } } in
+    subst (λ (x : Run Keeper). Runs free (pieces_in (Hears [] ∷ script_from (ended run).next more)) (Hears [] ∷ script_from (ended run).next more) x) (sym (ended-run run more))
+    (subst (λ (es : List Entry). Runs free (pieces_in (Hears [] ∷ es)) (Hears [] ∷ es) (ended run).next) (sym (ended-line run more)) none)
 turn-free run free (b ∷ bytes) replies more meets on each =
     let done : Step (Run Keeper) Entry = turn run (b ∷ bytes) replies in
     let rest : List Entry = script_from done.next more in
     let h : HearsFreely unasked talk_of reacts sent_by sending run free (b ∷ bytes) replies = hears-free run free (b ∷ bytes) replies meets (all_front IsAnswered done.line rest each) in
     let by : Step (Run Client) Message = freely_heard free (b ∷ bytes) h.wishes in
-    let r : Runs by.next (bytes_in more) rest (run_after done.next more) = on done.next by.next h.meets (all_behind IsAnswered done.line rest each) in
+    let r : Runs by.next (pieces_in rest) rest (run_after done.next more) = on done.next by.next h.meets (all_behind IsAnswered done.line rest each) in
+    let heard : heard_in (done.line ++ rest) ≡ heard_in rest = heard-append done.line rest ∙ ap (λ (hs : List (List ℕ)). hs ++ heard_in rest) (quiet-turn run (b ∷ bytes) replies) in
     record {
       cames = record { bytes = b ∷ bytes; wishes = h.wishes } ∷ r.cames;
-      count = suc r.count;
-      front = ap (λ (ps : List (List ℕ)). (b ∷ bytes) ∷ ps) r.front;
+      come = ap (λ (ps : List (List ℕ)). (b ∷ bytes) ∷ ps) (r.come ∙ ap (λ (hs : List (List ℕ)). flat_map a_piece hs) (sym heard));
       says = flat-both sent_by sending done.line rest by.line (freely_run by.next r.cames).line h.line r.says;
       meets = r.meets;
     }
 
 came-free : (run : Run Keeper) (free : Run Client) (came : Came) (more : List Came) (b : Bool) → Meets talk_of run free → On more
     → AllByRecursion IsAnswered (if b then [] else Hears came.bytes ∷ ((turn run came.bytes came.replies).line ++ script_from (turn run came.bytes came.replies).next more))
-    → Runs free (came.bytes ∷ bytes_in more) (if b then [] else Hears came.bytes ∷ ((turn run came.bytes came.replies).line ++ script_from (turn run came.bytes came.replies).next more)) (if b then run else run_after (turn run came.bytes came.replies).next more)
-came-free run free came more true meets on each = none-free run free (came.bytes ∷ bytes_in more) meets
+    → Runs free (pieces_in (if b then [] else Hears came.bytes ∷ ((turn run came.bytes came.replies).line ++ script_from (turn run came.bytes came.replies).next more))) (if b then [] else Hears came.bytes ∷ ((turn run came.bytes came.replies).line ++ script_from (turn run came.bytes came.replies).next more)) (if b then run else run_after (turn run came.bytes came.replies).next more)
+came-free run free came more true meets on each = none-free run free meets
 came-free run free came more false meets on each = turn-free run free came.bytes came.replies more meets on each.1
 
 pub runs-free : RunIsFree
-runs-free run free [] meets each = none-free run free [] meets
+runs-free run free [] meets each = none-free run free meets
 runs-free run free (came ∷ more) meets each = came-free run free came more (is_over run.keeper.ending) meets (λ next by m e. runs-free next by more m e) each
 
 pub joiners-free : AreFree

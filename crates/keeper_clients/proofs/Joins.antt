@@ -12,7 +12,7 @@ use Rattle.protocol_messages.specs.declared.message.Message.TheVariants.{Ice}
 use Rattle.client_callbacks.specs.Doing.{Callbacks, Follows, bytes_in, effects_in, heard_in, sent}
 use Rattle.client_callbacks.specs.Script.{AsksReasons, AsksSave, Entry, Hears, Notes, Says, TellsCancelled, run_after, script, script_from, start, talk_of}
 use Rattle.keeper_clients.specs.Freedom.{RunsFreely, freely_begun}
-use Rattle.keeper_clients.specs.Joiners.{AnswersLawfully, IsAnswered, JoinsAreFree, received_of, sending, sent_by, sent_of}
+use Rattle.keeper_clients.specs.Joiners.{AnswersLawfully, IsAnswered, JoinsAreFree, a_piece, received_of, sending, sent_by, sent_of}
 use Rattle.keeper_clients.proofs.Joiners.{runs-free}
 
 sent-in : (line : List Entry) → flat_map sent_of (effects_in line) ≡ flat_map sent_by line
@@ -48,7 +48,7 @@ module _ {S D C : Type 0} (answers : S → SaveAsk → SaveAnswer → S → Type
       let done : List Entry = joins.does.done in
       let all : done ≡ script cookie previous saves joins.cames = sym (append-nil done) ∙ ap (λ (es : List Entry). done ++ es) (sym (joins.does.none_left whole)) ∙ joins.does.parts in
       let each : AllByRecursion IsAnswered (script cookie previous saves joins.cames) = subst (λ (es : List Entry). AllByRecursion IsAnswered es) all (answered-line lawful done old.callbacks new.callbacks joins.does.follows) in
-      let r : RunsFreely talk_of sent_by sending (freely_begun cookie previous) (bytes_in joins.cames) (script_from (start cookie previous saves) joins.cames) (run_after (start cookie previous saves) joins.cames) =
+      let r : RunsFreely talk_of sent_by sending (freely_begun cookie previous) (flat_map a_piece (heard_in (script_from (start cookie previous saves) joins.cames))) (script_from (start cookie previous saves) joins.cames) (run_after (start cookie previous saves) joins.cames) =
       runs-free (start cookie previous saves) (freely_begun cookie previous) joins.cames (record { standing = refl; talk = refl }) each.1 in
       record {
         effects = effects_in done;
@@ -56,7 +56,6 @@ module _ {S D C : Type 0} (answers : S → SaveAsk → SaveAnswer → S → Type
         pieces = bytes_in joins.cames;
         heard = received-in done ∙ ap (λ (ps : List (List ℕ)). map (λ (bytes : List ℕ). Heard (received bytes)) ps) joins.heard;
         cames = r.cames;
-        count = r.count;
-        front = r.front;
+        come = r.come ∙ ap (λ (hs : List (List ℕ)). flat_map a_piece hs) (ap heard_in (sym all) ∙ joins.heard);
         says = sent-in done ∙ ap (λ (es : List Entry). flat_map sent_by es) all ∙ ap (λ (es : List Effect). sent (Ice (ByteOrder Lsb)) ∷ es) r.says;
       }

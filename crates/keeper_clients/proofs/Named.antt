@@ -1,5 +1,5 @@
 -- A client with named callbacks is a free client.
-use Rattle.std.proofs.Common.{◌≡◌, ℕ, Bool, true, false, List, [], ◌∷◌, ◌++◌, map, Option, None, Some, refl, sym, ◌∙◌, ap, subst, append-nil, suc, if◌then◌else◌}
+use Rattle.std.proofs.Common.{◌≡◌, ℕ, Bool, true, false, List, [], ◌∷◌, ◌++◌, map, Option, None, Some, refl, sym, ◌∙◌, ap, subst, append-nil, if◌then◌else◌}
 use Rattle.std.specs.List.{AllByRecursion, flat_map}
 use Rattle.checkpoint_records.proofs.DistinctLaws.{all_behind, all_front}
 use Rattle.client_machine.specs.Phases.{is_owing}
@@ -24,7 +24,7 @@ use Rattle.stream_clients.specs.Clients.{Client, Wish, does}
 use Rattle.stream_clients.specs.Clients.Wish.{Asks, Closes}
 use Rattle.stream_clients.specs.Clients.{cued as free_cued, stand_at as free_stand_at}
 use Rattle.keeper_clients.specs.Freedom.{AreAlike, HearsFreely, IsFree, Meets, RunsFreely, freely_heard, freely_run}
-use Rattle.keeper_clients.specs.Named.{AreFree, IsAnswered, RunIsFree}
+use Rattle.keeper_clients.specs.Named.{AreFree, IsAnswered, RunIsFree, heard_until}
 use Rattle.keeper_clients.proofs.Folding.{Freely, Heeds, behind-alike, flat-both, is-free}
 use Rattle.keeper_clients.proofs.Wishing.{answering, does-answer, does-asked, does-die, may-owe, owed-stays}
 
@@ -112,32 +112,28 @@ hears-free = is-free unasked talk_of stand_at Says cued bytes_of spelled IsAnswe
 abbrev Runs : Run Client → List (List ℕ) → List Entry → Run Keeper → Type 0
 Runs free pieces line after = RunsFreely talk_of bytes_of spelled free pieces line after
 
-abbrev pieces_in : List Came → List (List ℕ)
-pieces_in cames = map (λ (came : Came). came.bytes) cames
-
 abbrev On : List Came → Type 0
-On more = (run : Run Keeper) (free : Run Client) → Meets talk_of run free → AllByRecursion IsAnswered (script_from run more) → Runs free (pieces_in more) (script_from run more) (run_after run more)
+On more = (run : Run Keeper) (free : Run Client) → Meets talk_of run free → AllByRecursion IsAnswered (script_from run more) → Runs free (heard_until run more) (script_from run more) (run_after run more)
 
 came-free : (run : Run Keeper) (free : Run Client) (came : Came) (more : List Came) (b : Bool) → Meets talk_of run free → On more
     → AllByRecursion IsAnswered (if b then [] else ((piece_heard run came.bytes came.replies).line ++ script_from (piece_heard run came.bytes came.replies).next more))
-    → Runs free (came.bytes ∷ pieces_in more) (if b then [] else ((piece_heard run came.bytes came.replies).line ++ script_from (piece_heard run came.bytes came.replies).next more)) (if b then run else run_after (piece_heard run came.bytes came.replies).next more)
-came-free run free came more true meets on each = record { cames = []; count = 0; front = refl; says = refl; meets = meets }
+    → Runs free (if b then [] else (came.bytes ∷ heard_until (piece_heard run came.bytes came.replies).next more)) (if b then [] else ((piece_heard run came.bytes came.replies).line ++ script_from (piece_heard run came.bytes came.replies).next more)) (if b then run else run_after (piece_heard run came.bytes came.replies).next more)
+came-free run free came more true meets on each = record { cames = []; come = refl; says = refl; meets = meets }
 came-free run free came more false meets on each =
     let done : Step (Run Keeper) Entry = piece_heard run came.bytes came.replies in
     let rest : List Entry = script_from done.next more in
     let h : HearsFreely unasked talk_of reacts bytes_of spelled run free came.bytes came.replies = hears-free run free came.bytes came.replies meets (all_front IsAnswered done.line rest each) in
     let by : Step (Run Client) Message = freely_heard free came.bytes h.wishes in
-    let r : Runs by.next (pieces_in more) rest (run_after done.next more) = on done.next by.next h.meets (all_behind IsAnswered done.line rest each) in
+    let r : Runs by.next (heard_until done.next more) rest (run_after done.next more) = on done.next by.next h.meets (all_behind IsAnswered done.line rest each) in
     record {
       cames = record { bytes = came.bytes; wishes = h.wishes } ∷ r.cames;
-      count = suc r.count;
-      front = ap (λ (ps : List (List ℕ)). came.bytes ∷ ps) r.front;
+      come = ap (λ (ps : List (List ℕ)). came.bytes ∷ ps) r.come;
       says = flat-both bytes_of spelled done.line rest by.line (freely_run by.next r.cames).line h.line r.says;
       meets = r.meets;
     }
 
 runs-free : RunIsFree
-runs-free run free [] meets each = record { cames = []; count = 0; front = refl; says = refl; meets = meets }
+runs-free run free [] meets each = record { cames = []; come = refl; says = refl; meets = meets }
 runs-free run free (came ∷ more) meets each = came-free run free came more (is_over run.keeper.ending) meets (λ next by m e. runs-free next by more m e) each
 
 pub named-free : AreFree

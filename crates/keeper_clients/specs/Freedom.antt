@@ -60,10 +60,9 @@ freely_run run (came ∷ more) = behind (freely_heard run came.bytes came.wishes
 abbrev pub freely_begun : Cookie → List ℕ → Run Client
 freely_begun cookie previous = record { standing = beginning; keeper = record { talk = opening cookie previous; dying = false } }
 
--- A free client to which so many of these pieces come says the same as this line, and then stands where this run does.
+-- A free client to which these pieces come says the same as this line, and then stands where this run does.
 pub record RunsFreely {K E X : Type 0} (talk_of : K → Talk) (said_in : E → List X) (said : Message → List X) (free : Run Client) (pieces : List (List ℕ)) (line : List E) (after : Run K) : Type 0 where
   pub cames : List FreeCame
-  pub count : ℕ
-  pub front : map (λ (came : FreeCame). came.bytes) cames ≡ take count pieces
+  pub come : map (λ (came : FreeCame). came.bytes) cames ≡ pieces
   pub says : flat_map said_in line ≡ flat_map said (freely_run free cames).line
   pub meets : Meets talk_of after (freely_run free cames).next

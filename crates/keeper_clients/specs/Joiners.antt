@@ -1,5 +1,5 @@
 -- A client with callbacks as a free client.
-use Rattle.std.specs.Prelude.{◌≡◌, List, [], ◌∷◌, None, Option, Result, map, take, ℕ}
+use Rattle.std.specs.Prelude.{◌≡◌, List, [], ◌∷◌, None, Option, Result, map, ℕ}
 use Rattle.std.specs.List.{AllByRecursion, flat_map}
 use Rattle.ice_cookie.specs.declared.cookies.Cookie.{Cookie}
 use Rattle.ice_messages.specs.declared.message.IceMessage.TheVariants.{ByteOrder}
@@ -15,7 +15,7 @@ use Rattle.client_engine.specs.Driving.{Run}
 use Rattle.protocol_messages.specs.declared.message.Message.{Message}
 use Rattle.protocol_messages.specs.declared.message.Message.TheVariants.{Ice}
 use Rattle.client_callbacks.specs.Answers.{unasked}
-use Rattle.client_callbacks.specs.Doing.{Desk, bytes_in, sent}
+use Rattle.client_callbacks.specs.Doing.{Desk, heard_in, sent}
 use Rattle.client_callbacks.specs.Running.{Joins, failure_of}
 use Rattle.client_callbacks.specs.declared.ends.ClientEnd.{ClientEnd}
 use Rattle.client_callbacks.specs.declared.ends.JoinFault.{JoinFault}
@@ -44,11 +44,16 @@ sent_by (Notes line) = []
 abbrev pub sending : Message → List Effect
 sending message = sent message ∷ []
 
--- A whole run: what it sends of all that it receives, until it is at its end. What a receive gave is a piece.
+-- the stream's end is no piece
+abbrev pub a_piece : List ℕ → List (List ℕ)
+a_piece [] = []
+a_piece (b ∷ bytes) = (b ∷ bytes) ∷ []
+
+-- A whole run: what it sends of all that it receives, until it is at its end.
 abbrev pub RunIsFree : Type 0
 RunIsFree =
     (run : Run Keeper) (free : Run Client) (cames : List Came) → Meets talk_of run free → AllByRecursion IsAnswered (script_from run cames)
-    → RunsFreely talk_of sent_by sending free (bytes_in cames) (script_from run cames) (run_after run cames)
+    → RunsFreely talk_of sent_by sending free (flat_map a_piece (heard_in (script_from run cames))) (script_from run cames) (run_after run cames)
 
 -- where each answer to a save is lawful
 pub record AreFree : Type 0 where
@@ -68,15 +73,14 @@ abbrev pub received_of : Effect → List Effect
 received_of (Heard event) = Heard event ∷ []
 received_of effect = []
 
--- What was sent is ByteOrder, and then what a free client says to which so many of the pieces come that were received.
+-- What was sent is ByteOrder, and then what a free client says to which the pieces come that were received.
 pub record SendsFreely (cookie : Cookie) (previous : List ℕ) (before after : Option (List Effect)) : Type 0 where
   pub effects : List Effect
   pub told : after ≡ adds before effects
   pub pieces : List (List ℕ)
   pub heard : flat_map received_of effects ≡ map (λ (bytes : List ℕ). Heard (received bytes)) pieces
   pub cames : List FreeCame
-  pub count : ℕ
-  pub front : map (λ (came : FreeCame). came.bytes) cames ≡ take count pieces
+  pub come : map (λ (came : FreeCame). came.bytes) cames ≡ flat_map a_piece pieces
   pub says : flat_map sent_of effects ≡ sent (Ice (ByteOrder Lsb)) ∷ flat_map sending (freely_run (freely_begun cookie previous) cames).line
 
 -- All that follows is said of callbacks that answer so.

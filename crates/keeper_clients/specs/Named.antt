@@ -1,5 +1,5 @@
 -- A client with named callbacks as a free client.
-use Rattle.std.specs.Prelude.{◌≡◌, List, Option, None, Some, map, ℕ}
+use Rattle.std.specs.Prelude.{◌≡◌, List, [], ◌∷◌, Option, None, Some, ℕ, if◌then◌else◌}
 use Rattle.std.specs.List.{AllByRecursion, flat_map}
 use Rattle.ice_cookie.specs.declared.cookies.Cookie.{Cookie}
 use Rattle.client_machine.specs.Saves.{IsLawful}
@@ -9,7 +9,7 @@ use Rattle.client_engine.specs.Driving.{Run}
 use Rattle.client_engine.specs.Messages.{spelled}
 use Rattle.named_joiner.specs.Doing.{bytes_of}
 use Rattle.named_joiner.specs.Hearing.{Replied}
-use Rattle.named_joiner.specs.Script.{AsksReasons, AsksSave, Came, Entry, Keeper, Says, reacts, run_after, script_from, start, talk_of, unasked}
+use Rattle.named_joiner.specs.Script.{AsksReasons, AsksSave, Came, Entry, Keeper, Says, is_over, piece_heard, reacts, run_after, script_from, start, talk_of, unasked}
 use Rattle.named_joiner.specs.Standing.{IsRun, Joining}
 use Rattle.named_joiner.specs.declared.callbacks.NamedAsk.{NamedAsk}
 use Rattle.named_joiner.specs.declared.ends.NamedReply.{NamedReply}
@@ -31,11 +31,16 @@ IsAnswered (Says message) = Unit {0}
 IsAnswered (AsksSave asked answer) = IsAnswer asked.ask answer
 IsAnswered (AsksReasons reasons) = AreReasons reasons
 
+-- the pieces that it takes until it is spent
+abbrev pub heard_until : Run Keeper → List Came → List (List ℕ)
+heard_until run [] = []
+heard_until run (came ∷ more) = if is_over run.keeper.ending then [] else (came.bytes ∷ heard_until (piece_heard run came.bytes came.replies).next more)
+
 -- A whole run: what it says of all that comes, until it is spent.
 abbrev pub RunIsFree : Type 0
 RunIsFree =
     (run : Run Keeper) (free : Run Client) (cames : List Came) → Meets talk_of run free → AllByRecursion IsAnswered (script_from run cames)
-    → RunsFreely talk_of bytes_of spelled free (map (λ (came : Came). came.bytes) cames) (script_from run cames) (run_after run cames)
+    → RunsFreely talk_of bytes_of spelled free (heard_until run cames) (script_from run cames) (run_after run cames)
 
 -- where each callback answered
 pub record AreFree : Type 0 where
