@@ -1,0 +1,4 @@
+pub mod Freedom
+pub mod Named
+pub mod Joiners
+pub mod Agents
