@@ -85,7 +85,7 @@ as-after before (ShutsConn d) c ks s = elim (cases_eq c d) [
 ]
 as-after before act c ks s = s
 
-as-through : (before : Option Connection) (acts : List SessionAct) (c : ℕ) (ks : List Connection) → StaysAs before (connection_of c ks) → StaysAs before (connection_of c (connections_through acts ks))
+pub as-through : (before : Option Connection) (acts : List SessionAct) (c : ℕ) (ks : List Connection) → StaysAs before (connection_of c ks) → StaysAs before (connection_of c (connections_through acts ks))
 as-through before [] c ks s = s
 as-through before (act ∷ acts) c ks s = as-through before acts c (connections_after act ks) (as-after before act c ks s)
 

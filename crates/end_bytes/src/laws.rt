@@ -5,6 +5,7 @@ ghost use Rattle.end_bytes.specs.Examples.{AClientRegisters, AClientSaves, AConn
 ghost use Rattle.end_bytes.specs.Following.{PartsAreHeard, PiecesAreHeard};
 ghost use Rattle.end_bytes.specs.Hearing.{ClientsSayNoError, ManagersHearMessages};
 ghost use Rattle.end_bytes.specs.Saying.{AllThatIsSentIsSaid};
+ghost use Rattle.end_bytes.specs.SettingUp.{SetUpsBegin};
 ghost use Rattle.end_bytes.specs.Talking.{BothEndsKeepTheirBytes, EnteringGoesOn, QuietEndsAgree, TalkingBegins, TalkingGoesOn, TalkingIsClean, TalkingStays};
 
 /// Does nothing: its contract is a law of managers. One takes the message that the frame of a client
@@ -122,4 +123,10 @@ pub fn talking_is_clean()
 /// way.
 pub fn both_ends_keep_their_bytes()
     ensures { BothEndsKeepTheirBytes }
+{}
+
+/// Does nothing: its contract is a law of a manager and a client that exchange bytes. As a client
+/// connects both set up the connection, or the manager has shut it at once.
+pub fn set_ups_begin()
+    ensures { SetUpsBegin }
 {}
