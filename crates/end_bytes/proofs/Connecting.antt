@@ -92,6 +92,7 @@ begins-so c previous m done now is s said agrees of_run =
       opens = refl;
       place = refl;
       alive = refl;
+      said = said;
       up = subst (λ (x : Standing). HoldsBytes client_opcode x (bytes_of client_opcode (Ice (ByteOrder Lsb) ∷ [])) (Ice (ByteOrder Lsb) ∷ [])) (sym new) first;
       heard = (record { fits = order_said.fits; bytes = order_said.bytes }, tt);
       down = subst (λ (ms : List Message). HoldsBytes manager_opcode beginning ([] ++ bytes_of manager_opcode ms) (Ice (ByteOrder Lsb) ∷ [])) (sym said) back;

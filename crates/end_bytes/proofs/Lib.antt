@@ -17,3 +17,4 @@ pub mod Connecting
 pub mod Tables
 pub mod HearsSetUp
 pub mod TakesSetUp
+pub mod SetsUp

@@ -32,7 +32,7 @@ abbrev pub setup_or : AnySetup → Option AnySetup → AnySetup
 setup_or d None = d
 setup_or d (Some x) = x
 
-abbrev opener_or : AnyOpener → Option AnyOpener → AnyOpener
+abbrev pub opener_or : AnyOpener → Option AnyOpener → AnyOpener
 opener_or d None = d
 opener_or d (Some x) = x
 

@@ -142,7 +142,7 @@ pub record StandsStill (stream : List ℕ) (o : Option Connection) : Type 0 wher
   pub stream_is : k.stream ≡ stream
   pub spoken : HasSpoken k.setup
 
-there-still : (stream : List ℕ) (o : Option Connection) → is_speaking o ≡ true → StandsAt stream o → StandsStill stream o
+pub there-still : (stream : List ℕ) (o : Option Connection) → is_speaking o ≡ true → StandsAt stream o → StandsStill stream o
 there-still stream None speaks s = absurd (differ speaks refl)
 there-still stream (Some k) speaks s = record { k = k; is = refl; stream_is = s.0; spoken = s.1 }
 

@@ -1,5 +1,5 @@
 -- The set-up of a connection between a manager and a client that exchange bytes, from the first byte on.
-use Rattle.std.specs.Prelude.{Bool, List, None, Some, drop, false, map, true, ℕ, ◌≡◌, ◌≤◌, ◌⊎◌}
+use Rattle.std.specs.Prelude.{Bool, List, None, Some, [], drop, false, map, true, ℕ, ◌∷◌, ◌≡◌, ◌≤◌, ◌⊎◌}
 use Rattle.std.specs.List.{AllByRecursion, list_any}
 use Rattle.checkpoint_records.specs.declared.records.Book.{Book}
 use Rattle.sm_world.specs.declared.events.Event.{Event}
@@ -45,6 +45,7 @@ pub record SetsUp (c : ℕ) (previous : List ℕ) (b : BytePair) : Type 0 where
   pub opens : ends.client ≡ Some opener
   pub place : b.client.keeper.talk.place ≡ Opening opener previous
   pub alive : b.client.keeper.dying ≡ false
+  pub said : b.said_down ≡ map Ice ends.said_down
   pub up : HoldsBytes client_opcode (standing_of connection.stream) b.up (map Ice (drop ends.heard ends.said_up))
   pub heard : AllByRecursion (IsSayable client_opcode) (map Ice (drop ends.heard ends.said_up))
   pub down : HoldsBytes manager_opcode b.client.standing b.down (map Ice (drop ends.took ends.said_down))
@@ -67,6 +68,31 @@ pub record IsLeft (c : ℕ) (b : BytePair) : Type 0 where
 abbrev pub IsOnItsWay : ℕ → List ℕ → BytePair → Type 0
 IsOnItsWay c previous b = SetsUp c previous b ⊎ ((HasOpened b × EntersOrTalks c previous b) ⊎ IsLeft c b)
 
+-- it stays so through each step, where XSMP is spoken behind it once ProtocolReply was said
+abbrev pub StandsOnceOpened : ℕ → BytePair → Type 0
+StandsOnceOpened c b = HasOpened b → SpeaksOn c b
+
+abbrev pub SetUpsGoOn : Type 0
+SetUpsGoOn = (c : ℕ) (previous : List ℕ) (b : BytePair) (s : ByteStep) → IsOnItsWay c previous b → May c s b → StandsOnceOpened c (step c s b) → AreSayable (step c s b) → IsOnItsWay c previous (step c s b)
+
 -- as a client connects, or the manager shuts the connection at once
 abbrev pub SetUpsBegin : Type 0
 SetUpsBegin = (c : ℕ) (previous : List ℕ) (m : Machine) → IsOfRun m.session → HaveSame m.connections m.session → connection_of c m.connections ≡ None → SetsUp c previous (connected c previous m) ⊎ IsLeft c (connected c previous m)
+
+-- so it is behind each step of a list of them
+abbrev pub AllStand : ℕ → List ByteStep → BytePair → Type 0
+AllStand c [] b = Unit {0}
+AllStand c (s ∷ steps) b = StandsOnceOpened c (step c s b) × AreSayable (step c s b) × AllStand c steps (step c s b)
+
+-- What both keep from the first byte on: where XSMP is spoken the session has never answered the client by BadState, and wherever the
+-- connection stands and nothing is under way both agree. So no set-up stands still.
+pub record KeepsFromTheFirst (c : ℕ) (b : BytePair) : Type 0 where
+  pub clean : SpeaksOn c b → list_any is_bad_state (sent_to c b.machine.session) ≡ false
+  pub agree : (k : Connection) → connection_of c b.machine.connections ≡ Some k → IsQuiet b k → AgreesAt (side_of c b.machine.session) b.client.keeper.talk.place
+
+-- at whatever point of a run the client connects
+abbrev pub BothEndsKeepFromTheFirstByte : Type 0
+BothEndsKeepFromTheFirstByte =
+    (config : Config) (book : Book) (events : List Event) (c : ℕ) (previous : List ℕ) (steps : List ByteStep) → connection_of c (after_all (start config book) events).connections ≡ None
+    → AllMay c steps (connected c previous (after_all (start config book) events)) → AllStand c steps (connected c previous (after_all (start config book) events))
+    → KeepsFromTheFirst c (after c steps (connected c previous (after_all (start config book) events)))
