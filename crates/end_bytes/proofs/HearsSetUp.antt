@@ -16,19 +16,12 @@ use Rattle.ice_setup.specs.declared.states.AnySetup.TheVariants.{Ready as AtRead
 use Rattle.ice_setup.specs.declared.states.Moved.{Moved}
 use Rattle.protocol_messages.specs.declared.message.Message.{Message}
 use Rattle.protocol_messages.specs.declared.message.Message.TheVariants.{Ice, Xsmp}
-use Rattle.session_model.specs.declared.events.SessionEvent.TheVariants.{Left, Ready, Said}
+use Rattle.session_model.specs.declared.events.SessionEvent.TheVariants.{Ready}
 use Rattle.session_model.specs.Moves.{History}
-use Rattle.session_model.specs.Phases.{is_bound}
-use Rattle.session_model.specs.Readings as of
 use Rattle.session_model.specs.Rules.{taken}
-use Rattle.session_engine.specs.Answers.{outcome, sequence_after, speaks_xsmp}
-use Rattle.session_engine.specs.Machine.{Connection, Machine, Step as Done, answered, asked, behind, connection_of, counted, noted, part_for, part_taken, parts_taken, stays}
-use Rattle.session_engine.specs.Outcomes.{Answer, Asks, Begins, Closes, Outcome, Speaks, Stays}
+use Rattle.session_engine.specs.Answers.{sequence_after, speaks_xsmp}
+use Rattle.session_engine.specs.Machine.{Connection, Machine, Step as Done, behind, connection_of, counted, part_taken, parts_taken, stays}
 use Rattle.session_engine.specs.Shown.{Agrees as HaveSame}
-use Rattle.session_engine.specs.Telling.{AgreesFor}
-use Rattle.session_engine.proofs.Answering.{agrees-for}
-use Rattle.session_engine.proofs.Following.{agrees-left, agrees-said, agrees-told}
-use Rattle.session_engine.proofs.Outcomes.{fits-part}
 use Rattle.message_streams.specs.Streams.{part_of}
 use Rattle.setup_agreement.specs.SetUps.{SetUp, Way, after as after_ways, begun, hears, manager_takes, said_by as answer_list, step as way_step}
 use Rattle.setup_agreement.specs.SetUps.Way.{Comes, Takes}
@@ -40,6 +33,7 @@ use Rattle.end_bytes.specs.Entering.{GoesTo, HeardAs}
 use Rattle.end_bytes.specs.Following.{HasSpoken, StandsAt}
 use Rattle.end_bytes.specs.Saying.{said_by}
 use Rattle.end_bytes.specs.SettingUp.{IsLedTo}
+use Rattle.end_bytes.proofs.Beside.{agrees-part}
 use Rattle.end_bytes.proofs.Opens.{managers-set-up}
 use Rattle.end_bytes.proofs.Parts.{said-behind}
 use Rattle.end_bytes.proofs.Tables.{TableGoes, opened-row, setup_or, silent-took, table-goes}
@@ -58,28 +52,6 @@ led-enters k p l = subst (λ (x : SetUp). Enters k x) (sym l.is) (enters-after k
 
 pub next-waits : (n : ℕ) (all ws : List IceMessage) (m : IceMessage) → drop n all ≡ m ∷ ws → drop (n + 1) all ≡ ws
 next-waits n all ws m e = sym (drop-drop 1 n all) ∙ ap (λ (xs : List IceMessage). drop 1 xs) e
-
--- The session and the connections agree behind each part.
-
-agrees-asked : (c : ℕ) (m : Machine) (b : Bool) → HaveSame m.connections m.session → HaveSame (asked m c b).next.connections (asked m c b).next.session
-agrees-asked c m true a = a
-agrees-asked c m false a = agrees-told (Left c) _ m.session (agrees-left c m.connections m.session a)
-
-agrees-answered : (c : ℕ) (m : Machine) (answer : Answer) → AgreesFor c answer m.connections m.session → HaveSame (answered m c answer).next.connections (answered m c answer).next.session
-agrees-answered c m (Stays message) a = a
-agrees-answered c m (Begins message) a = agrees-told (Ready c) m.connections m.session a
-agrees-answered c m (Closes message) a = agrees-told (Left c) _ m.session (agrees-left c m.connections m.session a)
-agrees-answered c m (Speaks message sequence frame) a = agrees-told (Said c message sequence frame) m.connections m.session (agrees-said c message sequence frame m.connections m.session a)
-agrees-answered c m Asks a = agrees-asked c m (is_bound (of.phase_of c m.session)) a
-
-agrees-for-part : (c : ℕ) (m : Machine) (part : Part) (o : Option Connection) → connection_of c m.connections ≡ o → HaveSame m.connections m.session → HaveSame (part_for m c part o).next.connections (part_for m c part o).next.session
-agrees-for-part c m part None is a = a
-agrees-for-part c m part (Some k) is a =
-    let o : Outcome = outcome k.setup (sequence_after k.taken) part in
-    agrees-answered c (noted m c o.setup) o.answer (agrees-for c o.setup o.answer m.connections m.session k is (fits-part k.setup (sequence_after k.taken) part) a)
-
-agrees-part : (c : ℕ) (m : Machine) (part : Part) → HaveSame m.connections m.session → HaveSame (part_taken m c part).next.connections (part_taken m c part).next.session
-agrees-part c m part a = agrees-for-part c m part (connection_of c m.connections) refl a
 
 -- Where the manager stands
 

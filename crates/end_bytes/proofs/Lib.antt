@@ -18,3 +18,4 @@ pub mod Tables
 pub mod HearsSetUp
 pub mod TakesSetUp
 pub mod SetsUp
+pub mod FromTheFirst

@@ -6,9 +6,9 @@
 mod laws;
 
 pub use laws::{
-    all_that_is_sent_is_said, both_ends_keep_their_bytes, clients_open, clients_say_no_error,
-    entering_goes_on, managers_hear_messages, managers_set_up, others_happen_beside,
-    pairs_keep_to_runs, parts_are_heard, pieces_are_heard, quiet_ends_agree, sessions_run,
-    set_ups_begin,
-    talking_begins, talking_goes_on, talking_is_clean, talking_stays, worked_pairs,
+    all_that_is_sent_is_said, both_ends_keep_from_the_first_byte, both_ends_keep_their_bytes,
+    clients_open, clients_say_no_error, entering_goes_on, managers_hear_messages, managers_set_up,
+    others_happen_beside, pairs_keep_to_runs, parts_are_heard, pieces_are_heard, quiet_ends_agree,
+    sessions_run, set_ups_begin, set_ups_go_on, talking_begins, talking_goes_on, talking_is_clean,
+    talking_stays, worked_pairs,
 };
