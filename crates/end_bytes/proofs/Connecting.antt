@@ -1,7 +1,7 @@
 -- As a client connects, both set up the connection.
 use Rattle.std.proofs.Common.{lit≤, ◌≡◌, ◌⊎◌, inl, inr, refl, sym, ap, ◌∙◌, subst, ℕ, ◌≤◌, Bool, false, cond, List, [], ◌∷◌, ◌++◌, map}
-use Rattle.std.specs.Prelude.{Option, None, Some, is_some, if◌then◌else◌}
-use Rattle.std.specs.List.{AllByRecursion, flat_map}
+use Rattle.std.specs.Prelude.{Option, None, Some, is_some}
+use Rattle.std.specs.List.{flat_map}
 use Rattle.std.proofs.lemmas.Grind.{flat_map-append}
 use Rattle.ice_values.specs.declared.numbers.Endian.TheVariants.{Lsb}
 use Rattle.ice_framing.specs.Frames.{Standing, beginning, standing_of, unit_limit, units}
@@ -25,16 +25,15 @@ use Rattle.session_engine.specs.Shown.{Agrees as HaveSame, is_speaking}
 use Rattle.session_engine.specs.declared.acts.Act.{Act}
 use Rattle.session_engine.proofs.Connections.{connection_of-append, same}
 use Rattle.session_engine.proofs.Following.{agrees-joined, agrees-told}
-use Rattle.message_streams.specs.Streams.{HasBytes, HoldsBytes, bytes_of}
+use Rattle.message_streams.specs.Streams.{HoldsBytes, bytes_of}
 use Rattle.end_agreement.proofs.Calm.{differ}
 use Rattle.setup_agreement.specs.SetUps.{begun}
 use Rattle.setup_agreement.proofs.Spelling.{IsSaid, manager-said}
 use Rattle.end_schedules.specs.UnderWay.{sent_to}
-use Rattle.end_bytes.specs.BytePairs.{BytePair, IsOfRun, connected, connecting, manager_did}
+use Rattle.end_bytes.specs.BytePairs.{IsOfRun, connecting, manager_did}
 use Rattle.end_bytes.specs.Elsewhere.{RunsTo, StaysAs}
 use Rattle.end_bytes.specs.Saying.{said_by, said_on}
 use Rattle.end_bytes.specs.SettingUp.{IsLeft, SetUpsBegin, SetsUp}
-use Rattle.end_bytes.specs.Talking.{IsSayable}
 use Rattle.end_bytes.proofs.Beside.{as-through}
 use Rattle.end_bytes.proofs.Runs.{ran-one, run-both}
 use Rattle.end_bytes.proofs.Said.{all-sent}

@@ -1,8 +1,7 @@
 -- From the first byte on.
 use Rattle.std.proofs.Common.{◌≡◌, ◌⊎◌, inl, inr, refl, sym, ap, ◌∙◌, subst, ℕ, ◌≤◌, Bool, true, false, List, [], ◌∷◌, ◌++◌, map, take, drop, length, length-drop, arith}
-use Rattle.std.specs.Prelude.{Option, None, Some, is_some, ◌||◌}
+use Rattle.std.specs.Prelude.{Option, None, Some, ◌||◌}
 use Rattle.std.specs.List.{list_any}
-use Rattle.checkpoint_records.specs.declared.records.Book.{Book}
 use Rattle.sm_world.specs.declared.events.Event.{Event}
 use Rattle.sm_world.specs.declared.events.Event.TheVariants.{Gone, Piece}
 use Rattle.ice_framing.specs.Frames.{Standing}
@@ -17,9 +16,8 @@ use Rattle.protocol_messages.specs.declared.message.Message.TheVariants.{Ice}
 use Rattle.session_model.specs.Moves.{waits_for}
 use Rattle.session_model.specs.Rules.{opened}
 use Rattle.session_engine.specs.Answers.{speaks_xsmp}
-use Rattle.session_engine.specs.Machine.{Connection, Machine, Step as Done, after_all, connection_of, gone_for, piece_for, start, step as event_step}
+use Rattle.session_engine.specs.Machine.{Connection, Machine, Step as Done, after_all, connection_of, piece_for, start, step as event_step}
 use Rattle.session_engine.specs.Shown.{Agrees as HaveSame, is_speaking}
-use Rattle.session_engine.specs.declared.config.Config.{Config}
 use Rattle.session_engine.proofs.Limits.{agrees-start}
 use Rattle.message_streams.specs.Streams.{HoldsBytes, bytes_of}
 use Rattle.end_agreement.proofs.Calm.{differ}
@@ -28,9 +26,9 @@ use Rattle.setup_agreement.proofs.Entering.{enters-few, lets-in}
 use Rattle.setup_agreement.proofs.Wiring.{not-empty}
 use Rattle.end_bytes.specs.BytePairs.{AllMay, BytePair, ByteStep, IsOfRun, May, after, connected, manager_did, step}
 use Rattle.end_bytes.specs.BytePairs.ByteStep.{Breaks, Comes, Happens, Takes, Wishes}
-use Rattle.end_bytes.specs.Elsewhere.{HappensBeside, RunsTo, StaysAs, is_from}
+use Rattle.end_bytes.specs.Elsewhere.{HappensBeside, RunsTo, StaysAs}
 use Rattle.end_bytes.specs.Saying.{said_by}
-use Rattle.end_bytes.specs.SettingUp.{AllStand, BothEndsKeepFromTheFirstByte, HasOpened, IsLeft, IsOnItsWay, KeepsFromTheFirst, SetUpsGoOn, SetsUp, StandsOnceOpened, is_reply}
+use Rattle.end_bytes.specs.SettingUp.{AllStand, BothEndsKeepFromTheFirstByte, HasOpened, IsLeft, IsOnItsWay, KeepsFromTheFirst, SetUpsGoOn, SetsUp, is_reply}
 use Rattle.end_bytes.specs.Talking.{AreSayable, EntersOrTalks, IsQuiet, KeepsBytes, SpeaksOn, TalksOn}
 use Rattle.end_bytes.proofs.Beside.{agrees-step, others-beside}
 use Rattle.end_bytes.proofs.Connecting.{set-ups-begin}
@@ -149,6 +147,6 @@ keep-from-the-first config book events c previous steps none may stand =
     let of_run : IsOfRun m.session = record { began = waits_for config.patience book; events = r.events; is = r.is } in
     let same : HaveSame m.connections m.session = agrees-all (start config book) events (agrees-start config book) in
     kept c previous (after c steps (connected c previous m)) (each-step c previous (connected c previous m) steps (on-its-way c previous m (set-ups-begin c previous m of_run same none)) may stand) where
-  on-its-way : (d : ℕ) (id : List ℕ) (n : Machine) → SetsUp d id (connected d id n) ⊎ IsLeft d (connected d id n) → IsOnItsWay d id (connected d id n)
-  on-its-way d id n (inl t) = inl t
-  on-its-way d id n (inr l) = inr (inr l)
+      on-its-way : (d : ℕ) (id : List ℕ) (n : Machine) → SetsUp d id (connected d id n) ⊎ IsLeft d (connected d id n) → IsOnItsWay d id (connected d id n)
+      on-its-way d id n (inl t) = inl t
+      on-its-way d id n (inr l) = inr (inr l)

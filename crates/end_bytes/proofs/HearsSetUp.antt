@@ -1,6 +1,6 @@
 -- What the manager does about the frames of a set-up.
 use Rattle.std.proofs.Common.{◌≡◌, ◌⊎◌, inl, inr, refl, sym, ap, ◌∙◌, subst, ℕ, ◌+◌, ◌≤◌, Bool, true, false, List, [], ◌∷◌, ◌++◌, map, drop, append-nil, append_assoc}
-use Rattle.std.specs.Prelude.{Option, None, Some}
+use Rattle.std.specs.Prelude.{Option, Some}
 use Rattle.std.specs.List.{AllByRecursion}
 use Rattle.std.proofs.lemmas.List.{drop-drop, map-append}
 use Rattle.ice_cookie.specs.declared.cookies.Cookie.{Cookie}
@@ -10,7 +10,6 @@ use Rattle.ice_messages.specs.Messages.{IsMessage}
 use Rattle.ice_messages.specs.declared.message.IceMessage.{IceMessage}
 use Rattle.ice_setup.specs.Opener.{client_opcode}
 use Rattle.ice_setup.specs.Setup.{moved}
-use Rattle.ice_setup.specs.declared.opener.AnyOpener.{AnyOpener}
 use Rattle.ice_setup.specs.declared.states.AnySetup.{AnySetup}
 use Rattle.ice_setup.specs.declared.states.AnySetup.TheVariants.{Ready as AtReady}
 use Rattle.ice_setup.specs.declared.states.Moved.{Moved}
@@ -24,11 +23,10 @@ use Rattle.session_engine.specs.Machine.{Connection, Machine, Step as Done, behi
 use Rattle.session_engine.specs.Shown.{Agrees as HaveSame}
 use Rattle.message_streams.specs.Streams.{part_of}
 use Rattle.setup_agreement.specs.SetUps.{SetUp, Way, after as after_ways, begun, hears, manager_takes, said_by as answer_list, step as way_step}
-use Rattle.setup_agreement.specs.SetUps.Way.{Comes, Takes}
-use Rattle.setup_agreement.proofs.Entering.{Enters, enters-after, enters-start, enters-step, is_ready, late}
+use Rattle.setup_agreement.specs.SetUps.Way.{Comes}
+use Rattle.setup_agreement.proofs.Entering.{Enters, enters-after, enters-start, late}
 use Rattle.setup_agreement.proofs.Entering.Late.{Opened}
 use Rattle.end_schedules.specs.UnderWay.{sent_to}
-use Rattle.end_bytes.specs.Entering as heard
 use Rattle.end_bytes.specs.Entering.{GoesTo, HeardAs}
 use Rattle.end_bytes.specs.Following.{HasSpoken, StandsAt}
 use Rattle.end_bytes.specs.Saying.{said_by}

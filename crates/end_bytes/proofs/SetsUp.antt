@@ -1,10 +1,10 @@
 -- Each step of bytes in a set-up.
-use Rattle.std.proofs.Common.{◌≡◌, ◌⊎◌, inl, inr, refl, sym, ap, ◌∙◌, subst, ℕ, ◌≤◌, Bool, true, false, List, [], ◌∷◌, ◌++◌, map, take, drop, length, append-nil, append_assoc}
+use Rattle.std.proofs.Common.{◌≡◌, ◌⊎◌, inl, inr, refl, sym, ap, ◌∙◌, subst, ℕ, ◌≤◌, true, false, List, [], ◌∷◌, ◌++◌, map, take, drop, length, append-nil, append_assoc}
 use Rattle.std.specs.Prelude.{Option, None, Some, is_some}
 use Rattle.std.specs.List.{AllByRecursion, list_any}
 use Rattle.std.proofs.lemmas.List.{drop-append-le, map-append}
 use Rattle.sm_world.specs.declared.events.Event.{Event}
-use Rattle.sm_world.specs.declared.events.Event.TheVariants.{Gone, Piece}
+use Rattle.sm_world.specs.declared.events.Event.TheVariants.{Piece}
 use Rattle.interact_queue.specs.Queue.{is_in}
 use Rattle.ice_framing.specs.Frames.{Standing, cut, fed, standing_of, unit_limit, units}
 use Rattle.ice_framing.specs.Parts.{Part, new_parts, parts_at}
@@ -17,8 +17,7 @@ use Rattle.ice_setup.specs.declared.opener.AnyOpener.TheVariants.{OpenProtocol a
 use Rattle.ice_setup.specs.declared.states.AnySetup.{AnySetup}
 use Rattle.ice_setup.specs.declared.states.AnySetup.TheVariants.{AwaitCookie as AtCookie, AwaitOrder as AtOrder, AwaitProtocol, AwaitProtocolCookie as AtProtocolCookie, AwaitSetup as AtSetup, Ready as AtReady}
 use Rattle.client_machine.specs.Saves.{first_ask}
-use Rattle.client_engine.specs.Driving.{Run, Step as Did, parts_taken as client_parts, piece_taken, standing_at, stays}
-use Rattle.client_engine.specs.declared.place.Place.{Place}
+use Rattle.client_engine.specs.Driving.{Step as Did, parts_taken as client_parts, standing_at}
 use Rattle.client_engine.specs.declared.place.Place.TheVariants.{Opening}
 use Rattle.protocol_messages.specs.declared.message.Message.{Message}
 use Rattle.protocol_messages.specs.declared.message.Message.TheVariants.{Ice, Xsmp}
@@ -36,28 +35,27 @@ use Rattle.message_streams.specs.Streams.{BringsFront, BringsNew, HoldsBytes, by
 use Rattle.message_streams.proofs.Cutting.{pieces-of, streams-of}
 use Rattle.end_agreement.proofs.Calm.{differ}
 use Rattle.setup_agreement.specs.SetUps.{SetUp}
-use Rattle.setup_agreement.proofs.Entering.{Enters as IsIn, enters-few, late, offers}
+use Rattle.setup_agreement.proofs.Entering.{enters-few, late}
 use Rattle.setup_agreement.proofs.Entering.Late.{Opened}
 use Rattle.end_schedules.specs.Pairs.{Pair, begun}
 use Rattle.end_schedules.specs.Schedules.{paired}
 use Rattle.end_schedules.specs.UnderWay.{sent_to}
-use Rattle.stream_clients.specs.Clients.{Client, Wish, may_wish, reacts, talk_of, wished}
+use Rattle.stream_clients.specs.Clients.{Client, Wish, reacts, talk_of}
 use Rattle.end_bytes.specs.BytePairs.{BytePair, ByteStep, IsOfRun, May, client_did, manager_did, step}
 use Rattle.end_bytes.specs.BytePairs.ByteStep.{Breaks, Comes, Happens, Takes, Wishes}
 use Rattle.end_bytes.specs.Elsewhere.{HappensBeside, StaysAs, is_from}
-use Rattle.end_bytes.specs.Following.{HasSpoken, StandsAt}
 use Rattle.end_bytes.specs.Saying.{said_by}
 use Rattle.end_bytes.specs.SettingUp.{HasOpened, IsLeft, IsOnItsWay, SetsUp, StandsOnceOpened, is_reply}
-use Rattle.end_bytes.specs.Talking.{AreSayable, Enters, EntersOrTalks, IsReached, IsSayable, SpeaksOn, entered}
+use Rattle.end_bytes.specs.Talking.{AreSayable, Enters, IsReached, IsSayable, entered}
 use Rattle.end_bytes.proofs.Beside.{others-beside}
 use Rattle.end_bytes.proofs.Connecting.{none-behind, none-some, of-run-on}
-use Rattle.end_bytes.proofs.HearsSetUp.{GoesOn, HasBegun, IsHeard, SaysMore, StandsIn, all-heard, led-enters}
+use Rattle.end_bytes.proofs.HearsSetUp.{GoesOn, HasBegun, IsHeard, StandsIn, all-heard, led-enters}
 use Rattle.end_bytes.proofs.Opens.{left-out, none-through}
 use Rattle.end_bytes.proofs.Parts.{fed-is}
 use Rattle.end_bytes.proofs.Runs.{ran-step}
 use Rattle.end_bytes.proofs.Silence.{IsQuietSince, quiet-happened}
 use Rattle.end_bytes.proofs.Tables.{opener_or}
-use Rattle.end_bytes.proofs.TakesSetUp.{OpensIn, Said, SaysUp, Took, all-took, no-wish, told_parts}
+use Rattle.end_bytes.proofs.TakesSetUp.{OpensIn, Said, Took, all-took, no-wish, told_parts}
 use Rattle.end_bytes.proofs.Talking.{StandsStill, all-both, all-right, have-bytes, holds-more, there-still}
 
 -- Lists of messages

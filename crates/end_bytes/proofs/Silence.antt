@@ -1,6 +1,6 @@
 -- To a client without a phase nothing is sent by what comes from elsewhere, nor as it joins.
 use Rattle.std.proofs.Common.{◌≡◌, ◌≢◌, inl, inr, refl, sym, ap, ◌∙◌, subst, ℕ, suc, Bool, true, false, cond, List, [], ◌∷◌, ◌++◌, map, arith}
-use Rattle.std.specs.Prelude.{Option, None, Some, ◌==◌}
+use Rattle.std.specs.Prelude.{Option, None, ◌==◌}
 use Rattle.std.proofs.lemmas.Bool.{cases_eq}
 use Rattle.xsmp_messages.specs.declared.message.XsmpMessage.{XsmpMessage}
 use Rattle.xsmp_messages.specs.declared.message.XsmpMessage.TheVariants.{Die, Error, Interact, SaveComplete, SaveYourself, SaveYourselfPhase2, ShutdownCancelled}
@@ -12,7 +12,7 @@ use Rattle.session_model.specs.Phases.{phase_given}
 use Rattle.session_model.specs.Reading.{reading}
 use Rattle.session_model.specs.Readings as of
 use Rattle.session_model.specs.Replies.{reply}
-use Rattle.session_model.specs.Rules.{opened, run, taken}
+use Rattle.session_model.specs.Rules.{taken}
 use Rattle.session_engine.proofs.Connections.{other}
 use Rattle.end_agreement.specs.Sides.{may_give}
 use Rattle.end_agreement.proofs.Calm.{differ}

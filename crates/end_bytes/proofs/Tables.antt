@@ -1,20 +1,19 @@
 -- What the tables say of the next message of a set-up with the right cookie, at either end.
-use Rattle.std.proofs.Common.{lit≤, ◌≡◌, ◌⊎◌, inl, inr, refl, sym, ap, ◌∙◌, subst, ℕ, ◌≤◌, Bool, true, false, List, [], ◌∷◌, ◌++◌, drop, arith}
+use Rattle.std.proofs.Common.{lit≤, ◌≡◌, inl, inr, refl, sym, ap, ◌∙◌, subst, ℕ, ◌≤◌, Bool, true, false, List, [], ◌∷◌, drop, arith}
 use Rattle.std.specs.Prelude.{Option, None, Some, if◌then◌else◌}
 use Rattle.ice_cookie.specs.Cookies.{shows}
 use Rattle.ice_cookie.specs.declared.cookies.Cookie.{Cookie}
 use Rattle.ice_values.specs.declared.numbers.Endian.TheVariants.{Lsb}
 use Rattle.ice_messages.specs.declared.message.IceMessage.{IceMessage}
-use Rattle.ice_messages.specs.declared.message.IceMessage.TheVariants.{ByteOrder}
 use Rattle.ice_setup.specs.Opener.{connection_setup, opened, protocol_setup, shows_cookie}
-use Rattle.ice_setup.specs.Setup.{asks_cookie, connection_reply, moved, named, protocol_reply, rejection}
+use Rattle.ice_setup.specs.Setup.{asks_cookie, connection_reply, moved, protocol_reply}
 use Rattle.ice_setup.specs.declared.opener.AnyOpener.{AnyOpener}
-use Rattle.ice_setup.specs.declared.opener.AnyOpener.TheVariants.{OpenOrder, OpenProtocol, OpenSetup}
+use Rattle.ice_setup.specs.declared.opener.AnyOpener.TheVariants.{OpenProtocol, OpenSetup}
 use Rattle.ice_setup.specs.declared.opener.OpenMoved.TheVariants.{Goes as GoesOn}
 use Rattle.ice_setup.specs.declared.states.AnySetup.{AnySetup}
-use Rattle.ice_setup.specs.declared.states.AnySetup.TheVariants.{AwaitCookie as AtCookie, AwaitOrder as AtOrder, AwaitProtocol as AtProtocol, AwaitProtocolCookie as AtProtocolCookie, AwaitSetup as AtSetup, Ready as AtReady}
+use Rattle.ice_setup.specs.declared.states.AnySetup.TheVariants.{AwaitCookie as AtCookie, AwaitProtocol as AtProtocol, AwaitProtocolCookie as AtProtocolCookie, AwaitSetup as AtSetup, Ready as AtReady}
 use Rattle.ice_setup.specs.declared.states.Moved.{Moved}
-use Rattle.ice_setup.specs.declared.states.Moved.TheVariants.{Ends, Goes}
+use Rattle.ice_setup.specs.declared.states.Moved.TheVariants.{Goes}
 use Rattle.client_engine.specs.Hearing.{fatal_class, opening_at, saying}
 use Rattle.client_engine.specs.declared.place.Arrival.{Arrival}
 use Rattle.client_engine.specs.declared.place.Place.TheVariants.{Opening}
@@ -22,9 +21,9 @@ use Rattle.protocol_messages.specs.declared.message.Message.{Message}
 use Rattle.session_engine.specs.Answers.{speaks_xsmp}
 use Rattle.end_agreement.proofs.Calm.{differ}
 use Rattle.setup_agreement.specs.SetUps.{SetUp}
-use Rattle.setup_agreement.proofs.Entering.{Enters, IsLate, Late, answers, late, later, same-cookie}
+use Rattle.setup_agreement.proofs.Entering.{Enters, Late, answers, late, later, same-cookie}
 use Rattle.setup_agreement.proofs.Entering.Late.{Asked, Connected, Joined, Offered, Opened, ShownAgain}
-use Rattle.setup_agreement.proofs.Rows.{Early, IsEarly, early}
+use Rattle.setup_agreement.proofs.Rows.{Early, early}
 use Rattle.setup_agreement.proofs.Rows.Early.{Demanded, OrderHeard, OrderTaken, Ordered, Shown, Started}
 use Rattle.end_bytes.specs.Entering.{IsInTurn}
 
