@@ -1,7 +1,7 @@
 -- As a client connects, both set up the connection.
 use Rattle.std.proofs.Common.{lit≤, ◌≡◌, ◌⊎◌, inl, inr, refl, sym, ap, ◌∙◌, subst, ℕ, ◌≤◌, Bool, false, cond, List, [], ◌∷◌, ◌++◌, map}
 use Rattle.std.specs.Prelude.{Option, None, Some, is_some}
-use Rattle.std.specs.List.{flat_map}
+use Rattle.std.specs.List.{flat_map, list_any}
 use Rattle.std.proofs.lemmas.Grind.{flat_map-append}
 use Rattle.ice_values.specs.declared.numbers.Endian.TheVariants.{Lsb}
 use Rattle.ice_framing.specs.Frames.{Standing, beginning, standing_of, unit_limit, units}
@@ -33,7 +33,7 @@ use Rattle.end_schedules.specs.UnderWay.{sent_to}
 use Rattle.end_bytes.specs.BytePairs.{IsOfRun, connecting, manager_did}
 use Rattle.end_bytes.specs.Elsewhere.{RunsTo, StaysAs}
 use Rattle.end_bytes.specs.Saying.{said_by, said_on}
-use Rattle.end_bytes.specs.SettingUp.{IsLeft, SetUpsBegin, SetsUp}
+use Rattle.end_bytes.specs.SettingUp.{IsLeft, SetUpsBegin, SetsUp, says_bad_state}
 use Rattle.end_bytes.proofs.Beside.{as-through}
 use Rattle.end_bytes.proofs.Runs.{ran-one, run-both}
 use Rattle.end_bytes.proofs.Said.{all-sent}
@@ -100,7 +100,9 @@ begins-so c previous m done now is s said agrees of_run =
 
 by-connection : (c : ℕ) (previous : List ℕ) (m : Machine) (first : Done) (o : Option Connection) → connection_of c first.next.connections ≡ o → StaysAs (Some (joined m.cookie c)) o → said_by c first ≡ [] → HaveSame first.next.connections first.next.session → IsOfRun first.next.session
     → SetsUp c previous (manager_did c (greeted c first) (connecting previous m)) ⊎ IsLeft c (manager_did c (greeted c first) (connecting previous m))
-by-connection c previous m first None is s none agrees of_run = inr (record { same = agrees; gone = is })
+by-connection c previous m first None is s none agrees of_run =
+    let said : said_by c (greeted c first) ≡ [] = greeted-said c first none ∙ ap (λ (o : Option Connection). flat_map (said_on c) (flat_map act_in (map Does (greeting c o)))) is in
+    inr (record { same = agrees; of_run = of_run; gone = is; clean = ap (list_any says_bad_state) said })
 by-connection c previous m first (Some now) is s none agrees of_run =
     let said : said_by c (greeted c first) ≡ Ice (ByteOrder Lsb) ∷ [] = greeted-said c first none ∙ ap (λ (o : Option Connection). flat_map (said_on c) (flat_map act_in (map Does (greeting c o)))) is ∙ greeting-said c now in
     inl (begins-so c previous m (greeted c first) now is s said agrees of_run)

@@ -8,6 +8,7 @@ use Rattle.sm_world.specs.declared.events.Event.TheVariants.{Piece}
 use Rattle.interact_queue.specs.Queue.{is_in}
 use Rattle.ice_framing.specs.Frames.{Standing, cut, fed, standing_of, unit_limit, units}
 use Rattle.ice_framing.specs.Parts.{Part, new_parts, parts_at}
+use Rattle.ice_cookie.specs.declared.cookies.Cookie.{Cookie}
 use Rattle.ice_messages.specs.Messages.{IsMessage}
 use Rattle.ice_messages.specs.declared.message.IceMessage.{IceMessage}
 use Rattle.ice_setup.specs.Opener.{client_opcode}
@@ -28,15 +29,17 @@ use Rattle.session_model.specs.Rules as session
 use Rattle.session_model.specs.Rules.{opened as opened_with, run as ran}
 use Rattle.session_model.specs.declared.events.SessionEvent.TheVariants.{Left, Ready}
 use Rattle.session_engine.specs.Answers.{speaks_xsmp, without_xsmp}
-use Rattle.session_engine.specs.Machine.{Connection, Machine, Step as Done, acts_since, connection_of, fed_on, fed_with, gone_for, parts_taken, piece_for, step as event_step, without}
+use Rattle.session_engine.specs.Machine.{Connection, Machine, Step as Done, acts_since, connection_of, fed_on, fed_with, gone_for, parted, parts_taken, piece_for, step as event_step, told, without}
 use Rattle.session_engine.specs.Shown.{Agrees as HaveSame, is_speaking}
 use Rattle.session_engine.proofs.Following.{agrees-changed, agrees-left, agrees-told, numbers-in}
 use Rattle.message_streams.specs.Streams.{BringsFront, BringsNew, HoldsBytes, bytes_of, part_of}
 use Rattle.message_streams.proofs.Cutting.{pieces-of, streams-of}
 use Rattle.end_agreement.proofs.Calm.{differ}
 use Rattle.setup_agreement.specs.SetUps.{SetUp}
-use Rattle.setup_agreement.proofs.Entering.{enters-few, late}
-use Rattle.setup_agreement.proofs.Entering.Late.{Opened}
+use Rattle.setup_agreement.proofs.Entering.{Enters as IsIn, Late, answers, enters-few, late, later}
+use Rattle.setup_agreement.proofs.Entering.Late.{Asked, Connected, Joined, Offered, Opened, ShownAgain}
+use Rattle.setup_agreement.proofs.Rows.{Early, early}
+use Rattle.setup_agreement.proofs.Rows.Early.{Demanded, OrderHeard, OrderTaken, Ordered, Shown, Started}
 use Rattle.end_schedules.specs.Pairs.{Pair, begun}
 use Rattle.end_schedules.specs.Schedules.{paired}
 use Rattle.end_schedules.specs.UnderWay.{sent_to}
@@ -45,15 +48,16 @@ use Rattle.end_bytes.specs.BytePairs.{BytePair, ByteStep, IsOfRun, May, client_d
 use Rattle.end_bytes.specs.BytePairs.ByteStep.{Breaks, Comes, Happens, Takes, Wishes}
 use Rattle.end_bytes.specs.Elsewhere.{HappensBeside, StaysAs, is_from}
 use Rattle.end_bytes.specs.Saying.{said_by}
-use Rattle.end_bytes.specs.SettingUp.{HasOpened, IsLeft, IsOnItsWay, SetsUp, StandsOnceOpened, is_reply}
+use Rattle.end_bytes.specs.SettingUp.{HasOpened, HasSaid, IsClean, IsLeft, IsOnItsWay, SetsUp, StandsOnceOpened, is_reply, says_bad_state}
 use Rattle.end_bytes.specs.Talking.{AreSayable, Enters, IsReached, IsSayable, entered}
 use Rattle.end_bytes.proofs.Beside.{others-beside}
 use Rattle.end_bytes.proofs.Connecting.{none-behind, none-some, of-run-on}
 use Rattle.end_bytes.proofs.HearsSetUp.{GoesOn, HasBegun, IsHeard, StandsIn, all-heard, led-enters}
 use Rattle.end_bytes.proofs.Opens.{left-out, none-through}
 use Rattle.end_bytes.proofs.Parts.{fed-is}
-use Rattle.end_bytes.proofs.Runs.{ran-step}
-use Rattle.end_bytes.proofs.Silence.{IsQuietSince, quiet-happened}
+use Rattle.end_bytes.proofs.Runs.{ran-one, ran-step}
+use Rattle.end_bytes.proofs.Said.{all-sent}
+use Rattle.end_bytes.proofs.Silence.{IsQuietSince, quiet-happened, quiet-left}
 use Rattle.end_bytes.proofs.Tables.{opener_or}
 use Rattle.end_bytes.proofs.TakesSetUp.{OpensIn, Said, Took, all-took, no-wish, told_parts}
 use Rattle.end_bytes.proofs.Talking.{StandsStill, all-both, all-right, have-bytes, holds-more, there-still}
@@ -196,20 +200,21 @@ now-enters c previous b count stream rest done t holds within g said speaks =
       reached = reached-so c previous b.machine.session done.next.session t.of_run (takes-ready c previous b t) g.session;
     }
 
-has-opened : (c : ℕ) (previous : List ℕ) (b : BytePair) (count : ℕ) (stream : List ℕ) (rest : List IceMessage) (done : Done) (t : SetsUp c previous b) → HasBegun c t.cookie stream rest b.machine.session t.ends done → HasOpened (done_with c done count b)
-has-opened c previous b count stream rest done t g =
+has-said : (c : ℕ) (previous : List ℕ) (b : BytePair) (count : ℕ) (stream : List ℕ) (rest : List IceMessage) (done : Done) (t : SetsUp c previous b) → HasBegun c t.cookie stream rest b.machine.session t.ends done → HasSaid c (done_with c done count b)
+has-said c previous b count stream rest done t g =
     let sent : List Message = map Xsmp (sent_to c done.next.session) in
-    let all : b.said_down ++ said_by c done ≡ map Ice (late t.cookie Opened).said_down ++ sent =
     ap (λ (xs : List Message). xs ++ said_by c done) t.said ∙ ap (λ (xs : List Message). map Ice t.ends.said_down ++ xs) g.said ∙ sym (append_assoc (map Ice t.ends.said_down) (map Ice g.says.more) sent)
-    ∙ ap (λ (xs : List Message). xs ++ sent) (sym (map-append Ice t.ends.said_down g.says.more) ∙ ap (map Ice) (sym g.says.down) ∙ ap (λ (x : SetUp). map Ice x.said_down) g.row) in
-    subst (λ (xs : List Message). list_any is_reply xs ≡ true) (sym all) refl
+    ∙ ap (λ (xs : List Message). xs ++ sent) (sym (map-append Ice t.ends.said_down g.says.more) ∙ ap (map Ice) (sym g.says.down) ∙ ap (λ (x : SetUp). map Ice x.said_down) g.row)
+
+pub opened-by : (c : ℕ) (b : BytePair) → HasSaid c b → HasOpened b
+opened-by c b e = subst (λ (xs : List Message). list_any is_reply xs ≡ true) (sym e) refl
 
 by-heard : (c : ℕ) (previous : List ℕ) (b : BytePair) (count : ℕ) (stream : List ℕ) (rest : List IceMessage) (done : Done) (t : SetsUp c previous b) → IsOfRun done.next.session → HoldsBytes client_opcode (standing_of stream) (drop count b.up) (map Ice rest) → units (standing_of stream) ≤ unit_limit
     → AllByRecursion (IsSayable client_opcode) (map Ice rest) → IsHeard c t.cookie stream rest b.machine.session t.ends done → AllByRecursion (IsSayable manager_opcode) (said_by c done) → StandsOnceOpened c (done_with c done count b) → IsOnItsWay c previous (done_with c done count b)
 by-heard c previous b count stream rest done t of_run holds within heard (inl g) said stand = inl (still-sets c previous b count stream rest done t of_run holds within heard g said)
 by-heard c previous b count stream rest done t of_run holds within heard (inr g) said stand =
-    let opened : HasOpened (done_with c done count b) = has-opened c previous b count stream rest done t g in
-    inr (inl (opened, inl (now-enters c previous b count stream rest done t holds within g said (stand opened))))
+    let all : HasSaid c (done_with c done count b) = has-said c previous b count stream rest done t g in
+    inr (inl (all, inl (now-enters c previous b count stream rest done t holds within g said (stand (opened-by c (done_with c done count b) all)))))
 
 setup-comes : (c : ℕ) (previous : List ℕ) (b : BytePair) (count : ℕ) → SetsUp c previous b → StandsOnceOpened c (step c (Comes count) b) → AreSayable (step c (Comes count) b) → IsOnItsWay c previous (step c (Comes count) b)
 setup-comes c previous b count t stand sayable =
@@ -284,6 +289,33 @@ setup-takes c previous b count wishes t sayable =
 
 -- ---- something comes from elsewhere, or the connection breaks
 
+early-clean : (k : Cookie) (row : Early) → list_any says_bad_state (map Ice (early k k (later k) answers row).said_down) ≡ false
+early-clean k Started = refl
+early-clean k OrderHeard = refl
+early-clean k OrderTaken = refl
+early-clean k Ordered = refl
+early-clean k Demanded = refl
+early-clean k Shown = refl
+
+late-clean : (k : Cookie) (row : Late) → list_any says_bad_state (map Ice (late k row).said_down) ≡ false
+late-clean k Connected = refl
+late-clean k Offered = refl
+late-clean k Asked = refl
+late-clean k ShownAgain = refl
+late-clean k Opened = refl
+late-clean k Joined = refl
+
+row-clean : (k : Cookie) (p : SetUp) → IsIn k p → list_any says_bad_state (map Ice p.said_down) ≡ false
+row-clean k p (inl e) = subst (λ (x : SetUp). list_any says_bad_state (map Ice x.said_down) ≡ false) (sym e.is) (early-clean k e.row)
+row-clean k p (inr l) = subst (λ (x : SetUp). list_any says_bad_state (map Ice x.said_down) ≡ false) (sym l.is) (late-clean k l.row)
+
+-- in a set-up no Error was said
+pub set-up-clean : (c : ℕ) (previous : List ℕ) (b : BytePair) → SetsUp c previous b → IsClean b
+set-up-clean c previous b t = ap (list_any says_bad_state) t.said ∙ row-clean t.cookie t.ends (led-enters t.cookie t.ends t.led)
+
+pub clean-still : (c : ℕ) (b : BytePair) (done : Done) → said_by c done ≡ [] → IsClean b → IsClean (manager_did c done b)
+clean-still c b done none clean = ap (λ (xs : List Message). list_any says_bad_state (b.said_down ++ xs)) none ∙ ap (list_any says_bad_state) (append-nil b.said_down) ∙ clean
+
 silent-same : (setup : AnySetup) → speaks_xsmp setup ≡ false → without_xsmp setup ≡ setup
 silent-same (AtOrder s) e = refl
 silent-same (AtSetup s) e = refl
@@ -297,7 +329,7 @@ same-setup was now silent (inl e) = e
 same-setup was now silent (inr e) = e ∙ silent-same was silent
 
 setup-beside : (c : ℕ) (previous : List ℕ) (b : BytePair) (done : Done) (o : Option Connection) (t : SetsUp c previous b) → connection_of c done.next.connections ≡ o → StaysAs (Some t.connection) o → said_by c done ≡ [] → HaveSame done.next.connections done.next.session → IsOfRun done.next.session → IsOnItsWay c previous (manager_did c done b)
-setup-beside c previous b done None t is s none same of_run = inr (inr (record { same = same; gone = is }))
+setup-beside c previous b done None t is s none same of_run = inr (inr (record { same = same; of_run = of_run; gone = is; clean = clean-still c b done none (set-up-clean c previous b t) }))
 setup-beside c previous b done (Some now) t is s none same of_run =
     let setup : now.setup ≡ t.connection.setup = same-setup t.connection.setup now.setup t.silent s.2 in
     inl (record {
@@ -332,11 +364,17 @@ setup-happens c previous b event t apart =
     setup-beside c previous b done (connection_of c done.next.connections) t refl (subst (λ (x : Option Connection). StaysAs x (connection_of c done.next.connections)) t.there o.stays) (none-behind (map Xsmp (sent_to c h)) (said_by c done) (ap (map Xsmp) (sym quiet.sent) ∙ o.said)) o.agrees
     (of-run-on h done.next.session t.of_run (ran-step b.machine event))
 
-pub breaks-off : (c : ℕ) (b : BytePair) (o : Option Connection) → connection_of c b.machine.connections ≡ o → HaveSame b.machine.connections b.machine.session → IsLeft c (manager_did c (gone_for b.machine c o) b)
-breaks-off c b None is same = record { same = same; gone = is }
-breaks-off c b (Some k) is same = record {
+none-left : (c : ℕ) (m : Machine) → IsOfRun m.session → of.phase_of c m.session ≡ None → said_by c (told (parted m c) (Left c)) ≡ []
+none-left c m r n =
+    none-behind (map Xsmp (sent_to c m.session)) (said_by c (told (parted m c) (Left c))) (ap (map Xsmp) (sym (quiet-left c m.session r n).sent) ∙ all-sent c (parted m c) (Left c))
+
+pub breaks-off : (c : ℕ) (b : BytePair) (o : Option Connection) → connection_of c b.machine.connections ≡ o → HaveSame b.machine.connections b.machine.session → IsOfRun b.machine.session → of.phase_of c b.machine.session ≡ None → IsClean b → IsLeft c (manager_did c (gone_for b.machine c o) b)
+breaks-off c b None is same of_run none clean = record { same = same; of_run = of_run; gone = is; clean = ap (list_any says_bad_state) (append-nil b.said_down) ∙ clean }
+breaks-off c b (Some k) is same of_run none clean = record {
   same = agrees-told (Left c) (without c b.machine.connections) b.machine.session (agrees-left c b.machine.connections b.machine.session same);
+  of_run = of-run-on b.machine.session (session.taken (Left c) b.machine.session) of_run (ran-one (Left c) b.machine.session);
   gone = none-through (acts_since b.machine.session (session.taken (Left c) b.machine.session)) c (without c b.machine.connections) (left-out c b.machine.connections);
+  clean = clean-still c b (told (parted b.machine c) (Left c)) (none-left c b.machine of_run none) clean;
 }
 
 pub sets-up-on : (c : ℕ) (previous : List ℕ) (b : BytePair) (s : ByteStep) → SetsUp c previous b → May c s b → StandsOnceOpened c (step c s b) → AreSayable (step c s b) → IsOnItsWay c previous (step c s b)
@@ -344,4 +382,4 @@ sets-up-on c previous b (Comes count) t may stand sayable = setup-comes c previo
 sets-up-on c previous b (Takes count wishes) t may stand sayable = inl (setup-takes c previous b count wishes t sayable)
 sets-up-on c previous b (Wishes wish) t may stand sayable = absurd (differ may (no-wish wish b.client.keeper t.opener previous t.place t.alive))
 sets-up-on c previous b (Happens event) t may stand sayable = setup-happens c previous b event t may
-sets-up-on c previous b Breaks t may stand sayable = inr (inr (breaks-off c b (connection_of c b.machine.connections) refl t.same))
+sets-up-on c previous b Breaks t may stand sayable = inr (inr (breaks-off c b (connection_of c b.machine.connections) refl t.same t.of_run (none-some (of.phase_of c b.machine.session) (t.same.phases c ∙ ap is_speaking t.there ∙ t.silent)) (set-up-clean c previous b t)))

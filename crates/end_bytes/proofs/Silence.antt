@@ -21,7 +21,7 @@ use Rattle.end_schedules.specs.Pairs.{AllMay, Pair, after, is_of}
 use Rattle.end_schedules.specs.Pairs.Step.{Happens}
 use Rattle.end_schedules.specs.UnderWay.{sent_to}
 use Rattle.end_schedules.proofs.Replies.{answer}
-use Rattle.end_schedules.proofs.Runs.{Stood, others-passed, stood-run, stood-taken, went-passed, went-taken}
+use Rattle.end_schedules.proofs.Runs.{Stood, left-passes, others-passed, stood-run, stood-taken, went-passed, went-taken}
 use Rattle.end_bytes.specs.BytePairs.{IsOfRun}
 
 -- it has no phase then either, and was sent nothing
@@ -94,4 +94,13 @@ quiet-joined c h r n =
     let g : History = answered_to (Joined c) h in
     let a : IsQuietSince c (Outside (Joined c) ▷ h) g = quiet-onto c (reply (reading h) (Joined c)) (Outside (Joined c) ▷ h) n ((answer (Joined c) (suc c) h tt s.good s.steady).pass c (not-next c)) in
     let b : IsQuietSince c g (taken (Joined c) h) = quiet-passed c g (taken (Joined c) h) a.phase (went-passed c g (taken (Joined c) h) (went-taken (Joined c) h s.good s.steady)) in
+    record { phase = b.phase; sent = b.sent ∙ a.sent }
+
+pub quiet-left : (c : ℕ) (h : History) → IsOfRun h → of.phase_of c h ≡ None → IsQuietSince c h (taken (Left c) h)
+quiet-left c h r n =
+    let s : Stood h = stood-there h r in
+    let g : History = answered_to (Left c) h in
+    let begin : of.phase_of c (Outside (Left c) ▷ h) ≡ None = none-either (c == c) (of.phase_of c h) n in
+    let a : IsQuietSince c (Outside (Left c) ▷ h) g = quiet-onto c (reply (reading h) (Left c)) (Outside (Left c) ▷ h) begin (left-passes c h s) in
+    let b : IsQuietSince c g (taken (Left c) h) = quiet-passed c g (taken (Left c) h) a.phase (went-passed c g (taken (Left c) h) (went-taken (Left c) h s.good s.steady)) in
     record { phase = b.phase; sent = b.sent ∙ a.sent }

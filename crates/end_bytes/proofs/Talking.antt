@@ -77,7 +77,7 @@ have-spellings : (opcode : ℕ) (xs : List XsmpMessage) → AllByRecursion (IsSa
 have-spellings opcode [] a = tt
 have-spellings opcode (x ∷ xs) a = (a.0.fits, have-spellings opcode xs a.1)
 
-are-heard : (opcode : ℕ) (xs : List XsmpMessage) → AllByRecursion (IsSayable opcode) (map Xsmp xs) → AllByRecursion IsNoError xs → AllByRecursion IsHeard xs
+pub are-heard : (opcode : ℕ) (xs : List XsmpMessage) → AllByRecursion (IsSayable opcode) (map Xsmp xs) → AllByRecursion IsNoError xs → AllByRecursion IsHeard xs
 are-heard opcode [] a n = tt
 are-heard opcode (x ∷ xs) a n = (record { fits = a.0.fits; no_error = n.0 }, are-heard opcode xs a.1 n.1)
 

@@ -140,8 +140,8 @@ pub fn set_ups_go_on()
 
 /// Does nothing: its contract is a law of a manager and a client that exchange bytes. From the first byte
 /// on, whatever the pieces and whatever else comes, and as long as XSMP is spoken once it has begun: the
-/// session never answers the client by BadState, and both agree wherever nothing is under way on a
-/// connection that stands. So no set-up stands still.
+/// manager never says an Error with BadState on the connection, of ICE or of XSMP, and both agree wherever
+/// nothing is under way on a connection that stands. So no set-up stands still.
 pub fn both_ends_keep_from_the_first_byte()
     ensures { BothEndsKeepFromTheFirstByte }
 {}

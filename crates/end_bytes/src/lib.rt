@@ -1,6 +1,7 @@
 //! A manager and a client that exchange bytes: what the manager's machine does about a piece of what is
-//! under way to it is a list of steps of a schedule, and so is every list of steps of both, as long as
-//! XSMP is spoken. Definitions and laws alone; no code.
+//! under way to it is a list of steps of a schedule; and every list of steps of both, from the first byte
+//! on, is a set-up and then such a schedule, as long as XSMP is spoken once it has begun. Definitions and
+//! laws alone; no code.
 #![tactic(auto)]
 
 mod laws;
