@@ -35,7 +35,7 @@ use Rattle.end_bytes.specs.BytePairs.ByteStep.{Breaks, Comes, Happens, Takes, Wi
 use Rattle.end_bytes.specs.Elsewhere.{HappensBeside, RunsTo, StaysAs, is_from}
 use Rattle.end_bytes.specs.Following.{HearsPiece}
 use Rattle.end_bytes.specs.Saying.{said_by}
-use Rattle.end_bytes.specs.SettingUp.{AllStand, BothEndsKeepFromTheFirstByte, HasOpened, HasSaid, IsClean, IsLeft, IsOnItsWay, KeepsFromTheFirst, SetUpsGoOn, SetsUp, is_reply, says_bad_state}
+use Rattle.end_bytes.specs.SettingUp.{AllStand, BothEndsKeepFromTheFirstByte, HasOpened, HasSaid, IsClean, IsLeft, IsOnItsWay, KeepsFromTheFirst, SetUpsGoOn, SetsUp, StandsOnceOpened, is_reply, says_bad_state}
 use Rattle.end_bytes.specs.Talking.{AreSayable, EntersOrTalks, IsQuiet, KeepsBytes, SpeaksOn, Talks, TalksOn, entered}
 use Rattle.end_bytes.proofs.Beside.{agrees-step, others-beside}
 use Rattle.end_bytes.proofs.Connecting.{none-behind, none-some, of-run-on, set-ups-begin}
@@ -137,16 +137,19 @@ left-on c b Breaks l may = breaks-off c b (connection_of c b.machine.connections
 
 -- Each step
 
-pub set-ups-go-on : SetUpsGoOn
-set-ups-go-on c previous b s (inl t) may stand sayable = sets-up-on c previous b s t may stand sayable
-set-ups-go-on c previous b s (inr (inl t)) may stand sayable =
+goes-on : (c : ℕ) (previous : List ℕ) (b : BytePair) (s : ByteStep) → IsOnItsWay c previous b → May c s b → StandsOnceOpened c (step c s b) → AreSayable (step c s b) → IsOnItsWay c previous (step c s b)
+goes-on c previous b s (inl t) may stand sayable = sets-up-on c previous b s t may stand sayable
+goes-on c previous b s (inr (inl t)) may stand sayable =
     let speaks : SpeaksOn c (step c s b) = stand (opened-still c b s (opened-by c b t.0)) in
     inr (inl (said-on c previous b s t.0 t.1 may speaks, talks-on c previous b s t.1 may speaks sayable))
-set-ups-go-on c previous b s (inr (inr l)) may stand sayable = inr (inr (left-on c b s l may))
+goes-on c previous b s (inr (inr l)) may stand sayable = inr (inr (left-on c b s l may))
+
+pub set-ups-go-on : SetUpsGoOn
+set-ups-go-on = record { goes = goes-on; stays = left-on }
 
 each-step : (c : ℕ) (previous : List ℕ) (b : BytePair) (steps : List ByteStep) → IsOnItsWay c previous b → AllMay c steps b → AllStand c steps b → IsOnItsWay c previous (after c steps b)
 each-step c previous b [] t may stand = t
-each-step c previous b (s ∷ steps) t may stand = each-step c previous (step c s b) steps (set-ups-go-on c previous b s t may.0 stand.0 stand.1) may.1 stand.2
+each-step c previous b (s ∷ steps) t may stand = each-step c previous (step c s b) steps (goes-on c previous b s t may.0 stand.0 stand.1) may.1 stand.2
 
 -- What is kept
 

@@ -90,8 +90,10 @@ IsOnItsWay c previous b = SetsUp c previous b ⊎ ((HasSaid c b × EntersOrTalks
 abbrev pub StandsOnceOpened : ℕ → BytePair → Type 0
 StandsOnceOpened c b = HasOpened b → SpeaksOn c b
 
-abbrev pub SetUpsGoOn : Type 0
-SetUpsGoOn = (c : ℕ) (previous : List ℕ) (b : BytePair) (s : ByteStep) → IsOnItsWay c previous b → May c s b → StandsOnceOpened c (step c s b) → AreSayable (step c s b) → IsOnItsWay c previous (step c s b)
+pub record SetUpsGoOn : Type 0 where
+  pub goes : (c : ℕ) (previous : List ℕ) (b : BytePair) (s : ByteStep) → IsOnItsWay c previous b → May c s b → StandsOnceOpened c (step c s b) → AreSayable (step c s b) → IsOnItsWay c previous (step c s b)
+  -- a connection that is gone stays so, whatever else is done
+  pub stays : (c : ℕ) (b : BytePair) (s : ByteStep) → IsLeft c b → May c s b → IsLeft c (step c s b)
 
 -- as a client connects, or the manager shuts the connection at once
 abbrev pub SetUpsBegin : Type 0
