@@ -1,10 +1,11 @@
 -- What comes from elsewhere is a list of steps at which something happens beside the client.
-use Rattle.std.proofs.Common.{◌≡◌, ◌⊎◌, inl, inr, refl, sym, ap, ◌∙◌, subst, ℕ, Bool, true, false, List, [], ◌∷◌, ◌++◌, map, append-nil, append_assoc}
+use Rattle.std.proofs.Common.{◌≡◌, ◌⊎◌, inl, inr, refl, sym, ap, ◌∙◌, subst, ℕ, suc, Bool, true, false, List, [], ◌∷◌, ◌++◌, map, append-nil, append_assoc, arith}
 use Rattle.std.specs.Prelude.{Option, None, Some, ◌==◌}
 use Rattle.std.specs.List.{flat_map}
 use Rattle.std.proofs.lemmas.Bool.{cases_eq}
 use Rattle.std.proofs.lemmas.Grind.{flat_map-append}
 use Rattle.std.proofs.lemmas.List.{map-append}
+use Rattle.sm_world.specs.declared.events.Event.{Event}
 use Rattle.sm_world.specs.declared.events.Event.TheVariants.{End as Ends, Gone, Joined, Operator, Piece, Tick}
 use Rattle.ice_framing.specs.Parts.{Part, new_parts}
 use Rattle.ice_setup.specs.declared.states.AnySetup.{AnySetup}
@@ -38,7 +39,7 @@ use Rattle.end_schedules.specs.Pairs.Step.{Happens}
 use Rattle.end_schedules.specs.Schedules.{paired}
 use Rattle.end_schedules.specs.UnderWay.{sent_to}
 use Rattle.stream_clients.proofs.Stepping.{after-both, may-both}
-use Rattle.end_bytes.specs.Elsewhere.{HappensBeside, OthersHappenBeside, StaysAs}
+use Rattle.end_bytes.specs.Elsewhere.{HappensBeside, OthersHappenBeside, StaysAs, is_from}
 use Rattle.end_bytes.specs.Saying.{said_by, said_on}
 use Rattle.end_bytes.proofs.Said.{all-sent}
 
@@ -85,7 +86,7 @@ as-after before (ShutsConn d) c ks s = elim (cases_eq c d) [
 ]
 as-after before act c ks s = s
 
-as-through : (before : Option Connection) (acts : List SessionAct) (c : ℕ) (ks : List Connection) → StaysAs before (connection_of c ks) → StaysAs before (connection_of c (connections_through acts ks))
+pub as-through : (before : Option Connection) (acts : List SessionAct) (c : ℕ) (ks : List Connection) → StaysAs before (connection_of c ks) → StaysAs before (connection_of c (connections_through acts ks))
 as-through before [] c ks s = s
 as-through before (act ∷ acts) c ks s = as-through before acts c (connections_after act ks) (as-after before act c ks s)
 
@@ -240,3 +241,26 @@ others-beside c m (Gone d) f agrees = beside-gone c m d (connection_of d m.conne
 others-beside c m (Operator order) f agrees = beside-told c (connection_of c m.connections) m (Ordered order) refl (agrees-ordered order m.connections m.session agrees) (stays-as (connection_of c m.connections))
 others-beside c m (Tick milliseconds) f agrees = beside-told c (connection_of c m.connections) m (Ticked milliseconds) refl (agrees-ticked milliseconds m.connections m.session agrees) (stays-as (connection_of c m.connections))
 others-beside c m Ends f agrees = beside-still c (connection_of c m.connections) (step m Ends) refl agrees (stays-as (connection_of c m.connections))
+
+-- The session and the connections agree behind each event, and behind each part: what there is beside some other connection.
+
+not-next : (d : ℕ) → (d == suc d) ≡ false
+not-next d = other d (suc d) (λ e. omega (arith, e))
+
+abbrev somebody : Event → ℕ
+somebody (Joined d) = suc d
+somebody (Piece d bytes) = suc d
+somebody (Gone d) = suc d
+somebody event = 0
+
+from-another : (event : Event) → is_from (somebody event) event ≡ false
+from-another (Joined d) = not-next d
+from-another (Piece d bytes) = not-next d
+from-another (Gone d) = not-next d
+from-another event = refl
+
+pub agrees-step : (m : Machine) (event : Event) → Agrees m.connections m.session → Agrees (step m event).next.connections (step m event).next.session
+agrees-step m event a = (others-beside (somebody event) m event (from-another event) a).agrees
+
+pub agrees-part : (c : ℕ) (m : Machine) (part : Part) → Agrees m.connections m.session → Agrees (part_taken m c part).next.connections (part_taken m c part).next.session
+agrees-part c m part a = (beside-part (suc c) (connection_of (suc c) m.connections) m c part (connection_of c m.connections) refl (not-next c) a (stays-as (connection_of (suc c) m.connections))).agrees

@@ -218,11 +218,11 @@ enters-happens c previous b event t apart speaks sayable =
       reached = reached-on c (paired b.machine.session e) (paired done.next.session e) (map HappensThere o.events) t.reached (o.may e) (o.there e);
     }
 
-none-up : (held later : List ℕ) → held ++ later ≡ [] → later ≡ []
+pub none-up : (held later : List ℕ) → held ++ later ≡ [] → later ≡ []
 none-up [] later e = e
 none-up (x ∷ held) later e = absurd cc
 
-nothing-comes : (count : ℕ) (up : List ℕ) → up ≡ [] → 0 < count → count ≤ length up → ⊥
+pub nothing-comes : (count : ℕ) (up : List ℕ) → up ≡ [] → 0 < count → count ≤ length up → ⊥
 nothing-comes count up none more few = let long : length up ≡ 0 = ap (λ (xs : List ℕ). length xs) none in omega (arith, more, few, long)
 
 no-wish : (wish : Wish) (client : Client) (o : OpenProtocol) (previous : List ℕ) → client.talk.place ≡ Opening (AtProtocol o) previous → client.dying ≡ false → may_wish wish client ≡ true → ⊥

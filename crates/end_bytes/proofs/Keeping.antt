@@ -29,7 +29,7 @@ each-step : (c : ℕ) (previous : List ℕ) (b : BytePair) (steps : List ByteSte
 each-step c previous b [] t may speaks = t
 each-step c previous b (s ∷ steps) t may speaks = each-step c previous (step c s b) steps (one-step c previous b s steps t may speaks) may.1 speaks.2
 
-found-again : (j k : Connection) (o : Option Connection) → o ≡ Some j → o ≡ Some k → k ≡ j
+pub found-again : (j k : Connection) (o : Option Connection) → o ≡ Some j → o ≡ Some k → k ≡ j
 found-again j k o e f = ap (λ (x : Option Connection). or_else j x) (sym f ∙ e) where
   or_else : Connection → Option Connection → Connection
   or_else d None = d
@@ -41,7 +41,7 @@ never-quiet c previous b k t quiet =
     not-empty (spelled_under manager_opcode (Ice (protocol_reply 0))) (bytes_of manager_opcode (map Xsmp (sent_to c b.machine.session))) t.down.each.0.header
     (sym t.down.bytes ∙ ap (λ (xs : List ℕ). xs ++ b.down) quiet.at_client ∙ quiet.down)
 
-keeps : (c : ℕ) (previous : List ℕ) (b : BytePair) → EntersOrTalks c previous b → KeepsBytes c b
+pub keeps : (c : ℕ) (previous : List ℕ) (b : BytePair) → EntersOrTalks c previous b → KeepsBytes c b
 keeps c previous b (inl t) = record { clean = clean-there c (paired b.machine.session (entered previous)) t.reached; agree = λ k is quiet. absurd (never-quiet c previous b k t quiet) }
 keeps c previous b (inr t) = record {
   clean = talking-clean c here b t.0 t.1;

@@ -12,3 +12,10 @@ pub mod Quiet
 pub mod Begins
 pub mod Enters
 pub mod Keeping
+pub mod Silence
+pub mod Connecting
+pub mod Tables
+pub mod HearsSetUp
+pub mod TakesSetUp
+pub mod SetsUp
+pub mod FromTheFirst

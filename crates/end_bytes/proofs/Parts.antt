@@ -82,7 +82,7 @@ stands-through stream (act ∷ acts) c ks s = stands-through stream acts c (conn
 pub counted-is : (c : ℕ) (ks : List Connection) (k : Connection) (setup : AnySetup) → connection_of c ks ≡ Some k → connection_of c (changed (counted setup) c ks) ≡ Some (counted setup k)
 counted-is c ks k setup is = rw (connection_of-changed (counted setup) (λ x. refl) c c ks, same c c refl, is) refl
 
-fed-is : (c : ℕ) (ks : List Connection) (k : Connection) (bytes : List ℕ) → connection_of c ks ≡ Some k → connection_of c (changed (fed_with bytes) c ks) ≡ Some (fed_with bytes k)
+pub fed-is : (c : ℕ) (ks : List Connection) (k : Connection) (bytes : List ℕ) → connection_of c ks ≡ Some k → connection_of c (changed (fed_with bytes) c ks) ≡ Some (fed_with bytes k)
 fed-is c ks k bytes is = rw (connection_of-changed (fed_with bytes) (λ x. refl) c c ks, same c c refl, is) refl
 
 pub stands-counted : (stream : List ℕ) (c : ℕ) (ks : List Connection) (k : Connection) (setup : AnySetup) → connection_of c ks ≡ Some k → k.stream ≡ stream → HasSpoken setup → StandsAt stream (connection_of c (changed (counted setup) c ks))
@@ -186,7 +186,7 @@ by-connection c stream x rest m e (Some k) is s agrees waits h = by-setup c stre
 
 -- One part, and then others
 
-said-behind : (c : ℕ) (first done : Done) → said_by c (behind first.line done) ≡ said_by c first ++ said_by c done
+pub said-behind : (c : ℕ) (first done : Done) → said_by c (behind first.line done) ≡ said_by c first ++ said_by c done
 said-behind c first done = ap (flat_map (said_on c)) (flat_map-append act_in first.line done.line) ∙ flat_map-append (said_on c) (acts_of first) (acts_of done)
 
 more-said : (begin middle end first second more later : List Message) (b : Bool) → begin ++ first ≡ middle ++ more → middle ++ second ≡ end ++ later → (b ≡ true → more ≡ []) → (b ≡ false → end ≡ middle)

@@ -15,14 +15,14 @@ use Rattle.session_engine.specs.Machine.{Connection, Machine, after_all, answere
 use Rattle.session_engine.specs.Outcomes.{Answer, Asks, Begins, Closes, Outcome, Speaks, Stays}
 use Rattle.end_bytes.specs.Elsewhere.{RunsTo, SessionsRun}
 
-run-both : (xs ys : List SessionEvent) (h : History) → run h (xs ++ ys) ≡ run (run h xs) ys
+pub run-both : (xs ys : List SessionEvent) (h : History) → run h (xs ++ ys) ≡ run (run h xs) ys
 run-both [] ys h = refl
 run-both (x ∷ xs) ys h = run-both xs ys (taken x h)
 
 pub ran-none : (h : History) → RunsTo h h
 ran-none h = record { events = []; is = refl }
 
-ran-one : (event : SessionEvent) (h : History) → RunsTo h (taken event h)
+pub ran-one : (event : SessionEvent) (h : History) → RunsTo h (taken event h)
 ran-one event h = record { events = event ∷ []; is = refl }
 
 pub ran-both : (h g k : History) → RunsTo h g → RunsTo g k → RunsTo h k

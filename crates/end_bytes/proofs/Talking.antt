@@ -77,7 +77,7 @@ have-spellings : (opcode : ℕ) (xs : List XsmpMessage) → AllByRecursion (IsSa
 have-spellings opcode [] a = tt
 have-spellings opcode (x ∷ xs) a = (a.0.fits, have-spellings opcode xs a.1)
 
-are-heard : (opcode : ℕ) (xs : List XsmpMessage) → AllByRecursion (IsSayable opcode) (map Xsmp xs) → AllByRecursion IsNoError xs → AllByRecursion IsHeard xs
+pub are-heard : (opcode : ℕ) (xs : List XsmpMessage) → AllByRecursion (IsSayable opcode) (map Xsmp xs) → AllByRecursion IsNoError xs → AllByRecursion IsHeard xs
 are-heard opcode [] a n = tt
 are-heard opcode (x ∷ xs) a n = (record { fits = a.0.fits; no_error = n.0 }, are-heard opcode xs a.1 n.1)
 
@@ -142,7 +142,7 @@ pub record StandsStill (stream : List ℕ) (o : Option Connection) : Type 0 wher
   pub stream_is : k.stream ≡ stream
   pub spoken : HasSpoken k.setup
 
-there-still : (stream : List ℕ) (o : Option Connection) → is_speaking o ≡ true → StandsAt stream o → StandsStill stream o
+pub there-still : (stream : List ℕ) (o : Option Connection) → is_speaking o ≡ true → StandsAt stream o → StandsStill stream o
 there-still stream None speaks s = absurd (differ speaks refl)
 there-still stream (Some k) speaks s = record { k = k; is = refl; stream_is = s.0; spoken = s.1 }
 

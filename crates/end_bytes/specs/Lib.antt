@@ -6,3 +6,4 @@ pub mod BytePairs
 pub mod Examples
 pub mod Entering
 pub mod Talking
+pub mod SettingUp

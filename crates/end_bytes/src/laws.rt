@@ -5,6 +5,7 @@ ghost use Rattle.end_bytes.specs.Examples.{AClientRegisters, AClientSaves, AConn
 ghost use Rattle.end_bytes.specs.Following.{PartsAreHeard, PiecesAreHeard};
 ghost use Rattle.end_bytes.specs.Hearing.{ClientsSayNoError, ManagersHearMessages};
 ghost use Rattle.end_bytes.specs.Saying.{AllThatIsSentIsSaid};
+ghost use Rattle.end_bytes.specs.SettingUp.{BothEndsKeepFromTheFirstByte, SetUpsBegin, SetUpsGoOn};
 ghost use Rattle.end_bytes.specs.Talking.{BothEndsKeepTheirBytes, EnteringGoesOn, QuietEndsAgree, TalkingBegins, TalkingGoesOn, TalkingIsClean, TalkingStays};
 
 /// Does nothing: its contract is a law of managers. One takes the message that the frame of a client
@@ -122,4 +123,25 @@ pub fn talking_is_clean()
 /// way.
 pub fn both_ends_keep_their_bytes()
     ensures { BothEndsKeepTheirBytes }
+{}
+
+/// Does nothing: its contract is a law of a manager and a client that exchange bytes. As a client
+/// connects both set up the connection, or the manager has shut it at once.
+pub fn set_ups_begin()
+    ensures { SetUpsBegin }
+{}
+
+/// Does nothing: its contract is a law of a manager and a client that exchange bytes. Each step of a
+/// set-up leaves it one, or XSMP has begun, or the connection is gone at the manager, and stays so;
+/// where XSMP has begun it goes on as [`entering_goes_on`] and [`talking_goes_on`] say.
+pub fn set_ups_go_on()
+    ensures { SetUpsGoOn }
+{}
+
+/// Does nothing: its contract is a law of a manager and a client that exchange bytes. From the first byte
+/// on, whatever the pieces and whatever else comes, and as long as XSMP is spoken once it has begun: the
+/// manager never says an Error with BadState on the connection, of ICE or of XSMP, and both agree wherever
+/// nothing is under way on a connection that stands. So no set-up stands still.
+pub fn both_ends_keep_from_the_first_byte()
+    ensures { BothEndsKeepFromTheFirstByte }
 {}

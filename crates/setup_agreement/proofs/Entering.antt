@@ -64,7 +64,7 @@ next_late Takes Asked = ShownAgain
 next_late Takes Opened = Joined
 next_late Takes row = row
 
-same-cookie : (k : Cookie) → shows k k.0 ≡ true
+pub same-cookie : (k : Cookie) → shows k k.0 ≡ true
 same-cookie k = (bytes_decides k.0 k.0).1 refl
 
 accepted : (b : Bool) (x y : Moved) (p : SetUp) → b ≡ true → hears (if b then x else y) p ≡ hears x p
@@ -109,7 +109,7 @@ pub enters-step : (k : Cookie) (way : Way) (p : SetUp) → Enters k p → Enters
 enters-step k way p (inl e) = subst (λ (x : SetUp). Enters k (step way x)) (sym e.is) (early-step k way e.row)
 enters-step k way p (inr l) = inr (record { row = next_late way l.row; is = ap (λ (x : SetUp). step way x) l.is ∙ late-on k way l.row })
 
-enters-after : (k : Cookie) (ways : List Way) (p : SetUp) → Enters k p → Enters k (after ways p)
+pub enters-after : (k : Cookie) (ways : List Way) (p : SetUp) → Enters k p → Enters k (after ways p)
 enters-after k [] p e = e
 enters-after k (way ∷ ways) p e = enters-after k ways (step way p) (enters-step k way p e)
 
