@@ -217,6 +217,8 @@ has_libsm_manager() {
 start_libsm_manager() {
   mkfifo "$wrapped/orders$1"
   ICEAUTHORITY=$wrapped/cookies
+  # What the one before has printed isn't taken for this one's.
+  : > "$wrapped/lines"
   "$room/libsm_manager" "$wrapped/log" "$ICEAUTHORITY" < "$wrapped/orders$1" > "$wrapped/lines" 2>> "$wrapped/said" &
   manager_id=$!
   exec 7> "$wrapped/orders$1"
