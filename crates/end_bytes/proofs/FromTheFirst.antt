@@ -1,5 +1,5 @@
 -- From the first byte on.
-use Rattle.std.proofs.Common.{◌≡◌, ◌⊎◌, inl, inr, refl, sym, ap, ◌∙◌, subst, ℕ, ◌≤◌, Bool, true, false, List, [], ◌∷◌, ◌++◌, map, take, drop, length, length-drop, append-nil, append_assoc, arith}
+use Rattle.std.proofs.Common.{◌≡◌, ◌⊎◌, inl, inr, refl, sym, ap, ◌∙◌, subst, ℕ, Bool, true, false, List, [], ◌∷◌, ◌++◌, map, take, drop, length, append-nil, append_assoc}
 use Rattle.std.specs.Prelude.{Option, None, Some, ◌||◌}
 use Rattle.std.specs.List.{list_any}
 use Rattle.sm_world.specs.declared.events.Event.{Event}
@@ -29,7 +29,7 @@ use Rattle.end_schedules.specs.Pairs.{Pair}
 use Rattle.end_schedules.specs.Schedules.{End, paired}
 use Rattle.end_schedules.specs.UnderWay.{sent_to}
 use Rattle.setup_agreement.proofs.Entering.{enters-few, lets-in}
-use Rattle.setup_agreement.proofs.Wiring.{not-empty}
+use Rattle.setup_agreement.proofs.Wiring.{all-taken, not-empty}
 use Rattle.end_bytes.specs.BytePairs.{AllMay, BytePair, ByteStep, IsOfRun, May, after, connected, manager_did, step}
 use Rattle.end_bytes.specs.BytePairs.ByteStep.{Breaks, Comes, Happens, Takes, Wishes}
 use Rattle.end_bytes.specs.Elsewhere.{HappensBeside, RunsTo, StaysAs, is_from}
@@ -157,9 +157,6 @@ none-waits : (opcode : ℕ) (at : Standing) (later : List ℕ) (ms : List IceMes
 none-waits opcode at later [] h held none = refl
 none-waits opcode at later (m ∷ ms) h held none =
     absurd (not-empty (spelled_under opcode (Ice m)) (bytes_of opcode (map Ice ms)) h.each.0.header (sym h.bytes ∙ ap (λ (xs : List ℕ). xs ++ later) held ∙ none))
-
-all-taken : (n : ℕ) (all : List IceMessage) → n ≤ length all → drop n all ≡ [] → n ≡ length all
-all-taken n all few e = let none : length (drop n all) ≡ 0 = ap (λ (xs : List IceMessage). length xs) e in omega (arith, few, none, length-drop n all)
 
 abbrev speaks_at : Option AnySetup → Bool
 speaks_at None = false

@@ -44,7 +44,7 @@ quiet-event c (Said d m sequence frame) h n f = record { phase = rw f n; sent = 
 quiet-event c (Left d) h n f = record { phase = rw f n; sent = refl }
 quiet-event c event h n f = record { phase = n; sent = refl }
 
-none-either : (b : Bool) (p : Option Phase) → p ≡ None → cond b None p ≡ None
+none-either : {A : Type 0} (b : Bool) (p : Option A) → p ≡ None → cond b None p ≡ None
 none-either true p e = refl
 none-either false p e = e
 

@@ -80,11 +80,8 @@ cue-wants keeper r (Malformed at) = inl tt
 part-wants : (keeper : Keeper) (heard : Heard) (r : Replies) → Wants (reacts keeper heard r)
 part-wants keeper heard r = front-wants (map Says heard.said) (cued (stand_at heard.next keeper) r heard.cue) (said-there heard.said) (cue-wants (stand_at heard.next keeper) r heard.cue)
 
-abbrev taken : Keeper → List Part → List Replies → Step Keeper Entry
-taken keeper parts rs = parts_taken unasked talk_of reacts keeper parts rs
-
 -- one who isn't spent for want of memory had all answers
-parts-there : (keeper : Keeper) (parts : List Part) (rs : List Replies) → (taken keeper parts rs).next.ending ≢ Some Starved → AreThere (taken keeper parts rs).line
+parts-there : (keeper : Keeper) (parts : List Part) (rs : List Replies) → (parts_taken unasked talk_of reacts keeper parts rs).next.ending ≢ Some Starved → AreThere (parts_taken unasked talk_of reacts keeper parts rs).line
 parts-there keeper [] rs fed_well = tt
 parts-there keeper (part ∷ parts) rs fed_well = by (part-wants keeper (part_heard keeper.talk part) r) (parts-there s.next parts (drop 1 rs) fed_well) where
   r : Replies
@@ -93,10 +90,10 @@ parts-there keeper (part ∷ parts) rs fed_well = by (part-wants keeper (part_he
   s : Step Keeper Entry
   s = reacts keeper (part_heard keeper.talk part) r
 
-  by : Wants s → AreThere (taken s.next parts (drop 1 rs)).line → AreThere (s.line ++ (taken s.next parts (drop 1 rs)).line)
-  by (inl all) rest = all_append IsThere s.line (taken s.next parts (drop 1 rs)).line all rest
+  by : Wants s → AreThere (parts_taken unasked talk_of reacts s.next parts (drop 1 rs)).line → AreThere (s.line ++ (parts_taken unasked talk_of reacts s.next parts (drop 1 rs)).line)
+  by (inl all) rest = all_append IsThere s.line (parts_taken unasked talk_of reacts s.next parts (drop 1 rs)).line all rest
   by (inr stops) rest =
-      let still : taken s.next parts (drop 1 rs) ≡ record { line = []; next = s.next } = deaf_parts unasked talk_of reacts stays_stopped s.next parts (drop 1 rs) stops.1 in
+      let still : parts_taken unasked talk_of reacts s.next parts (drop 1 rs) ≡ record { line = []; next = s.next } = deaf_parts unasked talk_of reacts stays_stopped s.next parts (drop 1 rs) stops.1 in
       absurd (fed_well (ap (λ (x : Step Keeper Entry). x.next.ending) still ∙ stops.0))
 
 -- ---- and the answers are lawful

@@ -251,7 +251,7 @@ none-waits : (ms : List IceMessage) → AllByRecursion (HasBytes client_opcode) 
 none-waits [] a e = refl
 none-waits (m ∷ ms) a e = absurd (not-empty (spelled_under client_opcode (Ice m)) (ice_bytes ms) a.0.header e)
 
-all-taken : (n : ℕ) (all : List IceMessage) → n ≤ length all → drop n all ≡ [] → n ≡ length all
+pub all-taken : (n : ℕ) (all : List IceMessage) → n ≤ length all → drop n all ≡ [] → n ≡ length all
 all-taken n all few e = let none : length (drop n all) ≡ 0 = ap (λ (xs : List IceMessage). length xs) e in omega (arith, few, none, length-drop n all)
 
 quiet-at : (at : Standing) (later : List ℕ) (n : ℕ) (all : List IceMessage) → HoldsBytes client_opcode at later (map Ice (drop n all)) → later ≡ [] → at.held ≡ [] → n ≤ length all → n ≡ length all
