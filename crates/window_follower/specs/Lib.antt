@@ -1,0 +1,4 @@
+pub mod Names
+pub mod Atoms
+pub mod Questions
+pub mod Asked

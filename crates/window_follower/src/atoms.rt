@@ -1,0 +1,209 @@
+ghost use Rattle.std.specs.Prelude.{◌≡◌, ◌∷◌, [], ◌++◌, ◌==◌, find, slice_index, OnOk, OnErr};
+ghost use Rattle.window_follower.specs.Names.{place as place_of, property_place, root_place, type_place, word_place, window_properties, root_properties, window_types};
+ghost use Rattle.window_follower.specs.declared.names.Name.TheVariants.{Property as OfWindow, Root as OfRoot, OfType};
+ghost use Rattle.window_follower.specs.Atoms.{atom_of, property_named, root_property_named, type_named};
+
+use crate::{Name, RootProperty, WindowProperty, WindowType, Word};
+use owned_lists::{ListOf, NoMemory};
+use std::alloc::Global;
+use std::marker::Model;
+
+const WINDOW_PROPERTIES: [WindowProperty; 13] = [
+    WindowProperty::State,
+    WindowProperty::Protocols,
+    WindowProperty::Leader,
+    WindowProperty::TransientFor,
+    WindowProperty::OldTitle,
+    WindowProperty::Title,
+    WindowProperty::Machine,
+    WindowProperty::ClientId,
+    WindowProperty::Types,
+    WindowProperty::States,
+    WindowProperty::UserTime,
+    WindowProperty::UserTimeWindow,
+    WindowProperty::Process,
+];
+
+const ROOT_PROPERTIES: [RootProperty; 2] = [RootProperty::Check, RootProperty::Windows];
+
+const WINDOW_TYPES: [WindowType; 14] = [
+    WindowType::Normal,
+    WindowType::Dialog,
+    WindowType::Dock,
+    WindowType::Desktop,
+    WindowType::Splash,
+    WindowType::Utility,
+    WindowType::Toolbar,
+    WindowType::Menu,
+    WindowType::DropdownMenu,
+    WindowType::PopupMenu,
+    WindowType::Tooltip,
+    WindowType::Notification,
+    WindowType::Combo,
+    WindowType::DragAndDrop,
+];
+
+fn property_at(property: WindowProperty) -> usize
+    ensures { result ≡ property_place property }
+{
+    match property {
+        WindowProperty::State => 0,
+        WindowProperty::Protocols => 1,
+        WindowProperty::Leader => 2,
+        WindowProperty::TransientFor => 3,
+        WindowProperty::OldTitle => 4,
+        WindowProperty::Title => 5,
+        WindowProperty::Machine => 6,
+        WindowProperty::ClientId => 7,
+        WindowProperty::Types => 8,
+        WindowProperty::States => 9,
+        WindowProperty::UserTime => 10,
+        WindowProperty::UserTimeWindow => 11,
+        WindowProperty::Process => 12,
+    }
+}
+
+fn type_at(kind: WindowType) -> usize
+    ensures { result ≡ type_place kind }
+{
+    match kind {
+        WindowType::Normal => 15,
+        WindowType::Dialog => 16,
+        WindowType::Dock => 17,
+        WindowType::Desktop => 18,
+        WindowType::Splash => 19,
+        WindowType::Utility => 20,
+        WindowType::Toolbar => 21,
+        WindowType::Menu => 22,
+        WindowType::DropdownMenu => 23,
+        WindowType::PopupMenu => 24,
+        WindowType::Tooltip => 25,
+        WindowType::Notification => 26,
+        WindowType::Combo => 27,
+        WindowType::DragAndDrop => 28,
+    }
+}
+
+fn word_at(word: Word) -> usize
+    ensures { result ≡ word_place word }
+{
+    match word {
+        Word::DeleteWindow => 29,
+        Word::Ping => 30,
+        Word::Modal => 31,
+        Word::ActiveWindow => 32,
+    }
+}
+
+fn place(name: Name) -> usize
+    ensures { result ≡ place_of name }
+{
+    match name {
+        Name::Property(property) => property_at(property),
+        Name::Root(RootProperty::Check) => 13,
+        Name::Root(RootProperty::Windows) => 14,
+        Name::OfType(kind) => type_at(kind),
+        Name::Word(word) => word_at(word),
+    }
+}
+
+/// The first of some properties of windows that has an atom.
+fn first_property(
+    atoms: &Atoms,
+    properties: &[WindowProperty],
+    atom: u32,
+) -> Option<WindowProperty>
+    ensures { result ≡ find (λ property. atom_of atoms.now (OfWindow property) == atom) properties.now }
+{
+    properties
+        .iter()
+        .copied()
+        .find(|property| atoms.atom(Name::Property(*property)) == atom)
+}
+
+fn first_root_property(
+    atoms: &Atoms,
+    properties: &[RootProperty],
+    atom: u32,
+) -> Option<RootProperty>
+    ensures { result ≡ find (λ property. atom_of atoms.now (OfRoot property) == atom) properties.now }
+{
+    properties
+        .iter()
+        .copied()
+        .find(|property| atoms.atom(Name::Root(*property)) == atom)
+}
+
+fn first_type(atoms: &Atoms, types: &[WindowType], atom: u32) -> Option<WindowType>
+    ensures { result ≡ find (λ kind. atom_of atoms.now (OfType kind) == atom) types.now }
+{
+    types
+        .iter()
+        .copied()
+        .find(|kind| atoms.atom(Name::OfType(*kind)) == atom)
+}
+
+/// The atoms that a display has for names, in the order in which they were asked for.
+#[derive(Debug, Drop)]
+pub struct Atoms {
+    numbers: ListOf<u32>,
+}
+
+impl Model for Atoms {
+    ghost use Rattle.std.specs.Prelude.{List, ℕ};
+
+    ghost Value = { List ℕ };
+
+    ghost view = { λ atoms. atoms.numbers };
+}
+
+impl Atoms {
+    /// None are known; this takes no memory.
+    pub fn new(alloc: Global) -> Atoms
+        ensures { result ≡ [] }
+    {
+        Atoms {
+            numbers: ListOf::new(alloc),
+        }
+    }
+
+    /// The next name has this atom.
+    pub fn push(&mut self, atom: u32) -> Result<(), NoMemory>
+        ensures ok { OnOk result (self.new ≡ self.old ++ atom ∷ []) }
+        ensures err { OnErr result (self.new ≡ self.old) }
+    {
+        self.numbers.push(atom)
+    }
+
+    /// The atom of a name; 0, which is no atom, where it isn't known.
+    pub fn atom(&self, name: Name) -> u32
+        ensures { result ≡ atom_of self.now name }
+    {
+        self.numbers
+            .as_slice()
+            .get(place(name))
+            .copied()
+            .unwrap_or(0)
+    }
+
+    /// The property of a window that has this atom.
+    pub fn property(&self, atom: u32) -> Option<WindowProperty>
+        ensures { result ≡ property_named self.now atom }
+    {
+        first_property(self, &WINDOW_PROPERTIES, atom)
+    }
+
+    /// The property of the root that has this atom.
+    pub fn root_property(&self, atom: u32) -> Option<RootProperty>
+        ensures { result ≡ root_property_named self.now atom }
+    {
+        first_root_property(self, &ROOT_PROPERTIES, atom)
+    }
+
+    /// The type of windows that has this atom.
+    pub fn window_type(&self, atom: u32) -> Option<WindowType>
+        ensures { result ≡ type_named self.now atom }
+    {
+        first_type(self, &WINDOW_TYPES, atom)
+    }
+}
